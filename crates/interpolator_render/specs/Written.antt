@@ -1,0 +1,45 @@
+use Rattle.std.specs.Prelude.{◌≡◌, ℕ, ◌<◌, ◌-◌, ◌^◌, min, Bool, true, List, [], ◌++◌, length, encode_utf8_all, Result, MatchResult}
+use Rattle.interpolator_render.specs.declared.text_write.Refusal.{Refusal}
+
+-- what is known of a writer: the characters that it took so far, and whether it has refused a text
+pub record Written : Type 0 where
+  pub text : List ℕ
+  pub refused : Bool
+
+-- the bytes of a text of characters
+abbrev pub byte_count : List ℕ → ℕ
+byte_count text = length (encode_utf8_all text)
+
+-- the whole text was appended; a writer that had refused takes only the empty text
+pub record Appends (old : Written) (text : List ℕ) (new : Written) : Type 0 where
+  pub appended : new.text ≡ old.text ++ text
+  pub same_flag : new.refused ≡ old.refused
+  pub only_empty : old.refused ≡ true → text ≡ []
+
+-- a proper beginning of the text was appended, none of it where the writer had refused before, and the rest was refused
+pub record AppendsBeginning (old : Written) (text : List ℕ) (new : Written) : Type 0 where
+  pub beginning : List ℕ
+  pub rest : List ℕ
+  pub parts : text ≡ beginning ++ rest
+  pub not_whole : 0 < length rest
+  pub appended : new.text ≡ old.text ++ beginning
+  pub flag_set : new.refused ≡ true
+  pub none_after_refusal : old.refused ≡ true → beginning ≡ []
+
+-- the same, and the beginning has so many bytes
+pub record Refuses (old : Written) (text : List ℕ) (taken : ℕ) (new : Written) : Type 0 where
+  pub part : AppendsBeginning old text new
+  pub counted : taken ≡ byte_count part.beginning
+
+-- the same of a text that may be longer than any `&str`: the greatest `usize` stands for a greater count
+pub record RefusesLong (old : Written) (text : List ℕ) (taken : ℕ) (new : Written) : Type 0 where
+  pub part : AppendsBeginning old text new
+  pub counted : taken ≡ min (byte_count part.beginning) (2 ^ 64 - 1)
+
+-- a call that writes the text, or is refused on the way
+abbrev pub Puts : Written → List ℕ → Result (Unit {0}) Refusal → Written → Type 0
+Puts old text result new = MatchResult result (λ _. Appends old text new) (λ r. RefusesLong old text r.taken new)
+
+-- the same, whatever the error says
+abbrev pub Writes : {E : Type 0} → Written → List ℕ → Result (Unit {0}) E → Written → Type 0
+Writes old text result new = MatchResult result (λ _. Appends old text new) (λ _. AppendsBeginning old text new)
