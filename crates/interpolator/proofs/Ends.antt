@@ -1,0 +1,55 @@
+-- What is written to a sink, one behind another.
+use Rattle.std.proofs.Common.{◌≡◌, refl, ◌∙◌, Option, None, Some, inl}
+use Rattle.interpolator_render.specs.Written.{Written}
+use Rattle.interpolator.specs.Faults.{Fault, Answer, fault}
+use Rattle.interpolator.specs.Meanings.{Meaning, nothing, ends, joined}
+use Rattle.interpolator.specs.Outcomes.{Outcome}
+use Rattle.interpolator.specs.Sinks.{SameSink, Ends, ends_of, target, StaysBy, Evaluates}
+use Rattle.interpolator.specs.declared.sink.Sink as code_sink
+use Rattle.interpolator.proofs.Outcomes.{appends_none, finished_if_none, after_finished, before_fault}
+
+stays : (a b c : Option Written) (x y z : Written) → StaysBy a b x y → StaysBy b c y z → StaysBy a c x z
+stays None None None x y z h k = tt
+stays (Some _) (Some _) (Some _) x y z h k = k ∙ h
+stays None None (Some _) x y z h k = k
+stays (Some _) (Some _) None x y z h k = k
+stays None (Some _) c x y z h k = absurd h
+stays (Some _) None c x y z h k = absurd h
+
+stays_same : (a : Option Written) (x : Written) → StaysBy a a x x
+stays_same None x = tt
+stays_same (Some b) x = refl
+
+pub and_then : (m k : Meaning) (s t u : Ends) (answer : Option Answer) → Evaluates m s t None → Evaluates k t u answer → Evaluates (joined m k) s u answer
+and_then m k s t u answer h o = record {
+  outcome = after_finished m k (target s) (target t) (target u) answer (finished_if_none m (target s) (target t) h.outcome) o.outcome;
+  other = stays s.aside t.aside u.aside s.out t.out u.out h.other o.other;
+}
+
+pub fault_first : (m k : Meaning) (s t : Ends) (q : Answer) → Evaluates m s t (Some q) → Evaluates (joined m k) s t (Some q)
+fault_first m k s t q h = record { outcome = before_fault m k (target s) (target t) q m.fault refl h.outcome; other = h.other }
+
+pub nothing_done : (s : Ends) → Evaluates nothing s s None
+nothing_done s = record { outcome = inl (record { all = appends_none (target s); told = refl }); other = stays_same s.aside s.out }
+
+pub ended : (f : Fault) (s : Ends) → Evaluates (ends f) s s (Some (fault f))
+ended f s = record { outcome = inl (record { all = appends_none (target s); told = refl }); other = stays_same s.aside s.out }
+
+-- the writer takes the text
+pub at_writer : (m : Meaning) (old new : Written) (a : Option Written) (answer : Option Answer) → a ≡ None → Outcome m old new answer → Evaluates m (record { out = old; aside = a }) (record { out = new; aside = a }) answer
+at_writer m old new a answer e h = rw e (record { outcome = h; other = tt })
+
+-- the buffer takes it
+pub at_buffer : (m : Meaning) (out old new : Written) (a : Option Written) (answer : Option Answer) → a ≡ Some old → Outcome m old new answer → Evaluates m (record { out = out; aside = a }) (record { out = out; aside = Some new }) answer
+at_buffer m out old new a answer e h = rw e (record { outcome = h; other = refl })
+
+-- with no buffer the writer took it
+pub at_out : (m : Meaning) (old new : Written) (aside : Option Written) (answer : Option Answer) → Evaluates m (ends_of old None) (ends_of new aside) answer → Outcome m old new answer
+at_out m old new None answer h = h.outcome
+at_out m old new (Some b) answer h = absurd h.other
+
+pub same_sink : {W : Type 0} (s : code_sink.Sink W) → SameSink s s
+same_sink s = record { out = refl; aside = refl }
+
+pub same_then : {W : Type 0} (s t u : code_sink.Sink W) → SameSink s t → SameSink t u → SameSink s u
+same_then s t u h k = record { out = k.out ∙ h.out; aside = k.aside ∙ h.aside }

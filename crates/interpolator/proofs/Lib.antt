@@ -1,0 +1,14 @@
+pub mod Characters
+pub mod Ends
+pub mod Fronts
+pub mod Loans
+pub mod Lookups
+pub mod Meanings
+pub mod NameBytes
+pub mod Naming
+pub mod Outcomes
+pub mod Pieces
+pub mod Placing
+pub mod Runs
+pub mod SpecEquality
+pub mod TreeLemmas

@@ -1,0 +1,66 @@
+-- The text of the filled slots' names, while they are written one by one.
+use Rattle.std.proofs.Common.{◌≡◌, refl, sym, ◌∙◌, ap, ℕ, ◌+◌, ◌<◌, List, [], ◌∷◌, ◌++◌, append_assoc, append-nil, get_or, take, map, Bool, true, false}
+use Rattle.std.specs.Prelude.{filter, codes}
+use Rattle.std.specs.List.{join_by}
+use Rattle.std.specs.Fmt.{HasWritten}
+use Rattle.std.specs.declared.fmt.Formatter.{Formatter}
+use Rattle.std.proofs.lemmas.Grind.{put_two}
+use Rattle.std.proofs.lemmas.List.{take_more, map-append}
+use Rattle.std.proofs.lemmas.List.Concat.{flat_map-append}
+use Rattle.std.proofs.lemmas.List.Elements.{filter-append}
+use Rattle.interpolator_render.specs.declared.view.Trait.{Trait}
+use Rattle.interpolator_render.specs.declared.view.Trait.TheVariants.{Binary}
+use Rattle.interpolator.specs.SlotNames.{slot_name, slot_order, name_behind}
+
+-- the names so far, with no closing parenthesis yet
+abbrev pub opened : List (List ℕ) → List ℕ
+opened [] = []
+opened (name ∷ names) = codes "(" ++ join_by (λ part. part) (codes ", ") (name ∷ names)
+
+-- there is no name so far
+abbrev pub no_name : List (List ℕ) → Bool
+no_name [] = true
+no_name (name ∷ names) = false
+
+-- the names of the filled ones of these slots
+abbrev pub names_of : (Trait → Bool) → List Trait → List (List ℕ)
+names_of filled slots = map slot_name (filter filled slots)
+
+pub opened-more : (names : List (List ℕ)) (name : List ℕ) → opened (names ++ name ∷ []) ≡ opened names ++ name_behind (no_name names) name
+opened-more [] name = ap (λ text. codes "(" ++ text) (append-nil name)
+opened-more (first ∷ names) name =
+    let more = flat_map-append (λ part. codes ", " ++ part) names (name ∷ []) in
+    rw more (simp (append_assoc, append-nil))
+
+pub no_name-more : (names : List (List ℕ)) (name : List ℕ) → no_name (names ++ name ∷ []) ≡ false
+no_name-more [] name = refl
+no_name-more (first ∷ names) name = refl
+
+module _ (filled : Trait → Bool) (index : ℕ) (below : index < 9) where
+  one_slot : take (index + 1) slot_order ≡ take index slot_order ++ get_or slot_order index Binary ∷ []
+  one_slot = take_more slot_order index Binary below
+
+  -- the name of a slot that is filled comes behind the names so far
+  pub one_more : filled (get_or slot_order index Binary) ≡ true
+      → names_of filled (take (index + 1) slot_order) ≡ names_of filled (take index slot_order) ++ slot_name (get_or slot_order index Binary) ∷ []
+  one_more passes =
+      let slot = get_or slot_order index Binary in
+      let kept : filter filled (slot ∷ []) ≡ slot ∷ [] = rw passes refl in
+      rw (one_slot, filter-append filled (take index slot_order) (slot ∷ []), kept) (map-append slot_name _ _)
+
+  -- one that is not changes no name
+  pub none_more : filled (get_or slot_order index Binary) ≡ false
+      → names_of filled (take (index + 1) slot_order) ≡ names_of filled (take index slot_order)
+  none_more fails =
+      let slot = get_or slot_order index Binary in
+      let dropped : filter filled (slot ∷ []) ≡ [] = rw fails refl in
+      rw (one_slot, filter-append filled (take index slot_order) (slot ∷ []), dropped) (ap (map slot_name) (append-nil _))
+
+module _ {W : Type 0} (took : W → List ℕ → W → Type 0) where
+  -- a name that is written behind the names so far
+  pub name_written : (f g h : Formatter W) (front : List ℕ) (names : List (List ℕ)) (name : List ℕ) (is_first : Bool)
+      → is_first ≡ no_name names → HasWritten took f (front ++ opened names) g
+      → HasWritten took g (name_behind is_first name) h → HasWritten took f (front ++ opened (names ++ name ∷ [])) h
+  name_written f g h front names name is_first e before after =
+      put_two took f g h (front ++ opened names) (name_behind is_first name) _ before after
+      (rw e (append_assoc front (opened names) (name_behind (no_name names) name) ∙ ap (λ text. front ++ text) (sym (opened-more names name))))

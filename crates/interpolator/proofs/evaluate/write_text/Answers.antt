@@ -1,0 +1,37 @@
+use Rattle.std.proofs.Common.{sym, None}
+use Rattle.std.proofs.lemmas.Result.{err_from_is_err_and}
+use Rattle.interpolator.specs.At.{at}
+use Rattle.interpolator.specs.Scans.{scan_read}
+use Rattle.interpolator.specs.Scopes.{environment_of}
+use Rattle.interpolator.proofs.Ends.{same_then}
+use Rattle.interpolator.proofs.Meanings.{scan_shorter}
+use Rattle.interpolator.proofs.Runs.{end_runs, step_runs, fault_runs}
+use Rattle.interpolator.proofs.evaluate.write_text.Goals as goal
+
+pub returns-in_err-write_piece : goal.returns-in_err-write_piece
+returns-in_err-write_piece g c =
+    let e = err_from_is_err_and c.from_residual.result c.from_residual.ensures.1 in
+    rw (e.1, e.2) (record {
+      writes = record {
+        evaluates = c.loop-piece.invariant.so_far _ _ (fault_runs g.C.Object.Value.shows (environment_of g.C.Context.finds c.args.scope) (at c.loop-piece.here) (scan_read (c.in-Some.piece, c.in-Some.rest)) _ _ _ (sym c.in-Some.ensures.scanned) c.in_err-write_piece.ensures.writes.evaluates);
+        same = same_then _ _ _ c.loop-piece.invariant.same c.in_err-write_piece.ensures.writes.same;
+      };
+    })
+
+pub loop-piece-smaller : goal.loop-piece-smaller
+loop-piece-smaller g c = scan_shorter (at c.loop-piece.here) (scan_read (c.in-Some.piece, c.in-Some.rest)) (sym c.in-Some.ensures.scanned)
+
+pub loop-piece-preserved : goal.loop-piece-preserved
+loop-piece-preserved g c =
+    record {
+      so_far = λ new answer o. c.loop-piece.invariant.so_far new answer (step_runs g.C.Object.Value.shows (environment_of g.C.Context.finds c.args.scope) (at c.loop-piece.here) (scan_read (c.in-Some.piece, c.in-Some.rest)) _ _ _ _ (sym c.in-Some.ensures.scanned) c.in_ok-write_piece.ensures.writes.evaluates o);
+      same = same_then _ _ _ c.loop-piece.invariant.same c.in_ok-write_piece.ensures.writes.same;
+    }
+
+pub returns : goal.returns
+returns g c = record {
+  writes = record {
+    evaluates = c.loop-piece.invariant.so_far _ None (end_runs g.C.Object.Value.shows (environment_of g.C.Context.finds c.args.scope) (at c.loop-piece.here) _ (sym c.in_default.ensures.scanned));
+    same = c.loop-piece.invariant.same;
+  };
+}

@@ -1,0 +1,16 @@
+pub mod At
+pub mod Classes
+pub mod Faults
+pub mod FaultTexts
+pub mod Trees
+pub mod Environments
+pub mod Arguments
+pub mod Pieces
+pub mod Scans
+pub mod Meanings
+pub mod Outcomes
+pub mod Scopes
+pub mod Sinks
+pub mod SlotNames
+pub mod Contexts
+pub mod NameMaps

@@ -1,0 +1,49 @@
+-- What is written to a sink: a writer, or a buffer in its stead.
+use Rattle.std.specs.Prelude.{◌≡◌, Option, None, Some, ⊤}
+use Rattle.interpolator_render.specs.Written.{Written}
+use Rattle.interpolator.specs.Faults.{Answer}
+use Rattle.interpolator.specs.Meanings.{Meaning}
+use Rattle.interpolator.specs.Outcomes.{Outcome}
+use Rattle.interpolator.specs.declared.sink.Sink as code_sink
+
+-- where text goes: to the writer `out`, or aside into a buffer if there is one
+pub record Ends : Type 0 where
+  pub out : Written
+  pub aside : Option Written
+
+abbrev pub buffer_or : Option Written → Written → Written
+buffer_or None out = out
+buffer_or (Some buffer) out = buffer
+
+-- the one of the two that takes the text
+abbrev pub target : Ends → Written
+target s = buffer_or s.aside s.out
+
+-- the other one stays
+abbrev pub StaysBy : Option Written → Option Written → Written → Written → Type 0
+StaysBy None None out out' = ⊤
+StaysBy (Some b) (Some c) out out' = out' ≡ out
+StaysBy _ _ _ _ = ⊥
+
+abbrev pub OtherStays : Ends → Ends → Type 0
+OtherStays s t = StaysBy s.aside t.aside s.out t.out
+
+-- one of the three outcomes, at the end that takes the text
+pub record Evaluates (m : Meaning) (old new : Ends) (answer : Option Answer) : Type 0 where
+  pub outcome : Outcome m (target old) (target new) answer
+  pub other : OtherStays old new
+
+abbrev pub ends_of : Written → Option Written → Ends
+ends_of out aside = record { out = out; aside = aside }
+
+abbrev pub seen : {W : Type 0} → (W → Written) → code_sink.Sink W → Ends
+seen written s = ends_of (written s.out.now) s.aside.now
+
+-- it holds the same two references
+pub record SameSink {W : Type 0} (old new : code_sink.Sink W) : Type 0 where
+  pub out : new.out.ghost_name ≡ old.out.ghost_name
+  pub aside : new.aside.ghost_name ≡ old.aside.ghost_name
+
+pub record Writes {W : Type 0} (written : W → Written) (m : Meaning) (old new : code_sink.Sink W) (answer : Option Answer) : Type 0 where
+  pub evaluates : Evaluates m (seen written old) (seen written new) answer
+  pub same : SameSink old new

@@ -1,0 +1,57 @@
+//! The argument that stands in braces.
+ghost use Rattle.std.specs.Prelude.{◌≡◌};
+ghost use Rattle.interpolator.specs.At.{at};
+ghost use Rattle.interpolator.specs.Arguments.{argument_at, argument_read};
+
+use crate::class::Class;
+use crate::cursor::Cursor;
+use crate::error::ParseError;
+use interpolator_render::{Alignment, HexDebug, Sign, Spec, Trait};
+
+/// What an argument asks for.
+#[derive(Clone, Copy)]
+pub(crate) enum Kind {
+    /// A value, written under a trait.
+    Value(Trait),
+}
+
+/// What stands in braces: a name, and how its value is written.
+#[derive(Clone, Copy)]
+pub(crate) struct Argument<'a> {
+    pub(crate) name: &'a str,
+    /// Where the name begins.
+    pub(crate) name_place: usize,
+    pub(crate) spec: Spec,
+    pub(crate) kind: Kind,
+}
+
+/// Nothing is set.
+const PLAIN: Spec = Spec {
+    alignment: Alignment::Unset,
+    sign: Sign::Unset,
+    alternate: false,
+    zero: false,
+    width: None,
+    precision: None,
+    hex_debug: HexDebug::No,
+};
+
+/// The argument that begins here, behind its brace, and what stands behind its spec.
+#[tactic(auto, unfolding(crate::specs::Arguments::argument_at))]
+pub(crate) fn take_argument(start: Cursor<'_>) -> Result<(Argument<'_>, Cursor<'_>), ParseError>
+    ensures read { argument_read result ≡ argument_at (at start.entry) }
+{
+    let (_, from) = start.take_class(Class::WhiteSpace);
+    let (name, end) = from.take_class(Class::Name);
+    let argument = Argument {
+        name,
+        name_place: from.place,
+        spec: PLAIN,
+        kind: Kind::Value(Trait::Display),
+    };
+    match end.next() {
+        None => Err(ParseError::FormatSpecUnclosed(start.place)),
+        Some(('}', _)) => Ok((argument, end)),
+        Some(_) => Err(ParseError::Expected("}", end.place)),
+    }
+}

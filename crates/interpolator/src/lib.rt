@@ -1,0 +1,31 @@
+//! Format strings at run time, proved.
+#![tactic(auto)]
+
+mod argument;
+mod class;
+mod constructors;
+mod context;
+mod context_map;
+mod cursor;
+mod error;
+mod error_text;
+mod evaluate;
+mod interpolate;
+pub mod laws;
+mod piece;
+mod scope;
+mod sink;
+mod slot_names;
+mod slots;
+mod writing;
+
+pub use context::Context;
+pub use context_map::{ContextMap, NameMap};
+pub use error::{Error, NumberError, ParseError};
+pub use interpolate::Interpolate;
+pub use interpolator_render::{
+    Alignment, Bits, HexDebug, Refusal, RenderFault, Sign, Spec, TextBuffer, TextWrite, Trait,
+    Value, View, pad, render,
+};
+pub use slots::Formattable;
+pub use writing::{format, write};

@@ -1,0 +1,55 @@
+//! What names mean while a format is written.
+ghost use Rattle.std.specs.Prelude.{◌≡◌, option_map};
+ghost use Rattle.std.specs.Str.{chars};
+ghost use Rattle.interpolator.specs.Trees.{tree_of};
+ghost use Rattle.interpolator.specs.Environments.{environment, given};
+ghost use Rattle.interpolator.specs.Scopes.{environment_of};
+
+use crate::context::Context;
+use crate::slots::Formattable;
+use std::alloc::AllocError;
+
+/// A context, and at most one inner value, which has the empty name.
+pub(crate) struct Scope<'a, C, V> {
+    context: &'a C,
+    inner: Option<Formattable<'a, V>>,
+}
+
+impl<'a, C, V> Clone for Scope<'a, C, V> {
+    fn clone(&self) -> Result<Self, AllocError> {
+        Ok(*self)
+    }
+}
+
+impl<'a, C, V> Copy for Scope<'a, C, V> {}
+
+impl<'a, C: Context> Scope<'a, C, C::Object> {
+    /// The context alone.
+    pub(crate) fn outermost(context: &'a C) -> Self
+        ensures { environment_of C.finds result ≡ environment (C.finds context.now) }
+    {
+        Scope {
+            context,
+            inner: None,
+        }
+    }
+
+    /// What a name means.
+    #[inline(always)]
+    pub(crate) fn lookup(self, name: &str) -> Option<Formattable<'a, C::Object>>
+        ensures {
+            option_map tree_of result ≡ given (environment_of C.finds self.entry) (chars name.now)
+        }
+    {
+        match self.inner {
+            Some(item) => {
+                if name.is_empty() {
+                    Some(item)
+                } else {
+                    self.context.get(name)
+                }
+            }
+            None => self.context.get(name),
+        }
+    }
+}

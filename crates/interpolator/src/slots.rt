@@ -1,0 +1,213 @@
+//! A value's slots: which traits a format may write it with.
+ghost use Rattle.std.specs.Prelude.{◌≡◌, map};
+ghost use Rattle.std.specs.Option.{option_copied};
+ghost use Rattle.interpolator.specs.Trees.{tree_of, slots, items, slot_at, trees_behind, empty_tree};
+ghost use Rattle.interpolator.specs.Trees.{with_debug_display, with_debug, with_display};
+ghost use Rattle.interpolator.specs.Trees.{with_integer, with_float, with_binary, with_iter};
+ghost use Rattle.interpolator.specs.Trees.{with_lower_exp, with_lower_hex, with_octal};
+ghost use Rattle.interpolator.specs.Trees.{with_upper_exp, with_upper_hex};
+
+use interpolator_render::Trait;
+use std::alloc::AllocError;
+
+/// What a name of a format stands for: a value for each trait that it may be written with, and a
+/// list of items.
+///
+/// There are nine slots, each empty or filled: one for each formatting trait, which lends a `V`,
+/// and `iter`, which lends a slice of `Formattable`s. A format that asks an empty slot is refused.
+/// The values are lent, so a `Formattable` is copied freely and takes no memory.
+///
+/// ```text
+/// let name = Formattable::debug_display(&"Ann");    // {name} and {name:?}
+/// let count = Formattable::integer(&3);             // {count:x}, {count:o}, {count:e} too
+/// let parts = [Formattable::display(&1), Formattable::display(&2)];
+/// let list = Formattable::iter(&parts);             // {list:i}
+/// ```
+pub struct Formattable<'a, V> {
+    debug: Option<&'a V>,
+    display: Option<&'a V>,
+    binary: Option<&'a V>,
+    lower_exp: Option<&'a V>,
+    lower_hex: Option<&'a V>,
+    octal: Option<&'a V>,
+    upper_exp: Option<&'a V>,
+    upper_hex: Option<&'a V>,
+    iter: Option<&'a [Formattable<'a, V>]>,
+}
+
+impl<'a, V> Clone for Formattable<'a, V> {
+    fn clone(&self) -> Result<Self, AllocError> {
+        Ok(*self)
+    }
+}
+
+impl<'a, V> Copy for Formattable<'a, V> {}
+
+impl<'a, V> Default for Formattable<'a, V> {
+    ghost is_default = { λ formattable. tree_of formattable ≡ empty_tree };
+
+    /// No slot is filled.
+    #[tactic(auto, using(crate::proofs::TreeLemmas::tree_layers))]
+    fn default() -> Self {
+        Formattable {
+            debug: None,
+            display: None,
+            binary: None,
+            lower_exp: None,
+            lower_hex: None,
+            octal: None,
+            upper_exp: None,
+            upper_hex: None,
+            iter: None,
+        }
+    }
+}
+
+/// Each `set_` call fills the slots of its name, and leaves the others as they were.
+impl<'a, V> Formattable<'a, V> {
+    /// Fills the debug and display slots.
+    #[tactic(auto, using(crate::proofs::TreeLemmas::tree_layers))]
+    pub fn set_debug_display(&mut self, value: &'a V)
+        ensures { tree_of self.new ≡ with_debug_display (tree_of self.old) value.now }
+    {
+        *self = Formattable {
+            debug: Some(value),
+            display: Some(value),
+            ..*self
+        };
+    }
+
+    /// Fills the debug slot.
+    #[tactic(auto, using(crate::proofs::TreeLemmas::tree_layers))]
+    pub fn set_debug(&mut self, value: &'a V)
+        ensures { tree_of self.new ≡ with_debug (tree_of self.old) value.now }
+    {
+        self.debug = Some(value);
+    }
+
+    /// Fills the display slot.
+    #[tactic(auto, using(crate::proofs::TreeLemmas::tree_layers))]
+    pub fn set_display(&mut self, value: &'a V)
+        ensures { tree_of self.new ≡ with_display (tree_of self.old) value.now }
+    {
+        self.display = Some(value);
+    }
+
+    /// Fills the eight slots of the formatting traits.
+    #[tactic(auto, using(crate::proofs::TreeLemmas::tree_layers))]
+    pub fn set_integer(&mut self, value: &'a V)
+        ensures { tree_of self.new ≡ with_integer (tree_of self.old) value.now }
+    {
+        *self = Formattable {
+            debug: Some(value),
+            display: Some(value),
+            binary: Some(value),
+            lower_exp: Some(value),
+            lower_hex: Some(value),
+            octal: Some(value),
+            upper_exp: Some(value),
+            upper_hex: Some(value),
+            iter: self.iter,
+        };
+    }
+
+    /// Fills the debug, display, lower_exp and upper_exp slots.
+    #[tactic(auto, using(crate::proofs::TreeLemmas::tree_layers))]
+    pub fn set_float(&mut self, value: &'a V)
+        ensures { tree_of self.new ≡ with_float (tree_of self.old) value.now }
+    {
+        *self = Formattable {
+            debug: Some(value),
+            display: Some(value),
+            lower_exp: Some(value),
+            upper_exp: Some(value),
+            ..*self
+        };
+    }
+
+    /// Fills the binary slot.
+    #[tactic(auto, using(crate::proofs::TreeLemmas::tree_layers))]
+    pub fn set_binary(&mut self, value: &'a V)
+        ensures { tree_of self.new ≡ with_binary (tree_of self.old) value.now }
+    {
+        self.binary = Some(value);
+    }
+
+    /// Fills the lower_exp slot.
+    #[tactic(auto, using(crate::proofs::TreeLemmas::tree_layers))]
+    pub fn set_lower_exp(&mut self, value: &'a V)
+        ensures { tree_of self.new ≡ with_lower_exp (tree_of self.old) value.now }
+    {
+        self.lower_exp = Some(value);
+    }
+
+    /// Fills the lower_hex slot.
+    #[tactic(auto, using(crate::proofs::TreeLemmas::tree_layers))]
+    pub fn set_lower_hex(&mut self, value: &'a V)
+        ensures { tree_of self.new ≡ with_lower_hex (tree_of self.old) value.now }
+    {
+        self.lower_hex = Some(value);
+    }
+
+    /// Fills the octal slot.
+    #[tactic(auto, using(crate::proofs::TreeLemmas::tree_layers))]
+    pub fn set_octal(&mut self, value: &'a V)
+        ensures { tree_of self.new ≡ with_octal (tree_of self.old) value.now }
+    {
+        self.octal = Some(value);
+    }
+
+    /// Fills the upper_exp slot.
+    #[tactic(auto, using(crate::proofs::TreeLemmas::tree_layers))]
+    pub fn set_upper_exp(&mut self, value: &'a V)
+        ensures { tree_of self.new ≡ with_upper_exp (tree_of self.old) value.now }
+    {
+        self.upper_exp = Some(value);
+    }
+
+    /// Fills the upper_hex slot.
+    #[tactic(auto, using(crate::proofs::TreeLemmas::tree_layers))]
+    pub fn set_upper_hex(&mut self, value: &'a V)
+        ensures { tree_of self.new ≡ with_upper_hex (tree_of self.old) value.now }
+    {
+        self.upper_hex = Some(value);
+    }
+
+    /// Fills the iter slot: the items of a list.
+    #[tactic(auto, using(crate::proofs::TreeLemmas::tree_layers))]
+    pub fn set_iter(&mut self, value: &'a [Formattable<'a, V>])
+        ensures { tree_of self.new ≡ with_iter (tree_of self.old) (map tree_of value.now) }
+    {
+        self.iter = Some(value);
+    }
+}
+
+impl<'a, V> Formattable<'a, V> {
+    // The value in the slot that a trait asks; the iter slot holds no value.
+    #[inline(always)]
+    #[tactic(auto, using(crate::proofs::TreeLemmas::tree_layers))]
+    pub(crate) fn slot(self, wanted: Trait) -> Option<&'a V>
+        ensures { option_copied result ≡ slot_at wanted (slots (tree_of self.entry)) }
+    {
+        match wanted {
+            Trait::Binary => self.binary,
+            Trait::Debug => self.debug,
+            Trait::Display => self.display,
+            Trait::LowerExp => self.lower_exp,
+            Trait::LowerHex => self.lower_hex,
+            Trait::Octal => self.octal,
+            Trait::UpperExp => self.upper_exp,
+            Trait::UpperHex => self.upper_hex,
+            Trait::Iter => None,
+        }
+    }
+
+    // The items, where the iter slot is filled.
+    #[inline(always)]
+    #[tactic(auto, using(crate::proofs::TreeLemmas::tree_layers))]
+    pub(crate) fn list(self) -> Option<&'a [Formattable<'a, V>]>
+        ensures { trees_behind result ≡ items (tree_of self.entry) }
+    {
+        self.iter
+    }
+}
