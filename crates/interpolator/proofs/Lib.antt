@@ -8,6 +8,7 @@ pub mod NameBytes
 pub mod Naming
 pub mod Outcomes
 pub mod Pieces
+pub mod Places
 pub mod Placing
 pub mod Runs
 pub mod SpecEquality

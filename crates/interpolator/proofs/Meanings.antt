@@ -50,7 +50,7 @@ module _ {X : Type 0} (shows : X → Trait → Spec → Shown) (e : Environment 
   means_none p = ap (pieces_mean shows e) (pieces_none p)
 
   -- the first piece, and then what stands behind it
-  means_next : (p c : ℕ) (cs : List ℕ) → means shows e (record { place = p; text = c ∷ cs }) ≡ joined (piece_means shows e p (piece_from p c (past p c cs)).piece.kind) (means shows e (piece_from p c (past p c cs)).rest)
+  pub means_next : (p c : ℕ) (cs : List ℕ) → means shows e (record { place = p; text = c ∷ cs }) ≡ joined (piece_means shows e p (piece_from p c (past p c cs)).piece.kind) (means shows e (piece_from p c (past p c cs)).rest)
   unfolding means
   means_next p c cs =
       let s = piece_from p c (past p c cs) in
@@ -62,7 +62,7 @@ module _ {X : Type 0} (shows : X → Trait → Spec → Shown) (e : Environment 
       let b = past p c cs in
       means_next p c cs ∙ ap (λ s. joined (piece_means shows e p s.piece.kind) (means shows e s.rest))
       (ap (λ t. cond t (open_step p b (strip open_brace b)) (cond (eqb c close_brace) (close_step p b (strip close_brace b)) (step p (c ∷ []) (literal c) b))) tests.0
-        ∙ ap (λ t. cond t (close_step p b (strip close_brace b)) (step p (c ∷ []) (literal c) b)) tests.1)
+      ∙ ap (λ t. cond t (close_step p b (strip close_brace b)) (step p (c ∷ []) (literal c) b)) tests.1)
 
   abbrev IsRun : ℕ → List ℕ → Type 0
   IsRun p cs = means shows e (record { place = p; text = cs }) ≡ joined (says (placed_from p (front_of (in_class Literal) cs))) (means shows e (record { place = p + size (front_of (in_class Literal) cs); text = behind_of (in_class Literal) cs }))

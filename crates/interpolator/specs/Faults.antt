@@ -1,5 +1,5 @@
 -- What a fault says: its variant and its fields, where borrows and allocators do not count.
-use Rattle.std.specs.Prelude.{ℕ, List, Option, None, Some, Result, Ok, Err, string_bytes, ⊤}
+use Rattle.std.specs.Prelude.{ℕ, ◌≤◌, List, Option, None, Some, Result, Ok, Err, string_bytes, ⊤}
 use Rattle.std.specs.Str.{chars}
 use Rattle.interpolator_render.specs.declared.view.Trait.{Trait}
 use Rattle.interpolator.specs.declared.error.NumberError.{NumberError}
@@ -60,3 +60,27 @@ answered (Err error) = Some (answer_of error)
 abbrev pub IsMissingValue : Error → Type 0
 IsMissingValue (MissingValue _ _) = ⊤
 IsMissingValue _ = ⊥
+
+-- the place that a fault of the format text carries
+abbrev pub parse_place : ParseFault → ℕ
+parse_place (unclosed place) = place
+parse_place (expected text place) = place
+parse_place (invalid_width kind place) = place
+parse_place (invalid_precision kind place) = place
+parse_place (fill place) = place
+parse_place (iter place) = place
+parse_place (range_bound kind place) = place
+
+-- the place that a fault carries
+abbrev pub fault_place : Fault → ℕ
+fault_place (missing_trait_impl wanted place) = place
+fault_place (fmt place) = place
+fault_place (parse f) = parse_place f
+fault_place (missing_value name place) = place
+fault_place (unsupported_option option feature place) = place
+
+-- an answered fault carries a place of at most so many bytes
+abbrev pub PlaceWithin : ℕ → Option Answer → Type 0
+PlaceWithin length None = ⊤
+PlaceWithin length (Some (fault f)) = fault_place f ≤ length
+PlaceWithin length (Some no_memory) = ⊤

@@ -21,10 +21,8 @@ use std::alloc::Global;
 
 /// The fault of an absent name, which is copied.
 fn missing_name(alloc: Global, name: &str, start: usize) -> Error
-    ensures told {
-        (answer_of result ≡ fault (missing_value (chars name.now) start))
-            ⊎ (answer_of result ≡ no_memory)
-    }
+    ensures told { (answer_of result ≡ fault (missing_value (chars name.now) start))
+        ⊎ (answer_of result ≡ no_memory) }
 {
     match String::from_str(alloc, name) {
         Ok(name) => Error::MissingValue(name, start),
@@ -41,12 +39,10 @@ fn write_argument<'a, W: TextWrite, C: Context>(
     end: usize,
     scope: Scope<'a, C, C::Object>,
 ) -> Result<(), Error>
-    ensures writes {
-        Writes W.written
-            (argument_means C.Object.shows (environment_of C.finds scope.entry) start
-                (argument_of argument.entry) end)
-            sink.old sink.new (answered result)
-    }
+    ensures writes { Writes W.written
+        (argument_means C.Object.shows (environment_of C.finds scope.entry) start
+        (argument_of argument.entry) end)
+        sink.old sink.new (answered result) }
 {
     let Some(found) = scope.lookup(argument.name) else {
         return Err(missing_name(alloc, argument.name, start));
@@ -65,12 +61,10 @@ fn write_piece<'a, W: TextWrite, C: Context>(
     scope: Scope<'a, C, C::Object>,
 ) -> Result<(), Error>
     requires fits { RunFits place piece }
-    ensures writes {
-        Writes W.written
-            (scanned_means C.Object.shows (environment_of C.finds scope.entry) place
-                (scanned_of piece.entry))
-            sink.old sink.new (answered result)
-    }
+    ensures writes { Writes W.written
+        (scanned_means C.Object.shows (environment_of C.finds scope.entry) place
+        (scanned_of piece.entry))
+        sink.old sink.new (answered result) }
 {
     match piece {
         Piece::Literals(text) => sink.put_run(text, place),
@@ -96,11 +90,9 @@ pub(crate) fn write_text<'a, W: TextWrite, C: Context>(
     text: Cursor<'_>,
     scope: Scope<'a, C, C::Object>,
 ) -> Result<(), Error>
-    ensures writes {
-        Writes W.written
-            (means C.Object.shows (environment_of C.finds scope.entry) (at text.entry))
-            sink.old sink.new (answered result)
-    }
+    ensures writes { Writes W.written
+        (means C.Object.shows (environment_of C.finds scope.entry) (at text.entry))
+        sink.old sink.new (answered result) }
 {
     let mut here = text;
     while let Some((piece, rest)) = next_piece(here) {

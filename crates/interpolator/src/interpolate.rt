@@ -1,8 +1,9 @@
 //! Formats as methods of a context.
+ghost use Rattle.std.specs.Prelude.{length};
 ghost use Rattle.std.specs.Str.{chars};
 ghost use Rattle.interpolator.specs.At.{outermost};
 ghost use Rattle.interpolator.specs.Environments.{environment};
-ghost use Rattle.interpolator.specs.Faults.{answered};
+ghost use Rattle.interpolator.specs.Faults.{answered, PlaceWithin};
 ghost use Rattle.interpolator.specs.Meanings.{means};
 ghost use Rattle.interpolator.specs.Outcomes.{Outcome, Formats};
 
@@ -27,12 +28,11 @@ pub trait Interpolate: Context {
     ///
     /// The format's first fault, or `NoMemory`.
     fn format(&self, alloc: Global, text: &str) -> Result<String, Error>
-        ensures formats {
-            Formats
-                (means Self.Object.shows (environment (Self.finds self.now))
-                    (outermost (chars text.now)))
-                result
-        }
+        ensures formats { Formats
+            (means Self.Object.shows (environment (Self.finds self.now))
+            (outermost (chars text.now)))
+            result }
+        ensures place { PlaceWithin (length text.now) (answered result) }
     {
         format(alloc, text, self)
     }
@@ -43,12 +43,11 @@ pub trait Interpolate: Context {
     ///
     /// The format's first fault; `Fmt` where the writer refuses; `NoMemory`.
     fn write_to<W: TextWrite>(&self, alloc: Global, out: &mut W, text: &str) -> Result<(), Error>
-        ensures outcome {
-            Outcome
-                (means Self.Object.shows (environment (Self.finds self.now))
-                    (outermost (chars text.now)))
-                (W.written out.old) (W.written out.new) (answered result)
-        }
+        ensures outcome { Outcome
+            (means Self.Object.shows (environment (Self.finds self.now))
+            (outermost (chars text.now)))
+            (W.written out.old) (W.written out.new) (answered result) }
+        ensures place { PlaceWithin (length text.now) (answered result) }
     {
         write(alloc, out, text, self)
     }

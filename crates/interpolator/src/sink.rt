@@ -16,9 +16,7 @@ use std::fmt;
 
 /// Writes one character of the format.
 fn write_char<W: TextWrite>(out: &mut W, c: char, place: usize) -> Result<(), Error>
-    ensures outcome {
-        Outcome (says ((c, place) ∷ [])) (W.written out.old) (W.written out.new) (answered result)
-    }
+    ensures outcome { Outcome (says ((c, place) ∷ [])) (W.written out.old) (W.written out.new) (answered result) }
 {
     match out.write_char(c) {
         Ok(()) => Ok(()),
@@ -29,10 +27,8 @@ fn write_char<W: TextWrite>(out: &mut W, c: char, place: usize) -> Result<(), Er
 /// Writes characters of the format that stand from a place on.
 fn write_run<W: TextWrite>(out: &mut W, text: &str, place: usize) -> Result<(), Error>
     requires fits { place + length text.now < 2 ^ 64 }
-    ensures outcome {
-        Outcome (says (placed_from place (chars text.now)))
-            (W.written out.old) (W.written out.new) (answered result)
-    }
+    ensures outcome { Outcome (says (placed_from place (chars text.now)))
+        (W.written out.old) (W.written out.new) (answered result) }
 {
     match out.write_str(text) {
         Ok(()) => Ok(()),
@@ -49,10 +45,8 @@ fn write_view<W: TextWrite>(
     place: usize,
 ) -> Result<(), Error>
     requires in_range { IsInRange (shown_by view) }
-    ensures outcome {
-        Outcome (view_means t place (view_text (shown_by view.entry) t spec.now))
-            (W.written out.old) (W.written out.new) (answered result)
-    }
+    ensures outcome { Outcome (view_means t place (view_text (shown_by view.entry) t spec.now))
+        (W.written out.old) (W.written out.new) (answered result) }
 {
     match render(out, view, t, spec) {
         Ok(()) => Ok(()),
@@ -68,10 +62,8 @@ fn put_char<W: TextWrite>(
     c: char,
     place: usize,
 ) -> Result<(), Error>
-    ensures evaluates {
-        Evaluates (says ((c, place) ∷ [])) (ends_of (W.written out.old) aside.old)
-            (ends_of (W.written out.new) aside.new) (answered result)
-    }
+    ensures evaluates { Evaluates (says ((c, place) ∷ [])) (ends_of (W.written out.old) aside.old)
+        (ends_of (W.written out.new) aside.new) (answered result) }
 {
     match aside {
         None => write_char(out, c, place),
@@ -86,11 +78,9 @@ fn put_run<W: TextWrite>(
     place: usize,
 ) -> Result<(), Error>
     requires fits { place + length text.now < 2 ^ 64 }
-    ensures evaluates {
-        Evaluates (says (placed_from place (chars text.now)))
-            (ends_of (W.written out.old) aside.old)
-            (ends_of (W.written out.new) aside.new) (answered result)
-    }
+    ensures evaluates { Evaluates (says (placed_from place (chars text.now)))
+        (ends_of (W.written out.old) aside.old)
+        (ends_of (W.written out.new) aside.new) (answered result) }
 {
     match aside {
         None => write_run(out, text, place),
@@ -107,11 +97,9 @@ fn put_view<W: TextWrite>(
     place: usize,
 ) -> Result<(), Error>
     requires in_range { IsInRange (shown_by view) }
-    ensures evaluates {
-        Evaluates (view_means t place (view_text (shown_by view.entry) t spec.now))
-            (ends_of (W.written out.old) aside.old)
-            (ends_of (W.written out.new) aside.new) (answered result)
-    }
+    ensures evaluates { Evaluates (view_means t place (view_text (shown_by view.entry) t spec.now))
+        (ends_of (W.written out.old) aside.old)
+        (ends_of (W.written out.new) aside.new) (answered result) }
 {
     match aside {
         None => write_view(out, view, t, spec, place),
@@ -127,11 +115,9 @@ fn put_value<W: TextWrite, V: Value>(
     spec: &Spec,
     place: usize,
 ) -> Result<(), Error>
-    ensures evaluates {
-        Evaluates (value_means V.shows t spec.now place (option_copied value.entry))
-            (ends_of (W.written out.old) aside.old)
-            (ends_of (W.written out.new) aside.new) (answered result)
-    }
+    ensures evaluates { Evaluates (value_means V.shows t spec.now place (option_copied value.entry))
+        (ends_of (W.written out.old) aside.old)
+        (ends_of (W.written out.new) aside.new) (answered result) }
 {
     match value {
         None => Err(Error::MissingTraitImpl(t, place)),
@@ -148,9 +134,7 @@ pub(crate) struct Sink<'s, W> {
 impl<'s, W: TextWrite> Sink<'s, W> {
     /// One character of the format.
     pub(crate) fn put_char(&mut self, c: char, place: usize) -> Result<(), Error>
-        ensures writes {
-            Writes W.written (says ((c, place) ∷ [])) self.old self.new (answered result)
-        }
+        ensures writes { Writes W.written (says ((c, place) ∷ [])) self.old self.new (answered result) }
     {
         put_char(&mut *self.out, &mut *self.aside, c, place)
     }
@@ -158,10 +142,8 @@ impl<'s, W: TextWrite> Sink<'s, W> {
     /// Characters of the format that stand from a place on, as one slice.
     pub(crate) fn put_run(&mut self, text: &str, place: usize) -> Result<(), Error>
         requires fits { place + length text.now < 2 ^ 64 }
-        ensures writes {
-            Writes W.written (says (placed_from place (chars text.now)))
-                self.old self.new (answered result)
-        }
+        ensures writes { Writes W.written (says (placed_from place (chars text.now)))
+            self.old self.new (answered result) }
     {
         put_run(&mut *self.out, &mut *self.aside, text, place)
     }
@@ -174,10 +156,8 @@ impl<'s, W: TextWrite> Sink<'s, W> {
         spec: &Spec,
         place: usize,
     ) -> Result<(), Error>
-        ensures writes {
-            Writes W.written (value_means V.shows t spec.now place (option_copied value.entry))
-                self.old self.new (answered result)
-        }
+        ensures writes { Writes W.written (value_means V.shows t spec.now place (option_copied value.entry))
+            self.old self.new (answered result) }
     {
         put_value(&mut *self.out, &mut *self.aside, value, t, spec, place)
     }

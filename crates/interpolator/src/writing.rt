@@ -1,9 +1,10 @@
 //! Formats: text and values in, the formatted text or one located fault out.
 
+ghost use Rattle.std.specs.Prelude.{length};
 ghost use Rattle.std.specs.Str.{chars};
 ghost use Rattle.interpolator.specs.At.{outermost};
 ghost use Rattle.interpolator.specs.Environments.{environment};
-ghost use Rattle.interpolator.specs.Faults.{answered};
+ghost use Rattle.interpolator.specs.Faults.{answered, PlaceWithin};
 ghost use Rattle.interpolator.specs.Meanings.{means};
 ghost use Rattle.interpolator.specs.Outcomes.{Outcome, Formats};
 
@@ -23,10 +24,9 @@ pub fn write<W: TextWrite, C: Context>(
     format: &str,
     context: &C,
 ) -> Result<(), Error>
-    ensures outcome {
-        Outcome (means C.Object.shows (environment (C.finds context.now)) (outermost (chars format.now)))
-            (W.written out.old) (W.written out.new) (answered result)
-    }
+    ensures outcome { Outcome (means C.Object.shows (environment (C.finds context.now)) (outermost (chars format.now)))
+        (W.written out.old) (W.written out.new) (answered result) }
+    ensures place { PlaceWithin (length format.now) (answered result) }
 {
     let text = Cursor {
         place: 0,
@@ -44,10 +44,9 @@ pub fn write<W: TextWrite, C: Context>(
 
 /// The format's text in a new `String`.
 pub fn format<C: Context>(alloc: Global, format: &str, context: &C) -> Result<String, Error>
-    ensures formats {
-        Formats (means C.Object.shows (environment (C.finds context.now)) (outermost (chars format.now)))
-            result
-    }
+    ensures formats { Formats (means C.Object.shows (environment (C.finds context.now)) (outermost (chars format.now)))
+        result }
+    ensures place { PlaceWithin (length format.now) (answered result) }
 {
     let mut out = TextBuffer::new(alloc);
     let answer = write(alloc, &mut out, format, context);

@@ -65,7 +65,11 @@ fn parse_errors_print_their_texts(rt: HostRuntime) -> Result<(), Fail> {
             "Format spec at 1 is nether closed with a `}`",
             "FormatSpecUnclosed(1)",
         ),
-        (ParseError::Expected("}", 23), "Expected `}` at 23", "Expected(\"}\", 23)"),
+        (
+            ParseError::Expected("}", 23),
+            "Expected `}` at 23",
+            "Expected(\"}\", 23)",
+        ),
         (
             ParseError::InvalidWidth(NumberError::PosOverflow, 3),
             "Unable to parse width at 3 as usize: number too large to fit in target type",
@@ -106,10 +110,26 @@ fn parse_errors_print_their_texts(rt: HostRuntime) -> Result<(), Fail> {
 fn numbers_and_traits_print_their_names(rt: HostRuntime) -> Result<(), Fail> {
     let alloc = rt.alloc();
     let numbers = [
-        (NumberError::Empty, "cannot parse integer from empty string", "Empty"),
-        (NumberError::InvalidDigit, "invalid digit found in string", "InvalidDigit"),
-        (NumberError::PosOverflow, "number too large to fit in target type", "PosOverflow"),
-        (NumberError::NegOverflow, "number too small to fit in target type", "NegOverflow"),
+        (
+            NumberError::Empty,
+            "cannot parse integer from empty string",
+            "Empty",
+        ),
+        (
+            NumberError::InvalidDigit,
+            "invalid digit found in string",
+            "InvalidDigit",
+        ),
+        (
+            NumberError::PosOverflow,
+            "number too large to fit in target type",
+            "PosOverflow",
+        ),
+        (
+            NumberError::NegOverflow,
+            "number too small to fit in target type",
+            "NegOverflow",
+        ),
     ];
     for (fault, text, debug) in numbers {
         assert_eq!(rt; fault.to_string(alloc)?.as_str(), text);
@@ -128,7 +148,9 @@ fn numbers_and_traits_print_their_names(rt: HostRuntime) -> Result<(), Fail> {
     ];
     for (wanted, name) in traits {
         let text = Error::MissingTraitImpl(wanted, 0).to_string(alloc)?;
-        let whole = format!(in alloc; "trait `{name}` not implemented, used by format argument at 0")?;
+        let whole = format!(in alloc;
+            "trait `{name}` not implemented, used by format argument at 0"
+        )?;
         assert_eq!(rt; text.as_str(), whole.as_str());
     }
     Ok(())

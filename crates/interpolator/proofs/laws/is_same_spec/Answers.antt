@@ -6,6 +6,7 @@ pub returns : goal.returns
 returns c =
     let spec = c.args.spec.now in
     let other = c.args.other.now in
-    let answer : c.eq.result ≡ spec_eq spec other = c.eq.ensures in
-    (λ equal. same_spec spec other (sym answer ∙ equal),
-     λ same. answer ∙ ap (spec_eq spec) (sym same) ∙ spec_eq-same spec)
+    let answer : c.eq.result ≡ spec_eq spec other = c.eq.ensures in (
+      λ equal. same_spec spec other (sym answer ∙ equal),
+      λ same. answer ∙ ap (spec_eq spec) (sym same) ∙ spec_eq-same spec,
+    )
