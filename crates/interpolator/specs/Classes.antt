@@ -19,10 +19,14 @@ colon = 58
 abbrev pub is_brace : ℕ → Bool
 is_brace c = c == open_brace || c == close_brace
 
+-- neither of two characters
+abbrev pub avoids : ℕ → ℕ → ℕ → Bool
+avoids first second c = not (c == first || c == second)
+
 -- a name goes on up to the first colon or closing brace, a literal text up to the first brace
 abbrev pub in_class : Class → ℕ → Bool
 in_class WhiteSpace c = is_whitespace c
-in_class Name c = not (c == colon || c == close_brace)
+in_class Name c = avoids colon close_brace c
 in_class Literal c = not (is_brace c)
 
 -- the longest front whose characters pass

@@ -17,16 +17,16 @@ use crate::sink::Sink;
 use interpolator_render::{TextBuffer, TextWrite};
 use std::alloc::Global;
 
-/// Writes what the format means in the context, up to its first fault.
-pub fn write<W: TextWrite, C: Context>(
+/// Writes what the format means, through a sink over the writer alone.
+fn write_format<W: TextWrite, C: Context>(
     alloc: Global,
     out: &mut W,
     format: &str,
     context: &C,
 ) -> Result<(), Error>
-    ensures outcome { Outcome (means C.Object.shows (environment (C.finds context.now)) (outermost (chars format.now)))
+    ensures outcome { Outcome
+        (means C.Object.shows (environment (C.finds context.now)) (outermost (chars format.now)))
         (W.written out.old) (W.written out.new) (answered result) }
-    ensures place { PlaceWithin (length format.now) (answered result) }
 {
     let text = Cursor {
         place: 0,
@@ -42,9 +42,59 @@ pub fn write<W: TextWrite, C: Context>(
     answer
 }
 
+/// Writes what the format means in the context, up to its first fault.
+///
+/// The pieces of the format are read once, from left to right, and written as they come: `{{` as
+/// `{`, `}}` as `}`, `{name}` as the text of the value under the name, and every other character
+/// as it stands. Memory is taken for the name in a `MissingValue`, and for nothing else.
+///
+/// # Errors
+///
+/// - `Parse`: an argument is broken. The text before it was written.
+/// - `MissingValue`: the context has nothing under the name.
+/// - `MissingTraitImpl`: the value has no slot for the trait, or no text under it.
+/// - `Fmt`: a value failed, or the writer refused. Where the writer refused a literal character,
+///   the place is that of the first which was not appended; where it refused a value, the byte
+///   behind the argument's spec.
+/// - `NoMemory`: a missing name could not be copied.
+///
+/// Every place counts bytes from the beginning of the format, and is at most its length.
+///
+/// # Example
+///
+/// ```text
+/// write(alloc, &mut out, "Hello {name}, {{n}} is {n} }", &context)?;
+/// // with `Ann` under `name` and -7 under `n`: Hello Ann, {n} is -7 }
+/// ```
+pub fn write<W: TextWrite, C: Context>(
+    alloc: Global,
+    out: &mut W,
+    format: &str,
+    context: &C,
+) -> Result<(), Error>
+    ensures outcome { Outcome
+        (means C.Object.shows (environment (C.finds context.now)) (outermost (chars format.now)))
+        (W.written out.old) (W.written out.new) (answered result) }
+    ensures place { PlaceWithin (length format.now) (answered result) }
+{
+    write_format(alloc, out, format, context)
+}
+
 /// The format's text in a new `String`.
+///
+/// # Errors
+///
+/// Those of `write` over the same format and context, where `Fmt` means that a value failed; and
+/// `NoMemory` where the text finds no memory.
+///
+/// # Example
+///
+/// ```text
+/// let text = format(alloc, "{{{x}}}", &context)?; // with 1 under `x`: {1}
+/// ```
 pub fn format<C: Context>(alloc: Global, format: &str, context: &C) -> Result<String, Error>
-    ensures formats { Formats (means C.Object.shows (environment (C.finds context.now)) (outermost (chars format.now)))
+    ensures formats { Formats
+        (means C.Object.shows (environment (C.finds context.now)) (outermost (chars format.now)))
         result }
     ensures place { PlaceWithin (length format.now) (answered result) }
 {

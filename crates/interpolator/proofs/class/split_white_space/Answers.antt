@@ -2,11 +2,10 @@ use Rattle.std.proofs.Common.{rules, ◌≡◌, ◌++◌, length, ℕ, ◌-◌, 
 use Rattle.std.specs.Str.{chars, IsUtf8}
 use Rattle.std.proofs.lemmas.Str.{IsUtf8-past_char, IsUtf8-take}
 use Rattle.interpolator.specs.Classes.{in_class, front_of, behind_of}
-use Rattle.interpolator.specs.At.{size}
-use Rattle.interpolator.proofs.Characters.{size-chars}
+use Rattle.interpolator.specs.declared.class.Class.TheVariants.{WhiteSpace}
 use Rattle.interpolator.proofs.Fronts.{behind_pass, behind_stop, rest_more, rest_boundary, cut_at_rest, front_cut}
-use Rattle.interpolator.proofs.class.split_class.Goals as goal
-use Rattle.interpolator.proofs.class.split_class.Goals.{in-Some+then-not-contains, in_default}
+use Rattle.interpolator.proofs.class.split_white_space.Goals as goal
+use Rattle.interpolator.proofs.class.split_white_space.Goals.{in-Some+then-not-is_whitespace, in_default}
 
 pub loop-c-preserved : goal.loop-c-preserved
 loop-c-preserved c =
@@ -14,18 +13,18 @@ loop-c-preserved c =
     let after = c.in-Some.after.now in (
       IsUtf8-past_char rest after c.in-Some.c c.loop-c.invariant.0 c.in-Some.ensures.bytes,
       rest_more c.args.text.now rest after c.in-Some.c c.loop-c.invariant.1 c.in-Some.ensures.bytes,
-      c.loop-c.invariant.2 ∙ behind_pass (in_class c.args.class) (chars rest) (chars after) c.in-Some.c c.in-Some.ensures.chars (sym c.contains.ensures ∙ c.if-not-contains.false),
+      c.loop-c.invariant.2 ∙ behind_pass (in_class WhiteSpace) (chars rest) (chars after) c.in-Some.c c.in-Some.ensures.chars (sym c.is_whitespace.ensures ∙ c.if-not-is_whitespace.false),
     )
 
 pub split_at-requires : goal.split_at-requires
 split_at-requires c = rest_boundary c.args.text.now c.loop-c.rest.now c.loop-c.invariant.1 c.loop-c.invariant.0
 
-stops_there : (c : goal.After-split_at) → behind_of (in_class c.args.class) (chars c.loop-c.rest.now) ≡ chars c.loop-c.rest.now
+stops_there : (c : goal.After-split_at) → behind_of (in_class WhiteSpace) (chars c.loop-c.rest.now) ≡ chars c.loop-c.rest.now
 stops_there c =
     let rest = c.loop-c.rest.now in
-    let p = in_class c.args.class in
+    let p = in_class WhiteSpace in
     elim c.match-split_first.branch [
-      | in-Some+then-not-contains w ↦ behind_stop p (chars rest) (chars w.in-Some.after.now) w.in-Some.c w.in-Some.ensures.chars (sym w.contains.ensures ∙ w.if-not-contains.true)
+      | in-Some+then-not-is_whitespace w ↦ behind_stop p (chars rest) (chars w.in-Some.after.now) w.in-Some.c w.in-Some.ensures.chars (sym w.is_whitespace.ensures ∙ w.if-not-is_whitespace.true)
       | in_default w ↦ ap (behind_of p) w.in_default.ensures.chars ∙ sym w.in_default.ensures.chars
     ]
 
@@ -39,9 +38,6 @@ pub returns-clause-front : goal.returns-clause-front
 returns-clause-front c =
     let text = c.args.text.now in
     let rest = c.loop-c.rest.now in
-    front_cut (in_class c.args.class) text c.split_at.result.0.now rest (front_is_text c)
+    front_cut (in_class WhiteSpace) text c.split_at.result.0.now rest (front_is_text c)
     (ap (λ xs. xs ++ rest) c.split_at.ensures.front ∙ cut_at_rest text rest c.loop-c.invariant.1)
     (c.loop-c.invariant.2 ∙ stops_there c)
-
-pub returns-clause-bytes : goal.returns-clause-bytes
-returns-clause-bytes c = sym (size-chars c.split_at.result.0.now (front_is_text c)) ∙ ap size (returns-clause-front c)
