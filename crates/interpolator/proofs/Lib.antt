@@ -1,6 +1,10 @@
 pub mod Bytes
 pub mod Characters
 pub mod Ends
+pub mod FirstKinds
+pub mod FirstKindsArguments
+pub mod FirstKindsFronts
+pub mod FirstKindsSteps
 pub mod Fronts
 pub mod Loans
 pub mod Lookups

@@ -14,3 +14,4 @@ pub mod Sinks
 pub mod SlotNames
 pub mod Contexts
 pub mod NameMaps
+pub mod FirstKinds

@@ -13,6 +13,7 @@ mod evaluate;
 mod interpolate;
 pub mod laws;
 mod piece;
+pub mod piece_laws;
 mod scope;
 mod sink;
 mod slot_names;

@@ -1,6 +1,10 @@
 pub mod Written
-pub mod Digits
-pub mod Pieces
 pub mod Views
-pub mod Texts
+pub mod Characters
+pub mod Layout
+pub mod Digits
 pub mod Exponent
+pub mod Padding
+pub mod Numbers
+pub mod Quoting
+pub mod Texts

@@ -1,23 +1,29 @@
 -- What a view shows: the view without its borrows.
-use Rattle.std.specs.Prelude.{ℕ, ℤ, pos, negsuc, ◌+◌, ◌^◌, ◌<◌, Bool, List}
+use Rattle.std.specs.Prelude.{ℕ, ℤ, pos, negsuc, ◌-◌, ◌^◌, nat_lt, Bool, if◌then◌else◌, List, FitsSigned}
+use Rattle.std.specs.Int.{Width, w8, w16, w32, w64, w128}
 use Rattle.std.specs.Str.{chars}
 use Rattle.interpolator_render.specs.declared.view.Bits.{Bits}
 use Rattle.interpolator_render.specs.declared.view.Bits.TheVariants.{B8, B16, B32, B64, B128}
 use Rattle.interpolator_render.specs.declared.view.View.{View}
 use Rattle.interpolator_render.specs.declared.view.View.TheVariants.{Signed, Unsigned, Truth, Character, Text, Plain, NotImplemented, Failed}
 
-abbrev pub width_of : Bits → ℕ
-width_of B8 = 8
-width_of B16 = 16
-width_of B32 = 32
-width_of B64 = 64
-width_of B128 = 128
+-- the width as std's clauses name it
+abbrev pub integer_width : Bits → Width
+integer_width B8 = w8
+integer_width B16 = w16
+integer_width B32 = w32
+integer_width B64 = w64
+integer_width B128 = w128
 
-abbrev pub distance_from_zero : ℤ → ℕ
-distance_from_zero (pos n) = n
-distance_from_zero (negsuc n) = n + 1
+-- the width in bits
+abbrev pub bit_count : Bits → ℕ
+bit_count B8 = 8
+bit_count B16 = 16
+bit_count B32 = 32
+bit_count B64 = 64
+bit_count B128 = 128
 
--- a view without its borrows: two views that show the same are one
+-- a view without its borrows, so that two views which show the same are equal
 pub data Shown : Type 0 where
   signed_number : ℤ → Bits → Shown
   unsigned_number : ℕ → Shown
@@ -28,17 +34,34 @@ pub data Shown : Type 0 where
   nothing_implemented : Shown
   failure : Shown
 
+-- what a view shows, a text by its characters
 abbrev pub shown_by : View → Shown
-shown_by (Signed z bits) = signed_number z bits
-shown_by (Unsigned n) = unsigned_number n
-shown_by (Truth b) = truth_value b
+shown_by (Signed number bits) = signed_number number bits
+shown_by (Unsigned number) = unsigned_number number
+shown_by (Truth truth) = truth_value truth
 shown_by (Character c) = one_character c
-shown_by (Text s) = some_text (chars s.now)
-shown_by (Plain s) = plain_text (chars s.now)
+shown_by (Text text) = some_text (chars text.now)
+shown_by (Plain text) = plain_text (chars text.now)
 shown_by NotImplemented = nothing_implemented
 shown_by Failed = failure
 
--- a signed number lies in the range of its width
+-- a signed number lies in the two's complement range of its width, from -2 ^ (w - 1) up to 2 ^ (w - 1) - 1
 abbrev pub IsInRange : Shown → Type 0
-IsInRange (signed_number z bits) = distance_from_zero z < 2 ^ width_of bits
+IsInRange (signed_number number bits) = FitsSigned (integer_width bits) number
 IsInRange _ = Unit {0}
+
+-- whether a number lies in that range
+abbrev pub fits_signed : ℤ → Bits → Bool
+fits_signed (pos number) bits = nat_lt number (2 ^ (bit_count bits - 1))
+fits_signed (negsuc below) bits = nat_lt below (2 ^ (bit_count bits - 1))
+
+-- what a view shows as a value: itself, or a failure for a signed number outside its width
+abbrev pub shown_as_value : View → Shown
+shown_as_value (Signed number bits) = if fits_signed number bits then signed_number number bits else failure
+shown_as_value (Unsigned number) = unsigned_number number
+shown_as_value (Truth truth) = truth_value truth
+shown_as_value (Character c) = one_character c
+shown_as_value (Text text) = some_text (chars text.now)
+shown_as_value (Plain text) = plain_text (chars text.now)
+shown_as_value NotImplemented = nothing_implemented
+shown_as_value Failed = failure

@@ -1,18 +1,20 @@
 //! Numbers in exponent form.
-ghost use Rattle.std.specs.Prelude.{◌≡◌, ℕ, ◌+◌, ◌-◌, ◌*◌, ◌/◌, ◌^◌, ◌<◌, ◌≤◌, ◌++◌, length, take, drop, replicate, false};
+ghost use Rattle.std.specs.Prelude.{◌≡◌, ◌+◌, ◌-◌, ◌/◌, ◌^◌, ◌<◌, ◌≤◌, ◌++◌, false, length, drop, replicate, slice_range};
 ghost use Rattle.std.specs.Str.{IsAscii};
+ghost use Rattle.interpolator_render.specs.Exponent.{exponent_of, exponent_tail, nearest, pointed, rounded, scientific, trimmed};
 ghost use Rattle.interpolator_render.specs.Digits.{digit_text};
-ghost use Rattle.interpolator_render.specs.Exponent.{exponent_of, nearest, trimmed, rounded, scientific};
 
-use crate::digits::digit_str;
+use crate::digits::{MOST_DIGITS, ascii_str, fill_decimal};
 
-/// The greatest exponent of ten that is at most the number.
-fn exponent_of(n: u128) -> usize
-    ensures value { result ≡ exponent_of n }
-    ensures small { result ≤ 38 }
-{
-    let mut buffer = [0u8; 128];
-    digit_str(n, 10, false, &mut buffer).len() - 1
+/// What stands before the mark of an exponent form, and the exponent behind it.
+#[derive(Clone, Copy)]
+pub(crate) struct Mantissa<'b> {
+    /// The first digits, with the point.
+    pub(crate) head: &'b str,
+    /// How many zeros follow them.
+    pub(crate) zeros: usize,
+    /// The exponent of the first digit.
+    pub(crate) exponent: usize,
 }
 
 /// The number nearest to `n / unit`, of two the even one.
@@ -33,97 +35,103 @@ fn nearest(n: u128, unit: u128) -> u128
     }
 }
 
-/// Less the zeros at the end, one digit at least.
-fn trim(digits: &str) -> &str
-    requires ascii { IsAscii digits.now }
-    requires some { 0 < length digits.now }
-    ensures value { result.now ≡ trimmed digits.now }
-    ensures ascii { IsAscii result.now }
-    ensures some { 0 < length result.now }
-    ensures shorter { length result.now ≤ length digits.now }
-{
-    let bytes = digits.as_bytes();
-    let mut end = bytes.len();
-    while end > 1 && bytes[end - 1] == b'0' {
-        end -= 1;
-    }
-    &digits[..end]
-}
-
-/// The digits of a number in exponent form, the zeros behind them, and the exponent of the first.
-#[derive(Clone, Copy)]
-pub(crate) struct ExponentDigits<'b> {
-    pub(crate) digits: &'b str,
-    pub(crate) zeros: usize,
-    pub(crate) exponent: usize,
-}
-
-fn rounded<'b>(
-    n: u128,
-    precision: usize,
-    exponent: usize,
-    buffer: &'b mut [u8; 128],
-) -> (&'b str, usize)
+/// A number with more than `places` digits behind the first, rounded to so many: the number that
+/// its digits make, and its exponent, one more after a carry to ten.
+fn rounded(n: u128, places: usize, exponent: usize) -> (u128, usize)
     requires exponent { exponent ≡ exponent_of n }
     requires low { exponent ≤ 38 }
-    requires fewer { precision < exponent }
-    ensures digits { result.0.now ≡ (rounded precision n exponent).digits }
-    ensures exponent { result.1 ≡ (rounded precision n exponent).exponent }
-    ensures ascii { IsAscii result.0.now }
-    ensures some { 0 < length result.0.now }
-    ensures short { length result.0.now ≤ 128 }
+    requires fewer { places < exponent }
+    ensures digits { digit_text 10 false result.0 ≡ (rounded places n exponent).digits }
+    ensures exponent { result.1 ≡ (rounded places n exponent).exponent }
 {
-    let m = nearest(n, 10u128.pow((exponent - precision) as u32));
-    if m == 10u128.pow((precision + 1) as u32) {
-        let digits = digit_str(10u128.pow(precision as u32), 10, false, buffer);
-        (digits, exponent + 1)
+    let mantissa = nearest(n, 10u128.pow((exponent - places) as u32));
+    if mantissa == 10u128.pow((places + 1) as u32) {
+        (10u128.pow(places as u32), exponent + 1)
     } else {
-        (digit_str(m, 10, false, buffer), exponent)
+        (mantissa, exponent)
     }
 }
 
-fn all_digits<'b>(n: u128, buffer: &'b mut [u8; 128]) -> &'b str
-    ensures value { result.now ≡ trimmed (digit_text 10 false n) }
+/// Where digits end less the zeros at their end, one digit at least.
+fn trimmed_len(digits: &[u8]) -> usize
+    requires some { 0 < length digits.now }
+    ensures value { slice_range digits.now 0 result ≡ trimmed digits.now }
+    ensures some { 0 < result }
+    ensures within { result ≤ length digits.now }
+{
+    let mut end = digits.len();
+    while end > 1 && digits[end - 1] == b'0' {
+        end -= 1;
+    }
+    end
+}
+
+/// The digits from `start` up to `end`, with a point behind the first if more or zeros follow.
+fn with_point(buffer: &mut [u8; 128], start: usize, end: usize, zeros: usize) -> &str
+    requires room { 0 < start }
+    requires some { start < end }
+    requires within { end ≤ 128 }
+    requires ascii { IsAscii (drop start buffer.old) }
+    ensures text { result.now ++ replicate zeros 48
+        ≡ pointed (slice_range buffer.old start end ++ replicate zeros 48) }
     ensures ascii { IsAscii result.now }
-    ensures some { 0 < length result.now }
     ensures short { length result.now ≤ 128 }
 {
-    trim(digit_str(n, 10, false, buffer))
+    if end - start == 1 && zeros == 0 {
+        return ascii_str(&buffer[start..end]);
+    }
+    buffer[start - 1] = buffer[start];
+    buffer[start] = b'.';
+    ascii_str(&buffer[start - 1..end])
 }
 
-/// The digits and the exponent of a number, at a precision.
-pub(crate) fn exponent_digits<'b>(
-    n: u128,
-    precision: Option<usize>,
-    buffer: &'b mut [u8; 128],
-) -> ExponentDigits<'b>
-    ensures digits { result.digits.now ++ replicate result.zeros 48 ≡ (scientific precision n).digits }
+/// The digits of a number in exponent form at a precision, with their point.
+pub(crate) fn mantissa_of(n: u128, precision: Option<usize>, buffer: &mut [u8; 128]) -> Mantissa<'_>
+    ensures text { result.head.now ++ replicate result.zeros 48
+        ≡ pointed (scientific precision n).digits }
     ensures exponent { result.exponent ≡ (scientific precision n).exponent }
-    ensures ascii { IsAscii result.digits.now }
-    ensures some { 0 < length result.digits.now }
-    ensures short { length result.digits.now ≤ 128 }
+    ensures small { result.exponent < 128 }
+    ensures ascii { IsAscii result.head.now }
+    ensures short { length result.head.now ≤ 128 }
 {
-    let exponent = exponent_of(n);
-    let Some(precision) = precision else {
-        let digits = all_digits(n, buffer);
-        return ExponentDigits {
-            digits,
-            zeros: 0,
-            exponent,
-        };
-    };
-    if precision < exponent {
-        let (digits, exponent) = rounded(n, precision, exponent, buffer);
-        return ExponentDigits {
-            digits,
-            zeros: 0,
-            exponent,
-        };
+    let start = fill_decimal(n, buffer);
+    let exponent = MOST_DIGITS - 1 - start;
+    match precision {
+        None => {
+            let end = start + trimmed_len(&buffer[start..]);
+            Mantissa {
+                head: with_point(buffer, start, end, 0),
+                zeros: 0,
+                exponent,
+            }
+        }
+        Some(places) if places < exponent => {
+            let (digits, exponent) = rounded(n, places, exponent);
+            let start = fill_decimal(digits, buffer);
+            Mantissa {
+                head: with_point(buffer, start, MOST_DIGITS, 0),
+                zeros: 0,
+                exponent,
+            }
+        }
+        Some(places) => {
+            let zeros = places - exponent;
+            Mantissa {
+                head: with_point(buffer, start, MOST_DIGITS, zeros),
+                zeros,
+                exponent,
+            }
+        }
     }
-    let digits = digit_str(n, 10, false, buffer);
-    ExponentDigits {
-        digits,
-        zeros: precision - exponent,
-        exponent,
-    }
+}
+
+/// The exponent behind its mark, `e` or `E`.
+pub(crate) fn exponent_tail(upper: bool, exponent: usize, buffer: &mut [u8; 128]) -> &str
+    ensures text { result.now ≡ exponent_tail upper exponent }
+    ensures ascii { IsAscii result.now }
+    ensures short { length result.now ≤ 128 }
+{
+    let start = fill_decimal(exponent as u128, buffer) - 1;
+    buffer[start] = if upper { b'E' } else { b'e' };
+    ascii_str(&buffer[start..])
 }

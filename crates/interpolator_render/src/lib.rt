@@ -1,17 +1,20 @@
-//! Text of views.
+//! Numbers, truth values, characters and texts, written under a trait, flags, width and precision.
 #![tactic(auto)]
 
 mod characters;
 mod digits;
 mod exponent;
-mod padding;
-mod pieces;
+mod layout;
+mod number;
+mod quoting;
 mod rendering;
+mod text_buffer;
 mod text_write;
 mod value;
 mod view;
 
 pub use rendering::{pad, render};
-pub use text_write::{Refusal, TextBuffer, TextWrite};
-pub use value::{Value, render_value};
+pub use text_buffer::TextBuffer;
+pub use text_write::{Refusal, TextWrite};
+pub use value::Value;
 pub use view::{Alignment, Bits, HexDebug, RenderFault, Sign, Spec, Trait, View};

@@ -1,52 +1,153 @@
 //! Values that have a view.
-ghost use Rattle.std.specs.Prelude.{◌≡◌, List, ℕ, string_bytes};
+ghost use Rattle.std.specs.Prelude.{◌≡◌, string_bytes};
 ghost use Rattle.std.specs.Str.{chars};
-ghost use Rattle.interpolator_render.specs.declared.view.Trait.{Trait};
+ghost use Rattle.interpolator_render.specs.declared.view.Bits.TheVariants.{B8, B16, B32, B64, B128};
 ghost use Rattle.interpolator_render.specs.declared.view.Spec.{Spec};
-ghost use Rattle.interpolator_render.specs.declared.view.Bits.TheVariants.{B32};
-ghost use Rattle.interpolator_render.specs.Texts.{Renders, view_text};
-ghost use Rattle.interpolator_render.specs.Views.{IsInRange, Shown, signed_number, some_text, unsigned_number, truth_value, shown_by};
+ghost use Rattle.interpolator_render.specs.declared.view.Trait.{Trait};
+ghost use Rattle.interpolator_render.specs.Views.{IsInRange, Shown, shown_by, signed_number, unsigned_number, truth_value, one_character, some_text, fits_signed, shown_as_value};
 
-use crate::rendering::render;
-use crate::text_write::TextWrite;
-use crate::view::{Bits, RenderFault, Spec, Trait, View};
+use crate::view::{Bits, Spec, Trait, View};
 
-/// What can be written.
+/// A value that can be written: under each trait and spec it shows one view.
+///
+/// The view is a function of what the value holds, of the trait and of the spec, and a signed
+/// number in it lies in the range of its width.
+///
+/// ```text
+/// struct Celsius(i16);
+///
+/// impl Value for Celsius {
+///     ghost shows = { λ degrees _ _. signed_number degrees.0 B16 };
+///
+///     fn view(&self, _t: Trait, _spec: &Spec) -> View<'_> {
+///         View::Signed(i128::from(self.0), Bits::B16)
+///     }
+/// }
+/// ```
 pub trait Value {
     // what the value shows under a trait and a spec
     ghost shows: { Self → Trait → Spec → Shown };
 
+    /// What the value shows under a trait and a spec.
     fn view(&self, t: Trait, spec: &Spec) -> View<'_>
         ensures shown { shown_by result ≡ shows self.now t spec.now }
         ensures in_range { IsInRange (shown_by result) };
 }
 
-impl Value for i32 {
-    ghost shows = { λ z _ _. signed_number z B32 };
-
-    fn view(&self, _t: Trait, _spec: &Spec) -> View<'_> {
-        View::Signed(i128::from(*self), Bits::B32)
-    }
-}
-
-impl Value for u64 {
-    ghost shows = { λ n _ _. unsigned_number n };
+impl Value for u8 {
+    ghost shows = { λ number _ _. unsigned_number number };
 
     fn view(&self, _t: Trait, _spec: &Spec) -> View<'_> {
         View::Unsigned(u128::from(*self))
     }
 }
 
+impl Value for u16 {
+    ghost shows = { λ number _ _. unsigned_number number };
+
+    fn view(&self, _t: Trait, _spec: &Spec) -> View<'_> {
+        View::Unsigned(u128::from(*self))
+    }
+}
+
+impl Value for u32 {
+    ghost shows = { λ number _ _. unsigned_number number };
+
+    fn view(&self, _t: Trait, _spec: &Spec) -> View<'_> {
+        View::Unsigned(u128::from(*self))
+    }
+}
+
+impl Value for u64 {
+    ghost shows = { λ number _ _. unsigned_number number };
+
+    fn view(&self, _t: Trait, _spec: &Spec) -> View<'_> {
+        View::Unsigned(u128::from(*self))
+    }
+}
+
+impl Value for u128 {
+    ghost shows = { λ number _ _. unsigned_number number };
+
+    fn view(&self, _t: Trait, _spec: &Spec) -> View<'_> {
+        View::Unsigned(*self)
+    }
+}
+
+impl Value for usize {
+    ghost shows = { λ number _ _. unsigned_number number };
+
+    fn view(&self, _t: Trait, _spec: &Spec) -> View<'_> {
+        View::Unsigned(*self as u128)
+    }
+}
+
+impl Value for i8 {
+    ghost shows = { λ number _ _. signed_number number B8 };
+
+    fn view(&self, _t: Trait, _spec: &Spec) -> View<'_> {
+        View::Signed(i128::from(*self), Bits::B8)
+    }
+}
+
+impl Value for i16 {
+    ghost shows = { λ number _ _. signed_number number B16 };
+
+    fn view(&self, _t: Trait, _spec: &Spec) -> View<'_> {
+        View::Signed(i128::from(*self), Bits::B16)
+    }
+}
+
+impl Value for i32 {
+    ghost shows = { λ number _ _. signed_number number B32 };
+
+    fn view(&self, _t: Trait, _spec: &Spec) -> View<'_> {
+        View::Signed(i128::from(*self), Bits::B32)
+    }
+}
+
+impl Value for i64 {
+    ghost shows = { λ number _ _. signed_number number B64 };
+
+    fn view(&self, _t: Trait, _spec: &Spec) -> View<'_> {
+        View::Signed(i128::from(*self), Bits::B64)
+    }
+}
+
+impl Value for i128 {
+    ghost shows = { λ number _ _. signed_number number B128 };
+
+    fn view(&self, _t: Trait, _spec: &Spec) -> View<'_> {
+        View::Signed(*self, Bits::B128)
+    }
+}
+
+impl Value for isize {
+    ghost shows = { λ number _ _. signed_number number B64 };
+
+    fn view(&self, _t: Trait, _spec: &Spec) -> View<'_> {
+        View::Signed(*self as i128, Bits::B64)
+    }
+}
+
 impl Value for bool {
-    ghost shows = { λ b _ _. truth_value b };
+    ghost shows = { λ truth _ _. truth_value truth };
 
     fn view(&self, _t: Trait, _spec: &Spec) -> View<'_> {
         View::Truth(*self)
     }
 }
 
+impl Value for char {
+    ghost shows = { λ c _ _. one_character c };
+
+    fn view(&self, _t: Trait, _spec: &Spec) -> View<'_> {
+        View::Character(*self)
+    }
+}
+
 impl Value for &str {
-    ghost shows = { λ s _ _. some_text (chars s.now) };
+    ghost shows = { λ text _ _. some_text (chars text.now) };
 
     fn view(&self, _t: Trait, _spec: &Spec) -> View<'_> {
         View::Text(self)
@@ -54,21 +155,40 @@ impl Value for &str {
 }
 
 impl Value for String {
-    ghost shows = { λ s _ _. some_text (chars (string_bytes s)) };
+    ghost shows = { λ text _ _. some_text (chars (string_bytes text)) };
 
     fn view(&self, _t: Trait, _spec: &Spec) -> View<'_> {
         View::Text(self.as_str())
     }
 }
 
-/// Writes what a value shows.
-pub fn render_value<W: TextWrite, V: Value>(
-    out: &mut W,
-    value: &V,
-    t: Trait,
-    spec: &Spec,
-) -> Result<(), RenderFault>
-    ensures { Renders (view_text (V.shows value.now t spec.now) t spec.now) (W.written out.old) result (W.written out.new) }
+/// A view shows itself, but for a signed number outside its width, which has failed.
+impl<'a> Value for View<'a> {
+    ghost shows = { λ view _ _. shown_as_value view };
+
+    fn view(&self, _t: Trait, _spec: &Spec) -> View<'_> {
+        match *self {
+            View::Signed(number, bits) => {
+                if fits(number, bits) {
+                    View::Signed(number, bits)
+                } else {
+                    View::Failed
+                }
+            }
+            _ => *self,
+        }
+    }
+}
+
+/// Whether a number lies in the range of signed numbers of this width.
+fn fits(number: i128, bits: Bits) -> bool
+    ensures { result ≡ fits_signed number bits }
 {
-    render(out, value.view(t, spec), t, spec)
+    match bits {
+        Bits::B8 => i8::MIN as i128 <= number && number <= i8::MAX as i128,
+        Bits::B16 => i16::MIN as i128 <= number && number <= i16::MAX as i128,
+        Bits::B32 => i32::MIN as i128 <= number && number <= i32::MAX as i128,
+        Bits::B64 => i64::MIN as i128 <= number && number <= i64::MAX as i128,
+        Bits::B128 => true,
+    }
 }

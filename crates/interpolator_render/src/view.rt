@@ -1,103 +1,133 @@
-//! What is written, and how.
+//! What is to be written, and how: traits, specs and views.
 
-/// A way of writing a value.
+/// A formatting trait: a way of writing a value.
 #[derive(Clone, Copy, Debug, PartialEq, Eq)]
 pub enum Trait {
+    /// Whole numbers in base two.
     Binary,
+    /// As a programmer reads it: texts and characters in quotes.
     Debug,
+    /// As a user reads it.
     Display,
+    /// Whole numbers in exponent form, with `e`.
     LowerExp,
+    /// Whole numbers in base sixteen, with `a` to `f`.
     LowerHex,
+    /// Whole numbers in base eight.
     Octal,
+    /// Whole numbers in exponent form, with `E`.
     UpperExp,
+    /// Whole numbers in base sixteen, with `A` to `F`.
     UpperHex,
+    /// Item by item. No view but a plain or a failed one is written so.
     Iter,
 }
 
-#[derive(Clone, Copy, Debug, PartialEq, Eq)]
+/// Where a text stands between the spaces that fill it to its width.
+#[derive(Clone, Copy, Debug, Default, PartialEq, Eq)]
 pub enum Alignment {
+    /// Numbers on the right, all else on the left.
+    #[default]
     Unset,
+    /// All spaces behind the text.
     Left,
+    /// Half of the spaces, rounded down, before the text.
     Center,
+    /// All spaces before the text.
     Right,
 }
 
-#[derive(Clone, Copy, Debug, PartialEq, Eq)]
+/// The sign flag of a spec.
+#[derive(Clone, Copy, Debug, Default, PartialEq, Eq)]
 pub enum Sign {
+    /// `-` before negative numbers alone.
+    #[default]
     Unset,
+    /// `+` before numbers that are not negative, too.
     Plus,
+    /// The same as no flag.
     Minus,
 }
 
-#[derive(Clone, Copy, Debug, PartialEq, Eq)]
+/// Whether `Trait::Debug` writes whole numbers in base sixteen.
+#[derive(Clone, Copy, Debug, Default, PartialEq, Eq)]
 pub enum HexDebug {
+    /// In base ten.
+    #[default]
     No,
+    /// In base sixteen, with `a` to `f`.
     Lower,
+    /// In base sixteen, with `A` to `F`.
     Upper,
 }
 
-/// The width of a signed number.
+/// The width of a signed number's type, in bits.
 #[derive(Clone, Copy, Debug, PartialEq, Eq)]
 pub enum Bits {
+    /// 8 bits, as of an `i8`.
     B8,
+    /// 16 bits, as of an `i16`.
     B16,
+    /// 32 bits, as of an `i32`.
     B32,
+    /// 64 bits, as of an `i64`.
     B64,
+    /// 128 bits, as of an `i128`.
     B128,
 }
 
-#[derive(Clone, Copy, Debug, PartialEq, Eq)]
+/// The flags, width and precision under which a value is written. By default nothing is set.
+///
+/// ```text
+/// let spec = Spec { zero: true, width: Some(6), ..Spec::default() };   // as `{:06}`
+/// ```
+#[derive(Clone, Copy, Debug, Default, PartialEq, Eq)]
 pub struct Spec {
+    /// Where the text stands between its spaces.
     pub alignment: Alignment,
+    /// `+` or `-`.
     pub sign: Sign,
+    /// `#`: a prefix before numbers in base two, eight and sixteen.
     pub alternate: bool,
+    /// `0`: numbers are filled with zeros behind their sign and prefix, whatever the alignment.
     pub zero: bool,
+    /// The least number of characters.
     pub width: Option<usize>,
+    /// Of a text the greatest number of characters that are shown, before padding; of an exponent
+    /// form the number of digits behind the point.
     pub precision: Option<usize>,
+    /// How `Trait::Debug` writes whole numbers.
     pub hex_debug: HexDebug,
 }
 
-/// What a value shows.
+/// What a value shows under a trait and a spec: one number, one text or neither.
 #[derive(Clone, Copy, Debug)]
 pub enum View<'a> {
+    /// A number of a signed type of this width, in whose range it lies.
     Signed(i128, Bits),
+    /// A number of an unsigned type.
     Unsigned(u128),
+    /// A truth value.
     Truth(bool),
+    /// One character.
     Character(char),
+    /// A text.
     Text(&'a str),
+    /// A text that is written as it is under every trait and spec.
     Plain(&'a str),
+    /// Nothing, since the value has no text under this trait.
     NotImplemented,
+    /// Nothing, since the value failed to make its text.
     Failed,
 }
 
-/// Why a view was not written whole.
+/// Why a view was not written.
 #[derive(Clone, Copy, Debug, PartialEq, Eq)]
 pub enum RenderFault {
+    /// The view has no text under this trait. Nothing was written.
     NotImplemented,
+    /// The value failed. Nothing was written.
     Failed,
+    /// The writer refused. A beginning of the text was written, perhaps none of it.
     Refused,
-}
-
-/// How a number is written.
-#[derive(Clone, Copy, PartialEq, Eq)]
-pub(crate) enum Notation {
-    Decimal,
-    Binary,
-    Octal,
-    LowerHex,
-    UpperHex,
-}
-
-/// How a text is written: as it is, or quoted.
-#[derive(Clone, Copy, PartialEq, Eq)]
-pub(crate) enum TextForm {
-    AsIs,
-    Quoted,
-}
-
-/// How a number is written: in a base, or in exponent form with `E` or `e`.
-#[derive(Clone, Copy, PartialEq, Eq)]
-pub(crate) enum NumberForm {
-    Digits(Notation),
-    Exponent(bool),
 }

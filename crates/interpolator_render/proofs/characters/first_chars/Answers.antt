@@ -1,5 +1,5 @@
 use Rattle.std.proofs.Common.{arith, take, ℕ, List, slice_range, ◌≡◌}
-use Rattle.interpolator_render.proofs.Walks.{walked_none, walked_more, walked_end, walked_boundary}
+use Rattle.interpolator_render.proofs.CharacterLemmas.{walked_none, walked_more, walked_end, walked_boundary}
 use Rattle.interpolator_render.proofs.characters.first_chars.Goals as goal
 
 pub walk-init : goal.walk-init
@@ -14,5 +14,5 @@ range-requires-clause-end_boundary c = rw c.as_str.ensures (walked_boundary _ _ 
 from_start : (text : List ℕ) (n : ℕ) → slice_range text 0 n ≡ take n text
 from_start text n = grind arith
 
-pub returns-clause-characters : goal.returns-clause-characters
-returns-clause-characters c = let e : c.walk.counter ≡ c.args.count = omega arith in rw (c.range.ensures.value, from_start, c.as_str.ensures) (walked_end _ _ c.args.count (rw e at c.walk.invariant))
+pub returns : goal.returns
+returns c = let e : c.walk.counter ≡ c.args.count = omega arith in rw (c.range.ensures.value, from_start, c.as_str.ensures) (walked_end _ _ c.args.count (rw e at c.walk.invariant))

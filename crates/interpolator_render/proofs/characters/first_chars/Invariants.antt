@@ -1,5 +1,5 @@
 use Rattle.std.specs.Str.Iter.{chars_rest}
-use Rattle.interpolator_render.proofs.Walks.{Walked}
+use Rattle.interpolator_render.proofs.CharacterLemmas.{Walked}
 use Rattle.interpolator_render.proofs.characters.first_chars.Given as goal
 
 abbrev pub invariant-walk : goal.invariant-walk

@@ -1,0 +1,33 @@
+use Rattle.std.proofs.Common.{◌≡◌, ℕ, List, refl}
+use Rattle.std.specs.Prelude.{Result, Ok, Err, Some, ℤ, false}
+use Rattle.interpolator_render.specs.declared.number.NumberForm.{NumberForm}
+use Rattle.interpolator_render.specs.declared.text_write.Refusal.{Refusal}
+use Rattle.interpolator_render.specs.declared.view.Bits.{Bits}
+use Rattle.interpolator_render.specs.declared.view.RenderFault.{RenderFault}
+use Rattle.interpolator_render.specs.declared.view.Spec.{Spec}
+use Rattle.interpolator_render.specs.declared.view.Trait.{Trait}
+use Rattle.interpolator_render.specs.Numbers.{number_form, number_text, has_minus, magnitude}
+use Rattle.interpolator_render.specs.Texts.{ViewText, has_text, Renders, render_answer, view_text}
+use Rattle.interpolator_render.specs.Views.{signed_number, unsigned_number}
+use Rattle.interpolator_render.specs.Written.{Written, Puts, Writes}
+use Rattle.interpolator_render.proofs.LayoutLemmas.{writes_from_puts}
+
+-- what a writer answered is what `render` answers
+pub renders_writes : (old new : Written) (text : List ℕ) (answer : Result (Unit {0}) Refusal) (meaning : ViewText) (result : Result (Unit {0}) RenderFault) →
+    meaning ≡ has_text text → result ≡ render_answer answer → Writes old text answer new → Renders meaning old result new
+renders_writes old new text (Ok x) meaning result e f p = rw (e, f) p
+renders_writes old new text (Err refusal) meaning result e f p = rw (e, f) p
+
+pub renders_puts : (old new : Written) (text : List ℕ) (answer : Result (Unit {0}) Refusal) (meaning : ViewText) (result : Result (Unit {0}) RenderFault) →
+    meaning ≡ has_text text → result ≡ render_answer answer → Puts old text answer new → Renders meaning old result new
+renders_puts old new text answer meaning result e f p = renders_writes old new text answer meaning result e f (writes_from_puts old new text answer p)
+
+pub signed_text : (z : ℤ) (bits : Bits) (t : Trait) (spec : Spec) (form : NumberForm) → number_form t spec.hex_debug ≡ Some form →
+    view_text (signed_number z bits) t spec ≡ has_text (number_text form spec (has_minus form z) (magnitude form z bits))
+unfolding view_text
+signed_text z bits t spec form e = rw e refl
+
+pub unsigned_text : (n : ℕ) (t : Trait) (spec : Spec) (form : NumberForm) → number_form t spec.hex_debug ≡ Some form →
+    view_text (unsigned_number n) t spec ≡ has_text (number_text form spec false n)
+unfolding view_text
+unsigned_text n t spec form e = rw e refl

@@ -1,6 +1,0 @@
-use Rattle.std.proofs.Common.{arith}
-use Rattle.interpolator_render.proofs.Composition.{puts_from_write, byte_count-char}
-use Rattle.interpolator_render.proofs.rendering.put_char.Goals as goal
-
-pub returns : goal.returns
-returns g c = let n = byte_count-char c.args.c in puts_from_write _ _ _ _ (omega arith) c.write_char.ensures

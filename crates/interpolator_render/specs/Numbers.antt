@@ -1,0 +1,118 @@
+use Rattle.std.specs.Prelude.{ℕ, ℤ, pos, negsuc, ◌+◌, ◌-◌, ◌%◌, ◌^◌, ◌≤◌, Bool, true, false, List, [], ◌++◌, length, Option, Some, None, if◌then◌else◌, codes}
+use Rattle.std.specs.Str.{IsAscii}
+use Rattle.interpolator_render.specs.declared.number.Notation.{Notation}
+use Rattle.interpolator_render.specs.declared.number.Notation.TheVariants.{Decimal, Binary as InBinary, Octal as InOctal, LowerHex as InLowerHex, UpperHex as InUpperHex}
+use Rattle.interpolator_render.specs.declared.number.NumberForm.{NumberForm}
+use Rattle.interpolator_render.specs.declared.number.NumberForm.TheVariants.{Digits as InDigits, Exponent as InExponent}
+use Rattle.interpolator_render.specs.declared.view.Bits.{Bits}
+use Rattle.interpolator_render.specs.declared.view.HexDebug.{HexDebug}
+use Rattle.interpolator_render.specs.declared.view.HexDebug.TheVariants.{No, Lower, Upper}
+use Rattle.interpolator_render.specs.declared.view.Sign.{Sign}
+use Rattle.interpolator_render.specs.declared.view.Sign.TheVariants.{Plus, Minus, Unset}
+use Rattle.interpolator_render.specs.declared.view.Spec.{Spec}
+use Rattle.interpolator_render.specs.declared.view.Trait.{Trait}
+use Rattle.interpolator_render.specs.declared.view.Trait.TheVariants.{Binary, Debug, Display, LowerExp, LowerHex, Octal, UpperExp, UpperHex, Iter}
+use Rattle.interpolator_render.specs.Digits.{digit_text}
+use Rattle.interpolator_render.specs.Exponent.{exponent_text}
+use Rattle.interpolator_render.specs.Padding.{padded_number}
+use Rattle.interpolator_render.specs.Views.{bit_count}
+
+-- ---- how a number is written
+
+-- the base of a notation
+abbrev pub base_of : Notation → ℕ
+base_of Decimal = 10
+base_of InBinary = 2
+base_of InOctal = 8
+base_of InLowerHex = 16
+base_of InUpperHex = 16
+
+-- whether its digits past nine are capital letters
+abbrev pub is_upper : Notation → Bool
+is_upper InUpperHex = true
+is_upper _ = false
+
+-- the prefix that `#` puts before the digits
+abbrev pub prefix_of : Notation → List ℕ
+prefix_of Decimal = []
+prefix_of InBinary = codes "0b"
+prefix_of InOctal = codes "0o"
+prefix_of InLowerHex = codes "0x"
+prefix_of InUpperHex = codes "0x"
+
+-- debug is display, or hexadecimal where that is asked for
+abbrev pub notation_of_debug : HexDebug → Notation
+notation_of_debug No = Decimal
+notation_of_debug Lower = InLowerHex
+notation_of_debug Upper = InUpperHex
+
+-- how a trait writes whole numbers, if it does
+abbrev pub number_form : Trait → HexDebug → Option NumberForm
+number_form Display hex_debug = Some (InDigits Decimal)
+number_form Debug hex_debug = Some (InDigits (notation_of_debug hex_debug))
+number_form Binary hex_debug = Some (InDigits InBinary)
+number_form Octal hex_debug = Some (InDigits InOctal)
+number_form LowerHex hex_debug = Some (InDigits InLowerHex)
+number_form UpperHex hex_debug = Some (InDigits InUpperHex)
+number_form LowerExp hex_debug = Some (InExponent false)
+number_form UpperExp hex_debug = Some (InExponent true)
+number_form Iter hex_debug = None
+
+-- ---- its sign
+
+-- `-` before a negative number, `+` before another where it is asked for
+abbrev pub sign_text : Bool → Sign → List ℕ
+sign_text true sign = codes "-"
+sign_text false Plus = codes "+"
+sign_text false Minus = []
+sign_text false Unset = []
+
+abbrev pub is_negative : ℤ → Bool
+is_negative (pos n) = false
+is_negative (negsuc n) = true
+
+-- the number without its sign
+abbrev pub distance_from_zero : ℤ → ℕ
+distance_from_zero (pos n) = n
+distance_from_zero (negsuc n) = n + 1
+
+-- the remainder of a number modulo m, from 0 up to m - 1
+abbrev pub remainder : ℤ → ℕ → ℕ
+remainder (pos n) m = n % m
+remainder (negsuc n) m = m - 1 - n % m
+
+-- two's complement at a width
+abbrev pub twos_complement : ℤ → Bits → ℕ
+twos_complement z bits = remainder z (2 ^ bit_count bits)
+
+-- whether a signed number is written as negative: in decimal and exponent form alone
+abbrev pub has_minus : NumberForm → ℤ → Bool
+has_minus (InDigits Decimal) z = is_negative z
+has_minus (InDigits _) z = false
+has_minus (InExponent upper) z = is_negative z
+
+-- the digits of a signed number stand for this one: two's complement but in decimal and exponent form
+abbrev pub magnitude : NumberForm → ℤ → Bits → ℕ
+magnitude (InDigits Decimal) z bits = distance_from_zero z
+magnitude (InDigits _) z bits = twos_complement z bits
+magnitude (InExponent upper) z bits = distance_from_zero z
+
+-- ---- its text
+
+-- sign and prefix
+abbrev pub front_text : NumberForm → Spec → Bool → List ℕ
+front_text (InDigits notation) spec negative = sign_text negative spec.sign ++ (if spec.alternate then prefix_of notation else [])
+front_text (InExponent upper) spec negative = sign_text negative spec.sign
+
+-- the digits, in an exponent form with point and exponent
+abbrev pub body_text : NumberForm → Spec → ℕ → List ℕ
+body_text (InDigits notation) spec n = digit_text (base_of notation) (is_upper notation) n
+body_text (InExponent upper) spec n = exponent_text upper spec.precision n
+
+-- the text of a number: front and body, padded
+abbrev pub number_text : NumberForm → Spec → Bool → ℕ → List ℕ
+number_text form spec negative n = padded_number spec (front_text form spec negative) (body_text form spec n)
+
+-- a short text below 128, whose bytes are its characters
+abbrev pub IsShortAscii : List ℕ → Type 0
+IsShortAscii bytes = IsAscii bytes × (length bytes ≤ 128)

@@ -1,0 +1,44 @@
+use Rattle.std.specs.Prelude.{◌≡◌, ℕ, ◌+◌, ◌-◌, ◌/◌, ◌^◌, ◌<◌, true, false, List, ◌++◌, length, replicate, unwrap_or, if◌then◌else◌}
+use Rattle.interpolator_render.specs.declared.view.Alignment.{Alignment}
+use Rattle.interpolator_render.specs.declared.view.Alignment.TheVariants.{Unset, Left, Center, Right}
+use Rattle.interpolator_render.specs.declared.view.Spec.{Spec}
+use Rattle.interpolator_render.specs.Characters.{cut}
+
+-- the characters that a text of so many lacks to the width, none where no width is set
+abbrev pub missing_to : Spec → ℕ → ℕ
+missing_to spec count = unwrap_or spec.width 0 - count
+
+-- how many of the missing spaces stand before a text; without alignment so many as `unset` says
+abbrev pub spaces_before : Alignment → ℕ → ℕ → ℕ
+spaces_before Left missing unset = 0
+spaces_before Right missing unset = missing
+spaces_before Center missing unset = missing / 2
+spaces_before Unset missing unset = unset
+
+-- a text with so many spaces (32) before and behind it
+abbrev pub between_spaces : ℕ → ℕ → List ℕ → List ℕ
+between_spaces before after text = replicate before 32 ++ (text ++ replicate after 32)
+
+-- a number, whose front is its sign and prefix: filled with zeros (48) behind the front under the zero flag, else with spaces, on its left without alignment
+unfoldable pub padded_number : Spec → List ℕ → List ℕ → List ℕ
+padded_number spec front body =
+    let missing = missing_to spec (length front + length body) in
+    let before = spaces_before spec.alignment missing missing in
+    if spec.zero then front ++ (replicate missing 48 ++ body) else between_spaces before (missing - before) (front ++ body)
+
+-- any other text: filled with spaces, on its right without alignment
+unfoldable pub padded_text : Spec → List ℕ → List ℕ
+padded_text spec text =
+    let missing = missing_to spec (length text) in
+    let before = spaces_before spec.alignment missing 0 in
+    between_spaces before (missing - before) text
+
+-- a text as display shows it: cut to the precision, then padded to the width
+abbrev pub displayed_text : Spec → List ℕ → List ℕ
+displayed_text spec text = padded_text spec (cut spec.precision text)
+
+-- the spaces before, the zeros and the spaces behind, of a number of so many characters
+pub record IsNumberLayout (spec : Spec) (count before zeros after : ℕ) : Type 0 where
+  pub width_fits : unwrap_or spec.width 0 < 2 ^ 64
+  pub filled : spec.zero ≡ true → (before ≡ 0) × (zeros ≡ missing_to spec count) × (after ≡ 0)
+  pub spaced : spec.zero ≡ false → (before ≡ spaces_before spec.alignment (missing_to spec count) (missing_to spec count)) × (zeros ≡ 0) × (after ≡ missing_to spec count - before)

@@ -1,0 +1,123 @@
+//! A text in parts, written one after the other.
+ghost use Rattle.std.specs.Prelude.{◌≡◌, ◌∷◌, [], ◌<◌, ◌≤◌, replicate};
+ghost use Rattle.std.specs.Str.{chars};
+ghost use Rattle.interpolator_render.specs.Layout.{part_text, text_of_parts};
+ghost use Rattle.interpolator_render.specs.Written.{Puts, byte_count};
+
+use crate::text_write::{Refusal, TextWrite};
+
+/// How many spaces or zeros are written by one call.
+const RUN: usize = 64;
+
+const SPACES: &str = "                                                                ";
+
+const ZEROS: &str = "0000000000000000000000000000000000000000000000000000000000000000";
+
+/// A part of a text.
+#[derive(Clone, Copy)]
+pub(crate) enum Part<'a> {
+    Text(&'a str),
+    Spaces(usize),
+    Zeros(usize),
+}
+
+/// Writes one character.
+pub(crate) fn put_char<W: TextWrite>(out: &mut W, c: char) -> Result<(), Refusal>
+    ensures { Puts (W.written out.old) (c ∷ []) result (W.written out.new) }
+{
+    out.write_char(c)
+}
+
+/// Writes a text by one call, or by none where it is empty.
+pub(crate) fn put_text<W: TextWrite>(out: &mut W, text: &str) -> Result<(), Refusal>
+    ensures { Puts (W.written out.old) (chars text.now) result (W.written out.new) }
+{
+    if text.is_empty() {
+        return Ok(());
+    }
+    out.write_str(text)
+}
+
+/// Writes at most [`RUN`] copies of an ASCII character, of which `run` has that many.
+fn put_few<W: TextWrite>(out: &mut W, c: char, run: &str, count: usize) -> Result<(), Refusal>
+    requires run { run.now ≡ replicate 64 c }
+    requires ascii { c < 128 }
+    requires few { count ≤ 64 }
+    ensures { Puts (W.written out.old) (replicate count c) result (W.written out.new) }
+{
+    out.write_str(&run[..count])
+}
+
+/// Writes so many copies of an ASCII character, of which `run` has [`RUN`].
+fn put_copies<W: TextWrite>(out: &mut W, c: char, run: &str, count: usize) -> Result<(), Refusal>
+    requires run { run.now ≡ replicate 64 c }
+    requires ascii { c < 128 }
+    ensures { Puts (W.written out.old) (replicate count c) result (W.written out.new) }
+{
+    let mut left = count;
+    while left > 0 {
+        let now = left.min(RUN);
+        if let Err(refusal) = put_few(out, c, run, now) {
+            let taken = (count - left).saturating_add(refusal.taken);
+            return Err(Refusal { taken });
+        }
+        left -= now;
+    }
+    Ok(())
+}
+
+fn put_spaces<W: TextWrite>(out: &mut W, count: usize) -> Result<(), Refusal>
+    ensures { Puts (W.written out.old) (replicate count 32) result (W.written out.new) }
+{
+    put_copies(out, ' ', SPACES, count)
+}
+
+fn put_zeros<W: TextWrite>(out: &mut W, count: usize) -> Result<(), Refusal>
+    ensures { Puts (W.written out.old) (replicate count 48) result (W.written out.new) }
+{
+    put_copies(out, '0', ZEROS, count)
+}
+
+fn byte_len(text: &str) -> usize
+    ensures { result ≡ byte_count (chars text.now) }
+{
+    text.len()
+}
+
+impl Part<'_> {
+    fn put<W: TextWrite>(self, out: &mut W) -> Result<(), Refusal>
+        ensures { Puts (W.written out.old) (part_text self.entry) result (W.written out.new) }
+    {
+        match self {
+            Part::Text(text) => put_text(out, text),
+            Part::Spaces(count) => put_spaces(out, count),
+            Part::Zeros(count) => put_zeros(out, count),
+        }
+    }
+
+    /// The bytes of the part.
+    fn len(self) -> usize
+        ensures { result ≡ byte_count (part_text self.entry) }
+    {
+        match self {
+            Part::Text(text) => byte_len(text),
+            Part::Spaces(count) => count,
+            Part::Zeros(count) => count,
+        }
+    }
+}
+
+/// Writes the parts in order, up to the first that the writer refuses.
+pub(crate) fn put_parts<W: TextWrite>(out: &mut W, parts: &[Part<'_>]) -> Result<(), Refusal>
+    ensures { Puts (W.written out.old) (text_of_parts parts.now) result (W.written out.new) }
+{
+    let mut done = 0usize;
+    for part in parts {
+        if let Err(refusal) = part.put(out) {
+            let taken = done.saturating_add(refusal.taken);
+            return Err(Refusal { taken });
+        }
+        done = done.saturating_add(part.len());
+    }
+    Ok(())
+}

@@ -1,0 +1,278 @@
+//! Whole numbers: sign, prefix, digits or exponent form, and their padding.
+ghost use Rattle.std.specs.Prelude.{◌≡◌, ◌≤◌, ◌<◌, ◌^◌, ◌-◌, ◌+◌, ◌++◌, length, min, replicate};
+ghost use Rattle.interpolator_render.specs.Numbers.{base_of, is_upper, prefix_of, number_form, sign_text, twos_complement, has_minus, magnitude, number_text, IsShortAscii};
+ghost use Rattle.interpolator_render.specs.Padding.{spaces_before, padded_number, IsNumberLayout};
+ghost use Rattle.interpolator_render.specs.Written.{Puts};
+
+use crate::digits::digit_str;
+use crate::exponent::{exponent_tail, mantissa_of};
+use crate::layout::{Part, put_parts};
+use crate::text_write::{Refusal, TextWrite};
+use crate::view::{Alignment, Bits, HexDebug, Sign, Spec, Trait};
+
+/// A base in which digits are written.
+#[derive(Clone, Copy)]
+pub(crate) enum Notation {
+    Decimal,
+    Binary,
+    Octal,
+    LowerHex,
+    UpperHex,
+}
+
+/// How a number is written: by its digits, or in exponent form with `E` (true) or `e`.
+#[derive(Clone, Copy)]
+pub(crate) enum NumberForm {
+    Digits(Notation),
+    Exponent(bool),
+}
+
+/// A number's text in parts. Each text is ASCII and short.
+#[derive(Clone, Copy)]
+struct NumberParts<'t> {
+    sign: &'t str,
+    prefix: &'t str,
+    /// The first digits.
+    head: &'t str,
+    /// The zeros behind them.
+    zeros: usize,
+    /// What stands behind those: the exponent, or nothing.
+    tail: &'t str,
+}
+
+/// The spaces and zeros that pad a number.
+#[derive(Clone, Copy)]
+struct NumberLayout {
+    before: usize,
+    zeros: usize,
+    after: usize,
+}
+
+impl Notation {
+    fn base(self) -> u64
+        ensures value { result ≡ base_of self }
+        ensures lowest { 2 ≤ result }
+        ensures highest { result ≤ 16 }
+    {
+        match self {
+            Notation::Decimal => 10,
+            Notation::Binary => 2,
+            Notation::Octal => 8,
+            Notation::LowerHex | Notation::UpperHex => 16,
+        }
+    }
+
+    fn is_upper(self) -> bool
+        ensures { result ≡ is_upper self }
+    {
+        matches!(self, Notation::UpperHex)
+    }
+
+    fn prefix(self) -> &'static str
+        ensures value { result.now ≡ prefix_of self }
+        ensures ascii { IsShortAscii result.now }
+    {
+        match self {
+            Notation::Decimal => "",
+            Notation::Binary => "0b",
+            Notation::Octal => "0o",
+            Notation::LowerHex => "0x",
+            Notation::UpperHex => "0x",
+        }
+    }
+}
+
+/// How a trait writes whole numbers, if it does.
+pub(crate) fn number_form(t: Trait, hex_debug: HexDebug) -> Option<NumberForm>
+    ensures { result ≡ number_form t hex_debug }
+{
+    match t {
+        Trait::Display => Some(NumberForm::Digits(Notation::Decimal)),
+        Trait::Debug => Some(NumberForm::Digits(match hex_debug {
+            HexDebug::No => Notation::Decimal,
+            HexDebug::Lower => Notation::LowerHex,
+            HexDebug::Upper => Notation::UpperHex,
+        })),
+        Trait::Binary => Some(NumberForm::Digits(Notation::Binary)),
+        Trait::Octal => Some(NumberForm::Digits(Notation::Octal)),
+        Trait::LowerHex => Some(NumberForm::Digits(Notation::LowerHex)),
+        Trait::UpperHex => Some(NumberForm::Digits(Notation::UpperHex)),
+        Trait::LowerExp => Some(NumberForm::Exponent(false)),
+        Trait::UpperExp => Some(NumberForm::Exponent(true)),
+        Trait::Iter => None,
+    }
+}
+
+fn sign_str(negative: bool, sign: Sign) -> &'static str
+    ensures value { result.now ≡ sign_text negative sign }
+    ensures ascii { IsShortAscii result.now }
+{
+    if negative {
+        return "-";
+    }
+    match sign {
+        Sign::Plus => "+",
+        Sign::Minus => "",
+        Sign::Unset => "",
+    }
+}
+
+/// The bits of a signed number at its width.
+fn twos_complement(number: i128, bits: Bits) -> u128
+    ensures { result ≡ twos_complement number bits }
+{
+    let all = number.cast_unsigned();
+    match bits {
+        Bits::B8 => all % 0x100,
+        Bits::B16 => all % 0x1_0000,
+        Bits::B32 => all % 0x1_0000_0000,
+        Bits::B64 => all % 0x1_0000_0000_0000_0000,
+        Bits::B128 => all,
+    }
+}
+
+/// Whether a `-` stands before a signed number, and the number that its digits stand for.
+pub(crate) fn sign_and_magnitude(form: NumberForm, number: i128, bits: Bits) -> (bool, u128)
+    ensures negative { result.0 ≡ has_minus form number }
+    ensures number { result.1 ≡ magnitude form number bits }
+{
+    match form {
+        NumberForm::Digits(Notation::Decimal) => (number < 0, number.unsigned_abs()),
+        NumberForm::Digits(_) => (false, twos_complement(number, bits)),
+        NumberForm::Exponent(_) => (number < 0, number.unsigned_abs()),
+    }
+}
+
+/// How many of the missing spaces stand before a text that has `unset` of them without alignment.
+pub(crate) fn spaces_before(alignment: Alignment, missing: usize, unset: usize) -> usize
+    requires { unset ≤ missing }
+    ensures before { result ≡ spaces_before alignment missing unset }
+    ensures within { result ≤ missing }
+{
+    match alignment {
+        Alignment::Unset => unset,
+        Alignment::Left => 0,
+        Alignment::Center => missing / 2,
+        Alignment::Right => missing,
+    }
+}
+
+/// How a number of so many characters is padded.
+fn number_layout(spec: &Spec, count: usize) -> NumberLayout
+    ensures { IsNumberLayout spec.now count result.before result.zeros result.after }
+{
+    let missing = spec.width.unwrap_or(0).saturating_sub(count);
+    if spec.zero {
+        return NumberLayout {
+            before: 0,
+            zeros: missing,
+            after: 0,
+        };
+    }
+    let before = spaces_before(spec.alignment, missing, missing);
+    NumberLayout {
+        before,
+        zeros: 0,
+        after: missing - before,
+    }
+}
+
+/// Writes a number's parts, padded. A count of characters stops at the greatest `usize`, which
+/// changes no padding, since no width is greater.
+fn put_padded<W: TextWrite>(
+    out: &mut W,
+    spec: &Spec,
+    number: NumberParts<'_>,
+) -> Result<(), Refusal>
+    requires sign { IsShortAscii number.sign.now }
+    requires prefix { IsShortAscii number.prefix.now }
+    requires head { IsShortAscii number.head.now }
+    requires tail { IsShortAscii number.tail.now }
+    ensures { let parts = number.entry in Puts (W.written out.old)
+        (padded_number spec.now (parts.sign.now ++ parts.prefix.now)
+        (parts.head.now ++ (replicate parts.zeros 48 ++ parts.tail.now)))
+        result (W.written out.new) }
+{
+    let short = number.sign.len() + number.prefix.len() + number.head.len() + number.tail.len();
+    let layout = number_layout(spec, number.zeros.saturating_add(short));
+    put_parts(
+        out,
+        &[
+            Part::Spaces(layout.before),
+            Part::Text(number.sign),
+            Part::Text(number.prefix),
+            Part::Zeros(layout.zeros),
+            Part::Text(number.head),
+            Part::Zeros(number.zeros),
+            Part::Text(number.tail),
+            Part::Spaces(layout.after),
+        ],
+    )
+}
+
+/// Writes a number by its digits.
+fn put_digits<W: TextWrite>(
+    out: &mut W,
+    notation: Notation,
+    spec: &Spec,
+    negative: bool,
+    n: u128,
+) -> Result<(), Refusal>
+    ensures { Puts (W.written out.old) (number_text (NumberForm.Digits notation) spec.now negative n)
+        result (W.written out.new) }
+{
+    let mut buffer = [0u8; 128];
+    let number = NumberParts {
+        sign: sign_str(negative, spec.sign),
+        prefix: if spec.alternate {
+            notation.prefix()
+        } else {
+            ""
+        },
+        head: digit_str(n, notation.base(), notation.is_upper(), &mut buffer),
+        zeros: 0,
+        tail: "",
+    };
+    put_padded(out, spec, number)
+}
+
+/// Writes a number in exponent form.
+fn put_exponent<W: TextWrite>(
+    out: &mut W,
+    upper: bool,
+    spec: &Spec,
+    negative: bool,
+    n: u128,
+) -> Result<(), Refusal>
+    ensures { Puts (W.written out.old) (number_text (NumberForm.Exponent upper) spec.now negative n)
+        result (W.written out.new) }
+{
+    let mut buffer = [0u8; 128];
+    let mut tail_buffer = [0u8; 128];
+    let mantissa = mantissa_of(n, spec.precision, &mut buffer);
+    let number = NumberParts {
+        sign: sign_str(negative, spec.sign),
+        prefix: "",
+        head: mantissa.head,
+        zeros: mantissa.zeros,
+        tail: exponent_tail(upper, mantissa.exponent, &mut tail_buffer),
+    };
+    put_padded(out, spec, number)
+}
+
+/// Writes a number in a form.
+pub(crate) fn put_number<W: TextWrite>(
+    out: &mut W,
+    form: NumberForm,
+    spec: &Spec,
+    negative: bool,
+    n: u128,
+) -> Result<(), Refusal>
+    ensures { Puts (W.written out.old) (number_text form spec.now negative n)
+        result (W.written out.new) }
+{
+    match form {
+        NumberForm::Digits(notation) => put_digits(out, notation, spec, negative, n),
+        NumberForm::Exponent(upper) => put_exponent(out, upper, spec, negative, n),
+    }
+}

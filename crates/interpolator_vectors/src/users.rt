@@ -1,0 +1,110 @@
+//! What a user writes: contexts and formats, with no proof of his own.
+
+use interpolator::{
+    ContextMap, Error, Formattable, Interpolate, Spec, TextBuffer, Trait, Value, View,
+};
+use std::alloc::Global;
+use std::collections::HashMap;
+use std::test::Fail;
+
+/// One kind of values, by `&str` names.
+fn greeting(alloc: Global, name: &str, city: &str) -> Result<String, Error> {
+    let mut context = HashMap::new(alloc);
+    context.insert("name", Formattable::display(&name))?;
+    context.insert("city", Formattable::display(&city))?;
+    context.format(alloc, "Hello {name}, how is {city}?")
+}
+
+/// Values of two kinds go by views.
+fn count(alloc: Global, name: &str, apples: i32) -> Result<String, Error> {
+    let name = View::Text(name);
+    let apples = apples.view(Trait::Display, &Spec::default());
+    let mut context = HashMap::new(alloc);
+    context.insert("name", Formattable::debug_display(&name))?;
+    context.insert("n", Formattable::integer(&apples))?;
+    context.format(alloc, "{name} has {{{n}}} apples")
+}
+
+/// Owned names.
+fn owned(alloc: Global, name: &str, values: &[u64]) -> Result<String, Error> {
+    let mut context = HashMap::new(alloc);
+    if let Some(first) = values.first() {
+        context.insert(String::from_str(alloc, name)?, Formattable::integer(first))?;
+    }
+    context.format(alloc, "first: {first}")
+}
+
+/// A map that is built name by name, and a list whose items are kept in one local.
+fn listed(alloc: Global, title: &str, numbers: [i64; 2]) -> Result<String, Error> {
+    let title = View::Text(title);
+    let numbers = [
+        View::Signed(i128::from(numbers[0]), interpolator::Bits::B64),
+        View::Signed(i128::from(numbers[1]), interpolator::Bits::B64),
+    ];
+    let items = [
+        Formattable::integer(&numbers[0]),
+        Formattable::integer(&numbers[1]),
+    ];
+    let mut context = ContextMap::new(alloc);
+    context.put("title", Formattable::display(&title))?;
+    context.put("items", Formattable::iter(&items).and_display(&numbers[1]))?;
+    context.put("first", items[0])?;
+    context.format(alloc, "{title}: {first} up to {items}")
+}
+
+/// Values of a user's own type.
+#[derive(Clone, Copy)]
+enum Cell<'a> {
+    Word(&'a str),
+    Count(u64),
+    Hole,
+}
+
+impl<'a> Value for Cell<'a> {
+    ghost use Rattle.interpolator_vectors.specs.Cells.{cell_shows};
+
+    ghost shows = { λ cell t spec. cell_shows cell };
+
+    fn view(&self, _t: Trait, _spec: &Spec) -> View<'_> {
+        match *self {
+            Cell::Word(word) => View::Text(word),
+            Cell::Count(n) => View::Unsigned(u128::from(n)),
+            Cell::Hole => View::NotImplemented,
+        }
+    }
+}
+
+/// A line of a report, written to a writer.
+fn row(alloc: Global, out: &mut TextBuffer, name: &str, n: Option<u64>) -> Result<(), Error> {
+    let cells = [
+        Cell::Word(name),
+        match n {
+            Some(n) => Cell::Count(n),
+            None => Cell::Hole,
+        },
+    ];
+    let mut context = HashMap::new(alloc);
+    context.insert("name", Formattable::display(&cells[0]))?;
+    context.insert("n", Formattable::display(&cells[1]))?;
+    context.write_to(alloc, out, "{name} | {n}\n")
+}
+
+#[test]
+fn users_write_formats(rt: HostRuntime) -> Result<(), Fail> {
+    let alloc = rt.alloc();
+    assert_eq!(rt; greeting(alloc, "Ann", "Oslo")?.as_str(), "Hello Ann, how is Oslo?");
+    assert_eq!(rt; count(alloc, "Ann", -7)?.as_str(), "Ann has {-7} apples");
+    assert_eq!(rt; owned(alloc, "first", &[18_446_744_073_709_551_615])?.as_str(), "first: 18446744073709551615");
+    assert_eq!(rt; listed(alloc, "numbers", [1, -5])?.as_str(), "numbers: 1 up to -5");
+    Ok(())
+}
+
+#[test]
+fn users_write_to_writers(rt: HostRuntime) -> Result<(), Fail> {
+    let mut out = TextBuffer::new(rt.alloc());
+    row(rt.alloc(), &mut out, "Ann", Some(3))?;
+    let fault = row(rt.alloc(), &mut out, "Bob", None);
+    assert_eq!(rt; fault, Err(Error::MissingTraitImpl(Trait::Display, 11)));
+    assert_eq!(rt; out.as_str(), "Ann | 3\nBob | ");
+    Ok(())
+}
