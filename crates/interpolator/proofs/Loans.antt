@@ -1,10 +1,11 @@
 -- What an insertion into a map of names leaves, and what a loan of a value does.
-use Rattle.std.proofs.Common.{◌≡◌, ◌≢◌, refl, sym, ◌∙◌, ℕ, ◌+◌, List, Option, None, Some, MatchOption, false, arith, String, Global}
-use Rattle.std.specs.Borrow.{MutBor}
-use Rattle.std.specs.Option.{option_copied_mut, OnSome}
+use Rattle.std.proofs.Common.{◌≡◌, ◌≢◌, refl, sym, ◌∙◌, ℕ, ◌+◌, List, Option, None, Some, MatchOption, Bool, true, false, arith, String, Global}
+use Rattle.std.specs.Borrow.{Bor, MutBor}
+use Rattle.std.specs.Option.{option_copied, option_copied_mut, is_some, OnSome}
 use Rattle.std.specs.Str.{bytes_eq, encode_utf8_all}
 use Rattle.std.specs.String.{string_bytes, string_eq}
-use Rattle.std.specs.HashMap.{WritesThrough, Updates, UpdatesBy}
+use Rattle.std.specs.Prelude.{if◌then◌else◌}
+use Rattle.std.specs.HashMap.{get_by_text, WritesThrough, Updates, UpdatesBy}
 use Rattle.std.proofs.lemmas.Bool.{false_from_ne_true}
 use Rattle.std.proofs.lemmas.Map.Text.{hash_map_updates_text}
 use Rattle.std.proofs.lemmas.Slice.Eq.{bytes_eq-Decides}
@@ -42,20 +43,41 @@ module _ {T : Type 0} where
   pub same : (old new : NameMap T) → new.map ≡ old.map → IsSame old new
   same old new e = record { finds = λ name. rw e refl; count = rw e refl }
 
-  -- what an insertion of an absent name leaves
-  pub put_in : (old new : NameMap T) (key : String Global) (name : List ℕ) (value : T) → string_bytes key ≡ encode_utf8_all name
-      → under old name ≡ None → Updates string_eq old.map new.map key (Some value)
-      → name_count new ≡ name_count old + 1 → HasPut old name value new
-  put_in old new key name value spelt absent updates count = record {
+  -- what an insertion under a name leaves
+  pub put_in : (old new : NameMap T) (key : String Global) (name : List ℕ) (value : T) (replaced : Option T)
+      → string_bytes key ≡ encode_utf8_all name → Updates string_eq old.map new.map key (Some value)
+      → replaced ≡ get_by_text old.map (string_bytes key)
+      → name_count new ≡ name_count old + (if is_some replaced then 0 else 1) → HasPut old name value new
+  put_in old new key name value replaced spelt updates was count = record {
     here = rw (← spelt) updates.1;
     others = others_kept old new name (string_bytes key) (Some value) spelt updates;
-    count = rw absent count;
+    count = let stood : under old name ≡ replaced = rw (← spelt) (sym was) in rw stood count;
   }
+
+  -- what a look-up that finds nothing says
+  pub absent_name : (old : NameMap T) (name : List ℕ) (found : Option (Bor T)) → option_copied found ≡ under old name
+      → is_some found ≡ false → under old name ≡ None
+  absent_name old name None value e = sym value
+  absent_name old name (Some there) value e = cc
+
+  put_at : (old new : NameMap T) (name : List ℕ) (value : T) → HasPut old name value new → (other : List ℕ)
+      (is_name : Bool) → bytes_eq name other ≡ is_name
+      → under new other ≡ (if is_name then Some value else under old other)
+  put_at old new name value put other true e = rw (← ((bytes_eq-Decides name other).0 e)) put.here
+  put_at old new name value put other false e = put.others other
+      (λ same. let equal : bytes_eq name other ≡ true = (bytes_eq-Decides name other).1 (sym same) in cc)
+
+  -- what any name finds after a value was put under one
+  pub under-put : (old new : NameMap T) (name : List ℕ) (value : T) → HasPut old name value new → (other : List ℕ)
+      → under new other ≡ (if bytes_eq name other then Some value else under old other)
+  under-put old new name value put other = put_at old new name value put other (bytes_eq name other) refl
 
   module _ (IsDefault : T → Type 0) where
     -- a name that was there
-    pub kept : (old : NameMap T) (name : List ℕ) (value : T) → under old name ≡ Some value → HasAdded IsDefault old name old
-    kept old name value e = rw e (record { finds = λ other. refl; count = refl })
+    pub kept : (old : NameMap T) (name : List ℕ) (found : Option (Bor T)) → option_copied found ≡ under old name
+        → is_some found ≡ true → HasAdded IsDefault old name old
+    kept old name None value e = cc
+    kept old name (Some there) value e = rw (← value) (record { finds = λ other. refl; count = refl })
 
     -- a name that was absent
     pub new_name : (old new : NameMap T) (name : List ℕ) (value : T) → under old name ≡ None → IsDefault value

@@ -2,7 +2,7 @@
 use Rattle.std.proofs.Common.{◌≡◌, refl, sym, ◌∙◌, ap, ℕ, ◌+◌, ◌<◌, List, [], ◌∷◌, ◌++◌, append_assoc, append-nil, get_or, take, map, Bool, true, false}
 use Rattle.std.specs.Prelude.{filter, codes}
 use Rattle.std.specs.List.{join_by}
-use Rattle.std.specs.Fmt.{HasWritten}
+use Rattle.std.specs.Fmt.{HasWritten, IsPlainFormatter}
 use Rattle.std.specs.declared.fmt.Formatter.{Formatter}
 use Rattle.std.proofs.lemmas.Grind.{put_two}
 use Rattle.std.proofs.lemmas.List.{take_more, map-append}
@@ -58,9 +58,12 @@ module _ (filled : Trait → Bool) (index : ℕ) (below : index < 9) where
 
 module _ {W : Type 0} (took : W → List ℕ → W → Type 0) where
   -- a name that is written behind the names so far
-  pub name_written : (f g h : Formatter W) (front : List ℕ) (names : List (List ℕ)) (name : List ℕ) (is_first : Bool)
-      → is_first ≡ no_name names → HasWritten took f (front ++ opened names) g
-      → HasWritten took g (name_behind is_first name) h → HasWritten took f (front ++ opened (names ++ name ∷ [])) h
-  name_written f g h front names name is_first e before after =
-      put_two took f g h (front ++ opened names) (name_behind is_first name) _ before after
-      (rw e (append_assoc front (opened names) (name_behind (no_name names) name) ∙ ap (λ text. front ++ text) (sym (opened-more names name))))
+  pub name_written : (f g h : Formatter W) (front : List ℕ) (names : List (List ℕ)) (name shown : List ℕ) (is_first : Bool)
+      → is_first ≡ no_name names → shown ≡ name → HasWritten took f (front ++ opened names) g
+      → (IsPlainFormatter g → true ≡ true → HasWritten took g (name_behind is_first shown) h)
+      → HasWritten took f (front ++ opened (names ++ name ∷ [])) h
+  name_written f g h front names name shown is_first e same before after =
+      let joined : (front ++ opened names) ++ name_behind is_first shown ≡ front ++ opened (names ++ name ∷ []) =
+      rw (e, same) (append_assoc front (opened names) (name_behind (no_name names) name)
+      ∙ ap (λ text. front ++ text) (sym (opened-more names name))) in
+      put_two took f g h (front ++ opened names) (name_behind is_first shown) _ before (after before.plain refl) joined

@@ -1,6 +1,6 @@
 //! Where a format finds its values.
 ghost use Rattle.std.specs.Prelude.{◌≡◌, ℕ, List, Option};
-ghost use Rattle.std.specs.Option.{option_map};
+ghost use Rattle.std.specs.Option.{option_copied, option_map};
 ghost use Rattle.std.specs.Str.{chars};
 ghost use Rattle.interpolator.specs.Trees.{Tree, tree_of};
 ghost use Rattle.interpolator.specs.Contexts.{found_by_str, found_by_text};
@@ -25,6 +25,17 @@ pub trait Context {
         ensures found { option_map tree_of result ≡ finds self.now (chars key.now) };
 }
 
+// What a map lends, copied in the place that asks, with no call.
+#[inline(always)]
+pub(crate) fn copied<'a, V>(lent: Option<&Formattable<'a, V>>) -> Option<Formattable<'a, V>>
+    ensures { result ≡ option_copied lent.entry }
+{
+    match lent {
+        Some(found) => Some(*found),
+        None => None,
+    }
+}
+
 impl<'k, 'a, V: Value> Context for HashMap<&'k str, Formattable<'a, V>> {
     type Object = V;
 
@@ -32,10 +43,7 @@ impl<'k, 'a, V: Value> Context for HashMap<&'k str, Formattable<'a, V>> {
 
     #[inline(always)]
     fn get(&self, key: &str) -> Option<Formattable<'_, V>> {
-        match HashMap::get(self, key) {
-            Some(found) => Some(*found),
-            None => None,
-        }
+        copied(HashMap::get(self, key))
     }
 }
 
@@ -46,10 +54,8 @@ impl<'a, V: Value> Context for HashMap<String, Formattable<'a, V>> {
 
     #[inline(always)]
     fn get(&self, key: &str) -> Option<Formattable<'_, V>> {
-        match HashMap::get(self, key) {
-            Some(found) => Some(*found),
-            None => None,
-        }
+        let found = HashMap::get(self, key);
+        copied(found)
     }
 }
 
@@ -67,9 +73,56 @@ impl<'m, V: Value> Context for ByNames<'m, V> {
 
     #[inline(always)]
     fn get(&self, key: &str) -> Option<Formattable<'_, V>> {
-        match HashMap::get(self.map, key) {
-            Some(found) => Some(*found),
-            None => None,
+        copied(HashMap::get(self.map, key))
+    }
+}
+
+#[cfg(test)]
+mod tests {
+    use super::*;
+    use std::test::Fail;
+
+    // The name that is there, and two that are not.
+    const ROWS: [(&str, bool); 3] = [("n", true), ("", false), ("nn", false)];
+
+    fn finds<C: Context>(context: &C, name: &str) -> bool {
+        context.get(name).is_some()
+    }
+
+    fn finds_at_one_lifetime<'k, 'a, V: Value>(
+        map: &HashMap<&'k str, Formattable<'a, V>>,
+        name: &str,
+    ) -> bool {
+        let names = ByNames {
+            map,
+            of: PhantomData,
+        };
+        finds(&names, name)
+    }
+
+    #[test]
+    fn finds_lent_names(rt: HostRuntime) -> Result<(), Fail> {
+        let value = 7u64;
+        let mut map = HashMap::new(rt.alloc());
+        map.insert("n", Formattable::display(&value))?;
+        assert!(rt; Context::get(&map, "n").is_some());
+        assert!(rt; Context::get(&map, "").is_none());
+        assert!(rt; finds_at_one_lifetime(&map, "n"));
+        assert!(rt; !finds_at_one_lifetime(&map, ""));
+        Ok(())
+    }
+
+    #[test]
+    fn finds_owned_names(rt: HostRuntime) -> Result<(), Fail> {
+        let value = 7u64;
+        let mut map = HashMap::new(rt.alloc());
+        map.insert(
+            String::from_str(rt.alloc(), "n")?,
+            Formattable::display(&value),
+        )?;
+        for (name, is_found) in ROWS {
+            assert_eq!(rt; finds(&map, name), is_found);
         }
+        Ok(())
     }
 }

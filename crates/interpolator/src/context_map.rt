@@ -5,7 +5,7 @@ ghost use Rattle.std.specs.Str.{chars};
 ghost use Rattle.std.specs.Borrow.{sem};
 ghost use Rattle.interpolator.specs.NameMaps.{under, name_count, found, HasPut, IsSame, HasAdded, IsEntry, LendsUnder, LendsEntry};
 
-use crate::context::Context;
+use crate::context::{Context, copied};
 use crate::error::Error;
 use crate::slots::Formattable;
 use interpolator_render::Value;
@@ -13,10 +13,18 @@ use std::alloc::{AllocError, Global};
 use std::collections::HashMap;
 use std::marker::PhantomData;
 
-/// A context that is built name by name.
+/// A context that is built name by name: each name stands for a [`Formattable`].
+///
+/// ```text
+/// let mut map = ContextMap::new(alloc);
+/// map.put("count", Formattable::integer(&count))?;
+/// map.entry("name")?.set_display(name);
+/// map.entry("name")?.set_debug(name);      // both slots are filled now
+/// ```
 pub type ContextMap<'a, V> = NameMap<Formattable<'a, V>>;
 
-/// A map from names.
+/// A map from names, which are compared by their characters. It keeps the allocator that `new`
+/// took, and copies each name that it puts in.
 #[derive(Drop)]
 pub struct NameMap<T> {
     map: HashMap<String, T>,
@@ -25,6 +33,7 @@ pub struct NameMap<T> {
 }
 
 impl<T> NameMap<T> {
+    /// A map with no name. It takes no memory.
     pub fn new(alloc: Global) -> NameMap<T>
         ensures names { (name : List ℕ) → under result name ≡ None }
         ensures count { name_count result ≡ 0 }
@@ -36,18 +45,21 @@ impl<T> NameMap<T> {
         }
     }
 
+    /// How many names the map has.
     pub fn len(&self) -> usize
         ensures { result ≡ name_count self.now }
     {
         self.map.len()
     }
 
+    /// Whether the map has no name.
     pub fn is_empty(&self) -> bool
         ensures { IsTrue result ↔ (name_count self.now ≡ 0) }
     {
         self.map.is_empty()
     }
 
+    // The value under a name.
     #[inline(always)]
     fn find(&self, name: &str) -> Option<&T>
         ensures { option_copied result ≡ under self.now (chars name.now) }
@@ -55,6 +67,7 @@ impl<T> NameMap<T> {
         self.map.get(name)
     }
 
+    // Lends the value under a name, to be written.
     fn lend(&mut self, name: &str) -> Option<&mut T>
         ensures* writes_back { sem 𝓛 (LendsUnder T.row self.entry (chars name.now) result) }
         ensures value { option_copied_mut result ≡ under self.old (chars name.now) }
@@ -64,11 +77,14 @@ impl<T> NameMap<T> {
 }
 
 impl<T: Default + Drop> NameMap<T> {
+    // Puts an absent name in, with a default value.
+    #[tactic(auto, using(crate::proofs::Loans::absent_name))]
     fn add(&mut self, name: &str) -> Result<(), AllocError>
-        ensures added { OnOk result (HasAdded T.is_default self.old (chars name.now) self.new) }
-        ensures unchanged { OnErr result (IsSame self.old self.new) }
+        ensures ok { OnOk result (HasAdded T.is_default self.old (chars name.now) self.new) }
+        ensures err { OnErr result (IsSame self.old self.new) }
+        ensures absent { OnErr result (under self.old (chars name.now) ≡ None) }
     {
-        if let Some(_) = self.map.get(name) {
+        if self.find(name).is_some() {
             return Ok(());
         }
         let key = String::from_str(self.alloc, name)?;
@@ -76,10 +92,11 @@ impl<T: Default + Drop> NameMap<T> {
         Ok(())
     }
 
-    pub fn entry(&mut self, name: &str) -> Result<&mut T, Error>
+    // Lends the value under a name, which is put in first where it is absent.
+    fn lend_or_add(&mut self, name: &str) -> Result<&mut T, AllocError>
         ensures* writes_back { sem 𝓛 (LendsEntry T.row self.entry (chars name.now) result) }
         ensures value { IfOk result (λ lent. IsEntry T.is_default self.old (chars name.now) lent.now) }
-        ensures err { IfErr result (λ error. error ≡ Error.NoMemory) }
+        ensures absent { OnErr result (under self.old (chars name.now) ≡ None) }
     {
         self.add(name)?;
         match self.lend(name) {
@@ -88,12 +105,36 @@ impl<T: Default + Drop> NameMap<T> {
         }
     }
 
-    pub fn put(&mut self, name: &str, value: T) -> Result<(), Error>
-        ensures ok { OnOk result (HasPut self.old (chars name.now) value self.new) }
-        ensures unchanged { OnErr result (IsSame self.old self.new) }
-        ensures err { IfErr result (λ error. error ≡ Error.NoMemory) }
+    /// Lends the value under a name, to be written; an absent name is put in first, with a default
+    /// value (a [`Formattable`] with no slot filled). The other names stay as they were.
+    ///
+    /// # Errors
+    ///
+    /// `NoMemory`, only for an absent name. The map is then as it was.
+    pub fn entry(&mut self, name: &str) -> Result<&mut T, Error>
+        ensures* writes_back { sem 𝓛 (LendsEntry T.row self.entry (chars name.now) result) }
+        ensures value { IfOk result (λ lent. IsEntry T.is_default self.old (chars name.now) lent.now) }
+        ensures kind { IfErr result (λ error. error ≡ Error.NoMemory) }
+        ensures absent { OnErr result (under self.old (chars name.now) ≡ None) }
     {
-        *self.entry(name)? = value;
+        match self.lend_or_add(name) {
+            Ok(lent) => Ok(lent),
+            Err(_) => Err(Error::NoMemory),
+        }
+    }
+
+    /// Puts a value under a name, in place of the one that stood there. The other names stay.
+    ///
+    /// # Errors
+    ///
+    /// `AllocError`, which `?` makes `NoMemory`, and only for an absent name. The map is then as it
+    /// was.
+    pub fn put(&mut self, name: &str, value: T) -> Result<(), AllocError>
+        ensures ok { OnOk result (HasPut self.old (chars name.now) value self.new) }
+        ensures err { OnErr result (IsSame self.old self.new) }
+        ensures absent { OnErr result (under self.old (chars name.now) ≡ None) }
+    {
+        *self.lend_or_add(name)? = value;
         Ok(())
     }
 }
@@ -105,9 +146,9 @@ impl<'a, V: Value> Context for NameMap<Formattable<'a, V>> {
 
     #[inline(always)]
     fn get(&self, key: &str) -> Option<Formattable<'_, V>> {
-        match self.find(key) {
-            Some(found) => Some(*found),
-            None => None,
-        }
+        copied(self.find(key))
     }
 }
+
+#[cfg(test)]
+mod tests;

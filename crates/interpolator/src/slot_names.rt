@@ -40,8 +40,8 @@ fn name_of(slot: Trait) -> &'static str
 
 impl<'a, V> Formattable<'a, V> {
     // Whether the slot is filled.
-    fn has(self, slot: Trait) -> bool
-        ensures { result ≡ is_filled (tree_of self.entry) slot }
+    fn has(&self, slot: Trait) -> bool
+        ensures { result ≡ is_filled (tree_of self.now) slot }
     {
         match slot {
             Trait::Iter => self.list().is_some(),
@@ -68,11 +68,57 @@ impl<'a, V> fmt::Debug for Formattable<'a, V> {
         f.write_str("Formattable")?;
         let mut is_first = true;
         for slot in SLOTS {
-            if (*self).has(slot) {
+            if self.has(slot) {
                 write_name(f, is_first, name_of(slot))?;
                 is_first = false;
             }
         }
         if is_first { Ok(()) } else { f.write_str(")") }
+    }
+}
+
+#[cfg(test)]
+mod tests {
+    use super::*;
+    use std::test::Fail;
+
+    #[test]
+    fn names_the_filled_slots(rt: HostRuntime) -> Result<(), Fail> {
+        let value = 7u64;
+        let items = [Formattable::display(&value)];
+        let empty = Formattable::default();
+        let rows = [
+            (empty, "Formattable"),
+            (
+                empty.and_display(&value).and_debug(&value),
+                "Formattable(debug, display)",
+            ),
+            (
+                Formattable::integer(&value),
+                "Formattable(debug, display, binary, lower_exp, lower_hex, octal, upper_exp, upper_hex)",
+            ),
+            (
+                Formattable::float(&value).and_iter(&items),
+                "Formattable(debug, display, lower_exp, upper_exp, iter)",
+            ),
+            (
+                Formattable::debug_display(&value),
+                "Formattable(debug, display)",
+            ),
+            (Formattable::debug(&value), "Formattable(debug)"),
+            (Formattable::display(&value), "Formattable(display)"),
+            (Formattable::binary(&value), "Formattable(binary)"),
+            (Formattable::lower_exp(&value), "Formattable(lower_exp)"),
+            (Formattable::lower_hex(&value), "Formattable(lower_hex)"),
+            (Formattable::octal(&value), "Formattable(octal)"),
+            (Formattable::upper_exp(&value), "Formattable(upper_exp)"),
+            (Formattable::upper_hex(&value), "Formattable(upper_hex)"),
+            (Formattable::iter(&items), "Formattable(iter)"),
+        ];
+        for (formattable, text) in rows {
+            let written = format!(in rt.alloc(); "{formattable:?}")?;
+            assert_eq!(rt; written.as_str(), text);
+        }
+        Ok(())
     }
 }

@@ -1,5 +1,5 @@
 //! A value's slots: which traits a format may write it with.
-ghost use Rattle.std.specs.Prelude.{◌≡◌, map};
+ghost use Rattle.std.specs.Prelude.{◌≡◌, map, ⊤};
 ghost use Rattle.std.specs.Option.{option_copied};
 ghost use Rattle.interpolator.specs.Trees.{tree_of, slots, items, slot_at, trees_behind, empty_tree};
 ghost use Rattle.interpolator.specs.Trees.{with_debug_display, with_debug, with_display};
@@ -36,6 +36,10 @@ pub struct Formattable<'a, V> {
 }
 
 impl<'a, V> Clone for Formattable<'a, V> {
+    ghost is_clone = { λ old new. new ≡ old };
+
+    ghost is_infallible = { λ _. ⊤ };
+
     fn clone(&self) -> Result<Self, AllocError> {
         Ok(*self)
     }
@@ -43,11 +47,11 @@ impl<'a, V> Clone for Formattable<'a, V> {
 
 impl<'a, V> Copy for Formattable<'a, V> {}
 
+#[tactic(auto, using(crate::proofs::TreeLemmas::tree_layers))]
 impl<'a, V> Default for Formattable<'a, V> {
     ghost is_default = { λ formattable. tree_of formattable ≡ empty_tree };
 
     /// No slot is filled.
-    #[tactic(auto, using(crate::proofs::TreeLemmas::tree_layers))]
     fn default() -> Self {
         Formattable {
             debug: None,
@@ -64,9 +68,9 @@ impl<'a, V> Default for Formattable<'a, V> {
 }
 
 /// Each `set_` call fills the slots of its name, and leaves the others as they were.
+#[tactic(auto, using(crate::proofs::TreeLemmas::tree_layers))]
 impl<'a, V> Formattable<'a, V> {
     /// Fills the debug and display slots.
-    #[tactic(auto, using(crate::proofs::TreeLemmas::tree_layers))]
     pub fn set_debug_display(&mut self, value: &'a V)
         ensures { tree_of self.new ≡ with_debug_display (tree_of self.old) value.now }
     {
@@ -78,7 +82,6 @@ impl<'a, V> Formattable<'a, V> {
     }
 
     /// Fills the debug slot.
-    #[tactic(auto, using(crate::proofs::TreeLemmas::tree_layers))]
     pub fn set_debug(&mut self, value: &'a V)
         ensures { tree_of self.new ≡ with_debug (tree_of self.old) value.now }
     {
@@ -86,7 +89,6 @@ impl<'a, V> Formattable<'a, V> {
     }
 
     /// Fills the display slot.
-    #[tactic(auto, using(crate::proofs::TreeLemmas::tree_layers))]
     pub fn set_display(&mut self, value: &'a V)
         ensures { tree_of self.new ≡ with_display (tree_of self.old) value.now }
     {
@@ -94,7 +96,6 @@ impl<'a, V> Formattable<'a, V> {
     }
 
     /// Fills the eight slots of the formatting traits.
-    #[tactic(auto, using(crate::proofs::TreeLemmas::tree_layers))]
     pub fn set_integer(&mut self, value: &'a V)
         ensures { tree_of self.new ≡ with_integer (tree_of self.old) value.now }
     {
@@ -112,7 +113,6 @@ impl<'a, V> Formattable<'a, V> {
     }
 
     /// Fills the debug, display, lower_exp and upper_exp slots.
-    #[tactic(auto, using(crate::proofs::TreeLemmas::tree_layers))]
     pub fn set_float(&mut self, value: &'a V)
         ensures { tree_of self.new ≡ with_float (tree_of self.old) value.now }
     {
@@ -126,7 +126,6 @@ impl<'a, V> Formattable<'a, V> {
     }
 
     /// Fills the binary slot.
-    #[tactic(auto, using(crate::proofs::TreeLemmas::tree_layers))]
     pub fn set_binary(&mut self, value: &'a V)
         ensures { tree_of self.new ≡ with_binary (tree_of self.old) value.now }
     {
@@ -134,7 +133,6 @@ impl<'a, V> Formattable<'a, V> {
     }
 
     /// Fills the lower_exp slot.
-    #[tactic(auto, using(crate::proofs::TreeLemmas::tree_layers))]
     pub fn set_lower_exp(&mut self, value: &'a V)
         ensures { tree_of self.new ≡ with_lower_exp (tree_of self.old) value.now }
     {
@@ -142,7 +140,6 @@ impl<'a, V> Formattable<'a, V> {
     }
 
     /// Fills the lower_hex slot.
-    #[tactic(auto, using(crate::proofs::TreeLemmas::tree_layers))]
     pub fn set_lower_hex(&mut self, value: &'a V)
         ensures { tree_of self.new ≡ with_lower_hex (tree_of self.old) value.now }
     {
@@ -150,7 +147,6 @@ impl<'a, V> Formattable<'a, V> {
     }
 
     /// Fills the octal slot.
-    #[tactic(auto, using(crate::proofs::TreeLemmas::tree_layers))]
     pub fn set_octal(&mut self, value: &'a V)
         ensures { tree_of self.new ≡ with_octal (tree_of self.old) value.now }
     {
@@ -158,7 +154,6 @@ impl<'a, V> Formattable<'a, V> {
     }
 
     /// Fills the upper_exp slot.
-    #[tactic(auto, using(crate::proofs::TreeLemmas::tree_layers))]
     pub fn set_upper_exp(&mut self, value: &'a V)
         ensures { tree_of self.new ≡ with_upper_exp (tree_of self.old) value.now }
     {
@@ -166,7 +161,6 @@ impl<'a, V> Formattable<'a, V> {
     }
 
     /// Fills the upper_hex slot.
-    #[tactic(auto, using(crate::proofs::TreeLemmas::tree_layers))]
     pub fn set_upper_hex(&mut self, value: &'a V)
         ensures { tree_of self.new ≡ with_upper_hex (tree_of self.old) value.now }
     {
@@ -174,7 +168,6 @@ impl<'a, V> Formattable<'a, V> {
     }
 
     /// Fills the iter slot: the items of a list.
-    #[tactic(auto, using(crate::proofs::TreeLemmas::tree_layers))]
     pub fn set_iter(&mut self, value: &'a [Formattable<'a, V>])
         ensures { tree_of self.new ≡ with_iter (tree_of self.old) (map tree_of value.now) }
     {
@@ -182,10 +175,10 @@ impl<'a, V> Formattable<'a, V> {
     }
 }
 
+#[tactic(auto, using(crate::proofs::TreeLemmas::tree_layers))]
 impl<'a, V> Formattable<'a, V> {
     // The value in the slot that a trait asks; the iter slot holds no value.
     #[inline(always)]
-    #[tactic(auto, using(crate::proofs::TreeLemmas::tree_layers))]
     pub(crate) fn slot(self, wanted: Trait) -> Option<&'a V>
         ensures { option_copied result ≡ slot_at wanted (slots (tree_of self.entry)) }
     {
@@ -204,7 +197,6 @@ impl<'a, V> Formattable<'a, V> {
 
     // The items, where the iter slot is filled.
     #[inline(always)]
-    #[tactic(auto, using(crate::proofs::TreeLemmas::tree_layers))]
     pub(crate) fn list(self) -> Option<&'a [Formattable<'a, V>]>
         ensures { trees_behind result ≡ items (tree_of self.entry) }
     {

@@ -1,7 +1,7 @@
 //! What a user writes: contexts and formats, with no proof of his own.
 
 use interpolator::{
-    ContextMap, Error, Formattable, Interpolate, Spec, TextBuffer, Trait, Value, View,
+    Bits, ContextMap, Error, Formattable, Interpolate, Spec, TextBuffer, Trait, Value, View,
 };
 use std::alloc::Global;
 use std::collections::HashMap;
@@ -18,7 +18,7 @@ fn greeting(alloc: Global, name: &str, city: &str) -> Result<String, Error> {
 /// Values of two kinds go by views.
 fn count(alloc: Global, name: &str, apples: i32) -> Result<String, Error> {
     let name = View::Text(name);
-    let apples = apples.view(Trait::Display, &Spec::default());
+    let apples = View::Signed(i128::from(apples), Bits::B32);
     let mut context = HashMap::new(alloc);
     context.insert("name", Formattable::debug_display(&name))?;
     context.insert("n", Formattable::integer(&apples))?;
@@ -34,22 +34,22 @@ fn owned(alloc: Global, name: &str, values: &[u64]) -> Result<String, Error> {
     context.format(alloc, "first: {first}")
 }
 
-/// A map that is built name by name, and a list whose items are kept in one local.
-fn listed(alloc: Global, title: &str, numbers: [i64; 2]) -> Result<String, Error> {
-    let title = View::Text(title);
-    let numbers = [
-        View::Signed(i128::from(numbers[0]), interpolator::Bits::B64),
-        View::Signed(i128::from(numbers[1]), interpolator::Bits::B64),
+/// A map that is built name by name; a list's items borrow from one local.
+fn listed(alloc: Global, title: &str, low: i64, high: i64) -> Result<String, Error> {
+    let values = [
+        View::Text(title),
+        View::Signed(i128::from(low), Bits::B64),
+        View::Signed(i128::from(high), Bits::B64),
     ];
     let items = [
-        Formattable::integer(&numbers[0]),
-        Formattable::integer(&numbers[1]),
+        Formattable::integer(&values[1]),
+        Formattable::integer(&values[2]),
     ];
     let mut context = ContextMap::new(alloc);
-    context.put("title", Formattable::display(&title))?;
-    context.put("items", Formattable::iter(&items).and_display(&numbers[1]))?;
-    context.put("first", items[0])?;
-    context.format(alloc, "{title}: {first} up to {items}")
+    context.put("title", Formattable::display(&values[0]))?;
+    context.put("low", Formattable::integer(&values[1]))?;
+    context.put("all", Formattable::iter(&items).and_display(&values[2]))?;
+    context.format(alloc, "{title}: {low} up to {all}")
 }
 
 /// Values of a user's own type.
@@ -95,7 +95,7 @@ fn users_write_formats(rt: HostRuntime) -> Result<(), Fail> {
     assert_eq!(rt; greeting(alloc, "Ann", "Oslo")?.as_str(), "Hello Ann, how is Oslo?");
     assert_eq!(rt; count(alloc, "Ann", -7)?.as_str(), "Ann has {-7} apples");
     assert_eq!(rt; owned(alloc, "first", &[18_446_744_073_709_551_615])?.as_str(), "first: 18446744073709551615");
-    assert_eq!(rt; listed(alloc, "numbers", [1, -5])?.as_str(), "numbers: 1 up to -5");
+    assert_eq!(rt; listed(alloc, "numbers", 1, -5)?.as_str(), "numbers: 1 up to -5");
     Ok(())
 }
 

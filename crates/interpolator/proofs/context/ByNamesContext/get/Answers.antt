@@ -1,16 +1,11 @@
 -- The map is asked for the bytes of the name, which are the bytes of its characters.
-use Rattle.std.proofs.Common.{ap}
+use Rattle.std.proofs.Common.{ap, ◌∙◌}
 use Rattle.std.specs.Option.{option_map}
 use Rattle.std.proofs.lemmas.Str.{encodes-chars}
 use Rattle.interpolator.specs.Trees.{tree_of}
 use Rattle.interpolator.proofs.context.ByNamesContext.get.Goals as goal
 
-pub returns-in-Some : goal.returns-in-Some
-returns-in-Some g c = record {
-  found = rw (encodes-chars c.args.key.now c.utf8.key) (ap (option_map tree_of) c.in-Some.ensures.value);
-}
-
-pub returns-in-None : goal.returns-in-None
-returns-in-None g c = record {
-  found = rw (encodes-chars c.args.key.now c.utf8.key) (ap (option_map tree_of) c.in-None.ensures.value);
+pub returns : goal.returns
+returns g c = record {
+  found = rw (encodes-chars c.args.key.now c.utf8.key) (ap (option_map tree_of) (c.copied.ensures ∙ c.get.ensures.value));
 }

@@ -1,5 +1,5 @@
 -- One more slot is passed: its name is written, or it is empty.
-use Rattle.std.proofs.Common.{arith, refl, sym, ◌∙◌, ◌<◌, take, get_or}
+use Rattle.std.proofs.Common.{arith, sym, ◌∙◌, ◌<◌, take, get_or}
 use Rattle.std.specs.Prelude.{codes}
 use Rattle.interpolator_render.specs.declared.view.Trait.TheVariants.{Binary}
 use Rattle.interpolator.specs.Trees.{tree_of}
@@ -20,10 +20,9 @@ loop-slot-preserved g c =
       | then-has+in_ok-write_name w ↦
           let more = one_more filled index below (sym c.has.ensures ∙ w.if-has.true) in (
             rw (more, w.is_first-is) (sym (no_name-more names name)),
-            λ plain.
-                let after = w.in_ok-write_name.ensures (before.1 plain).plain refl in
-                rw (more, w.f-is) (name_written g.W.Write.write_str_gives c.args.f.now c.loop-slot.f w.write_name.new.f
-                (codes "Formattable") names name c.loop-slot.is_first before.0 (before.1 plain) (rw (← w.name_of.ensures) after)),
+            λ plain. rw (more, w.f-is) (name_written g.W.Write.write_str_gives c.args.f.now c.loop-slot.f w.write_name.new.f
+                (codes "Formattable") names name w.name_of.result.now c.loop-slot.is_first before.0 w.name_of.ensures
+                (before.1 plain) w.in_ok-write_name.ensures),
           )
       | else-has w ↦
           let more = none_more filled index below (sym c.has.ensures ∙ w.if-has.false) in

@@ -1,7 +1,7 @@
 use Rattle.std.proofs.Common.{refl}
 use Rattle.std.specs.Str.{chars}
 use Rattle.interpolator.proofs.Loans.{put_after, value_after}
-use Rattle.interpolator.proofs.context_map.NameMap.entry.Goals as goal
+use Rattle.interpolator.proofs.context_map.NameMap.lend_or_add.Goals as goal
 
 pub returns : goal.returns
 returns g c =
@@ -10,8 +10,8 @@ returns g c =
     let name = chars c.args.name.now in (
       (
         refl,
-        λ last _. put_after IsDefault map _ _ name last c.in_ok-add.ensures.added (rw c.in-Some.is at (c.lend.follows.holds last)),
+        λ last _. put_after IsDefault map _ _ name last c.in_ok-add.ensures.ok (rw c.in-Some.is at (c.lend.follows.holds last)),
         tt,
       ),
-      (value_after IsDefault map _ name c.in-Some.lent.now c.in_ok-add.ensures.added c.in-Some.ensures.value, tt),
+      (value_after IsDefault map _ name c.in-Some.lent.now c.in_ok-add.ensures.ok c.in-Some.ensures.value, tt),
     )

@@ -1,0 +1,31 @@
+use Rattle.std.proofs.Common.{None, Some, refl, codes, lit<, FitsSigned}
+use Rattle.std.specs.Int.{w128}
+use Rattle.std.proofs.lemmas.Int.{to_z-of_z}
+use Rattle.std.proofs.lemmas.Str.Pattern.{strip_suffix_char}
+use Rattle.ifmt.specs.Words.{EndsIn}
+use Rattle.ifmt.proofs.Parts.{no_number, one_number, plain_text}
+use Rattle.ifmt.proofs.words.classify_parts.Goals as goal
+
+pub returns-in-None : goal.returns-in-None
+returns-in-None c =
+    let name = c.in-Some.name in
+    let ends = strip_suffix_char 58 c.args.left.now (Some name) c.in-Some.ensures.cases (lit< tt) in
+    no_number c.args.left.now c.args.right.now name.now ends c.in-None.ensures
+
+pub returns-in-Some-number_of : goal.returns-in-Some-number_of
+returns-in-Some-number_of c =
+    let name = c.in-Some.name in
+    let found = c.in-Some-number_of.value in
+    let spelled = c.in-Some-number_of.ensures in
+    let ends = strip_suffix_char 58 c.args.left.now (Some name) c.in-Some.ensures.cases (lit< tt) in
+    let fits : FitsSigned w128 found = ((spelled found).1 refl).fits in
+    rw (to_z-of_z w128 found fits) (one_number c.args.left.now c.args.right.now name.now found ends spelled)
+
+pub returns : goal.returns
+returns c =
+    let left = c.args.left.now in
+    let no_colon = strip_suffix_char 58 left None c.in_default.ensures.cases (lit< tt) in
+    let no_brackets = c.if-ends_with.ensures.cases in
+    plain_text left c.args.right.now
+    (λ (ends : EndsIn (codes ":") left). no_colon ends.0 ends.1)
+    (λ (ends : EndsIn (codes "[]") left). no_brackets ends.0 ends.1)

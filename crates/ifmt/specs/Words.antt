@@ -1,0 +1,55 @@
+-- The words of the command line: what each means, by its bytes.
+use Rattle.std.specs.Prelude.{◌≡◌, ℕ, ℤ, pos, neg_ℤ, List, ◌∷◌, ◌++◌, codes, Contains, FitsSigned, Option, None, Some, ◌⊎◌}
+use Rattle.std.specs.Int.{w128}
+use Rattle.std.specs.Str.Parse.{IsNumeral, digits_value}
+use Rattle.ifmt.specs.declared.words.Word.{Word}
+use Rattle.ifmt.specs.declared.words.Word.TheVariants.{Text, Number, List as ListWord, Bad}
+
+-- what a word means that is not bad: a name, and a text, a number or a list of items
+pub data Meaning : Type 0 where
+  text : List ℕ → List ℕ → Meaning
+  number : List ℕ → ℤ → Meaning
+  list : List ℕ → List ℕ → Meaning
+
+-- what a `Word` says, where borrows do not count: `None` for `Bad`
+abbrev pub meaning_of : Word → Option Meaning
+meaning_of (Text name value) = Some (text name.now value.now)
+meaning_of (Number name value) = Some (number name.now value)
+meaning_of (ListWord name items) = Some (list name.now items.now)
+meaning_of Bad = None
+
+-- the sign `=`
+abbrev pub equals_sign : ℕ
+equals_sign = 61
+
+-- a word is cut at its first `=`
+pub record IsCut (word left right : List ℕ) : Type 0 where
+  pub parts : word ≡ left ++ (equals_sign ∷ right)
+  pub first : ¬ (Contains left equals_sign)
+
+-- a text ends in this ending
+abbrev pub EndsIn : List ℕ → List ℕ → Type 0
+EndsIn ending whole = (front : List ℕ) × (whole ≡ front ++ ending)
+
+-- an optional `-`, then one or more ASCII digits, which write this number of 128 bits
+pub record Spells (whole : List ℕ) (value : ℤ) : Type 0 where
+  pub digits : List ℕ
+  pub numeral : IsNumeral 10 digits
+  pub sign : ((whole ≡ digits) × (value ≡ pos (digits_value 10 digits)))
+      ⊎ ((whole ≡ codes "-" ++ digits) × (value ≡ neg_ℤ (pos (digits_value 10 digits))))
+  pub fits : FitsSigned w128 value
+
+-- the rule on the parts before and behind the `=`: behind `:` a number, behind `[]` a list, which
+-- no word can be yet, else a text
+abbrev pub PartsMean : List ℕ → List ℕ → Meaning → Type 0
+PartsMean left right (text name value) =
+    (left ≡ name) × (right ≡ value) × ¬ (EndsIn (codes ":") left) × ¬ (EndsIn (codes "[]") left)
+PartsMean left right (number name value) = (left ≡ name ++ codes ":") × Spells right value
+PartsMean left right (list name items) = ⊥
+
+-- what a word means, by its parts
+pub record Means (word : List ℕ) (meaning : Meaning) : Type 0 where
+  pub left : List ℕ
+  pub right : List ℕ
+  pub cut : IsCut word left right
+  pub meant : PartsMean left right meaning

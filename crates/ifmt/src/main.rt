@@ -1,0 +1,30 @@
+//! `ifmt`: formats on the command line.
+#![tactic(auto)]
+
+mod command;
+mod run;
+mod words;
+
+use interpolator::Error;
+use std::process::ExitCode;
+use std::{env, io};
+
+fn main(rt: HostRuntime) -> ExitCode {
+    let mut out = rt.stdout();
+    let mut err = rt.stderr();
+    let status = match arguments(&rt) {
+        Ok(line) => command::answer(rt.alloc(), line.as_slice(), &mut out, &mut err),
+        Err(error) if error.kind() == io::ErrorKind::OutOfMemory => {
+            run::report(Err(Error::NoMemory), &mut out, &mut err)
+        }
+        // An argument is no text, so there is no word to complain of.
+        Err(_) => run::usage(&mut err),
+    };
+    ExitCode::from(status)
+}
+
+// The words behind the program's name.
+fn arguments(rt: &HostRuntime) -> io::Result<Vec<String>> {
+    let words = env::args(rt)?.skip(1).collect(rt.alloc())?;
+    Ok(words)
+}

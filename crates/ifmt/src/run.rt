@@ -1,0 +1,123 @@
+//! The run of a format, and the lines that the program writes.
+
+ghost use Rattle.std.specs.Prelude.{◌≡◌, ◌⊎◌, IsErrAnd, IsOkAnd, MatchResult, OnOk, string_bytes};
+ghost use Rattle.std.specs.Io.KnownBytes.{Appends, Keeps};
+ghost use Rattle.interpolator.specs.FaultTexts.{error_text};
+ghost use Rattle.std.specs.Str.{chars};
+ghost use Rattle.interpolator.specs.At.{outermost};
+ghost use Rattle.interpolator.specs.Environments.{environment};
+ghost use Rattle.interpolator.specs.Meanings.{means};
+ghost use Rattle.ifmt.specs.Run.{Runs, complaint, line, usage_line};
+
+use interpolator::{Context, Error};
+use std::alloc::Global;
+use std::io;
+use std::io::Write;
+
+const DONE: u8 = 0;
+
+const FAULT: u8 = 1;
+
+const BAD_USE: u8 = 2;
+
+const REFUSED: u8 = 3;
+
+/// Formats, and then writes the text to `out`, or the fault's text to `err`, as a line.
+///
+/// Gives 0 where the text was written, 1 where a fault was, and 3 where `out` or `err` refuses; how
+/// much went out is then open. What was written to is flushed, and the other not touched.
+pub fn run<C: Context, O: Write, E: Write>(
+    alloc: Global,
+    format: &str,
+    context: &C,
+    out: &mut O,
+    err: &mut E,
+) -> u8
+    ensures { Runs (means C.Object.shows (environment (C.finds context.now)) (outermost (chars format.now)))
+        (O.contents out.old) (O.contents out.new) (E.contents err.old) (E.contents err.new) result }
+{
+    report(interpolator::format(alloc, format, context), out, err)
+}
+
+/// Writes how the program is called to `err`, as a line, and flushes.
+///
+/// Gives 2, or 3 where `err` refuses; how much went out is then open.
+pub fn usage<E: Write>(err: &mut E) -> u8
+    ensures written { result ≡ 2 → Appends (E.contents err.old) (E.contents err.new) usage_line }
+    ensures status { (result ≡ 2) ⊎ (result ≡ 3) }
+{
+    status_of(put_usage(err), BAD_USE)
+}
+
+/// Writes that a word is bad to `err`, as a line, and flushes.
+///
+/// Gives 2, or 3 where `err` refuses; how much went out is then open.
+pub fn complain<E: Write>(word: &str, err: &mut E) -> u8
+    ensures written { result ≡ 2
+        → Appends (E.contents err.old) (E.contents err.new) (complaint word.now) }
+    ensures status { (result ≡ 2) ⊎ (result ≡ 3) }
+{
+    status_of(put_complaint(word, err), BAD_USE)
+}
+
+// Writes what a format gave: a text to `out`, or a fault to `err`, as a line.
+pub fn report<O: Write, E: Write>(outcome: Result<String, Error>, out: &mut O, err: &mut E) -> u8
+    ensures ok { result ≡ 0 → Keeps (E.contents err.old) (E.contents err.new)
+        × IsOkAnd outcome (λ text.
+        Appends (O.contents out.old) (O.contents out.new) (line (string_bytes text))) }
+    ensures err { result ≡ 1 → Keeps (O.contents out.old) (O.contents out.new)
+        × IsErrAnd outcome (λ error.
+        Appends (E.contents err.old) (E.contents err.new) (line (error_text error))) }
+    ensures status { (result ≡ 0) ⊎ (result ≡ 1) ⊎ (result ≡ 3) }
+{
+    match outcome {
+        Ok(text) => status_of(put_text(text.as_str(), out), DONE),
+        Err(error) => status_of(put_error(&error, err), FAULT),
+    }
+}
+
+fn put_text<O: Write>(text: &str, out: &mut O) -> io::Result<()>
+    ensures { OnOk result (Appends (O.contents out.old) (O.contents out.new) (line text.now)) }
+{
+    writeln!(out, "{text}")?;
+    out.flush()
+}
+
+fn put_error<E: Write>(error: &Error, err: &mut E) -> io::Result<()>
+    ensures { OnOk result
+        (Appends (E.contents err.old) (E.contents err.new) (line (error_text error.now))) }
+{
+    writeln!(err, "{error}")?;
+    err.flush()
+}
+
+fn put_complaint<E: Write>(word: &str, err: &mut E) -> io::Result<()>
+    ensures { OnOk result
+        (Appends (E.contents err.old) (E.contents err.new) (complaint word.now)) }
+{
+    writeln!(err, "bad word: {word}")?;
+    err.flush()
+}
+
+fn put_usage<E: Write>(err: &mut E) -> io::Result<()>
+    ensures { OnOk result (Appends (E.contents err.old) (E.contents err.new) usage_line) }
+{
+    writeln!(
+        err,
+        "usage: ifmt FORMAT [NAME=TEXT | NAME:=NUMBER | NAME[]=ITEM,ITEM..]"
+    )?;
+    err.flush()
+}
+
+// This status, or that of a refused write.
+fn status_of(written: io::Result<()>, status: u8) -> u8
+    ensures { MatchResult written (λ _. result ≡ status) (λ _. result ≡ 3) }
+{
+    match written {
+        Ok(()) => status,
+        Err(_) => REFUSED,
+    }
+}
+
+#[cfg(test)]
+mod tests;
