@@ -9,26 +9,30 @@ absent_at : (xs : List ℕ) (x : ℕ) → ¬ (Contains xs x) → (i : ℕ) → i
 absent_at xs x absent i within here = absent (i, within, get_or_default xs i x 0 within ∙ here)
 
 -- and the other way round
-absent_by_place : (xs : List ℕ) (x : ℕ) → ((i : ℕ) → i < length xs → get_or xs i 0 ≢ x) → ¬ (Contains xs x)
-absent_by_place xs x nowhere (i, within, here) = nowhere i within (get_or_default xs i 0 x within ∙ here)
+absent_by_place : (xs : List ℕ) (x : ℕ) →
+    ((i : ℕ) → i < length xs → get_or xs i 0 ≢ x) → ¬ (Contains xs x)
+absent_by_place xs x nowhere (i, within, here) =
+    nowhere i within (get_or_default xs i 0 x within ∙ here)
 
 -- a word that is not cut means nothing
-pub uncut : (word : List ℕ) → IsSplitOnceResult equals_sign word None → (meaning : Meaning) → Means word meaning ↔ (None ≡ Some meaning)
+pub uncut : (word : List ℕ) → IsSplitOnceResult equals_sign word None →
+    (meaning : Meaning) → Means word meaning ↔ (None ≡ Some meaning)
 uncut word result meaning = (
-  λ means. absurd (split_after equals_sign word means.left means.right None result (lit< tt) means.cut.parts
-      (absent_at means.left equals_sign means.cut.first)),
+  λ means. absurd (split_after equals_sign word means.left means.right None result (lit< tt)
+      means.cut.parts (absent_at means.left equals_sign means.cut.first)),
   λ same. cc,
 )
 
 -- a word that is cut means what its parts do
-pub cut_once : (word : List ℕ) (left right : Bor (List ℕ)) (answer : Option Meaning) → IsSplitOnceResult equals_sign word (Some (left, right)) →
+pub cut_once : (word : List ℕ) (left right : Bor (List ℕ)) (answer : Option Meaning) →
+    IsSplitOnceResult equals_sign word (Some (left, right)) →
     ((meaning : Meaning) → PartsMean left.now right.now meaning ↔ (answer ≡ Some meaning)) →
     (meaning : Meaning) → Means word meaning ↔ (answer ≡ Some meaning)
 cut_once word left right answer result parts_mean meaning =
     let parts = split_parts equals_sign word (Some (left, right)) result (lit< tt) in (
       λ means.
-          let same = split_after equals_sign word means.left means.right (Some (left, right)) result (lit< tt) means.cut.parts
-          (absent_at means.left equals_sign means.cut.first) in
+          let same = split_after equals_sign word means.left means.right (Some (left, right)) result
+          (lit< tt) means.cut.parts (absent_at means.left equals_sign means.cut.first) in
           (parts_mean meaning).0 (rw (same.0, same.1) means.meant),
       λ same. record {
         left = left.now;

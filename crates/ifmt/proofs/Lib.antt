@@ -1,3 +1,5 @@
 pub mod Parts
 pub mod Cuts
 pub mod Reports
+pub mod FirstBad
+pub mod WrongLines

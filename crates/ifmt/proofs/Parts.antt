@@ -7,7 +7,8 @@ use Rattle.ifmt.specs.Words.{Meaning, text, number, list, PartsMean, Spells, End
 pub no_number : (left right name : List ℕ) → left ≡ name ++ codes ":" →
     ((value : ℤ) → Spells right value ↔ (None ≡ Some value)) →
     (meaning : Meaning) → PartsMean left right meaning ↔ (None ≡ Some meaning)
-no_number left right name ends spells (text _ _) = (λ meant. absurd (meant.2 (name, ends)), λ same. cc)
+no_number left right name ends spells (text _ _) =
+    (λ meant. absurd (meant.2 (name, ends)), λ same. cc)
 no_number left right name ends spells (number _ value) =
     (λ meant. let same = (spells value).0 meant.1 in cc, λ same. cc)
 no_number left right name ends spells (list _ _) = (λ meant. absurd meant, λ same. cc)
@@ -16,7 +17,8 @@ no_number left right name ends spells (list _ _) = (λ meant. absurd meant, λ s
 pub one_number : (left right name : List ℕ) (found : ℤ) → left ≡ name ++ codes ":" →
     ((value : ℤ) → Spells right value ↔ (Some found ≡ Some value)) →
     (meaning : Meaning) → PartsMean left right meaning ↔ (Some (number name found) ≡ Some meaning)
-one_number left right name found ends spells (text _ _) = (λ meant. absurd (meant.2 (name, ends)), λ same. cc)
+one_number left right name found ends spells (text _ _) =
+    (λ meant. absurd (meant.2 (name, ends)), λ same. cc)
 one_number left right name found ends spells (number other value) = (
   λ meant.
       let names = append_cancel_right name other (codes ":") (sym ends ∙ meant.0) in
@@ -29,7 +31,8 @@ one_number left right name found ends spells (number other value) = (
 one_number left right name found ends spells (list _ _) = (λ meant. absurd meant, λ same. cc)
 
 -- a part that ends in neither means a text
-pub plain_text : (left right : List ℕ) → ¬ (EndsIn (codes ":") left) → ¬ (EndsIn (codes "[]") left) →
+pub plain_text : (left right : List ℕ) →
+    ¬ (EndsIn (codes ":") left) → ¬ (EndsIn (codes "[]") left) →
     (meaning : Meaning) → PartsMean left right meaning ↔ (Some (text left right) ≡ Some meaning)
 plain_text left right no_colon no_brackets (text name value) = (
   λ meant. let names = meant.0 in let texts = meant.1 in cc,

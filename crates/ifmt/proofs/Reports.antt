@@ -14,7 +14,8 @@ use Rattle.ifmt.specs.Run.{line, Runs, Prints, Tells}
 module _ {Z : Type 0} (m : Meaning) (out_old out_new err_old err_new : Option (List ℕ)) where
   -- a text that was printed is the meaning's
   prints : (outcome : Result (String Z) Error) → Formats m outcome → Keeps err_old err_new →
-      IsOkAnd outcome (λ text. Appends out_old out_new (line (string_bytes text))) → Prints m out_old out_new err_old err_new
+      IsOkAnd outcome (λ text. Appends out_old out_new (line (string_bytes text))) →
+      Prints m out_old out_new err_old err_new
   prints (Ok text) formats kept printed =
       let bytes : encode_utf8_all (text_of m.text) ≡ string_bytes text =
       ap encode_utf8_all (sym formats.1) ∙ encodes-chars _ (IsUtf8-string_bytes text) in
@@ -23,14 +24,22 @@ module _ {Z : Type 0} (m : Meaning) (out_old out_new err_old err_new : Option (L
 
   -- an error that was told is the meaning's fault, or want of memory
   tells : (outcome : Result (String Z) Error) → Formats m outcome → Keeps out_old out_new →
-      IsErrAnd outcome (λ error. Appends err_old err_new (line (error_text error))) → Tells m out_old out_new err_old err_new
+      IsErrAnd outcome (λ error. Appends err_old err_new (line (error_text error))) →
+      Tells m out_old out_new err_old err_new
   tells (Ok _) formats kept told = absurd told
   tells (Err error) formats kept told =
-      record { answer = answer_of error; why = elim formats [ inl e ↦ inr e | inr e ↦ inl e ]; out = kept; err = told }
+      record {
+        answer = answer_of error;
+        why = elim formats [ inl e ↦ inr e | inr e ↦ inl e ];
+        out = kept;
+        err = told;
+      }
 
   pub runs : (outcome : Result (String Z) Error) (status : ℕ) → Formats m outcome →
-      (status ≡ 0 → Keeps err_old err_new × IsOkAnd outcome (λ text. Appends out_old out_new (line (string_bytes text)))) →
-      (status ≡ 1 → Keeps out_old out_new × IsErrAnd outcome (λ error. Appends err_old err_new (line (error_text error)))) →
+      (status ≡ 0 → Keeps err_old err_new
+      × IsOkAnd outcome (λ text. Appends out_old out_new (line (string_bytes text)))) →
+      (status ≡ 1 → Keeps out_old out_new
+      × IsErrAnd outcome (λ error. Appends err_old err_new (line (error_text error)))) →
       (status ≡ 0) ⊎ (status ≡ 1) ⊎ (status ≡ 3) → Runs m out_old out_new err_old err_new status
   runs outcome status formats printed told other =
       record {

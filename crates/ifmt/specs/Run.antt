@@ -26,7 +26,8 @@ module _ (m : Meaning) (out_old out_new err_old err_new : Option (List ℕ)) whe
     pub out : Appends out_old out_new (line (encode_utf8_all (text_of m.text)))
     pub err : Keeps err_old err_new
 
-  -- the text of the meaning's fault, or of want of memory, went to `err` as a line, and nothing to `out`
+  -- the text of the meaning's fault, or of want of memory, went to `err` as a line, and nothing
+  -- to `out`
   pub record Tells : Type 0 where
     pub answer : Answer
     pub why : (Some answer ≡ option_map fault m.fault) ⊎ (answer ≡ no_memory)

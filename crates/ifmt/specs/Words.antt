@@ -53,3 +53,7 @@ pub record Means (word : List ℕ) (meaning : Meaning) : Type 0 where
   pub right : List ℕ
   pub cut : IsCut word left right
   pub meant : PartsMean left right meaning
+
+-- a word that means something
+abbrev pub IsGood : List ℕ → Type 0
+IsGood word = (meaning : Meaning) × Means word meaning

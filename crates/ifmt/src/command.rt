@@ -1,5 +1,9 @@
 //! A command line, answered.
 
+ghost use Rattle.std.specs.Prelude.{◌≡◌, ◌⊎◌, IfOk, MatchBool, MatchOption};
+ghost use Rattle.ifmt.specs.Words.{IsGood};
+ghost use Rattle.ifmt.specs.Command.{AllGood, Answers, IsFirstBad};
+
 use crate::run::{complain, report, run, usage};
 use crate::words::{Word, classify};
 use interpolator::{Bits, ContextMap, Error, View};
@@ -10,7 +14,10 @@ use std::io::Write;
 ///
 /// Without a format it writes the usage line, and at the first bad word a complaint, before any
 /// object is made. Gives the status of the program.
-pub fn answer<O: Write, E: Write>(alloc: Global, line: &[String], out: &mut O, err: &mut E) -> u8 {
+pub fn answer<O: Write, E: Write>(alloc: Global, line: &[String], out: &mut O, err: &mut E) -> u8
+    ensures { Answers line.now (O.contents out.old) (O.contents out.new)
+        (E.contents err.old) (E.contents err.new) result }
+{
     match line.split_first() {
         None => usage(err),
         Some((format, words)) => match first_bad(words) {
@@ -23,13 +30,26 @@ pub fn answer<O: Write, E: Write>(alloc: Global, line: &[String], out: &mut O, e
     }
 }
 
-fn first_bad(words: &[String]) -> Option<&str> {
+// The first word that means nothing.
+fn first_bad(words: &[String]) -> Option<&str>
+    ensures { MatchOption result (AllGood words.now) (λ bad. IsFirstBad words.now bad.now) }
+{
     for word in words {
-        if let Word::Bad = classify(word.as_str()) {
-            return Some(word.as_str());
+        let text = word.as_str();
+        if is_bad(text) {
+            return Some(text);
         }
     }
     None
+}
+
+fn is_bad(word: &str) -> bool
+    ensures { MatchBool result (¬ IsGood word.now) (IsGood word.now) }
+{
+    match classify(word) {
+        Word::Bad => true,
+        _ => false,
+    }
 }
 
 // Makes the objects of all words, then the context, and runs the format.
@@ -39,19 +59,30 @@ fn run_words<O: Write, E: Write>(
     words: &[String],
     out: &mut O,
     err: &mut E,
-) -> Result<u8, Error> {
-    let objects = objects_of(alloc, words)?;
+) -> Result<u8, Error>
+    ensures ok { IfOk result (λ status. (status ≡ 0) ⊎ (status ≡ 1) ⊎ (status ≡ 3)) }
+{
+    let words = classified(alloc, words)?;
+    let objects = objects_of(alloc, words.as_slice())?;
     let mut context = ContextMap::new(alloc);
     for (word, object) in words.iter().zip(&objects) {
-        fill(&mut context, classify(word.as_str()), object)?;
+        fill(&mut context, *word, object)?;
     }
     Ok(run(alloc, format, &context, out, err))
 }
 
-fn objects_of<'a>(alloc: Global, words: &'a [String]) -> Result<Vec<View<'a>>, Error> {
+fn classified<'a>(alloc: Global, words: &'a [String]) -> Result<Vec<Word<'a>>, Error> {
+    let mut classified = Vec::with_capacity(alloc, words.len())?;
+    for word in words {
+        classified.push(classify(word.as_str()))?;
+    }
+    Ok(classified)
+}
+
+fn objects_of<'a>(alloc: Global, words: &[Word<'a>]) -> Result<Vec<View<'a>>, Error> {
     let mut objects = Vec::with_capacity(alloc, words.len())?;
     for word in words {
-        objects.push(object_of(classify(word.as_str())))?;
+        objects.push(object_of(*word))?;
     }
     Ok(objects)
 }

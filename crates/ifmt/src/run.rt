@@ -33,7 +33,8 @@ pub fn run<C: Context, O: Write, E: Write>(
     out: &mut O,
     err: &mut E,
 ) -> u8
-    ensures { Runs (means C.Object.shows (environment (C.finds context.now)) (outermost (chars format.now)))
+    ensures { Runs
+        (means C.Object.shows (environment (C.finds context.now)) (outermost (chars format.now)))
         (O.contents out.old) (O.contents out.new) (E.contents err.old) (E.contents err.new) result }
 {
     report(interpolator::format(alloc, format, context), out, err)

@@ -16,5 +16,4 @@ pub mod Pieces
 pub mod Places
 pub mod Placing
 pub mod Runs
-pub mod SpecEquality
 pub mod TreeLemmas

@@ -1,4 +1,4 @@
--- An error told by the bytes of a missing name, and by its characters: one says what the other does.
+-- An error told by the bytes of a missing name, and by its characters: both say the same.
 use Rattle.std.proofs.Common.{◌≡◌, ℕ, List, refl, ap, sym, ◌∙◌, string_bytes, encode_utf8_all}
 use Rattle.std.specs.Str.{chars}
 use Rattle.std.proofs.lemmas.Str.{encodes-chars, IsUtf8-string_bytes}
@@ -25,22 +25,26 @@ answer_of_bytes (MissingValue _ _) = refl
 answer_of_bytes (UnsupportedOption _ _ _) = refl
 answer_of_bytes NoMemory = refl
 
-bytes_of_answer : (error : Error) → byte_answer_of error ≡ with_name encode_utf8_all (answer_of error)
+bytes_of_answer : (error : Error) →
+    byte_answer_of error ≡ with_name encode_utf8_all (answer_of error)
 unfolding with_name
 bytes_of_answer (MissingTraitImpl _ _) = refl
 bytes_of_answer (Fmt _ _) = refl
 bytes_of_answer (Parse _) = refl
 bytes_of_answer (MissingValue name place) =
-    ap (λ bytes. fault (missing_value bytes place)) (sym (encodes-chars _ (IsUtf8-string_bytes name)))
+    ap (λ bytes. fault (missing_value bytes place))
+    (sym (encodes-chars _ (IsUtf8-string_bytes name)))
 bytes_of_answer (UnsupportedOption _ _ _) = refl
 bytes_of_answer NoMemory = refl
 
 -- what is one in bytes is one in characters
-pub same_answers : (first second : Error) → byte_answer_of first ≡ byte_answer_of second → answer_of first ≡ answer_of second
+pub same_answers : (first second : Error) →
+    byte_answer_of first ≡ byte_answer_of second → answer_of first ≡ answer_of second
 same_answers first second same =
     answer_of_bytes first ∙ ap (with_name chars) same ∙ sym (answer_of_bytes second)
 
 -- and the other way round
-pub same_byte_answers : (first second : Error) → answer_of first ≡ answer_of second → byte_answer_of first ≡ byte_answer_of second
+pub same_byte_answers : (first second : Error) →
+    answer_of first ≡ answer_of second → byte_answer_of first ≡ byte_answer_of second
 same_byte_answers first second same =
     bytes_of_answer first ∙ ap (with_name encode_utf8_all) same ∙ sym (bytes_of_answer second)

@@ -8,10 +8,12 @@ use Rattle.interpolator.specs.Trees.{Tree, tree_of}
 use Rattle.interpolator.specs.declared.slots.Formattable.{Formattable}
 
 -- the tree under the name, in a map whose keys are lent texts
-abbrev pub found_by_str : {X S : Type 0} → HashMap (Bor (List ℕ)) (Formattable X) S → List ℕ → Option (Tree X)
+abbrev pub found_by_str : {X S : Type 0} → HashMap (Bor (List ℕ)) (Formattable X) S → List ℕ
+    → Option (Tree X)
 found_by_str map name =
     option_map tree_of (get_by (λ key. bytes_eq (encode_utf8_all name) key.now) map)
 
 -- the tree under the name, in a map whose keys are owned texts
-abbrev pub found_by_text : {X A S : Type 0} → HashMap (String A) (Formattable X) S → List ℕ → Option (Tree X)
+abbrev pub found_by_text : {X A S : Type 0} → HashMap (String A) (Formattable X) S → List ℕ
+    → Option (Tree X)
 found_by_text map name = option_map tree_of (get_by_text map (encode_utf8_all name))

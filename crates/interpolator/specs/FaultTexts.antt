@@ -35,30 +35,40 @@ parse_fault_text (unclosed place) =
 parse_fault_text (expected text place) =
     codes "Expected `" ++ (text ++ (codes "` at " ++ decimal place))
 parse_fault_text (invalid_width kind place) =
-    codes "Unable to parse width at " ++ (decimal place ++ (codes " as usize: " ++ number_text kind))
+    codes "Unable to parse width at "
+    ++ (decimal place ++ (codes " as usize: " ++ number_text kind))
 parse_fault_text (invalid_precision kind place) =
-    codes "Unable to parse precision at " ++ (decimal place ++ (codes " as usize: " ++ number_text kind))
+    codes "Unable to parse precision at "
+    ++ (decimal place ++ (codes " as usize: " ++ number_text kind))
 parse_fault_text (fill place) =
-    codes "Fill is not supported due to https://github.com/rust-lang/rfcs/pull/3394 at " ++ decimal place
+    codes "Fill is not supported due to https://github.com/rust-lang/rfcs/pull/3394 at "
+    ++ decimal place
 parse_fault_text (iter place) =
     codes "Width, precision, `-`, `+` and `#` are not supported for `i` at " ++ decimal place
 parse_fault_text (range_bound kind place) =
-    codes "Unable to parse range bound at " ++ (decimal place ++ (codes " as isize: " ++ number_text kind))
+    codes "Unable to parse range bound at "
+    ++ (decimal place ++ (codes " as isize: " ++ number_text kind))
 
 -- which option wants which feature
 abbrev pub unsupported_text : List ℕ → List ℕ → ℕ → List ℕ
 unsupported_text option feature place =
-    codes "option `" ++ (option ++ (codes "` is not supported without feature `" ++ (feature ++ (codes "` at " ++ decimal place))))
+    codes "option `"
+    ++ (option ++ (codes "` is not supported without feature `"
+    ++ (feature ++ (codes "` at " ++ decimal place))))
 
 -- why a format has no text
 abbrev pub fault_text : Fault → List ℕ
 fault_text (missing_trait_impl wanted place) =
-    codes "trait `" ++ (trait_name wanted ++ (codes "` not implemented, used by format argument at " ++ decimal place))
+    codes "trait `"
+    ++ (trait_name wanted ++ (codes "` not implemented, used by format argument at "
+    ++ decimal place))
 fault_text (fmt place) =
-    codes "error while formatting at " ++ (decimal place ++ codes ": an error occurred when formatting an argument")
+    codes "error while formatting at "
+    ++ (decimal place ++ codes ": an error occurred when formatting an argument")
 fault_text (parse refused) = codes "error while parsing input: " ++ parse_fault_text refused
 fault_text (missing_value name place) =
-    codes "specified value not in context `" ++ (encode_utf8_all name ++ (codes "` at " ++ decimal place))
+    codes "specified value not in context `"
+    ++ (encode_utf8_all name ++ (codes "` at " ++ decimal place))
 fault_text (unsupported_option option feature place) = unsupported_text option feature place
 
 -- a fault's text, or that memory was refused

@@ -48,7 +48,8 @@ answer_of (MissingTraitImpl wanted place) = fault (missing_trait_impl wanted pla
 answer_of (Fmt _ place) = fault (fmt place)
 answer_of (Parse error) = fault (parse (parse_fault_of error))
 answer_of (MissingValue name place) = fault (missing_value (chars (string_bytes name)) place)
-answer_of (UnsupportedOption option feature place) = fault (unsupported_option option.now feature.now place)
+answer_of (UnsupportedOption option feature place) =
+    fault (unsupported_option option.now feature.now place)
 answer_of NoMemory = no_memory
 
 -- what a call answered beside its result: nothing for `Ok`

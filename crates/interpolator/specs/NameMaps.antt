@@ -1,5 +1,6 @@
 -- A map from names, which are lists of characters, and what a loan of a value leaves in it.
-use Rattle.std.specs.Prelude.{◌≡◌, ◌≢◌, ℕ, ◌+◌, List, Option, Some, Result, MatchOption, is_some, if◌then◌else◌}
+use Rattle.std.specs.Prelude.{◌≡◌, ◌≢◌, ℕ, ◌+◌, List, Option, Some, Result, MatchOption, is_some}
+use Rattle.std.specs.Prelude.{if◌then◌else◌}
 use Rattle.std.specs.Option.{option_map, OnSome}
 use Rattle.std.specs.Str.{encode_utf8_all}
 use Rattle.std.specs.HashMap.{hash_map_len, get_by_text}
@@ -40,12 +41,14 @@ module _ {T : Type 0} where
       MatchOption (under old name) (IsDefault lent) (λ value. lent ≡ value)
 
 -- once the loan ends, the last value written stands under the name; without a loan nothing changed
-abbrev pub LendsUnder : (T : RattleType) (map : MutBor (NameMap T.Denot)) (name : List ℕ) → Option (MutBor T.Denot) → Fml
+abbrev pub LendsUnder : (T : RattleType) (map : MutBor (NameMap T.Denot))
+    (name : List ℕ) → Option (MutBor T.Denot) → Fml
 LendsUnder T map name lent = LendsSo (the_row T) T map lent
     (λ new last. OnSome lent (HasPut map.now name last new)) (λ new. IsSame map.now new)
 
 -- the same of a call that lends or fails
-abbrev pub LendsEntry : {E : Type 0} (T : RattleType) (map : MutBor (NameMap T.Denot)) (name : List ℕ) → Result (MutBor T.Denot) E → Fml
+abbrev pub LendsEntry : {E : Type 0} (T : RattleType) (map : MutBor (NameMap T.Denot))
+    (name : List ℕ) → Result (MutBor T.Denot) E → Fml
 LendsEntry T map name lent = LendsSoOk (the_row T) T map lent
     (λ new last. HasPut map.now name last new) (λ new. IsSame map.now new)
 

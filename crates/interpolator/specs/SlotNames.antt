@@ -2,7 +2,8 @@
 use Rattle.std.specs.Prelude.{ℕ, List, [], ◌∷◌, ◌++◌, map, filter, Bool, is_some, codes, if◌then◌else◌}
 use Rattle.std.specs.List.{join_by}
 use Rattle.interpolator_render.specs.declared.view.Trait.{Trait}
-use Rattle.interpolator_render.specs.declared.view.Trait.TheVariants.{Binary, Debug, Display, LowerExp, LowerHex, Octal, UpperExp, UpperHex, Iter}
+use Rattle.interpolator_render.specs.declared.view.Trait.TheVariants.{Binary, Debug, Display, LowerExp}
+use Rattle.interpolator_render.specs.declared.view.Trait.TheVariants.{LowerHex, Octal, UpperExp, UpperHex, Iter}
 use Rattle.interpolator.specs.Trees.{Tree, slots, items, slot_at}
 
 -- the name of a trait's slot
@@ -19,7 +20,8 @@ slot_name Iter = codes "iter"
 
 -- the order in which the slots are named
 abbrev pub slot_order : List Trait
-slot_order = Debug ∷ Display ∷ Binary ∷ LowerExp ∷ LowerHex ∷ Octal ∷ UpperExp ∷ UpperHex ∷ Iter ∷ []
+slot_order =
+    Debug ∷ Display ∷ Binary ∷ LowerExp ∷ LowerHex ∷ Octal ∷ UpperExp ∷ UpperHex ∷ Iter ∷ []
 
 -- what stands before a name, and the name
 abbrev pub name_behind : Bool → List ℕ → List ℕ

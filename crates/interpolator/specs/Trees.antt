@@ -3,7 +3,8 @@ use Rattle.std.specs.Prelude.{List, [], ◌∷◌, map, Option, None, Some}
 use Rattle.std.specs.Option.{option_map, option_copied}
 use Rattle.std.specs.Borrow.{Bor}
 use Rattle.interpolator_render.specs.declared.view.Trait.{Trait}
-use Rattle.interpolator_render.specs.declared.view.Trait.TheVariants.{Binary, Debug, Display, LowerExp, LowerHex, Octal, UpperExp, UpperHex, Iter}
+use Rattle.interpolator_render.specs.declared.view.Trait.TheVariants.{Binary, Debug, Display, LowerExp}
+use Rattle.interpolator_render.specs.declared.view.Trait.TheVariants.{LowerHex, Octal, UpperExp, UpperHex, Iter}
 use Rattle.interpolator.specs.declared.slots.Formattable.{Formattable, Formattable-F, fold-Formattable}
 
 -- the eight optional values, one for each formatting trait

@@ -1,9 +1,11 @@
 //! A map from names that is built name by name.
-ghost use Rattle.std.specs.Prelude.{◌≡◌, ◌↔◌, ℕ, List, None, Some, Option, IsTrue, IfOk, IfErr, OnOk, OnErr};
+ghost use Rattle.std.specs.Prelude.{◌≡◌, ◌↔◌, ℕ, List, None, Some, Option, IsTrue};
+ghost use Rattle.std.specs.Prelude.{IfOk, IfErr, OnOk, OnErr};
 ghost use Rattle.std.specs.Option.{option_copied, option_copied_mut};
 ghost use Rattle.std.specs.Str.{chars};
 ghost use Rattle.std.specs.Borrow.{sem};
-ghost use Rattle.interpolator.specs.NameMaps.{under, name_count, found, HasPut, IsSame, HasAdded, IsEntry, LendsUnder, LendsEntry};
+ghost use Rattle.interpolator.specs.NameMaps.{under, name_count, found, HasPut, IsSame};
+ghost use Rattle.interpolator.specs.NameMaps.{HasAdded, IsEntry, LendsUnder, LendsEntry};
 
 use crate::context::{Context, copied};
 use crate::error::Error;
@@ -113,7 +115,8 @@ impl<T: Default + Drop> NameMap<T> {
     /// `NoMemory`, only for an absent name. The map is then as it was.
     pub fn entry(&mut self, name: &str) -> Result<&mut T, Error>
         ensures* writes_back { sem 𝓛 (LendsEntry T.row self.entry (chars name.now) result) }
-        ensures value { IfOk result (λ lent. IsEntry T.is_default self.old (chars name.now) lent.now) }
+        ensures value { IfOk result (λ lent.
+            IsEntry T.is_default self.old (chars name.now) lent.now) }
         ensures kind { IfErr result (λ error. error ≡ Error.NoMemory) }
         ensures absent { OnErr result (under self.old (chars name.now) ≡ None) }
     {

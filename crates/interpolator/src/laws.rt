@@ -4,7 +4,6 @@ ghost use Rattle.std.specs.Prelude.{◌≡◌, ◌↔◌, IsTrue};
 ghost use Rattle.interpolator.specs.Faults.{answer_of, parse_fault_of};
 
 use crate::error::{Error, NumberError, ParseError};
-use interpolator_render::{Spec, Trait};
 
 /// Tests whether two errors are equal: exactly where their variants and fields are.
 pub fn is_same_error(error: &Error, other: &Error) -> bool
@@ -26,18 +25,4 @@ pub fn is_same_number_error(kind: &NumberError, other: &NumberError) -> bool
     ensures { IsTrue result ↔ (kind.now ≡ other.now) }
 {
     *kind == *other
-}
-
-/// Tests whether two traits are equal: exactly where their variants are.
-pub fn is_same_trait(wanted: &Trait, other: &Trait) -> bool
-    ensures { IsTrue result ↔ (wanted.now ≡ other.now) }
-{
-    *wanted == *other
-}
-
-/// Tests whether two specs are equal: exactly where all their fields are.
-pub fn is_same_spec(spec: &Spec, other: &Spec) -> bool
-    ensures { IsTrue result ↔ (spec.now ≡ other.now) }
-{
-    *spec == *other
 }

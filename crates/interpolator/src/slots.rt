@@ -1,7 +1,8 @@
 //! A value's slots: which traits a format may write it with.
 ghost use Rattle.std.specs.Prelude.{◌≡◌, map, ⊤};
 ghost use Rattle.std.specs.Option.{option_copied};
-ghost use Rattle.interpolator.specs.Trees.{tree_of, slots, items, slot_at, trees_behind, empty_tree};
+ghost use Rattle.interpolator.specs.Trees.{tree_of, empty_tree};
+ghost use Rattle.interpolator.specs.Trees.{slots, items, slot_at, trees_behind};
 ghost use Rattle.interpolator.specs.Trees.{with_debug_display, with_debug, with_display};
 ghost use Rattle.interpolator.specs.Trees.{with_integer, with_float, with_binary, with_iter};
 ghost use Rattle.interpolator.specs.Trees.{with_lower_exp, with_lower_hex, with_octal};

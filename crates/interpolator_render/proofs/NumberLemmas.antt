@@ -4,7 +4,7 @@ use Rattle.interpolator_render.specs.declared.view.Spec.{Spec}
 use Rattle.interpolator_render.specs.Exponent.{exponent_tail, exponent_text, pointed, scientific}
 use Rattle.interpolator_render.specs.Padding.{missing_to, padded_number, IsNumberLayout}
 
-bool_cases : (b : Bool) → (b ≡ true) ⊎ (b ≡ false)
+pub bool_cases : (b : Bool) → (b ≡ true) ⊎ (b ≡ false)
 bool_cases true = inl refl
 bool_cases false = inr refl
 

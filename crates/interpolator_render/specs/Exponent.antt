@@ -1,4 +1,4 @@
-use Rattle.std.specs.Prelude.{ℕ, ◌+◌, ◌-◌, ◌*◌, ◌/◌, ◌%◌, ◌^◌, Bool, false, List, [], ◌∷◌, ◌++◌, length, replicate, Option, Some, None, if◌then◌else◌, ◌==◌, ◌&&◌, nat_lt}
+use Rattle.std.specs.Prelude.{ℕ, ◌+◌, ◌-◌, ◌*◌, ◌/◌, ◌%◌, ◌^◌, ◌≤◌, ◌≡◌, Bool, false, List, [], ◌∷◌, ◌++◌, length, replicate, Option, Some, None, if◌then◌else◌, ◌==◌, ◌&&◌, nat_lt}
 use Rattle.interpolator_render.specs.Digits.{digit_text}
 
 -- the digits of a number in exponent form, and the exponent of the first
@@ -60,3 +60,12 @@ exponent_tail upper exponent = (if upper then 69 else 101) ∷ digit_text 10 fal
 unfoldable pub exponent_text : Bool → Option ℕ → ℕ → List ℕ
 exponent_text upper precision n =
     pointed (scientific precision n).digits ++ exponent_tail upper (scientific precision n).exponent
+
+-- how far two numbers lie apart
+abbrev pub distance : ℕ → ℕ → ℕ
+distance m n = (m - n) + (n - m)
+
+-- a number of units that lies nearest to n, an even one where two lie as near
+pub record IsNearest (n unit count : ℕ) : Type 0 where
+  pub near : 2 * distance n (count * unit) ≤ unit
+  pub even : 2 * distance n (count * unit) ≡ unit → count % 2 ≡ 0

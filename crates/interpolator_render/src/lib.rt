@@ -4,6 +4,7 @@
 mod characters;
 mod digits;
 mod exponent;
+pub mod laws;
 mod layout;
 mod number;
 mod quoting;

@@ -40,10 +40,7 @@ impl TextBuffer {
     pub fn new(alloc: Global) -> TextBuffer
         ensures { result ≡ record { text = []; refused = false } }
     {
-        TextBuffer {
-            text: String::new(alloc),
-            refused: false,
-        }
+        TextBuffer::from_string(String::new(alloc))
     }
 
     /// A buffer that holds this text already.

@@ -8,4 +8,8 @@ mod formats;
 #[cfg(test)]
 mod limited;
 #[cfg(test)]
+mod render;
+#[cfg(test)]
 mod users;
+#[cfg(test)]
+mod values;

@@ -92,10 +92,19 @@ fn row(alloc: Global, out: &mut TextBuffer, name: &str, n: Option<u64>) -> Resul
 #[test]
 fn users_write_formats(rt: HostRuntime) -> Result<(), Fail> {
     let alloc = rt.alloc();
-    assert_eq!(rt; greeting(alloc, "Ann", "Oslo")?.as_str(), "Hello Ann, how is Oslo?");
+    assert_eq!(rt;
+        greeting(alloc, "Ann", "Oslo")?.as_str(),
+        "Hello Ann, how is Oslo?"
+    );
     assert_eq!(rt; count(alloc, "Ann", -7)?.as_str(), "Ann has {-7} apples");
-    assert_eq!(rt; owned(alloc, "first", &[18_446_744_073_709_551_615])?.as_str(), "first: 18446744073709551615");
-    assert_eq!(rt; listed(alloc, "numbers", 1, -5)?.as_str(), "numbers: 1 up to -5");
+    assert_eq!(rt;
+        owned(alloc, "first", &[18_446_744_073_709_551_615])?.as_str(),
+        "first: 18446744073709551615"
+    );
+    assert_eq!(rt;
+        listed(alloc, "numbers", 1, -5)?.as_str(),
+        "numbers: 1 up to -5"
+    );
     Ok(())
 }
 

@@ -19,7 +19,8 @@ returns-in-Some-number_of c =
     let spelled = c.in-Some-number_of.ensures in
     let ends = strip_suffix_char 58 c.args.left.now (Some name) c.in-Some.ensures.cases (lit< tt) in
     let fits : FitsSigned w128 found = ((spelled found).1 refl).fits in
-    rw (to_z-of_z w128 found fits) (one_number c.args.left.now c.args.right.now name.now found ends spelled)
+    rw (to_z-of_z w128 found fits)
+    (one_number c.args.left.now c.args.right.now name.now found ends spelled)
 
 pub returns : goal.returns
 returns c =

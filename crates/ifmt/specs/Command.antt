@@ -1,0 +1,42 @@
+-- What a command line is answered with.
+use Rattle.std.specs.Prelude.{◌≡◌, ℕ, List, [], ◌∷◌, ◌++◌, All, Option, string_bytes, ◌⊎◌}
+use Rattle.std.specs.Io.KnownBytes.{Appends, Keeps}
+use Rattle.std.specs.declared.string.String.{String}
+use Rattle.ifmt.specs.Words.{IsGood}
+use Rattle.ifmt.specs.Run.{complaint, usage_line}
+
+module _ {Z : Type 0} where
+  -- each of the words means something
+  abbrev pub AllGood : List (String Z) → Type 0
+  AllGood words = All (λ word. IsGood (string_bytes word)) words
+
+  -- the first of the words that means nothing
+  pub record IsFirstBad (words : List (String Z)) (bad : List ℕ) : Type 0 where
+    pub before : List (String Z)
+    pub word : String Z
+    pub behind : List (String Z)
+    pub split : words ≡ before ++ (word ∷ behind)
+    pub good : AllGood before
+    pub spelled : string_bytes word ≡ bad
+    pub none : ¬ (IsGood bad)
+
+  -- what a wrong command line is told: with no format, how the program is called, and with a bad
+  -- word, the first of them
+  pub data IsTold : List (String Z) → List ℕ → Type 0 where
+    no_format : IsTold [] usage_line
+    bad_word : {format : String Z} {words : List (String Z)} {bad : List ℕ} →
+        IsFirstBad words bad → IsTold (format ∷ words) (complaint bad)
+
+  -- a format and words that all mean something
+  abbrev pub IsSound : List (String Z) → Type 0
+  IsSound [] = ⊥
+  IsSound (format ∷ words) = AllGood words
+
+  -- 2 only where a wrong command line was told what is wrong, and nothing went to `out`; 0 and 1
+  -- only where a sound one was run; else 3
+  pub record Answers (line : List (String Z)) (out_old out_new err_old err_new : Option (List ℕ))
+      (status : ℕ) : Type 0 where
+    pub wrong : status ≡ 2 →
+        (text : List ℕ) × IsTold line text × Keeps out_old out_new × Appends err_old err_new text
+    pub sound : (status ≡ 0) ⊎ (status ≡ 1) → IsSound line
+    pub other : (status ≡ 0) ⊎ (status ≡ 1) ⊎ (status ≡ 2) ⊎ (status ≡ 3)

@@ -1,0 +1,93 @@
+//! What the definitions that the contracts cite say in other words: laws, proved once for all
+//! values. Their bodies are empty, and their contracts are the laws.
+ghost use Rattle.std.specs.Prelude.{◌≡◌, ◌+◌, ◌-◌, ◌*◌, ◌^◌, ◌<◌, ◌≤◌, ◌≢◌, ◌↔◌, ◌++◌, ◌+ℤ◌, ◌*ℤ◌, max, ℕ, ℤ, pos, Bool, List, None, IsTrue, true, false, length, replicate, slice_index, unwrap_or};
+ghost use Rattle.std.specs.Str.Parse.{digits_value};
+ghost use Rattle.interpolator_render.specs.declared.view.Bits.{Bits};
+ghost use Rattle.interpolator_render.specs.declared.view.Spec.{Spec};
+ghost use Rattle.interpolator_render.specs.Digits.{digit_text};
+ghost use Rattle.interpolator_render.specs.Exponent.{exponent_of, nearest, trimmed, IsNearest};
+ghost use Rattle.interpolator_render.specs.Numbers.{twos_complement};
+ghost use Rattle.interpolator_render.specs.Padding.{padded_number, padded_text, displayed_text};
+ghost use Rattle.interpolator_render.specs.Views.{bit_count};
+ghost use Rattle.interpolator_render.specs.Written.{Written, Appends};
+
+use crate::view::{Alignment, HexDebug, Sign, Spec, Trait};
+
+/// The digits of a number, read back in their base, are the number, and the first is no zero but
+/// for zero itself.
+pub fn digits_read_back()
+    ensures value { (base n : ℕ) (upper : Bool) → 2 ≤ base → base ≤ 16
+        → digits_value base (digit_text base upper n) ≡ n }
+    ensures first { (base n : ℕ) (upper : Bool) → 2 ≤ base → base ≤ 16 → 0 < n
+        → slice_index (digit_text base upper n) 0 ≢ 48 }
+{}
+
+/// The exponent of a number above zero is the greatest whose power of ten is at most the number.
+pub fn exponent_bounds()
+    ensures { (n : ℕ) → 0 < n → (10 ^ exponent_of n ≤ n) × (n < 10 ^ (exponent_of n + 1)) }
+{}
+
+/// A rounded number of units lies within half a unit, and is even where it lies just so far; no
+/// other does and is.
+pub fn rounding_is_to_nearest()
+    ensures nearest { (n unit : ℕ) → 0 < unit → IsNearest n unit (nearest n unit) }
+    ensures only { (n unit count : ℕ) → 0 < unit → IsNearest n unit count
+        → count ≡ nearest n unit }
+{}
+
+/// Digits are those that remain of them without the zeros at their end, and those zeros.
+pub fn trimmed_digits()
+    ensures { (digits : List ℕ)
+        → (count : ℕ) × (digits ≡ trimmed digits ++ replicate count 48) }
+{}
+
+/// A padded text has as many characters as the width says, or all its own where they are more.
+pub fn padded_counts()
+    ensures texts { (spec : Spec) (text : List ℕ)
+        → length (padded_text spec text) ≡ max (unwrap_or spec.width 0) (length text) }
+    ensures numbers { (spec : Spec) (front body : List ℕ)
+        → length (padded_number spec front body)
+        ≡ max (unwrap_or spec.width 0) (length front + length body) }
+{}
+
+/// Without precision, a text that `pad` wrote whole has added as many characters as the width says,
+/// or all its own where they are more.
+pub fn pad_adds()
+    ensures { (spec : Spec) (text : List ℕ) (old new : Written) → spec.precision ≡ None
+        → Appends old (displayed_text spec text) new
+        → length new.text ≡ length old.text + max (unwrap_or spec.width 0) (length text) }
+{}
+
+/// Two's complement at a width is the one number below 2 to the width that differs from the number
+/// by a multiple of it.
+pub fn twos_complement_is_congruent()
+    ensures below { (z : ℤ) (bits : Bits) → twos_complement z bits < 2 ^ bit_count bits }
+    ensures congruent { (z : ℤ) (bits : Bits) → (turns : ℤ)
+        × (z ≡ (turns *ℤ pos (2 ^ bit_count bits)) +ℤ pos (twos_complement z bits)) }
+{}
+
+/// Two traits are equal exactly where they are the same variant.
+pub fn equal_traits(left: Trait, right: Trait) -> bool
+    ensures { IsTrue result ↔ (left ≡ right) }
+{
+    left == right
+}
+
+/// Two specs are equal exactly where all their fields are.
+pub fn equal_specs(one: Spec, other: Spec) -> bool
+    ensures { IsTrue result ↔ (one ≡ other) }
+{
+    one == other
+}
+
+/// By default nothing is set.
+pub fn default_spec() -> Spec
+    ensures alignment { result.alignment ≡ Alignment.Unset }
+    ensures sign { result.sign ≡ Sign.Unset }
+    ensures flags { (result.alternate ≡ false) × (result.zero ≡ false) }
+    ensures width { result.width ≡ None }
+    ensures precision { result.precision ≡ None }
+    ensures hex_debug { result.hex_debug ≡ HexDebug.No }
+{
+    Spec::default()
+}

@@ -1,0 +1,23 @@
+//! The rows of `render`: what they hold.
+
+use interpolator_render::{Alignment, HexDebug, Sign, Spec, Trait, View};
+
+/// A view and how it is written, and the text that has to come.
+#[derive(Clone, Copy)]
+pub(crate) struct Row<'a> {
+    pub(crate) view: View<'a>,
+    pub(crate) t: Trait,
+    pub(crate) spec: Spec,
+    pub(crate) text: &'a str,
+}
+
+/// Nothing set.
+pub(crate) const PLAIN: Spec = Spec {
+    alignment: Alignment::Unset,
+    sign: Sign::Unset,
+    alternate: false,
+    zero: false,
+    width: None,
+    precision: None,
+    hex_debug: HexDebug::No,
+};
