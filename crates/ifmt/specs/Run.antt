@@ -1,5 +1,6 @@
 -- What the program writes, as bytes, and what its statuses say.
-use Rattle.std.specs.Prelude.{◌≡◌, ℕ, List, [], ◌∷◌, ◌++◌, codes, encode_utf8_all, Option, None, Some, option_map, ◌⊎◌}
+use Rattle.std.specs.Prelude.{◌≡◌, ℕ, List, [], ◌∷◌, ◌++◌, codes, encode_utf8_all, Option, None}
+use Rattle.std.specs.Prelude.{Some, option_map, ◌⊎◌}
 use Rattle.std.specs.Io.KnownBytes.{Appends, Keeps}
 use Rattle.interpolator.specs.At.{text_of}
 use Rattle.interpolator.specs.Faults.{Answer, fault, no_memory}

@@ -1,5 +1,6 @@
 -- The words of the command line: what each means, by its bytes.
-use Rattle.std.specs.Prelude.{◌≡◌, ℕ, ℤ, pos, neg_ℤ, List, ◌∷◌, ◌++◌, codes, Contains, FitsSigned, Option, None, Some, ◌⊎◌}
+use Rattle.std.specs.Prelude.{◌≡◌, ℕ, ℤ, pos, neg_ℤ, List, ◌∷◌, ◌++◌, codes, Contains, FitsSigned}
+use Rattle.std.specs.Prelude.{Option, None, Some, ◌⊎◌}
 use Rattle.std.specs.Int.{w128}
 use Rattle.std.specs.Str.Parse.{IsNumeral, digits_value}
 use Rattle.ifmt.specs.declared.words.Word.{Word}

@@ -1,3 +1,4 @@
+-- The characters of a text, and its bytes.
 use Rattle.std.proofs.Common.{◌≡◌, ℕ, ◌+◌, List, [], ◌∷◌, ◌++◌, length, arith, refl, drop, ◌<◌, ap, ◌∙◌, sym}
 use Rattle.std.specs.Str.{chars, IsUtf8}
 use Rattle.std.specs.Char.{encode_utf8, len_utf8}
@@ -36,3 +37,9 @@ size_of_chars bs u = sym (size-chars bs u)
 
 pub no_chars : (bs : List ℕ) → chars (drop (length bs) bs) ≡ []
 no_chars bs = ap chars (drop-length bs) ∙ chars-nil
+
+-- what the first character leaves of a text
+pub ruleset first_character = (chars_of_next, chars_of_end, length_of_next, shorter_after, nil_of_end)
+
+-- what all of the characters leave
+pub ruleset all_characters = (size_of_chars, no_chars)

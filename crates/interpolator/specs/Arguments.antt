@@ -1,5 +1,6 @@
 -- What stands behind an opening brace.
-use Rattle.std.specs.Prelude.{ℕ, ◌==◌, if◌then◌else◌, List, [], ◌∷◌, false, Option, None, Result, Ok, Err, codes}
+use Rattle.std.specs.Prelude.{ℕ, ◌==◌, if◌then◌else◌, List, [], ◌∷◌, false, Option, None, Result}
+use Rattle.std.specs.Prelude.{Ok, Err, codes}
 use Rattle.std.specs.Str.{chars}
 use Rattle.interpolator_render.specs.declared.view.Trait.{Trait}
 use Rattle.interpolator_render.specs.declared.view.Trait.TheVariants.{Display}
@@ -30,16 +31,26 @@ pub record Argument : Type 0 where
 
 -- nothing is set
 abbrev pub plain_spec : Spec
-plain_spec = record { alignment = Unset; sign = NoSign; alternate = false; zero = false; width = None; precision = None; hex_debug = No }
+plain_spec = record {
+  alignment = Unset;
+  sign = NoSign;
+  alternate = false;
+  zero = false;
+  width = None;
+  precision = None;
+  hex_debug = No;
+}
 
 -- plain display of a name
 abbrev pub plain_argument : List ℕ → ℕ → Argument
-plain_argument name place = record { name = name; name_place = place; spec = plain_spec; kind = of_value Display }
+plain_argument name place =
+    record { name = name; name_place = place; spec = plain_spec; kind = of_value Display }
 
 -- what follows a name that ends at q, before these characters
 abbrev pub after_name : (start : ℕ) → Argument → (q : At) → List ℕ → Result (Argument × At) Fault
 after_name start x q [] = Err (parse (unclosed start))
-after_name start x q (c ∷ cs) = if c == close_brace then Ok (x, q) else Err (parse (expected (codes "}") q.place))
+after_name start x q (c ∷ cs) =
+    if c == close_brace then Ok (x, q) else Err (parse (expected (codes "}") q.place))
 
 -- the name begins behind the white space, and ends before the first colon or closing brace
 abbrev pub named_from : (start : ℕ) → At → Result (Argument × At) Fault
@@ -47,7 +58,8 @@ named_from start a =
     let end = behind (in_class Name) a in
     after_name start (plain_argument (front_of (in_class Name) a.text) a.place) end end.text
 
--- the argument that begins here, behind its brace, and what stands behind its spec; or why it is broken
+-- the argument that begins here, behind its brace, and what stands behind its spec; or why it is
+-- broken
 unfoldable pub argument_at : At → Result (Argument × At) Fault
 argument_at a = named_from a.place (behind (in_class WhiteSpace) a)
 
@@ -56,8 +68,14 @@ abbrev pub kind_of : code_kind.Kind → Kind
 kind_of (Value t) = of_value t
 
 abbrev pub argument_of : code_argument.Argument → Argument
-argument_of x = record { name = chars x.name.now; name_place = x.name_place; spec = x.spec; kind = kind_of x.kind }
+argument_of x = record {
+  name = chars x.name.now;
+  name_place = x.name_place;
+  spec = x.spec;
+  kind = kind_of x.kind;
+}
 
-abbrev pub argument_read : Result (code_argument.Argument × Cursor) ParseError → Result (Argument × At) Fault
+abbrev pub argument_read : Result (code_argument.Argument × Cursor) ParseError
+    → Result (Argument × At) Fault
 argument_read (Ok x) = Ok (argument_of x.0, at x.1)
 argument_read (Err e) = Err (parse (parse_fault_of e))

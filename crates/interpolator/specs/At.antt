@@ -1,5 +1,6 @@
 -- Places in the outermost format text, counted in bytes, and the characters from there on.
-use Rattle.std.specs.Prelude.{ℕ, Bool, ◌+◌, ◌==◌, if◌then◌else◌, List, [], ◌∷◌, map, Option, Some, None}
+use Rattle.std.specs.Prelude.{ℕ, Bool, ◌+◌, ◌==◌, if◌then◌else◌, List, [], ◌∷◌, map, Option, Some}
+use Rattle.std.specs.Prelude.{None}
 use Rattle.std.specs.Char.{len_utf8}
 use Rattle.std.specs.Str.{chars}
 use Rattle.interpolator.specs.Classes.{front_of, behind_of}
@@ -49,7 +50,8 @@ first a = first_of a.place a.text
 
 -- what stands behind the longest front whose characters pass
 abbrev pub behind : (ℕ → Bool) → At → At
-behind passes a = record { place = a.place + size (front_of passes a.text); text = behind_of passes a.text }
+behind passes a =
+    record { place = a.place + size (front_of passes a.text); text = behind_of passes a.text }
 
 -- what stands behind the character c, where the text begins with it
 abbrev pub strip_of : ℕ → ℕ → List ℕ → Option At

@@ -1,9 +1,11 @@
 -- What names mean while a format is written.
-use Rattle.std.specs.Prelude.{ℕ, List, [], ◌∷◌, Option, None, Some, Bool, false, ◌||◌, if◌then◌else◌}
+use Rattle.std.specs.Prelude.{ℕ, List, [], ◌∷◌, Option, None, Some, Bool, false, ◌||◌}
+use Rattle.std.specs.Prelude.{if◌then◌else◌}
 use Rattle.std.specs.Str.{bytes_eq}
 use Rattle.interpolator.specs.Trees.{Tree}
 
--- a context, at most one inner value, and at most one list of the names that the context may be asked for
+-- a context, at most one inner value, and at most one list of the names that the context may be
+-- asked for
 pub record Environment (X : Type 0) : Type 0 where
   pub finds : List ℕ → Option (Tree X)
   pub inner : Option (Tree X)

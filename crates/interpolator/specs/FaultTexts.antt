@@ -2,12 +2,19 @@
 use Rattle.std.specs.Prelude.{ℕ, List, ◌++◌, codes, encode_utf8_all}
 use Rattle.std.specs.Fmt.{decimal}
 use Rattle.interpolator_render.specs.declared.view.Trait.{Trait}
-use Rattle.interpolator_render.specs.declared.view.Trait.TheVariants.{Binary, Debug, Display, LowerExp, LowerHex, Octal, UpperExp, UpperHex, Iter}
+use Rattle.interpolator_render.specs.declared.view.Trait.TheVariants.{Binary, Debug, Display}
+use Rattle.interpolator_render.specs.declared.view.Trait.TheVariants.{LowerExp, LowerHex, Octal}
+use Rattle.interpolator_render.specs.declared.view.Trait.TheVariants.{UpperExp, UpperHex, Iter}
 use Rattle.interpolator.specs.declared.error.NumberError.{NumberError}
-use Rattle.interpolator.specs.declared.error.NumberError.TheVariants.{Empty, InvalidDigit, PosOverflow, NegOverflow}
+use Rattle.interpolator.specs.declared.error.NumberError.TheVariants.{Empty, InvalidDigit}
+use Rattle.interpolator.specs.declared.error.NumberError.TheVariants.{PosOverflow, NegOverflow}
 use Rattle.interpolator.specs.declared.error.ParseError.{ParseError}
 use Rattle.interpolator.specs.declared.error.Error.{Error}
-use Rattle.interpolator.specs.Faults.{ParseFault, Fault, Answer, unclosed, expected, invalid_width, invalid_precision, fill, iter, range_bound, missing_trait_impl, fmt, parse, missing_value, unsupported_option, fault, no_memory, parse_fault_of, answer_of}
+use Rattle.interpolator.specs.Faults.{ParseFault, Fault, Answer, unclosed, expected, invalid_width}
+use Rattle.interpolator.specs.Faults.{invalid_precision, fill, iter, range_bound}
+use Rattle.interpolator.specs.Faults.{missing_trait_impl, fmt, parse, missing_value}
+use Rattle.interpolator.specs.Faults.{unsupported_option, fault, no_memory, parse_fault_of}
+use Rattle.interpolator.specs.Faults.{answer_of}
 
 -- the name of a trait
 abbrev pub trait_name : Trait → List ℕ

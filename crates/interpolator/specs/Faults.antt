@@ -4,9 +4,13 @@ use Rattle.std.specs.Str.{chars}
 use Rattle.interpolator_render.specs.declared.view.Trait.{Trait}
 use Rattle.interpolator.specs.declared.error.NumberError.{NumberError}
 use Rattle.interpolator.specs.declared.error.ParseError.{ParseError}
-use Rattle.interpolator.specs.declared.error.ParseError.TheVariants.{FormatSpecUnclosed, Expected, InvalidWidth, InvalidPrecision, Fill, Iter, RangeBound}
+use Rattle.interpolator.specs.declared.error.ParseError.TheVariants.{FormatSpecUnclosed, Expected}
+use Rattle.interpolator.specs.declared.error.ParseError.TheVariants.{InvalidWidth, InvalidPrecision}
+use Rattle.interpolator.specs.declared.error.ParseError.TheVariants.{Fill, Iter, RangeBound}
 use Rattle.interpolator.specs.declared.error.Error.{Error}
-use Rattle.interpolator.specs.declared.error.Error.TheVariants.{MissingTraitImpl, Fmt, Parse, MissingValue, UnsupportedOption, NoMemory}
+use Rattle.interpolator.specs.declared.error.Error.TheVariants.{MissingTraitImpl, Fmt, Parse}
+use Rattle.interpolator.specs.declared.error.Error.TheVariants.{MissingValue, UnsupportedOption}
+use Rattle.interpolator.specs.declared.error.Error.TheVariants.{NoMemory}
 
 -- a fault of the format text: the bytes of a wanted text, and places
 pub data ParseFault : Type 0 where

@@ -1,6 +1,7 @@
 -- The pieces of a text as a relation: each is of the first kind that its place allows. And an
 -- argument as its parts, one behind the other.
-use Rattle.std.specs.Prelude.{◌≡◌, ◌≢◌, ℕ, ◌+◌, ◌≤◌, Bool, IsTrue, IsFalse, All, List, [], ◌∷◌, ◌++◌, Ok, Err, codes}
+use Rattle.std.specs.Prelude.{◌≡◌, ◌≢◌, ℕ, ◌+◌, ◌≤◌, Bool, IsTrue, IsFalse, All, List, [], ◌∷◌}
+use Rattle.std.specs.Prelude.{◌++◌, Ok, Err, codes}
 use Rattle.interpolator_render.specs.declared.view.Spec.{Spec}
 use Rattle.interpolator_render.specs.declared.view.Trait.TheVariants.{Display}
 use Rattle.interpolator.specs.At.{At, size}
@@ -8,7 +9,8 @@ use Rattle.interpolator.specs.Classes.{open_brace, close_brace, is_brace, in_cla
 use Rattle.interpolator.specs.Arguments.{Kind, of_value, Argument, plain_spec, argument_at}
 use Rattle.interpolator.specs.Faults.{Fault, parse, unclosed as unclosed_at, expected}
 use Rattle.interpolator.specs.declared.class.Class.TheVariants.{WhiteSpace, Name}
-use Rattle.interpolator.specs.Pieces.{PieceKind, Piece, literal, doubled, lone_close, closed, unclosed, broken}
+use Rattle.interpolator.specs.Pieces.{PieceKind, Piece, literal, doubled, lone_close, closed}
+use Rattle.interpolator.specs.Pieces.{unclosed, broken}
 
 -- how early a kind is tried, the earliest first
 abbrev pub rank : PieceKind → ℕ

@@ -6,14 +6,17 @@ use Rattle.interpolator_render.specs.Views.{Shown}
 use Rattle.interpolator_render.specs.Texts.{ViewText, has_text, is_missing, has_failed, view_text}
 use Rattle.interpolator.specs.At.{At, Placed, placed_at, placed_from}
 use Rattle.interpolator.specs.Classes.{close_brace}
-use Rattle.interpolator.specs.Faults.{Fault, missing_value, missing_trait_impl, fmt, parse, expected}
+use Rattle.interpolator.specs.Faults.{Fault, missing_value, missing_trait_impl, fmt, parse}
+use Rattle.interpolator.specs.Faults.{expected}
 use Rattle.interpolator.specs.Trees.{Tree, slots, slot_at}
 use Rattle.interpolator.specs.Environments.{Environment, given}
 use Rattle.interpolator.specs.Arguments.{Argument, Kind, of_value}
-use Rattle.interpolator.specs.Pieces.{Piece, PieceKind, literal, doubled, lone_close, closed, unclosed, broken, pieces}
+use Rattle.interpolator.specs.Pieces.{Piece, PieceKind, literal, doubled, lone_close, closed}
+use Rattle.interpolator.specs.Pieces.{unclosed, broken, pieces}
 use Rattle.interpolator.specs.Scans.{Scanned, literals, other}
 
--- a placed text, at most one fault, and the memory points: before how many characters memory is taken
+-- a placed text, at most one fault, and the memory points: before how many characters memory is
+-- taken
 pub record Meaning : Type 0 where
   pub text : Placed
   pub fault : Option Fault
@@ -37,7 +40,11 @@ ends_with_memory f = record { text = []; fault = Some f; memory_points = 0 ∷ [
 -- one behind the other, up to the first fault
 abbrev pub or_fault : Option Fault → Meaning → Meaning → Meaning
 or_fault (Some f) m k = m
-or_fault None m k = record { text = m.text ++ k.text; fault = k.fault; memory_points = m.memory_points ++ map (λ n. length m.text + n) k.memory_points }
+or_fault None m k = record {
+  text = m.text ++ k.text;
+  fault = k.fault;
+  memory_points = m.memory_points ++ map (λ n. length m.text + n) k.memory_points;
+}
 
 abbrev pub joined : Meaning → Meaning → Meaning
 joined m k = or_fault m.fault m k
@@ -49,7 +56,8 @@ view_means t q is_missing = ends (missing_trait_impl t q)
 view_means t q has_failed = ends (fmt q)
 
 -- what stands in a slot, where `shows` is what the value shows under a trait and a spec
-abbrev pub value_means : {X : Type 0} → (shows : X → Trait → Spec → Shown) → Trait → Spec → (q : ℕ) → Option X → Meaning
+abbrev pub value_means : {X : Type 0} → (shows : X → Trait → Spec → Shown)
+    → Trait → Spec → (q : ℕ) → Option X → Meaning
 value_means shows t spec q None = ends (missing_trait_impl t q)
 value_means shows t spec q (Some x) = view_means t q (view_text (shows x t spec) t spec)
 
@@ -72,7 +80,8 @@ module _ {X : Type 0} (shows : X → Trait → Spec → Shown) where
     piece_means p (doubled brace) = says ((brace, p) ∷ [])
     piece_means p lone_close = says ((close_brace, p) ∷ [])
     piece_means p (closed start x q) = argument_means start x q
-    piece_means p (unclosed start x q) = joined (argument_means start x q) (ends (parse (expected (codes "}") q)))
+    piece_means p (unclosed start x q) =
+        joined (argument_means start x q) (ends (parse (expected (codes "}") q)))
     piece_means p (broken f) = ends f
 
     -- the meanings of the pieces, joined up to the first fault

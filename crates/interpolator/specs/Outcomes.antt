@@ -1,5 +1,7 @@
 -- The three outcomes of writing what a format means.
-use Rattle.std.specs.Prelude.{◌≡◌, ℕ, ◌≤◌, List, [], ◌∷◌, ◌++◌, length, Contains, Option, None, Some, option_map, Bool, true, ◌⊎◌, ⊤, Result, MatchResult, string_bytes}
+use Rattle.std.specs.Prelude.{◌≡◌, ℕ, ◌≤◌, List, [], ◌∷◌, ◌++◌, length, Contains, Option, None}
+use Rattle.std.specs.Prelude.{Some, option_map, Bool, true, ◌⊎◌, ⊤, Result, MatchResult}
+use Rattle.std.specs.Prelude.{string_bytes}
 use Rattle.std.specs.Str.{chars}
 use Rattle.std.specs.declared.string.String.{String}
 use Rattle.interpolator_render.specs.Written.{Written, Appends}

@@ -1,5 +1,6 @@
 -- A format text in pieces.
-use Rattle.std.specs.Prelude.{ℕ, zero, suc, ◌+◌, ◌-◌, ◌==◌, if◌then◌else◌, List, [], ◌∷◌, ◌++◌, length, take, Option, Some, None, Result, Ok, Err}
+use Rattle.std.specs.Prelude.{ℕ, zero, suc, ◌+◌, ◌-◌, ◌==◌, if◌then◌else◌, List, [], ◌∷◌, ◌++◌}
+use Rattle.std.specs.Prelude.{length, take, Option, Some, None, Result, Ok, Err}
 use Rattle.std.specs.Char.{len_utf8}
 use Rattle.interpolator.specs.At.{At, strip, all_behind}
 use Rattle.interpolator.specs.Classes.{open_brace, close_brace}
@@ -26,7 +27,8 @@ pub record Step : Type 0 where
   pub rest : At
 
 abbrev pub step : ℕ → List ℕ → PieceKind → At → Step
-step p text kind rest = record { piece = record { place = p; text = text; kind = kind }; rest = rest }
+step p text kind rest =
+    record { piece = record { place = p; text = text; kind = kind }; rest = rest }
 
 -- from a brace at p on all the rest, which stands at b behind the brace
 abbrev pub takes_all : ℕ → At → PieceKind → Step
@@ -63,7 +65,8 @@ close_step p b None = step p (close_brace ∷ []) lone_close b
 abbrev pub piece_from : ℕ → ℕ → At → Step
 piece_from p c b =
     if c == open_brace then open_step p b (strip open_brace b)
-    else (if c == close_brace then close_step p b (strip close_brace b) else step p (c ∷ []) (literal c) b)
+    else (if c == close_brace then close_step p b (strip close_brace b)
+    else step p (c ∷ []) (literal c) b)
 
 -- what stands behind the character c at p
 abbrev pub past : ℕ → ℕ → List ℕ → At
@@ -73,7 +76,8 @@ past p c cs = record { place = p + len_utf8 c; text = cs }
 abbrev pub pieces_within : (most : ℕ) → ℕ → List ℕ → List Piece
 pieces_within most p [] = []
 pieces_within zero p (c ∷ cs) = []
-pieces_within (suc most) p (c ∷ cs) = let s = piece_from p c (past p c cs) in s.piece ∷ pieces_within most s.rest.place s.rest.text
+pieces_within (suc most) p (c ∷ cs) =
+    let s = piece_from p c (past p c cs) in s.piece ∷ pieces_within most s.rest.place s.rest.text
 
 unfoldable pub pieces : At → List Piece
 pieces a = pieces_within (length a.text) a.place a.text

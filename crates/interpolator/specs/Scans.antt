@@ -1,15 +1,18 @@
 -- What the scan hands on: neighbouring literals as one, and each other piece by itself.
-use Rattle.std.specs.Prelude.{ℕ, ◌+◌, ◌^◌, ◌<◌, ⊤, ◌==◌, if◌then◌else◌, List, [], ◌∷◌, length, Option, Some, None}
+use Rattle.std.specs.Prelude.{ℕ, ◌+◌, ◌^◌, ◌<◌, ⊤, ◌==◌, if◌then◌else◌, List, [], ◌∷◌, length}
+use Rattle.std.specs.Prelude.{Option, Some, None}
 use Rattle.std.specs.Str.{chars}
 use Rattle.interpolator.specs.At.{At, at, first, behind}
 use Rattle.interpolator.specs.Classes.{front_of, in_class, is_brace}
-use Rattle.interpolator.specs.Pieces.{PieceKind, doubled, lone_close, closed, unclosed, broken, piece_from}
+use Rattle.interpolator.specs.Pieces.{PieceKind, doubled, lone_close, closed, unclosed, broken}
+use Rattle.interpolator.specs.Pieces.{piece_from}
 use Rattle.interpolator.specs.Arguments.{argument_of}
 use Rattle.interpolator.specs.Faults.{parse, parse_fault_of}
 use Rattle.interpolator.specs.declared.class.Class.TheVariants.{Literal}
 use Rattle.interpolator.specs.declared.cursor.Cursor.{Cursor}
 use Rattle.interpolator.specs.declared.piece.Piece as code_piece
-use Rattle.interpolator.specs.declared.piece.Piece.TheVariants.{Literals, Doubled, LoneClose, Closed, Unclosed, Broken}
+use Rattle.interpolator.specs.declared.piece.Piece.TheVariants.{Literals, Doubled, LoneClose}
+use Rattle.interpolator.specs.declared.piece.Piece.TheVariants.{Closed, Unclosed, Broken}
 
 pub data Scanned : Type 0 where
   literals : List ℕ → Scanned

@@ -6,5 +6,7 @@ use Rattle.interpolator.specs.Trees.{Tree, tree_of}
 use Rattle.interpolator.specs.Environments.{Environment}
 
 -- `finds` is what a context finds under a name
-abbrev pub environment_of : {C X : Type 0} → (C → List ℕ → Option (Tree X)) → Scope C X → Environment X
-environment_of finds s = record { finds = finds s.context.now; inner = option_map tree_of s.inner; names = None }
+abbrev pub environment_of : {C X : Type 0} → (C → List ℕ → Option (Tree X)) → Scope C X
+    → Environment X
+environment_of finds s =
+    record { finds = finds s.context.now; inner = option_map tree_of s.inner; names = None }

@@ -44,6 +44,8 @@ pub record SameSink {W : Type 0} (old new : code_sink.Sink W) : Type 0 where
   pub out : new.out.ghost_name ≡ old.out.ghost_name
   pub aside : new.aside.ghost_name ≡ old.aside.ghost_name
 
-pub record Writes {W : Type 0} (written : W → Written) (m : Meaning) (old new : code_sink.Sink W) (answer : Option Answer) : Type 0 where
+-- one of the three outcomes at a sink, which holds the same two references after it
+pub record Writes {W : Type 0} (written : W → Written) (m : Meaning)
+    (old new : code_sink.Sink W) (answer : Option Answer) : Type 0 where
   pub evaluates : Evaluates m (seen written old) (seen written new) answer
   pub same : SameSink old new

@@ -3,9 +3,12 @@ use Rattle.std.specs.Prelude.{List, [], ◌∷◌, map, Option, None, Some}
 use Rattle.std.specs.Option.{option_map, option_copied}
 use Rattle.std.specs.Borrow.{Bor}
 use Rattle.interpolator_render.specs.declared.view.Trait.{Trait}
-use Rattle.interpolator_render.specs.declared.view.Trait.TheVariants.{Binary, Debug, Display, LowerExp}
-use Rattle.interpolator_render.specs.declared.view.Trait.TheVariants.{LowerHex, Octal, UpperExp, UpperHex, Iter}
-use Rattle.interpolator.specs.declared.slots.Formattable.{Formattable, Formattable-F, fold-Formattable}
+use Rattle.interpolator_render.specs.declared.view.Trait.TheVariants.{Binary, Debug, Display}
+use Rattle.interpolator_render.specs.declared.view.Trait.TheVariants.{LowerExp}
+use Rattle.interpolator_render.specs.declared.view.Trait.TheVariants.{LowerHex, Octal, UpperExp}
+use Rattle.interpolator_render.specs.declared.view.Trait.TheVariants.{UpperHex, Iter}
+use Rattle.interpolator.specs.declared.slots.Formattable.{Formattable, Formattable-F}
+use Rattle.interpolator.specs.declared.slots.Formattable.{fold-Formattable}
 
 -- the eight optional values, one for each formatting trait
 pub record Slots (X : Type 0) : Type 0 where

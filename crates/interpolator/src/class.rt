@@ -1,5 +1,6 @@
 //! Classes of characters, and the longest front of a text that is of one class.
-ghost use Rattle.std.specs.Prelude.{◌≡◌, ◌+◌, ◌++◌, ◌<◌, length, [], ◌∷◌, ◌==◌, ◌||◌, MatchOption, IfSome};
+ghost use Rattle.std.specs.Prelude.{◌≡◌, ◌+◌, ◌++◌, ◌<◌, length, [], ◌∷◌, ◌==◌, ◌||◌, MatchOption};
+ghost use Rattle.std.specs.Prelude.{IfSome};
 ghost use Rattle.std.specs.Str.{chars};
 ghost use Rattle.std.specs.Char.{len_utf8, encode_utf8};
 ghost use Rattle.std.specs.List.{position, position_or_len};
@@ -17,12 +18,14 @@ pub(crate) enum Class {
 }
 
 /// The first character of a text, and the text behind it.
-#[tactic(auto, using(crate::proofs::Characters::chars_of_next, crate::proofs::Characters::chars_of_end, crate::proofs::Characters::length_of_next, crate::proofs::Characters::shorter_after, crate::proofs::Characters::nil_of_end))]
+#[tactic(auto, using(crate::proofs::Characters::first_character))]
 pub(crate) fn split_first(text: &str) -> Option<(char, &str)>
-    ensures chars { MatchOption result (chars text.now ≡ []) (λ r. chars text.now ≡ r.0 ∷ chars r.1.now) }
+    ensures chars { MatchOption result (chars text.now ≡ [])
+        (λ r. chars text.now ≡ r.0 ∷ chars r.1.now) }
     ensures len { MatchOption result (length text.now ≡ 0)
         (λ r. length text.now ≡ len_utf8 r.0 + length r.1.now) }
-    ensures bytes { MatchOption result (text.now ≡ []) (λ r. text.now ≡ encode_utf8 r.0 ++ r.1.now) }
+    ensures bytes { MatchOption result (text.now ≡ [])
+        (λ r. text.now ≡ encode_utf8 r.0 ++ r.1.now) }
     ensures shorter { IfSome result (λ r. length r.1.now < length text.now) }
 {
     let mut characters = text.chars();

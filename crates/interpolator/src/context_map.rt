@@ -97,7 +97,8 @@ impl<T: Default + Drop> NameMap<T> {
     // Lends the value under a name, which is put in first where it is absent.
     fn lend_or_add(&mut self, name: &str) -> Result<&mut T, AllocError>
         ensures* writes_back { sem 𝓛 (LendsEntry T.row self.entry (chars name.now) result) }
-        ensures value { IfOk result (λ lent. IsEntry T.is_default self.old (chars name.now) lent.now) }
+        ensures value { IfOk result (λ lent.
+            IsEntry T.is_default self.old (chars name.now) lent.now) }
         ensures absent { OnErr result (under self.old (chars name.now) ≡ None) }
     {
         self.add(name)?;

@@ -51,7 +51,7 @@ impl<'a> Cursor<'a> {
     }
 
     /// The end of the text.
-    #[tactic(auto, using(crate::proofs::Characters::size_of_chars, crate::proofs::Characters::no_chars))]
+    #[tactic(auto, using(crate::proofs::Characters::all_characters))]
     pub(crate) fn skip_all(self) -> Cursor<'a>
         ensures { at result ≡ all_behind (at self.entry) }
     {

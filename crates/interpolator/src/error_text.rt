@@ -2,7 +2,8 @@
 
 ghost use Rattle.std.specs.Prelude.{◌≡◌, Some, IsOk};
 ghost use Rattle.std.specs.Fmt.{IsPlainFormatter, HasWritten};
-ghost use Rattle.interpolator.specs.FaultTexts.{error_text, number_text, parse_error_text, trait_name as trait_name_of, unsupported_text};
+ghost use Rattle.interpolator.specs.FaultTexts.{error_text, number_text, parse_error_text};
+ghost use Rattle.interpolator.specs.FaultTexts.{trait_name as trait_name_of, unsupported_text};
 
 use crate::error::{Error, NumberError, ParseError};
 use interpolator_render::Trait;

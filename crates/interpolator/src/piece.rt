@@ -19,7 +19,8 @@ pub(crate) enum Piece<'a> {
     Doubled(char),
     /// A closing brace that is not followed by a second.
     LoneClose,
-    /// An argument with its closing brace, where it starts behind its brace, and where its spec ends.
+    /// An argument with its closing brace, where it starts behind its brace, and where its spec
+    /// ends.
     Closed(usize, Argument<'a>, usize),
     /// An argument without its closing brace.
     Unclosed(usize, Argument<'a>, usize),
@@ -30,7 +31,8 @@ pub(crate) enum Piece<'a> {
 /// The piece that begins with a brace and the argument that stands behind it.
 #[tactic(auto, unfolding(crate::specs::Pieces::argument_from))]
 fn argument_piece(start: Cursor<'_>) -> (Piece<'_>, Cursor<'_>)
-    ensures kind { (p : ℕ) → scanned_of result.0 ≡ other (argument_from p (at start.entry)).piece.kind }
+    ensures kind { (p : ℕ) →
+        scanned_of result.0 ≡ other (argument_from p (at start.entry)).piece.kind }
     ensures rest { (p : ℕ) → at result.1 ≡ (argument_from p (at start.entry)).rest }
     ensures fits { (p : ℕ) → RunFits p result.0 }
 {

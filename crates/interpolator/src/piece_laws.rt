@@ -29,8 +29,10 @@ pub fn pieces_are_the_one_list()
 {}
 
 /// An argument is its parts, one behind the other, and only such a text is an argument: all the
-/// white space that stands there, then the name, up to the first `:` or `}`, then the spec, which is
-/// empty as long as specs are not read, up to the closing brace. The name is a slice of the text, at
+/// white space that stands there, then the name, up to the first `:` or `}`, then the spec, which
+/// is
+/// empty as long as specs are not read, up to the closing brace. The name is a slice of the text,
+/// at
 /// its place in bytes.
 ///
 /// So in `{ name}` one character of white space stands behind the brace, and the name, `name`,

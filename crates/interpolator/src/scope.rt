@@ -37,7 +37,8 @@ impl<'a, C: Context> Scope<'a, C, C::Object> {
     /// What a name means.
     #[inline(always)]
     pub(crate) fn lookup(self, name: &str) -> Option<Formattable<'a, C::Object>>
-        ensures { option_map tree_of result ≡ given (environment_of C.finds self.entry) (chars name.now) }
+        ensures { option_map tree_of result
+            ≡ given (environment_of C.finds self.entry) (chars name.now) }
     {
         match self.inner {
             Some(item) => {

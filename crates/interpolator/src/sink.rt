@@ -16,7 +16,8 @@ use std::fmt;
 
 /// Writes one character of the format.
 fn write_char<W: TextWrite>(out: &mut W, c: char, place: usize) -> Result<(), Error>
-    ensures outcome { Outcome (says ((c, place) ∷ [])) (W.written out.old) (W.written out.new) (answered result) }
+    ensures outcome { Outcome (says ((c, place) ∷ []))
+        (W.written out.old) (W.written out.new) (answered result) }
 {
     match out.write_char(c) {
         Ok(()) => Ok(()),
@@ -134,7 +135,8 @@ pub(crate) struct Sink<'s, W> {
 impl<'s, W: TextWrite> Sink<'s, W> {
     /// One character of the format.
     pub(crate) fn put_char(&mut self, c: char, place: usize) -> Result<(), Error>
-        ensures writes { Writes W.written (says ((c, place) ∷ [])) self.old self.new (answered result) }
+        ensures writes { Writes W.written (says ((c, place) ∷ []))
+            self.old self.new (answered result) }
     {
         put_char(&mut *self.out, &mut *self.aside, c, place)
     }
@@ -156,7 +158,8 @@ impl<'s, W: TextWrite> Sink<'s, W> {
         spec: &Spec,
         place: usize,
     ) -> Result<(), Error>
-        ensures writes { Writes W.written (value_means V.shows t spec.now place (option_copied value.entry))
+        ensures writes { Writes W.written
+            (value_means V.shows t spec.now place (option_copied value.entry))
             self.old self.new (answered result) }
     {
         put_value(&mut *self.out, &mut *self.aside, value, t, spec, place)

@@ -1,4 +1,6 @@
-use Rattle.std.specs.Prelude.{ℕ, ◌+◌, ◌-◌, ◌*◌, ◌/◌, ◌%◌, ◌^◌, ◌≤◌, ◌≡◌, Bool, false, List, [], ◌∷◌, ◌++◌, length, replicate, Option, Some, None, if◌then◌else◌, ◌==◌, ◌&&◌, nat_lt}
+use Rattle.std.specs.Prelude.{ℕ, ◌+◌, ◌-◌, ◌*◌, ◌/◌, ◌%◌, ◌^◌, ◌≤◌, ◌≡◌, Bool, false, List, [], ◌∷◌}
+use Rattle.std.specs.Prelude.{◌++◌, length, replicate, Option, Some, None, if◌then◌else◌, ◌==◌}
+use Rattle.std.specs.Prelude.{◌&&◌, nat_lt}
 use Rattle.interpolator_render.specs.Digits.{digit_text}
 
 -- the digits of a number in exponent form, and the exponent of the first
@@ -6,7 +8,8 @@ pub record Scientific : Type 0 where
   pub digits : List ℕ
   pub exponent : ℕ
 
--- the greatest exponent of ten whose power is at most the number, and 0 for 0: one less than it has digits
+-- the greatest exponent of ten whose power is at most the number, and 0 for 0: one less than it has
+-- digits
 abbrev pub exponent_of : ℕ → ℕ
 exponent_of n = length (digit_text 10 false n) - 1
 
@@ -20,7 +23,8 @@ nearest n unit =
 -- digits less the zeros (48) at their end
 abbrev pub less_zeros : List ℕ → List ℕ
 less_zeros [] = []
-less_zeros (digit ∷ digits) = if (digit == 48) && (length (less_zeros digits) == 0) then [] else digit ∷ less_zeros digits
+less_zeros (digit ∷ digits) =
+    if (digit == 48) && (length (less_zeros digits) == 0) then [] else digit ∷ less_zeros digits
 
 -- the same, and one digit at least
 abbrev pub trimmed : List ℕ → List ℕ
@@ -31,7 +35,8 @@ trimmed (digit ∷ digits) = digit ∷ less_zeros digits
 abbrev pub filled : ℕ → List ℕ → List ℕ
 filled count digits = replicate (count - length digits) 48 ++ digits
 
--- rounded to `places` digits behind the first, where the number has more: a carry to ten raises the exponent
+-- rounded to `places` digits behind the first, where the number has more: a carry to ten raises the
+-- exponent
 abbrev pub rounded : ℕ → ℕ → ℕ → Scientific
 rounded places n exponent =
     let mantissa = nearest n (10 ^ (exponent - places)) in
@@ -44,7 +49,10 @@ unfoldable pub scientific : Option ℕ → ℕ → Scientific
 scientific None n = record { digits = trimmed (digit_text 10 false n); exponent = exponent_of n }
 scientific (Some places) n =
     if nat_lt places (exponent_of n) then rounded places n (exponent_of n)
-    else record { digits = filled (places + 1) (digit_text 10 false (n * 10 ^ (places - exponent_of n))); exponent = exponent_of n }
+    else record {
+      digits = filled (places + 1) (digit_text 10 false (n * 10 ^ (places - exponent_of n)));
+      exponent = exponent_of n;
+    }
 
 -- a point (46) behind the first digit, if more follow
 abbrev pub pointed : List ℕ → List ℕ

@@ -1,9 +1,15 @@
-use Rattle.std.specs.Prelude.{ℕ, ℤ, pos, negsuc, ◌+◌, ◌-◌, ◌%◌, ◌^◌, ◌≤◌, Bool, true, false, List, [], ◌++◌, length, Option, Some, None, if◌then◌else◌, codes}
+use Rattle.std.specs.Prelude.{ℕ, ℤ, pos, negsuc, ◌+◌, ◌-◌, ◌%◌, ◌^◌, ◌≤◌, Bool, true, false, List}
+use Rattle.std.specs.Prelude.{[], ◌++◌, length, Option, Some, None, if◌then◌else◌, codes}
 use Rattle.std.specs.Str.{IsAscii}
 use Rattle.interpolator_render.specs.declared.number.Notation.{Notation}
-use Rattle.interpolator_render.specs.declared.number.Notation.TheVariants.{Decimal, Binary as InBinary, Octal as InOctal, LowerHex as InLowerHex, UpperHex as InUpperHex}
+use Rattle.interpolator_render.specs.declared.number.Notation.TheVariants.{Decimal}
+use Rattle.interpolator_render.specs.declared.number.Notation.TheVariants.{Binary as InBinary}
+use Rattle.interpolator_render.specs.declared.number.Notation.TheVariants.{Octal as InOctal}
+use Rattle.interpolator_render.specs.declared.number.Notation.TheVariants.{LowerHex as InLowerHex}
+use Rattle.interpolator_render.specs.declared.number.Notation.TheVariants.{UpperHex as InUpperHex}
 use Rattle.interpolator_render.specs.declared.number.NumberForm.{NumberForm}
-use Rattle.interpolator_render.specs.declared.number.NumberForm.TheVariants.{Digits as InDigits, Exponent as InExponent}
+use Rattle.interpolator_render.specs.declared.number.NumberForm.TheVariants.{Digits as InDigits}
+use Rattle.interpolator_render.specs.declared.number.NumberForm.TheVariants.{Exponent as InExponent}
 use Rattle.interpolator_render.specs.declared.view.Bits.{Bits}
 use Rattle.interpolator_render.specs.declared.view.HexDebug.{HexDebug}
 use Rattle.interpolator_render.specs.declared.view.HexDebug.TheVariants.{No, Lower, Upper}
@@ -11,7 +17,9 @@ use Rattle.interpolator_render.specs.declared.view.Sign.{Sign}
 use Rattle.interpolator_render.specs.declared.view.Sign.TheVariants.{Plus, Minus, Unset}
 use Rattle.interpolator_render.specs.declared.view.Spec.{Spec}
 use Rattle.interpolator_render.specs.declared.view.Trait.{Trait}
-use Rattle.interpolator_render.specs.declared.view.Trait.TheVariants.{Binary, Debug, Display, LowerExp, LowerHex, Octal, UpperExp, UpperHex, Iter}
+use Rattle.interpolator_render.specs.declared.view.Trait.TheVariants.{Binary, Debug, Display}
+use Rattle.interpolator_render.specs.declared.view.Trait.TheVariants.{LowerExp, LowerHex, Octal}
+use Rattle.interpolator_render.specs.declared.view.Trait.TheVariants.{UpperExp, UpperHex, Iter}
 use Rattle.interpolator_render.specs.Digits.{digit_text}
 use Rattle.interpolator_render.specs.Exponent.{exponent_text}
 use Rattle.interpolator_render.specs.Padding.{padded_number}
@@ -67,6 +75,7 @@ sign_text false Plus = codes "+"
 sign_text false Minus = []
 sign_text false Unset = []
 
+-- below zero
 abbrev pub is_negative : ℤ → Bool
 is_negative (pos n) = false
 is_negative (negsuc n) = true
@@ -91,7 +100,8 @@ has_minus (InDigits Decimal) z = is_negative z
 has_minus (InDigits _) z = false
 has_minus (InExponent upper) z = is_negative z
 
--- the digits of a signed number stand for this one: two's complement but in decimal and exponent form
+-- the digits of a signed number stand for this one: two's complement but in decimal and exponent
+-- form
 abbrev pub magnitude : NumberForm → ℤ → Bits → ℕ
 magnitude (InDigits Decimal) z bits = distance_from_zero z
 magnitude (InDigits _) z bits = twos_complement z bits
@@ -101,7 +111,8 @@ magnitude (InExponent upper) z bits = distance_from_zero z
 
 -- sign and prefix
 abbrev pub front_text : NumberForm → Spec → Bool → List ℕ
-front_text (InDigits notation) spec negative = sign_text negative spec.sign ++ (if spec.alternate then prefix_of notation else [])
+front_text (InDigits notation) spec negative =
+    sign_text negative spec.sign ++ (if spec.alternate then prefix_of notation else [])
 front_text (InExponent upper) spec negative = sign_text negative spec.sign
 
 -- the digits, in an exponent form with point and exponent
@@ -111,7 +122,8 @@ body_text (InExponent upper) spec n = exponent_text upper spec.precision n
 
 -- the text of a number: front and body, padded
 abbrev pub number_text : NumberForm → Spec → Bool → ℕ → List ℕ
-number_text form spec negative n = padded_number spec (front_text form spec negative) (body_text form spec n)
+number_text form spec negative n =
+    padded_number spec (front_text form spec negative) (body_text form spec n)
 
 -- a short text below 128, whose bytes are its characters
 abbrev pub IsShortAscii : List ℕ → Type 0

@@ -1,6 +1,8 @@
-use Rattle.std.specs.Prelude.{◌≡◌, ℕ, ◌+◌, ◌-◌, ◌/◌, ◌^◌, ◌<◌, true, false, List, ◌++◌, length, replicate, unwrap_or, if◌then◌else◌}
+use Rattle.std.specs.Prelude.{◌≡◌, ℕ, ◌+◌, ◌-◌, ◌/◌, ◌^◌, ◌<◌, true, false, List, ◌++◌, length}
+use Rattle.std.specs.Prelude.{replicate, unwrap_or, if◌then◌else◌}
 use Rattle.interpolator_render.specs.declared.view.Alignment.{Alignment}
-use Rattle.interpolator_render.specs.declared.view.Alignment.TheVariants.{Unset, Left, Center, Right}
+use Rattle.interpolator_render.specs.declared.view.Alignment.TheVariants.{Unset, Left, Center}
+use Rattle.interpolator_render.specs.declared.view.Alignment.TheVariants.{Right}
 use Rattle.interpolator_render.specs.declared.view.Spec.{Spec}
 use Rattle.interpolator_render.specs.Characters.{cut}
 
@@ -19,12 +21,14 @@ spaces_before Unset missing unset = unset
 abbrev pub between_spaces : ℕ → ℕ → List ℕ → List ℕ
 between_spaces before after text = replicate before 32 ++ (text ++ replicate after 32)
 
--- a number, whose front is its sign and prefix: filled with zeros (48) behind the front under the zero flag, else with spaces, on its left without alignment
+-- a number, whose front is its sign and prefix: filled with zeros (48) behind the front under the
+-- zero flag, else with spaces, on its left without alignment
 unfoldable pub padded_number : Spec → List ℕ → List ℕ → List ℕ
 padded_number spec front body =
     let missing = missing_to spec (length front + length body) in
     let before = spaces_before spec.alignment missing missing in
-    if spec.zero then front ++ (replicate missing 48 ++ body) else between_spaces before (missing - before) (front ++ body)
+    if spec.zero then front ++ (replicate missing 48 ++ body)
+    else between_spaces before (missing - before) (front ++ body)
 
 -- any other text: filled with spaces, on its right without alignment
 unfoldable pub padded_text : Spec → List ℕ → List ℕ
@@ -41,4 +45,6 @@ displayed_text spec text = padded_text spec (cut spec.precision text)
 pub record IsNumberLayout (spec : Spec) (count before zeros after : ℕ) : Type 0 where
   pub width_fits : unwrap_or spec.width 0 < 2 ^ 64
   pub filled : spec.zero ≡ true → (before ≡ 0) × (zeros ≡ missing_to spec count) × (after ≡ 0)
-  pub spaced : spec.zero ≡ false → (before ≡ spaces_before spec.alignment (missing_to spec count) (missing_to spec count)) × (zeros ≡ 0) × (after ≡ missing_to spec count - before)
+  pub spaced : spec.zero ≡ false →
+      (before ≡ spaces_before spec.alignment (missing_to spec count) (missing_to spec count))
+      × (zeros ≡ 0) × (after ≡ missing_to spec count - before)

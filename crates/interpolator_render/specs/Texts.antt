@@ -1,15 +1,20 @@
-use Rattle.std.specs.Prelude.{◌≡◌, Bool, true, false, ℕ, List, [], ◌∷◌, Option, Some, None, Result, Ok, Err, codes}
+use Rattle.std.specs.Prelude.{◌≡◌, Bool, true, false, ℕ, List, [], ◌∷◌, Option, Some, None, Result}
+use Rattle.std.specs.Prelude.{Ok, Err, codes}
 use Rattle.interpolator_render.specs.declared.number.NumberForm.{NumberForm}
 use Rattle.interpolator_render.specs.declared.text_write.Refusal.{Refusal}
 use Rattle.interpolator_render.specs.declared.view.RenderFault.{RenderFault}
-use Rattle.interpolator_render.specs.declared.view.RenderFault.TheVariants.{Refused, NotImplemented as NotImplementedFault, Failed as FailedFault}
+use Rattle.interpolator_render.specs.declared.view.RenderFault.TheVariants.{Refused}
+use Rattle.interpolator_render.specs.declared.view.RenderFault.TheVariants.{NotImplemented as NotImplementedFault}
+use Rattle.interpolator_render.specs.declared.view.RenderFault.TheVariants.{Failed as FailedFault}
 use Rattle.interpolator_render.specs.declared.view.Spec.{Spec}
 use Rattle.interpolator_render.specs.declared.view.Trait.{Trait}
 use Rattle.interpolator_render.specs.declared.view.Trait.TheVariants.{Debug, Display}
 use Rattle.interpolator_render.specs.Numbers.{number_form, number_text, has_minus, magnitude}
 use Rattle.interpolator_render.specs.Padding.{displayed_text}
 use Rattle.interpolator_render.specs.Quoting.{quoted}
-use Rattle.interpolator_render.specs.Views.{Shown, signed_number, unsigned_number, truth_value, one_character, some_text, plain_text, nothing_implemented, failure}
+use Rattle.interpolator_render.specs.Views.{Shown, signed_number, unsigned_number, truth_value}
+use Rattle.interpolator_render.specs.Views.{one_character, some_text, plain_text}
+use Rattle.interpolator_render.specs.Views.{nothing_implemented, failure}
 use Rattle.interpolator_render.specs.Written.{Written, Appends, AppendsBeginning}
 
 -- a text, or one of the two reasons why there is none
@@ -34,18 +39,24 @@ under Display displayed debugged = has_text displayed
 under Debug displayed debugged = has_text debugged
 under _ displayed debugged = is_missing
 
--- the text of what a view shows, under a trait and a spec: 34 and 39 are the quotes of texts and of characters
+-- the text of what a view shows, under a trait and a spec: 34 and 39 are the quotes of texts and of
+-- characters
 unfoldable pub view_text : Shown → Trait → Spec → ViewText
-view_text (signed_number z bits) t spec = in_form (number_form t spec.hex_debug) (λ form. number_text form spec (has_minus form z) (magnitude form z bits))
-view_text (unsigned_number n) t spec = in_form (number_form t spec.hex_debug) (λ form. number_text form spec false n)
-view_text (truth_value truth) t spec = under t (displayed_text spec (truth_text truth)) (displayed_text spec (truth_text truth))
+view_text (signed_number z bits) t spec =
+    in_form (number_form t spec.hex_debug)
+    (λ form. number_text form spec (has_minus form z) (magnitude form z bits))
+view_text (unsigned_number n) t spec =
+    in_form (number_form t spec.hex_debug) (λ form. number_text form spec false n)
+view_text (truth_value truth) t spec =
+    under t (displayed_text spec (truth_text truth)) (displayed_text spec (truth_text truth))
 view_text (one_character c) t spec = under t (displayed_text spec (c ∷ [])) (quoted 39 (c ∷ []))
 view_text (some_text text) t spec = under t (displayed_text spec text) (quoted 34 text)
 view_text (plain_text text) t spec = has_text text
 view_text nothing_implemented t spec = is_missing
 view_text failure t spec = has_failed
 
--- `Ok` and exactly the text, or refused on the way, or the reason why there is none, with nothing written
+-- `Ok` and exactly the text, or refused on the way, or the reason why there is none, with nothing
+-- written
 abbrev pub Renders : ViewText → Written → Result (Unit {0}) RenderFault → Written → Type 0
 Renders (has_text text) old (Ok _) new = Appends old text new
 Renders (has_text text) old (Err Refused) new = AppendsBeginning old text new

@@ -1,11 +1,14 @@
 -- What a view shows: the view without its borrows.
-use Rattle.std.specs.Prelude.{ℕ, ℤ, pos, negsuc, ◌-◌, ◌^◌, nat_lt, Bool, if◌then◌else◌, List, FitsSigned}
+use Rattle.std.specs.Prelude.{ℕ, ℤ, pos, negsuc, ◌-◌, ◌^◌, nat_lt, Bool, if◌then◌else◌, List}
+use Rattle.std.specs.Prelude.{FitsSigned}
 use Rattle.std.specs.Int.{Width, w8, w16, w32, w64, w128}
 use Rattle.std.specs.Str.{chars}
 use Rattle.interpolator_render.specs.declared.view.Bits.{Bits}
 use Rattle.interpolator_render.specs.declared.view.Bits.TheVariants.{B8, B16, B32, B64, B128}
 use Rattle.interpolator_render.specs.declared.view.View.{View}
-use Rattle.interpolator_render.specs.declared.view.View.TheVariants.{Signed, Unsigned, Truth, Character, Text, Plain, NotImplemented, Failed}
+use Rattle.interpolator_render.specs.declared.view.View.TheVariants.{Signed, Unsigned, Truth}
+use Rattle.interpolator_render.specs.declared.view.View.TheVariants.{Character, Text, Plain}
+use Rattle.interpolator_render.specs.declared.view.View.TheVariants.{NotImplemented, Failed}
 
 -- the width as std's clauses name it
 abbrev pub integer_width : Bits → Width
@@ -45,7 +48,8 @@ shown_by (Plain text) = plain_text (chars text.now)
 shown_by NotImplemented = nothing_implemented
 shown_by Failed = failure
 
--- a signed number lies in the two's complement range of its width, from -2 ^ (w - 1) up to 2 ^ (w - 1) - 1
+-- a signed number lies in the two's complement range of its width, from -2 ^ (w - 1) up to 2 ^ (w -
+-- 1) - 1
 abbrev pub IsInRange : Shown → Type 0
 IsInRange (signed_number number bits) = FitsSigned (integer_width bits) number
 IsInRange _ = Unit {0}
@@ -57,7 +61,8 @@ fits_signed (negsuc below) bits = nat_lt below (2 ^ (bit_count bits - 1))
 
 -- what a view shows as a value: itself, or a failure for a signed number outside its width
 abbrev pub shown_as_value : View → Shown
-shown_as_value (Signed number bits) = if fits_signed number bits then signed_number number bits else failure
+shown_as_value (Signed number bits) =
+    if fits_signed number bits then signed_number number bits else failure
 shown_as_value (Unsigned number) = unsigned_number number
 shown_as_value (Truth truth) = truth_value truth
 shown_as_value (Character c) = one_character c

@@ -1,4 +1,5 @@
-use Rattle.std.specs.Prelude.{◌≡◌, ℕ, ◌<◌, ◌-◌, ◌^◌, min, Bool, true, List, [], ◌++◌, length, encode_utf8_all, Result, MatchResult}
+use Rattle.std.specs.Prelude.{◌≡◌, ℕ, ◌<◌, ◌-◌, ◌^◌, min, Bool, true, List, [], ◌++◌, length}
+use Rattle.std.specs.Prelude.{encode_utf8_all, Result, MatchResult}
 use Rattle.interpolator_render.specs.declared.text_write.Refusal.{Refusal}
 
 -- what is known of a writer: the characters that it took so far, and whether it has refused a text
@@ -16,7 +17,8 @@ pub record Appends (old : Written) (text : List ℕ) (new : Written) : Type 0 wh
   pub same_flag : new.refused ≡ old.refused
   pub only_empty : old.refused ≡ true → text ≡ []
 
--- a proper beginning of the text was appended, none of it where the writer had refused before, and the rest was refused
+-- a proper beginning of the text was appended, none of it where the writer had refused before, and
+-- the rest was refused
 pub record AppendsBeginning (old : Written) (text : List ℕ) (new : Written) : Type 0 where
   pub beginning : List ℕ
   pub rest : List ℕ
@@ -31,15 +33,18 @@ pub record Refuses (old : Written) (text : List ℕ) (taken : ℕ) (new : Writte
   pub part : AppendsBeginning old text new
   pub counted : taken ≡ byte_count part.beginning
 
--- the same of a text that may be longer than any `&str`: the greatest `usize` stands for a greater count
+-- the same of a text that may be longer than any `&str`: the greatest `usize` stands for a greater
+-- count
 pub record RefusesLong (old : Written) (text : List ℕ) (taken : ℕ) (new : Written) : Type 0 where
   pub part : AppendsBeginning old text new
   pub counted : taken ≡ min (byte_count part.beginning) (2 ^ 64 - 1)
 
 -- a call that writes the text, or is refused on the way
 abbrev pub Puts : Written → List ℕ → Result (Unit {0}) Refusal → Written → Type 0
-Puts old text result new = MatchResult result (λ _. Appends old text new) (λ r. RefusesLong old text r.taken new)
+Puts old text result new =
+    MatchResult result (λ _. Appends old text new) (λ r. RefusesLong old text r.taken new)
 
 -- the same, whatever the error says
 abbrev pub Writes : {E : Type 0} → Written → List ℕ → Result (Unit {0}) E → Written → Type 0
-Writes old text result new = MatchResult result (λ _. Appends old text new) (λ _. AppendsBeginning old text new)
+Writes old text result new =
+    MatchResult result (λ _. Appends old text new) (λ _. AppendsBeginning old text new)

@@ -1,7 +1,9 @@
 //! Numbers in exponent form.
-ghost use Rattle.std.specs.Prelude.{◌≡◌, ◌+◌, ◌-◌, ◌/◌, ◌^◌, ◌<◌, ◌≤◌, ◌++◌, false, length, drop, replicate, slice_range};
+ghost use Rattle.std.specs.Prelude.{◌≡◌, ◌+◌, ◌-◌, ◌/◌, ◌^◌, ◌<◌, ◌≤◌, ◌++◌, false, length, drop};
+ghost use Rattle.std.specs.Prelude.{replicate, slice_range};
 ghost use Rattle.std.specs.Str.{IsAscii};
-ghost use Rattle.interpolator_render.specs.Exponent.{exponent_of, exponent_tail, nearest, pointed, rounded, scientific, trimmed};
+ghost use Rattle.interpolator_render.specs.Exponent.{exponent_of, exponent_tail, nearest, pointed};
+ghost use Rattle.interpolator_render.specs.Exponent.{rounded, scientific, trimmed};
 ghost use Rattle.interpolator_render.specs.Digits.{digit_text};
 
 use crate::digits::{MOST_DIGITS, ascii_str, fill_decimal};

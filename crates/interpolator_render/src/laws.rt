@@ -1,11 +1,14 @@
 //! What the definitions that the contracts cite say in other words: laws, proved once for all
 //! values. Their bodies are empty, and their contracts are the laws.
-ghost use Rattle.std.specs.Prelude.{◌≡◌, ◌+◌, ◌-◌, ◌*◌, ◌^◌, ◌<◌, ◌≤◌, ◌≢◌, ◌↔◌, ◌++◌, ◌+ℤ◌, ◌*ℤ◌, max, ℕ, ℤ, pos, Bool, List, None, IsTrue, true, false, length, replicate, slice_index, unwrap_or};
+ghost use Rattle.std.specs.Prelude.{◌≡◌, ◌+◌, ◌-◌, ◌*◌, ◌^◌, ◌<◌, ◌≤◌, ◌≢◌, ◌↔◌, ◌++◌, ◌+ℤ◌, ◌*ℤ◌};
+ghost use Rattle.std.specs.Prelude.{max, ℕ, ℤ, pos, Bool, List, Some, None, IsTrue, true, false};
+ghost use Rattle.std.specs.Prelude.{length, replicate, slice_index, unwrap_or};
 ghost use Rattle.std.specs.Str.Parse.{digits_value};
 ghost use Rattle.interpolator_render.specs.declared.view.Bits.{Bits};
 ghost use Rattle.interpolator_render.specs.declared.view.Spec.{Spec};
 ghost use Rattle.interpolator_render.specs.Digits.{digit_text};
-ghost use Rattle.interpolator_render.specs.Exponent.{exponent_of, nearest, trimmed, IsNearest};
+ghost use Rattle.interpolator_render.specs.Exponent.{exponent_of, nearest, scientific, trimmed};
+ghost use Rattle.interpolator_render.specs.Exponent.{IsNearest};
 ghost use Rattle.interpolator_render.specs.Numbers.{twos_complement};
 ghost use Rattle.interpolator_render.specs.Padding.{padded_number, padded_text, displayed_text};
 ghost use Rattle.interpolator_render.specs.Views.{bit_count};
@@ -39,6 +42,11 @@ pub fn rounding_is_to_nearest()
 pub fn trimmed_digits()
     ensures { (digits : List ℕ)
         → (count : ℕ) × (digits ≡ trimmed digits ++ replicate count 48) }
+{}
+
+/// With a precision there are exactly so many digits behind the first.
+pub fn precise_digits()
+    ensures { (places n : ℕ) → length (scientific (Some places) n).digits ≡ places + 1 }
 {}
 
 /// A padded text has as many characters as the width says, or all its own where they are more.

@@ -1,6 +1,8 @@
 //! Whole numbers: sign, prefix, digits or exponent form, and their padding.
 ghost use Rattle.std.specs.Prelude.{◌≡◌, ◌≤◌, ◌<◌, ◌^◌, ◌-◌, ◌+◌, ◌++◌, length, min, replicate};
-ghost use Rattle.interpolator_render.specs.Numbers.{base_of, is_upper, prefix_of, number_form, sign_text, twos_complement, has_minus, magnitude, number_text, IsShortAscii};
+ghost use Rattle.interpolator_render.specs.Numbers.{base_of, is_upper, prefix_of, number_form};
+ghost use Rattle.interpolator_render.specs.Numbers.{sign_text, twos_complement, has_minus};
+ghost use Rattle.interpolator_render.specs.Numbers.{magnitude, number_text, IsShortAscii};
 ghost use Rattle.interpolator_render.specs.Padding.{spaces_before, padded_number, IsNumberLayout};
 ghost use Rattle.interpolator_render.specs.Written.{Puts};
 
@@ -218,7 +220,8 @@ fn put_digits<W: TextWrite>(
     negative: bool,
     n: u128,
 ) -> Result<(), Refusal>
-    ensures { Puts (W.written out.old) (number_text (NumberForm.Digits notation) spec.now negative n)
+    ensures { Puts (W.written out.old)
+        (number_text (NumberForm.Digits notation) spec.now negative n)
         result (W.written out.new) }
 {
     let mut buffer = [0u8; 128];

@@ -4,7 +4,9 @@ ghost use Rattle.std.specs.Str.{chars};
 ghost use Rattle.interpolator_render.specs.declared.view.Bits.TheVariants.{B8, B16, B32, B64, B128};
 ghost use Rattle.interpolator_render.specs.declared.view.Spec.{Spec};
 ghost use Rattle.interpolator_render.specs.declared.view.Trait.{Trait};
-ghost use Rattle.interpolator_render.specs.Views.{IsInRange, Shown, shown_by, signed_number, unsigned_number, truth_value, one_character, some_text, fits_signed, shown_as_value};
+ghost use Rattle.interpolator_render.specs.Views.{IsInRange, Shown, shown_by, signed_number};
+ghost use Rattle.interpolator_render.specs.Views.{unsigned_number, truth_value, one_character};
+ghost use Rattle.interpolator_render.specs.Views.{some_text, fits_signed, shown_as_value};
 
 use crate::view::{Bits, Spec, Trait, View};
 
