@@ -6,7 +6,7 @@ ghost use Rattle.interpolator.specs.Arguments.{argument_at, argument_read};
 use crate::class::Class;
 use crate::cursor::Cursor;
 use crate::error::ParseError;
-use interpolator_render::{Alignment, HexDebug, Sign, Spec, Trait};
+use interpolator_render::{Spec, Trait};
 
 /// What an argument asks for.
 #[derive(Clone, Copy)]
@@ -25,17 +25,6 @@ pub(crate) struct Argument<'a> {
     pub(crate) kind: Kind,
 }
 
-/// Nothing is set.
-const PLAIN: Spec = Spec {
-    alignment: Alignment::Unset,
-    sign: Sign::Unset,
-    alternate: false,
-    zero: false,
-    width: None,
-    precision: None,
-    hex_debug: HexDebug::No,
-};
-
 /// The argument that begins here, behind its brace, and what stands behind its spec.
 #[tactic(auto, unfolding(crate::specs::Arguments::argument_at))]
 pub(crate) fn take_argument(start: Cursor<'_>) -> Result<(Argument<'_>, Cursor<'_>), ParseError>
@@ -46,7 +35,7 @@ pub(crate) fn take_argument(start: Cursor<'_>) -> Result<(Argument<'_>, Cursor<'
     let argument = Argument {
         name,
         name_place: from.place,
-        spec: PLAIN,
+        spec: Spec::default(),
         kind: Kind::Value(Trait::Display),
     };
     match end.next() {
