@@ -3,3 +3,4 @@ pub mod Cuts
 pub mod Reports
 pub mod FirstBad
 pub mod WrongLines
+pub mod RunLines

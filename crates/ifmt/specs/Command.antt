@@ -2,8 +2,9 @@
 use Rattle.std.specs.Prelude.{◌≡◌, ℕ, List, [], ◌∷◌, ◌++◌, All, Option, string_bytes, ◌⊎◌}
 use Rattle.std.specs.Io.KnownBytes.{Appends, Keeps}
 use Rattle.std.specs.declared.string.String.{String}
+use Rattle.interpolator.specs.Meanings.{Meaning}
 use Rattle.ifmt.specs.Words.{IsGood}
-use Rattle.ifmt.specs.Run.{complaint, usage_line}
+use Rattle.ifmt.specs.Run.{Runs, complaint, usage_line}
 
 module _ {Z : Type 0} where
   -- each of the words means something
@@ -27,10 +28,15 @@ module _ {Z : Type 0} where
     bad_word : {format : String Z} {words : List (String Z)} {bad : List ℕ} →
         IsFirstBad words bad → IsTold (format ∷ words) (complaint bad)
 
-  -- a format and words that all mean something
-  abbrev pub IsSound : List (String Z) → Type 0
-  IsSound [] = ⊥
-  IsSound (format ∷ words) = AllGood words
+  -- all words mean something, and what some format means was written
+  pub record IsRun (line : List (String Z)) (out_old out_new err_old err_new : Option (List ℕ))
+      (status : ℕ) : Type 0 where
+    pub format : String Z
+    pub words : List (String Z)
+    pub split : line ≡ format ∷ words
+    pub good : AllGood words
+    pub meaning : Meaning
+    pub runs : Runs meaning out_old out_new err_old err_new status
 
   -- 2 only where a wrong command line was told what is wrong, and nothing went to `out`; 0 and 1
   -- only where a sound one was run; else 3
@@ -38,5 +44,5 @@ module _ {Z : Type 0} where
       (status : ℕ) : Type 0 where
     pub wrong : status ≡ 2 →
         (text : List ℕ) × IsTold line text × Keeps out_old out_new × Appends err_old err_new text
-    pub sound : (status ≡ 0) ⊎ (status ≡ 1) → IsSound line
+    pub sound : (status ≡ 0) ⊎ (status ≡ 1) → IsRun line out_old out_new err_old err_new status
     pub other : (status ≡ 0) ⊎ (status ≡ 1) ⊎ (status ≡ 2) ⊎ (status ≡ 3)

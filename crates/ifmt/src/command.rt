@@ -1,7 +1,10 @@
 //! A command line, answered.
 
-ghost use Rattle.std.specs.Prelude.{◌≡◌, ◌⊎◌, IfOk, MatchBool, MatchOption};
+ghost use Rattle.std.specs.Prelude.{◌≡◌, IfErr, IfOk, MatchBool, MatchOption, OnErr};
+ghost use Rattle.interpolator.specs.declared.error.Error.TheVariants.{NoMemory};
 ghost use Rattle.ifmt.specs.Words.{IsGood};
+ghost use Rattle.interpolator.specs.Meanings.{Meaning};
+ghost use Rattle.ifmt.specs.Run.{Runs};
 ghost use Rattle.ifmt.specs.Command.{AllGood, Answers, IsFirstBad};
 
 use crate::run::{complain, report, run, usage};
@@ -60,7 +63,12 @@ fn run_words<O: Write, E: Write>(
     out: &mut O,
     err: &mut E,
 ) -> Result<u8, Error>
-    ensures ok { IfOk result (λ status. (status ≡ 0) ⊎ (status ≡ 1) ⊎ (status ≡ 3)) }
+    ensures ok { IfOk result (λ status. (meaning : Meaning) × Runs meaning
+        (O.contents out.old) (O.contents out.new)
+        (E.contents err.old) (E.contents err.new) status) }
+    ensures err { IfErr result (λ error. error ≡ NoMemory) }
+    ensures out { OnErr result (O.contents out.new ≡ O.contents out.old) }
+    ensures rest { OnErr result (E.contents err.new ≡ E.contents err.old) }
 {
     let words = classified(alloc, words)?;
     let objects = objects_of(alloc, words.as_slice())?;
@@ -71,7 +79,9 @@ fn run_words<O: Write, E: Write>(
     Ok(run(alloc, format, &context, out, err))
 }
 
-fn classified<'a>(alloc: Global, words: &'a [String]) -> Result<Vec<Word<'a>>, Error> {
+fn classified<'a>(alloc: Global, words: &'a [String]) -> Result<Vec<Word<'a>>, Error>
+    ensures { IfErr result (λ error. error ≡ NoMemory) }
+{
     let mut classified = Vec::with_capacity(alloc, words.len())?;
     for word in words {
         classified.push(classify(word.as_str()))?;
@@ -79,7 +89,9 @@ fn classified<'a>(alloc: Global, words: &'a [String]) -> Result<Vec<Word<'a>>, E
     Ok(classified)
 }
 
-fn objects_of<'a>(alloc: Global, words: &[Word<'a>]) -> Result<Vec<View<'a>>, Error> {
+fn objects_of<'a>(alloc: Global, words: &[Word<'a>]) -> Result<Vec<View<'a>>, Error>
+    ensures { IfErr result (λ error. error ≡ NoMemory) }
+{
     let mut objects = Vec::with_capacity(alloc, words.len())?;
     for word in words {
         objects.push(object_of(*word))?;
@@ -98,11 +110,9 @@ fn object_of<'a>(word: Word<'a>) -> View<'a> {
 }
 
 // Fills the slots of a word's name: a text those of debug and display, a number all of an integer.
-fn fill<'a, V>(
-    context: &mut ContextMap<'a, V>,
-    word: Word<'_>,
-    object: &'a V,
-) -> Result<(), Error> {
+fn fill<'a, V>(context: &mut ContextMap<'a, V>, word: Word<'_>, object: &'a V) -> Result<(), Error>
+    ensures { IfErr result (λ error. error ≡ NoMemory) }
+{
     match word {
         Word::Text { name, text: _ } => context.entry(name)?.set_debug_display(object),
         Word::Number { name, value: _ } => context.entry(name)?.set_integer(object),

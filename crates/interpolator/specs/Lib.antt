@@ -1,3 +1,6 @@
+pub use Rattle.interpolator_render.specs.Texts
+pub use Rattle.interpolator_render.specs.Views
+pub use Rattle.interpolator_render.specs.Written
 pub mod At
 pub mod Classes
 pub mod Faults

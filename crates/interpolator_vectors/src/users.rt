@@ -52,41 +52,33 @@ fn listed(alloc: Global, title: &str, low: i64, high: i64) -> Result<String, Err
     context.format(alloc, "{title}: {low} up to {all}")
 }
 
-/// Values of a user's own type.
+/// A user's own type of values.
 #[derive(Clone, Copy)]
-enum Cell<'a> {
-    Word(&'a str),
-    Count(u64),
-    Hole,
+struct Degrees {
+    celsius: i32,
 }
 
-impl<'a> Value for Cell<'a> {
-    ghost use Rattle.interpolator_vectors.specs.Cells.{cell_shows};
+impl Value for Degrees {
+    ghost use Rattle.interpolator_render.specs.Views.{signed_number};
+    ghost use Rattle.interpolator_render.specs.declared.view.Bits.TheVariants.{B32};
 
-    ghost shows = { λ cell t spec. cell_shows cell };
+    ghost shows = { λ degrees t spec. signed_number degrees.celsius B32 };
 
     fn view(&self, _t: Trait, _spec: &Spec) -> View<'_> {
-        match *self {
-            Cell::Word(word) => View::Text(word),
-            Cell::Count(n) => View::Unsigned(u128::from(n)),
-            Cell::Hole => View::NotImplemented,
-        }
+        View::Signed(i128::from(self.celsius), Bits::B32)
     }
 }
 
 /// A line of a report, written to a writer.
-fn row(alloc: Global, out: &mut TextBuffer, name: &str, n: Option<u64>) -> Result<(), Error> {
-    let cells = [
-        Cell::Word(name),
-        match n {
-            Some(n) => Cell::Count(n),
-            None => Cell::Hole,
-        },
-    ];
+fn line(alloc: Global, out: &mut TextBuffer, low: i32, high: Option<i32>) -> Result<(), Error> {
+    let low = Degrees { celsius: low };
+    let high = high.map(|celsius| Degrees { celsius });
     let mut context = HashMap::new(alloc);
-    context.insert("name", Formattable::display(&cells[0]))?;
-    context.insert("n", Formattable::display(&cells[1]))?;
-    context.write_to(alloc, out, "{name} | {n}\n")
+    context.insert("low", Formattable::display(&low))?;
+    if let Some(high) = &high {
+        context.insert("high", Formattable::display(high))?;
+    }
+    context.write_to(alloc, out, "{low} to {high}\n")
 }
 
 #[test]
@@ -111,9 +103,14 @@ fn users_write_formats(rt: HostRuntime) -> Result<(), Fail> {
 #[test]
 fn users_write_to_writers(rt: HostRuntime) -> Result<(), Fail> {
     let mut out = TextBuffer::new(rt.alloc());
-    row(rt.alloc(), &mut out, "Ann", Some(3))?;
-    let fault = row(rt.alloc(), &mut out, "Bob", None);
-    assert_eq!(rt; fault, Err(Error::MissingTraitImpl(Trait::Display, 11)));
-    assert_eq!(rt; out.as_str(), "Ann | 3\nBob | ");
+    line(rt.alloc(), &mut out, -4, Some(3))?;
+    match line(rt.alloc(), &mut out, 5, None) {
+        Err(Error::MissingValue(name, place)) => {
+            assert_eq!(rt; name.as_str(), "high");
+            assert_eq!(rt; place, 10);
+        }
+        _ => assert!(rt; false, "the line has no high"),
+    }
+    assert_eq!(rt; out.as_str(), "-4 to 3\n5 to ");
     Ok(())
 }
