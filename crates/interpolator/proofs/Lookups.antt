@@ -1,10 +1,10 @@
 -- Names that are empty, and those that are not.
-use Rattle.std.proofs.Common.{◌≡◌, refl, sym, ◌∙◌, ap, ℕ, ◌<◌, List, [], ◌∷◌, length, Option, None, Some, arith}
+use Rattle.std.proofs.Common.{◌≡◌, refl, sym, ap, ℕ, ◌<◌, List, [], ◌∷◌, length, Option, None, Some, arith}
 use Rattle.std.specs.Str.{chars, IsUtf8}
 use Rattle.std.specs.Prelude.{encode_utf8_all}
 use Rattle.std.proofs.lemmas.Str.{chars-nil, encodes-chars}
 use Rattle.interpolator.specs.Trees.{Tree}
-use Rattle.interpolator.specs.Environments.{Environment, given}
+use Rattle.interpolator.specs.Environments.{given}
 
 module _ {X : Type 0} (finds : List ℕ → Option (Tree X)) where
   pub empty_name : (bs : List ℕ) (t : Tree X) → length bs ≡ 0 → given (record { finds = finds; inner = Some t; names = None }) (chars bs) ≡ Some t

@@ -1,5 +1,5 @@
 -- What a text means: what the scan hands on first, and then the rest.
-use Rattle.std.proofs.Common.{◌≡◌, ℕ, ◌+◌, ◌<◌, ◌≤◌, Bool, true, false, not, cond, eqb, subst, List, [], ◌∷◌, ◌++◌, map, length, arith, refl, ap, ◌∙◌, sym, Option, Some, None, append_assoc, append-nil, length-append}
+use Rattle.std.proofs.Common.{◌≡◌, ℕ, ◌+◌, ◌<◌, Bool, true, false, cond, eqb, subst, List, [], ◌∷◌, map, length, arith, refl, ap, ◌∙◌, sym, Option, Some, None, append_assoc, length-append}
 use Rattle.std.specs.Prelude.{◌||◌}
 use Rattle.std.proofs.lemmas.List.{map-append}
 use Rattle.std.specs.Char.{len_utf8}
@@ -10,8 +10,8 @@ use Rattle.interpolator.specs.At.{At, placed_from, size, strip}
 use Rattle.interpolator.specs.Classes.{front_of, behind_of, in_class, is_brace, open_brace, close_brace}
 use Rattle.interpolator.specs.Environments.{Environment}
 use Rattle.interpolator.specs.Faults.{Fault}
-use Rattle.interpolator.specs.Pieces.{Piece, piece_from, past, pieces, literal, open_step, close_step, step}
-use Rattle.interpolator.specs.Scans.{Scanned, literals, other, scan_from, scan_by, scanned}
+use Rattle.interpolator.specs.Pieces.{piece_from, past, pieces, literal, open_step, close_step, step}
+use Rattle.interpolator.specs.Scans.{Scanned, scanned}
 use Rattle.interpolator.specs.Meanings.{Meaning, nothing, says, or_fault, joined, piece_means, pieces_mean, scanned_means, means}
 use Rattle.interpolator.specs.declared.class.Class.TheVariants.{Literal}
 use Rattle.interpolator.proofs.Pieces.{none_some, some_same, in_both, behind_shorter, piece_within, piece_begins, pieces_none, pieces_next}

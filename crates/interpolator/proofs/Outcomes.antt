@@ -1,14 +1,14 @@
 -- One outcome behind another.
-use Rattle.std.proofs.Common.{◌≡◌, refl, sym, ◌∙◌, ap, subst, ℕ, ◌+◌, ◌<◌, List, [], ◌∷◌, ◌++◌, map, length, Option, None, Some, option_map, false, ◌⊎◌, inl, inr, append_assoc, append-nil, length-append}
+use Rattle.std.proofs.Common.{◌≡◌, refl, sym, ◌∙◌, ap, subst, ℕ, ◌+◌, List, [], ◌++◌, map, length, Option, None, Some, option_map, false, ◌⊎◌, inl, inr, append_assoc, append-nil, length-append}
 use Rattle.std.proofs.lemmas.List.{map-append, length-map}
 use Rattle.std.proofs.Math.ListN.{get_or-map}
 use Rattle.std.proofs.lemmas.List.Elements.{Contains-append_left, Contains-append_right}
 use Rattle.std.specs.List.{Contains}
 use Rattle.interpolator_render.specs.Written.{Written, Appends}
 use Rattle.interpolator.specs.At.{Placed, text_of}
-use Rattle.interpolator.specs.Faults.{Fault, Answer, fault, fmt, no_memory}
+use Rattle.interpolator.specs.Faults.{Fault, Answer, fault, no_memory}
 use Rattle.interpolator.specs.Meanings.{Meaning, or_fault, joined}
-use Rattle.interpolator.specs.Outcomes.{Finished, Refused, WantsMemory, Outcome}
+use Rattle.interpolator.specs.Outcomes.{Finished, Outcome}
 
 pub appends_none : (a : Written) → Appends a [] a
 appends_none a = record { appended = sym (append-nil a.text); same_flag = refl; only_empty = λ _. refl }

@@ -1,11 +1,11 @@
 -- The pieces of a text, one after the other.
-use Rattle.std.proofs.Common.{◌≡◌, ℕ, zero, suc, ◌+◌, ◌-◌, ◌<◌, ◌≤◌, Bool, true, false, cond, eqb, List, [], ◌∷◌, length, arith, refl, ap, ◌∙◌, sym, Result, Ok, Err, Option, Some, None}
+use Rattle.std.proofs.Common.{◌≡◌, ℕ, zero, suc, ◌≤◌, Bool, true, false, cond, eqb, List, [], ◌∷◌, length, arith, refl, ap, Result, Ok, Err, Option, Some, None}
 use Rattle.interpolator.specs.At.{At, behind, strip, strip_of}
 use Rattle.interpolator.specs.Classes.{behind_of, in_class, open_brace, close_brace}
-use Rattle.interpolator.specs.Arguments.{Argument, argument_at, after_name, named_from, plain_argument}
+use Rattle.interpolator.specs.Arguments.{Argument, argument_at, after_name, plain_argument}
 use Rattle.interpolator.specs.Classes.{front_of}
 use Rattle.interpolator.specs.Faults.{Fault}
-use Rattle.interpolator.specs.Pieces.{Step, literal, step, takes_all, argument_step, argument_or_broken, argument_from, open_step, close_step, piece_from, past, pieces_within, pieces}
+use Rattle.interpolator.specs.Pieces.{Step, argument_step, argument_or_broken, argument_from, open_step, close_step, piece_from, past, pieces_within, pieces}
 use Rattle.interpolator.specs.declared.class.Class.TheVariants.{WhiteSpace, Name}
 
 pub none_some : {A : Type 0} {x : A} → None ≡ Some x → ⊥

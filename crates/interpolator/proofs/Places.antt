@@ -1,20 +1,19 @@
 -- Every place of a meaning lies in the text.
-use Rattle.std.proofs.Common.{◌≡◌, ℕ, zero, suc, ◌+◌, ◌<◌, ◌≤◌, Bool, true, false, cond, eqb, List, [], ◌∷◌, ◌++◌, length, arith, refl, sym, ◌∙◌, ap, subst, Result, Ok, Err, Option, Some, None, option_map, ◌⊎◌, inl, inr}
+use Rattle.std.proofs.Common.{◌≡◌, ℕ, zero, suc, ◌+◌, ◌≤◌, Bool, true, false, cond, eqb, List, [], ◌∷◌, ◌++◌, length, arith, refl, subst, Result, Ok, Err, Option, Some, None, option_map, inl, inr}
 use Rattle.std.specs.Prelude.{⊤}
-use Rattle.std.specs.Char.{len_utf8}
 use Rattle.interpolator_render.specs.declared.view.Trait.{Trait}
 use Rattle.interpolator_render.specs.declared.view.Spec.{Spec}
 use Rattle.interpolator_render.specs.Views.{Shown}
 use Rattle.interpolator_render.specs.Texts.{ViewText, has_text, is_missing, has_failed, view_text}
 use Rattle.interpolator_render.specs.Written.{Written}
-use Rattle.interpolator.specs.At.{At, Placed, placed_at, size, behind, strip, strip_of, all_behind}
+use Rattle.interpolator.specs.At.{At, Placed, placed_at, size, behind, strip, strip_of}
 use Rattle.interpolator.specs.Classes.{front_of, behind_of, in_class, open_brace, close_brace}
 use Rattle.interpolator.specs.Arguments.{Argument, Kind, of_value, argument_at, after_name, plain_argument}
 use Rattle.interpolator.specs.Environments.{Environment, given}
-use Rattle.interpolator.specs.Faults.{Fault, Answer, fault, no_memory, fault_place, PlaceWithin}
-use Rattle.interpolator.specs.Meanings.{Meaning, nothing, or_fault, joined, view_means, value_means, kind_means, found_means, argument_means, piece_means, means}
-use Rattle.interpolator.specs.Outcomes.{Finished, Refused, WantsMemory, Outcome}
-use Rattle.interpolator.specs.Pieces.{Step, PieceKind, argument_step, argument_or_broken, argument_from, open_step, close_step, piece_from, past}
+use Rattle.interpolator.specs.Faults.{Fault, Answer, fault, fault_place, PlaceWithin}
+use Rattle.interpolator.specs.Meanings.{Meaning, or_fault, joined, view_means, value_means, kind_means, found_means, piece_means, means}
+use Rattle.interpolator.specs.Outcomes.{Outcome}
+use Rattle.interpolator.specs.Pieces.{Step, argument_step, argument_or_broken, argument_from, open_step, close_step, piece_from, past}
 use Rattle.interpolator.specs.Trees.{Tree, slots, slot_at}
 use Rattle.interpolator.specs.declared.class.Class.TheVariants.{WhiteSpace, Name}
 use Rattle.interpolator.proofs.Pieces.{in_both, piece_within}

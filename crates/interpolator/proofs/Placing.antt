@@ -1,13 +1,12 @@
 -- What a writer leaves of a text whose characters have places.
-use Rattle.std.proofs.Common.{◌≡◌, refl, sym, ◌∙◌, ap, ℕ, ◌+◌, ◌<◌, List, [], ◌∷◌, ◌++◌, map, length, None, Some, inl, inr, arith, length-append}
+use Rattle.std.proofs.Common.{◌≡◌, refl, ◌∙◌, ap, ℕ, ◌+◌, ◌<◌, List, [], ◌∷◌, ◌++◌, length, None, Some, inl, inr, arith}
 use Rattle.std.proofs.lemmas.List.{map-append}
-use Rattle.std.specs.Char.{len_utf8, encode_utf8}
-use Rattle.std.specs.Str.{encode_utf8_all}
+use Rattle.std.specs.Char.{len_utf8}
 use Rattle.std.specs.Prelude.{Ok, Err}
 use Rattle.interpolator_render.specs.declared.view.Trait.{Trait}
 use Rattle.interpolator_render.specs.declared.view.RenderFault.TheVariants.{Refused as RefusedFault}
 use Rattle.interpolator_render.specs.Texts.{ViewText, has_text, is_missing, has_failed, Renders}
-use Rattle.interpolator_render.specs.Written.{Written, byte_count, Appends, AppendsBeginning, Refuses}
+use Rattle.interpolator_render.specs.Written.{Written, Appends, AppendsBeginning, Refuses}
 use Rattle.interpolator.specs.At.{text_of, placed_at, placed_from, size}
 use Rattle.interpolator.specs.Faults.{fault, fmt}
 use Rattle.interpolator.specs.Meanings.{says, view_means}

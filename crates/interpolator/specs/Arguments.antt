@@ -1,5 +1,5 @@
 -- What stands behind an opening brace.
-use Rattle.std.specs.Prelude.{ℕ, ◌==◌, if◌then◌else◌, List, [], ◌∷◌, false, Option, None, Result}
+use Rattle.std.specs.Prelude.{ℕ, ◌==◌, if◌then◌else◌, List, [], ◌∷◌, false, None, Result}
 use Rattle.std.specs.Prelude.{Ok, Err, codes}
 use Rattle.std.specs.Str.{chars}
 use Rattle.interpolator_render.specs.declared.view.Trait.{Trait}

@@ -1,13 +1,13 @@
 -- The three outcomes of writing what a format means.
-use Rattle.std.specs.Prelude.{◌≡◌, ℕ, ◌≤◌, List, [], ◌∷◌, ◌++◌, length, Contains, Option, None}
-use Rattle.std.specs.Prelude.{Some, option_map, Bool, true, ◌⊎◌, ⊤, Result, MatchResult}
+use Rattle.std.specs.Prelude.{◌≡◌, ℕ, [], ◌∷◌, ◌++◌, length, Contains, Option, None}
+use Rattle.std.specs.Prelude.{Some, option_map, true, ◌⊎◌, Result, MatchResult}
 use Rattle.std.specs.Prelude.{string_bytes}
 use Rattle.std.specs.Str.{chars}
 use Rattle.std.specs.declared.string.String.{String}
 use Rattle.interpolator_render.specs.Written.{Written, Appends}
 use Rattle.interpolator.specs.declared.error.Error.{Error}
 use Rattle.interpolator.specs.At.{Placed, text_of}
-use Rattle.interpolator.specs.Faults.{Fault, Answer, fault, no_memory, fmt, answer_of}
+use Rattle.interpolator.specs.Faults.{Answer, fault, no_memory, fmt, answer_of}
 use Rattle.interpolator.specs.Meanings.{Meaning}
 
 -- a writer before and after, and what was answered

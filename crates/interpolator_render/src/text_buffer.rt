@@ -40,17 +40,18 @@ impl TextBuffer {
     pub fn new(alloc: Global) -> TextBuffer
         ensures { result ≡ record { text = []; refused = false } }
     {
-        TextBuffer::from_string(String::new(alloc))
+        TextBuffer {
+            text: String::new(alloc),
+            refused: false,
+        }
     }
 
     /// A buffer that holds this text already.
     pub fn from_string(text: String) -> TextBuffer
         ensures { result ≡ record { text = chars (string_bytes text); refused = false } }
     {
-        TextBuffer {
-            text,
-            refused: false,
-        }
+        let refused = false;
+        TextBuffer { text, refused }
     }
 
     /// The text so far.

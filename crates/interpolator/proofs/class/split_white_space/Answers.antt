@@ -1,7 +1,7 @@
-use Rattle.std.proofs.Common.{rules, ◌≡◌, ◌++◌, length, ℕ, ◌-◌, List, take, sym, ap, ◌∙◌, arith, subst}
+use Rattle.std.proofs.Common.{◌≡◌, ◌++◌, length, ◌-◌, sym, ap, ◌∙◌, subst}
 use Rattle.std.specs.Str.{chars, IsUtf8}
 use Rattle.std.proofs.lemmas.Str.{IsUtf8-past_char, IsUtf8-take}
-use Rattle.interpolator.specs.Classes.{in_class, front_of, behind_of}
+use Rattle.interpolator.specs.Classes.{in_class, behind_of}
 use Rattle.interpolator.specs.declared.class.Class.TheVariants.{WhiteSpace}
 use Rattle.interpolator.proofs.Fronts.{behind_pass, behind_stop, rest_more, rest_boundary, cut_at_rest, front_cut}
 use Rattle.interpolator.proofs.class.split_white_space.Goals as goal

@@ -3,7 +3,7 @@ use denote.Text.{Utf8}
 use denote.Shadow.{shadow}
 use Rattle.std.specs.Str.{chars}
 use Rattle.interpolator.specs.declared.class.Class.TheVariants.{WhiteSpace}
-use Rattle.interpolator.specs.Classes.{in_class, front_of, behind_of}
+use Rattle.interpolator.specs.Classes.{in_class, behind_of}
 use Rattle.interpolator.proofs.class.split_white_space.Given as goal
 
 abbrev pub invariant-loop-c : goal.invariant-loop-c

@@ -1,4 +1,4 @@
-use Rattle.std.proofs.Common.{length, ◌+◌, ◌<◌, ◌^◌, Option}
+use Rattle.std.proofs.Common.{length, Option}
 use Rattle.std.specs.Str.{chars}
 use Rattle.interpolator.specs.Faults.{Answer}
 use Rattle.interpolator.specs.Meanings.{means}

@@ -1,5 +1,4 @@
-use Rattle.std.proofs.Common.{rules, arith, ◌≡◌, sym, ◌∙◌, ◌<◌, length, ℕ}
-use Rattle.std.specs.Str.{chars}
+use Rattle.std.proofs.Common.{rules, sym, ◌∙◌}
 use Rattle.interpolator.specs.Trees.{tree_of}
 use Rattle.interpolator.proofs.Lookups.{empty_name, other_name}
 use Rattle.interpolator.proofs.scope.Scope+C+C+Object.lookup.Goals as goal
