@@ -34,6 +34,13 @@ fn owned(alloc: Global, name: &str, values: &[u64]) -> Result<String, Error> {
     context.format(alloc, "first: {first}")
 }
 
+/// Owned texts as values.
+fn quoted(alloc: Global, line: &String) -> Result<String, Error> {
+    let mut context = HashMap::new(alloc);
+    context.insert("line", Formattable::display(line))?;
+    context.format(alloc, "> {line}")
+}
+
 /// A map that is built name by name; a list's items borrow from one local.
 fn listed(alloc: Global, title: &str, low: i64, high: i64) -> Result<String, Error> {
     let values = [
@@ -93,6 +100,8 @@ fn users_write_formats(rt: HostRuntime) -> Result<(), Fail> {
         owned(alloc, "first", &[18_446_744_073_709_551_615])?.as_str(),
         "first: 18446744073709551615"
     );
+    let line = String::from_str(alloc, "é {line}")?;
+    assert_eq!(rt; quoted(alloc, &line)?.as_str(), "> é {line}");
     assert_eq!(rt;
         listed(alloc, "numbers", 1, -5)?.as_str(),
         "numbers: 1 up to -5"
