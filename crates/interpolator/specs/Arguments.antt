@@ -63,10 +63,11 @@ named_from start a =
 unfoldable pub argument_at : At → Result (Argument × At) Fault
 argument_at a = named_from a.place (behind (in_class WhiteSpace) a)
 
--- the same, as the code has them
+-- the kind as the code has it
 abbrev pub kind_of : code_kind.Kind → Kind
 kind_of (Value t) = of_value t
 
+-- an argument as the code has it, without where it lies in memory
 abbrev pub argument_of : code_argument.Argument → Argument
 argument_of x = record {
   name = chars x.name.now;
@@ -75,6 +76,7 @@ argument_of x = record {
   kind = kind_of x.kind;
 }
 
+-- what the code read: an argument and what stands behind its spec, or why it is broken
 abbrev pub argument_read : Result (code_argument.Argument × Cursor) ParseError
     → Result (Argument × At) Fault
 argument_read (Ok x) = Ok (argument_of x.0, at x.1)

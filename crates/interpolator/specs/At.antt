@@ -37,6 +37,7 @@ pub record At : Type 0 where
 abbrev pub outermost : List ℕ → At
 outermost cs = record { place = 0; text = cs }
 
+-- where a cursor stands
 abbrev pub at : Cursor → At
 at c = record { place = c.place; text = chars c.rest.now }
 
@@ -45,6 +46,7 @@ abbrev pub first_of : ℕ → List ℕ → Option (ℕ × At)
 first_of p [] = None
 first_of p (c ∷ cs) = Some (c, record { place = p + len_utf8 c; text = cs })
 
+-- the same of a text at a place
 abbrev pub first : At → Option (ℕ × At)
 first a = first_of a.place a.text
 
@@ -58,6 +60,7 @@ abbrev pub strip_of : ℕ → ℕ → List ℕ → Option At
 strip_of c p [] = None
 strip_of c p (d ∷ ds) = if d == c then Some (record { place = p + len_utf8 d; text = ds }) else None
 
+-- the same of a text at a place
 abbrev pub strip : ℕ → At → Option At
 strip c a = strip_of c a.place a.text
 

@@ -16,6 +16,7 @@ close_brace = 125
 abbrev pub colon : ℕ
 colon = 58
 
+-- `{` or `}`
 abbrev pub is_brace : ℕ → Bool
 is_brace c = c == open_brace || c == close_brace
 

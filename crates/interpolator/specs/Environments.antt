@@ -11,6 +11,7 @@ pub record Environment (X : Type 0) : Type 0 where
   pub inner : Option (Tree X)
   pub names : Option (List (List ℕ))
 
+-- a name is one of these
 abbrev pub is_among : List ℕ → List (List ℕ) → Bool
 is_among name [] = false
 is_among name (x ∷ xs) = bytes_eq name x || is_among name xs

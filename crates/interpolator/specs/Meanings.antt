@@ -22,6 +22,7 @@ pub record Meaning : Type 0 where
   pub fault : Option Fault
   pub memory_points : List ℕ
 
+-- no text, no fault, no memory
 abbrev pub nothing : Meaning
 nothing = record { text = []; fault = None; memory_points = [] }
 
@@ -37,7 +38,7 @@ ends f = record { text = []; fault = Some f; memory_points = [] }
 abbrev pub ends_with_memory : Fault → Meaning
 ends_with_memory f = record { text = []; fault = Some f; memory_points = 0 ∷ [] }
 
--- one behind the other, up to the first fault
+-- one behind the other, where the first has this fault or none: memory points move by its text
 abbrev pub or_fault : Option Fault → Meaning → Meaning → Meaning
 or_fault (Some f) m k = m
 or_fault None m k = record {
@@ -46,6 +47,7 @@ or_fault None m k = record {
   memory_points = m.memory_points ++ map (λ n. length m.text + n) k.memory_points;
 }
 
+-- the first, and behind it the second where the first has no fault
 abbrev pub joined : Meaning → Meaning → Meaning
 joined m k = or_fault m.fault m k
 
@@ -62,6 +64,7 @@ value_means shows t spec q None = ends (missing_trait_impl t q)
 value_means shows t spec q (Some x) = view_means t q (view_text (shows x t spec) t spec)
 
 module _ {X : Type 0} (shows : X → Trait → Spec → Shown) where
+  -- what was found means, by what the argument asks for
   abbrev pub kind_means : Kind → Spec → (q : ℕ) → Tree X → Meaning
   kind_means (of_value t) spec q found = value_means shows t spec q (slot_at t (slots found))
 
@@ -71,6 +74,7 @@ module _ {X : Type 0} (shows : X → Trait → Spec → Shown) where
   found_means start x q (Some found) = kind_means x.kind x.spec q found
 
   module _ (e : Environment X) where
+    -- an argument means what its name gives
     abbrev pub argument_means : (start : ℕ) → Argument → (q : ℕ) → Meaning
     argument_means start x q = found_means start x q (given e x.name)
 

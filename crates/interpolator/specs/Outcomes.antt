@@ -39,6 +39,7 @@ module _ (m : Meaning) (old new : Written) (answer : Option Answer) where
     pub begun : Appends old (text_of front) new
     pub told : answer ≡ Some no_memory
 
+  -- finished, refused, or memory was wanted
   abbrev pub Outcome : Type 0
   Outcome = Finished ⊎ Refused ⊎ WantsMemory
 

@@ -16,6 +16,7 @@ pub data PieceKind : Type 0 where
   unclosed : (start : ℕ) (argument : Argument) (end : ℕ) → PieceKind
   broken : (fault : Fault) → PieceKind
 
+-- a piece: where it stands, its text, and what it is
 pub record Piece : Type 0 where
   pub place : ℕ
   pub text : List ℕ
@@ -26,6 +27,7 @@ pub record Step : Type 0 where
   pub piece : Piece
   pub rest : At
 
+-- a piece by its parts, and what stands behind it
 abbrev pub step : ℕ → List ℕ → PieceKind → At → Step
 step p text kind rest =
     record { piece = record { place = p; text = text; kind = kind }; rest = rest }
@@ -43,6 +45,7 @@ abbrev pub argument_step : ℕ → At → Argument → At → Option At → Step
 argument_step p b x q None = takes_all p b (unclosed b.place x q.place)
 argument_step p b x q (Some rest) = step p (text_up_to b rest) (closed b.place x q.place) rest
 
+-- an argument, or why it is broken, behind a brace at p
 abbrev pub argument_or_broken : ℕ → At → Result (Argument × At) Fault → Step
 argument_or_broken p b (Ok x) = argument_step p b x.0 x.1 (strip close_brace x.1)
 argument_or_broken p b (Err f) = takes_all p b (broken f)
@@ -79,5 +82,6 @@ pieces_within zero p (c ∷ cs) = []
 pieces_within (suc most) p (c ∷ cs) =
     let s = piece_from p c (past p c cs) in s.piece ∷ pieces_within most s.rest.place s.rest.text
 
+-- the pieces of a text
 unfoldable pub pieces : At → List Piece
 pieces a = pieces_within (length a.text) a.place a.text

@@ -14,6 +14,7 @@ use Rattle.interpolator.specs.declared.piece.Piece as code_piece
 use Rattle.interpolator.specs.declared.piece.Piece.TheVariants.{Literals, Doubled, LoneClose}
 use Rattle.interpolator.specs.declared.piece.Piece.TheVariants.{Closed, Unclosed, Broken}
 
+-- a run of literals, or any other piece
 pub data Scanned : Type 0 where
   literals : List ℕ → Scanned
   other : PieceKind → Scanned
@@ -24,11 +25,12 @@ scan_from a c b =
     if is_brace c then (let s = piece_from a.place c b in (other s.piece.kind, s.rest))
     else (literals (front_of (in_class Literal) a.text), behind (in_class Literal) a)
 
+-- the first of them, by the first character
 abbrev pub scan_by : At → Option (ℕ × At) → Option (Scanned × At)
 scan_by a None = None
 scan_by a (Some x) = Some (scan_from a x.0 x.1)
 
--- the first of them, and what stands behind it
+-- the first of them, and what stands behind it, in a text at a place
 unfoldable pub scanned : At → Option (Scanned × At)
 scanned a = scan_by a (first a)
 
@@ -41,6 +43,7 @@ scanned_of (Closed start x end) = other (closed start (argument_of x) end)
 scanned_of (Unclosed start x end) = other (unclosed start (argument_of x) end)
 scanned_of (Broken e) = other (broken (parse (parse_fault_of e)))
 
+-- the same with what stands behind it
 abbrev pub scan_read : code_piece.Piece × Cursor → Scanned × At
 scan_read x = (scanned_of x.0, at x.1)
 

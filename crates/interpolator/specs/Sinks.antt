@@ -11,6 +11,7 @@ pub record Ends : Type 0 where
   pub out : Written
   pub aside : Option Written
 
+-- the buffer, or the writer where there is none
 abbrev pub buffer_or : Option Written → Written → Written
 buffer_or None out = out
 buffer_or (Some buffer) out = buffer
@@ -25,6 +26,7 @@ StaysBy None None out out' = ⊤
 StaysBy (Some b) (Some c) out out' = out' ≡ out
 StaysBy _ _ _ _ = ⊥
 
+-- the end that does not take the text stays as it is
 abbrev pub OtherStays : Ends → Ends → Type 0
 OtherStays s t = StaysBy s.aside t.aside s.out t.out
 
@@ -33,9 +35,11 @@ pub record Evaluates (m : Meaning) (old new : Ends) (answer : Option Answer) : T
   pub outcome : Outcome m (target old) (target new) answer
   pub other : OtherStays old new
 
+-- a sink by its two ends
 abbrev pub ends_of : Written → Option Written → Ends
 ends_of out aside = record { out = out; aside = aside }
 
+-- what is known of a sink, where `written` is what is known of its writer
 abbrev pub seen : {W : Type 0} → (W → Written) → code_sink.Sink W → Ends
 seen written s = ends_of (written s.out.now) s.aside.now
 
