@@ -1,11 +1,12 @@
 //! A command line, answered.
 
-ghost use Rattle.std.specs.Prelude.{◌≡◌, IfErr, IfOk, MatchBool, MatchOption, OnErr};
+ghost use Rattle.std.specs.Prelude.{◌≡◌, IfErr, IfOk, MatchBool, MatchOption, OnErr, OnOk};
 ghost use Rattle.interpolator.specs.declared.error.Error.TheVariants.{NoMemory};
 ghost use Rattle.ifmt.specs.Words.{IsGood};
 ghost use Rattle.interpolator.specs.Meanings.{Meaning};
 ghost use Rattle.ifmt.specs.Run.{Runs};
-ghost use Rattle.ifmt.specs.Command.{AllGood, Answers, IsFirstBad};
+ghost use Rattle.interpolator.specs.Views.{shown_by, signed_number};
+ghost use Rattle.ifmt.specs.Command.{Fills, object_shows, AllGood, Answers, IsFirstBad};
 
 use crate::run::{complain, report, run, usage};
 use crate::words::{Word, classify};
@@ -100,7 +101,9 @@ fn objects_of<'a>(alloc: Global, words: &[Word<'a>]) -> Result<Vec<View<'a>>, Er
 }
 
 // What a word's value shows; a word with none shows nothing.
-fn object_of<'a>(word: Word<'a>) -> View<'a> {
+fn object_of<'a>(word: Word<'a>) -> View<'a>
+    ensures { shown_by result ≡ object_shows (λ n. signed_number n Bits.B128) word.entry }
+{
     match word {
         Word::Text { name: _, text } => View::Text(text),
         Word::Number { name: _, value } => View::Signed(value, Bits::B128),
@@ -111,7 +114,8 @@ fn object_of<'a>(word: Word<'a>) -> View<'a> {
 
 // Fills the slots of a word's name: a text those of debug and display, a number all of an integer.
 fn fill<'a, V>(context: &mut ContextMap<'a, V>, word: Word<'_>, object: &'a V) -> Result<(), Error>
-    ensures { IfErr result (λ error. error ≡ NoMemory) }
+    ensures ok { OnOk result (Fills context.old word.entry object.now context.new) }
+    ensures err { IfErr result (λ error. error ≡ NoMemory) }
 {
     match word {
         Word::Text { name, text: _ } => context.entry(name)?.set_debug_display(object),
