@@ -13,7 +13,7 @@ pub(crate) struct Cursor<'a> {
 }
 
 impl<'a> Cursor<'a> {
-    ghost use Rattle.interpolator.specs.At.{at, first, strip, behind, size, all_behind};
+    ghost use Rattle.interpolator.specs.At.{at, first, strip, behind, all_behind};
     ghost use Rattle.interpolator.specs.Classes.{in_class, front_of};
 
     /// The character here, and what stands behind it.

@@ -1,5 +1,5 @@
 //! Writes what the pieces of a text mean, up to the first fault.
-ghost use Rattle.std.specs.Prelude.{◌≡◌, ◌+◌, ◌^◌, ◌<◌, length, ◌⊎◌};
+ghost use Rattle.std.specs.Prelude.{◌≡◌, ◌⊎◌};
 ghost use Rattle.std.specs.Str.{chars};
 ghost use Rattle.interpolator.specs.At.{at};
 ghost use Rattle.interpolator.specs.Arguments.{argument_of};

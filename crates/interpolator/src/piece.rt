@@ -1,6 +1,5 @@
 //! The next piece of a format text.
-ghost use Rattle.std.specs.Prelude.{◌≡◌, ℕ, ◌+◌, ◌^◌, ◌<◌, ◌≤◌, IfSome, length, option_map};
-ghost use Rattle.std.specs.Str.{chars};
+ghost use Rattle.std.specs.Prelude.{◌≡◌, ℕ, IfSome, option_map};
 ghost use Rattle.interpolator.specs.At.{at};
 ghost use Rattle.interpolator.specs.Pieces.{argument_from};
 ghost use Rattle.interpolator.specs.Scans.{scanned, scanned_of, scan_read, other, RunFits};

@@ -1,5 +1,5 @@
 //! Numbers in exponent form.
-ghost use Rattle.std.specs.Prelude.{◌≡◌, ◌+◌, ◌-◌, ◌/◌, ◌^◌, ◌<◌, ◌≤◌, ◌++◌, false, length, drop};
+ghost use Rattle.std.specs.Prelude.{◌≡◌, ◌+◌, ◌/◌, ◌^◌, ◌<◌, ◌≤◌, ◌++◌, false, length, drop};
 ghost use Rattle.std.specs.Prelude.{replicate, slice_range};
 ghost use Rattle.std.specs.Str.{IsAscii};
 ghost use Rattle.interpolator_render.specs.Exponent.{exponent_of, exponent_tail, nearest, pointed};

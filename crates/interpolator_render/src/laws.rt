@@ -1,7 +1,7 @@
 //! What the definitions that the contracts cite say in other words: laws, proved once for all
 //! values. Their bodies are empty, and their contracts are the laws.
-ghost use Rattle.std.specs.Prelude.{◌≡◌, ◌+◌, ◌-◌, ◌*◌, ◌^◌, ◌<◌, ◌≤◌, ◌≢◌, ◌↔◌, ◌++◌, ◌+ℤ◌, ◌*ℤ◌};
-ghost use Rattle.std.specs.Prelude.{max, ℕ, ℤ, pos, Bool, List, Some, None, IsTrue, true, false};
+ghost use Rattle.std.specs.Prelude.{◌≡◌, ◌+◌, ◌*◌, ◌^◌, ◌<◌, ◌≤◌, ◌≢◌, ◌↔◌, ◌++◌, ◌+ℤ◌, ◌*ℤ◌};
+ghost use Rattle.std.specs.Prelude.{max, ℕ, ℤ, pos, Bool, List, Some, None, IsTrue, false};
 ghost use Rattle.std.specs.Prelude.{length, replicate, slice_index, unwrap_or};
 ghost use Rattle.std.specs.Str.Parse.{digits_value};
 ghost use Rattle.interpolator_render.specs.declared.view.Bits.{Bits};

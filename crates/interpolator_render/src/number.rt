@@ -1,5 +1,5 @@
 //! Whole numbers: sign, prefix, digits or exponent form, and their padding.
-ghost use Rattle.std.specs.Prelude.{◌≡◌, ◌≤◌, ◌<◌, ◌^◌, ◌-◌, ◌+◌, ◌++◌, length, min, replicate};
+ghost use Rattle.std.specs.Prelude.{◌≡◌, ◌≤◌, ◌+◌, ◌++◌, replicate};
 ghost use Rattle.interpolator_render.specs.Numbers.{base_of, is_upper, prefix_of, number_form};
 ghost use Rattle.interpolator_render.specs.Numbers.{sign_text, twos_complement, has_minus};
 ghost use Rattle.interpolator_render.specs.Numbers.{magnitude, number_text, IsShortAscii};

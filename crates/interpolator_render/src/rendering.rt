@@ -3,9 +3,9 @@ ghost use Rattle.std.specs.Prelude.{◌≡◌, ◌∷◌, [], ◌<◌};
 ghost use Rattle.std.specs.Str.{chars};
 ghost use Rattle.interpolator_render.specs.Padding.{between_spaces, displayed_text};
 ghost use Rattle.interpolator_render.specs.Quoting.{quoted};
-ghost use Rattle.interpolator_render.specs.Texts.{under, truth_text, view_text, in_form};
+ghost use Rattle.interpolator_render.specs.Texts.{under, truth_text, view_text};
 ghost use Rattle.interpolator_render.specs.Texts.{render_answer, Renders};
-ghost use Rattle.interpolator_render.specs.Numbers.{number_form, number_text};
+ghost use Rattle.interpolator_render.specs.Numbers.{number_form};
 ghost use Rattle.interpolator_render.specs.Views.{IsInRange, shown_by};
 ghost use Rattle.interpolator_render.specs.Written.{Puts};
 

@@ -1,5 +1,5 @@
 //! A writer that takes a number of characters and then refuses.
-ghost use Rattle.std.specs.Prelude.{◌≡◌, ◌-◌, ◌<◌, take, length, false, [], string_bytes};
+ghost use Rattle.std.specs.Prelude.{◌≡◌, ◌-◌, ◌<◌, take, length, false, string_bytes};
 ghost use Rattle.std.specs.Str.{chars};
 
 use interpolator_render::{Refusal, TextWrite};
