@@ -28,14 +28,15 @@ fn values<'a>(
     Ok(map)
 }
 
-const SHOWN: [(&str, View<'static>); 9] = [
+const SHOWN: [(&str, View<'static>); 10] = [
     ("name", View::Text("Ann")),
     ("n", View::Signed(-7, Bits::B32)),
     ("x", View::Unsigned(1)),
     ("é", View::Unsigned(1)),
     ("a{b", View::Unsigned(1)),
     ("", View::Unsigned(1)),
-    ("y ", View::Unsigned(1)),
+    ("y", View::Unsigned(1)),
+    ("w ", View::Unsigned(1)),
     ("plain", View::Plain("{x}")),
     ("failed", View::Failed),
 ];

@@ -10,14 +10,14 @@ pub(crate) struct Row<'a> {
     pub(crate) told: Told<'a>,
 }
 
-/// The names are `name`, which is `Ann`; `n`, which is -7; `x`, `é`, `a{b`, the empty name and `y `
-/// with a space behind it, which are 1; `plain`, which is `{x}` whatever is asked; `failed`, which
+/// The names are `name`, which is `Ann`; `n`, which is -7; `x`, `y`, `é`, `a{b`, the empty name and
+/// `w ` with a space behind it, which are 1; `plain`, which is `{x}` whatever is asked; `failed`, which
 /// fails; and `none`, which has no slots.
 #[rattlefmt::skip]
 pub(crate) const PLAIN: [Row<'static>; 27] = [
     Row { format: "", text: "", told: Told::Done },
     Row { format: "{{a}} and }", text: "{a} and }", told: Told::Done },
-    Row { format: "a{ z }", text: "a", told: Told::MissingValue("z ", 2) },
+    Row { format: "a{ y }", text: "a", told: Told::MissingValue("y ", 2) },
     Row { format: "Hello {name}, {{n}} is {n} }", text: "Hello Ann, {n} is -7 }", told: Told::Done },
     Row { format: "{{{x}}}", text: "{1}", told: Told::Done },
     Row { format: "}}}", text: "}}", told: Told::Done },
@@ -33,7 +33,7 @@ pub(crate) const PLAIN: [Row<'static>; 27] = [
     Row { format: "éé{ü}", text: "éé", told: Told::MissingValue("ü", 5) },
     Row { format: "{a{b}", text: "1", told: Told::Done },
     Row { format: "{}{ }{\u{a0}}", text: "111", told: Told::Done },
-    Row { format: "a{ \t\ny }", text: "a1", told: Told::Done },
+    Row { format: "a{ \t\nw }", text: "a1", told: Told::Done },
     Row { format: "{x}}", text: "1}", told: Told::Done },
     Row { format: "{x}}}", text: "1}", told: Told::Done },
     Row { format: "{plain}", text: "{x}", told: Told::Done },
