@@ -1,32 +1,120 @@
 -- The text up to the first of two ASCII characters, found by its bytes.
-use Rattle.std.proofs.Common.{◌≡◌, ℕ, suc, ◌+◌, ◌<◌, ◌≤◌, ◌≢◌, Bool, true, false, not, cond, eqb, List, [], ◌∷◌, ◌++◌, length, take, drop, get_or, arith, refl, ap, ◌∙◌, sym, subst, rules, ◌⊎◌, inl, inr, ◌||◌, ◌/◌, ◌%◌, Option, Some, None}
-use Rattle.std.specs.List.{position, position_or_len, prefix_len}
-use Rattle.std.specs.Prelude.{nat_lt, ⊤}
+use Rattle.std.proofs.Common.{◌≡◌, ℕ, suc, ◌+◌, ◌<◌, ◌≤◌, ◌≢◌, zero, Bool, true, false, not, cond, eqb, List, [], ◌∷◌, ◌++◌, length, take, drop, get_or, arith, refl, ap, ◌∙◌, sym, subst, rules, ◌⊎◌, inl, inr, ◌||◌, ◌/◌, ◌%◌, ◌^◌, Option, Some, None, bit_or, map, replicate}
+use Rattle.std.specs.List.{position, position_or_len}
+use Rattle.std.specs.Prelude.{nat_lt, ⊤, IfSome}
 use Rattle.std.specs.Char.{encode_utf8}
 use Rattle.std.specs.Str.{chars, IsUtf8, IsCharBoundary, encode_utf8_all}
 use Rattle.std.proofs.lemmas.Str.{encodes-chars, encode_ascii, chars_from_encodes, IsUtf8-take, IsUtf8-drop, IsCharBoundary-before_ascii, IsCharBoundary-end}
+use Rattle.std.proofs.lemmas.List.Sums.{position_or_len_is, fails_before_first, passes_at_first, prefix_len-le-length}
+use Rattle.std.proofs.lemmas.List.{get_or-take, length-take-le, length-map, take-append-drop}
+use Rattle.std.proofs.lemmas.List.Folds.{prefix_len-append}
+use Rattle.std.proofs.lemmas.Simd.{zip2_splat, zip2_of_maps, mask_l-mod, leading_from_mask_l, trailing_mask_l}
+use Rattle.std.specs.Simd.Lanes.{mask_l, zip2, top}
+use Rattle.std.specs.Int.Count.{count_trailing_zeros}
 use Rattle.interpolator.specs.Classes.{avoids, front_of, behind_of}
 
-prefix_within : {X : Type 0} (p : X → Bool) (xs : List X) → prefix_len p xs ≤ length xs
-prefix_within p [] = omega arith
-prefix_within p (x ∷ xs) = elim (p x) as (λ t. cond t (1 + prefix_len p xs) 0 ≤ length (x ∷ xs)) [ true ↦ omega (arith, prefix_within p xs) | false ↦ omega arith ]
+-- ---- a block's mask
 
-test_some : (t : Bool) (n place : ℕ) → cond t (Some n) None ≡ Some place → place ≡ n
-test_some true n place e = cc
-test_some false n place e = absurd (cc)
+top_either : (s t : Bool) → top 7 (bit_or (cond s 255 0) (cond t 255 0)) ≡ (s || t)
+top_either true true = refl
+top_either true false = refl
+top_either false true = refl
+top_either false false = refl
 
-test_none : (t : Bool) (n : ℕ) → ◌≡◌ {A = Option ℕ} (cond t (Some n) None) None → t ≡ false
-test_none true n e = absurd (cc)
-test_none false n e = refl
+module _ (first second : ℕ) where
+  abbrev IsEither : ℕ → Bool
+  IsEither b = eqb b first || eqb b second
 
-pub position_found : (p : ℕ → Bool) (xs : List ℕ) (place : ℕ) → position p xs ≡ Some place → place ≡ position_or_len p xs
-position_found p xs place e = test_some (nat_lt (position_or_len p xs) (length xs)) (position_or_len p xs) place e
+  abbrev Lane : ℕ → ℕ → ℕ
+  Lane a b = cond (eqb a b) 255 0
 
-pub position_missed : (p : ℕ → Bool) (xs : List ℕ) → position p xs ≡ None → length xs ≡ position_or_len p xs
-position_missed p xs e =
-    let past : nat_lt (position_or_len p xs) (length xs) ≡ false = test_none (nat_lt (position_or_len p xs) (length xs)) (position_or_len p xs) e in
-    let none : length xs ≤ position_or_len p xs = search rules in
-    let within = prefix_within (λ b. not (p b)) xs in omega arith
+  tops : (xs : List ℕ) → map (top 7) (map (λ b. bit_or (Lane b first) (Lane b second)) xs) ≡ map IsEither xs
+  tops [] = refl
+  tops (x ∷ xs) = rw (top_either (eqb x first) (eqb x second)) (ap (λ (ms : List Bool). IsEither x ∷ ms) (tops xs))
+
+  abbrev Mask : List ℕ → ℕ → ℕ
+  Mask xs n = mask_l (map (top 7) (zip2 bit_or (zip2 Lane xs (replicate n first)) (zip2 Lane xs (replicate n second)))) % 2 ^ 64
+
+  mask_is : (xs : List ℕ) (n : ℕ) → length xs ≡ n → n ≤ 64 → Mask xs n ≡ mask_l (map IsEither xs)
+  mask_is xs n long room =
+      let lanes = zip2_of_maps bit_or (λ b. Lane b first) (λ b. Lane b second) xs (zip2_splat Lane xs n first long) (zip2_splat Lane xs n second long) in
+      let as_long : length (map IsEither xs) ≡ length xs = length-map xs IsEither in
+      ap (λ (ms : List Bool). mask_l ms % 2 ^ 64) (ap (map (top 7)) lanes ∙ tops xs) ∙ mask_l-mod (map IsEither xs) 64 (omega (arith, long, room, as_long))
+
+  pub no_hit : (xs : List ℕ) (n : ℕ) → length xs ≡ n → n ≤ 64 → Mask xs n ≡ 0 → n ≡ position_or_len IsEither xs
+  no_hit xs n long room none = sym (leading_from_mask_l IsEither xs (sym (mask_is xs n long room) ∙ none) ∙ long)
+
+  pub a_hit : (xs : List ℕ) (n : ℕ) → length xs ≡ n → n ≤ 64 → ¬ (Mask xs n ≡ 0) → count_trailing_zeros 64 (Mask xs n) ≡ position_or_len IsEither xs
+  a_hit xs n long room some =
+      let is = mask_is xs n long room in
+      let more : 0 < mask_l (map IsEither xs) = omega (arith, is, some) in
+      ap (count_trailing_zeros 64) is ∙ trailing_mask_l IsEither 64 xs (omega (arith, long, room)) more
+
+-- how far the first that passes lies from the end is the same of a whole and of what is left of it
+abbrev pub SameFirst : (ℕ → Bool) → List ℕ → List ℕ → Type 0
+SameFirst test all rest = (length rest ≤ length all) × (position_or_len test all + length rest ≡ position_or_len test rest + length all)
+
+-- past bytes that do not pass
+drop_one : (t : Bool) (m k n : ℕ) → suc k ≤ cond (not t) (1 + m) 0 → (k ≤ m → m ≡ k + n) → cond (not t) (1 + m) 0 ≡ suc k + n
+drop_one true m k n h rest = absurd (omega arith)
+drop_one false m k n h rest = let same = rest (omega arith) in omega (arith, same)
+
+drop_before : (test : ℕ → Bool) (k : ℕ) (xs : List ℕ) → k ≤ position_or_len test xs → position_or_len test xs ≡ k + position_or_len test (drop k xs)
+drop_before test zero xs h = omega arith
+drop_before test (suc k) [] h = absurd (omega arith)
+drop_before test (suc k) (x ∷ xs) h = drop_one (test x) (position_or_len test xs) k (position_or_len test (drop k xs)) h (drop_before test k xs)
+
+at_least : (t : Bool) (m n k : ℕ) → m ≤ n → m ≤ cond t (n + k) m
+at_least true m n k h = omega arith
+at_least false m n k h = omega arith
+
+take_before : (test : ℕ → Bool) (n : ℕ) (xs : List ℕ) → position_or_len test (take n xs) ≤ position_or_len test xs
+take_before test n xs =
+    let front = take n xs in
+    let whole : position_or_len test (front ++ drop n xs) ≡ position_or_len test xs = ap (position_or_len test) (take-append-drop n xs) in
+    let parts = prefix_len-append (λ x. not (test x)) front (drop n xs) in
+    subst (λ m. position_or_len test front ≤ m) (sym parts ∙ whole)
+    (at_least (eqb (position_or_len test front) (length front)) (position_or_len test front) (length front) (position_or_len test (drop n xs)) (prefix_len-le-length _ front))
+
+length_drop : (k : ℕ) (xs : List ℕ) → k ≤ length xs → length (drop k xs) + k ≡ length xs
+length_drop zero xs h = omega arith
+length_drop (suc k) [] h = absurd (omega arith)
+length_drop (suc k) (x ∷ xs) h = let less = length_drop k xs (omega arith) in omega (arith, less)
+
+pub one_block_less : (test : ℕ → Bool) (all rest left : List ℕ) (n k : ℕ) → SameFirst test all rest → k ≡ position_or_len test (take n rest) → left ≡ drop k rest → SameFirst test all left
+one_block_less test all rest left n k same is e =
+    let low : k ≤ position_or_len test rest = let at_most = take_before test n rest in omega (arith, is, at_most) in
+    let high : position_or_len test rest ≤ length rest = prefix_len-le-length _ rest in
+    let long : length (drop k rest) + k ≡ length rest = length_drop k rest (omega (arith, low, high)) in
+    let first : position_or_len test rest ≡ k + position_or_len test (drop k rest) = drop_before test k rest low in
+    subst (λ (xs : List ℕ). SameFirst test all xs) (sym e) (omega (arith, long, same.0), omega (arith, long, first, same.1))
+
+no_place : (t : Bool) (n : ℕ) → cond t (Some n) None ≡ None → t ≡ false
+no_place true n e = absurd (cc)
+no_place false n e = refl
+
+pub found_nowhere : (test : ℕ → Bool) (all rest : List ℕ) → SameFirst test all rest → position test rest ≡ None → length all ≡ position_or_len test all
+found_nowhere test all rest same e =
+    let late : nat_lt (position_or_len test rest) (length rest) ≡ false = no_place (nat_lt (position_or_len test rest) (length rest)) (position_or_len test rest) e in
+    let low : length rest ≤ position_or_len test rest = search rules in
+    let high : position_or_len test rest ≤ length rest = prefix_len-le-length _ rest in
+    omega (arith, low, high, same.1)
+
+some_place : (t : Bool) (n place : ℕ) → cond t (Some n) None ≡ Some place → (t ≡ true) × (n ≡ place)
+some_place true n place e = (refl, cc)
+some_place false n place e = absurd (cc)
+
+-- found among the first n bytes
+pub found_near : (test : ℕ → Bool) (bs : List ℕ) (n place : ℕ) → n ≤ length bs → position test (take n bs) ≡ Some place → place ≡ position_or_len test bs
+found_near test bs n place within e =
+    let near = take n bs in
+    let parts = some_place (nat_lt (position_or_len test near) (length near)) (position_or_len test near) place e in
+    let low : position_or_len test near < length near = let is = parts.0 in search rules in
+    let long : length near ≡ n = length-take-le n bs within in
+    let low' : place < n = omega (arith, low, long, parts.1) in
+    sym (position_or_len_is test bs place 0 (omega (arith, low', within))
+    (λ k h. sym (ap test (get_or-take n bs k 0 (omega (arith, low', h)))) ∙ fails_before_first test near k 0 (omega (arith, h, parts.1)))
+    (λ h. sym (ap test (get_or-take n bs place 0 low')) ∙ ap (λ (i : ℕ). test (get_or near i 0)) (sym parts.1) ∙ passes_at_first test near 0 low))
 
 -- ---- every byte of a character past ASCII is past ASCII
 
@@ -147,3 +235,7 @@ module _ (first second : ℕ) (low_first : first < 128) (low_second : second < 1
   pub chars_behind : (bs : List ℕ) → IsUtf8 bs → chars (drop (position_or_len Stops bs) bs) ≡ behind_of (avoids first second) (chars bs)
   chars_behind bs u = sym (chars_from_encodes (behind_of (avoids first second) (chars bs)) _ (IsUtf8-drop bs _ u (cut_boundary bs))
       (sym (behind_bytes (chars bs)) ∙ ap (behind_of (avoids first second)) (encodes-chars bs u) ∙ sym (drop_behind bs)))
+
+pub near_is : (test : ℕ → Bool) (bs : List ℕ) (n : ℕ) (r : Option ℕ) → n ≤ length bs → r ≡ position test (take n bs) → IfSome r (λ place. place ≡ position_or_len test bs)
+near_is test bs n None within e = tt
+near_is test bs n (Some place) within e = found_near test bs n place within (sym e)

@@ -1,12 +1,11 @@
 -- The characters of a text, and its bytes.
-use Rattle.std.proofs.Common.{◌≡◌, ℕ, ◌+◌, List, [], ◌∷◌, ◌++◌, length, arith, refl, drop, ◌<◌, ap, ◌∙◌, sym}
+use Rattle.std.proofs.Common.{◌≡◌, ℕ, ◌+◌, List, [], ◌∷◌, ◌++◌, length, arith, refl, ◌<◌, ap, ◌∙◌, sym}
 use Rattle.std.specs.Str.{chars, IsUtf8}
 use Rattle.std.specs.Char.{encode_utf8, len_utf8}
 use Rattle.std.proofs.lemmas.Str.{chars_past_char, chars-nil, length-encode, len_utf8_bounds}
 use Rattle.std.proofs.lemmas.Str.{encodes-chars}
 use Rattle.std.specs.Str.{encode_utf8_all}
 use Rattle.interpolator.specs.At.{size}
-use Rattle.std.proofs.Math.Seq.{drop-length}
 use Rattle.std.proofs.lemmas.List.{length-append, nil_from_length}
 
 pub chars_of_next : (bs rest : List ℕ) (c : ℕ) → IsUtf8 bs → bs ≡ encode_utf8 c ++ rest → chars bs ≡ c ∷ chars rest
@@ -32,14 +31,8 @@ length-encodes (c ∷ cs) = length_of_next (encode_utf8_all (c ∷ cs)) (encode_
 pub size-chars : (bs : List ℕ) → IsUtf8 bs → size (chars bs) ≡ length bs
 size-chars bs u = sym (length-encodes (chars bs)) ∙ ap length (encodes-chars bs u)
 
-pub size_of_chars : (bs : List ℕ) → IsUtf8 bs → length bs ≡ size (chars bs)
-size_of_chars bs u = sym (size-chars bs u)
-
-pub no_chars : (bs : List ℕ) → chars (drop (length bs) bs) ≡ []
-no_chars bs = ap chars (drop-length bs) ∙ chars-nil
+pub no_text : (bs : List ℕ) → bs ≡ [] → chars bs ≡ []
+no_text bs e = ap chars e ∙ chars-nil
 
 -- what the first character leaves of a text
 pub ruleset first_character = (chars_of_next, chars_of_end, length_of_next, shorter_after, nil_of_end)
-
--- what all of the characters leave
-pub ruleset all_characters = (size_of_chars, no_chars)

@@ -1,5 +1,5 @@
 -- What is written to a sink, one behind another.
-use Rattle.std.proofs.Common.{◌≡◌, refl, ◌∙◌, Option, None, Some, inl}
+use Rattle.std.proofs.Common.{refl, ◌∙◌, Option, None, Some, inl}
 use Rattle.interpolator_render.specs.Written.{Written}
 use Rattle.interpolator.specs.Faults.{Fault, Answer, fault}
 use Rattle.interpolator.specs.Meanings.{Meaning, nothing, ends, joined}
@@ -34,14 +34,6 @@ nothing_done s = record { outcome = inl (record { all = appends_none (target s);
 
 pub ended : (f : Fault) (s : Ends) → Evaluates (ends f) s s (Some (fault f))
 ended f s = record { outcome = inl (record { all = appends_none (target s); told = refl }); other = stays_same s.aside s.out }
-
--- the writer takes the text
-pub at_writer : (m : Meaning) (old new : Written) (a : Option Written) (answer : Option Answer) → a ≡ None → Outcome m old new answer → Evaluates m (record { out = old; aside = a }) (record { out = new; aside = a }) answer
-at_writer m old new a answer e h = rw e (record { outcome = h; other = tt })
-
--- the buffer takes it
-pub at_buffer : (m : Meaning) (out old new : Written) (a : Option Written) (answer : Option Answer) → a ≡ Some old → Outcome m old new answer → Evaluates m (record { out = out; aside = a }) (record { out = out; aside = Some new }) answer
-at_buffer m out old new a answer e h = rw e (record { outcome = h; other = refl })
 
 -- with no buffer the writer took it
 pub at_out : (m : Meaning) (old new : Written) (aside : Option Written) (answer : Option Answer) → Evaluates m (ends_of old None) (ends_of new aside) answer → Outcome m old new answer

@@ -34,9 +34,6 @@ cut_at_rest text rest r =
     let n : length text - length rest ≡ length r.0 = omega (arith, ap length r.1, length-append r.0 rest) in
     ap (λ k. take k text ++ rest) n ∙ ap (λ xs. take (length r.0) xs ++ rest) r.1 ∙ ap (λ xs. xs ++ rest) (take-append_seam r.0 rest) ∙ sym r.1
 
-pub append_same_end : (xs ys zs : List ℕ) → xs ++ zs ≡ ys ++ zs → xs ≡ ys
-append_same_end xs ys zs e = append_cancel_right xs ys zs e
-
 pub front_cut : (passes : ℕ → Bool) (text front rest : List ℕ) → IsUtf8 front → front ++ rest ≡ text → behind_of passes (chars text) ≡ chars rest → chars front ≡ front_of passes (chars text)
 front_cut passes text front rest u e b =
     append_cancel_right (chars front) (front_of passes (chars text)) (chars rest)

@@ -16,4 +16,5 @@ pub mod Pieces
 pub mod Places
 pub mod Placing
 pub mod Runs
+pub mod Strips
 pub mod TreeLemmas

@@ -1,5 +1,5 @@
 -- What an insertion into a map of names leaves, and what a loan of a value does.
-use Rattle.std.proofs.Common.{◌≡◌, ◌≢◌, refl, sym, ◌∙◌, ℕ, ◌+◌, List, Option, None, Some, MatchOption, Bool, true, false, arith, String, Global}
+use Rattle.std.proofs.Common.{◌≡◌, ◌≢◌, refl, sym, ◌∙◌, ℕ, ◌+◌, List, Option, None, Some, MatchOption, true, false, arith, String, Global}
 use Rattle.std.specs.Borrow.{Bor, MutBor}
 use Rattle.std.specs.Option.{option_copied, option_copied_mut, is_some, OnSome}
 use Rattle.std.specs.Str.{bytes_eq, encode_utf8_all}
@@ -59,18 +59,6 @@ module _ {T : Type 0} where
       → is_some found ≡ false → under old name ≡ None
   absent_name old name None value e = sym value
   absent_name old name (Some there) value e = cc
-
-  put_at : (old new : NameMap T) (name : List ℕ) (value : T) → HasPut old name value new → (other : List ℕ)
-      (is_name : Bool) → bytes_eq name other ≡ is_name
-      → under new other ≡ (if is_name then Some value else under old other)
-  put_at old new name value put other true e = rw (← ((bytes_eq-Decides name other).0 e)) put.here
-  put_at old new name value put other false e = put.others other
-      (λ same. let equal : bytes_eq name other ≡ true = (bytes_eq-Decides name other).1 (sym same) in cc)
-
-  -- what any name finds after a value was put under one
-  pub under-put : (old new : NameMap T) (name : List ℕ) (value : T) → HasPut old name value new → (other : List ℕ)
-      → under new other ≡ (if bytes_eq name other then Some value else under old other)
-  under-put old new name value put other = put_at old new name value put other (bytes_eq name other) refl
 
   module _ (IsDefault : T → Type 0) where
     -- a name that was there

@@ -1,5 +1,5 @@
 -- What a text means: what the scan hands on first, and then the rest.
-use Rattle.std.proofs.Common.{◌≡◌, ℕ, ◌+◌, ◌<◌, Bool, true, false, cond, eqb, subst, List, [], ◌∷◌, map, length, arith, refl, ap, ◌∙◌, sym, Option, Some, None, append_assoc, length-append}
+use Rattle.std.proofs.Common.{◌≡◌, ℕ, ◌+◌, ◌<◌, Bool, true, false, cond, eqb, subst, List, [], ◌∷◌, map, length, arith, refl, ap, ◌∙◌, sym, Option, Some, None, Result, Ok, Err, append_assoc, length-append}
 use Rattle.std.specs.Prelude.{◌||◌}
 use Rattle.std.proofs.lemmas.List.{map-append}
 use Rattle.std.specs.Char.{len_utf8}
@@ -10,11 +10,12 @@ use Rattle.interpolator.specs.At.{At, placed_from, size, strip}
 use Rattle.interpolator.specs.Classes.{front_of, behind_of, in_class, is_brace, open_brace, close_brace}
 use Rattle.interpolator.specs.Environments.{Environment}
 use Rattle.interpolator.specs.Faults.{Fault}
-use Rattle.interpolator.specs.Pieces.{piece_from, past, pieces, literal, open_step, close_step, step}
-use Rattle.interpolator.specs.Scans.{Scanned, scanned}
+use Rattle.interpolator.specs.Pieces.{Step, piece_from, past, pieces, literal, open_step, close_step, step, argument_step, argument_or_broken, argument_from}
+use Rattle.interpolator.specs.Scans.{Scanned, scanned, past_scanned, open_scan, close_scan, no_open_scan, scan_by}
+use Rattle.interpolator.specs.Arguments.{Argument, argument_at}
 use Rattle.interpolator.specs.Meanings.{Meaning, nothing, says, or_fault, joined, piece_means, pieces_mean, scanned_means, means}
 use Rattle.interpolator.specs.declared.class.Class.TheVariants.{Literal}
-use Rattle.interpolator.proofs.Pieces.{none_some, some_same, in_both, behind_shorter, piece_within, piece_begins, pieces_none, pieces_next}
+use Rattle.interpolator.proofs.Pieces.{behind_shorter, piece_begins, pieces_none, pieces_next, OptionWithin, strip_within, argument_from_within}
 
 shift_twice : (a b : ℕ) (ns : List ℕ) → map (λ n. a + b + n) ns ≡ map (λ n. a + n) (map (λ n. b + n) ns)
 shift_twice a b [] = refl
@@ -79,41 +80,95 @@ module _ {X : Type 0} (shows : X → Trait → Spec → Shown) (e : Environment 
   means_literals p [] = let none : p + 0 ≡ p = omega arith in rw none (sym (joined_none _))
   means_literals p (c ∷ cs) = one_more p c cs (is_brace c) refl (means_literals (p + len_utf8 c) cs)
 
+  -- the argument behind a brace means the same wherever the brace stands
+  abbrev AnyPlace : (q p : ℕ) → Step → Step → Type 0
+  AnyPlace q p s t = (piece_means shows e q s.piece.kind ≡ piece_means shows e p t.piece.kind) × (s.rest ≡ t.rest)
+
+  any_place_step : (q p : ℕ) (b : At) (x : Argument) (r : At) (o : Option At) → AnyPlace q p (argument_step q b x r o) (argument_step p b x r o)
+  any_place_step q p b x r None = (refl, refl)
+  any_place_step q p b x r (Some rest) = (refl, refl)
+
+  any_place_read : (q p : ℕ) (b : At) (r : Result (Argument × At) Fault) → AnyPlace q p (argument_or_broken q b r) (argument_or_broken p b r)
+  any_place_read q p b (Ok x) = any_place_step q p b x.0 x.1 (strip close_brace x.1)
+  any_place_read q p b (Err f) = (refl, refl)
+
+  any_place : (q p : ℕ) (b : At) → AnyPlace q p (argument_from q b) (argument_from p b)
+  unfolding argument_from
+  any_place q p b = any_place_read q p b (argument_at b)
+
+  abbrev Then : ℕ → Step → Meaning
+  Then p s = joined (piece_means shows e p s.piece.kind) (means shows e s.rest)
+
+  abbrev ThenScanned : ℕ → Scanned × At → Meaning
+  ThenScanned p x = joined (scanned_means shows e p x.0 x.1) (means shows e (past_scanned x.0 x.1))
+
+  opened : (p : ℕ) (b : At) (o : Option At) → Then p (open_step p b o) ≡ ThenScanned p (open_scan b o)
+  opened p b (Some rest) = refl
+  opened p b None = let same = any_place p b.place b in rw (same.0, same.1) refl
+
+  closed_by : (p : ℕ) (b : At) (o : Option At) → Then p (close_step p b o) ≡ ThenScanned p (close_scan b o)
+  closed_by p b (Some rest) = refl
+  closed_by p b None = refl
+
   -- what the scan hands on first, and then what stands behind it
-  means_scan : (p : ℕ) (cs : List ℕ) (x : Scanned × At) → scanned (record { place = p; text = cs }) ≡ Some x → means shows e (record { place = p; text = cs }) ≡ joined (scanned_means shows e p x.0) (means shows e x.1)
-  unfolding scanned
-  means_scan p [] x h = absurd (none_some h)
-  means_scan p (c ∷ cs) x h =
-      let a : At = record { place = p; text = c ∷ cs } in
-      let P = λ (x : Scanned × At). means shows e a ≡ joined (scanned_means shows e p x.0) (means shows e x.1) in
-      subst P (some_same h) (in_both P (is_brace c) _ _ (means_next p c cs) (means_literals p (c ∷ cs)))
+  abbrev Leads : At → Option (Scanned × At) → Type 0
+  Leads a None = means shows e a ≡ nothing
+  Leads a (Some x) = means shows e a ≡ ThenScanned a.place x
 
-  pub means_first : (a : At) (x : Scanned × At) → scanned a ≡ Some x → means shows e a ≡ joined (scanned_means shows e a.place x.0) (means shows e x.1)
-  means_first a x h = means_scan a.place a.text x h
-
-  means_over : (p : ℕ) (cs : List ℕ) → scanned (record { place = p; text = cs }) ≡ None → means shows e (record { place = p; text = cs }) ≡ nothing
+  leads_at : (p : ℕ) (cs : List ℕ) → Leads (record { place = p; text = cs }) (scanned (record { place = p; text = cs }))
   unfolding scanned
-  means_over p [] h = means_none p
-  means_over p (c ∷ cs) h = absurd (none_some (sym h))
+  leads_at p [] = means_none p
+  leads_at p (c ∷ cs) = by_open (eqb c open_brace) refl
+    where
+      by_close : (t : Bool) → eqb c open_brace ≡ false → eqb c close_brace ≡ t → Leads (record { place = p; text = c ∷ cs }) (no_open_scan (record { place = p; text = c ∷ cs }) (cond t (Some (past p c cs)) None))
+      by_close true n d =
+          means_next p c cs
+          ∙ ap (λ t. Then p (cond t (open_step p (past p c cs) (strip open_brace (past p c cs))) (cond (eqb c close_brace) (close_step p (past p c cs) (strip close_brace (past p c cs))) (step p (c ∷ []) (literal c) (past p c cs))))) n
+          ∙ ap (λ t. Then p (cond t (close_step p (past p c cs) (strip close_brace (past p c cs))) (step p (c ∷ []) (literal c) (past p c cs)))) d
+          ∙ closed_by p (past p c cs) (strip close_brace (past p c cs))
+      by_close false n d = means_literals p (c ∷ cs)
+
+      by_open : (t : Bool) → eqb c open_brace ≡ t → Leads (record { place = p; text = c ∷ cs }) (scan_by (record { place = p; text = c ∷ cs }) (cond t (Some (past p c cs)) None))
+      by_open true n =
+          means_next p c cs
+          ∙ ap (λ t. Then p (cond t (open_step p (past p c cs) (strip open_brace (past p c cs))) (cond (eqb c close_brace) (close_step p (past p c cs) (strip close_brace (past p c cs))) (step p (c ∷ []) (literal c) (past p c cs))))) n
+          ∙ opened p (past p c cs) (strip open_brace (past p c cs))
+      by_open false n = by_close (eqb c close_brace) n refl
+
+  pub means_first : (a : At) (x : Scanned × At) → scanned a ≡ Some x → means shows e a ≡ joined (scanned_means shows e a.place x.0 x.1) (means shows e (past_scanned x.0 x.1))
+  means_first a x h = subst (Leads a) h (leads_at a.place a.text)
 
   pub means_end : (a : At) → scanned a ≡ None → means shows e a ≡ nothing
-  means_end a h = means_over a.place a.text h
+  means_end a h = subst (Leads a) h (leads_at a.place a.text)
 
 literal_shorter : (c : ℕ) (cs : List ℕ) → is_brace c ≡ false → length (behind_of (in_class Literal) (c ∷ cs)) < length (c ∷ cs)
 literal_shorter c cs h = rw h (omega (arith, behind_shorter (in_class Literal) cs))
 
--- what holds in each case, where the test is known
-by_case : {A : Type 0} (P : A → Type 0) (b : Bool) (x y : A) → P x → (b ≡ false → P y) → P (cond b x y)
-by_case P true x y h k = h
-by_case P false x y h k = k refl
+-- what stands behind what the scan hands on, and its argument, has fewer characters
+abbrev ScanShorter : ℕ → Option (Scanned × At) → Type 0
+ScanShorter n None = Unit {0}
+ScanShorter n (Some x) = length (past_scanned x.0 x.1).text < n
 
-scan_shorter_at : (p : ℕ) (cs : List ℕ) (x : Scanned × At) → scanned (record { place = p; text = cs }) ≡ Some x → length x.1.text < length cs
+open_shorter : (n : ℕ) (b : At) (o : Option At) → length b.text < n → OptionWithin (length b.text) o → ScanShorter n (Some (open_scan b o))
+open_shorter n b (Some rest) h k = omega (arith, k)
+open_shorter n b None h k = omega (arith, argument_from_within b.place b)
+
+close_shorter : (n : ℕ) (b : At) (o : Option At) → length b.text < n → OptionWithin (length b.text) o → ScanShorter n (Some (close_scan b o))
+close_shorter n b (Some rest) h k = omega (arith, k)
+close_shorter n b None h k = h
+
+scan_shorter_at : (p : ℕ) (cs : List ℕ) → ScanShorter (length cs) (scanned (record { place = p; text = cs }))
 unfolding scanned
-scan_shorter_at p [] x h = absurd (none_some h)
-scan_shorter_at p (c ∷ cs) x h =
-    let P = λ (x : Scanned × At). length x.1.text < length (c ∷ cs) in
-    subst P (some_same h) (by_case P (is_brace c) _ _ (let l = piece_within p c (past p c cs) in omega arith) (literal_shorter c cs))
+scan_shorter_at p [] = tt
+scan_shorter_at p (c ∷ cs) = by_open (eqb c open_brace) refl
+  where
+    by_close : (t : Bool) → eqb c open_brace ≡ false → eqb c close_brace ≡ t → ScanShorter (length (c ∷ cs)) (no_open_scan (record { place = p; text = c ∷ cs }) (cond t (Some (past p c cs)) None))
+    by_close true n d = close_shorter (length (c ∷ cs)) (past p c cs) _ (omega arith) (strip_within close_brace (p + len_utf8 c) cs (length cs) (omega arith))
+    by_close false n d = literal_shorter c cs (rw (n, d) refl)
 
--- what stands behind it is shorter
-pub scan_shorter : (a : At) (x : Scanned × At) → scanned a ≡ Some x → length x.1.text < length a.text
-scan_shorter a x h = scan_shorter_at a.place a.text x h
+    by_open : (t : Bool) → eqb c open_brace ≡ t → ScanShorter (length (c ∷ cs)) (scan_by (record { place = p; text = c ∷ cs }) (cond t (Some (past p c cs)) None))
+    by_open true n = open_shorter (length (c ∷ cs)) (past p c cs) _ (omega arith) (strip_within open_brace (p + len_utf8 c) cs (length cs) (omega arith))
+    by_open false n = by_close (eqb c close_brace) n refl
+
+pub scan_shorter : (a rest : At) (x : Scanned × At) → scanned a ≡ Some x → rest ≡ past_scanned x.0 x.1 → length rest.text < length a.text
+scan_shorter a rest x h r = rw r (subst (ScanShorter (length a.text)) h (scan_shorter_at a.place a.text))

@@ -1,12 +1,12 @@
 -- One outcome behind another.
-use Rattle.std.proofs.Common.{◌≡◌, refl, sym, ◌∙◌, ap, subst, ℕ, ◌+◌, List, [], ◌++◌, map, length, Option, None, Some, option_map, false, ◌⊎◌, inl, inr, append_assoc, append-nil, length-append}
+use Rattle.std.proofs.Common.{◌≡◌, refl, sym, ◌∙◌, ap, subst, ℕ, ◌+◌, List, [], ◌++◌, map, length, Option, None, Some, option_map, inl, inr, append_assoc, append-nil, length-append}
 use Rattle.std.proofs.lemmas.List.{map-append, length-map}
 use Rattle.std.proofs.Math.ListN.{get_or-map}
 use Rattle.std.proofs.lemmas.List.Elements.{Contains-append_left, Contains-append_right}
 use Rattle.std.specs.List.{Contains}
 use Rattle.interpolator_render.specs.Written.{Written, Appends}
 use Rattle.interpolator.specs.At.{Placed, text_of}
-use Rattle.interpolator.specs.Faults.{Fault, Answer, fault, no_memory}
+use Rattle.interpolator.specs.Faults.{Fault, Answer, fault}
 use Rattle.interpolator.specs.Meanings.{Meaning, or_fault, joined}
 use Rattle.interpolator.specs.Outcomes.{Finished, Outcome}
 
@@ -89,13 +89,3 @@ before_fault m k old new q None e (inr (inr h)) =
       begun = h.begun;
       told = h.told;
     }))
-
--- a new text that was made whole: it is the meaning's, which has no fault
-pub made_whole : (m : Meaning) (old new : Written) → old.text ≡ [] → Outcome m old new None → (m.fault ≡ None) × (new.text ≡ text_of m.text)
-made_whole m old new e h = let f = finished_if_none m old new h in (no_fault m.fault f.told, f.all.appended ∙ ap (λ (x : List ℕ). x ++ text_of m.text) e)
-
--- a fault where nothing was refused: the meaning's, or that memory was wanted
-pub made_fault : (m : Meaning) (old new : Written) (q : Answer) → new.refused ≡ false → Outcome m old new (Some q) → (q ≡ no_memory) ⊎ (Some q ≡ option_map fault m.fault)
-made_fault m old new q e (inl k) = inr k.told
-made_fault m old new q e (inr (inl k)) = absurd (let d = k.flag in cc)
-made_fault m old new q e (inr (inr k)) = inl (let d = k.told in cc)

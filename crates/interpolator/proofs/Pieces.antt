@@ -45,11 +45,11 @@ argument_within a =
     after_name_within a.place (plain_argument (front_of (in_class Name) b.text) b.place) q q.text (length a.text) (omega (arith, behind_shorter (in_class WhiteSpace) a.text, behind_shorter (in_class Name) b.text))
 
 -- the same of what stands behind a character, if it stands there
-abbrev OptionWithin : ℕ → Option At → Type 0
+abbrev pub OptionWithin : ℕ → Option At → Type 0
 OptionWithin n None = Unit {0}
 OptionWithin n (Some rest) = length rest.text ≤ n
 
-strip_within : (c p : ℕ) (cs : List ℕ) (n : ℕ) → length cs ≤ n → OptionWithin n (strip_of c p cs)
+pub strip_within : (c p : ℕ) (cs : List ℕ) (n : ℕ) → length cs ≤ n → OptionWithin n (strip_of c p cs)
 strip_within c p [] n h = tt
 strip_within c p (d ∷ ds) n h = in_both (OptionWithin n) (eqb d c) _ _ (omega arith) tt
 
@@ -61,7 +61,7 @@ argument_or_broken_within : (p : ℕ) (b : At) (n : ℕ) (r : Result (Argument �
 argument_or_broken_within p b n (Ok x) h = argument_step_within p b x.0 x.1 n (strip close_brace x.1) (strip_within close_brace x.1.place x.1.text n h)
 argument_or_broken_within p b n (Err f) h = omega arith
 
-argument_from_within : (p : ℕ) (b : At) → length (argument_from p b).rest.text ≤ length b.text
+pub argument_from_within : (p : ℕ) (b : At) → length (argument_from p b).rest.text ≤ length b.text
 unfolding argument_from
 argument_from_within p b = argument_or_broken_within p b (length b.text) _ (argument_within b)
 

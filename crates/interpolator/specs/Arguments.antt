@@ -8,11 +8,10 @@ use Rattle.interpolator_render.specs.declared.view.Spec.{Spec}
 use Rattle.interpolator_render.specs.declared.view.Alignment.TheVariants.{Unset}
 use Rattle.interpolator_render.specs.declared.view.Sign.TheVariants.{Unset as NoSign}
 use Rattle.interpolator_render.specs.declared.view.HexDebug.TheVariants.{No}
-use Rattle.interpolator.specs.At.{At, at, behind}
+use Rattle.interpolator.specs.At.{At, behind}
 use Rattle.interpolator.specs.Classes.{front_of, in_class, close_brace}
 use Rattle.interpolator.specs.Faults.{Fault, parse, unclosed, expected, parse_fault_of}
 use Rattle.interpolator.specs.declared.class.Class.TheVariants.{WhiteSpace, Name}
-use Rattle.interpolator.specs.declared.cursor.Cursor.{Cursor}
 use Rattle.interpolator.specs.declared.error.ParseError.{ParseError}
 use Rattle.interpolator.specs.declared.argument.Kind as code_kind
 use Rattle.interpolator.specs.declared.argument.Kind.TheVariants.{Value}
@@ -76,8 +75,8 @@ argument_of x = record {
   kind = kind_of x.kind;
 }
 
--- what the code read: an argument and what stands behind its spec, or why it is broken
-abbrev pub argument_read : Result (code_argument.Argument × Cursor) ParseError
+-- what the code read, up to q: an argument, or why it is broken
+abbrev pub argument_read : Result code_argument.Argument ParseError → (q : At)
     → Result (Argument × At) Fault
-argument_read (Ok x) = Ok (argument_of x.0, at x.1)
-argument_read (Err e) = Err (parse (parse_fault_of e))
+argument_read (Ok x) q = Ok (argument_of x, q)
+argument_read (Err e) q = Err (parse (parse_fault_of e))

@@ -12,8 +12,8 @@ use Rattle.interpolator.specs.Trees.{Tree, slots, slot_at}
 use Rattle.interpolator.specs.Environments.{Environment, given}
 use Rattle.interpolator.specs.Arguments.{Argument, Kind, of_value}
 use Rattle.interpolator.specs.Pieces.{Piece, PieceKind, literal, doubled, lone_close, closed}
-use Rattle.interpolator.specs.Pieces.{unclosed, broken, pieces}
-use Rattle.interpolator.specs.Scans.{Scanned, literals, other}
+use Rattle.interpolator.specs.Pieces.{unclosed, broken, argument_from, pieces}
+use Rattle.interpolator.specs.Scans.{Scanned, literals, brace, argument}
 
 -- a placed text, at most one fault, and the memory points: before how many characters memory is
 -- taken
@@ -81,7 +81,7 @@ module _ {X : Type 0} (shows : X → Trait → Spec → Shown) where
     -- what a piece at p means
     abbrev pub piece_means : (p : ℕ) → PieceKind → Meaning
     piece_means p (literal c) = says ((c, p) ∷ [])
-    piece_means p (doubled brace) = says ((brace, p) ∷ [])
+    piece_means p (doubled c) = says ((c, p) ∷ [])
     piece_means p lone_close = says ((close_brace, p) ∷ [])
     piece_means p (closed start x q) = argument_means start x q
     piece_means p (unclosed start x q) =
@@ -93,10 +93,15 @@ module _ {X : Type 0} (shows : X → Trait → Spec → Shown) where
     pieces_mean [] = nothing
     pieces_mean (x ∷ xs) = joined (piece_means x.place x.kind) (pieces_mean xs)
 
-    -- the same of what the scan hands on
-    abbrev pub scanned_means : (p : ℕ) → Scanned → Meaning
-    scanned_means p (literals cs) = says (placed_from p cs)
-    scanned_means p (other kind) = piece_means p kind
+    -- the argument that begins at b, behind its brace
+    abbrev pub argument_from_means : At → Meaning
+    argument_from_means b = piece_means b.place (argument_from b.place b).piece.kind
+
+    -- what the scan hands on at p, where b stands behind it
+    abbrev pub scanned_means : (p : ℕ) → Scanned → (b : At) → Meaning
+    scanned_means p (literals cs) b = says (placed_from p cs)
+    scanned_means p (brace c) b = says ((c, p) ∷ [])
+    scanned_means p argument b = argument_from_means b
 
     -- what a text means in an environment
     unfoldable pub means : At → Meaning

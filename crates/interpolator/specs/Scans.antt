@@ -1,47 +1,63 @@
--- What the scan hands on: neighbouring literals as one, and each other piece by itself.
-use Rattle.std.specs.Prelude.{ℕ, ◌+◌, ◌^◌, ◌<◌, ⊤, if◌then◌else◌, List, length}
+-- What the scan hands on: neighbouring literals as one, a brace that stands for itself, or the
+-- beginning of an argument.
+use Rattle.std.specs.Prelude.{ℕ, ◌+◌, ◌^◌, ◌<◌, ⊤, List, [], ◌∷◌, length}
 use Rattle.std.specs.Prelude.{Option, Some, None}
 use Rattle.std.specs.Str.{chars}
-use Rattle.interpolator.specs.At.{At, at, first, behind}
-use Rattle.interpolator.specs.Classes.{front_of, in_class, is_brace}
-use Rattle.interpolator.specs.Pieces.{PieceKind, doubled, lone_close, closed, unclosed, broken}
-use Rattle.interpolator.specs.Pieces.{piece_from}
-use Rattle.interpolator.specs.Arguments.{argument_of}
-use Rattle.interpolator.specs.Faults.{parse, parse_fault_of}
+use Rattle.interpolator.specs.At.{At, at, strip, behind}
+use Rattle.interpolator.specs.Classes.{front_of, in_class, open_brace, close_brace}
+use Rattle.interpolator.specs.Pieces.{argument_from}
 use Rattle.interpolator.specs.declared.class.Class.TheVariants.{Literal}
 use Rattle.interpolator.specs.declared.cursor.Cursor.{Cursor}
 use Rattle.interpolator.specs.declared.piece.Piece as code_piece
-use Rattle.interpolator.specs.declared.piece.Piece.TheVariants.{Literals, Doubled, LoneClose}
-use Rattle.interpolator.specs.declared.piece.Piece.TheVariants.{Closed, Unclosed, Broken}
+use Rattle.interpolator.specs.declared.piece.Piece.TheVariants.{Literals, Brace, Argument}
 
--- a run of literals, or any other piece
+-- a run of literals, one brace that is written, or an opening brace behind which an argument begins
 pub data Scanned : Type 0 where
   literals : List ℕ → Scanned
-  other : PieceKind → Scanned
+  brace : ℕ → Scanned
+  argument : Scanned
 
--- the piece that begins with the character c of the text at a, behind which stands b
-abbrev pub scan_from : At → ℕ → At → Scanned × At
-scan_from a c b =
-    if is_brace c then (let s = piece_from a.place c b in (other s.piece.kind, s.rest))
-    else (literals (front_of (in_class Literal) a.text), behind (in_class Literal) a)
+-- behind an opening brace: a second, or an argument
+abbrev pub open_scan : At → Option At → Scanned × At
+open_scan b (Some rest) = (brace open_brace, rest)
+open_scan b None = (argument, b)
 
--- the first of them, by the first character
-abbrev pub scan_by : At → Option (ℕ × At) → Option (Scanned × At)
-scan_by a None = None
-scan_by a (Some x) = Some (scan_from a x.0 x.1)
+-- behind a closing brace: a second, or not
+abbrev pub close_scan : At → Option At → Scanned × At
+close_scan b (Some rest) = (brace close_brace, rest)
+close_scan b None = (brace close_brace, b)
+
+-- a text that begins with no brace
+abbrev pub literal_scan : At → List ℕ → Option (Scanned × At)
+literal_scan a [] = None
+literal_scan a (c ∷ cs) =
+    Some (literals (front_of (in_class Literal) a.text), behind (in_class Literal) a)
+
+-- a text that begins with no opening brace, by what stands behind a closing one, if it begins so
+abbrev pub no_open_scan : At → Option At → Option (Scanned × At)
+no_open_scan a (Some b) = Some (close_scan b (strip close_brace b))
+no_open_scan a None = literal_scan a a.text
+
+-- a text, by what stands behind an opening brace, if it begins so
+abbrev pub scan_by : At → Option At → Option (Scanned × At)
+scan_by a (Some b) = Some (open_scan b (strip open_brace b))
+scan_by a None = no_open_scan a (strip close_brace a)
 
 -- the first of them, and what stands behind it, in a text at a place
 unfoldable pub scanned : At → Option (Scanned × At)
-scanned a = scan_by a (first a)
+scanned a = scan_by a (strip open_brace a)
+
+-- what stands behind it and, at an argument, behind that
+abbrev pub past_scanned : Scanned → At → At
+past_scanned (literals cs) b = b
+past_scanned (brace c) b = b
+past_scanned argument b = (argument_from b.place b).rest
 
 -- the same, as the code has it
 abbrev pub scanned_of : code_piece.Piece → Scanned
 scanned_of (Literals text) = literals (chars text.now)
-scanned_of (Doubled brace) = other (doubled brace)
-scanned_of LoneClose = other lone_close
-scanned_of (Closed start x end) = other (closed start (argument_of x) end)
-scanned_of (Unclosed start x end) = other (unclosed start (argument_of x) end)
-scanned_of (Broken e) = other (broken (parse (parse_fault_of e)))
+scanned_of (Brace c) = brace c
+scanned_of Argument = argument
 
 -- the same with what stands behind it
 abbrev pub scan_read : code_piece.Piece × Cursor → Scanned × At

@@ -25,22 +25,24 @@ pub(crate) struct Argument<'a> {
     pub(crate) kind: Kind,
 }
 
-/// The argument that begins here, behind its brace, and what stands behind its spec.
+/// The argument that begins here, behind its brace. Goes behind its spec.
 #[tactic(auto, unfolding(crate::specs::Arguments::argument_at))]
-pub(crate) fn take_argument(start: Cursor<'_>) -> Result<(Argument<'_>, Cursor<'_>), ParseError>
-    ensures read { argument_read result ≡ argument_at (at start.entry) }
+#[inline(always)]
+pub(crate) fn take_argument<'a>(here: &mut Cursor<'a>) -> Result<Argument<'a>, ParseError>
+    ensures read { argument_read result (at here.new) ≡ argument_at (at here.old) }
 {
-    let (_, from) = start.take_class(Class::WhiteSpace);
+    let start = here.place;
+    let (_, from) = here.take_class(Class::WhiteSpace);
     let (name, end) = from.take_class(Class::Name);
-    let argument = Argument {
-        name,
-        name_place: from.place,
-        spec: Spec::default(),
-        kind: Kind::Value(Trait::Display),
-    };
+    *here = end;
     match end.next() {
-        None => Err(ParseError::FormatSpecUnclosed(start.place)),
-        Some(('}', _)) => Ok((argument, end)),
+        None => Err(ParseError::FormatSpecUnclosed(start)),
+        Some(('}', _)) => Ok(Argument {
+            name,
+            name_place: from.place,
+            spec: Spec::default(),
+            kind: Kind::Value(Trait::Display),
+        }),
         Some(_) => Err(ParseError::Expected("}", end.place)),
     }
 }

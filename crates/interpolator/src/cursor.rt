@@ -2,7 +2,7 @@
 ghost use Rattle.std.specs.Prelude.{◌≡◌, ◌+◌, ◌^◌, ◌<◌, length, option_map};
 ghost use Rattle.std.specs.Str.{chars};
 
-use crate::class::{Class, split_class, split_first};
+use crate::class::{Class, split_class, split_first, strip_ascii};
 
 /// A place in the outermost text, counted in bytes, and the text from there on.
 #[derive(Clone, Copy)]
@@ -13,10 +13,11 @@ pub(crate) struct Cursor<'a> {
 }
 
 impl<'a> Cursor<'a> {
-    ghost use Rattle.interpolator.specs.At.{at, first, strip, behind, all_behind};
+    ghost use Rattle.interpolator.specs.At.{at, first, strip, behind};
     ghost use Rattle.interpolator.specs.Classes.{in_class, front_of};
 
     /// The character here, and what stands behind it.
+    #[inline(always)]
     pub(crate) fn next(self) -> Option<(char, Cursor<'a>)>
         ensures { option_map (λ r. (r.0, at r.1)) result ≡ first (at self.entry) }
     {
@@ -28,15 +29,21 @@ impl<'a> Cursor<'a> {
         Some((c, behind))
     }
 
-    /// What stands behind that character, where the text begins with it.
-    pub(crate) fn strip(self, wanted: char) -> Option<Cursor<'a>>
+    /// What stands behind that ASCII character, where the text begins with it.
+    #[inline(always)]
+    pub(crate) fn strip(self, wanted: u8) -> Option<Cursor<'a>>
+        requires ascii { wanted < 128 }
         ensures { option_map (λ r. at r) result ≡ strip wanted (at self.entry) }
     {
-        let (c, behind) = self.next()?;
-        if c == wanted { Some(behind) } else { None }
+        let rest = strip_ascii(self.rest, wanted)?;
+        Some(Cursor {
+            place: self.place + 1,
+            rest,
+        })
     }
 
     /// The longest front of that class, and what stands behind it.
+    #[inline(always)]
     pub(crate) fn take_class(self, class: Class) -> (&'a str, Cursor<'a>)
         ensures front { chars result.0.now ≡ front_of (in_class class) (at self.entry).text }
         ensures behind { at result.1 ≡ behind (in_class class) (at self.entry) }
@@ -48,17 +55,5 @@ impl<'a> Cursor<'a> {
             rest,
         };
         (front, behind)
-    }
-
-    /// The end of the text.
-    #[tactic(auto, using(crate::proofs::Characters::all_characters))]
-    pub(crate) fn skip_all(self) -> Cursor<'a>
-        ensures { at result ≡ all_behind (at self.entry) }
-    {
-        let (_, rest) = self.rest.split_at(self.rest.len());
-        Cursor {
-            place: self.place + self.rest.len(),
-            rest,
-        }
     }
 }

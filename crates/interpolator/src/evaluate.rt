@@ -1,25 +1,30 @@
 //! Writes what the pieces of a text mean, up to the first fault.
-ghost use Rattle.std.specs.Prelude.{◌≡◌, ◌⊎◌};
+ghost use Rattle.std.specs.Prelude.{◌≡◌, ◌⊎◌, IfOk};
 ghost use Rattle.std.specs.Str.{chars};
 ghost use Rattle.interpolator.specs.At.{at};
-ghost use Rattle.interpolator.specs.Arguments.{argument_of};
+ghost use Rattle.interpolator.specs.Arguments.{argument_of, kind_of};
 ghost use Rattle.interpolator.specs.Faults.{answered, answer_of, fault, missing_value, no_memory};
-ghost use Rattle.interpolator.specs.Meanings.{argument_means, scanned_means, means};
-ghost use Rattle.interpolator.specs.Scans.{scanned_of, RunFits};
+ghost use Rattle.interpolator.specs.Meanings.{kind_means, argument_means, argument_from_means};
+ghost use Rattle.interpolator.specs.Meanings.{scanned_means, means};
+ghost use Rattle.interpolator.specs.Pieces.{argument_from};
+ghost use Rattle.interpolator.specs.Scans.{scanned_of, past_scanned, RunFits};
 ghost use Rattle.interpolator.specs.Scopes.{environment_of};
 ghost use Rattle.interpolator.specs.Sinks.{Writes};
+ghost use Rattle.interpolator.specs.Trees.{tree_of};
 
-use crate::argument::{Argument, Kind};
+use crate::argument::{Argument, Kind, take_argument};
 use crate::context::Context;
 use crate::cursor::Cursor;
 use crate::error::{Error, ParseError};
 use crate::piece::{Piece, next_piece};
 use crate::scope::Scope;
 use crate::sink::Sink;
-use interpolator_render::TextWrite;
+use crate::slots::Formattable;
+use interpolator_render::{TextWrite, Value};
 use std::alloc::Global;
 
 /// The fault of an absent name, which is copied.
+#[inline(never)]
 fn missing_name(alloc: Global, name: &str, start: usize) -> Error
     ensures told { (answer_of result ≡ fault (missing_value (chars name.now) start))
         ⊎ (answer_of result ≡ no_memory) }
@@ -30,57 +35,98 @@ fn missing_name(alloc: Global, name: &str, start: usize) -> Error
     }
 }
 
-/// Writes what an argument means that starts at `start` and whose spec ends at `end`.
-fn write_argument<'a, W: TextWrite, C: Context>(
-    alloc: Global,
+/// Writes what was found under the name of an argument whose spec ends at `end`.
+#[inline(always)]
+fn write_found<W: TextWrite, V: Value>(
     sink: &mut Sink<'_, W>,
-    start: usize,
+    found: Formattable<'_, V>,
     argument: Argument<'_>,
     end: usize,
-    scope: Scope<'a, C, C::Object>,
 ) -> Result<(), Error>
     ensures writes { Writes W.written
-        (argument_means C.Object.shows (environment_of C.finds scope.entry) start
-        (argument_of argument.entry) end)
+        (kind_means V.shows (kind_of argument.entry.kind) argument.entry.spec end
+        (tree_of found.entry))
         sink.old sink.new (answered result) }
 {
-    let Some(found) = scope.lookup(argument.name) else {
-        return Err(missing_name(alloc, argument.name, start));
-    };
     match argument.kind {
         Kind::Value(t) => sink.put_value(found.slot(t), t, &argument.spec, end),
     }
 }
 
-/// Writes what a piece at a place means.
-fn write_piece<'a, W: TextWrite, C: Context>(
+/// Writes the value of an argument that starts at `start` and whose spec ends at `end`.
+#[inline(always)]
+fn write_value<'a, W: TextWrite, C: Context>(
+    alloc: Global,
+    sink: &mut Sink<'_, W>,
+    start: usize,
+    argument: Argument<'_>,
+    end: usize,
+    scope: &Scope<'a, C, C::Object>,
+) -> Result<(), Error>
+    ensures writes { Writes W.written
+        (argument_means C.Object.shows (environment_of C.finds scope.now) start
+        (argument_of argument.entry) end)
+        sink.old sink.new (answered result) }
+{
+    if let Some(item) = scope.inner(argument.name) {
+        return write_found(sink, *item, argument, end);
+    }
+    match scope.outer(argument.name) {
+        Some(found) => write_found(sink, found, argument, end),
+        None => Err(missing_name(alloc, argument.name, start)),
+    }
+}
+
+/// Writes what the argument means that begins here, behind its brace. Returns what stands behind
+/// its closing brace.
+#[inline(always)]
+fn write_argument<'t, 'a, W: TextWrite, C: Context>(
+    alloc: Global,
+    sink: &mut Sink<'_, W>,
+    here: Cursor<'t>,
+    scope: &Scope<'a, C, C::Object>,
+) -> Result<Cursor<'t>, Error>
+    ensures writes { Writes W.written
+        (argument_from_means C.Object.shows (environment_of C.finds scope.now) (at here.entry))
+        sink.old sink.new (answered result) }
+    ensures rest { IfOk result (λ r. at r ≡ (argument_from here.entry.place (at here.entry)).rest) }
+{
+    let mut end = here;
+    let argument = match take_argument(&mut end) {
+        Ok(argument) => argument,
+        Err(fault) => return Err(Error::Parse(fault)),
+    };
+    write_value(alloc, sink, here.place, argument, end.place, scope)?;
+    match end.strip(b'}') {
+        Some(behind) => Ok(behind),
+        None => Err(Error::Parse(ParseError::Expected("}", end.place))),
+    }
+}
+
+/// Writes what a piece at a place means, behind which stands `rest`. Returns what stands behind it
+/// and its argument.
+#[inline(always)]
+fn write_piece<'t, 'a, W: TextWrite, C: Context>(
     alloc: Global,
     sink: &mut Sink<'_, W>,
     piece: Piece<'_>,
     place: usize,
-    scope: Scope<'a, C, C::Object>,
-) -> Result<(), Error>
+    rest: Cursor<'t>,
+    scope: &Scope<'a, C, C::Object>,
+) -> Result<Cursor<'t>, Error>
     requires fits { RunFits place piece }
     ensures writes { Writes W.written
-        (scanned_means C.Object.shows (environment_of C.finds scope.entry) place
-        (scanned_of piece.entry))
+        (scanned_means C.Object.shows (environment_of C.finds scope.now) place
+        (scanned_of piece.entry) (at rest.entry))
         sink.old sink.new (answered result) }
+    ensures rest { IfOk result (λ r. at r ≡ past_scanned (scanned_of piece.entry) (at rest.entry)) }
 {
     match piece {
-        Piece::Literals(text) => sink.put_run(text, place),
-        Piece::Doubled(brace) => sink.put_char(brace, place),
-        Piece::LoneClose => sink.put_char('}', place),
-        Piece::Closed(start, argument, end) => {
-            write_argument(alloc, sink, start, argument, end, scope)
-        }
-        Piece::Unclosed(start, argument, end) => {
-            match write_argument(alloc, sink, start, argument, end, scope) {
-                Ok(()) => Err(Error::Parse(ParseError::Expected("}", end))),
-                Err(error) => Err(error),
-            }
-        }
-        Piece::Broken(fault) => Err(Error::Parse(fault)),
+        Piece::Literals(text) => sink.put_run(text, place)?,
+        Piece::Brace(brace) => sink.put_char(brace, place)?,
+        Piece::Argument => return write_argument(alloc, sink, rest, scope),
     }
+    Ok(rest)
 }
 
 /// Writes what a text means, piece by piece.
@@ -88,16 +134,15 @@ pub(crate) fn write_text<'a, W: TextWrite, C: Context>(
     alloc: Global,
     sink: &mut Sink<'_, W>,
     text: Cursor<'_>,
-    scope: Scope<'a, C, C::Object>,
+    scope: &Scope<'a, C, C::Object>,
 ) -> Result<(), Error>
     ensures writes { Writes W.written
-        (means C.Object.shows (environment_of C.finds scope.entry) (at text.entry))
+        (means C.Object.shows (environment_of C.finds scope.now) (at text.entry))
         sink.old sink.new (answered result) }
 {
     let mut here = text;
     while let Some((piece, rest)) = next_piece(here) {
-        write_piece(alloc, sink, piece, here.place, scope)?;
-        here = rest;
+        here = write_piece(alloc, sink, piece, here.place, rest, scope)?;
     }
     Ok(())
 }

@@ -1,5 +1,5 @@
 //! What names mean while a format is written.
-ghost use Rattle.std.specs.Prelude.{◌≡◌, option_map};
+ghost use Rattle.std.specs.Prelude.{◌≡◌, Some, MatchOption, option_map};
 ghost use Rattle.std.specs.Str.{chars};
 ghost use Rattle.interpolator.specs.Trees.{tree_of};
 ghost use Rattle.interpolator.specs.Environments.{environment, given};
@@ -12,7 +12,7 @@ use std::alloc::AllocError;
 /// A context, and at most one inner value, which has the empty name.
 pub(crate) struct Scope<'a, C, V> {
     context: &'a C,
-    inner: Option<Formattable<'a, V>>,
+    inner: Option<&'a Formattable<'a, V>>,
 }
 
 impl<'a, C, V> Clone for Scope<'a, C, V> {
@@ -34,21 +34,23 @@ impl<'a, C: Context> Scope<'a, C, C::Object> {
         }
     }
 
-    /// What a name means.
+    /// The inner value, where the name is empty. Elsewhere the name means what the context has.
     #[inline(always)]
-    pub(crate) fn lookup(self, name: &str) -> Option<Formattable<'a, C::Object>>
-        ensures { option_map tree_of result
-            ≡ given (environment_of C.finds self.entry) (chars name.now) }
+    pub(crate) fn inner(&self, name: &str) -> Option<&'a Formattable<'a, C::Object>>
+        ensures { MatchOption result
+            (given (environment_of C.finds self.now) (chars name.now)
+            ≡ C.finds self.now.context.now (chars name.now))
+            (λ item. given (environment_of C.finds self.now) (chars name.now)
+            ≡ Some (tree_of item.now)) }
     {
-        match self.inner {
-            Some(item) => {
-                if name.is_empty() {
-                    Some(item)
-                } else {
-                    self.context.get(name)
-                }
-            }
-            None => self.context.get(name),
-        }
+        if name.is_empty() { self.inner } else { None }
+    }
+
+    /// What the context has under a name.
+    #[inline(always)]
+    pub(crate) fn outer(&self, name: &str) -> Option<Formattable<'a, C::Object>>
+        ensures { option_map tree_of result ≡ C.finds self.now.context.now (chars name.now) }
+    {
+        self.context.get(name)
     }
 }

@@ -1,6 +1,6 @@
 //! Formats: text and values in, the formatted text or one located fault out.
 
-ghost use Rattle.std.specs.Prelude.{length};
+ghost use Rattle.std.specs.Prelude.{◌≡◌, [], false, length, IfOk};
 ghost use Rattle.std.specs.Str.{chars};
 ghost use Rattle.interpolator.specs.At.{outermost};
 ghost use Rattle.interpolator.specs.Environments.{environment};
@@ -15,32 +15,7 @@ use crate::evaluate::write_text;
 use crate::scope::Scope;
 use crate::sink::Sink;
 use interpolator_render::{TextBuffer, TextWrite};
-use std::alloc::Global;
-
-/// Writes what the format means, through a sink over the writer alone.
-fn write_format<W: TextWrite, C: Context>(
-    alloc: Global,
-    out: &mut W,
-    format: &str,
-    context: &C,
-) -> Result<(), Error>
-    ensures outcome { Outcome
-        (means C.Object.shows (environment (C.finds context.now)) (outermost (chars format.now)))
-        (W.written out.old) (W.written out.new) (answered result) }
-{
-    let text = Cursor {
-        place: 0,
-        rest: format,
-    };
-    let mut aside = None;
-    let mut sink = Sink {
-        out,
-        aside: &mut aside,
-    };
-    let answer = write_text(alloc, &mut sink, text, Scope::outermost(context));
-    let Sink { out: _, aside: _ } = sink;
-    answer
-}
+use std::alloc::{AllocError, Global};
 
 /// Writes what the format means in the context, up to its first fault.
 ///
@@ -77,7 +52,31 @@ pub fn write<W: TextWrite, C: Context>(
         (W.written out.old) (W.written out.new) (answered result) }
     ensures place { PlaceWithin (length format.now) (answered result) }
 {
-    write_format(alloc, out, format, context)
+    let text = Cursor {
+        place: 0,
+        rest: format,
+    };
+    let mut aside = None;
+    let mut sink = Sink {
+        out,
+        aside: &mut aside,
+    };
+    let answer = write_text(alloc, &mut sink, text, &Scope::outermost(context));
+    let Sink { out: _, aside: _ } = sink;
+    answer
+}
+
+/// The most bytes that a buffer has room for beyond its format, for what values take.
+const MOST_MORE: usize = 256;
+
+/// An empty buffer with room for the format and, up to a bound, as many bytes again.
+#[tactic(auto, using(crate::proofs::Characters::no_text))]
+fn buffer_for(alloc: Global, format: &str) -> Result<TextBuffer, AllocError>
+    ensures { IfOk result (λ buffer. buffer ≡ record { text = []; refused = false }) }
+{
+    let len = format.len();
+    let text = String::with_capacity(alloc, len.saturating_add(len.min(MOST_MORE)))?;
+    Ok(TextBuffer::from_string(text))
 }
 
 /// The format's text in a new `String`.
@@ -85,7 +84,7 @@ pub fn write<W: TextWrite, C: Context>(
 /// # Errors
 ///
 /// Those of `write` over the same format and context, where `Fmt` means that a value failed; and
-/// `NoMemory` where the text finds no memory.
+/// `NoMemory` where the text, or the room that is taken for it at the beginning, finds no memory.
 ///
 /// # Example
 ///
@@ -98,7 +97,7 @@ pub fn format<C: Context>(alloc: Global, format: &str, context: &C) -> Result<St
         result }
     ensures place { PlaceWithin (length format.now) (answered result) }
 {
-    let mut out = TextBuffer::new(alloc);
+    let mut out = buffer_for(alloc, format)?;
     let answer = write(alloc, &mut out, format, context);
     if out.refused() {
         return Err(Error::NoMemory);

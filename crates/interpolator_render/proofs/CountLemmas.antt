@@ -11,7 +11,7 @@ use Rattle.interpolator_render.proofs.ExponentLemmas.{pow_some, scientific_short
 use Rattle.interpolator_render.proofs.LawLemmas.{exponent_bounds_of, IsNearest-nearest}
 
 -- a number between two powers of ten has one digit more than the lower says
-digits_between : (n places : ℕ) → 10 ^ places ≤ n → n < 10 ^ (places + 1) → length (digit_text 10 false n) ≡ places + 1
+pub digits_between : (n places : ℕ) → 10 ^ places ≤ n → n < 10 ^ (places + 1) → length (digit_text 10 false n) ≡ places + 1
 digits_between n places low high =
     let some = pow_some places in
     let bounds = exponent_bounds_of n (omega arith) in

@@ -1,12 +1,12 @@
-use Rattle.std.proofs.Common.{◌≡◌, ◌≢◌, ℕ, zero, suc, ◌<◌, ◌≤◌, ◌+◌, ◌/◌, ◌%◌, ◌^◌, Bool, true, false, List, [], ◌∷◌, ◌++◌, length, drop, map, set, refl, sym, ◌∙◌, ap, arith, rules, append_assoc, length-drop, if◌then◌else◌, ◌==◌, ◌⊎◌, inl, inr}
+use Rattle.std.proofs.Common.{◌≡◌, ◌≢◌, ℕ, zero, suc, ◌<◌, ◌≤◌, ◌+◌, ◌-◌, ◌*◌, ◌/◌, ◌%◌, ◌^◌, Bool, true, false, List, [], ◌∷◌, ◌++◌, length, take, drop, map, set, get_or, refl, sym, ◌∙◌, ap, arith, rules, append_assoc, length-append, length-drop, length-set, if◌then◌else◌, ◌==◌, ◌⊎◌, inl, inr}
 use Rattle.std.specs.Fmt.{digit_glyph}
 use Rattle.std.specs.Str.{IsAscii}
 use Rattle.std.specs.Int.Digits.{digits_of, AllBelowBase}
 use Rattle.std.proofs.lemmas.Int.Digits.{length-digits_of-le, digits_of_step, length-digits_of_step, all_below_base_digits_of}
-use Rattle.std.proofs.lemmas.List.{map-append, drop-set, length-map}
+use Rattle.std.proofs.lemmas.List.{map-append, drop-set, length-map, take-set, take-take}
 use Rattle.std.proofs.lemmas.Bool.Decides.{nat_tests}
 use Rattle.std.proofs.lemmas.Str.Ascii.{IsAscii-cons}
-use Rattle.std.proofs.Math.Nat.{pow-le-pow_left}
+use Rattle.std.proofs.Math.Nat.{pow-le-pow_left, lt-div-mul-add, div-eq_of_lt, mod-eq_of_lt}
 use Rattle.std.proofs.Math.Seq.{drop-length}
 use Rattle.interpolator_render.specs.Digits.{digit_text}
 
@@ -21,6 +21,11 @@ pub one_digit_more : (base rest at : ℕ) (upper : Bool) (out : List ℕ) → 2 
     ≡ map (digit_glyph upper) (digits_of base rest) ++ drop (at + 1) out
 one_digit_more base rest at upper out b r l =
     rw (drop-set out at (digit_glyph upper (rest % base)) l, digits_of_step base rest b r, map-append, append_assoc) refl
+
+-- what stands in front of a place is as before, once the byte there is written
+pub fewer_in_front : (out old : List ℕ) (at byte : ℕ) → 0 < at → take at out ≡ take at old → take (at - 1) (set out (at - 1) byte) ≡ take (at - 1) old
+fewer_in_front out old at byte h e =
+    take-set out (at - 1) byte ∙ (sym (take-take (at - 1) at out (omega arith)) ∙ (ap (take (at - 1)) e ∙ take-take (at - 1) at old (omega arith)))
 
 -- ---- the text of a number
 
@@ -86,3 +91,83 @@ unfolding digit_text
 IsAscii-digit_text base upper n l h =
     elim (n == 0) as (λ b. IsAscii (if b then 48 ∷ [] else map (digit_glyph upper) (digits_of base n)))
     [ true ↦ IsAscii-cons 48 [] (omega arith) (λ i. omega arith) | false ↦ IsAscii-glyphs base upper (digits_of base n) h (all_below_base_digits_of base n l) ]
+
+-- ---- the text of a number in front of a place
+
+some_quotient : (base n : ℕ) → 2 ≤ base → base ≤ n → 0 < n / base
+some_quotient base n b h = elim (zero_or_more (n / base)) [
+  | inl e ↦ let l : n < n / base * base + base = lt-div-mul-add (omega arith) in let k : n < 0 * base + base = rw e at l in absurd (omega arith)
+  | inr m ↦ m
+]
+
+-- more than one digit: those of the quotient, and the remainder
+pub digit_text_step : (base n : ℕ) (upper : Bool) → 2 ≤ base → base ≤ n → digit_text base upper n ≡ digit_text base upper (n / base) ++ digit_glyph upper (n % base) ∷ []
+digit_text_step base n upper b h =
+    let some = some_quotient base n b h in
+    rw (digit_text_map base n upper (omega arith), digits_of_step base n b (omega arith), map-append, ← digit_text_map base (n / base) upper some) refl
+
+pub digit_count_step : (base n : ℕ) (upper : Bool) → 2 ≤ base → base ≤ n → length (digit_text base upper n) ≡ length (digit_text base upper (n / base)) + 1
+digit_count_step base n upper b h = ap length (digit_text_step base n upper b h) ∙ length-append (digit_text base upper (n / base)) (digit_glyph upper (n % base) ∷ [])
+
+-- one digit
+pub digit_text_one : (base n : ℕ) (upper : Bool) → 2 ≤ base → n < base → digit_text base upper n ≡ digit_glyph upper n ∷ []
+digit_text_one base n upper b h = elim (zero_or_more n) [
+  | inl e ↦ rw (digit_text_zero base upper n e, e) refl
+  | inr m ↦ rw (digit_text_map base n upper m, digits_of_step base n b m, div-eq_of_lt h, mod-eq_of_lt h) refl
+]
+
+-- one digit more stands in front
+pub low_step : (base n at : ℕ) (upper : Bool) (out behind : List ℕ) → 2 ≤ base → base ≤ n → 0 < at → at ≤ length out →
+    digit_text base upper n ++ drop at out ≡ behind →
+    digit_text base upper (n / base) ++ drop (at - 1) (set out (at - 1) (digit_glyph upper (n % base))) ≡ behind
+low_step base n at upper out behind b h p l e =
+    let place : at - 1 + 1 ≡ at = omega arith in
+    rw (drop-set out (at - 1) (digit_glyph upper (n % base)) (omega arith), place)
+    (sym (append_assoc (digit_text base upper (n / base)) (digit_glyph upper (n % base) ∷ []) (drop at out))
+    ∙ (ap (λ (x : List ℕ). x ++ drop at out) (sym (digit_text_step base n upper b h)) ∙ e))
+
+-- a text, its first and the others
+pub first_and_others : (text : List ℕ) → 0 < length text → text ≡ get_or text 0 0 ∷ drop 1 text
+first_and_others [] h = absurd (omega arith)
+first_and_others (x ∷ xs) h = refl
+
+pub led : (text behind there : List ℕ) (first : ℕ) → 0 < length text → first ∷ there ≡ text ++ behind → (text ≡ first ∷ drop 1 text) × (there ≡ drop 1 text ++ behind)
+led [] behind there first h e = absurd (omega arith)
+led (x ∷ xs) behind there first h e = (ap (λ (y : ℕ). y ∷ xs) (sym (ap (λ (l : List ℕ). get_or l 0 0) e)), ap (drop 1) e)
+
+-- ---- two digits at a time
+
+-- the two bytes of a pair
+low_of_pair : (n : ℕ) → digit_glyph false (n % 10) ≡ 48 + n % 100 % 10
+low_of_pair n = grind (arith, nat_tests)
+
+high_of_pair : (n : ℕ) → digit_glyph false (n / 10 % 10) ≡ 48 + n % 100 / 10
+high_of_pair n = grind (arith, nat_tests)
+
+-- two digits more stand in front
+pub pair_step : (n at : ℕ) (out behind : List ℕ) → 100 ≤ n → 2 ≤ at → at ≤ length out →
+    digit_text 10 false n ++ drop at out ≡ behind →
+    digit_text 10 false (n / 100) ++ drop (at - 2) (set (set out (at - 1) (48 + n % 100 % 10)) (at - 2) (48 + n % 100 / 10)) ≡ behind
+pair_step n at out behind h p l e =
+    let once = low_step 10 n at false out behind (omega arith) (omega arith) (omega arith) l e in
+    let size = length-set out (at - 1) (digit_glyph false (n % 10)) in
+    let twice = low_step 10 (n / 10) (at - 1) false (set out (at - 1) (digit_glyph false (n % 10))) behind (omega arith) (omega arith) (omega arith) (omega arith) once in
+    let place : at - 1 - 1 ≡ at - 2 = omega arith in
+    let rest : n / 10 / 10 ≡ n / 100 = omega arith in
+    rw (place, rest, low_of_pair n, high_of_pair n) at twice
+
+pub pair_count : (n : ℕ) → 100 ≤ n → length (digit_text 10 false n) ≡ length (digit_text 10 false (n / 100)) + 2
+pair_count n h =
+    let once = digit_count_step 10 n false (omega arith) (omega arith) in
+    let twice = digit_count_step 10 (n / 10) false (omega arith) (omega arith) in
+    let rest : n / 10 / 10 ≡ n / 100 = omega arith in
+    let count = rw rest at twice in omega arith
+
+pub pair_in_front : (out old : List ℕ) (at first second : ℕ) → 2 ≤ at → take at out ≡ take at old → take (at - 2) (set (set out (at - 1) first) (at - 2) second) ≡ take (at - 2) old
+pair_in_front out old at first second h e =
+    let place : at - 1 - 1 ≡ at - 2 = omega arith in
+    let step = fewer_in_front (set out (at - 1) first) old (at - 1) second (omega arith) (fewer_in_front out old at first (omega arith) e) in
+    rw place at step
+
+pub take_less : (k at : ℕ) (new old : List ℕ) → k ≤ at → take at new ≡ take at old → take k new ≡ take k old
+take_less k at new old h e = sym (take-take k at new h) ∙ (ap (take k) e ∙ take-take k at old h)

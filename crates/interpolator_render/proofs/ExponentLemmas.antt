@@ -45,15 +45,15 @@ less_zeros_other (digit ∷ digits) last h =
     let n = length-append digits (last ∷ []) in let k : length (digits ++ last ∷ []) ≢ 0 = omega arith in search rules in
     rw (less_zeros_other digits last h, some, and_false (digit == 48)) refl
 
-trimmed_zero : (digits : List ℕ) → 0 < length digits → trimmed (digits ++ 48 ∷ []) ≡ trimmed digits
+pub trimmed_zero : (digits : List ℕ) → 0 < length digits → trimmed (digits ++ 48 ∷ []) ≡ trimmed digits
 trimmed_zero [] h = absurd (omega arith)
 trimmed_zero (digit ∷ digits) h = ap (λ (x : List ℕ). digit ∷ x) (less_zeros_zero digits)
 
-trimmed_other : (digits : List ℕ) (last : ℕ) → last ≢ 48 → trimmed (digits ++ last ∷ []) ≡ digits ++ last ∷ []
+pub trimmed_other : (digits : List ℕ) (last : ℕ) → last ≢ 48 → trimmed (digits ++ last ∷ []) ≡ digits ++ last ∷ []
 trimmed_other [] last h = refl
 trimmed_other (digit ∷ digits) last h = ap (λ (x : List ℕ). digit ∷ x) (less_zeros_other digits last h)
 
-trimmed_single : (digits : List ℕ) → length digits ≡ 1 → trimmed digits ≡ digits
+pub trimmed_single : (digits : List ℕ) → length digits ≡ 1 → trimmed digits ≡ digits
 trimmed_single [] h = refl
 trimmed_single (digit ∷ []) h = refl
 trimmed_single (digit ∷ second ∷ more) h = absurd (omega arith)

@@ -2,7 +2,7 @@ use Rattle.std.proofs.Common.{◌≡◌, ℕ, ◌+◌, ◌-◌, ◌^◌, ◌<◌
 use Rattle.std.specs.Prelude.{Option, unwrap_or}
 use Rattle.interpolator_render.specs.declared.view.Spec.{Spec}
 use Rattle.interpolator_render.specs.Exponent.{exponent_tail, exponent_text, pointed, scientific}
-use Rattle.interpolator_render.specs.Padding.{missing_to, padded_number, IsNumberLayout}
+use Rattle.interpolator_render.specs.Padding.{fill_of, missing_to, padded_number, spaces_before, IsNumberLayout}
 
 pub bool_cases : (b : Bool) → (b ≡ true) ⊎ (b ≡ false)
 bool_cases true = inl refl
@@ -32,3 +32,16 @@ pub exponent_parts : (upper : Bool) (precision : Option ℕ) (n : ℕ) (head tai
     head ++ (replicate behind 48 ++ tail) ≡ exponent_text upper precision n
 unfolding exponent_text
 exponent_parts upper precision n head tail behind e t = rw (t, ← e) (sym (append_assoc head (replicate behind 48) _))
+
+-- a number under the zero flag, written from its end to its front
+pub zero_padded : (spec : Spec) (front body : List ℕ) (missing fill : ℕ) → spec.zero ≡ true → fill ≡ fill_of spec → missing ≡ missing_to spec (length front + length body) →
+    front ++ (replicate missing fill ++ body) ≡ padded_number spec front body
+unfolding padded_number
+zero_padded spec front body missing fill z f e = rw (f, e, z) refl
+
+-- and another
+pub space_padded : (spec : Spec) (front body : List ℕ) (missing before fill : ℕ) → spec.zero ≡ false → fill ≡ fill_of spec → missing ≡ missing_to spec (length front + length body) →
+    before ≡ spaces_before spec.alignment missing missing →
+    (replicate before fill ++ (front ++ body)) ++ replicate (missing - before) fill ≡ padded_number spec front body
+unfolding padded_number
+space_padded spec front body missing before fill z f e b = rw (b, f, e, z) (append_assoc (replicate _ 32) (front ++ body) _)

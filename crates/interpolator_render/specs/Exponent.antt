@@ -60,9 +60,13 @@ pointed [] = []
 pointed (first ∷ []) = first ∷ []
 pointed (first ∷ second ∷ more) = first ∷ 46 ∷ second ∷ more
 
--- the exponent behind its mark: `e` is 101 and `E` 69
+-- the mark of an exponent: `e` is 101 and `E` 69
+abbrev pub mark : Bool → ℕ
+mark upper = if upper then 69 else 101
+
+-- the exponent behind its mark
 abbrev pub exponent_tail : Bool → ℕ → List ℕ
-exponent_tail upper exponent = (if upper then 69 else 101) ∷ digit_text 10 false exponent
+exponent_tail upper exponent = mark upper ∷ digit_text 10 false exponent
 
 -- the text of a number in exponent form
 unfoldable pub exponent_text : Bool → Option ℕ → ℕ → List ℕ

@@ -1,10 +1,11 @@
-use Rattle.std.specs.Prelude.{◌≡◌, ℕ, ◌+◌, ◌-◌, ◌/◌, ◌^◌, ◌<◌, true, false, List, ◌++◌, length}
+use Rattle.std.specs.Prelude.{◌≡◌, ℕ, ◌+◌, ◌-◌, ◌/◌, ◌^◌, ◌<◌, ◌≤◌, true, false, List, ◌++◌, length}
 use Rattle.std.specs.Prelude.{replicate, unwrap_or, if◌then◌else◌}
 use Rattle.interpolator_render.specs.declared.view.Alignment.{Alignment}
 use Rattle.interpolator_render.specs.declared.view.Alignment.TheVariants.{Unset, Left, Center}
 use Rattle.interpolator_render.specs.declared.view.Alignment.TheVariants.{Right}
 use Rattle.interpolator_render.specs.declared.view.Spec.{Spec}
 use Rattle.interpolator_render.specs.Characters.{cut}
+use Rattle.interpolator_render.specs.Rows.{Row}
 
 -- the characters that a text of so many lacks to the width, none where no width is set
 abbrev pub missing_to : Spec → ℕ → ℕ
@@ -48,3 +49,15 @@ pub record IsNumberLayout (spec : Spec) (count before zeros after : ℕ) : Type 
   pub spaced : spec.zero ≡ false →
       (before ≡ spaces_before spec.alignment (missing_to spec count) (missing_to spec count))
       × (zeros ≡ 0) × (after ≡ missing_to spec count - before)
+
+-- the character that pads a number
+abbrev pub fill_of : Spec → ℕ
+fill_of spec = if spec.zero then 48 else 32
+
+-- a row that holds a number's body alone, with room for what comes before and behind it
+pub record IsNumberRow (spec : Spec) (row : Row) : Type 0 where
+  pub narrow : unwrap_or spec.width 0 ≤ 40
+  pub fill : row.fill ≡ fill_of spec
+  pub before : row.before + length row.text ≡ 88
+  pub front : length row.text ≤ 85
+  pub after : row.after ≡ 40

@@ -1,5 +1,6 @@
 //! The digits of a number, in a buffer of bytes.
-ghost use Rattle.std.specs.Prelude.{◌≡◌, ◌<◌, ◌≤◌, ◌++◌, false, length, drop, map};
+ghost use Rattle.std.specs.Prelude.{◌≡◌, ◌<◌, ◌≤◌, ◌+◌, ◌∷◌, ◌++◌, false, length};
+ghost use Rattle.std.specs.Prelude.{take, drop, map};
 ghost use Rattle.std.specs.Fmt.{digit_glyph};
 ghost use Rattle.std.specs.Int.Digits.{digits_of};
 ghost use Rattle.std.specs.Str.{IsAscii};
@@ -8,7 +9,8 @@ ghost use Rattle.interpolator_render.specs.Digits.{digit_text};
 /// Room for the digits of any number in base two.
 pub(crate) const MOST_DIGITS: usize = 128;
 
-fn ascii_digit(digit: u8, upper: bool) -> u8
+#[inline(always)]
+pub(crate) fn ascii_digit(digit: u8, upper: bool) -> u8
     requires { digit < 16 }
     ensures { result ≡ digit_glyph upper digit }
 {
@@ -23,6 +25,7 @@ fn ascii_digit(digit: u8, upper: bool) -> u8
 
 /// Writes the last digits of a number at the end of the buffer, as many as leave a rest of at most
 /// 64 bits. Returns where they begin, and the rest.
+#[inline(never)]
 fn fill_wide(n: u128, base: u64, upper: bool, out: &mut [u8; 128]) -> (usize, u64)
     requires lowest { 2 ≤ base }
     requires highest { base ≤ 16 }
@@ -43,6 +46,7 @@ fn fill_wide(n: u128, base: u64, upper: bool, out: &mut [u8; 128]) -> (usize, u6
 }
 
 /// Writes the digits of a number before the place `end`. Returns where they begin.
+#[inline(always)]
 fn fill_narrow(n: u64, base: u64, upper: bool, end: usize, out: &mut [u8; 128]) -> usize
     requires lowest { 2 ≤ base }
     requires highest { base ≤ 16 }
@@ -60,6 +64,77 @@ fn fill_narrow(n: u64, base: u64, upper: bool, end: usize, out: &mut [u8; 128]) 
         rest /= base;
     }
     at
+}
+
+/// Writes the text of a number but for its first digit before the place `end`. Returns where it
+/// begins, and the first digit.
+#[inline(always)]
+pub(crate) fn fill_low(
+    n: u64,
+    base: u64,
+    upper: bool,
+    end: usize,
+    out: &mut [u8; 128],
+) -> (usize, u64)
+    requires lowest { 2 ≤ base }
+    requires highest { base ≤ 16 }
+    requires place { end ≤ 128 }
+    requires room { length (digit_text base upper n) ≤ end }
+    ensures first { result.1 < base }
+    ensures leads { digit_text base upper n
+        ≡ digit_glyph upper result.1 ∷ drop 1 (digit_text base upper n) }
+    ensures begins { result.0 + length (drop 1 (digit_text base upper n)) ≡ end }
+    ensures written { drop result.0 out.new ≡ drop 1 (digit_text base upper n) ++ drop end out.old }
+    ensures front { take result.0 out.new ≡ take result.0 out.old }
+{
+    let mut at = end;
+    let mut rest = n;
+    while rest >= base {
+        at -= 1;
+        out[at] = ascii_digit((rest % base) as u8, upper);
+        rest /= base;
+    }
+    (at, rest)
+}
+
+/// Writes the last digits of a number in base ten before the place `end`, two by each division,
+/// until one or two are left. Returns where they begin, and the rest.
+#[inline(always)]
+fn fill_pairs(n: u64, end: usize, out: &mut [u8; 128]) -> (usize, u64)
+    requires place { end ≤ 128 }
+    requires room { length (digit_text 10 false n) ≤ end }
+    ensures begins { result.0 + length (digit_text 10 false n)
+        ≡ end + length (digit_text 10 false result.1) }
+    ensures written { digit_text 10 false result.1 ++ drop result.0 out.new
+        ≡ digit_text 10 false n ++ drop end out.old }
+    ensures front { take result.0 out.new ≡ take result.0 out.old }
+{
+    let mut at = end;
+    let mut rest = n;
+    while rest >= 100 {
+        let pair = (rest % 100) as u8;
+        out[at - 1] = b'0' + pair % 10;
+        out[at - 2] = b'0' + pair / 10;
+        at -= 2;
+        rest /= 100;
+    }
+    (at, rest)
+}
+
+/// As [`fill_low`], in base ten.
+#[inline(always)]
+pub(crate) fn fill_low_decimal(n: u64, end: usize, out: &mut [u8; 128]) -> (usize, u64)
+    requires place { end ≤ 128 }
+    requires room { length (digit_text 10 false n) ≤ end }
+    ensures first { result.1 < 10 }
+    ensures leads { digit_text 10 false n
+        ≡ digit_glyph false result.1 ∷ drop 1 (digit_text 10 false n) }
+    ensures begins { result.0 + length (drop 1 (digit_text 10 false n)) ≡ end }
+    ensures written { drop result.0 out.new ≡ drop 1 (digit_text 10 false n) ++ drop end out.old }
+    ensures front { take result.0 out.new ≡ take result.0 out.old }
+{
+    let (at, rest) = fill_pairs(n, end, out);
+    fill_low(rest, 10, false, at, out)
 }
 
 /// Writes the digits of a number at the end of the buffer. Returns where they begin.
@@ -91,6 +166,7 @@ pub(crate) fn fill_decimal(n: u128, out: &mut [u8; 128]) -> usize
 }
 
 /// Bytes below 128 as a text.
+#[inline(always)]
 pub(crate) fn ascii_str(bytes: &[u8]) -> &str
     requires { IsAscii bytes.now }
     ensures { result.now ≡ bytes.now }

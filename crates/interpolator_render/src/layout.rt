@@ -1,6 +1,6 @@
 //! A text in parts, written one after the other.
 ghost use Rattle.std.specs.Prelude.{◌≡◌, ◌∷◌, [], ◌<◌, ◌≤◌, replicate};
-ghost use Rattle.std.specs.Str.{chars};
+ghost use Rattle.std.specs.Str.{chars, IsAscii};
 ghost use Rattle.interpolator_render.specs.Layout.{part_text, text_of_parts};
 ghost use Rattle.interpolator_render.specs.Written.{Puts, byte_count};
 
@@ -29,6 +29,7 @@ pub(crate) fn put_char<W: TextWrite>(out: &mut W, c: char) -> Result<(), Refusal
 }
 
 /// Writes a text by one call, or by none where it is empty.
+#[inline(always)]
 pub(crate) fn put_text<W: TextWrite>(out: &mut W, text: &str) -> Result<(), Refusal>
     ensures { Puts (W.written out.old) (chars text.now) result (W.written out.new) }
 {
@@ -38,7 +39,17 @@ pub(crate) fn put_text<W: TextWrite>(out: &mut W, text: &str) -> Result<(), Refu
     out.write_str(text)
 }
 
+/// Writes an ASCII text, whose bytes are its characters, by one call.
+#[inline(always)]
+pub(crate) fn put_ascii<W: TextWrite>(out: &mut W, text: &str) -> Result<(), Refusal>
+    requires { IsAscii text.now }
+    ensures { Puts (W.written out.old) text.now result (W.written out.new) }
+{
+    out.write_str(text)
+}
+
 /// Writes at most [`RUN`] copies of an ASCII character, of which `run` has that many.
+#[inline(always)]
 fn put_few<W: TextWrite>(out: &mut W, c: char, run: &str, count: usize) -> Result<(), Refusal>
     requires run { run.now ≡ replicate 64 c }
     requires ascii { c < 128 }
@@ -49,6 +60,7 @@ fn put_few<W: TextWrite>(out: &mut W, c: char, run: &str, count: usize) -> Resul
 }
 
 /// Writes so many copies of an ASCII character, of which `run` has [`RUN`].
+#[inline(always)]
 fn put_copies<W: TextWrite>(out: &mut W, c: char, run: &str, count: usize) -> Result<(), Refusal>
     requires run { run.now ≡ replicate 64 c }
     requires ascii { c < 128 }
@@ -66,18 +78,21 @@ fn put_copies<W: TextWrite>(out: &mut W, c: char, run: &str, count: usize) -> Re
     Ok(())
 }
 
+#[inline(always)]
 fn put_spaces<W: TextWrite>(out: &mut W, count: usize) -> Result<(), Refusal>
     ensures { Puts (W.written out.old) (replicate count 32) result (W.written out.new) }
 {
     put_copies(out, ' ', SPACES, count)
 }
 
+#[inline(always)]
 fn put_zeros<W: TextWrite>(out: &mut W, count: usize) -> Result<(), Refusal>
     ensures { Puts (W.written out.old) (replicate count 48) result (W.written out.new) }
 {
     put_copies(out, '0', ZEROS, count)
 }
 
+#[inline(always)]
 fn byte_len(text: &str) -> usize
     ensures { result ≡ byte_count (chars text.now) }
 {
@@ -85,6 +100,7 @@ fn byte_len(text: &str) -> usize
 }
 
 impl Part<'_> {
+    #[inline(always)]
     fn put<W: TextWrite>(self, out: &mut W) -> Result<(), Refusal>
         ensures { Puts (W.written out.old) (part_text self.entry) result (W.written out.new) }
     {
@@ -96,6 +112,7 @@ impl Part<'_> {
     }
 
     /// The bytes of the part.
+    #[inline(always)]
     fn len(self) -> usize
         ensures { result ≡ byte_count (part_text self.entry) }
     {
@@ -108,6 +125,7 @@ impl Part<'_> {
 }
 
 /// Writes the parts in order, up to the first that the writer refuses.
+#[inline(always)]
 pub(crate) fn put_parts<W: TextWrite>(out: &mut W, parts: &[Part<'_>]) -> Result<(), Refusal>
     ensures { Puts (W.written out.old) (text_of_parts parts.now) result (W.written out.new) }
 {

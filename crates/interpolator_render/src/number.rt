@@ -1,14 +1,19 @@
 //! Whole numbers: sign, prefix, digits or exponent form, and their padding.
-ghost use Rattle.std.specs.Prelude.{◌≡◌, ◌≤◌, ◌+◌, ◌++◌, replicate};
+ghost use Rattle.std.specs.Prelude.{◌≡◌, ◌<◌, ◌≤◌, ◌+◌, ◌++◌, length, replicate, unwrap_or};
+ghost use Rattle.interpolator_render.specs.Digits.{digit_text};
 ghost use Rattle.interpolator_render.specs.Numbers.{base_of, is_upper, prefix_of, number_form};
-ghost use Rattle.interpolator_render.specs.Numbers.{sign_text, twos_complement, has_minus};
+ghost use Rattle.interpolator_render.specs.Numbers.{sign_text, front_text, twos_complement, has_minus};
 ghost use Rattle.interpolator_render.specs.Numbers.{magnitude, number_text, IsShortAscii};
-ghost use Rattle.interpolator_render.specs.Padding.{spaces_before, padded_number, IsNumberLayout};
+ghost use Rattle.interpolator_render.specs.Padding.{fill_of, spaces_before, padded_number};
+ghost use Rattle.interpolator_render.specs.Padding.{IsNumberLayout, IsNumberRow};
+ghost use Rattle.interpolator_render.specs.Rows.{grown};
 ghost use Rattle.interpolator_render.specs.Written.{Puts};
 
 use crate::digits::digit_str;
 use crate::exponent::{exponent_tail, mantissa_of};
-use crate::layout::{Part, put_parts};
+use crate::layout::{Part, put_ascii, put_parts};
+use crate::line::{LINE_WIDTH, Line};
+use crate::short_exponent::{put_shown, shown_of};
 use crate::text_write::{Refusal, TextWrite};
 use crate::view::{Alignment, Bits, HexDebug, Sign, Spec, Trait};
 
@@ -85,6 +90,7 @@ impl Notation {
 }
 
 /// How a trait writes whole numbers, if it does.
+#[inline(always)]
 pub(crate) fn number_form(t: Trait, hex_debug: HexDebug) -> Option<NumberForm>
     ensures { result ≡ number_form t hex_debug }
 {
@@ -105,6 +111,7 @@ pub(crate) fn number_form(t: Trait, hex_debug: HexDebug) -> Option<NumberForm>
     }
 }
 
+#[inline(always)]
 fn sign_str(negative: bool, sign: Sign) -> &'static str
     ensures value { result.now ≡ sign_text negative sign }
     ensures ascii { IsShortAscii result.now }
@@ -120,6 +127,7 @@ fn sign_str(negative: bool, sign: Sign) -> &'static str
 }
 
 /// The bits of a signed number at its width.
+#[inline(always)]
 fn twos_complement(number: i128, bits: Bits) -> u128
     ensures { result ≡ twos_complement number bits }
 {
@@ -134,6 +142,7 @@ fn twos_complement(number: i128, bits: Bits) -> u128
 }
 
 /// Whether a `-` stands before a signed number, and the number that its digits stand for.
+#[inline(always)]
 pub(crate) fn sign_and_magnitude(form: NumberForm, number: i128, bits: Bits) -> (bool, u128)
     ensures negative { result.0 ≡ has_minus form number }
     ensures number { result.1 ≡ magnitude form number bits }
@@ -146,6 +155,7 @@ pub(crate) fn sign_and_magnitude(form: NumberForm, number: i128, bits: Bits) -> 
 }
 
 /// How many of the missing spaces stand before a text that has `unset` of them without alignment.
+#[inline(always)]
 pub(crate) fn spaces_before(alignment: Alignment, missing: usize, unset: usize) -> usize
     requires { unset ≤ missing }
     ensures before { result ≡ spaces_before alignment missing unset }
@@ -160,6 +170,7 @@ pub(crate) fn spaces_before(alignment: Alignment, missing: usize, unset: usize) 
 }
 
 /// How a number of so many characters is padded.
+#[inline(always)]
 fn number_layout(spec: &Spec, count: usize) -> NumberLayout
     ensures { IsNumberLayout spec.now count result.before result.zeros result.after }
 {
@@ -181,6 +192,7 @@ fn number_layout(spec: &Spec, count: usize) -> NumberLayout
 
 /// Writes a number's parts, padded. A count of characters stops at the greatest `usize`, which
 /// changes no padding, since no width is greater.
+#[inline(always)]
 fn put_padded<W: TextWrite>(
     out: &mut W,
     spec: &Spec,
@@ -212,8 +224,9 @@ fn put_padded<W: TextWrite>(
     )
 }
 
-/// Writes a number by its digits.
-fn put_digits<W: TextWrite>(
+/// Writes a number by its digits, in parts.
+#[inline(never)]
+fn put_long<W: TextWrite>(
     out: &mut W,
     notation: Notation,
     spec: &Spec,
@@ -239,8 +252,152 @@ fn put_digits<W: TextWrite>(
     put_padded(out, spec, number)
 }
 
-/// Writes a number in exponent form.
-fn put_exponent<W: TextWrite>(
+/// What pads a number.
+#[inline(always)]
+fn fill_byte(spec: &Spec) -> u8
+    ensures value { result ≡ fill_of spec.now }
+    ensures ascii { result < 128 }
+{
+    if spec.zero { b'0' } else { b' ' }
+}
+
+#[inline(always)]
+fn put_sign(line: &mut Line, negative: bool, sign: Sign)
+    requires { 1 ≤ line.old.before }
+    ensures { line.new ≡ grown (sign_text negative sign) line.old }
+{
+    if negative {
+        line.push(b'-');
+        return;
+    }
+    match sign {
+        Sign::Plus => line.push(b'+'),
+        Sign::Minus => {}
+        Sign::Unset => {}
+    }
+}
+
+#[inline(always)]
+fn put_prefix(line: &mut Line, notation: Notation)
+    requires { 2 ≤ line.old.before }
+    ensures { line.new ≡ grown (prefix_of notation) line.old }
+{
+    let letter = match notation {
+        Notation::Decimal => return,
+        Notation::Binary => b'b',
+        Notation::Octal => b'o',
+        Notation::LowerHex => b'x',
+        Notation::UpperHex => b'x',
+    };
+    line.push(letter);
+    line.push(b'0');
+}
+
+/// Writes sign and prefix.
+#[inline(always)]
+fn put_front(line: &mut Line, form: NumberForm, spec: &Spec, negative: bool)
+    requires { 3 ≤ line.old.before }
+    ensures { line.new ≡ grown (front_text form spec.now negative) line.old }
+{
+    if let NumberForm::Digits(notation) = form {
+        if spec.alternate {
+            put_prefix(line, notation);
+        }
+    }
+    put_sign(line, negative, spec.sign);
+}
+
+/// How many bytes sign and prefix have.
+#[inline(always)]
+fn front_len(form: NumberForm, spec: &Spec, negative: bool) -> usize
+    ensures { result ≡ length (front_text form spec.now negative) }
+{
+    let sign = sign_str(negative, spec.sign).len();
+    match form {
+        NumberForm::Digits(notation) if spec.alternate => sign + notation.prefix().len(),
+        _ => sign,
+    }
+}
+
+/// Writes sign and prefix in front of a number's body, and pads it.
+#[inline(always)]
+fn put_around(line: &mut Line, form: NumberForm, spec: &Spec, negative: bool)
+    requires { IsNumberRow spec.now line.old }
+    ensures { line.new.text
+        ≡ padded_number spec.now (front_text form spec.now negative) line.old.text }
+{
+    let width = spec.width.unwrap_or(0);
+    if spec.zero {
+        let count = front_len(form, spec, negative) + line.len();
+        line.pad_before(width.saturating_sub(count));
+        put_front(line, form, spec, negative);
+    } else {
+        put_front(line, form, spec, negative);
+        let missing = width.saturating_sub(line.len());
+        let before = spaces_before(spec.alignment, missing, missing);
+        line.pad_before(before);
+        line.pad_behind(missing - before);
+    }
+}
+
+/// Writes the digits of a number, each notation's by a base that the compiler knows.
+#[inline(always)]
+fn put_notation(line: &mut Line, notation: Notation, n: u64)
+    requires { 64 ≤ line.old.before }
+    ensures { line.new ≡ grown (digit_text (base_of notation) (is_upper notation) n) line.old }
+{
+    match notation {
+        Notation::Decimal => line.put_decimal(n),
+        Notation::Binary => line.put_digits(n, 2, false),
+        Notation::Octal => line.put_digits(n, 8, false),
+        Notation::LowerHex => line.put_digits(n, 16, false),
+        Notation::UpperHex => line.put_digits(n, 16, true),
+    }
+}
+
+/// Writes a number by its digits, in one buffer and by one call.
+#[inline(always)]
+fn put_short<W: TextWrite>(
+    out: &mut W,
+    notation: Notation,
+    spec: &Spec,
+    negative: bool,
+    n: u64,
+) -> Result<(), Refusal>
+    requires narrow { unwrap_or spec.now.width 0 ≤ 40 }
+    ensures { Puts (W.written out.old)
+        (number_text (NumberForm.Digits notation) spec.now negative n)
+        result (W.written out.new) }
+{
+    let mut line = Line::new(fill_byte(spec));
+    put_notation(&mut line, notation, n);
+    put_around(&mut line, NumberForm::Digits(notation), spec, negative);
+    put_ascii(out, line.as_str())
+}
+
+/// Writes a number by its digits.
+#[inline(always)]
+fn put_digits<W: TextWrite>(
+    out: &mut W,
+    notation: Notation,
+    spec: &Spec,
+    negative: bool,
+    n: u128,
+) -> Result<(), Refusal>
+    ensures { Puts (W.written out.old)
+        (number_text (NumberForm.Digits notation) spec.now negative n)
+        result (W.written out.new) }
+{
+    if n <= 0xffff_ffff_ffff_ffff && spec.width.unwrap_or(0) <= LINE_WIDTH {
+        put_short(out, notation, spec, negative, n as u64)
+    } else {
+        put_long(out, notation, spec, negative, n)
+    }
+}
+
+/// Writes a number in exponent form, in parts.
+#[inline(never)]
+fn put_long_exponent<W: TextWrite>(
     out: &mut W,
     upper: bool,
     spec: &Spec,
@@ -263,7 +420,50 @@ fn put_exponent<W: TextWrite>(
     put_padded(out, spec, number)
 }
 
+/// Writes a number in exponent form, in one buffer and by one call.
+#[inline(always)]
+fn put_short_exponent<W: TextWrite>(
+    out: &mut W,
+    upper: bool,
+    spec: &Spec,
+    negative: bool,
+    n: u64,
+) -> Result<(), Refusal>
+    requires narrow { unwrap_or spec.now.width 0 ≤ 40 }
+    requires few { unwrap_or spec.now.precision 0 ≤ 40 }
+    ensures { Puts (W.written out.old) (number_text (NumberForm.Exponent upper) spec.now negative n)
+        result (W.written out.new) }
+{
+    let mut line = Line::new(fill_byte(spec));
+    put_shown(&mut line, upper, shown_of(n, spec.precision));
+    put_around(&mut line, NumberForm::Exponent(upper), spec, negative);
+    put_ascii(out, line.as_str())
+}
+
+/// Writes a number in exponent form.
+#[inline(never)]
+fn put_exponent<W: TextWrite>(
+    out: &mut W,
+    upper: bool,
+    spec: &Spec,
+    negative: bool,
+    n: u128,
+) -> Result<(), Refusal>
+    ensures { Puts (W.written out.old) (number_text (NumberForm.Exponent upper) spec.now negative n)
+        result (W.written out.new) }
+{
+    if n <= 0xffff_ffff_ffff_ffff
+        && spec.width.unwrap_or(0) <= LINE_WIDTH
+        && spec.precision.unwrap_or(0) <= LINE_WIDTH
+    {
+        put_short_exponent(out, upper, spec, negative, n as u64)
+    } else {
+        put_long_exponent(out, upper, spec, negative, n)
+    }
+}
+
 /// Writes a number in a form.
+#[inline(always)]
 pub(crate) fn put_number<W: TextWrite>(
     out: &mut W,
     form: NumberForm,

@@ -17,6 +17,7 @@ use crate::text_write::{Refusal, TextWrite};
 use crate::view::{RenderFault, Spec, Trait, View};
 
 /// Writes a text between spaces.
+#[inline(always)]
 fn put_between<W: TextWrite>(
     out: &mut W,
     text: &str,
@@ -43,6 +44,7 @@ fn put_between<W: TextWrite>(
 /// pad(&mut out, "é", &Spec { width: Some(3), alignment: Alignment::Center, ..Spec::default() })
 /// // appends " é "
 /// ```
+#[inline(always)]
 pub fn pad<W: TextWrite>(out: &mut W, text: &str, spec: &Spec) -> Result<(), Refusal>
     ensures { Puts (W.written out.old) (displayed_text spec.now (chars text.now)) result
         (W.written out.new) }
@@ -59,6 +61,7 @@ fn truth_str(truth: bool) -> &'static str
     if truth { "true" } else { "false" }
 }
 
+#[inline(always)]
 fn refused(answer: Result<(), Refusal>) -> Result<(), RenderFault>
     ensures { result ≡ render_answer answer }
 {
@@ -66,6 +69,7 @@ fn refused(answer: Result<(), Refusal>) -> Result<(), RenderFault>
 }
 
 /// Writes a text under display or debug.
+#[inline(always)]
 fn render_text<W: TextWrite>(
     out: &mut W,
     t: Trait,

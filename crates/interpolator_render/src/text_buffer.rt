@@ -80,6 +80,7 @@ impl TextBuffer {
 impl TextWrite for TextBuffer {
     ghost written = { λ buffer. buffer };
 
+    #[inline(always)]
     fn write_str(&mut self, text: &str) -> Result<(), Refusal> {
         if text.is_empty() {
             return Ok(());
@@ -96,6 +97,7 @@ impl TextWrite for TextBuffer {
         }
     }
 
+    #[inline(always)]
     fn write_char(&mut self, c: char) -> Result<(), Refusal> {
         if self.refused {
             return Err(Refusal { taken: 0 });

@@ -1,9 +1,10 @@
 use Rattle.std.specs.Str.{chars}
 use Rattle.interpolator.specs.Environments.{environment}
 use Rattle.interpolator.proofs.Characters.{size-chars}
+use Rattle.interpolator.proofs.Ends.{at_out}
 use Rattle.interpolator.proofs.Places.{outcome_lies}
 use Rattle.interpolator.proofs.writing.write.Goals as goal
 
 pub returns-clause-place : goal.returns-clause-place
 returns-clause-place g c = outcome_lies g.C.Object.Value.shows (environment (g.C.Context.finds c.args.context.now)) (chars c.args.format.now) _ _ _ _
-    (size-chars c.args.format.now c.utf8.format) c.write_format.ensures.outcome
+    (size-chars c.args.format.now c.utf8.format) (at_out _ _ _ _ _ (rw c.outermost.ensures at c.write_text-answer.ensures.writes.evaluates))

@@ -1,7 +1,7 @@
 use Rattle.std.proofs.Common.{◌∙◌, ap, append-nil}
 use Rattle.interpolator_render.specs.Exponent.{exponent_tail}
 use Rattle.interpolator_render.proofs.NumberLemmas.{exponent_parts}
-use Rattle.interpolator_render.proofs.number.put_exponent.Goals as goal
+use Rattle.interpolator_render.proofs.number.put_long_exponent.Goals as goal
 
 pub returns : goal.returns
 returns g c =

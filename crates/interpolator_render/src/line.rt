@@ -1,0 +1,162 @@
+//! A short text in one buffer, which grows at its front.
+ghost use Rattle.std.specs.Prelude.{◌≡◌, ◌<◌, ◌≤◌, ◌∷◌, [], false, drop, length, replicate};
+ghost use Rattle.std.specs.Fmt.{digit_glyph};
+ghost use Rattle.std.specs.Str.{IsAscii};
+ghost use Rattle.interpolator_render.specs.Digits.{digit_text};
+ghost use Rattle.interpolator_render.specs.Rows.{Row, IsRow, row_of, grown, grown_behind};
+
+use crate::digits::{ascii_digit, ascii_str, fill_low, fill_low_decimal};
+use std::marker::Model;
+
+/// The greatest width that a line has room for, whatever its alignment.
+pub(crate) const LINE_WIDTH: usize = 40;
+
+/// A short ASCII text in a row of copies of one character.
+///
+/// It is written from its end to its front. Padding writes nothing, since the copies stand there
+/// already.
+#[derive(Drop)]
+pub(crate) struct Line {
+    bytes: [u8; 128],
+    fill: u8,
+    start: usize,
+    end: usize,
+}
+
+impl Model for Line {
+    ghost use Rattle.interpolator_render.specs.Rows.{Row, IsRow, row_of};
+
+    ghost Value = { Row };
+
+    ghost view = { λ line. row_of line.bytes line.fill line.start line.end };
+
+    ghost invariant = { λ line. IsRow line.bytes line.fill line.start line.end };
+}
+
+impl Line {
+    /// An empty text between copies of `fill`.
+    #[inline(always)]
+    pub(crate) fn new(fill: u8) -> Line
+        requires { fill < 128 }
+        ensures { result ≡ record { before = 88; text = []; after = 40; fill = fill } }
+    {
+        Line {
+            bytes: [fill; 128],
+            fill,
+            start: 88,
+            end: 88,
+        }
+    }
+
+    /// How many bytes the text has.
+    #[inline(always)]
+    pub(crate) fn len(&self) -> usize
+        ensures { result ≡ length self.now.text }
+    {
+        self.end - self.start
+    }
+
+    /// Writes a byte in front.
+    #[inline(always)]
+    pub(crate) fn push(&mut self, byte: u8)
+        requires ascii { byte < 128 }
+        requires room { 1 ≤ self.old.before }
+        ensures { self.new ≡ grown (byte ∷ []) self.old }
+    {
+        let start = self.start - 1;
+        self.bytes[start] = byte;
+        self.start = start;
+    }
+
+    /// Writes the digits of a number in front, but for the first. Returns that one.
+    #[inline(always)]
+    pub(crate) fn put_low_digits(&mut self, n: u64, base: u64, upper: bool) -> u64
+        requires lowest { 2 ≤ base }
+        requires highest { base ≤ 16 }
+        requires room { length (digit_text base upper n) ≤ self.old.before }
+        ensures first { result < base }
+        ensures leads { digit_text base upper n
+            ≡ digit_glyph upper result ∷ drop 1 (digit_text base upper n) }
+        ensures grown { self.new ≡ grown (drop 1 (digit_text base upper n)) self.old }
+    {
+        let (start, first) = fill_low(n, base, upper, self.start, &mut self.bytes);
+        self.start = start;
+        first
+    }
+
+    /// The same in base ten.
+    #[inline(always)]
+    pub(crate) fn put_low_decimal(&mut self, n: u64) -> u64
+        requires { length (digit_text 10 false n) ≤ self.old.before }
+        ensures first { result < 10 }
+        ensures leads { digit_text 10 false n
+            ≡ digit_glyph false result ∷ drop 1 (digit_text 10 false n) }
+        ensures grown { self.new ≡ grown (drop 1 (digit_text 10 false n)) self.old }
+    {
+        let (start, first) = fill_low_decimal(n, self.start, &mut self.bytes);
+        self.start = start;
+        first
+    }
+
+    /// Writes a number in base ten in front.
+    #[inline(always)]
+    pub(crate) fn put_decimal(&mut self, n: u64)
+        requires { length (digit_text 10 false n) ≤ self.old.before }
+        ensures { self.new ≡ grown (digit_text 10 false n) self.old }
+    {
+        let first = self.put_low_decimal(n);
+        self.push(ascii_digit(first as u8, false));
+    }
+
+    /// Writes the digits of a number in front.
+    #[inline(always)]
+    pub(crate) fn put_digits(&mut self, n: u64, base: u64, upper: bool)
+        requires lowest { 2 ≤ base }
+        requires highest { base ≤ 16 }
+        requires room { length (digit_text base upper n) ≤ self.old.before }
+        ensures { self.new ≡ grown (digit_text base upper n) self.old }
+    {
+        let first = self.put_low_digits(n, base, upper);
+        self.push(ascii_digit(first as u8, upper));
+    }
+
+    /// Writes zeros in front.
+    #[inline(always)]
+    pub(crate) fn put_zeros(&mut self, count: usize)
+        requires { count ≤ self.old.before }
+        ensures { self.new ≡ grown (replicate count 48) self.old }
+    {
+        let mut done = 0;
+        while done < count {
+            self.push(b'0');
+            done += 1;
+        }
+    }
+
+    /// Lengthens the text in front by copies of the fill.
+    #[inline(always)]
+    pub(crate) fn pad_before(&mut self, count: usize)
+        requires { count ≤ self.old.before }
+        ensures { self.new ≡ grown (replicate count self.old.fill) self.old }
+    {
+        self.start -= count;
+    }
+
+    /// Lengthens the text behind by copies of the fill.
+    #[inline(always)]
+    pub(crate) fn pad_behind(&mut self, count: usize)
+        requires { count ≤ self.old.after }
+        ensures { self.new ≡ grown_behind (replicate count self.old.fill) self.old }
+    {
+        self.end += count;
+    }
+
+    /// The text.
+    #[inline(always)]
+    pub(crate) fn as_str(&self) -> &str
+        ensures text { result.now ≡ self.now.text }
+        ensures ascii { IsAscii result.now }
+    {
+        ascii_str(&self.bytes[self.start..self.end])
+    }
+}
