@@ -4,11 +4,11 @@ use Rattle.std.specs.declared.string.String.{String}
 use Rattle.std.specs.Io.KnownBytes.{Appends, Keeps}
 use Rattle.std.proofs.lemmas.Str.{encodes-chars, IsUtf8-string_bytes}
 use Rattle.interpolator.specs.declared.error.Error.{Error}
-use Rattle.interpolator.specs.At.{text_of}
+use Rattle.interpolator.specs.Syntax.At.{text_of}
 use Rattle.interpolator.specs.Faults.{answer_of}
 use Rattle.interpolator.specs.FaultTexts.{error_text}
-use Rattle.interpolator.specs.Meanings.{Meaning}
-use Rattle.interpolator.specs.Outcomes.{Formats}
+use Rattle.interpolator.specs.Meaning.Meanings.{Meaning}
+use Rattle.interpolator.specs.Meaning.Outcomes.{Formats}
 use Rattle.ifmt.specs.Run.{line, Runs, Prints, Tells}
 
 module _ {Z : Type 0} (m : Meaning) (out_old out_new err_old err_new : Option (List ℕ)) where

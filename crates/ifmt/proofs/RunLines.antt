@@ -6,7 +6,7 @@ use Rattle.interpolator.specs.declared.error.Error.{Error}
 use Rattle.interpolator.specs.declared.error.Error.TheVariants.{NoMemory}
 use Rattle.interpolator.specs.Faults.{answer_of}
 use Rattle.interpolator.specs.FaultTexts.{error_text}
-use Rattle.interpolator.specs.Meanings.{Meaning, nothing}
+use Rattle.interpolator.specs.Meaning.Meanings.{Meaning, nothing}
 use Rattle.ifmt.specs.Run.{Runs, line}
 use Rattle.ifmt.specs.Command.{Answers, AllGood}
 use Rattle.ifmt.proofs.Reports.{runs}

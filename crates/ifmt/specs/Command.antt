@@ -5,7 +5,7 @@ use Rattle.std.specs.Prelude.{◌≡◌, ◌≢◌, ℕ, ℤ, Some, List, [], �
 use Rattle.std.specs.Prelude.{◌⊎◌}
 use Rattle.std.specs.Io.KnownBytes.{Appends, Keeps}
 use Rattle.std.specs.declared.string.String.{String}
-use Rattle.interpolator.specs.Meanings.{Meaning}
+use Rattle.interpolator.specs.Meaning.Meanings.{Meaning}
 use Rattle.interpolator.specs.NameMaps.{found}
 use Rattle.interpolator.specs.Trees.{Tree, empty_tree, with_debug_display, with_integer}
 use Rattle.interpolator.specs.Views.{Shown, some_text, nothing_implemented}

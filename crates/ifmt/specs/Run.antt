@@ -2,10 +2,10 @@
 use Rattle.std.specs.Prelude.{◌≡◌, ℕ, List, [], ◌∷◌, ◌++◌, codes, encode_utf8_all, Option, None}
 use Rattle.std.specs.Prelude.{Some, option_map, ◌⊎◌}
 use Rattle.std.specs.Io.KnownBytes.{Appends, Keeps}
-use Rattle.interpolator.specs.At.{text_of}
+use Rattle.interpolator.specs.Syntax.At.{text_of}
 use Rattle.interpolator.specs.Faults.{Answer, fault, no_memory}
 use Rattle.interpolator.specs.FaultTexts.{answer_text}
-use Rattle.interpolator.specs.Meanings.{Meaning}
+use Rattle.interpolator.specs.Meaning.Meanings.{Meaning}
 
 -- a text and a newline
 abbrev pub line : List ℕ → List ℕ

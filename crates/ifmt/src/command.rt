@@ -3,7 +3,7 @@
 ghost use Rattle.std.specs.Prelude.{◌≡◌, IfErr, IfOk, MatchBool, MatchOption, OnErr, OnOk};
 ghost use Rattle.interpolator.specs.declared.error.Error.TheVariants.{NoMemory};
 ghost use Rattle.ifmt.specs.Words.{IsGood};
-ghost use Rattle.interpolator.specs.Meanings.{Meaning};
+ghost use Rattle.interpolator.specs.Meaning.Meanings.{Meaning};
 ghost use Rattle.ifmt.specs.Run.{Runs};
 ghost use Rattle.interpolator.specs.Views.{shown_by, signed_number};
 ghost use Rattle.ifmt.specs.Command.{Fills, object_shows, AllGood, Answers, IsFirstBad};

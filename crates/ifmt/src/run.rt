@@ -4,9 +4,9 @@ ghost use Rattle.std.specs.Prelude.{◌≡◌, ◌⊎◌, IsErrAnd, IsOkAnd, Mat
 ghost use Rattle.std.specs.Io.KnownBytes.{Appends, Keeps};
 ghost use Rattle.interpolator.specs.FaultTexts.{error_text};
 ghost use Rattle.std.specs.Str.{chars};
-ghost use Rattle.interpolator.specs.At.{outermost};
-ghost use Rattle.interpolator.specs.Environments.{environment};
-ghost use Rattle.interpolator.specs.Meanings.{means};
+ghost use Rattle.interpolator.specs.Syntax.At.{outermost};
+ghost use Rattle.interpolator.specs.Meaning.Environments.{environment};
+ghost use Rattle.interpolator.specs.Meaning.Meanings.{means};
 ghost use Rattle.ifmt.specs.Run.{Runs, complaint, line, usage_line};
 
 use interpolator::{Context, Error};

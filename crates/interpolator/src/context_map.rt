@@ -80,7 +80,7 @@ impl<T> NameMap<T> {
 
 impl<T: Default + Drop> NameMap<T> {
     // Puts an absent name in, with a default value.
-    #[tactic(auto, using(crate::proofs::Loans::absent_name))]
+    #[tactic(auto, using(crate::proofs::LoanLemmas::absent_name))]
     fn add(&mut self, name: &str) -> Result<(), AllocError>
         ensures ok { OnOk result (HasAdded T.is_default self.old (chars name.now) self.new) }
         ensures err { OnErr result (IsSame self.old self.new) }

@@ -1,11 +1,11 @@
 //! Formats as methods of a context.
 ghost use Rattle.std.specs.Prelude.{length};
 ghost use Rattle.std.specs.Str.{chars};
-ghost use Rattle.interpolator.specs.At.{outermost};
-ghost use Rattle.interpolator.specs.Environments.{environment};
+ghost use Rattle.interpolator.specs.Syntax.At.{outermost};
+ghost use Rattle.interpolator.specs.Meaning.Environments.{environment};
 ghost use Rattle.interpolator.specs.Faults.{answered, PlaceWithin};
-ghost use Rattle.interpolator.specs.Meanings.{means};
-ghost use Rattle.interpolator.specs.Outcomes.{Outcome, Formats};
+ghost use Rattle.interpolator.specs.Meaning.Meanings.{means};
+ghost use Rattle.interpolator.specs.Meaning.Outcomes.{Outcome, Formats};
 
 use crate::context::{ByNames, Context};
 use crate::context_map::NameMap;

@@ -1,28 +1,6 @@
-//! Laws of the types of this crate, each the contract of a small function.
+//! Laws, each the contract of a small function: of the faults, and of the pieces of a format.
 
-ghost use Rattle.std.specs.Prelude.{◌≡◌, ◌↔◌, IsTrue};
-ghost use Rattle.interpolator.specs.Faults.{answer_of, parse_fault_of};
+mod faults;
+pub mod pieces;
 
-use crate::error::{Error, NumberError, ParseError};
-
-/// Tests whether two errors are equal: exactly where their variants and fields are.
-pub fn is_same_error(error: &Error, other: &Error) -> bool
-    ensures { IsTrue result ↔ (answer_of error.now ≡ answer_of other.now) }
-{
-    *error == *other
-}
-
-/// Tests whether two faults of a format text are equal: exactly where their variants and fields
-/// are.
-pub fn is_same_parse_error(fault: &ParseError, other: &ParseError) -> bool
-    ensures { IsTrue result ↔ (parse_fault_of fault.now ≡ parse_fault_of other.now) }
-{
-    *fault == *other
-}
-
-/// Tests whether two faults of a number are equal: exactly where their variants are.
-pub fn is_same_number_error(kind: &NumberError, other: &NumberError) -> bool
-    ensures { IsTrue result ↔ (kind.now ≡ other.now) }
-{
-    *kind == *other
-}
+pub use faults::{is_same_error, is_same_number_error, is_same_parse_error};

@@ -1,23 +1,17 @@
 //! Format strings at run time, proved.
 #![tactic(auto)]
 
-mod argument;
-mod class;
 mod constructors;
 mod context;
 mod context_map;
-mod cursor;
 mod error;
 mod error_text;
-mod evaluate;
 mod interpolate;
 pub mod laws;
-mod piece;
-pub mod piece_laws;
-mod scope;
-mod sink;
+mod meaning;
 mod slot_names;
 mod slots;
+mod syntax;
 mod writing;
 
 pub use context::Context;

@@ -2,18 +2,18 @@
 
 ghost use Rattle.std.specs.Prelude.{◌≡◌, [], false, length, IfOk};
 ghost use Rattle.std.specs.Str.{chars};
-ghost use Rattle.interpolator.specs.At.{outermost};
-ghost use Rattle.interpolator.specs.Environments.{environment};
+ghost use Rattle.interpolator.specs.Syntax.At.{outermost};
+ghost use Rattle.interpolator.specs.Meaning.Environments.{environment};
 ghost use Rattle.interpolator.specs.Faults.{answered, PlaceWithin};
-ghost use Rattle.interpolator.specs.Meanings.{means};
-ghost use Rattle.interpolator.specs.Outcomes.{Outcome, Formats};
+ghost use Rattle.interpolator.specs.Meaning.Meanings.{means};
+ghost use Rattle.interpolator.specs.Meaning.Outcomes.{Outcome, Formats};
 
 use crate::context::Context;
-use crate::cursor::Cursor;
+use crate::syntax::cursor::Cursor;
 use crate::error::Error;
-use crate::evaluate::write_text;
-use crate::scope::Scope;
-use crate::sink::Sink;
+use crate::meaning::evaluate::write_text;
+use crate::meaning::scope::Scope;
+use crate::meaning::sink::Sink;
 use interpolator_render::{TextBuffer, TextWrite};
 use std::alloc::{AllocError, Global};
 
@@ -70,7 +70,7 @@ pub fn write<W: TextWrite, C: Context>(
 const MOST_MORE: usize = 256;
 
 /// An empty buffer with room for the format and, up to a bound, as many bytes again.
-#[tactic(auto, using(crate::proofs::Characters::no_text))]
+#[tactic(auto, using(crate::proofs::SyntaxLemmas::CharacterLemmas::no_text))]
 fn buffer_for(alloc: Global, format: &str) -> Result<TextBuffer, AllocError>
     ensures { IfOk result (λ buffer. buffer ≡ record { text = []; refused = false }) }
 {

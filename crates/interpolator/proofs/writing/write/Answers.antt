@@ -1,8 +1,8 @@
 use Rattle.std.specs.Str.{chars}
-use Rattle.interpolator.specs.Environments.{environment}
-use Rattle.interpolator.proofs.Characters.{size-chars}
-use Rattle.interpolator.proofs.Ends.{at_out}
-use Rattle.interpolator.proofs.Places.{outcome_lies}
+use Rattle.interpolator.specs.Meaning.Environments.{environment}
+use Rattle.interpolator.proofs.SyntaxLemmas.CharacterLemmas.{size-chars}
+use Rattle.interpolator.proofs.MeaningLemmas.SinkLemmas.{at_out}
+use Rattle.interpolator.proofs.MeaningLemmas.PlaceLemmas.{outcome_lies}
 use Rattle.interpolator.proofs.writing.write.Goals as goal
 
 pub returns-clause-place : goal.returns-clause-place

@@ -4,7 +4,7 @@ use Rattle.std.specs.String.{string_bytes}
 use Rattle.std.proofs.lemmas.Str.{encodes-chars}
 use Rattle.interpolator.specs.NameMaps.{under}
 use Rattle.interpolator.specs.declared.context_map.NameMap.{NameMap}
-use Rattle.interpolator.proofs.Loans.{put_in, new_name, kept, absent_name}
+use Rattle.interpolator.proofs.LoanLemmas.{put_in, new_name, kept, absent_name}
 use Rattle.interpolator.proofs.context_map.NameMap.add.Goals as goal
 
 pub returns-then-is_some-clause-ok : goal.returns-then-is_some-clause-ok

@@ -3,7 +3,7 @@ use Rattle.std.specs.Option.{option_copied_mut}
 use Rattle.std.specs.Str.{chars}
 use Rattle.std.proofs.lemmas.Str.{encodes-chars}
 use Rattle.interpolator.specs.NameMaps.{under}
-use Rattle.interpolator.proofs.Loans.{lent_in, same}
+use Rattle.interpolator.proofs.LoanLemmas.{lent_in, same}
 use Rattle.interpolator.proofs.context_map.NameMap.lend.Goals as goal
 
 pub returns : goal.returns

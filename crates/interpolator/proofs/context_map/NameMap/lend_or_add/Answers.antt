@@ -1,6 +1,6 @@
 use Rattle.std.proofs.Common.{refl}
 use Rattle.std.specs.Str.{chars}
-use Rattle.interpolator.proofs.Loans.{put_after, value_after}
+use Rattle.interpolator.proofs.LoanLemmas.{put_after, value_after}
 use Rattle.interpolator.proofs.context_map.NameMap.lend_or_add.Goals as goal
 
 pub returns : goal.returns

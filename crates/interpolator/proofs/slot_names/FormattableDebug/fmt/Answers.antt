@@ -4,7 +4,7 @@ use Rattle.std.specs.Prelude.{codes}
 use Rattle.interpolator_render.specs.declared.view.Trait.TheVariants.{Binary}
 use Rattle.interpolator.specs.Trees.{tree_of}
 use Rattle.interpolator.specs.SlotNames.{slot_name, is_filled, slot_order}
-use Rattle.interpolator.proofs.Naming.{names_of, one_more, none_more, no_name-more, name_written}
+use Rattle.interpolator.proofs.SlotNameLemmas.{names_of, one_more, none_more, no_name-more, name_written}
 use Rattle.interpolator.proofs.slot_names.FormattableDebug.fmt.Goals as goal
 use Rattle.interpolator.proofs.slot_names.FormattableDebug.fmt.Goals.{then-has+in_ok-write_name, else-has}
 

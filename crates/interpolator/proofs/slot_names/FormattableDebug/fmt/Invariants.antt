@@ -4,7 +4,7 @@ use Rattle.std.specs.Prelude.{codes}
 use Rattle.std.specs.Fmt.{HasWritten, IsPlainFormatter}
 use Rattle.interpolator.specs.Trees.{tree_of}
 use Rattle.interpolator.specs.SlotNames.{is_filled, slot_order}
-use Rattle.interpolator.proofs.Naming.{names_of, no_name, opened}
+use Rattle.interpolator.proofs.SlotNameLemmas.{names_of, no_name, opened}
 use Rattle.interpolator.proofs.slot_names.FormattableDebug.fmt.Given as goal
 
 abbrev pub invariant-loop-slot : goal.invariant-loop-slot

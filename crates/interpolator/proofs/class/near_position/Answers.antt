@@ -1,9 +1,0 @@
-use Rattle.std.proofs.Common.{◌≤◌, length, ap, ◌∙◌, rules}
-use Rattle.std.specs.List.{position}
-use Rattle.interpolator.proofs.Bytes.{near_is}
-use Rattle.interpolator.proofs.class.near_position.Goals as goal
-
-pub returns : goal.returns
-returns c =
-    let within : c.min.result ≤ length c.args.bytes.now = search rules in
-    near_is _ c.args.bytes.now c.min.result c.byte_position.result within (c.byte_position.ensures ∙ ap (position _) c.split_at.ensures.front)

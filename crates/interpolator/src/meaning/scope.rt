@@ -1,0 +1,56 @@
+//! What names mean while a format is written.
+ghost use Rattle.std.specs.Prelude.{◌≡◌, Some, MatchOption, option_map};
+ghost use Rattle.std.specs.Str.{chars};
+ghost use Rattle.interpolator.specs.Trees.{tree_of};
+ghost use Rattle.interpolator.specs.Meaning.Environments.{environment, given};
+ghost use Rattle.interpolator.specs.Meaning.Scopes.{environment_of};
+
+use crate::context::Context;
+use crate::slots::Formattable;
+use std::alloc::AllocError;
+
+/// A context, and at most one inner value, which has the empty name.
+pub(crate) struct Scope<'a, C, V> {
+    context: &'a C,
+    inner: Option<&'a Formattable<'a, V>>,
+}
+
+impl<'a, C, V> Clone for Scope<'a, C, V> {
+    fn clone(&self) -> Result<Self, AllocError> {
+        Ok(*self)
+    }
+}
+
+impl<'a, C, V> Copy for Scope<'a, C, V> {}
+
+impl<'a, C: Context> Scope<'a, C, C::Object> {
+    /// The context alone.
+    pub(crate) fn outermost(context: &'a C) -> Self
+        ensures { environment_of C.finds result ≡ environment (C.finds context.now) }
+    {
+        Scope {
+            context,
+            inner: None,
+        }
+    }
+
+    /// The inner value, where the name is empty. Elsewhere the name means what the context has.
+    #[inline(always)]
+    pub(crate) fn inner(&self, name: &str) -> Option<&'a Formattable<'a, C::Object>>
+        ensures { MatchOption result
+            (given (environment_of C.finds self.now) (chars name.now)
+            ≡ C.finds self.now.context.now (chars name.now))
+            (λ item. given (environment_of C.finds self.now) (chars name.now)
+            ≡ Some (tree_of item.now)) }
+    {
+        if name.is_empty() { self.inner } else { None }
+    }
+
+    /// What the context has under a name.
+    #[inline(always)]
+    pub(crate) fn outer(&self, name: &str) -> Option<Formattable<'a, C::Object>>
+        ensures { option_map tree_of result ≡ C.finds self.now.context.now (chars name.now) }
+    {
+        self.context.get(name)
+    }
+}

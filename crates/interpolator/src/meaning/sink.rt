@@ -1,0 +1,122 @@
+//! Where text goes: to the writer, or aside into a buffer.
+ghost use Rattle.std.specs.Prelude.{◌+◌, ◌^◌, ◌<◌, length, [], ◌∷◌};
+ghost use Rattle.std.specs.Str.{chars};
+ghost use Rattle.std.specs.Option.{option_copied};
+ghost use Rattle.interpolator_render.specs.Views.{IsInRange, shown_by};
+ghost use Rattle.interpolator_render.specs.Texts.{view_text};
+ghost use Rattle.interpolator.specs.Syntax.At.{placed_from};
+ghost use Rattle.interpolator.specs.Faults.{answered};
+ghost use Rattle.interpolator.specs.Meaning.Meanings.{text_alone, view_means, value_means};
+ghost use Rattle.interpolator.specs.Meaning.Outcomes.{Outcome};
+ghost use Rattle.interpolator.specs.Meaning.Sinks.{Writes};
+
+use crate::error::Error;
+use interpolator_render::{RenderFault, Spec, TextBuffer, TextWrite, Trait, Value, View, render};
+use std::fmt;
+
+/// Writes one character of the format.
+#[inline(always)]
+fn write_char<W: TextWrite>(out: &mut W, c: char, place: usize) -> Result<(), Error>
+    ensures outcome { Outcome (text_alone ((c, place) ∷ []))
+        (W.written out.old) (W.written out.new) (answered result) }
+{
+    match out.write_char(c) {
+        Ok(()) => Ok(()),
+        Err(_) => Err(Error::Fmt(fmt::Error, place)),
+    }
+}
+
+/// Writes characters of the format that stand from a place on. A single one is not written as a
+/// text, which costs more.
+#[inline(always)]
+fn write_run<W: TextWrite>(out: &mut W, text: &str, place: usize) -> Result<(), Error>
+    requires fits { place + length text.now < 2 ^ 64 }
+    ensures outcome { Outcome (text_alone (placed_from place (chars text.now)))
+        (W.written out.old) (W.written out.new) (answered result) }
+{
+    if let [byte] = text.as_bytes() {
+        if byte.is_ascii() {
+            return write_char(out, *byte as char, place);
+        }
+    }
+    match out.write_str(text) {
+        Ok(()) => Ok(()),
+        Err(refusal) => Err(Error::Fmt(fmt::Error, place + refusal.taken)),
+    }
+}
+
+/// Writes a view, each character of which stands at one place.
+fn write_view<W: TextWrite>(
+    out: &mut W,
+    view: View<'_>,
+    t: Trait,
+    spec: &Spec,
+    place: usize,
+) -> Result<(), Error>
+    requires in_range { IsInRange (shown_by view) }
+    ensures outcome { Outcome (view_means t place (view_text (shown_by view.entry) t spec.now))
+        (W.written out.old) (W.written out.new) (answered result) }
+{
+    match render(out, view, t, spec) {
+        Ok(()) => Ok(()),
+        Err(RenderFault::NotImplemented) => Err(Error::MissingTraitImpl(t, place)),
+        Err(RenderFault::Failed) => Err(Error::Fmt(fmt::Error, place)),
+        Err(RenderFault::Refused) => Err(Error::Fmt(fmt::Error, place)),
+    }
+}
+
+/// Where text goes: to the writer, or aside into a buffer if there is one.
+pub(crate) struct Sink<'s, W> {
+    pub(crate) out: &'s mut W,
+    pub(crate) aside: &'s mut Option<TextBuffer>,
+}
+
+impl<'s, W: TextWrite> Sink<'s, W> {
+    /// One character of the format.
+    #[inline(always)]
+    pub(crate) fn put_char(&mut self, c: char, place: usize) -> Result<(), Error>
+        ensures writes { Writes W.written (text_alone ((c, place) ∷ []))
+            self.old self.new (answered result) }
+    {
+        match &mut *self.aside {
+            None => write_char(&mut *self.out, c, place),
+            Some(buffer) => write_char(buffer, c, place),
+        }
+    }
+
+    /// Characters of the format that stand from a place on, as one slice.
+    #[inline(always)]
+    pub(crate) fn put_run(&mut self, text: &str, place: usize) -> Result<(), Error>
+        requires fits { place + length text.now < 2 ^ 64 }
+        ensures writes { Writes W.written (text_alone (placed_from place (chars text.now)))
+            self.old self.new (answered result) }
+    {
+        match &mut *self.aside {
+            None => write_run(&mut *self.out, text, place),
+            Some(buffer) => write_run(buffer, text, place),
+        }
+    }
+
+    /// What stands in a slot, under a trait and a spec, each character at one place.
+    #[inline(always)]
+    pub(crate) fn put_value<V: Value>(
+        &mut self,
+        value: Option<&V>,
+        t: Trait,
+        spec: &Spec,
+        place: usize,
+    ) -> Result<(), Error>
+        ensures writes { Writes W.written
+            (value_means V.shows t spec.now place (option_copied value.entry))
+            self.old self.new (answered result) }
+    {
+        let Some(value) = value else {
+            return Err(Error::MissingTraitImpl(t, place));
+        };
+        let view = value.view(t, spec);
+        match &mut *self.aside {
+            None => write_view(&mut *self.out, view, t, spec, place),
+            Some(buffer) => write_view(buffer, view, t, spec, place),
+        }
+    }
+}
