@@ -1,6 +1,8 @@
-pub mod Parts
-pub mod Cuts
-pub mod Reports
-pub mod FirstBad
-pub mod WrongLines
-pub mod RunLines
+-- The lemmas of the program.
+pub mod PartLemmas
+pub mod CutLemmas
+pub mod ItemLemmas
+pub mod FirstBadLemmas
+pub mod BindLemmas
+pub mod ReportLemmas
+pub mod AnswerLemmas

@@ -1,23 +1,23 @@
 -- The words of the command line: what each means, by its bytes.
 use Rattle.std.specs.Prelude.{◌≡◌, ℕ, ℤ, pos, neg_ℤ, List, ◌∷◌, ◌++◌, codes, Contains, FitsSigned}
-use Rattle.std.specs.Prelude.{Option, None, Some, ◌⊎◌}
+use Rattle.std.specs.Prelude.{Option, None, Some, ◌⊎◌, ◌↔◌}
 use Rattle.std.specs.Int.{w128}
 use Rattle.std.specs.Str.Parse.{IsNumeral, digits_value}
 use Rattle.ifmt.specs.declared.words.Word.{Word}
 use Rattle.ifmt.specs.declared.words.Word.TheVariants.{Text, Number, List as ListWord, Bad}
 
--- what a word means that is not bad: a name, and a text, a number or a list of items
-pub data Meaning : Type 0 where
-  text : List ℕ → List ℕ → Meaning
-  number : List ℕ → ℤ → Meaning
-  list : List ℕ → List ℕ → Meaning
+-- what a word that is not bad puts under a name: a text, a number or a list of items
+pub data Assignment : Type 0 where
+  text : (name value : List ℕ) → Assignment
+  number : (name : List ℕ) (value : ℤ) → Assignment
+  list : (name items : List ℕ) → Assignment
 
--- what a `Word` says, where borrows do not count: `None` for `Bad`
-abbrev pub meaning_of : Word → Option Meaning
-meaning_of (Text name value) = Some (text name.now value.now)
-meaning_of (Number name value) = Some (number name.now value)
-meaning_of (ListWord name items) = Some (list name.now items.now)
-meaning_of Bad = None
+-- the assignment of a `Word`, where borrows do not count: `None` for `Bad`
+abbrev pub assignment_of : Word → Option Assignment
+assignment_of (Text name value) = Some (text name.now value.now)
+assignment_of (Number name value) = Some (number name.now value)
+assignment_of (ListWord name items) = Some (list name.now items.now)
+assignment_of Bad = None
 
 -- the sign `=`
 abbrev pub equals_sign : ℕ
@@ -42,19 +42,24 @@ pub record Spells (whole : List ℕ) (value : ℤ) : Type 0 where
 
 -- the rule on the parts before and behind the `=`: behind `:` a number, behind `[]` a list, which
 -- no word can be yet, else a text
-abbrev pub PartsMean : List ℕ → List ℕ → Meaning → Type 0
+abbrev pub PartsMean : List ℕ → List ℕ → Assignment → Type 0
 PartsMean left right (text name value) =
     (left ≡ name) × (right ≡ value) × ¬ (EndsIn (codes ":") left) × ¬ (EndsIn (codes "[]") left)
 PartsMean left right (number name value) = (left ≡ name ++ codes ":") × Spells right value
 PartsMean left right (list name items) = ⊥
 
 -- what a word means, by its parts
-pub record Means (word : List ℕ) (meaning : Meaning) : Type 0 where
+pub record Means (word : List ℕ) (assignment : Assignment) : Type 0 where
   pub left : List ℕ
   pub right : List ℕ
   pub cut : IsCut word left right
-  pub meant : PartsMean left right meaning
+  pub meant : PartsMean left right assignment
 
 -- a word that means something
 abbrev pub IsGood : List ℕ → Type 0
-IsGood word = (meaning : Meaning) × Means word meaning
+IsGood word = (assignment : Assignment) × Means word assignment
+
+-- a `Word` says what the word means, and `Bad` that it means nothing
+abbrev pub Classifies : List ℕ → Word → Type 0
+Classifies word classified =
+    (assignment : Assignment) → Means word assignment ↔ (assignment_of classified ≡ Some assignment)

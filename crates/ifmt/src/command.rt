@@ -1,12 +1,14 @@
 //! A command line, answered.
 
 ghost use Rattle.std.specs.Prelude.{◌≡◌, IfErr, IfOk, MatchBool, MatchOption, OnErr, OnOk};
+ghost use Rattle.std.specs.Prelude.{string_bytes};
+ghost use Rattle.std.specs.List.{AllZip};
+ghost use Rattle.interpolator.specs.Views.{shown_as_value};
+ghost use Rattle.interpolator.specs.NameMaps.{found};
 ghost use Rattle.interpolator.specs.declared.error.Error.TheVariants.{NoMemory};
 ghost use Rattle.ifmt.specs.Words.{IsGood};
-ghost use Rattle.interpolator.specs.Meaning.Meanings.{Meaning};
-ghost use Rattle.ifmt.specs.Run.{Runs};
-ghost use Rattle.interpolator.specs.Views.{shown_by, signed_number};
-ghost use Rattle.ifmt.specs.Command.{Fills, object_shows, AllGood, Answers, IsFirstBad};
+ghost use Rattle.ifmt.specs.Binding.{Fills, HasObject, object_shows};
+ghost use Rattle.ifmt.specs.Command.{AllGood, Answers, IsFirstBad, RunsOver};
 
 use crate::run::{complain, report, run, usage};
 use crate::words::{Word, classify};
@@ -19,8 +21,8 @@ use std::io::Write;
 /// Without a format it writes the usage line, and at the first bad word a complaint, before any
 /// object is made. Gives the status of the program.
 pub fn answer<O: Write, E: Write>(alloc: Global, line: &[String], out: &mut O, err: &mut E) -> u8
-    ensures { Answers line.now (O.contents out.old) (O.contents out.new)
-        (E.contents err.old) (E.contents err.new) result }
+    ensures { Answers (O.contents out.old) (O.contents out.new)
+        (E.contents err.old) (E.contents err.new) result line.now }
 {
     match line.split_first() {
         None => usage(err),
@@ -64,45 +66,39 @@ fn run_words<O: Write, E: Write>(
     out: &mut O,
     err: &mut E,
 ) -> Result<u8, Error>
-    ensures ok { IfOk result (λ status. (meaning : Meaning) × Runs meaning
-        (O.contents out.old) (O.contents out.new)
-        (E.contents err.old) (E.contents err.new) status) }
+    requires { AllGood words.now }
+    ensures ok { IfOk result (λ status.
+        RunsOver (O.contents out.old) (O.contents out.new)
+        (E.contents err.old) (E.contents err.new) status format.now words.now) }
     ensures err { IfErr result (λ error. error ≡ NoMemory) }
     ensures out { OnErr result (O.contents out.new ≡ O.contents out.old) }
     ensures rest { OnErr result (E.contents err.new ≡ E.contents err.old) }
 {
-    let words = classified(alloc, words)?;
-    let objects = objects_of(alloc, words.as_slice())?;
+    let objects = objects_of(alloc, words)?;
     let mut context = ContextMap::new(alloc);
-    for (word, object) in words.iter().zip(&objects) {
+    for (word, object) in &objects {
         fill(&mut context, *word, object)?;
     }
     Ok(run(alloc, format, &context, out, err))
 }
 
-fn classified<'a>(alloc: Global, words: &'a [String]) -> Result<Vec<Word<'a>>, Error>
-    ensures { IfErr result (λ error. error ≡ NoMemory) }
-{
-    let mut classified = Vec::with_capacity(alloc, words.len())?;
-    for word in words {
-        classified.push(classify(word.as_str()))?;
-    }
-    Ok(classified)
-}
-
-fn objects_of<'a>(alloc: Global, words: &[Word<'a>]) -> Result<Vec<View<'a>>, Error>
-    ensures { IfErr result (λ error. error ≡ NoMemory) }
+// Each word, classified, and its object.
+fn objects_of<'a>(alloc: Global, words: &'a [String]) -> Result<Vec<(Word<'a>, View<'a>)>, Error>
+    ensures ok { IfOk result (λ objects.
+        AllZip (λ word object. HasObject (string_bytes word) object) words.now objects.items) }
+    ensures err { IfErr result (λ error. error ≡ NoMemory) }
 {
     let mut objects = Vec::with_capacity(alloc, words.len())?;
-    for word in words {
-        objects.push(object_of(*word))?;
+    for text in words {
+        let word = classify(text.as_str());
+        objects.push((word, object_of(word)))?;
     }
     Ok(objects)
 }
 
 // What a word's value shows; a word with none shows nothing.
 fn object_of<'a>(word: Word<'a>) -> View<'a>
-    ensures { shown_by result ≡ object_shows (λ n. signed_number n Bits.B128) word.entry }
+    ensures { shown_as_value result ≡ object_shows word.entry }
 {
     match word {
         Word::Text { name: _, text } => View::Text(text),
@@ -114,7 +110,8 @@ fn object_of<'a>(word: Word<'a>) -> View<'a>
 
 // Fills the slots of a word's name: a text those of debug and display, a number all of an integer.
 fn fill<'a, V>(context: &mut ContextMap<'a, V>, word: Word<'_>, object: &'a V) -> Result<(), Error>
-    ensures ok { OnOk result (Fills context.old word.entry object.now context.new) }
+    ensures ok { OnOk result
+        (Fills (found context.old) word.entry object.now (found context.new)) }
     ensures err { IfErr result (λ error. error ≡ NoMemory) }
 {
     match word {

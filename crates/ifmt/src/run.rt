@@ -1,13 +1,14 @@
 //! The run of a format, and the lines that the program writes.
 
-ghost use Rattle.std.specs.Prelude.{◌≡◌, ◌⊎◌, IsErrAnd, IsOkAnd, MatchResult, OnOk, string_bytes};
-ghost use Rattle.std.specs.Io.KnownBytes.{Appends, Keeps};
-ghost use Rattle.interpolator.specs.FaultTexts.{error_text};
+ghost use Rattle.std.specs.Prelude.{◌≡◌, MatchResult, OnOk, string_bytes};
 ghost use Rattle.std.specs.Str.{chars};
+ghost use Rattle.std.specs.Io.KnownBytes.{Appends};
 ghost use Rattle.interpolator.specs.Syntax.At.{outermost};
 ghost use Rattle.interpolator.specs.Meaning.Environments.{environment};
+ghost use Rattle.interpolator.specs.Faults.{answer_of};
+ghost use Rattle.interpolator.specs.FaultTexts.{error_text};
 ghost use Rattle.interpolator.specs.Meaning.Meanings.{means};
-ghost use Rattle.ifmt.specs.Run.{Runs, complaint, line, usage_line};
+ghost use Rattle.ifmt.specs.Run.{Prints, Puts, Runs, Tells, complaint, line, usage_line};
 
 use interpolator::{Context, Error};
 use std::alloc::Global;
@@ -25,7 +26,7 @@ const REFUSED: u8 = 3;
 /// Formats, and then writes the text to `out`, or the fault's text to `err`, as a line.
 ///
 /// Gives 0 where the text was written, 1 where a fault was, and 3 where `out` or `err` refuses; how
-/// much went out is then open. What was written to is flushed, and the other not touched.
+/// much went out is then open. What was written to is flushed, and the other is never touched.
 pub fn run<C: Context, O: Write, E: Write>(
     alloc: Global,
     format: &str,
@@ -34,8 +35,8 @@ pub fn run<C: Context, O: Write, E: Write>(
     err: &mut E,
 ) -> u8
     ensures { Runs
-        (means C.Object.shows (environment (C.finds context.now)) (outermost (chars format.now)))
-        (O.contents out.old) (O.contents out.new) (E.contents err.old) (E.contents err.new) result }
+        (O.contents out.old) (O.contents out.new) (E.contents err.old) (E.contents err.new) result
+        (means C.Object.shows (environment (C.finds context.now)) (outermost (chars format.now))) }
 {
     report(interpolator::format(alloc, format, context), out, err)
 }
@@ -44,8 +45,7 @@ pub fn run<C: Context, O: Write, E: Write>(
 ///
 /// Gives 2, or 3 where `err` refuses; how much went out is then open.
 pub fn usage<E: Write>(err: &mut E) -> u8
-    ensures written { result ≡ 2 → Appends (E.contents err.old) (E.contents err.new) usage_line }
-    ensures status { (result ≡ 2) ⊎ (result ≡ 3) }
+    ensures { Puts 2 (E.contents err.old) (E.contents err.new) usage_line result }
 {
     status_of(put_usage(err), BAD_USE)
 }
@@ -54,22 +54,20 @@ pub fn usage<E: Write>(err: &mut E) -> u8
 ///
 /// Gives 2, or 3 where `err` refuses; how much went out is then open.
 pub fn complain<E: Write>(word: &str, err: &mut E) -> u8
-    ensures written { result ≡ 2
-        → Appends (E.contents err.old) (E.contents err.new) (complaint word.now) }
-    ensures status { (result ≡ 2) ⊎ (result ≡ 3) }
+    ensures { Puts 2 (E.contents err.old) (E.contents err.new) (complaint word.now) result }
 {
     status_of(put_complaint(word, err), BAD_USE)
 }
 
-// Writes what a format gave: a text to `out`, or a fault to `err`, as a line.
+/// Writes what a format gave: a text to `out`, or a fault to `err`, as a line, and flushes.
+///
+/// Gives 0 for a text, 1 for a fault, and 3 where the write is refused.
 pub fn report<O: Write, E: Write>(outcome: Result<String, Error>, out: &mut O, err: &mut E) -> u8
-    ensures ok { result ≡ 0 → Keeps (E.contents err.old) (E.contents err.new)
-        × IsOkAnd outcome (λ text.
-        Appends (O.contents out.old) (O.contents out.new) (line (string_bytes text))) }
-    ensures err { result ≡ 1 → Keeps (O.contents out.old) (O.contents out.new)
-        × IsErrAnd outcome (λ error.
-        Appends (E.contents err.old) (E.contents err.new) (line (error_text error))) }
-    ensures status { (result ≡ 0) ⊎ (result ≡ 1) ⊎ (result ≡ 3) }
+    ensures { MatchResult outcome
+        (λ text. Prints (O.contents out.old) (O.contents out.new)
+        (E.contents err.old) (E.contents err.new) result (string_bytes text))
+        (λ error. Tells (O.contents out.old) (O.contents out.new)
+        (E.contents err.old) (E.contents err.new) result (answer_of error)) }
 {
     match outcome {
         Ok(text) => status_of(put_text(text.as_str(), out), DONE),

@@ -1,7 +1,12 @@
 //! The words of the command line.
 
-ghost use Rattle.std.specs.Prelude.{◌≡◌, ◌↔◌, ℤ, Some};
-ghost use Rattle.ifmt.specs.Words.{Meaning, Means, PartsMean, Spells, meaning_of};
+ghost use Rattle.std.specs.Prelude.{◌≡◌, ◌↔◌, ℕ, ℤ, IfErr, IfOk, List, Some};
+ghost use Rattle.interpolator.specs.declared.error.Error.TheVariants.{NoMemory};
+ghost use Rattle.ifmt.specs.Items.{AreItems, items_of, texts_of};
+ghost use Rattle.ifmt.specs.Words.{Assignment, Classifies, PartsMean, Spells, assignment_of};
+
+use interpolator::Error;
+use std::alloc::Global;
 
 const EQUALS: char = '=';
 
@@ -10,6 +15,8 @@ const NUMBER_MARK: char = ':';
 const LIST_MARK: &str = "[]";
 
 const PLUS: char = '+';
+
+const COMMA: char = ',';
 
 /// What a word of the command line gives to the format.
 #[derive(Clone, Copy, Debug, PartialEq, Eq)]
@@ -33,7 +40,7 @@ pub enum Word<'a> {
 ///
 /// `a=b=c` is the text `b=c` under `a`, and `n:=-12` the number -12 under `n`.
 pub fn classify(word: &str) -> Word<'_>
-    ensures { (meaning : Meaning) → Means word.now meaning ↔ (meaning_of result ≡ Some meaning) }
+    ensures { Classifies word.now result }
 {
     match word.split_once(EQUALS) {
         None => Word::Bad,
@@ -43,8 +50,8 @@ pub fn classify(word: &str) -> Word<'_>
 
 // The word whose first `=` stands between these parts.
 fn classify_parts<'a>(left: &'a str, right: &'a str) -> Word<'a>
-    ensures { (meaning : Meaning) → PartsMean left.now right.now meaning
-        ↔ (meaning_of result ≡ Some meaning) }
+    ensures { (assignment : Assignment) → PartsMean left.now right.now assignment
+        ↔ (assignment_of result ≡ Some assignment) }
 {
     if let Some(name) = left.strip_suffix(NUMBER_MARK) {
         return match number_of(right) {
@@ -69,6 +76,26 @@ fn number_of(text: &str) -> Option<i128>
         return None;
     }
     text.parse::<i128>().ok()
+}
+
+/// The items of a list: the parts of its text between the commas, and none for the empty text.
+///
+/// `a,,b` has three: `a`, the empty text and `b`.
+///
+/// # Errors
+///
+/// `NoMemory`.
+pub fn items(alloc: Global, text: &str) -> Result<Vec<&str>, Error>
+    ensures ok { IfOk result (λ items. texts_of items.items ≡ items_of text.now) }
+    ensures only { IfOk result (λ items. (parts : List (List ℕ)) → AreItems text.now parts
+        ↔ (parts ≡ texts_of items.items)) }
+    ensures err { IfErr result (λ error. error ≡ NoMemory) }
+{
+    if text.is_empty() {
+        return Ok(Vec::new(alloc));
+    }
+    let items = text.split(COMMA).collect(alloc)?;
+    Ok(items)
 }
 
 #[cfg(test)]

@@ -14,21 +14,26 @@ use Rattle.interpolator.specs.NameMaps.{under, name_count, HasPut, IsSame, HasAd
 use Rattle.interpolator.specs.declared.context_map.NameMap.{NameMap}
 
 -- two names with the same bytes are the same name
-other_bytes : (name other : List ℕ) → other ≢ name → bytes_eq (encode_utf8_all name) (encode_utf8_all other) ≡ false
+other_bytes : (name other : List ℕ) → other ≢ name
+    → bytes_eq (encode_utf8_all name) (encode_utf8_all other) ≡ false
 other_bytes name other differs = false_from_ne_true _
     (λ e. differs (sym (encodes_same name other ((bytes_eq-Decides (encode_utf8_all name) (encode_utf8_all other)).0 e))))
 
 module _ {T : Type 0} where
   -- a change at the bytes of one name leaves the others
-  others_kept : (old new : NameMap T) (name bytes : List ℕ) (value : Option T) → bytes ≡ encode_utf8_all name
+  others_kept :
+      (old new : NameMap T) (name bytes : List ℕ) (value : Option T) → bytes ≡ encode_utf8_all name
       → UpdatesBy string_eq (λ key. bytes_eq bytes (string_bytes key)) old.map new.map value
       → (other : List ℕ) → other ≢ name → under new other ≡ under old other
   others_kept old new name bytes value spelt updates other differs =
       let unequal : bytes_eq bytes (encode_utf8_all other) ≡ false = rw spelt (other_bytes name other differs) in
-      hash_map_updates_text bytes old.map new.map value updates (encode_utf8_all other) ∙ rw unequal refl
+      hash_map_updates_text bytes old.map new.map value updates (encode_utf8_all other)
+      ∙ rw unequal refl
 
   -- what was written through a loan of the value under a name
-  pub lent_in : (old new : NameMap T) (lent : Option (MutBor T)) (name bytes : List ℕ) (last : T) → bytes ≡ encode_utf8_all name
+  pub lent_in :
+      (old new : NameMap T) (lent : Option (MutBor T)) (name bytes : List ℕ) (last : T)
+      → bytes ≡ encode_utf8_all name
       → option_copied_mut lent ≡ under old name
       → WritesThrough string_eq (λ key. bytes_eq bytes (string_bytes key)) old.map last new.map
       → OnSome lent (HasPut old name last new)
@@ -47,7 +52,8 @@ module _ {T : Type 0} where
   pub put_in : (old new : NameMap T) (key : String Global) (name : List ℕ) (value : T) (replaced : Option T)
       → string_bytes key ≡ encode_utf8_all name → Updates string_eq old.map new.map key (Some value)
       → replaced ≡ get_by_text old.map (string_bytes key)
-      → name_count new ≡ name_count old + (if is_some replaced then 0 else 1) → HasPut old name value new
+      → name_count new ≡ name_count old + (if is_some replaced then 0 else 1)
+      → HasPut old name value new
   put_in old new key name value replaced spelt updates was count = record {
     here = rw (← spelt) updates.1;
     others = others_kept old new name (string_bytes key) (Some value) spelt updates;
@@ -55,24 +61,31 @@ module _ {T : Type 0} where
   }
 
   -- what a look-up that finds nothing says
-  pub absent_name : (old : NameMap T) (name : List ℕ) (found : Option (Bor T)) → option_copied found ≡ under old name
+  pub absent_name :
+      (old : NameMap T) (name : List ℕ) (found : Option (Bor T))
+      → option_copied found ≡ under old name
       → is_some found ≡ false → under old name ≡ None
   absent_name old name None value e = sym value
   absent_name old name (Some there) value e = cc
 
   module _ (IsDefault : T → Type 0) where
     -- a name that was there
-    pub kept : (old : NameMap T) (name : List ℕ) (found : Option (Bor T)) → option_copied found ≡ under old name
+    pub kept :
+        (old : NameMap T) (name : List ℕ) (found : Option (Bor T))
+        → option_copied found ≡ under old name
         → is_some found ≡ true → HasAdded IsDefault old name old
     kept old name None value e = cc
     kept old name (Some there) value e = rw (← value) (record { finds = λ other. refl; count = refl })
 
     -- a name that was absent
-    pub new_name : (old new : NameMap T) (name : List ℕ) (value : T) → under old name ≡ None → IsDefault value
+    pub new_name :
+        (old new : NameMap T) (name : List ℕ) (value : T) → under old name ≡ None → IsDefault value
         → HasPut old name value new → HasAdded IsDefault old name new
     new_name old new name value e default put = rw e (value, (default, put))
 
-    put_cases : (old added new : NameMap T) (name : List ℕ) (last : T) (was : Option T) → under old name ≡ was
+    put_cases :
+        (old added new : NameMap T) (name : List ℕ) (last : T) (was : Option T)
+        → under old name ≡ was
         → MatchOption was ((value : T) × (IsDefault value × HasPut old name value added)) (λ _. IsSame old added)
         → HasPut added name last new → HasPut old name last new
     put_cases old added new name last None e put written = let first = put.1.1 in record {
@@ -90,11 +103,13 @@ module _ {T : Type 0} where
     }
 
     -- the last value behind a loan of a name that was put in first
-    pub put_after : (old added new : NameMap T) (name : List ℕ) (last : T) → HasAdded IsDefault old name added
+    pub put_after :
+        (old added new : NameMap T) (name : List ℕ) (last : T) → HasAdded IsDefault old name added
         → HasPut added name last new → HasPut old name last new
     put_after old added new name last adds written = put_cases old added new name last (under old name) refl adds written
 
-    value_cases : (old added : NameMap T) (name : List ℕ) (lent : T) (was : Option T) → under old name ≡ was
+    value_cases :
+        (old added : NameMap T) (name : List ℕ) (lent : T) (was : Option T) → under old name ≡ was
         → MatchOption was ((value : T) × (IsDefault value × HasPut old name value added)) (λ _. IsSame old added)
         → Some lent ≡ under added name → MatchOption was (IsDefault lent) (λ value. lent ≡ value)
     value_cases old added name lent None e put found =
@@ -102,6 +117,7 @@ module _ {T : Type 0} where
     value_cases old added name lent (Some value) e as_before found = let there = as_before.finds name in cc
 
     -- the value that is lent of a name that was put in first
-    pub value_after : (old added : NameMap T) (name : List ℕ) (lent : T) → HasAdded IsDefault old name added
+    pub value_after :
+        (old added : NameMap T) (name : List ℕ) (lent : T) → HasAdded IsDefault old name added
         → Some lent ≡ under added name → IsEntry IsDefault old name lent
     value_after old added name lent adds found = value_cases old added name lent (under old name) refl adds found

@@ -26,7 +26,8 @@ no_name (name ∷ names) = false
 abbrev pub names_of : (Trait → Bool) → List Trait → List (List ℕ)
 names_of filled slots = map slot_name (filter filled slots)
 
-pub opened-more : (names : List (List ℕ)) (name : List ℕ) → opened (names ++ name ∷ []) ≡ opened names ++ name_behind (no_name names) name
+pub opened-more : (names : List (List ℕ)) (name : List ℕ)
+    → opened (names ++ name ∷ []) ≡ opened names ++ name_behind (no_name names) name
 opened-more [] name = ap (λ text. codes "(" ++ text) (append-nil name)
 opened-more (first ∷ names) name =
     let more = flat_map-append (λ part. codes ", " ++ part) names (name ∷ []) in

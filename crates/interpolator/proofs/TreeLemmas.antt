@@ -15,11 +15,13 @@ module _ {X : Type 0} where
   trees-forest [] = refl
   trees-forest (tree ∷ others) = ap (λ rest. tree ∷ rest) (trees-forest others)
 
-  pub slots-with_items : (filled : Slots X) (list : Option (List (Tree X))) → slots (with_items filled list) ≡ filled
+  pub slots-with_items :
+      (filled : Slots X) (list : Option (List (Tree X))) → slots (with_items filled list) ≡ filled
   slots-with_items filled None = refl
   slots-with_items filled (Some others) = refl
 
-  pub items-with_items : (filled : Slots X) (list : Option (List (Tree X))) → items (with_items filled list) ≡ list
+  pub items-with_items :
+      (filled : Slots X) (list : Option (List (Tree X))) → items (with_items filled list) ≡ list
   items-with_items filled None = refl
   items-with_items filled (Some others) = ap Some (trees-forest others)
 
@@ -38,7 +40,8 @@ module _ {X : Type 0} where
       fold_out-Formattable X (Tree X) layer_tree formattable
       ∙ ap (λ list. with_items (layer_slots layer) list) (mapped (fold-Formattable X (Tree X) layer_tree) layer.iter)
 
-  pub slots-tree_of : (formattable : Formattable X) → slots (tree_of formattable) ≡ layer_slots (out-Formattable X formattable)
+  pub slots-tree_of : (formattable : Formattable X)
+      → slots (tree_of formattable) ≡ layer_slots (out-Formattable X formattable)
   slots-tree_of formattable = ap slots (tree_of-out formattable) ∙ slots-with_items _ _
 
   pub items-tree_of : (formattable : Formattable X)

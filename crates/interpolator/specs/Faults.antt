@@ -1,5 +1,5 @@
 -- What a fault says: its variant and its fields, where borrows and allocators do not count.
-use Rattle.std.specs.Prelude.{ℕ, ◌≤◌, List, Option, None, Some, Result, Ok, Err, string_bytes, ⊤}
+use Rattle.std.specs.Prelude.{ℕ, ◌≤◌, List, Option, None, Some, Result, Ok, Err, string_bytes, ⊤, codes}
 use Rattle.std.specs.Str.{chars}
 use Rattle.interpolator_render.specs.declared.view.Trait.{Trait}
 use Rattle.interpolator.specs.declared.error.NumberError.{NumberError}
@@ -7,6 +7,8 @@ use Rattle.interpolator.specs.declared.error.ParseError.{ParseError}
 use Rattle.interpolator.specs.declared.error.ParseError.TheVariants.{FormatSpecUnclosed, Expected}
 use Rattle.interpolator.specs.declared.error.ParseError.TheVariants.{InvalidWidth, InvalidPrecision}
 use Rattle.interpolator.specs.declared.error.ParseError.TheVariants.{Fill, Iter, RangeBound}
+use Rattle.interpolator.specs.declared.syntax.broken.Broken.{Broken}
+use Rattle.interpolator.specs.declared.syntax.broken.Broken.TheVariants.{Text, Pointer}
 use Rattle.interpolator.specs.declared.error.Error.{Error}
 use Rattle.interpolator.specs.declared.error.Error.TheVariants.{MissingTraitImpl, Fmt, Parse}
 use Rattle.interpolator.specs.declared.error.Error.TheVariants.{MissingValue, UnsupportedOption}
@@ -60,6 +62,11 @@ answer_of NoMemory = no_memory
 abbrev pub answered : {A : Type 0} → Result A Error → Option Answer
 answered (Ok _) = None
 answered (Err error) = Some (answer_of error)
+
+-- why no argument can be read
+abbrev pub broken_fault_of : Broken → Fault
+broken_fault_of (Text error) = parse (parse_fault_of error)
+broken_fault_of (Pointer place) = unsupported_option (codes "p") (codes "pointer") place
 
 -- the one fault that owns memory
 abbrev pub IsMissingValue : Error → Type 0

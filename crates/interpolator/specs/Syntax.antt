@@ -1,7 +1,19 @@
 -- What a format text is made of.
 pub mod At
 pub mod Classes
+pub mod Readers
+pub mod Numbers
+pub mod Groups
+pub mod Ranges
+pub mod Lists
+pub mod SpecTexts
+pub mod SpecReads
 pub mod Arguments
 pub mod Pieces
 pub mod Tokens
+pub mod NumberGrammar
+pub mod GroupGrammar
 pub mod Grammar
+pub mod GrammarParts
+pub mod SpecGrammar
+pub mod ArgumentGrammar

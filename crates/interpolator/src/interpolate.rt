@@ -10,6 +10,7 @@ ghost use Rattle.interpolator.specs.Meaning.Outcomes.{Outcome, Formats};
 use crate::context::{ByNames, Context};
 use crate::context_map::NameMap;
 use crate::error::Error;
+use crate::pairs::Pairs;
 use crate::slots::Formattable;
 use crate::writing::{format, write};
 use interpolator_render::{TextWrite, Value};
@@ -56,6 +57,8 @@ pub trait Interpolate: Context {
 impl<'a, V: Value> Interpolate for HashMap<String, Formattable<'a, V>> {}
 
 impl<'a, V: Value> Interpolate for NameMap<Formattable<'a, V>> {}
+
+impl<'a, V: Value> Interpolate for Pairs<'a, V> {}
 
 // This map's type names two lifetimes, and the calls take one that names one.
 impl<'k, 'a, V: Value> Interpolate for HashMap<&'k str, Formattable<'a, V>> {

@@ -1,6 +1,11 @@
-//! Laws, each the contract of a small function: of the faults, and of the pieces of a format.
+//! Laws, each the contract of a small function: of the faults, of what stands in braces (numbers,
+//! groups, specs and arguments), and of the pieces of a format.
 
+pub mod arguments;
 mod faults;
+pub mod groups;
+pub mod numbers;
 pub mod pieces;
+pub mod specs;
 
 pub use faults::{is_same_error, is_same_number_error, is_same_parse_error};

@@ -9,6 +9,7 @@ mod error_text;
 mod interpolate;
 pub mod laws;
 mod meaning;
+mod pairs;
 mod slot_names;
 mod slots;
 mod syntax;
@@ -22,5 +23,7 @@ pub use interpolator_render::{
     Alignment, Bits, HexDebug, Refusal, RenderFault, Sign, Spec, TextBuffer, TextWrite, Trait,
     Value, View, pad, render,
 };
+pub use pairs::Pairs;
 pub use slots::Formattable;
+pub use syntax::argument::{Argument, Kind, parse_argument};
 pub use writing::{format, write};

@@ -9,11 +9,11 @@ ghost use Rattle.interpolator.specs.Meaning.Meanings.{means};
 ghost use Rattle.interpolator.specs.Meaning.Outcomes.{Outcome, Formats};
 
 use crate::context::Context;
-use crate::syntax::cursor::Cursor;
 use crate::error::Error;
 use crate::meaning::evaluate::write_text;
 use crate::meaning::scope::Scope;
 use crate::meaning::sink::Sink;
+use crate::syntax::cursor::Cursor;
 use interpolator_render::{TextBuffer, TextWrite};
 use std::alloc::{AllocError, Global};
 

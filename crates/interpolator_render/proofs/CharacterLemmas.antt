@@ -1,14 +1,17 @@
-use Rattle.std.proofs.Common.{◌≡◌, ℕ, ◌≤◌, ◌-◌, ◌+◌, List, [], ◌∷◌, Bool, true, false, ◌&&◌, ◌++◌, length, take, refl, sym, ◌∙◌, ap, arith, append_assoc, append-nil, length-append}
+-- Texts walked character by character: where a number of characters end.
+use Rattle.std.proofs.Common.{◌≡◌, ℕ, ◌-◌, ◌+◌, List, [], ◌∷◌, Bool, true, false, ◌&&◌, ◌++◌}
+use Rattle.std.proofs.Common.{length, take, refl, sym, ◌∙◌, ap, arith, append_assoc, length-append}
 use Rattle.std.specs.Prelude.{encode_utf8}
 use Rattle.std.specs.Char.{IsScalar}
 use lib.Utf8.{scalars}
 use Rattle.std.specs.Str.{chars, IsUtf8, IsCharBoundary}
-use Rattle.std.proofs.lemmas.Str.{chars-append, chars-nil, IsUtf8-append, IsUtf8-encode, IsUtf8-nil, IsCharBoundary-at_seam, cons_from_encodes, IsUtf8-past_char}
+use Rattle.std.proofs.lemmas.Str.{chars-append, chars-nil, IsUtf8-append, IsUtf8-encode, IsUtf8-nil}
+use Rattle.std.proofs.lemmas.Str.{IsCharBoundary-at_seam, cons_from_encodes, IsUtf8-past_char}
 use Rattle.std.proofs.Math.Seq.{take-append_seam}
-use Rattle.std.proofs.lemmas.List.{take_all}
 use Rattle.interpolator_render.proofs.WrittenLemmas.{chars-encode}
 
-pub scalar_first : (rest after : List ℕ) (c : ℕ) → IsUtf8 rest → rest ≡ encode_utf8 c ++ after → IsScalar c
+pub scalar_first : (rest after : List ℕ) (c : ℕ) → IsUtf8 rest → rest ≡ encode_utf8 c ++ after →
+    IsScalar c
 scalar_first rest after c u e = let p = cons_from_encodes u.0 after c (u.1.1 ∙ e) in
     let all : scalars (c ∷ p.0) ≡ true = rw p.1 at u.1.0 in
     and_true_left _ _ all
@@ -26,43 +29,54 @@ pub record Walked (text rest : List ℕ) (count : ℕ) : Type 0 where
   pub rest_valid : IsUtf8 rest
 
 pub walked_none : (text : List ℕ) → IsUtf8 text → Walked text text 0
-walked_none text u = record { behind = []; parts = refl; counted = ap length chars-nil; behind_valid = IsUtf8-nil; rest_valid = u }
-
-pub walked_more : (text rest after : List ℕ) (count c : ℕ) → rest ≡ encode_utf8 c ++ after → Walked text rest count → Walked text after (count + 1)
-walked_more text rest after count c e w = let s = scalar_first rest after c w.rest_valid e in let u = IsUtf8-past_char rest after c w.rest_valid e in record {
-  behind = w.behind ++ encode_utf8 c;
-  parts = w.parts ∙ (ap (λ (x : List ℕ). w.behind ++ x) e ∙ sym (append_assoc w.behind (encode_utf8 c) after));
-  counted = rw (chars-append w.behind (encode_utf8 c) w.behind_valid, chars-encode c s, length-append, w.counted) refl;
-  behind_valid = IsUtf8-append w.behind (encode_utf8 c) w.behind_valid (IsUtf8-encode c s);
+walked_none text u = record {
+  behind = [];
+  parts = refl;
+  counted = ap length chars-nil;
+  behind_valid = IsUtf8-nil;
   rest_valid = u;
 }
 
+pub walked_more : (text rest after : List ℕ) (count c : ℕ) → rest ≡ encode_utf8 c ++ after →
+    Walked text rest count → Walked text after (count + 1)
+walked_more text rest after count c e w = let s = scalar_first rest after c w.rest_valid e in
+    let u = IsUtf8-past_char rest after c w.rest_valid e in record {
+      behind = w.behind ++ encode_utf8 c;
+      parts = w.parts ∙ (ap (λ (x : List ℕ). w.behind ++ x) e
+          ∙ sym (append_assoc w.behind (encode_utf8 c) after));
+      counted = rw (
+        chars-append w.behind (encode_utf8 c) w.behind_valid,
+        chars-encode c s,
+        length-append,
+        w.counted,
+      ) refl;
+      behind_valid = IsUtf8-append w.behind (encode_utf8 c) w.behind_valid (IsUtf8-encode c s);
+      rest_valid = u;
+    }
+
 -- where the first `count` characters end
-pub walked_chars : (text rest : List ℕ) (count : ℕ) → (w : Walked text rest count) → chars w.behind ≡ take count (chars text)
+pub walked_chars : (text rest : List ℕ) (count : ℕ) → (w : Walked text rest count) →
+    chars w.behind ≡ take count (chars text)
 walked_chars text rest count w =
-    let split : chars text ≡ chars w.behind ++ chars rest = ap chars w.parts ∙ chars-append w.behind rest w.behind_valid in
+    let split : chars text ≡ chars w.behind ++ chars rest = ap chars w.parts
+    ∙ chars-append w.behind rest w.behind_valid in
     rw (split, ← w.counted) (sym (take-append_seam (chars w.behind) (chars rest)))
 
-pub walked_take : (text rest : List ℕ) (count : ℕ) → (w : Walked text rest count) → take (length text - length rest) text ≡ w.behind
+pub walked_take : (text rest : List ℕ) (count : ℕ) → (w : Walked text rest count) →
+    take (length text - length rest) text ≡ w.behind
 walked_take text rest count w =
-    let n : length text - length rest ≡ length w.behind = let h = ap length w.parts ∙ length-append w.behind rest in omega arith in
+    let n : length text - length rest ≡ length w.behind = let h = ap length w.parts
+    ∙ length-append w.behind rest in omega arith in
     rw (n, w.parts) (take-append_seam w.behind rest)
 
-pub walked_end : (text rest : List ℕ) (count : ℕ) → Walked text rest count → chars (take (length text - length rest) text) ≡ take count (chars text)
-walked_end text rest count w = ap chars (walked_take text rest count w) ∙ walked_chars text rest count w
+pub walked_end : (text rest : List ℕ) (count : ℕ) → Walked text rest count →
+    chars (take (length text - length rest) text) ≡ take count (chars text)
+walked_end text rest count w = ap chars (walked_take text rest count w)
+    ∙ walked_chars text rest count w
 
-pub walked_boundary : (text rest : List ℕ) (count : ℕ) → Walked text rest count → IsCharBoundary text (length text - length rest)
+pub walked_boundary : (text rest : List ℕ) (count : ℕ) → Walked text rest count →
+    IsCharBoundary text (length text - length rest)
 walked_boundary text rest count w =
-    let n : length text - length rest ≡ length w.behind = let h = ap length w.parts ∙ length-append w.behind rest in omega arith in
+    let n : length text - length rest ≡ length w.behind = let h = ap length w.parts
+    ∙ length-append w.behind rest in omega arith in
     rw n (IsCharBoundary-at_seam text w.behind rest w.parts w.rest_valid)
-
--- the text ends before there are `all` characters
-pub walked_whole : (text rest : List ℕ) (count all : ℕ) → Walked text rest count → length rest ≡ 0 → count ≤ all → chars text ≡ take all (chars text)
-walked_whole text [] count all w e h =
-    let whole : text ≡ w.behind = w.parts ∙ append-nil w.behind in
-    let n : length (chars text) ≤ all = rw (whole, w.counted) h in
-    sym (take_all all (chars text) n)
-walked_whole text (b ∷ bs) count all w e h = absurd (omega arith)
-
-pub walked_fits : (text rest : List ℕ) (count : ℕ) → Walked text rest count → length rest ≤ length text
-walked_fits text rest count w = let h = ap length w.parts ∙ length-append w.behind rest in omega arith

@@ -1,30 +1,41 @@
-use Rattle.std.proofs.Common.{◌≡◌, ℕ, ◌<◌, ◌≤◌, ◌-◌, ◌+◌, ◌*◌, ◌^◌, true, false, List, length, replicate, sym, ◌∙◌, ap, arith, rules, length-append, ◌==◌, ◌⊎◌, suc, inl, inr}
+-- How many digits a number has in exponent form, and between which powers it lies.
+use Rattle.std.proofs.Common.{◌≡◌, ℕ, ◌<◌, ◌≤◌, ◌-◌, ◌+◌, ◌*◌, ◌^◌, true, false, List, length}
+use Rattle.std.proofs.Common.{replicate, ◌++◌, zero, refl, sym, ◌∙◌, ap, arith, rules}
+use Rattle.std.proofs.Common.{length-append, ◌==◌, ◌⊎◌, suc, inl, inr}
 use Rattle.std.specs.Prelude.{Some}
 use Rattle.std.proofs.lemmas.Bool.{cases_eq, cases_lt}
 use Rattle.std.proofs.lemmas.List.{length-replicate}
 use Rattle.std.proofs.lemmas.Nat.{pow-add}
 use Rattle.std.proofs.Math.Nat.{mul-le-mul_right, pow-le-pow_right, pow-suc}
 use Rattle.interpolator_render.specs.Digits.{digit_text}
-use Rattle.interpolator_render.specs.Exponent.{exponent_of, filled, nearest, rounded, scientific, IsNearest}
-use Rattle.interpolator_render.proofs.DigitLemmas.{zero_or_more, digit_text_some, digit_text_zero, length-digit_text-le}
+use Rattle.interpolator_render.specs.Exponent.{exponent_of, zero_extended, nearest, rounded}
+use Rattle.interpolator_render.specs.Exponent.{scientific, IsNearest}
+use Rattle.interpolator_render.proofs.DigitLemmas.{zero_or_more, digit_text_some, digit_text_zero}
+use Rattle.interpolator_render.proofs.DigitLemmas.{length-digit_text-le}
 use Rattle.interpolator_render.proofs.ExponentLemmas.{pow_some, scientific_short, scientific_long}
+use Rattle.std.specs.Str.Parse.{digits_value}
 use Rattle.interpolator_render.proofs.LawLemmas.{exponent_bounds_of, IsNearest-nearest}
+use Rattle.interpolator_render.proofs.LawLemmas.{digits_value-digit_text}
 
 -- a number between two powers of ten has one digit more than the lower says
-pub digits_between : (n places : ℕ) → 10 ^ places ≤ n → n < 10 ^ (places + 1) → length (digit_text 10 false n) ≡ places + 1
+pub digits_between : (n places : ℕ) → 10 ^ places ≤ n → n < 10 ^ (places + 1) →
+    length (digit_text 10 false n) ≡ places + 1
 digits_between n places low high =
     let some = pow_some places in
     let bounds = exponent_bounds_of n (omega arith) in
     let one = digit_text_some 10 n false (omega arith) in
     let most = length-digit_text-le 10 (places + 1) n false (omega arith) (omega arith) high in
     elim (cases_lt (exponent_of n) places) [
-      | inl below ↦ let grows : 10 ^ (exponent_of n + 1) ≤ 10 ^ places = pow-le-pow_right (omega arith) (omega arith) in absurd (omega (arith, bounds.1))
+      | inl below ↦ let grows : 10 ^ (exponent_of n + 1) ≤ 10 ^ places = pow-le-pow_right
+          (omega arith) (omega arith) in absurd (omega (arith, bounds.1))
       | inr enough ↦ omega arith
     ]
 
-length-filled : (count : ℕ) (digits : List ℕ) → length digits ≤ count → length (filled count digits) ≡ count
-length-filled count digits h =
-    let a = length-append (replicate (count - length digits) 48) digits in let b = length-replicate {A = ℕ} (count - length digits) 48 in omega arith
+length-zero_extended : (count : ℕ) (digits : List ℕ) → length digits ≤ count →
+    length (zero_extended count digits) ≡ count
+length-zero_extended count digits h =
+    let a = length-append (replicate (count - length digits) 48) digits in
+    let b = length-replicate {A = ℕ} (count - length digits) 48 in omega arith
 
 below_next : (n : ℕ) → n < 10 ^ (exponent_of n + 1)
 below_next n = elim (zero_or_more n) [
@@ -33,30 +44,39 @@ below_next n = elim (zero_or_more n) [
 ]
 
 scaled_below : (n bound unit : ℕ) → 0 < unit → n < bound → n * unit < bound * unit
-scaled_below n bound unit u h = let product : (n + 1) * unit ≤ bound * unit = mul-le-mul_right unit (omega arith) in omega arith
+scaled_below n bound unit u h = let product : (n + 1) * unit ≤ bound * unit = mul-le-mul_right unit
+    (omega arith) in omega arith
 
-short_fits : (n places : ℕ) → exponent_of n ≤ places → length (digit_text 10 false (n * 10 ^ (places - exponent_of n))) ≤ places + 1
+short_fits : (n places : ℕ) → exponent_of n ≤ places →
+    length (digit_text 10 false (n * 10 ^ (places - exponent_of n))) ≤ places + 1
 short_fits n places h =
-    let scaled = scaled_below n (10 ^ (exponent_of n + 1)) (10 ^ (places - exponent_of n)) (pow_some (places - exponent_of n)) (below_next n) in
+    let scaled = scaled_below n (10 ^ (exponent_of n + 1)) (10 ^ (places - exponent_of n))
+    (pow_some (places - exponent_of n)) (below_next n) in
     let whole : exponent_of n + 1 + (places - exponent_of n) ≡ places + 1 = omega arith in
     let power = pow-add 10 (exponent_of n + 1) (places - exponent_of n) in
     let top = ap (λ (k : ℕ). 10 ^ k) whole in
-    length-digit_text-le 10 (places + 1) (n * 10 ^ (places - exponent_of n)) false (omega arith) (omega arith) (omega arith)
+    length-digit_text-le 10 (places + 1) (n * 10 ^ (places - exponent_of n)) false (omega arith)
+    (omega arith) (omega arith)
 
 -- the nearest number of units lies between the powers that the quotient lies between
-nearest_within : (n unit low high count : ℕ) → 0 < unit → low * unit ≤ n → n < high * unit → IsNearest n unit count → (low ≤ count) × (count ≤ high)
-nearest_within n unit low high count u l h p = (at_least (cases_lt count low), at_most (cases_lt high count))
+nearest_within : (n unit low high count : ℕ) → 0 < unit → low * unit ≤ n → n < high * unit →
+    IsNearest n unit count → (low ≤ count) × (count ≤ high)
+nearest_within n unit low high count u l h p =
+    (at_least (cases_lt count low), at_most (cases_lt high count))
   where
     at_least : (count < low) ⊎ (low ≤ count) → low ≤ count
     at_least (inr enough) = enough
-    at_least (inl below) = let product : (count + 1) * unit ≤ low * unit = mul-le-mul_right unit (omega arith) in let near = p.near in absurd (omega arith)
+    at_least (inl below) = let product : (count + 1) * unit ≤ low * unit = mul-le-mul_right unit
+        (omega arith) in let near = p.near in absurd (omega arith)
 
     at_most : (high < count) ⊎ (count ≤ high) → count ≤ high
     at_most (inr enough) = enough
-    at_most (inl above) = let product : (high + 1) * unit ≤ count * unit = mul-le-mul_right unit (omega arith) in let near = p.near in absurd (omega arith)
+    at_most (inl above) = let product : (high + 1) * unit ≤ count * unit = mul-le-mul_right unit
+        (omega arith) in let near = p.near in absurd (omega arith)
 
 -- what the exponent says of a number, split at the places that are kept
-split_bounds : (n places rest exponent : ℕ) → places + rest ≡ exponent → 10 ^ exponent ≤ n → n < 10 ^ (exponent + 1) →
+split_bounds : (n places rest exponent : ℕ) → places + rest ≡ exponent → 10 ^ exponent ≤ n →
+    n < 10 ^ (exponent + 1) →
     (10 ^ places * 10 ^ rest ≤ n) × (n < 10 ^ (places + 1) * 10 ^ rest)
 split_bounds n places rest exponent e low high =
     let whole = sym (pow-add 10 places rest) ∙ ap (λ (k : ℕ). 10 ^ k) e in
@@ -75,13 +95,16 @@ some_exponent n h = elim (zero_or_more n) [
   | inr some ↦ some
 ]
 
-rounded_count : (places n : ℕ) → places < exponent_of n → length (rounded places n (exponent_of n)).digits ≡ places + 1
+rounded_count : (places n : ℕ) → places < exponent_of n →
+    length (rounded places n (exponent_of n)).digits ≡ places + 1
 rounded_count places n h =
     let unit = 10 ^ (exponent_of n - places) in
     let bounds = exponent_bounds_of n (some_exponent n (omega arith)) in
-    let split = split_bounds n places (exponent_of n - places) (exponent_of n) (omega arith) bounds.0 bounds.1 in
+    let split = split_bounds n places (exponent_of n - places) (exponent_of n) (omega arith)
+    bounds.0 bounds.1 in
     let some = pow_some (exponent_of n - places) in
-    let within = nearest_within n unit (10 ^ places) (10 ^ (places + 1)) (nearest n unit) some split.0 split.1 (IsNearest-nearest n unit some) in
+    let within = nearest_within n unit (10 ^ places) (10 ^ (places + 1)) (nearest n unit) some
+    split.0 split.1 (IsNearest-nearest n unit some) in
     elim (cases_eq (nearest n unit) (10 ^ (places + 1))) [
       | inl carry ↦ let t : (nearest n unit == 10 ^ (places + 1)) ≡ true = search rules in
           rw t (digits_between (10 ^ places) places (omega arith) (next_power places))
@@ -93,5 +116,60 @@ rounded_count places n h =
 pub scientific_count : (places n : ℕ) → length (scientific (Some places) n).digits ≡ places + 1
 scientific_count places n = elim (cases_lt places (exponent_of n)) [
   | inl fewer ↦ rw (scientific_long places n fewer) (rounded_count places n fewer)
-  | inr enough ↦ rw (scientific_short places n enough) (length-filled (places + 1) _ (short_fits n places enough))
+  | inr enough ↦ rw (scientific_short places n enough)
+      (length-zero_extended (places + 1) _ (short_fits n places enough))
 ]
+
+-- ---- what the digits make
+
+value_of_zeros : (count : ℕ) (digits : List ℕ) → digits_value 10 (replicate count 48 ++ digits)
+    ≡ digits_value 10 digits
+value_of_zeros zero digits = refl
+value_of_zeros (suc count) digits = value_of_zeros count digits
+
+-- where the number has no more digits, they are its own and zeros
+pub scientific_whole : (places n : ℕ) → exponent_of n ≤ places →
+    ((scientific (Some places) n).exponent ≡ exponent_of n)
+    × (digits_value 10 (scientific (Some places) n).digits ≡ n * 10 ^ (places - exponent_of n))
+scientific_whole places n h =
+    let scaled = n * 10 ^ (places - exponent_of n) in
+    rw (scientific_short places n h) (
+      refl,
+      value_of_zeros
+          (places + 1 - length (digit_text 10 false scaled)) (digit_text 10 false scaled)
+          ∙ digits_value-digit_text 10 scaled false (omega arith) (omega arith),
+    )
+
+-- a carry raises the exponent by one
+carry_value : (places exponent : ℕ) → places < exponent → 10 ^ places * 10 ^ (exponent + 1 - places)
+    ≡ 10 ^ (places + 1) * 10 ^ (exponent - places)
+carry_value places exponent h =
+    let left = sym (pow-add 10 places (exponent + 1 - places)) in
+    let right = sym (pow-add 10 (places + 1) (exponent - places)) in
+    let same : places + (exponent + 1 - places) ≡ places + 1 + (exponent - places) = omega arith in
+    left ∙ (ap (λ (k : ℕ). 10 ^ k) same ∙ sym right)
+
+rounded_value : (places n exponent : ℕ) → places < exponent →
+    (places ≤ (rounded places n exponent).exponent)
+    × (digits_value 10 (rounded places n
+    exponent).digits * 10 ^ ((rounded places n exponent).exponent - places)
+    ≡ nearest n (10 ^ (exponent - places)) * 10 ^ (exponent - places))
+rounded_value places n exponent h =
+    let mantissa = nearest n (10 ^ (exponent - places)) in
+    elim (cases_eq mantissa (10 ^ (places + 1))) [
+      | inl carry ↦ let t : (mantissa == 10 ^ (places + 1)) ≡ true = search rules in
+          rw (t, carry, digits_value-digit_text 10 (10 ^ places) false (omega arith) (omega arith))
+          (omega arith, carry_value places exponent h)
+      | inr none ↦ let f : (mantissa == 10 ^ (places + 1)) ≡ false = search rules in
+          rw (f, digits_value-digit_text 10 mantissa false (omega arith) (omega arith))
+          (omega arith, refl)
+    ]
+
+-- where it has more, they and the exponent make the nearest number of units
+pub scientific_rounded : (places n : ℕ) → places < exponent_of n →
+    (places ≤ (scientific (Some places) n).exponent)
+    × (digits_value 10 (scientific (Some places)
+    n).digits * 10 ^ ((scientific (Some places) n).exponent - places)
+    ≡ nearest n (10 ^ (exponent_of n - places)) * 10 ^ (exponent_of n - places))
+scientific_rounded places n h = rw (scientific_long places n h)
+    (rounded_value places n (exponent_of n) h)

@@ -1,12 +1,18 @@
-use Rattle.std.proofs.Common.{◌≡◌, ◌≢◌, ℕ, zero, suc, ◌<◌, ◌≤◌, ◌+◌, ◌-◌, ◌*◌, ◌/◌, ◌%◌, ◌^◌, Bool, true, false, List, [], ◌∷◌, ◌++◌, length, take, drop, map, set, get_or, refl, sym, ◌∙◌, ap, arith, rules, append_assoc, length-append, length-drop, length-set, if◌then◌else◌, ◌==◌, ◌⊎◌, inl, inr}
+-- The digits of a number in a buffer, written from its end: one, two or four more.
+use Rattle.std.proofs.Common.{◌≡◌, ◌≢◌, ℕ, zero, suc, ◌<◌, ◌≤◌, ◌+◌, ◌-◌, ◌*◌, ◌/◌, ◌%◌, ◌^◌, Bool}
+use Rattle.std.proofs.Common.{true, false, List, [], ◌∷◌, ◌++◌, length, take, drop, map, set}
+use Rattle.std.proofs.Common.{get_or, refl, sym, ◌∙◌, ap, arith, rules, append_assoc, length-append}
+use Rattle.std.proofs.Common.{length-drop, length-set, if◌then◌else◌, ◌==◌, ◌⊎◌, inl, inr}
 use Rattle.std.specs.Fmt.{digit_glyph}
 use Rattle.std.specs.Str.{IsAscii}
 use Rattle.std.specs.Int.Digits.{digits_of, AllBelowBase}
-use Rattle.std.proofs.lemmas.Int.Digits.{length-digits_of-le, digits_of_step, length-digits_of_step, all_below_base_digits_of}
+use Rattle.std.proofs.lemmas.Int.Digits.{length-digits_of-le, digits_of_step, length-digits_of_step}
+use Rattle.std.proofs.lemmas.Int.Digits.{all_below_base_digits_of}
 use Rattle.std.proofs.lemmas.List.{map-append, drop-set, length-map, take-set, take-take}
 use Rattle.std.proofs.lemmas.Bool.Decides.{nat_tests}
 use Rattle.std.proofs.lemmas.Str.Ascii.{IsAscii-cons}
 use Rattle.std.proofs.Math.Nat.{pow-le-pow_left, lt-div-mul-add, div-eq_of_lt, mod-eq_of_lt}
+use Rattle.std.proofs.Math.Nat.{div-le_self}
 use Rattle.std.proofs.Math.Seq.{drop-length}
 use Rattle.interpolator_render.specs.Digits.{digit_text}
 
@@ -16,16 +22,25 @@ digits_fit base n b s = let wide : 2 ^ 128 ≤ base ^ 128 = pow-le-pow_left b 12
     length-digits_of-le base 128 n b (omega arith)
 
 -- one more digit, in front of those that are written
-pub one_digit_more : (base rest at : ℕ) (upper : Bool) (out : List ℕ) → 2 ≤ base → 0 < rest → at < length out →
-    map (digit_glyph upper) (digits_of base (rest / base)) ++ drop at (set out at (digit_glyph upper (rest % base)))
+pub one_digit_more : (base rest at : ℕ) (upper : Bool) (out : List ℕ) → 2 ≤ base → 0 < rest →
+    at < length out →
+    map (digit_glyph upper) (digits_of base (rest / base))
+    ++ drop at (set out at (digit_glyph upper (rest % base)))
     ≡ map (digit_glyph upper) (digits_of base rest) ++ drop (at + 1) out
 one_digit_more base rest at upper out b r l =
-    rw (drop-set out at (digit_glyph upper (rest % base)) l, digits_of_step base rest b r, map-append, append_assoc) refl
+    rw (
+      drop-set out at (digit_glyph upper (rest % base)) l,
+      digits_of_step base rest b r,
+      map-append,
+      append_assoc,
+    ) refl
 
 -- what stands in front of a place is as before, once the byte there is written
-pub fewer_in_front : (out old : List ℕ) (at byte : ℕ) → 0 < at → take at out ≡ take at old → take (at - 1) (set out (at - 1) byte) ≡ take (at - 1) old
+pub fewer_in_front : (out old : List ℕ) (at byte : ℕ) → 0 < at → take at out ≡ take at old →
+    take (at - 1) (set out (at - 1) byte) ≡ take (at - 1) old
 fewer_in_front out old at byte h e =
-    take-set out (at - 1) byte ∙ (sym (take-take (at - 1) at out (omega arith)) ∙ (ap (take (at - 1)) e ∙ take-take (at - 1) at old (omega arith)))
+    take-set out (at - 1) byte ∙ (sym (take-take (at - 1) at out (omega arith))
+    ∙ (ap (take (at - 1)) e ∙ take-take (at - 1) at old (omega arith)))
 
 -- ---- the text of a number
 
@@ -38,25 +53,31 @@ pub digit_text_zero : (base : ℕ) (upper : Bool) (n : ℕ) → n ≡ 0 → digi
 unfolding digit_text
 digit_text_zero base upper n e = rw e refl
 
-pub digit_text_map : (base n : ℕ) (upper : Bool) → 0 < n → digit_text base upper n ≡ map (digit_glyph upper) (digits_of base n)
+pub digit_text_map : (base n : ℕ) (upper : Bool) → 0 < n →
+    digit_text base upper n ≡ map (digit_glyph upper) (digits_of base n)
 unfolding digit_text
-digit_text_map base n upper h = let f : (n == 0) ≡ false = let k : n ≢ 0 = omega arith in search rules in rw f refl
+digit_text_map base n upper h = let f : (n == 0) ≡ false = let k : n ≢ 0 = omega arith in
+    search rules in rw f refl
 
 -- a number has a digit at least
 pub digit_text_some : (base n : ℕ) (upper : Bool) → 2 ≤ base → 0 < length (digit_text base upper n)
 digit_text_some base n upper b = elim (zero_or_more n) [
   | inl e ↦ rw (digit_text_zero base upper n e) (omega arith)
   | inr h ↦ rw (digit_text_map base n upper h)
-      (let l = length-map (digits_of base n) (digit_glyph upper) in omega (arith, length-digits_of_step base n b h))
+      (let l = length-map (digits_of base n) (digit_glyph upper) in
+      omega (arith, length-digits_of_step base n b h))
 ]
 
 -- a number below a power of the base has at most so many digits
-pub length-digit_text-le : (base k n : ℕ) (upper : Bool) → 2 ≤ base → 0 < k → n < base ^ k → length (digit_text base upper n) ≤ k
+pub length-digit_text-le : (base k n : ℕ) (upper : Bool) → 2 ≤ base → 0 < k → n < base ^ k →
+    length (digit_text base upper n) ≤ k
 unfolding digit_text
 length-digit_text-le base k n upper b p h =
-    elim (n == 0) as (λ z. length (if z then 48 ∷ [] else map (digit_glyph upper) (digits_of base n)) ≤ k) [
+    elim (n == 0) as (λ z. length (if z then 48 ∷ [] else map (digit_glyph upper)
+    (digits_of base n)) ≤ k) [
       | true ↦ omega arith
-      | false ↦ let l = length-map (digits_of base n) (digit_glyph upper) in omega (arith, length-digits_of-le base k n b h)
+      | false ↦ let l = length-map (digits_of base n) (digit_glyph upper) in
+          omega (arith, length-digits_of-le base k n b h)
     ]
 
 -- ---- the buffer
@@ -66,15 +87,19 @@ pub nothing_behind : (out : List ℕ) (size : ℕ) → length out ≡ size → d
 nothing_behind out size e = rw (← e) (drop-length out)
 
 -- the digits of zero
-pub zero_written : (out : List ℕ) (base : ℕ) (upper : Bool) (n : ℕ) → length out ≡ 128 → n ≡ 0 → drop 127 (set out 127 48) ≡ digit_text base upper n
+pub zero_written : (out : List ℕ) (base : ℕ) (upper : Bool) (n : ℕ) → length out ≡ 128 → n ≡ 0 →
+    drop 127 (set out 127 48) ≡ digit_text base upper n
 zero_written out base upper n e z =
     let one : drop 127 (set out 127 48) ≡ 48 ∷ drop 128 out = drop-set out 127 48 (omega arith) in
-    one ∙ (ap (λ (x : List ℕ). 48 ∷ x) (nothing_behind out 128 e) ∙ sym (digit_text_zero base upper n z))
+    one ∙ (ap (λ (x : List ℕ). 48 ∷ x) (nothing_behind out 128 e)
+    ∙ sym (digit_text_zero base upper n z))
 
 -- where the digits begin, the whole text of the number lies behind
-pub text_start : (base n start : ℕ) (upper : Bool) (out : List ℕ) → 2 ≤ base → length out ≡ 128 → drop start out ≡ digit_text base upper n → start < 128
+pub text_start : (base n start : ℕ) (upper : Bool) (out : List ℕ) → 2 ≤ base → length out ≡ 128 →
+    drop start out ≡ digit_text base upper n → start < 128
 text_start base n start upper out b e w =
-    let some = digit_text_some base n upper b in let count = ap length w in let k = length-drop start out in omega arith
+    let some = digit_text_some base n upper b in let count = ap length w in
+    let k = length-drop start out in omega arith
 
 -- ---- ASCII
 
@@ -82,58 +107,121 @@ IsAscii-glyph : (d : ℕ) (upper : Bool) → d < 16 → digit_glyph upper d < 12
 IsAscii-glyph d true h = grind (arith, nat_tests)
 IsAscii-glyph d false h = grind (arith, nat_tests)
 
-IsAscii-glyphs : (base : ℕ) (upper : Bool) (ds : List ℕ) → base ≤ 16 → AllBelowBase base ds → IsAscii (map (digit_glyph upper) ds)
+IsAscii-glyphs : (base : ℕ) (upper : Bool) (ds : List ℕ) → base ≤ 16 → AllBelowBase base ds →
+    IsAscii (map (digit_glyph upper) ds)
 IsAscii-glyphs base upper [] h a = λ i. omega arith
-IsAscii-glyphs base upper (d ∷ ds) h a = IsAscii-cons _ _ (IsAscii-glyph d upper (omega (arith, a.0))) (IsAscii-glyphs base upper ds h a.1)
+IsAscii-glyphs base upper (d ∷ ds) h a = IsAscii-cons _ _
+    (IsAscii-glyph d upper (omega (arith, a.0))) (IsAscii-glyphs base upper ds h a.1)
 
-pub IsAscii-digit_text : (base : ℕ) (upper : Bool) (n : ℕ) → 2 ≤ base → base ≤ 16 → IsAscii (digit_text base upper n)
+pub IsAscii-digit_text : (base : ℕ) (upper : Bool) (n : ℕ) → 2 ≤ base → base ≤ 16 →
+    IsAscii (digit_text base upper n)
 unfolding digit_text
 IsAscii-digit_text base upper n l h =
-    elim (n == 0) as (λ b. IsAscii (if b then 48 ∷ [] else map (digit_glyph upper) (digits_of base n)))
-    [ true ↦ IsAscii-cons 48 [] (omega arith) (λ i. omega arith) | false ↦ IsAscii-glyphs base upper (digits_of base n) h (all_below_base_digits_of base n l) ]
+    elim (n == 0) as (λ b. IsAscii (if b then 48 ∷ [] else map (digit_glyph upper)
+    (digits_of base n))) [
+      | true ↦ IsAscii-cons 48 [] (omega arith) (λ i. omega arith)
+      | false ↦ IsAscii-glyphs base upper
+          (digits_of base n) h (all_below_base_digits_of base n l)
+    ]
 
 -- ---- the text of a number in front of a place
 
 some_quotient : (base n : ℕ) → 2 ≤ base → base ≤ n → 0 < n / base
 some_quotient base n b h = elim (zero_or_more (n / base)) [
-  | inl e ↦ let l : n < n / base * base + base = lt-div-mul-add (omega arith) in let k : n < 0 * base + base = rw e at l in absurd (omega arith)
+  | inl e ↦ let l : n < n / base * base + base = lt-div-mul-add (omega arith) in
+      let k : n < 0 * base + base = rw e at l in absurd (omega arith)
   | inr m ↦ m
 ]
 
 -- more than one digit: those of the quotient, and the remainder
-pub digit_text_step : (base n : ℕ) (upper : Bool) → 2 ≤ base → base ≤ n → digit_text base upper n ≡ digit_text base upper (n / base) ++ digit_glyph upper (n % base) ∷ []
+pub digit_text_step : (base n : ℕ) (upper : Bool) → 2 ≤ base → base ≤ n →
+    digit_text base upper n ≡ digit_text base upper (n / base) ++ digit_glyph upper (n % base) ∷ []
 digit_text_step base n upper b h =
     let some = some_quotient base n b h in
-    rw (digit_text_map base n upper (omega arith), digits_of_step base n b (omega arith), map-append, ← digit_text_map base (n / base) upper some) refl
+    rw (
+      digit_text_map base n upper (omega arith),
+      digits_of_step base n b (omega arith),
+      map-append,
+      ← digit_text_map base (n / base) upper some,
+    ) refl
 
-pub digit_count_step : (base n : ℕ) (upper : Bool) → 2 ≤ base → base ≤ n → length (digit_text base upper n) ≡ length (digit_text base upper (n / base)) + 1
-digit_count_step base n upper b h = ap length (digit_text_step base n upper b h) ∙ length-append (digit_text base upper (n / base)) (digit_glyph upper (n % base) ∷ [])
+pub digit_count_step : (base n : ℕ) (upper : Bool) → 2 ≤ base → base ≤ n →
+    length (digit_text base upper n) ≡ length (digit_text base upper (n / base)) + 1
+digit_count_step base n upper b h = ap length (digit_text_step base n upper b h)
+    ∙ length-append (digit_text base upper (n / base)) (digit_glyph upper (n % base) ∷ [])
 
 -- one digit
-pub digit_text_one : (base n : ℕ) (upper : Bool) → 2 ≤ base → n < base → digit_text base upper n ≡ digit_glyph upper n ∷ []
+pub digit_text_one : (base n : ℕ) (upper : Bool) → 2 ≤ base → n < base →
+    digit_text base upper n ≡ digit_glyph upper n ∷ []
 digit_text_one base n upper b h = elim (zero_or_more n) [
   | inl e ↦ rw (digit_text_zero base upper n e, e) refl
-  | inr m ↦ rw (digit_text_map base n upper m, digits_of_step base n b m, div-eq_of_lt h, mod-eq_of_lt h) refl
+  | inr m ↦ rw (
+    digit_text_map base n upper m,
+    digits_of_step base n b m,
+    div-eq_of_lt h,
+    mod-eq_of_lt h,
+  ) refl
 ]
 
 -- one digit more stands in front
-pub low_step : (base n at : ℕ) (upper : Bool) (out behind : List ℕ) → 2 ≤ base → base ≤ n → 0 < at → at ≤ length out →
+pub low_step : (base n at : ℕ) (upper : Bool) (out behind : List ℕ) → 2 ≤ base → base ≤ n → 0 < at →
+    at ≤ length out →
     digit_text base upper n ++ drop at out ≡ behind →
-    digit_text base upper (n / base) ++ drop (at - 1) (set out (at - 1) (digit_glyph upper (n % base))) ≡ behind
+    digit_text base upper (n / base) ++ drop (at - 1)
+    (set out (at - 1) (digit_glyph upper (n % base))) ≡ behind
 low_step base n at upper out behind b h p l e =
     let place : at - 1 + 1 ≡ at = omega arith in
     rw (drop-set out (at - 1) (digit_glyph upper (n % base)) (omega arith), place)
-    (sym (append_assoc (digit_text base upper (n / base)) (digit_glyph upper (n % base) ∷ []) (drop at out))
+    (sym (append_assoc (digit_text base upper (n / base)) (digit_glyph upper (n % base) ∷ [])
+    (drop at out))
     ∙ (ap (λ (x : List ℕ). x ++ drop at out) (sym (digit_text_step base n upper b h)) ∙ e))
 
--- a text, its first and the others
-pub first_and_others : (text : List ℕ) → 0 < length text → text ≡ get_or text 0 0 ∷ drop 1 text
-first_and_others [] h = absurd (omega arith)
-first_and_others (x ∷ xs) h = refl
+-- four digits more
+pub four_count : (base n : ℕ) (upper : Bool) → 2 ≤ base → base ≤ n / base / base / base →
+    length (digit_text base upper n) ≡ length
+    (digit_text base upper (n / base / base / base / base)) + 4
+four_count base n upper b h =
+    let more = div-le_self (n / base / base) base in
+    let most = div-le_self (n / base) base in
+    let all = div-le_self n base in
+    let one = digit_count_step base n upper b (omega arith) in
+    let two = digit_count_step base (n / base) upper b (omega arith) in
+    let three = digit_count_step base (n / base / base) upper b (omega arith) in
+    let four = digit_count_step base (n / base / base / base) upper b h in omega arith
 
-pub led : (text behind there : List ℕ) (first : ℕ) → 0 < length text → first ∷ there ≡ text ++ behind → (text ≡ first ∷ drop 1 text) × (there ≡ drop 1 text ++ behind)
+pub led : (text behind there : List ℕ) (first : ℕ) → 0 < length text →
+    first ∷ there ≡ text ++ behind → (text ≡ first ∷ drop 1 text) × (there ≡ drop 1 text ++ behind)
 led [] behind there first h e = absurd (omega arith)
-led (x ∷ xs) behind there first h e = (ap (λ (y : ℕ). y ∷ xs) (sym (ap (λ (l : List ℕ). get_or l 0 0) e)), ap (drop 1) e)
+led (x ∷ xs) behind there first h e = (
+  ap (λ (y : ℕ). y ∷ xs)
+      (sym (ap (λ (l : List ℕ). get_or l 0 0) e)),
+  ap (drop 1) e,
+)
+
+-- digits left of a number, written behind its first: the whole but for that
+pub low_written : (base n rest first at end : ℕ) (upper : Bool) (new mid old : List ℕ) → 2 ≤ base →
+    digit_text base upper rest ≡ digit_glyph upper first ∷ drop 1 (digit_text base upper rest) →
+    new ≡ drop 1 (digit_text base upper rest) ++ drop at mid →
+    digit_text base upper rest ++ drop at mid ≡ digit_text base upper n ++ drop end old →
+    (digit_text base upper n ≡ digit_glyph upper first ∷ drop 1 (digit_text base upper n))
+    × (new ≡ drop 1 (digit_text base upper n) ++ drop end old)
+low_written base n rest first at end upper new mid old b leads written all =
+    led (digit_text base upper n) (drop end old) new (digit_glyph upper first)
+    (digit_text_some base n upper b)
+    (ap (λ (x : List ℕ). digit_glyph upper first ∷ x) written
+    ∙ (ap (λ (x : List ℕ). x ++ drop at mid) (sym leads) ∙ all))
+
+-- and where it begins
+pub low_begins : (base n rest from at end : ℕ) (upper : Bool) → 2 ≤ base →
+    from + length (drop 1 (digit_text base upper rest)) ≡ at →
+    at + length (digit_text base upper n) ≡ end + length (digit_text base upper rest) →
+    from + length (drop 1 (digit_text base upper n)) ≡ end
+low_begins base n rest from at end upper b low begins =
+    let some = digit_text_some base n upper b in
+    let left = digit_text_some base rest upper b in
+    let all = length-drop 1 (digit_text base upper n) in
+    let few = length-drop 1 (digit_text base upper rest) in
+    omega arith
 
 -- ---- two digits at a time
 
@@ -147,27 +235,33 @@ high_of_pair n = grind (arith, nat_tests)
 -- two digits more stand in front
 pub pair_step : (n at : ℕ) (out behind : List ℕ) → 100 ≤ n → 2 ≤ at → at ≤ length out →
     digit_text 10 false n ++ drop at out ≡ behind →
-    digit_text 10 false (n / 100) ++ drop (at - 2) (set (set out (at - 1) (48 + n % 100 % 10)) (at - 2) (48 + n % 100 / 10)) ≡ behind
+    digit_text 10 false (n / 100) ++ drop (at - 2)
+    (set (set out (at - 1) (48 + n % 100 % 10)) (at - 2) (48 + n % 100 / 10)) ≡ behind
 pair_step n at out behind h p l e =
     let once = low_step 10 n at false out behind (omega arith) (omega arith) (omega arith) l e in
     let size = length-set out (at - 1) (digit_glyph false (n % 10)) in
-    let twice = low_step 10 (n / 10) (at - 1) false (set out (at - 1) (digit_glyph false (n % 10))) behind (omega arith) (omega arith) (omega arith) (omega arith) once in
+    let twice = low_step 10 (n / 10) (at - 1) false (set out (at - 1) (digit_glyph false (n % 10)))
+    behind (omega arith) (omega arith) (omega arith) (omega arith) once in
     let place : at - 1 - 1 ≡ at - 2 = omega arith in
     let rest : n / 10 / 10 ≡ n / 100 = omega arith in
     rw (place, rest, low_of_pair n, high_of_pair n) at twice
 
-pub pair_count : (n : ℕ) → 100 ≤ n → length (digit_text 10 false n) ≡ length (digit_text 10 false (n / 100)) + 2
+pub pair_count : (n : ℕ) → 100 ≤ n → length (digit_text 10 false n)
+    ≡ length (digit_text 10 false (n / 100)) + 2
 pair_count n h =
     let once = digit_count_step 10 n false (omega arith) (omega arith) in
     let twice = digit_count_step 10 (n / 10) false (omega arith) (omega arith) in
     let rest : n / 10 / 10 ≡ n / 100 = omega arith in
     let count = rw rest at twice in omega arith
 
-pub pair_in_front : (out old : List ℕ) (at first second : ℕ) → 2 ≤ at → take at out ≡ take at old → take (at - 2) (set (set out (at - 1) first) (at - 2) second) ≡ take (at - 2) old
+pub pair_in_front : (out old : List ℕ) (at first second : ℕ) → 2 ≤ at → take at out ≡ take at old →
+    take (at - 2) (set (set out (at - 1) first) (at - 2) second) ≡ take (at - 2) old
 pair_in_front out old at first second h e =
     let place : at - 1 - 1 ≡ at - 2 = omega arith in
-    let step = fewer_in_front (set out (at - 1) first) old (at - 1) second (omega arith) (fewer_in_front out old at first (omega arith) e) in
+    let step = fewer_in_front (set out (at - 1) first) old (at - 1) second (omega arith)
+    (fewer_in_front out old at first (omega arith) e) in
     rw place at step
 
-pub take_less : (k at : ℕ) (new old : List ℕ) → k ≤ at → take at new ≡ take at old → take k new ≡ take k old
+pub take_less : (k at : ℕ) (new old : List ℕ) → k ≤ at → take at new ≡ take at old →
+    take k new ≡ take k old
 take_less k at new old h e = sym (take-take k at new h) ∙ (ap (take k) e ∙ take-take k at old h)

@@ -1,4 +1,8 @@
-use Rattle.std.proofs.Common.{◌≡◌, ◌≢◌, ℕ, suc, ◌<◌, ◌≤◌, ◌-◌, ◌+◌, ◌*◌, ◌/◌, ◌%◌, ◌^◌, max, ℤ, pos, negsuc, ◌+ℤ◌, ◌*ℤ◌, neg_ℤ, Bool, true, false, List, [], ◌∷◌, ◌++◌, length, map, get_or, replicate, refl, ◌∙◌, ap, arith, rules, length-append, if◌then◌else◌, ◌==◌, ◌&&◌, inl, inr}
+-- The laws.
+use Rattle.std.proofs.Common.{◌≡◌, ◌≢◌, ℕ, suc, ◌<◌, ◌≤◌, ◌-◌, ◌+◌, ◌*◌, ◌/◌, ◌%◌, ◌^◌, max, ℤ, pos}
+use Rattle.std.proofs.Common.{negsuc, ◌+ℤ◌, ◌*ℤ◌, neg_ℤ, Bool, true, false, List, [], ◌∷◌, ◌++◌}
+use Rattle.std.proofs.Common.{length, map, get_or, replicate, refl, ◌∙◌, ap, arith, rules}
+use Rattle.std.proofs.Common.{length-append, if◌then◌else◌, ◌==◌, ◌&&◌, inl, inr}
 use Rattle.std.specs.Fmt.{digit_glyph}
 use Rattle.std.specs.Int.Digits.{digits_of, AllBelowBase}
 use Rattle.std.specs.Prelude.{nat_lt, unwrap_or, None}
@@ -7,21 +11,27 @@ use Rattle.std.specs.Str.Parse.{digits_value}
 use Rattle.std.proofs.lemmas.Bool.{cases_eq, cases_lt, cases_order}
 use Rattle.std.proofs.lemmas.Bool.Decides.{nat_tests}
 use Rattle.std.proofs.lemmas.Int.{ints}
-use Rattle.std.proofs.lemmas.Int.Digits.{digits_value_is, number_digits_of, number_lt, length-digits_of-le, length-digits_of_step, all_below_base_digits_of, first_digits_of}
+use Rattle.std.proofs.lemmas.Int.Digits.{digits_value_is, number_digits_of, number_lt}
+use Rattle.std.proofs.lemmas.Int.Digits.{length-digits_of-le, length-digits_of_step}
+use Rattle.std.proofs.lemmas.Int.Digits.{all_below_base_digits_of, first_digits_of}
 use Rattle.std.proofs.lemmas.List.{length-map, length-replicate}
 use Rattle.std.proofs.Math.Nat.{mul-le-mul_right}
 use Rattle.std.proofs.lemmas.Nat.{pow_pos}
 use Rattle.interpolator_render.specs.declared.view.Alignment.{Alignment}
-use Rattle.interpolator_render.specs.declared.view.Alignment.TheVariants.{Unset, Left, Center, Right}
+use Rattle.interpolator_render.specs.declared.view.Alignment.TheVariants.{Unset, Left, Center}
+use Rattle.interpolator_render.specs.declared.view.Alignment.TheVariants.{Right}
 use Rattle.interpolator_render.specs.declared.view.Bits.{Bits}
 use Rattle.interpolator_render.specs.declared.view.Spec.{Spec}
 use Rattle.interpolator_render.specs.Digits.{digit_text}
-use Rattle.interpolator_render.specs.Exponent.{exponent_of, nearest, trimmed, less_zeros, IsNearest, distance}
+use Rattle.interpolator_render.specs.Exponent.{exponent_of, nearest, trimmed, less_zeros, IsNearest}
+use Rattle.interpolator_render.specs.Exponent.{distance}
 use Rattle.interpolator_render.specs.Numbers.{twos_complement, remainder}
-use Rattle.interpolator_render.specs.Padding.{missing_to, spaces_before, between_spaces, padded_number, padded_text, displayed_text}
+use Rattle.interpolator_render.specs.Padding.{missing_to, spaces_before, between_spaces}
+use Rattle.interpolator_render.specs.Padding.{padded_number, padded_text, displayed_text}
 use Rattle.interpolator_render.specs.Views.{bit_count}
 use Rattle.interpolator_render.specs.Written.{Written, Appends}
 use Rattle.interpolator_render.proofs.DigitLemmas.{zero_or_more, digit_text_zero, digit_text_map}
+use Rattle.interpolator_render.proofs.ExponentLemmas.{and_false}
 use Rattle.interpolator_render.proofs.NumberLemmas.{bool_cases}
 
 -- ---- digits
@@ -30,33 +40,46 @@ digit_value-glyph : (d : ℕ) (upper : Bool) → d < 16 → digit_value (digit_g
 digit_value-glyph d true h = grind (arith, nat_tests)
 digit_value-glyph d false h = grind (arith, nat_tests)
 
-values_of_glyphs : (base : ℕ) (upper : Bool) (ds : List ℕ) → base ≤ 16 → AllBelowBase base ds → map digit_value (map (digit_glyph upper) ds) ≡ ds
+values_of_glyphs : (base : ℕ) (upper : Bool) (ds : List ℕ) → base ≤ 16 → AllBelowBase base ds →
+    map digit_value (map (digit_glyph upper) ds) ≡ ds
 values_of_glyphs base upper [] h a = refl
-values_of_glyphs base upper (d ∷ ds) h a = rw (digit_value-glyph d upper (omega (arith, a.0)), values_of_glyphs base upper ds h a.1) refl
+values_of_glyphs base upper (d ∷ ds) h a =
+    rw (digit_value-glyph d upper (omega (arith, a.0)), values_of_glyphs base upper ds h a.1)
+    refl
 
-pub digits_value-digit_text : (base n : ℕ) (upper : Bool) → 2 ≤ base → base ≤ 16 → digits_value base (digit_text base upper n) ≡ n
+pub digits_value-digit_text : (base n : ℕ) (upper : Bool) → 2 ≤ base → base ≤ 16 →
+    digits_value base (digit_text base upper n) ≡ n
 digits_value-digit_text base n upper l h = elim (zero_or_more n) [
   | inl e ↦ rw (digit_text_zero base upper n e) (omega arith)
-  | inr m ↦ rw (digit_text_map base n upper m, digits_value_is, values_of_glyphs base upper (digits_of base n) h (all_below_base_digits_of base n l)) (number_digits_of base n l)
+  | inr m ↦ rw (
+    digit_text_map base n upper m,
+    digits_value_is,
+    values_of_glyphs base upper
+        (digits_of base n) h (all_below_base_digits_of base n l),
+  ) (number_digits_of base n l)
 ]
 
 glyph_some : (d : ℕ) (upper : Bool) → 0 < d → digit_glyph upper d ≢ 48
 glyph_some d true h = λ e. grind (arith, nat_tests)
 glyph_some d false h = λ e. grind (arith, nat_tests)
 
-first_glyph : (upper : Bool) (ds : List ℕ) → 0 < get_or ds 0 0 → get_or (map (digit_glyph upper) ds) 0 0 ≢ 48
+first_glyph : (upper : Bool) (ds : List ℕ) → 0 < get_or ds 0 0 →
+    get_or (map (digit_glyph upper) ds) 0 0 ≢ 48
 first_glyph upper [] h = absurd (omega arith)
 first_glyph upper (d ∷ ds) h = glyph_some d upper h
 
-pub first_digit : (base n : ℕ) (upper : Bool) → 2 ≤ base → 0 < n → get_or (digit_text base upper n) 0 0 ≢ 48
-first_digit base n upper l h = rw (digit_text_map base n upper h) (first_glyph upper (digits_of base n) (first_digits_of base n l h))
+pub first_digit : (base n : ℕ) (upper : Bool) → 2 ≤ base → 0 < n →
+    get_or (digit_text base upper n) 0 0 ≢ 48
+first_digit base n upper l h = rw (digit_text_map base n upper h)
+    (first_glyph upper (digits_of base n) (first_digits_of base n l h))
 
 -- ---- exponents
 
 -- a number with digits lies at least at the power of the base with one less
 digits_at_least : (n count : ℕ) → length (digits_of 10 n) ≡ count → 0 < count → 10 ^ (count - 1) ≤ n
 digits_at_least n count e h = elim (cases_lt n (10 ^ (count - 1))) [
-  | inl below ↦ let few = length-digits_of-le 10 (count - 1) n (omega arith) below in absurd (omega arith)
+  | inl below ↦ let few = length-digits_of-le 10 (count - 1) n (omega arith) below in
+      absurd (omega arith)
   | inr above ↦ above
 ]
 
@@ -68,8 +91,13 @@ exponent_bounds_of n h =
     let some : 0 < count = omega arith in
     let next : count - 1 + 1 ≡ count = omega arith in
     let read = number_digits_of 10 n (omega arith) in
-    let above = rw read at (number_lt 10 (digits_of 10 n) (all_below_base_digits_of 10 n (omega arith))) in
+    let above = rw read at (number_lt 10 (digits_of 10 n)
+    (all_below_base_digits_of 10 n (omega arith))) in
     rw (size, next) (digits_at_least n count refl some, above)
+
+-- zero has one digit
+pub exponent_of_zero : exponent_of 0 ≡ 0
+exponent_of_zero = rw (digit_text_zero 10 false 0 refl) refl
 
 -- ---- rounding
 
@@ -78,7 +106,8 @@ nearest_below n unit h = let t : nat_lt (2 * (n % unit)) unit ≡ true = search 
 
 nearest_above : (n unit : ℕ) → unit < 2 * (n % unit) → nearest n unit ≡ n / unit + 1
 nearest_above n unit h =
-    let k : unit ≤ 2 * (n % unit) = omega arith in let f : nat_lt (2 * (n % unit)) unit ≡ false = search rules in
+    let k : unit ≤ 2 * (n % unit) = omega arith in let f : nat_lt (2 * (n % unit)) unit
+    ≡ false = search rules in
     let t : nat_lt unit (2 * (n % unit)) ≡ true = search rules in rw (f, t) refl
 
 nearest_tie : (n unit : ℕ) → 2 * (n % unit) ≡ unit → nearest n unit ≡ n / unit + n / unit % 2
@@ -94,13 +123,16 @@ parts_of n unit h = (omega arith, omega arith)
 near_low : (n unit low rest : ℕ) → n ≡ low * unit + rest → 2 * rest < unit → IsNearest n unit low
 near_low n unit low rest e h = record { near = omega arith; even = λ t. absurd (omega arith) }
 
-near_high : (n unit low rest : ℕ) → n ≡ low * unit + rest → rest < unit → unit < 2 * rest → IsNearest n unit (low + 1)
+near_high : (n unit low rest : ℕ) → n ≡ low * unit + rest → rest < unit → unit < 2 * rest →
+    IsNearest n unit (low + 1)
 near_high n unit low rest e b h = record { near = omega arith; even = λ t. absurd (omega arith) }
 
-near_tie : (n unit low rest : ℕ) → n ≡ low * unit + rest → 2 * rest ≡ unit → IsNearest n unit (low + low % 2)
+near_tie : (n unit low rest : ℕ) → n ≡ low * unit + rest → 2 * rest ≡ unit →
+    IsNearest n unit (low + low % 2)
 near_tie n unit low rest e h = elim (zero_or_more (low % 2)) [
   | inl z ↦ rw z (record { near = omega arith; even = λ t. omega arith })
-  | inr m ↦ let o : low % 2 ≡ 1 = omega arith in rw o (record { near = omega arith; even = λ t. omega arith })
+  | inr m ↦ let o : low % 2 ≡ 1 = omega arith in
+      rw o (record { near = omega arith; even = λ t. omega arith })
 ]
 
 pub IsNearest-nearest : (n unit : ℕ) → 0 < unit → IsNearest n unit (nearest n unit)
@@ -108,18 +140,23 @@ IsNearest-nearest n unit h =
     let parts = parts_of n unit h in
     elim (cases_order (2 * (n % unit)) unit) [
       | inl same ↦ rw (nearest_tie n unit same) (near_tie n unit (n / unit) (n % unit) parts.0 same)
-      | inr (inl below) ↦ rw (nearest_below n unit below) (near_low n unit (n / unit) (n % unit) parts.0 below)
-      | inr (inr above) ↦ rw (nearest_above n unit above) (near_high n unit (n / unit) (n % unit) parts.0 parts.1 above)
+      | inr (inl below) ↦ rw (nearest_below n unit below)
+          (near_low n unit (n / unit) (n % unit) parts.0 below)
+      | inr (inr above) ↦ rw (nearest_above n unit above)
+          (near_high n unit (n / unit) (n % unit) parts.0 parts.1 above)
     ]
 
-halves : (n unit low : ℕ) → 2 * distance n low ≤ unit → 2 * distance n (low + unit) ≤ unit → (2 * distance n low ≡ unit) × (2 * distance n (low + unit) ≡ unit)
+halves : (n unit low : ℕ) → 2 * distance n low ≤ unit → 2 * distance n (low + unit) ≤ unit →
+    (2 * distance n low ≡ unit) × (2 * distance n (low + unit) ≡ unit)
 halves n unit low p q = (omega arith, omega arith)
 
-too_far : (n unit low high : ℕ) → 0 < unit → low + 2 * unit ≤ high → 2 * distance n low ≤ unit → 2 * distance n high ≤ unit → ⊥
+too_far : (n unit low high : ℕ) → 0 < unit → low + 2 * unit ≤ high → 2 * distance n low ≤ unit →
+    2 * distance n high ≤ unit → ⊥
 too_far n unit low high h f p q = omega arith
 
 -- of two counts only one lies nearest
-nearest_one : (n unit less more : ℕ) → 0 < unit → less < more → IsNearest n unit less → IsNearest n unit more → ⊥
+nearest_one : (n unit less more : ℕ) → 0 < unit → less < more → IsNearest n unit less →
+    IsNearest n unit more → ⊥
 nearest_one n unit less more h b p q = elim (cases_lt (less + 1) more) [
   | inl apart ↦
       let product : (less + 2) * unit ≤ more * unit = mul-le-mul_right unit (omega arith) in
@@ -134,48 +171,92 @@ nearest_one n unit less more h b p q = elim (cases_lt (less + 1) more) [
 pub nearest_only : (n unit count : ℕ) → 0 < unit → IsNearest n unit count → count ≡ nearest n unit
 nearest_only n unit count h p = elim (cases_order count (nearest n unit)) [
   | inl same ↦ same
-  | inr (inl below) ↦ absurd (nearest_one n unit count (nearest n unit) h below p (IsNearest-nearest n unit h))
-  | inr (inr above) ↦ absurd (nearest_one n unit (nearest n unit) count h above (IsNearest-nearest n unit h) p)
+  | inr (inl below) ↦ absurd (nearest_one n unit count (nearest n unit) h below p
+      (IsNearest-nearest n unit h))
+  | inr (inr above) ↦ absurd (nearest_one n unit (nearest n unit) count h above
+      (IsNearest-nearest n unit h) p)
 ]
 
 -- ---- the zeros at the end
 
-and_false : (b : Bool) → (b && false) ≡ false
-and_false true = refl
-and_false false = refl
-
 tail_step : (digit : ℕ) (digits rest : List ℕ) (count : ℕ) → digits ≡ rest ++ replicate count 48 →
-    (zeros_behind : ℕ) × (digit ∷ digits ≡ (if (digit == 48) && (length rest == 0) then [] else digit ∷ rest) ++ replicate zeros_behind 48)
+    (zeros_behind : ℕ) × (digit ∷ digits
+    ≡ (if (digit == 48) && (length rest == 0) then [] else digit ∷ rest)
+    ++ replicate zeros_behind 48)
 tail_step digit digits [] count e = elim (cases_eq digit 48) [
   | inl same ↦ let t : (digit == 48) ≡ true = search rules in (suc count, rw (t, e, same) refl)
   | inr other ↦ let f : (digit == 48) ≡ false = search rules in (count, rw (f, e) refl)
 ]
 tail_step digit digits (second ∷ rest) count e =
-    let some : (length (second ∷ rest) == 0) ≡ false = let n : length (second ∷ rest) ≢ 0 = omega arith in search rules in
+    let some : (length (second ∷ rest) == 0)
+    ≡ false = let n : length (second ∷ rest) ≢ 0 = omega arith in search rules in
     (count, rw (some, and_false (digit == 48), e) refl)
 
-less_zeros_tail : (digits : List ℕ) → (count : ℕ) × (digits ≡ less_zeros digits ++ replicate count 48)
+less_zeros_tail : (digits : List ℕ) →
+    (count : ℕ) × (digits ≡ less_zeros digits ++ replicate count 48)
 less_zeros_tail [] = (0, refl)
-less_zeros_tail (digit ∷ digits) = let behind = less_zeros_tail digits in tail_step digit digits (less_zeros digits) behind.0 behind.1
+less_zeros_tail (digit ∷ digits) = let behind = less_zeros_tail digits in
+    tail_step digit digits (less_zeros digits) behind.0 behind.1
 
 pub trimmed_tail : (digits : List ℕ) → (count : ℕ) × (digits ≡ trimmed digits ++ replicate count 48)
 trimmed_tail [] = (0, refl)
-trimmed_tail (digit ∷ digits) = let behind = less_zeros_tail digits in (behind.0, ap (λ (x : List ℕ). digit ∷ x) behind.1)
+trimmed_tail (digit ∷ digits) = let behind = less_zeros_tail digits in
+    (behind.0, ap (λ (x : List ℕ). digit ∷ x) behind.1)
+
+last_step : (digit : ℕ) (rest : List ℕ) →
+    (0 < length rest → get_or rest (length rest - 1) 0 ≢ 48) →
+    0 < length (if (digit == 48) && (length rest == 0) then [] else digit ∷ rest) →
+    get_or (if (digit == 48) && (length rest == 0) then [] else digit ∷ rest)
+    (length (if (digit == 48) && (length rest == 0) then [] else digit ∷ rest) - 1) 0 ≢ 48
+last_step digit [] last some = elim (cases_eq digit 48) [
+  | inl same ↦ let t : (digit == 48) ≡ true = search rules in
+      absurd (let none = rw t at some in omega arith)
+  | inr other ↦ let f : (digit == 48) ≡ false = search rules in rw f other
+]
+last_step digit (second ∷ rest) last some =
+    let more : (length (second ∷ rest) == 0) ≡ false =
+    let n : length (second ∷ rest) ≢ 0 = omega arith in search rules in
+    let place : suc (suc (length rest)) - 1 ≡ suc (suc (length rest) - 1) = omega arith in
+    rw (more, and_false (digit == 48), place) (last (omega arith))
+
+less_zeros_last : (digits : List ℕ) → 0 < length (less_zeros digits) →
+    get_or (less_zeros digits) (length (less_zeros digits) - 1) 0 ≢ 48
+less_zeros_last [] some = absurd (omega arith)
+less_zeros_last (digit ∷ digits) some =
+    last_step digit (less_zeros digits) (less_zeros_last digits) some
+
+pub trimmed_last : (digits : List ℕ) → 1 < length (trimmed digits) →
+    get_or (trimmed digits) (length (trimmed digits) - 1) 0 ≢ 48
+trimmed_last [] more = absurd (omega arith)
+trimmed_last (digit ∷ digits) more =
+    behind (less_zeros digits) (omega arith) (less_zeros_last digits (omega arith))
+  where
+    behind : (rest : List ℕ) → 0 < length rest → get_or rest (length rest - 1) 0 ≢ 48 →
+        get_or (digit ∷ rest) (length (digit ∷ rest) - 1) 0 ≢ 48
+    behind [] some last = absurd (omega arith)
+    behind (second ∷ rest) some last =
+        let place : suc (suc (length rest)) - 1 ≡ suc (suc (length rest) - 1) = omega arith in
+        rw place last
 
 -- ---- padding
 
-before_within : (alignment : Alignment) (missing unset : ℕ) → unset ≤ missing → spaces_before alignment missing unset ≤ missing
+before_within : (alignment : Alignment) (missing unset : ℕ) → unset ≤ missing →
+    spaces_before alignment missing unset ≤ missing
 before_within Left missing unset h = omega arith
 before_within Right missing unset h = omega arith
 before_within Center missing unset h = omega arith
 before_within Unset missing unset h = h
 
-length-between : (before after : ℕ) (text : List ℕ) → length (between_spaces before after text) ≡ before + length text + after
+length-between : (before after : ℕ) (text : List ℕ) → length (between_spaces before after text)
+    ≡ before + length text + after
 length-between before after text =
-    let a = length-append (replicate before 32) (text ++ replicate after 32) in let b = length-append text (replicate after 32) in
-    let c = length-replicate {A = ℕ} before 32 in let d = length-replicate {A = ℕ} after 32 in omega arith
+    let a = length-append (replicate before 32) (text ++ replicate after 32) in
+    let b = length-append text (replicate after 32) in
+    let c = length-replicate {A = ℕ} before 32 in let d = length-replicate {A = ℕ} after 32 in
+    omega arith
 
-pub length-padded_text : (spec : Spec) (text : List ℕ) → length (padded_text spec text) ≡ max (unwrap_or spec.width 0) (length text)
+pub length-padded_text : (spec : Spec) (text : List ℕ) → length (padded_text spec text)
+    ≡ max (unwrap_or spec.width 0) (length text)
 unfolding padded_text
 length-padded_text spec text =
     let missing = missing_to spec (length text) in
@@ -183,23 +264,29 @@ length-padded_text spec text =
     let within = before_within spec.alignment missing 0 (omega arith) in
     let size = length-between before (missing - before) text in omega arith
 
-number_filled : (front body : List ℕ) (missing : ℕ) → length (front ++ (replicate missing 48 ++ body)) ≡ length front + length body + missing
-number_filled front body missing =
-    let a = length-append front (replicate missing 48 ++ body) in let b = length-append (replicate missing 48) body in
+length-zeros_between : (front body : List ℕ) (missing : ℕ) →
+    length (front ++ (replicate missing 48 ++ body)) ≡ length front + length body + missing
+length-zeros_between front body missing =
+    let a = length-append front (replicate missing 48 ++ body) in
+    let b = length-append (replicate missing 48) body in
     let c = length-replicate {A = ℕ} missing 48 in omega arith
 
-pub length-padded_number : (spec : Spec) (front body : List ℕ) → length (padded_number spec front body) ≡ max (unwrap_or spec.width 0) (length front + length body)
+pub length-padded_number : (spec : Spec) (front body : List ℕ) →
+    length (padded_number spec front body)
+    ≡ max (unwrap_or spec.width 0) (length front + length body)
 unfolding padded_number
 length-padded_number spec front body =
     let missing = missing_to spec (length front + length body) in
     let before = spaces_before spec.alignment missing missing in
     let within = before_within spec.alignment missing missing (omega arith) in
     elim (bool_cases spec.zero) [
-      | inl z ↦ rw z (let size = number_filled front body missing in omega arith)
-      | inr z ↦ rw z (let size = length-between before (missing - before) (front ++ body) in let whole = length-append front body in omega arith)
+      | inl z ↦ rw z (let size = length-zeros_between front body missing in omega arith)
+      | inr z ↦ rw z (let size = length-between before (missing - before) (front ++ body) in
+          let whole = length-append front body in omega arith)
     ]
 
-pub length-padded : (spec : Spec) (text : List ℕ) (old new : Written) → spec.precision ≡ None → Appends old (displayed_text spec text) new →
+pub length-padded : (spec : Spec) (text : List ℕ) (old new : Written) → spec.precision ≡ None →
+    Appends old (displayed_text spec text) new →
     length new.text ≡ length old.text + max (unwrap_or spec.width 0) (length text)
 length-padded spec text old new none p =
     let whole : displayed_text spec text ≡ padded_text spec text = rw none refl in
@@ -219,9 +306,16 @@ twos_complement_below z bits = remainder_below z (2 ^ bit_count bits) (pow_pos (
 minus_plus : (turned rest n : ℕ) → turned ≡ n + 1 + rest → negsuc n ≡ neg_ℤ (pos turned) +ℤ pos rest
 minus_plus turned rest n e = omega (arith, ints)
 
-pub remainder_congruent : (z : ℤ) (m : ℕ) → 0 < m → (turns : ℤ) × (z ≡ (turns *ℤ pos m) +ℤ pos (remainder z m))
+pub remainder_congruent : (z : ℤ) (m : ℕ) → 0 < m →
+    (turns : ℤ) × (z ≡ (turns *ℤ pos m) +ℤ pos (remainder z m))
 remainder_congruent (pos n) m h = (pos (n / m), ap pos (omega arith))
-remainder_congruent (negsuc n) m h = (negsuc (n / m), minus_plus (suc (n / m) * m) (m - 1 - n % m) n (omega arith))
+remainder_congruent (negsuc n) m h = (
+  negsuc (n / m),
+  minus_plus (suc (n / m) * m) (m - 1 - n % m) n
+      (omega arith),
+)
 
-pub twos_complement_congruent : (z : ℤ) (bits : Bits) → (turns : ℤ) × (z ≡ (turns *ℤ pos (2 ^ bit_count bits)) +ℤ pos (twos_complement z bits))
-twos_complement_congruent z bits = remainder_congruent z (2 ^ bit_count bits) (pow_pos (bit_count bits))
+pub twos_complement_congruent : (z : ℤ) (bits : Bits) →
+    (turns : ℤ) × (z ≡ (turns *ℤ pos (2 ^ bit_count bits)) +ℤ pos (twos_complement z bits))
+twos_complement_congruent z bits = remainder_congruent z (2 ^ bit_count bits)
+    (pow_pos (bit_count bits))

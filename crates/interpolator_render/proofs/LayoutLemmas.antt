@@ -1,40 +1,56 @@
-use Rattle.std.proofs.Common.{◌≡◌, ℕ, zero, suc, ◌<◌, ◌≤◌, ◌-◌, ◌+◌, ◌^◌, min, List, [], ◌∷◌, ◌++◌, length, refl, sym, ◌∙◌, ap, arith, append_assoc, append-nil, length-append, replicate, take, drop, get_or}
+-- Texts written part after part, up to a refusal.
+use Rattle.std.proofs.Common.{◌≡◌, ℕ, zero, suc, ◌<◌, ◌≤◌, ◌-◌, ◌+◌, ◌^◌, min, List, [], ◌∷◌, ◌++◌}
+use Rattle.std.proofs.Common.{length, refl, sym, ◌∙◌, ap, arith, append_assoc, append-nil}
+use Rattle.std.proofs.Common.{length-append, replicate, take, drop, get_or}
 use Rattle.std.specs.Prelude.{Result, Ok, Err, MatchResult, encode_utf8}
 use Rattle.std.specs.Str.{chars, IsAscii, IsUtf8}
-use Rattle.std.proofs.lemmas.Str.{chars-IsAscii, encodes-chars, encodes-append, encodes-IsAscii, length-encode, len_utf8_bounds}
+use Rattle.std.proofs.lemmas.Str.{chars-IsAscii, encodes-chars, encodes-append, encodes-IsAscii}
+use Rattle.std.proofs.lemmas.Str.{length-encode, len_utf8_bounds}
 use Rattle.std.proofs.lemmas.Str.Ascii.{IsAscii-cons}
-use Rattle.std.proofs.lemmas.List.{replicate-append-replicate, length-replicate, take_more, take-append-drop}
+use Rattle.std.proofs.lemmas.List.{replicate-append-replicate, length-replicate, take_more}
+use Rattle.std.proofs.lemmas.List.{take-append-drop}
 use Rattle.std.proofs.lemmas.Grind.{flat_map-append}
 use Rattle.std.specs.List.{flat_map}
 use Rattle.interpolator_render.specs.declared.text_write.Refusal.{Refusal}
-use Rattle.interpolator_render.specs.Written.{Written, byte_count, Appends, AppendsBeginning, Refuses, RefusesLong, Puts, Writes}
+use Rattle.interpolator_render.specs.Written.{Written, byte_count, Appends, AppendsBeginning}
+use Rattle.interpolator_render.specs.Written.{Refuses, RefusesLong, Puts, Writes}
 
 -- nothing was written
 pub appends_none : (a : Written) → Appends a [] a
-appends_none a = record { appended = sym (append-nil a.text); same_flag = refl; only_empty = λ _. refl }
+appends_none a = record {
+  appended = sym (append-nil a.text);
+  same_flag = refl;
+  only_empty = λ _. refl;
+}
 
 -- two texts, one after the other
-pub appends_both : (a b c : Written) (t u : List ℕ) → Appends a t b → Appends b u c → Appends a (t ++ u) c
+pub appends_both : (a b c : Written) (t u : List ℕ) → Appends a t b → Appends b u c →
+    Appends a (t ++ u) c
 appends_both a b c t u p q = record {
   appended = q.appended ∙ (ap (λ (x : List ℕ). x ++ u) p.appended ∙ append_assoc a.text t u);
   same_flag = q.same_flag ∙ p.same_flag;
-  only_empty = λ h. let e : t ≡ [] = p.only_empty h in let d : u ≡ [] = q.only_empty (p.same_flag ∙ h) in rw (e, d) refl;
+  only_empty = λ h. let e : t ≡ [] = p.only_empty h in
+      let d : u ≡ [] = q.only_empty (p.same_flag ∙ h) in rw (e, d) refl;
 }
 
 -- the second of two texts was refused
-pub stops_in_second : (a b c : Written) (t u : List ℕ) → Appends a t b → AppendsBeginning b u c → AppendsBeginning a (t ++ u) c
+pub stops_in_second : (a b c : Written) (t u : List ℕ) → Appends a t b → AppendsBeginning b u c →
+    AppendsBeginning a (t ++ u) c
 stops_in_second a b c t u p q = record {
   beginning = t ++ q.beginning;
   rest = q.rest;
   parts = ap (λ (x : List ℕ). t ++ x) q.parts ∙ sym (append_assoc t q.beginning q.rest);
   not_whole = q.not_whole;
-  appended = q.appended ∙ (ap (λ (x : List ℕ). x ++ q.beginning) p.appended ∙ append_assoc a.text t q.beginning);
+  appended = q.appended ∙ (ap (λ (x : List ℕ). x ++ q.beginning) p.appended
+      ∙ append_assoc a.text t q.beginning);
   flag_set = q.flag_set;
-  none_after_refusal = λ h. let e : t ≡ [] = p.only_empty h in let d : q.beginning ≡ [] = q.none_after_refusal (p.same_flag ∙ h) in rw (e, d) refl;
+  none_after_refusal = λ h. let e : t ≡ [] = p.only_empty h in
+      let d : q.beginning ≡ [] = q.none_after_refusal (p.same_flag ∙ h) in rw (e, d) refl;
 }
 
 -- the first of two texts was refused
-pub stops_in_first : (a b : Written) (t u : List ℕ) → AppendsBeginning a t b → AppendsBeginning a (t ++ u) b
+pub stops_in_first : (a b : Written) (t u : List ℕ) → AppendsBeginning a t b →
+    AppendsBeginning a (t ++ u) b
 stops_in_first a b t u p = record {
   beginning = p.beginning;
   rest = p.rest ++ u;
@@ -46,12 +62,14 @@ stops_in_first a b t u p = record {
 }
 
 -- what a call answered, whatever its error says
-pub writes_from_puts : (a b : Written) (t : List ℕ) (r : Result (Unit {0}) Refusal) → Puts a t r b → Writes a t r b
+pub writes_from_puts : (a b : Written) (t : List ℕ) (r : Result (Unit {0}) Refusal) → Puts a t r b →
+    Writes a t r b
 writes_from_puts a b t (Ok x) p = p
 writes_from_puts a b t (Err refusal) p = p.part
 
 -- one text was written, and another behind it or a part of it
-pub writes_second : (a b c : Written) (t u : List ℕ) (r : Result (Unit {0}) Refusal) → Appends a t b → Writes b u r c → Writes a (t ++ u) r c
+pub writes_second : (a b c : Written) (t u : List ℕ) (r : Result (Unit {0}) Refusal) →
+    Appends a t b → Writes b u r c → Writes a (t ++ u) r c
 writes_second a b c t u (Ok x) p q = appends_both a b c t u p q
 writes_second a b c t u (Err refusal) p q = stops_in_second a b c t u p q
 
@@ -59,7 +77,8 @@ pub byte_count-append : (t u : List ℕ) → byte_count (t ++ u) ≡ byte_count 
 byte_count-append t u = ap length (encodes-append t u) ∙ length-append _ _
 
 -- the same two with their counts, where `done` counts the first text
-pub refuses_in_second : (a b c : Written) (t u : List ℕ) (done taken all : ℕ) → done ≡ min (byte_count t) (2 ^ 64 - 1) → all ≡ min (done + taken) (2 ^ 64 - 1) →
+pub refuses_in_second : (a b c : Written) (t u : List ℕ) (done taken all : ℕ) →
+    done ≡ min (byte_count t) (2 ^ 64 - 1) → all ≡ min (done + taken) (2 ^ 64 - 1) →
     Appends a t b → RefusesLong b u taken c → RefusesLong a (t ++ u) all c
 unfolding stops_in_second
 refuses_in_second a b c t u done taken all d e p q = record {
@@ -67,19 +86,24 @@ refuses_in_second a b c t u done taken all d e p q = record {
   counted = let n = byte_count-append t q.part.beginning in let k = q.counted in omega arith;
 }
 
-pub refuses_in_first : (a b : Written) (t u : List ℕ) (taken : ℕ) → RefusesLong a t taken b → RefusesLong a (t ++ u) taken b
+pub refuses_in_first : (a b : Written) (t u : List ℕ) (taken : ℕ) → RefusesLong a t taken b →
+    RefusesLong a (t ++ u) taken b
 unfolding stops_in_first
-refuses_in_first a b t u taken p = record { part = stops_in_first a b t u p.part; counted = p.counted }
+refuses_in_first a b t u taken p = record
+    { part = stops_in_first a b t u p.part; counted = p.counted }
 
 -- a writer's own answer, for a text that a `&str` holds
-pub long_from_refuses : (a b : Written) (t : List ℕ) (taken : ℕ) → byte_count t < 2 ^ 64 → Refuses a t taken b → RefusesLong a t taken b
+pub long_from_refuses : (a b : Written) (t : List ℕ) (taken : ℕ) → byte_count t < 2 ^ 64 →
+    Refuses a t taken b → RefusesLong a t taken b
 long_from_refuses a b t taken h p = record {
   part = p.part;
   counted =
-      let e = p.counted in let n = byte_count-append p.part.beginning p.part.rest in let d = ap byte_count p.part.parts in omega arith;
+      let e = p.counted in let n = byte_count-append p.part.beginning p.part.rest in
+      let d = ap byte_count p.part.parts in omega arith;
 }
 
-pub puts_from_write : (a b : Written) (t : List ℕ) (r : Result (Unit {0}) Refusal) → byte_count t < 2 ^ 64 →
+pub puts_from_write : (a b : Written) (t : List ℕ) (r : Result (Unit {0}) Refusal) →
+    byte_count t < 2 ^ 64 →
     MatchResult r (λ _. Appends a t b) (λ x. Refuses a t x.taken b) → Puts a t r b
 puts_from_write a b t (Ok x) f p = p
 puts_from_write a b t (Err x) f p = long_from_refuses a b t x.taken f p
@@ -92,27 +116,35 @@ pub chars-replicate : (n c : ℕ) → c < 128 → chars (replicate n c) ≡ repl
 chars-replicate n c h = chars-IsAscii (replicate n c) (IsAscii-replicate n c h)
 
 pub byte_count-replicate : (n c : ℕ) → c < 128 → byte_count (replicate n c) ≡ n
-byte_count-replicate n c h = ap length (encodes-IsAscii (replicate n c) (IsAscii-replicate n c h)) ∙ length-replicate n c
+byte_count-replicate n c h = ap length (encodes-IsAscii (replicate n c) (IsAscii-replicate n c h))
+    ∙ length-replicate n c
 
 -- so many copies that are done, and so many that come
-pub copies_split : (count left k c : ℕ) → k ≤ left → left ≤ count → replicate (count - left) c ++ replicate k c ≡ replicate (count - (left - k)) c
+pub copies_split : (count left k c : ℕ) → k ≤ left → left ≤ count → replicate (count - left) c
+    ++ replicate k c ≡ replicate (count - (left - k)) c
 copies_split count left k c h l = let e : count - left + k ≡ count - (left - k) = omega arith in
     replicate-append-replicate (count - left) k c ∙ ap (λ (n : ℕ). replicate n c) e
 
 -- a piece of a run was written
 pub copies_more : (a b d : Written) (count left k c : ℕ) → k ≤ left → left ≤ count →
-    Appends a (replicate (count - left) c) b → Appends b (replicate k c) d → Appends a (replicate (count - (left - k)) c) d
-copies_more a b d count left k c h l p q = rw (← copies_split count left k c h l) (appends_both a b d _ _ p q)
+    Appends a (replicate (count - left) c) b → Appends b (replicate k c) d →
+    Appends a (replicate (count - (left - k)) c) d
+copies_more a b d count left k c h l p q = rw (← copies_split count left k c h l)
+    (appends_both a b d _ _ p q)
 
 -- a piece of a run was refused
-pub copies_stop : (a b d : Written) (count left k c taken all : ℕ) → c < 128 → k ≤ left → left ≤ count → count < 2 ^ 64 → all ≡ min (count - left + taken) (2 ^ 64 - 1) →
-    Appends a (replicate (count - left) c) b → RefusesLong b (replicate k c) taken d → RefusesLong a (replicate count c) all d
+pub copies_stop : (a b d : Written) (count left k c taken all : ℕ) → c < 128 → k ≤ left →
+    left ≤ count → count < 2 ^ 64 → all ≡ min (count - left + taken) (2 ^ 64 - 1) →
+    Appends a (replicate (count - left) c) b → RefusesLong b (replicate k c) taken d →
+    RefusesLong a (replicate count c) all d
 copies_stop a b d count left k c taken all h m l s e p q =
     let whole : replicate (count - (left - k)) c ++ replicate (left - k) c ≡ replicate count c =
-    replicate-append-replicate (count - (left - k)) (left - k) c ∙ ap (λ (n : ℕ). replicate n c) (omega arith) in
+    replicate-append-replicate (count - (left - k)) (left - k) c
+    ∙ ap (λ (n : ℕ). replicate n c) (omega arith) in
     let n = byte_count-replicate (count - left) c h in
     rw (← whole, ← copies_split count left k c m l)
-    (refuses_in_first a d _ _ all (refuses_in_second a b d _ _ (count - left) taken all (omega arith) e p q))
+    (refuses_in_first a d _ _ all (refuses_in_second a b d _ _ (count - left) taken all
+    (omega arith) e p q))
 
 pub byte_count-chars : (bytes : List ℕ) → IsUtf8 bytes → byte_count (chars bytes) ≡ length bytes
 byte_count-chars bytes u = ap length (encodes-chars bytes u)
@@ -120,27 +152,43 @@ byte_count-chars bytes u = ap length (encodes-chars bytes u)
 -- the pieces up to one, and that one
 pub parts_more : {X : Type 0} (f : X → List ℕ) (parts : List X) (i : ℕ) (d : X) → i < length parts →
     flat_map f (take i parts) ++ f (get_or parts i d) ≡ flat_map f (take (i + 1) parts)
-parts_more f parts i d h = rw (take_more parts i d h, flat_map-append f (take i parts) (get_or parts i d ∷ []), append-nil (f (get_or parts i d))) refl
+parts_more f parts i d h = rw (
+  take_more parts i d h,
+  flat_map-append f (take i parts)
+      (get_or parts i d ∷ []),
+  append-nil (f (get_or parts i d)),
+) refl
 
-pub parts_all : {X : Type 0} (f : X → List ℕ) (parts : List X) (i : ℕ) → flat_map f (take i parts) ++ flat_map f (drop i parts) ≡ flat_map f parts
-parts_all f parts i = sym (flat_map-append f (take i parts) (drop i parts)) ∙ ap (flat_map f) (take-append-drop i parts)
+pub parts_all : {X : Type 0} (f : X → List ℕ) (parts : List X) (i : ℕ) → flat_map f (take i parts)
+    ++ flat_map f (drop i parts) ≡ flat_map f parts
+parts_all f parts i = sym (flat_map-append f (take i parts) (drop i parts))
+    ∙ ap (flat_map f) (take-append-drop i parts)
 
-pub parts_stop : {X : Type 0} (f : X → List ℕ) (a b c : Written) (parts : List X) (i : ℕ) (d : X) (done taken all : ℕ) → i < length parts →
-    done ≡ min (byte_count (flat_map f (take i parts))) (2 ^ 64 - 1) → all ≡ min (done + taken) (2 ^ 64 - 1) →
-    Appends a (flat_map f (take i parts)) b → RefusesLong b (f (get_or parts i d)) taken c → RefusesLong a (flat_map f parts) all c
-parts_stop f a b c parts i d done taken all h e k p q = rw (← parts_all f parts (i + 1), ← parts_more f parts i d h)
+pub parts_stop : {X : Type 0} (f : X → List ℕ) (a b c : Written) (parts : List X) (i : ℕ) (d : X)
+    (done taken all : ℕ) → i < length parts →
+    done ≡ min (byte_count (flat_map f (take i parts))) (2 ^ 64 - 1) →
+    all ≡ min (done + taken) (2 ^ 64 - 1) →
+    Appends a (flat_map f (take i parts)) b → RefusesLong b (f (get_or parts i d)) taken c →
+    RefusesLong a (flat_map f parts) all c
+parts_stop f a b c parts i d done taken all h e k p q =
+    rw (← parts_all f parts (i + 1), ← parts_more f parts i d h)
     (refuses_in_first a c _ _ all (refuses_in_second a b c _ _ done taken all e k p q))
 
-pub parts_count : {X : Type 0} (f : X → List ℕ) (parts : List X) (i : ℕ) (d : X) (done len more : ℕ) → i < length parts →
-    done ≡ min (byte_count (flat_map f (take i parts))) (2 ^ 64 - 1) → len ≡ byte_count (f (get_or parts i d)) → more ≡ min (done + len) (2 ^ 64 - 1) →
+pub parts_count : {X : Type 0} (f : X → List ℕ) (parts : List X) (i : ℕ) (d : X)
+    (done len more : ℕ) → i < length parts →
+    done ≡ min (byte_count (flat_map f (take i parts))) (2 ^ 64 - 1) →
+    len ≡ byte_count (f (get_or parts i d)) → more ≡ min (done + len) (2 ^ 64 - 1) →
     more ≡ min (byte_count (flat_map f (take (i + 1) parts))) (2 ^ 64 - 1)
 parts_count f parts i d done len more h e k l = rw (← parts_more f parts i d h)
     (let n = byte_count-append (flat_map f (take i parts)) (f (get_or parts i d)) in omega arith)
 
-pub parts_append : {X : Type 0} (f : X → List ℕ) (a b c : Written) (parts : List X) (i : ℕ) (d : X) → i < length parts →
-    Appends a (flat_map f (take i parts)) b → Appends b (f (get_or parts i d)) c → Appends a (flat_map f (take (i + 1) parts)) c
+pub parts_append : {X : Type 0} (f : X → List ℕ) (a b c : Written) (parts : List X) (i : ℕ)
+    (d : X) → i < length parts →
+    Appends a (flat_map f (take i parts)) b → Appends b (f (get_or parts i d)) c →
+    Appends a (flat_map f (take (i + 1) parts)) c
 parts_append f a b c parts i d h p q = rw (← parts_more f parts i d h) (appends_both a b c _ _ p q)
 
 -- a character's bytes are at most four
 pub byte_count-char : (c : ℕ) → byte_count (c ∷ []) ≤ 4
-byte_count-char c = let n = length-append (encode_utf8 c) [] in let k = length-encode c in let m = len_utf8_bounds c in omega arith
+byte_count-char c = let n = length-append (encode_utf8 c) [] in let k = length-encode c in
+    let m = len_utf8_bounds c in omega arith

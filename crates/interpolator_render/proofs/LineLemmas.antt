@@ -1,16 +1,21 @@
-use Rattle.std.proofs.Common.{append_assoc, ◌≡◌, ℕ, suc, Bool, ◌<◌, ◌≤◌, ◌-◌, ◌+◌, ◌^◌, List, [], ◌∷◌, ◌++◌, length, take, drop, set, replicate, slice_range, refl, sym, ◌∙◌, ap, arith, length-append}
+-- A row that grows at its front or at its end.
+use Rattle.std.proofs.Common.{append_assoc, ◌≡◌, ℕ, Bool, ◌<◌, ◌≤◌, ◌-◌, ◌+◌, ◌^◌, List, [], ◌∷◌}
+use Rattle.std.proofs.Common.{◌++◌, length, take, drop, set, replicate, slice_range, refl, sym, ◌∙◌}
+use Rattle.std.proofs.Common.{ap, arith, length-append}
 use Rattle.std.specs.Str.{IsAscii}
-use Rattle.std.proofs.lemmas.List.{length-replicate, drop-drop, take-take, take-append-drop, take-replicate, drop-replicate, drop-append-le, length-take-le, drop-set}
+use Rattle.std.proofs.lemmas.List.{length-replicate, drop-drop, take-take, take-append-drop}
+use Rattle.std.proofs.lemmas.List.{take-replicate, drop-replicate, drop-append-le, length-take-le}
+use Rattle.std.proofs.lemmas.List.{drop-set}
 use Rattle.std.proofs.lemmas.Str.{IsAscii-take, IsAscii-drop, IsAscii-append}
 use Rattle.std.proofs.Math.Seq.{take-add, take-append-add, drop-append-add}
 use Rattle.std.proofs.Math.Nat.{pow-le-pow_left}
 use Rattle.std.specs.Prelude.{unwrap_or}
-use Rattle.interpolator_render.specs.declared.number.Notation.{Notation}
-use Rattle.interpolator_render.specs.declared.number.Notation.TheVariants.{Decimal}
-use Rattle.interpolator_render.specs.declared.number.Notation.TheVariants.{Binary as InBinary}
-use Rattle.interpolator_render.specs.declared.number.Notation.TheVariants.{Octal as InOctal}
-use Rattle.interpolator_render.specs.declared.number.Notation.TheVariants.{LowerHex as InLowerHex}
-use Rattle.interpolator_render.specs.declared.number.Notation.TheVariants.{UpperHex as InUpperHex}
+use Rattle.interpolator_render.specs.declared.number.Radix.{Radix}
+use Rattle.interpolator_render.specs.declared.number.Radix.TheVariants.{Decimal}
+use Rattle.interpolator_render.specs.declared.number.Radix.TheVariants.{Binary as InBinary}
+use Rattle.interpolator_render.specs.declared.number.Radix.TheVariants.{Octal as InOctal}
+use Rattle.interpolator_render.specs.declared.number.Radix.TheVariants.{LowerHex as InLowerHex}
+use Rattle.interpolator_render.specs.declared.number.Radix.TheVariants.{UpperHex as InUpperHex}
 use Rattle.interpolator_render.specs.declared.view.Spec.{Spec}
 use Rattle.interpolator_render.specs.Digits.{digit_text}
 use Rattle.interpolator_render.specs.Numbers.{base_of, is_upper}
@@ -20,51 +25,71 @@ use Rattle.interpolator_render.specs.Rows.{Row, IsRow, row_of, grown, grown_behi
 use Rattle.interpolator_render.proofs.LayoutLemmas.{IsAscii-replicate}
 
 -- a piece stands in front of the text, and nothing else has changed
-pub row_grows : (old new piece : List ℕ) (fill from start end : ℕ) → start ≤ end → from + length piece ≡ start → drop from new ≡ piece ++ drop start old →
+pub row_grows : (old new piece : List ℕ) (fill from start end : ℕ) → start ≤ end →
+    from + length piece ≡ start → drop from new ≡ piece ++ drop start old →
     row_of new fill from end ≡ grown piece (row_of old fill start end)
 row_grows old new piece fill from start end h s e =
     let place : from ≡ start - length piece = omega arith in
     let long : end - from ≡ length piece + (end - start) = omega arith in
     let text : slice_range new from end ≡ piece ++ slice_range old start end =
-    ap (λ (x : List ℕ). take (end - from) x) e ∙ (ap (λ (k : ℕ). take k (piece ++ drop start old)) long ∙ take-append-add piece (drop start old) (end - start)) in
+    ap (λ (x : List ℕ). take (end - from) x) e
+    ∙ (ap (λ (k : ℕ). take k (piece ++ drop start old)) long
+    ∙ take-append-add piece (drop start old) (end - start)) in
     rw (text, ← place) refl
 
-pub IsRow-grows : (old new piece : List ℕ) (fill from start end : ℕ) → IsAscii piece → from + length piece ≡ start → take from new ≡ take from old → drop from new ≡ piece ++ drop start old →
+pub IsRow-grows : (old new piece : List ℕ) (fill from start end : ℕ) → IsAscii piece →
+    from + length piece ≡ start → take from new ≡ take from old →
+    drop from new ≡ piece ++ drop start old →
     IsRow old fill start end → IsRow new fill from end
 IsRow-grows old new piece fill from start end a s t e row =
     let high = row.ordered in
-    let first : take from old ≡ take from (take start old) = sym (take-take from start old (omega arith)) in
+    let first : take from old ≡ take from (take start old) = sym
+    (take-take from start old (omega arith)) in
     record {
       ordered = omega arith;
       within = row.within;
       fill_ascii = row.fill_ascii;
       ascii = rw (← take-append-drop from new, t, e)
-          (IsAscii-append (take from old) (piece ++ drop start old) (IsAscii-take old from row.ascii) (IsAscii-append piece (drop start old) a (IsAscii-drop old start row.ascii)));
-      filled_before = t ∙ (first ∙ (ap (take from) row.filled_before ∙ take-replicate from start fill (omega arith)));
+          (IsAscii-append (take from old) (piece ++ drop start old)
+          (IsAscii-take old from row.ascii) (IsAscii-append piece (drop start old) a
+          (IsAscii-drop old start row.ascii)));
+      filled_before = t ∙ (first ∙ (ap (take from) row.filled_before
+          ∙ take-replicate from start fill (omega arith)));
       filled_behind =
           let there : from + (length piece + (end - start)) ≡ end = omega arith in
           let here : start + (end - start) ≡ end = omega arith in
-          ap (λ (k : ℕ). drop k new) (sym there) ∙ (sym (drop-drop (length piece + (end - start)) from new)
-          ∙ (ap (drop (length piece + (end - start))) e ∙ (drop-append-add piece (drop start old) (end - start)
-          ∙ (drop-drop (end - start) start old ∙ (ap (λ (k : ℕ). drop k old) here ∙ row.filled_behind)))));
+          ap (λ (k : ℕ). drop k new) (sym there)
+          ∙ (sym (drop-drop (length piece + (end - start)) from new)
+          ∙ (ap (drop (length piece + (end - start))) e
+          ∙ (drop-append-add piece (drop start old) (end - start)
+          ∙ (drop-drop (end - start) start old
+          ∙ (ap (λ (k : ℕ). drop k old) here ∙ row.filled_behind)))));
     }
 
 -- one byte more
-pub byte_in_front : (old : List ℕ) (start byte : ℕ) → 1 ≤ start → start ≤ length old → drop (start - 1) (set old (start - 1) byte) ≡ (byte ∷ []) ++ drop start old
+pub byte_in_front : (old : List ℕ) (start byte : ℕ) → 1 ≤ start → start ≤ length old →
+    drop (start - 1) (set old (start - 1) byte) ≡ (byte ∷ []) ++ drop start old
 byte_in_front old start byte h l = let n : start - 1 + 1 ≡ start = omega arith in
     drop-set old (start - 1) byte (omega arith) ∙ ap (λ (k : ℕ). byte ∷ drop k old) n
 
 -- copies of the fill stand in front of the text already
-pub copies_in_front : (old : List ℕ) (fill count start end : ℕ) → count ≤ start → start ≤ length old → IsRow old fill start end → drop (start - count) old ≡ replicate count fill ++ drop start old
+pub copies_in_front : (old : List ℕ) (fill count start end : ℕ) → count ≤ start →
+    start ≤ length old → IsRow old fill start end → drop (start - count) old ≡ replicate count fill
+    ++ drop start old
 copies_in_front old fill count start end h l row =
     let size = length-take-le start old l in
     let rest : start - (start - count) ≡ count = omega arith in
-    ap (drop (start - count)) (sym (take-append-drop start old)) ∙ (drop-append-le (start - count) (take start old) (drop start old) (omega arith)
-    ∙ ap (λ (x : List ℕ). x ++ drop start old) (ap (drop (start - count)) row.filled_before ∙ (drop-replicate (start - count) start fill ∙ ap (λ (k : ℕ). replicate k fill) rest)))
+    ap (drop (start - count)) (sym (take-append-drop start old))
+    ∙ (drop-append-le (start - count) (take start old) (drop start old) (omega arith)
+    ∙ ap (λ (x : List ℕ). x ++ drop start old)
+    (ap (drop (start - count)) row.filled_before
+    ∙ (drop-replicate (start - count) start fill ∙ ap (λ (k : ℕ). replicate k fill) rest)))
 
 -- and behind it
-pub row_grows_behind : (old : List ℕ) (fill count start end : ℕ) → end + count ≤ 128 → IsRow old fill start end →
-    row_of old fill start (end + count) ≡ grown_behind (replicate count fill) (row_of old fill start end)
+pub row_grows_behind : (old : List ℕ) (fill count start end : ℕ) → end + count ≤ 128 →
+    IsRow old fill start end →
+    row_of old fill start (end + count) ≡ grown_behind (replicate count fill)
+    (row_of old fill start end)
 row_grows_behind old fill count start end h row =
     let high = row.ordered in
     let n = length-replicate count fill in
@@ -72,20 +97,28 @@ row_grows_behind old fill count start end h row =
     let long : end + count - start ≡ end - start + count = omega arith in
     let room : 128 - (end + count) ≡ 128 - end - length (replicate count fill) = omega arith in
     let behind : take count (drop (end - start) (drop start old)) ≡ replicate count fill =
-    ap (take count) (drop-drop (end - start) start old ∙ (ap (λ (k : ℕ). drop k old) there ∙ row.filled_behind)) ∙ take-replicate count (128 - end) fill (omega arith) in
-    let text : slice_range old start (end + count) ≡ slice_range old start end ++ replicate count fill =
-    ap (λ (k : ℕ). take k (drop start old)) long ∙ (take-add (end - start) count (drop start old) ∙ ap (λ (x : List ℕ). slice_range old start end ++ x) behind) in
+    ap (take count) (drop-drop (end - start) start old
+    ∙ (ap (λ (k : ℕ). drop k old) there ∙ row.filled_behind))
+    ∙ take-replicate count (128 - end) fill (omega arith) in
+    let text : slice_range old start (end + count) ≡ slice_range old start end
+    ++ replicate count fill =
+    ap (λ (k : ℕ). take k (drop start old)) long
+    ∙ (take-add (end - start) count (drop start old)
+    ∙ ap (λ (x : List ℕ). slice_range old start end ++ x) behind) in
     rw (text, room) refl
 
-pub IsRow-grows_behind : (old : List ℕ) (fill count start end : ℕ) → end + count ≤ 128 → IsRow old fill start end → IsRow old fill start (end + count)
+pub IsRow-grows_behind : (old : List ℕ) (fill count start end : ℕ) → end + count ≤ 128 →
+    IsRow old fill start end → IsRow old fill start (end + count)
 IsRow-grows_behind old fill count start end h row = record {
   ordered = let high = row.ordered in omega arith;
   within = h;
   fill_ascii = row.fill_ascii;
   ascii = row.ascii;
   filled_before = row.filled_before;
-  filled_behind = sym (drop-drop count end old) ∙ (ap (drop count) row.filled_behind ∙ (drop-replicate count (128 - end) fill
-      ∙ ap (λ (k : ℕ). replicate k fill) (let e : 128 - end - count ≡ 128 - (end + count) = omega arith in e)));
+  filled_behind = sym (drop-drop count end old)
+      ∙ (ap (drop count) row.filled_behind ∙ (drop-replicate count (128 - end) fill
+      ∙ ap (λ (k : ℕ). replicate k fill) (let e : 128 - end - count
+      ≡ 128 - (end + count) = omega arith in e)));
 }
 
 -- an empty row
@@ -99,7 +132,7 @@ IsRow-new fill a = record {
   filled_behind = drop-replicate 88 128 fill;
 }
 
-pub base_from_2 : (notation : Notation) → 2 ≤ base_of notation
+pub base_from_2 : (radix : Radix) → 2 ≤ base_of radix
 base_from_2 Decimal = omega arith
 base_from_2 InBinary = omega arith
 base_from_2 InOctal = omega arith
@@ -107,27 +140,34 @@ base_from_2 InLowerHex = omega arith
 base_from_2 InUpperHex = omega arith
 
 -- the digits of 64 bits alone in a row
-pub number_row : (spec : Spec) (notation : Notation) (n : ℕ) (empty row : Row) (fill : ℕ) → unwrap_or spec.width 0 ≤ 40 → n < 2 ^ 64 → fill ≡ fill_of spec →
-    empty ≡ record { before = 88; text = []; after = 40; fill = fill } → row ≡ grown (digit_text (base_of notation) (is_upper notation) n) empty → IsNumberRow spec row
-number_row spec notation n empty row fill w s f e r =
-    let base = base_of notation in
-    let few = length-digit_text-le base 64 n (is_upper notation) (base_from_2 notation) (omega arith) (let wide : 2 ^ 64 ≤ base ^ 64 = pow-le-pow_left (base_from_2 notation) 64 in omega arith) in
-    let size = length-append (digit_text base (is_upper notation) n) [] in
-    rw (r, e) (record { narrow = w; fill = f; before = omega arith; front = omega arith; after = refl })
+pub number_row : (spec : Spec) (radix : Radix) (n : ℕ) (empty row : Row) (fill : ℕ) →
+    unwrap_or spec.width 0 ≤ 40 → n < 2 ^ 64 → fill ≡ fill_of spec →
+    empty ≡ record { before = 88; text = []; after = 40; fill = fill } →
+    row ≡ grown (digit_text (base_of radix) (is_upper radix) n) empty → IsNumberRow spec row
+number_row spec radix n empty row fill w s f e r =
+    let base = base_of radix in
+    let few = length-digit_text-le base 64 n (is_upper radix) (base_from_2 radix) (omega arith)
+    (let wide : 2 ^ 64 ≤ base ^ 64 = pow-le-pow_left (base_from_2 radix) 64 in omega arith) in
+    let size = length-append (digit_text base (is_upper radix) n) [] in
+    rw (r, e) (record {
+      narrow = w;
+      fill = f;
+      before = omega arith;
+      front = omega arith;
+      after = refl;
+    })
 
 -- one piece in front of another
-pub grown_twice : (first second : List ℕ) (row : Row) → grown first (grown second row) ≡ grown (first ++ second) row
+pub grown_twice : (first second : List ℕ) (row : Row) → grown first (grown second row)
+    ≡ grown (first ++ second) row
 grown_twice first second row =
     let size = length-append first second in
-    let room : row.before - length second - length first ≡ row.before - length (first ++ second) = omega arith in
+    let room : row.before - length second - length first
+    ≡ row.before - length (first ++ second) = omega arith in
     rw (room, append_assoc first second row.text) refl
 
--- a zero in front of zeros
-pub zeros_grow : (done : ℕ) (row : Row) → grown (48 ∷ []) (grown (replicate done 48) row) ≡ grown (replicate (done + 1) 48) row
-zeros_grow done row = grown_twice (48 ∷ []) (replicate done 48) row
-    ∙ ap (λ (piece : List ℕ). grown piece row) (let n : done + 1 ≡ suc done = omega arith in ap (λ (k : ℕ). replicate k 48) (sym n))
-
 -- digits below 2 ^ 64 have room
-pub short_room : (base n room : ℕ) (upper : Bool) → 2 ≤ base → n < 2 ^ 64 → 64 ≤ room → length (digit_text base upper n) ≤ room
+pub short_room : (base n room : ℕ) (upper : Bool) → 2 ≤ base → n < 2 ^ 64 → 64 ≤ room →
+    length (digit_text base upper n) ≤ room
 short_room base n room upper b s r = let wide : 2 ^ 64 ≤ base ^ 64 = pow-le-pow_left b 64 in
     let few = length-digit_text-le base 64 n upper b (omega arith) (omega arith) in omega arith

@@ -1,47 +1,66 @@
-use Rattle.std.proofs.Common.{◌≡◌, ℕ, ◌+◌, ◌-◌, ◌^◌, ◌<◌, min, Bool, true, false, List, [], ◌++◌, length, refl, sym, append_assoc, append-nil, replicate, arith, ◌⊎◌, inl, inr}
+-- The parts of a number are its padded text.
+use Rattle.std.proofs.Common.{◌≡◌, ℕ, ◌+◌, ◌-◌, ◌^◌, ◌<◌, min, Bool, true, false, List, [], ◌++◌}
+use Rattle.std.proofs.Common.{length, refl, sym, append_assoc, append-nil, replicate, arith, ◌⊎◌}
+use Rattle.std.proofs.Common.{inl, inr}
 use Rattle.std.specs.Prelude.{Option, unwrap_or}
 use Rattle.interpolator_render.specs.declared.view.Spec.{Spec}
 use Rattle.interpolator_render.specs.Exponent.{exponent_tail, exponent_text, pointed, scientific}
-use Rattle.interpolator_render.specs.Padding.{fill_of, missing_to, padded_number, spaces_before, IsNumberLayout}
+use Rattle.interpolator_render.specs.Padding.{fill_of, missing_to, padded_number, spaces_before}
+use Rattle.interpolator_render.specs.Padding.{IsNumberLayout}
 
 pub bool_cases : (b : Bool) → (b ≡ true) ⊎ (b ≡ false)
 bool_cases true = inl refl
 bool_cases false = inr refl
 
 -- a width is a `usize`, so a count of characters may stop at the greatest
-missing_capped : (spec : Spec) (count total : ℕ) → unwrap_or spec.width 0 < 2 ^ 64 → count ≡ min total (2 ^ 64 - 1) → missing_to spec count ≡ missing_to spec total
+missing_capped : (spec : Spec) (count total : ℕ) → unwrap_or spec.width 0 < 2 ^ 64 →
+    count ≡ min total (2 ^ 64 - 1) → missing_to spec count ≡ missing_to spec total
 missing_capped spec count total w e = omega arith
 
 -- the parts of a number, written in order, are its padded text
-pub number_parts : (spec : Spec) (sign prefix head tail : List ℕ) (count before filling behind after : ℕ) →
-    count ≡ min (length (sign ++ prefix) + length (head ++ (replicate behind 48 ++ tail))) (2 ^ 64 - 1) →
-    IsNumberLayout spec count before filling after →
-    replicate before 32 ++ (sign ++ (prefix ++ (replicate filling 48 ++ (head ++ (replicate behind 48 ++ (tail ++ (replicate after 32 ++ [])))))))
+pub number_parts : (spec : Spec) (sign prefix head tail : List ℕ)
+    (count before padding behind after : ℕ) →
+    count ≡ min (length (sign ++ prefix) + length (head ++ (replicate behind 48 ++ tail)))
+    (2 ^ 64 - 1) →
+    IsNumberLayout spec count before padding after →
+    replicate before 32 ++ (sign ++ (prefix
+    ++ (replicate padding 48 ++ (head ++ (replicate behind 48
+    ++ (tail ++ (replicate after 32 ++ [])))))))
     ≡ padded_number spec (sign ++ prefix) (head ++ (replicate behind 48 ++ tail))
 unfolding padded_number
-number_parts spec sign prefix head tail count before filling behind after n l =
+number_parts spec sign prefix head tail count before padding behind after n l =
     let same = missing_capped spec count _ l.width_fits n in
     elim (bool_cases spec.zero) [
-      | inl z ↦ let f = l.filled z in rw (z, f.0, f.1, f.2, ← same) (simp (append-nil, append_assoc))
-      | inr z ↦ let f = l.spaced z in rw (z, f.2, f.0, f.1, ← same) (simp (append-nil, append_assoc))
+      | inl z ↦ let f = l.zeroed z in rw (z, f.0, f.1, f.2, ← same)
+          (simp (append-nil, append_assoc))
+      | inr z ↦ let f = l.spaced z in rw (z, f.2, f.0, f.1, ← same)
+          (simp (append-nil, append_assoc))
     ]
 
 -- head, zeros and tail of a number in exponent form are its text
-pub exponent_parts : (upper : Bool) (precision : Option ℕ) (n : ℕ) (head tail : List ℕ) (behind : ℕ) →
-    head ++ replicate behind 48 ≡ pointed (scientific precision n).digits → tail ≡ exponent_tail upper (scientific precision n).exponent →
+pub exponent_parts : (upper : Bool) (precision : Option ℕ) (n : ℕ) (head tail : List ℕ)
+    (behind : ℕ) →
+    head ++ replicate behind 48 ≡ pointed (scientific precision n).digits →
+    tail ≡ exponent_tail upper (scientific precision n).exponent →
     head ++ (replicate behind 48 ++ tail) ≡ exponent_text upper precision n
 unfolding exponent_text
-exponent_parts upper precision n head tail behind e t = rw (t, ← e) (sym (append_assoc head (replicate behind 48) _))
+exponent_parts upper precision n head tail behind e t = rw (t, ← e)
+    (sym (append_assoc head (replicate behind 48) _))
 
 -- a number under the zero flag, written from its end to its front
-pub zero_padded : (spec : Spec) (front body : List ℕ) (missing fill : ℕ) → spec.zero ≡ true → fill ≡ fill_of spec → missing ≡ missing_to spec (length front + length body) →
+pub zero_padded : (spec : Spec) (front body : List ℕ) (missing fill : ℕ) → spec.zero ≡ true →
+    fill ≡ fill_of spec → missing ≡ missing_to spec (length front + length body) →
     front ++ (replicate missing fill ++ body) ≡ padded_number spec front body
 unfolding padded_number
 zero_padded spec front body missing fill z f e = rw (f, e, z) refl
 
 -- and another
-pub space_padded : (spec : Spec) (front body : List ℕ) (missing before fill : ℕ) → spec.zero ≡ false → fill ≡ fill_of spec → missing ≡ missing_to spec (length front + length body) →
+pub space_padded : (spec : Spec) (front body : List ℕ) (missing before fill : ℕ) →
+    spec.zero ≡ false → fill ≡ fill_of spec →
+    missing ≡ missing_to spec (length front + length body) →
     before ≡ spaces_before spec.alignment missing missing →
-    (replicate before fill ++ (front ++ body)) ++ replicate (missing - before) fill ≡ padded_number spec front body
+    (replicate before fill ++ (front ++ body)) ++ replicate (missing - before) fill
+    ≡ padded_number spec front body
 unfolding padded_number
-space_padded spec front body missing before fill z f e b = rw (b, f, e, z) (append_assoc (replicate _ 32) (front ++ body) _)
+space_padded spec front body missing before fill z f e b = rw (b, f, e, z)
+    (append_assoc (replicate _ 32) (front ++ body) _)

@@ -1,16 +1,26 @@
-use Rattle.std.proofs.Common.{◌≡◌, ℕ, ◌<◌, ◌≤◌, ◌+◌, ◌-◌, false, List, [], ◌∷◌, ◌++◌, length, take, drop, get_or, slice_range, refl, sym, ◌∙◌, ap, arith, rules, append_assoc, append-nil, length-append, length-take, length-drop, below_more, inl, inr, ◌==◌, ◌≢◌}
+-- Quoted texts, written run by run.
+use Rattle.std.proofs.Common.{◌≡◌, ℕ, ◌<◌, ◌≤◌, ◌+◌, ◌-◌, false, List, [], ◌∷◌, ◌++◌, length, take}
+use Rattle.std.proofs.Common.{drop, get_or, slice_range, refl, sym, ◌∙◌, ap, arith, rules}
+use Rattle.std.proofs.Common.{append_assoc, append-nil, length-append, length-take, length-drop}
+use Rattle.std.proofs.Common.{below_more, inl, inr, ◌==◌, ◌≢◌}
 use Rattle.std.specs.List.{flat_map}
 use Rattle.std.specs.Prelude.{Result, encode_utf8, encode_utf8_all, nat_lt}
 use Rattle.std.specs.Str.{chars, IsUtf8, IsCharBoundary}
 use Rattle.std.proofs.lemmas.Bool.{cases_lt}
 use Rattle.std.proofs.lemmas.Grind.{flat_map-append}
-use Rattle.std.proofs.lemmas.List.{take-append-drop, take-take, drop-take, take_more, get_or-append-add, get_or-drop, get_or-take}
-use Rattle.std.proofs.lemmas.Str.{chars-append, chars-IsAscii, encode_ascii, encodes-chars, IsUtf8-take, IsUtf8-drop, IsUtf8-between, IsCharBoundary-before_ascii, IsCharBoundary-after_ascii, IsCharBoundary-start, chars-nil}
+use Rattle.std.proofs.lemmas.List.{take-append-drop, take-take, drop-take, take_more}
+use Rattle.std.proofs.lemmas.List.{get_or-append-add, get_or-drop, get_or-take}
+use Rattle.std.proofs.lemmas.Str.{chars-append, chars-IsAscii, encode_ascii, encodes-chars}
+use Rattle.std.proofs.lemmas.Str.{IsUtf8-take, IsUtf8-drop, IsUtf8-between}
+use Rattle.std.proofs.lemmas.Str.{IsCharBoundary-before_ascii, IsCharBoundary-after_ascii}
+use Rattle.std.proofs.lemmas.Str.{IsCharBoundary-start, chars-nil}
 use Rattle.std.proofs.lemmas.Str.Ascii.{IsAscii-cons}
 use Rattle.interpolator_render.specs.declared.text_write.Refusal.{Refusal}
 use Rattle.interpolator_render.specs.Quoting.{escaped}
 use Rattle.interpolator_render.specs.Written.{Written, Appends, AppendsBeginning, Puts, Writes}
-use Rattle.interpolator_render.proofs.LayoutLemmas.{appends_none, appends_both, stops_in_first, stops_in_second, writes_second, writes_from_puts}
+use Rattle.interpolator_render.proofs.LayoutLemmas.{appends_none, appends_both, stops_in_first}
+use Rattle.interpolator_render.proofs.LayoutLemmas.{stops_in_second, writes_second}
+use Rattle.interpolator_render.proofs.LayoutLemmas.{writes_from_puts}
 
 -- ---- characters that stand as they are
 
@@ -29,7 +39,8 @@ escaped_wide quote c q w =
 
 -- a text whose bytes below 128 stand as they are stands as it is
 plain_chars : (f : ℕ → List ℕ) (cs : List ℕ) → ((c : ℕ) → 128 ≤ c → f c ≡ c ∷ []) →
-    ((k : ℕ) → k < length (encode_utf8_all cs) → f (get_or (encode_utf8_all cs) k 0) ≡ get_or (encode_utf8_all cs) k 0 ∷ []) → flat_map f cs ≡ cs
+    ((k : ℕ) → k < length (encode_utf8_all cs) → f (get_or (encode_utf8_all cs) k 0)
+    ≡ get_or (encode_utf8_all cs) k 0 ∷ []) → flat_map f cs ≡ cs
 plain_chars f [] wide plain = refl
 plain_chars f (c ∷ cs) wide plain =
     let size = length-append (encode_utf8 c) (encode_utf8_all cs) in
@@ -37,19 +48,22 @@ plain_chars f (c ∷ cs) wide plain =
     let here = plain (length (encode_utf8 c) + k) (omega arith) in
     rw get_or-append-add at here) in
     let first : f c ≡ c ∷ [] = elim (cases_lt c 128) [
-      | inl narrow ↦ let one = encode_ascii c narrow in let here = plain 0 (let n = ap length one in omega arith) in rw one at here
+      | inl narrow ↦ let one = encode_ascii c narrow in
+          let here = plain 0 (let n = ap length one in omega arith) in rw one at here
       | inr past ↦ wide c past
     ] in
     rw (first, behind) refl
 
 pub plain_run : (f : ℕ → List ℕ) (run : List ℕ) → ((c : ℕ) → 128 ≤ c → f c ≡ c ∷ []) → IsUtf8 run →
-    ((k : ℕ) → k < length run → f (get_or run k 0) ≡ get_or run k 0 ∷ []) → flat_map f (chars run) ≡ chars run
+    ((k : ℕ) → k < length run → f (get_or run k 0) ≡ get_or run k 0 ∷ []) →
+    flat_map f (chars run) ≡ chars run
 plain_run f run wide u plain = plain_chars f (chars run) wide (rw (encodes-chars run u) plain)
 
 -- ---- the text up to a place
 
 -- the part from one place to another
-pub part_behind : (text : List ℕ) (start end : ℕ) → start ≤ end → take end text ≡ take start text ++ slice_range text start end
+pub part_behind : (text : List ℕ) (start end : ℕ) → start ≤ end → take end text ≡ take start text
+    ++ slice_range text start end
 part_behind text start end h =
     let place : start + (end - start) ≡ end = omega arith in
     let whole = take-append-drop start (take end text) in
@@ -58,33 +72,48 @@ part_behind text start end h =
     sym (rw (front, back) at whole)
 
 -- the characters of the text up to a place, and those behind
-pub split_at : (f : ℕ → List ℕ) (text : List ℕ) (place : ℕ) → IsUtf8 text → IsCharBoundary text place →
-    flat_map f (chars text) ≡ flat_map f (chars (take place text)) ++ flat_map f (chars (drop place text))
+pub split_at : (f : ℕ → List ℕ) (text : List ℕ) (place : ℕ) → IsUtf8 text →
+    IsCharBoundary text place →
+    flat_map f (chars text) ≡ flat_map f (chars (take place text))
+    ++ flat_map f (chars (drop place text))
 split_at f text place u b =
     let parts = take-append-drop place text in
-    ap (λ (x : List ℕ). flat_map f (chars x)) (sym parts) ∙ (ap (flat_map f) (chars-append (take place text) (drop place text) (IsUtf8-take text place u b))
+    ap (λ (x : List ℕ). flat_map f (chars x)) (sym parts)
+    ∙ (ap (flat_map f) (chars-append (take place text) (drop place text)
+    (IsUtf8-take text place u b))
     ∙ flat_map-append f (chars (take place text)) (chars (drop place text)))
 
-run_plain : (f : ℕ → List ℕ) (text : List ℕ) (start index k : ℕ) → start ≤ index → index < length text →
-    ((j : ℕ) → start ≤ j → j < index → f (get_or text j 0) ≡ get_or text j 0 ∷ []) → k < length (slice_range text start index) →
+run_plain : (f : ℕ → List ℕ) (text : List ℕ) (start index k : ℕ) → start ≤ index →
+    index < length text →
+    ((j : ℕ) → start ≤ j → j < index → f (get_or text j 0) ≡ get_or text j 0 ∷ []) →
+    k < length (slice_range text start index) →
     f (get_or (slice_range text start index) k 0) ≡ get_or (slice_range text start index) k 0 ∷ []
 run_plain f text start index k s l plain h =
     let size = length-take (index - start) (drop start text) in
     let within : k < index - start = omega arith in
-    rw (get_or-take (index - start) (drop start text) k 0 within, get_or-drop start text k 0) (plain (start + k) (omega arith) (omega arith))
+    rw (get_or-take (index - start) (drop start text) k 0 within, get_or-drop start text k 0)
+    (plain (start + k) (omega arith) (omega arith))
 
 -- a run of characters that stand as they are, and one ASCII character behind it
-pub run_more : (f : ℕ → List ℕ) (text : List ℕ) (start index : ℕ) → ((c : ℕ) → 128 ≤ c → f c ≡ c ∷ []) → IsUtf8 text → IsCharBoundary text start →
-    start ≤ index → index < length text → get_or text index 0 < 128 → ((k : ℕ) → start ≤ k → k < index → f (get_or text k 0) ≡ get_or text k 0 ∷ []) →
-    flat_map f (chars (take start text)) ++ (chars (slice_range text start index) ++ f (get_or text index 0)) ≡ flat_map f (chars (take (index + 1) text))
+pub run_more : (f : ℕ → List ℕ) (text : List ℕ) (start index : ℕ) →
+    ((c : ℕ) → 128 ≤ c → f c ≡ c ∷ []) → IsUtf8 text → IsCharBoundary text start →
+    start ≤ index → index < length text → get_or text index 0 < 128 →
+    ((k : ℕ) → start ≤ k → k < index → f (get_or text k 0) ≡ get_or text k 0 ∷ []) →
+    flat_map f (chars (take start text))
+    ++ (chars (slice_range text start index) ++ f (get_or text index 0))
+    ≡ flat_map f (chars (take (index + 1) text))
 run_more f text start index wide u b s l ascii plain =
     let run = slice_range text start index in
     let c = get_or text index 0 in
-    let valid_run : IsUtf8 run = IsUtf8-between text start index u s b (IsCharBoundary-before_ascii text index l ascii) in
-    let as_is : flat_map f (chars run) ≡ chars run = plain_run f run wide valid_run (λ k h. run_plain f text start index k s l plain h) in
-    let alone : chars (c ∷ []) ≡ c ∷ [] = chars-IsAscii (c ∷ []) (IsAscii-cons c [] ascii (λ i. omega arith)) in
+    let valid_run : IsUtf8 run = IsUtf8-between text start index u s b
+    (IsCharBoundary-before_ascii text index l ascii) in
+    let as_is : flat_map f (chars run) ≡ chars run = plain_run f run wide valid_run
+    (λ k h. run_plain f text start index k s l plain h) in
+    let alone : chars (c ∷ []) ≡ c ∷ [] = chars-IsAscii (c ∷ [])
+    (IsAscii-cons c [] ascii (λ i. omega arith)) in
     let parts : take (index + 1) text ≡ take start text ++ (run ++ c ∷ []) =
-    take_more text index 0 l ∙ (ap (λ (x : List ℕ). x ++ c ∷ []) (part_behind text start index s) ∙ append_assoc (take start text) run (c ∷ [])) in
+    take_more text index 0 l ∙ (ap (λ (x : List ℕ). x ++ c ∷ []) (part_behind text start index s)
+    ∙ append_assoc (take start text) run (c ∷ [])) in
     rw (
       parts,
       chars-append (take start text) (run ++ c ∷ []) (IsUtf8-take text start u b),
@@ -97,24 +126,30 @@ run_more f text start index wide u b s l ascii plain =
     ) refl
 
 -- the same up to the end of the text
-pub run_to_end : (f : ℕ → List ℕ) (text : List ℕ) (start : ℕ) → ((c : ℕ) → 128 ≤ c → f c ≡ c ∷ []) → IsUtf8 text → IsCharBoundary text start →
+pub run_to_end : (f : ℕ → List ℕ) (text : List ℕ) (start : ℕ) → ((c : ℕ) → 128 ≤ c → f c ≡ c ∷ []) →
+    IsUtf8 text → IsCharBoundary text start →
     ((k : ℕ) → start ≤ k → k < length text → f (get_or text k 0) ≡ get_or text k 0 ∷ []) →
     flat_map f (chars (take start text)) ++ chars (drop start text) ≡ flat_map f (chars text)
 run_to_end f text start wide u b plain =
-    let as_is : flat_map f (chars (drop start text)) ≡ chars (drop start text) = plain_run f (drop start text) wide (IsUtf8-drop text start u b)
-    (λ k h. let size = length-drop start text in rw get_or-drop (plain (start + k) (omega arith) (omega arith))) in
-    sym (split_at f text start u b ∙ ap (λ (x : List ℕ). flat_map f (chars (take start text)) ++ x) as_is)
+    let as_is : flat_map f (chars (drop start text))
+    ≡ chars (drop start text) = plain_run f (drop start text) wide (IsUtf8-drop text start u b)
+    (λ k h. let size = length-drop start text in
+    rw get_or-drop (plain (start + k) (omega arith) (omega arith))) in
+    sym (split_at f text start u b ∙ ap (λ (x : List ℕ). flat_map f (chars (take start text)) ++ x)
+    as_is)
 
 -- ---- what was written
 
 -- the text up to `start` was written, and the bytes from there up to `index` stand as they are
-pub record Runs (f : ℕ → List ℕ) (text : List ℕ) (start index : ℕ) (before now : Written) : Type 0 where
-  pub below : start ≤ index
-  pub boundary : IsCharBoundary text start
-  pub plain : (k : ℕ) → start ≤ k → k < index → f (get_or text k 0) ≡ get_or text k 0 ∷ []
-  pub written : Appends before (flat_map f (chars (take start text))) now
+pub record Runs (f : ℕ → List ℕ) (text : List ℕ) (start index : ℕ) (before now : Written) : Type 0
+  where
+    pub below : start ≤ index
+    pub boundary : IsCharBoundary text start
+    pub plain : (k : ℕ) → start ≤ k → k < index → f (get_or text k 0) ≡ get_or text k 0 ∷ []
+    pub written : Appends before (flat_map f (chars (take start text))) now
 
-pub runs_none : (f : ℕ → List ℕ) (text : List ℕ) (before : Written) → IsUtf8 text → Runs f text 0 0 before before
+pub runs_none : (f : ℕ → List ℕ) (text : List ℕ) (before : Written) → IsUtf8 text →
+    Runs f text 0 0 before before
 runs_none f text before u = record {
   below = omega arith;
   boundary = IsCharBoundary-start text u;
@@ -123,30 +158,37 @@ runs_none f text before u = record {
 }
 
 -- one byte more that stands as it is
-pub runs_plain : (f : ℕ → List ℕ) (text : List ℕ) (start index : ℕ) (before now : Written) → f (get_or text index 0) ≡ get_or text index 0 ∷ [] →
+pub runs_plain : (f : ℕ → List ℕ) (text : List ℕ) (start index : ℕ) (before now : Written) →
+    f (get_or text index 0) ≡ get_or text index 0 ∷ [] →
     Runs f text start index before now → Runs f text start (index + 1) before now
 runs_plain f text start index before now here runs = record {
   below = let h = runs.below in omega arith;
   boundary = runs.boundary;
-  plain = λ k l h. below_more (λ j. start ≤ j → f (get_or text j 0) ≡ get_or text j 0 ∷ []) index (λ j b s. runs.plain j s b) (λ s. here) k h l;
+  plain = λ k l h. below_more (λ j. start ≤ j → f (get_or text j 0) ≡ get_or text j 0 ∷ []) index
+      (λ j b s. runs.plain j s b) (λ s. here) k h l;
   written = runs.written;
 }
 
 -- an ASCII character that does not, written behind the run
-pub runs_escaped : (f : ℕ → List ℕ) (text : List ℕ) (start index : ℕ) (before now after : Written) → ((c : ℕ) → 128 ≤ c → f c ≡ c ∷ []) → IsUtf8 text →
+pub runs_escaped : (f : ℕ → List ℕ) (text : List ℕ) (start index : ℕ) (before now after : Written) →
+    ((c : ℕ) → 128 ≤ c → f c ≡ c ∷ []) → IsUtf8 text →
     index < length text → get_or text index 0 < 128 → Runs f text start index before now →
-    Appends now (chars (slice_range text start index) ++ f (get_or text index 0)) after → Runs f text (index + 1) (index + 1) before after
+    Appends now (chars (slice_range text start index) ++ f (get_or text index 0)) after →
+    Runs f text (index + 1) (index + 1) before after
 runs_escaped f text start index before now after wide u l ascii runs p = record {
   below = omega arith;
   boundary = IsCharBoundary-after_ascii text index u l ascii;
   plain = λ k s h. absurd (omega arith);
-  written = rw (← run_more f text start index wide u runs.boundary runs.below l ascii runs.plain) (appends_both before now after _ _ runs.written p);
+  written = rw (← run_more f text start index wide u runs.boundary runs.below l ascii runs.plain)
+      (appends_both before now after _ _ runs.written p);
 }
 
 -- or refused there
-pub runs_stop : (f : ℕ → List ℕ) (text : List ℕ) (start index : ℕ) (before now after : Written) → ((c : ℕ) → 128 ≤ c → f c ≡ c ∷ []) → IsUtf8 text →
+pub runs_stop : (f : ℕ → List ℕ) (text : List ℕ) (start index : ℕ) (before now after : Written) →
+    ((c : ℕ) → 128 ≤ c → f c ≡ c ∷ []) → IsUtf8 text →
     index < length text → get_or text index 0 < 128 → Runs f text start index before now →
-    AppendsBeginning now (chars (slice_range text start index) ++ f (get_or text index 0)) after → AppendsBeginning before (flat_map f (chars text)) after
+    AppendsBeginning now (chars (slice_range text start index) ++ f (get_or text index 0)) after →
+    AppendsBeginning before (flat_map f (chars text)) after
 runs_stop f text start index before now after wide u l ascii runs p =
     rw (
       split_at f text (index + 1) u (IsCharBoundary-after_ascii text index u l ascii),
@@ -155,8 +197,11 @@ runs_stop f text start index before now after wide u l ascii runs p =
     (stops_in_first before after _ _ (stops_in_second before now after _ _ runs.written p))
 
 -- the last run
-pub runs_last : (f : ℕ → List ℕ) (text : List ℕ) (start : ℕ) (before now after : Written) (answer : Result (Unit {0}) Refusal) → ((c : ℕ) → 128 ≤ c → f c ≡ c ∷ []) →
-    IsUtf8 text → Runs f text start (length text) before now → Puts now (chars (drop start text)) answer after → Writes before (flat_map f (chars text)) answer after
+pub runs_last : (f : ℕ → List ℕ) (text : List ℕ) (start : ℕ) (before now after : Written)
+    (answer : Result (Unit {0}) Refusal) → ((c : ℕ) → 128 ≤ c → f c ≡ c ∷ []) →
+    IsUtf8 text → Runs f text start (length text) before now →
+    Puts now (chars (drop start text)) answer after →
+    Writes before (flat_map f (chars text)) answer after
 runs_last f text start before now after answer wide u runs p =
     rw (← run_to_end f text start wide u runs.boundary runs.plain)
     (writes_second before now after _ _ answer runs.written (writes_from_puts now after _ answer p))

@@ -1,3 +1,4 @@
+-- What `render` answers for what a writer answered.
 use Rattle.std.proofs.Common.{◌≡◌, ℕ, List, refl}
 use Rattle.std.specs.Prelude.{Result, Ok, Err, Some, ℤ, false}
 use Rattle.interpolator_render.specs.declared.number.NumberForm.{NumberForm}
@@ -13,21 +14,29 @@ use Rattle.interpolator_render.specs.Written.{Written, Puts, Writes}
 use Rattle.interpolator_render.proofs.LayoutLemmas.{writes_from_puts}
 
 -- what a writer answered is what `render` answers
-pub renders_writes : (old new : Written) (text : List ℕ) (answer : Result (Unit {0}) Refusal) (meaning : ViewText) (result : Result (Unit {0}) RenderFault) →
-    meaning ≡ has_text text → result ≡ render_answer answer → Writes old text answer new → Renders meaning old result new
+pub renders_writes : (old new : Written) (text : List ℕ) (answer : Result (Unit {0}) Refusal)
+    (meaning : ViewText) (result : Result (Unit {0}) RenderFault) →
+    meaning ≡ has_text text → result ≡ render_answer answer → Writes old text answer new →
+    Renders meaning old result new
 renders_writes old new text (Ok x) meaning result e f p = rw (e, f) p
 renders_writes old new text (Err refusal) meaning result e f p = rw (e, f) p
 
-pub renders_puts : (old new : Written) (text : List ℕ) (answer : Result (Unit {0}) Refusal) (meaning : ViewText) (result : Result (Unit {0}) RenderFault) →
-    meaning ≡ has_text text → result ≡ render_answer answer → Puts old text answer new → Renders meaning old result new
-renders_puts old new text answer meaning result e f p = renders_writes old new text answer meaning result e f (writes_from_puts old new text answer p)
+pub renders_puts : (old new : Written) (text : List ℕ) (answer : Result (Unit {0}) Refusal)
+    (meaning : ViewText) (result : Result (Unit {0}) RenderFault) →
+    meaning ≡ has_text text → result ≡ render_answer answer → Puts old text answer new →
+    Renders meaning old result new
+renders_puts old new text answer meaning result e f p = renders_writes old new text answer meaning
+    result e f (writes_from_puts old new text answer p)
 
-pub signed_text : (z : ℤ) (bits : Bits) (t : Trait) (spec : Spec) (form : NumberForm) → number_form t spec.hex_debug ≡ Some form →
-    view_text (signed_number z bits) t spec ≡ has_text (number_text form spec (has_minus form z) (magnitude form z bits))
+pub signed_text : (z : ℤ) (bits : Bits) (t : Trait) (spec : Spec) (form : NumberForm) →
+    number_form t spec.hex_debug ≡ Some form →
+    view_text (signed_number z bits) t spec
+    ≡ has_text (number_text form spec (has_minus form z) (magnitude form z bits))
 unfolding view_text
 signed_text z bits t spec form e = rw e refl
 
-pub unsigned_text : (n : ℕ) (t : Trait) (spec : Spec) (form : NumberForm) → number_form t spec.hex_debug ≡ Some form →
+pub unsigned_text : (n : ℕ) (t : Trait) (spec : Spec) (form : NumberForm) →
+    number_form t spec.hex_debug ≡ Some form →
     view_text (unsigned_number n) t spec ≡ has_text (number_text form spec false n)
 unfolding view_text
 unsigned_text n t spec form e = rw e refl

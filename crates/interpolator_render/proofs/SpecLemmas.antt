@@ -1,3 +1,4 @@
+-- Equality of specs, field by field.
 use Rattle.std.proofs.Common.{◌≡◌, ℕ, Bool, true, false, ◌&&◌, Option, Some, None, eqb, refl, rules}
 use Rattle.std.specs.Option.{option_eq}
 use Rattle.std.proofs.lemmas.Bool.{false≢true}
@@ -14,8 +15,12 @@ use Rattle.interpolator_render.specs.contracts.view.Sign.{the_type as signs}
 -- what a derived `==` of two specs computes
 abbrev pub same_fields : Spec → Spec → Bool
 same_fields left right =
-    sameb alignments left.alignment right.alignment && (sameb signs left.sign right.sign && (beq left.alternate right.alternate && (beq left.zero right.zero
-    && (option_eq eqb left.width right.width && (option_eq eqb left.precision right.precision && sameb hex_debugs left.hex_debug right.hex_debug)))))
+    sameb alignments left.alignment right.alignment &&
+    (sameb signs left.sign right.sign &&
+    (beq left.alternate right.alternate && (beq left.zero right.zero
+    && (option_eq eqb left.width right.width &&
+    (option_eq eqb left.precision right.precision && sameb hex_debugs left.hex_debug
+    right.hex_debug)))))
 
 alignments_bare : Bare alignments.parts
 alignments_bare = search rules
@@ -61,19 +66,27 @@ made alignment sign alternate zero_flag width precision hex_debug = record {
   hex_debug = hex_debug;
 }
 
-joined : (left right : Spec) → left.alignment ≡ right.alignment → left.sign ≡ right.sign → left.alternate ≡ right.alternate → left.zero ≡ right.zero →
-    left.width ≡ right.width → left.precision ≡ right.precision → left.hex_debug ≡ right.hex_debug → left ≡ right
+joined : (left right : Spec) → left.alignment ≡ right.alignment → left.sign ≡ right.sign →
+    left.alternate ≡ right.alternate → left.zero ≡ right.zero →
+    left.width ≡ right.width → left.precision ≡ right.precision → left.hex_debug ≡ right.hex_debug →
+    left ≡ right
 joined left right a s t z w p h =
-    let same : made left.alignment left.sign left.alternate left.zero left.width left.precision left.hex_debug
-    ≡ made right.alignment right.sign right.alternate right.zero right.width right.precision right.hex_debug = rw (a, s, t, z, w, p, h) refl in same
+    let same : made left.alignment left.sign left.alternate left.zero left.width left.precision
+    left.hex_debug
+    ≡ made right.alignment right.sign right.alternate right.zero right.width right.precision
+    right.hex_debug = rw (a, s, t, z, w, p, h) refl in same
 
 pub same_from_fields : (left right : Spec) → same_fields left right ≡ true → left ≡ right
 same_from_fields left right e =
-    let a = both_true _ _ e in let b = both_true _ _ a.1 in let c = both_true _ _ b.1 in let d = both_true _ _ c.1 in
+    let a = both_true _ _ e in let b = both_true _ _ a.1 in let c = both_true _ _ b.1 in
+    let d = both_true _ _ c.1 in
     let f = both_true _ _ d.1 in let g = both_true _ _ f.1 in
-    joined left right (same_true alignments alignments_bare left.alignment right.alignment a.0) (same_true signs signs_bare left.sign right.sign b.0)
-    (beq_same left.alternate right.alternate c.0) (beq_same left.zero right.zero d.0) (option_same left.width right.width f.0)
-    (option_same left.precision right.precision g.0) (same_true hex_debugs hex_debugs_bare left.hex_debug right.hex_debug g.1)
+    joined left right (same_true alignments alignments_bare left.alignment right.alignment a.0)
+    (same_true signs signs_bare left.sign right.sign b.0)
+    (beq_same left.alternate right.alternate c.0) (beq_same left.zero right.zero d.0)
+    (option_same left.width right.width f.0)
+    (option_same left.precision right.precision g.0)
+    (same_true hex_debugs hex_debugs_bare left.hex_debug right.hex_debug g.1)
 
 pub fields_from_same : (spec : Spec) → same_fields spec spec ≡ true
 fields_from_same spec =

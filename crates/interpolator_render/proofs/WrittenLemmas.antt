@@ -1,17 +1,27 @@
-use Rattle.std.proofs.Common.{◌≡◌, ℕ, ◌<◌, true, false, List, [], ◌∷◌, ◌++◌, length, refl, sym, ◌∙◌, ap, arith, append-nil}
+-- What a writer over a `String` took or refused.
+use Rattle.std.proofs.Common.{◌≡◌, ℕ, ◌<◌, true, false, List, [], ◌∷◌, ◌++◌, length, refl, sym, ◌∙◌}
+use Rattle.std.proofs.Common.{ap, arith, append-nil}
 use Rattle.std.specs.Str.{chars, IsUtf8}
-use Rattle.std.specs.Prelude.{encode_utf8, encode_utf8_all}
+use Rattle.std.specs.Prelude.{encode_utf8, encode_utf8_all, Bool, Result, Ok, Err, OnOk, OnErr}
+use Rattle.std.specs.Prelude.{MatchResult}
+use Rattle.interpolator_render.specs.declared.text_write.Refusal.{Refusal}
 use Rattle.std.specs.Char.{IsScalar}
-use Rattle.std.proofs.lemmas.Str.{chars-append, chars-nil, IsUtf8-encode, chars_past_char, encodes-chars}
+use Rattle.std.proofs.lemmas.Str.{chars-append, chars-nil, IsUtf8-encode, chars_past_char}
+use Rattle.std.proofs.lemmas.Str.{encodes-chars}
 use Rattle.interpolator_render.specs.Written.{Written, Appends, Refuses}
 
 -- an empty text changes nothing
 pub appends_nothing : (w : Written) (bytes : List ℕ) → length bytes ≡ 0 → Appends w (chars bytes) w
-appends_nothing w [] e = record { appended = simp (chars-nil, append-nil); same_flag = refl; only_empty = λ _. chars-nil }
+appends_nothing w [] e = record {
+  appended = simp (chars-nil, append-nil);
+  same_flag = refl;
+  only_empty = λ _. chars-nil;
+}
 appends_nothing w (b ∷ bs) e = cc
 
 -- a buffer whose bytes grew by the text's, with no refusal before
-pub buffer_appends : (now new : Written) (a b : List ℕ) → IsUtf8 a → now.text ≡ chars a → now.refused ≡ false →
+pub buffer_appends : (now new : Written) (a b : List ℕ) → IsUtf8 a → now.text ≡ chars a →
+    now.refused ≡ false →
     new.text ≡ chars (a ++ b) → new.refused ≡ false → Appends now (chars b) new
 buffer_appends now new a b u s f t g = record {
   appended = t ∙ (chars-append a b u ∙ ap (λ (x : List ℕ). x ++ chars b) (sym s));
@@ -20,13 +30,24 @@ buffer_appends now new a b u s f t g = record {
 }
 
 pub chars-encode : (c : ℕ) → IsScalar c → chars (encode_utf8 c) ≡ c ∷ []
-chars-encode c s = let nil : encode_utf8 c ≡ encode_utf8 c ++ [] = sym (append-nil (encode_utf8 c)) in
-    chars_past_char (encode_utf8 c) [] c (IsUtf8-encode c s) nil ∙ ap (λ (x : List ℕ). c ∷ x) chars-nil
+chars-encode c s = let nil : encode_utf8 c ≡ encode_utf8 c
+    ++ [] = sym (append-nil (encode_utf8 c)) in
+    chars_past_char (encode_utf8 c) [] c (IsUtf8-encode c s) nil
+    ∙ ap (λ (x : List ℕ). c ∷ x) chars-nil
 
 -- nothing was taken of a text that is not empty
-pub refuses_all : (now new : Written) (text : List ℕ) → 0 < length text → new.text ≡ now.text → new.refused ≡ true → Refuses now text 0 new
+pub refuses_all : (now new : Written) (text : List ℕ) → 0 < length text → new.text ≡ now.text →
+    new.refused ≡ true → Refuses now text 0 new
 refuses_all now new text ne e r = record {
-  part = record { beginning = []; rest = text; parts = refl; not_whole = ne; appended = e ∙ sym (append-nil now.text); flag_set = r; none_after_refusal = λ _. refl };
+  part = record {
+    beginning = [];
+    rest = text;
+    parts = refl;
+    not_whole = ne;
+    appended = e ∙ sym (append-nil now.text);
+    flag_set = r;
+    none_after_refusal = λ _. refl;
+  };
   counted = refl;
 }
 
@@ -37,3 +58,20 @@ chars_nonempty bytes u ne = at (chars bytes) (encodes-chars bytes u)
     at : (cs : List ℕ) → encode_utf8_all cs ≡ bytes → 0 < length cs
     at [] e = let h : length bytes ≡ 0 = sym (ap length e) in absurd (omega arith)
     at (c ∷ cs) e = omega arith
+
+-- what a buffer took of a text, or did not
+pub buffer_writes : (old : Written) (bytes after more text : List ℕ) (refused refused_after : Bool)
+    (answer : Result (Unit {0}) Refusal) →
+    IsUtf8 bytes → record { text = chars bytes; refused = refused } ≡ old → chars more ≡ text →
+    0 < length text →
+    OnOk answer ((after ≡ bytes ++ more) × (refused ≡ false) × (refused_after ≡ false)) →
+    OnErr answer ((after ≡ bytes) × (refused_after ≡ true)) →
+    MatchResult answer (λ _. Unit {0}) (λ refusal. refusal.taken ≡ 0) →
+    MatchResult answer (λ _. Appends old text
+    (record { text = chars after; refused = refused_after }))
+    (λ refusal. Refuses old text refusal.taken
+    (record { text = chars after; refused = refused_after }))
+buffer_writes old bytes after more text refused refused_after (Ok x) u e t n ok err none =
+    rw (← e, ← t) (buffer_appends _ _ bytes more u refl ok.1 (ap chars ok.0) ok.2)
+buffer_writes old bytes after more text refused refused_after (Err refusal) u e t n ok err none =
+    rw (← e, none) (refuses_all _ _ text n (ap chars err.0) err.1)

@@ -1,6 +1,8 @@
+-- Numbers in exponent form: their digits, rounded half to even, their exponent and their text.
 use Rattle.std.specs.Prelude.{ℕ, ◌+◌, ◌-◌, ◌*◌, ◌/◌, ◌%◌, ◌^◌, ◌≤◌, ◌≡◌, Bool, false, List, [], ◌∷◌}
 use Rattle.std.specs.Prelude.{◌++◌, length, replicate, Option, Some, None, if◌then◌else◌, ◌==◌}
 use Rattle.std.specs.Prelude.{◌&&◌, nat_lt}
+use Rattle.interpolator_render.specs.Characters.{zero_digit, point, lower_e, upper_e}
 use Rattle.interpolator_render.specs.Digits.{digit_text}
 
 -- the digits of a number in exponent form, and the exponent of the first
@@ -20,20 +22,21 @@ nearest n unit =
     let twice = 2 * (n % unit) in
     if nat_lt twice unit then low else (if nat_lt unit twice then low + 1 else low + low % 2)
 
--- digits less the zeros (48) at their end
+-- digits less the zeros at their end
 abbrev pub less_zeros : List ℕ → List ℕ
 less_zeros [] = []
 less_zeros (digit ∷ digits) =
-    if (digit == 48) && (length (less_zeros digits) == 0) then [] else digit ∷ less_zeros digits
+    if (digit == zero_digit) && (length (less_zeros digits) == 0)
+    then [] else digit ∷ less_zeros digits
 
 -- the same, and one digit at least
 abbrev pub trimmed : List ℕ → List ℕ
 trimmed [] = []
 trimmed (digit ∷ digits) = digit ∷ less_zeros digits
 
--- filled on the left with zeros to so many digits
-abbrev pub filled : ℕ → List ℕ → List ℕ
-filled count digits = replicate (count - length digits) 48 ++ digits
+-- with zeros before them, up to so many digits
+abbrev pub zero_extended : ℕ → List ℕ → List ℕ
+zero_extended count digits = replicate (count - length digits) zero_digit ++ digits
 
 -- rounded to `places` digits behind the first, where the number has more: a carry to ten raises the
 -- exponent
@@ -50,19 +53,19 @@ scientific None n = record { digits = trimmed (digit_text 10 false n); exponent 
 scientific (Some places) n =
     if nat_lt places (exponent_of n) then rounded places n (exponent_of n)
     else record {
-      digits = filled (places + 1) (digit_text 10 false (n * 10 ^ (places - exponent_of n)));
+      digits = zero_extended (places + 1) (digit_text 10 false (n * 10 ^ (places - exponent_of n)));
       exponent = exponent_of n;
     }
 
--- a point (46) behind the first digit, if more follow
+-- a point behind the first digit, if more follow
 abbrev pub pointed : List ℕ → List ℕ
 pointed [] = []
 pointed (first ∷ []) = first ∷ []
-pointed (first ∷ second ∷ more) = first ∷ 46 ∷ second ∷ more
+pointed (first ∷ second ∷ more) = first ∷ point ∷ second ∷ more
 
--- the mark of an exponent: `e` is 101 and `E` 69
+-- the mark of an exponent
 abbrev pub mark : Bool → ℕ
-mark upper = if upper then 69 else 101
+mark upper = if upper then upper_e else lower_e
 
 -- the exponent behind its mark
 abbrev pub exponent_tail : Bool → ℕ → List ℕ

@@ -1,14 +1,16 @@
+-- The parts of a text, and the characters that they stand for.
 use Rattle.std.specs.Prelude.{ℕ, List, replicate}
 use Rattle.std.specs.List.{flat_map}
 use Rattle.std.specs.Str.{chars}
 use Rattle.interpolator_render.specs.declared.layout.Part.{Part}
 use Rattle.interpolator_render.specs.declared.layout.Part.TheVariants.{Text, Spaces, Zeros}
+use Rattle.interpolator_render.specs.Characters.{space, zero_digit}
 
--- the characters of a part: 32 is a space and 48 the digit zero
+-- the characters of a part
 abbrev pub part_text : Part → List ℕ
 part_text (Text text) = chars text.now
-part_text (Spaces count) = replicate count 32
-part_text (Zeros count) = replicate count 48
+part_text (Spaces count) = replicate count space
+part_text (Zeros count) = replicate count zero_digit
 
 -- the characters of the parts, one after the other
 abbrev pub text_of_parts : List Part → List ℕ

@@ -8,4 +8,5 @@ pub mod Exponent
 pub mod Padding
 pub mod Numbers
 pub mod Quoting
+pub mod Unquoting
 pub mod Texts

@@ -1,12 +1,13 @@
+-- Whole numbers: how a trait writes them, their sign, prefix and text.
 use Rattle.std.specs.Prelude.{ℕ, ℤ, pos, negsuc, ◌+◌, ◌-◌, ◌%◌, ◌^◌, ◌≤◌, Bool, true, false, List}
 use Rattle.std.specs.Prelude.{[], ◌++◌, length, Option, Some, None, if◌then◌else◌, codes}
 use Rattle.std.specs.Str.{IsAscii}
-use Rattle.interpolator_render.specs.declared.number.Notation.{Notation}
-use Rattle.interpolator_render.specs.declared.number.Notation.TheVariants.{Decimal}
-use Rattle.interpolator_render.specs.declared.number.Notation.TheVariants.{Binary as InBinary}
-use Rattle.interpolator_render.specs.declared.number.Notation.TheVariants.{Octal as InOctal}
-use Rattle.interpolator_render.specs.declared.number.Notation.TheVariants.{LowerHex as InLowerHex}
-use Rattle.interpolator_render.specs.declared.number.Notation.TheVariants.{UpperHex as InUpperHex}
+use Rattle.interpolator_render.specs.declared.number.Radix.{Radix}
+use Rattle.interpolator_render.specs.declared.number.Radix.TheVariants.{Decimal}
+use Rattle.interpolator_render.specs.declared.number.Radix.TheVariants.{Binary as InBinary}
+use Rattle.interpolator_render.specs.declared.number.Radix.TheVariants.{Octal as InOctal}
+use Rattle.interpolator_render.specs.declared.number.Radix.TheVariants.{LowerHex as InLowerHex}
+use Rattle.interpolator_render.specs.declared.number.Radix.TheVariants.{UpperHex as InUpperHex}
 use Rattle.interpolator_render.specs.declared.number.NumberForm.{NumberForm}
 use Rattle.interpolator_render.specs.declared.number.NumberForm.TheVariants.{Digits as InDigits}
 use Rattle.interpolator_render.specs.declared.number.NumberForm.TheVariants.{Exponent as InExponent}
@@ -27,8 +28,8 @@ use Rattle.interpolator_render.specs.Views.{bit_count}
 
 -- ---- how a number is written
 
--- the base of a notation
-abbrev pub base_of : Notation → ℕ
+-- the base of a radix
+abbrev pub base_of : Radix → ℕ
 base_of Decimal = 10
 base_of InBinary = 2
 base_of InOctal = 8
@@ -36,12 +37,12 @@ base_of InLowerHex = 16
 base_of InUpperHex = 16
 
 -- whether its digits past nine are capital letters
-abbrev pub is_upper : Notation → Bool
+abbrev pub is_upper : Radix → Bool
 is_upper InUpperHex = true
 is_upper _ = false
 
 -- the prefix that `#` puts before the digits
-abbrev pub prefix_of : Notation → List ℕ
+abbrev pub prefix_of : Radix → List ℕ
 prefix_of Decimal = []
 prefix_of InBinary = codes "0b"
 prefix_of InOctal = codes "0o"
@@ -49,15 +50,15 @@ prefix_of InLowerHex = codes "0x"
 prefix_of InUpperHex = codes "0x"
 
 -- debug is display, or hexadecimal where that is asked for
-abbrev pub notation_of_debug : HexDebug → Notation
-notation_of_debug No = Decimal
-notation_of_debug Lower = InLowerHex
-notation_of_debug Upper = InUpperHex
+abbrev pub debug_radix : HexDebug → Radix
+debug_radix No = Decimal
+debug_radix Lower = InLowerHex
+debug_radix Upper = InUpperHex
 
 -- how a trait writes whole numbers, if it does
 abbrev pub number_form : Trait → HexDebug → Option NumberForm
 number_form Display hex_debug = Some (InDigits Decimal)
-number_form Debug hex_debug = Some (InDigits (notation_of_debug hex_debug))
+number_form Debug hex_debug = Some (InDigits (debug_radix hex_debug))
 number_form Binary hex_debug = Some (InDigits InBinary)
 number_form Octal hex_debug = Some (InDigits InOctal)
 number_form LowerHex hex_debug = Some (InDigits InLowerHex)
@@ -111,13 +112,13 @@ magnitude (InExponent upper) z bits = distance_from_zero z
 
 -- sign and prefix
 abbrev pub front_text : NumberForm → Spec → Bool → List ℕ
-front_text (InDigits notation) spec negative =
-    sign_text negative spec.sign ++ (if spec.alternate then prefix_of notation else [])
+front_text (InDigits radix) spec negative =
+    sign_text negative spec.sign ++ (if spec.alternate then prefix_of radix else [])
 front_text (InExponent upper) spec negative = sign_text negative spec.sign
 
 -- the digits, in an exponent form with point and exponent
 abbrev pub body_text : NumberForm → Spec → ℕ → List ℕ
-body_text (InDigits notation) spec n = digit_text (base_of notation) (is_upper notation) n
+body_text (InDigits radix) spec n = digit_text (base_of radix) (is_upper radix) n
 body_text (InExponent upper) spec n = exponent_text upper spec.precision n
 
 -- the text of a number: front and body, padded

@@ -1,10 +1,11 @@
+-- Padding: numbers and other texts, brought to their width.
 use Rattle.std.specs.Prelude.{◌≡◌, ℕ, ◌+◌, ◌-◌, ◌/◌, ◌^◌, ◌<◌, ◌≤◌, true, false, List, ◌++◌, length}
 use Rattle.std.specs.Prelude.{replicate, unwrap_or, if◌then◌else◌}
 use Rattle.interpolator_render.specs.declared.view.Alignment.{Alignment}
 use Rattle.interpolator_render.specs.declared.view.Alignment.TheVariants.{Unset, Left, Center}
 use Rattle.interpolator_render.specs.declared.view.Alignment.TheVariants.{Right}
 use Rattle.interpolator_render.specs.declared.view.Spec.{Spec}
-use Rattle.interpolator_render.specs.Characters.{cut}
+use Rattle.interpolator_render.specs.Characters.{cut, space, zero_digit}
 use Rattle.interpolator_render.specs.Rows.{Row}
 
 -- the characters that a text of so many lacks to the width, none where no width is set
@@ -18,20 +19,20 @@ spaces_before Right missing unset = missing
 spaces_before Center missing unset = missing / 2
 spaces_before Unset missing unset = unset
 
--- a text with so many spaces (32) before and behind it
+-- a text with so many spaces before and behind it
 abbrev pub between_spaces : ℕ → ℕ → List ℕ → List ℕ
-between_spaces before after text = replicate before 32 ++ (text ++ replicate after 32)
+between_spaces before after text = replicate before space ++ (text ++ replicate after space)
 
--- a number, whose front is its sign and prefix: filled with zeros (48) behind the front under the
--- zero flag, else with spaces, on its left without alignment
+-- a number, whose front is its sign and prefix: padded with zeros behind the front under the zero
+-- flag, else with spaces, on its left without alignment
 unfoldable pub padded_number : Spec → List ℕ → List ℕ → List ℕ
 padded_number spec front body =
     let missing = missing_to spec (length front + length body) in
     let before = spaces_before spec.alignment missing missing in
-    if spec.zero then front ++ (replicate missing 48 ++ body)
+    if spec.zero then front ++ (replicate missing zero_digit ++ body)
     else between_spaces before (missing - before) (front ++ body)
 
--- any other text: filled with spaces, on its right without alignment
+-- any other text: padded with spaces, on its right without alignment
 unfoldable pub padded_text : Spec → List ℕ → List ℕ
 padded_text spec text =
     let missing = missing_to spec (length text) in
@@ -45,14 +46,14 @@ displayed_text spec text = padded_text spec (cut spec.precision text)
 -- the spaces before, the zeros and the spaces behind, of a number of so many characters
 pub record IsNumberLayout (spec : Spec) (count before zeros after : ℕ) : Type 0 where
   pub width_fits : unwrap_or spec.width 0 < 2 ^ 64
-  pub filled : spec.zero ≡ true → (before ≡ 0) × (zeros ≡ missing_to spec count) × (after ≡ 0)
+  pub zeroed : spec.zero ≡ true → (before ≡ 0) × (zeros ≡ missing_to spec count) × (after ≡ 0)
   pub spaced : spec.zero ≡ false →
       (before ≡ spaces_before spec.alignment (missing_to spec count) (missing_to spec count))
       × (zeros ≡ 0) × (after ≡ missing_to spec count - before)
 
 -- the character that pads a number
 abbrev pub fill_of : Spec → ℕ
-fill_of spec = if spec.zero then 48 else 32
+fill_of spec = if spec.zero then zero_digit else space
 
 -- a row that holds a number's body alone, with room for what comes before and behind it
 pub record IsNumberRow (spec : Spec) (row : Row) : Type 0 where

@@ -1,25 +1,31 @@
+-- Texts between quotes, with escapes.
 use Rattle.std.specs.Prelude.{ℕ, List, [], ◌∷◌, ◌++◌, Option, Some, None, false, if◌then◌else◌}
+-- Texts between quotes, with escapes.
 use Rattle.std.specs.Prelude.{codes, ◌==◌, ◌||◌, nat_lt}
 use Rattle.std.specs.List.{flat_map}
+use Rattle.interpolator_render.specs.Characters.{backslash, carriage_return, delete, letter_n}
+use Rattle.interpolator_render.specs.Characters.{letter_r, letter_t, newline, null, space, tab}
+use Rattle.interpolator_render.specs.Characters.{zero_digit}
 use Rattle.interpolator_render.specs.Digits.{digit_text}
 
--- the character that stands behind a backslash (92) for c, where one does: the quote, a backslash,
--- `0`, `t`, `r` or `n`
+-- the character that stands behind a backslash for c, where one does: the quote, a backslash, `0`,
+-- `t`, `r` or `n`
 abbrev pub escape_letter : ℕ → ℕ → Option ℕ
 escape_letter quote c =
     if c == quote then Some quote else
-    (if c == 92 then Some 92 else
-    (if c == 0 then Some 48 else
-    (if c == 9 then Some 116 else
-    (if c == 13 then Some 114 else
-    (if c == 10 then Some 110 else None)))))
+    (if c == backslash then Some backslash else
+    (if c == null then Some zero_digit else
+    (if c == tab then Some letter_t else
+    (if c == carriage_return then Some letter_r else
+    (if c == newline then Some letter_n else None)))))
 
 -- a letter behind a backslash; any other ASCII control by its number in base sixteen; all else as
 -- it is
 abbrev pub escaped_by : Option ℕ → ℕ → List ℕ
-escaped_by (Some letter) c = 92 ∷ letter ∷ []
+escaped_by (Some letter) c = backslash ∷ letter ∷ []
 escaped_by None c =
-    if nat_lt c 32 || (c == 127) then codes "\\u{" ++ (digit_text 16 false c ++ codes "}")
+    if nat_lt c space || (c == delete)
+    then codes "\\u{" ++ (digit_text 16 false c ++ codes "}")
     else c ∷ []
 
 -- what stands between quotes for a character

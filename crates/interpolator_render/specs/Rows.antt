@@ -1,4 +1,6 @@
-use Rattle.std.specs.Prelude.{◌≡◌, ℕ, ◌-◌, ◌<◌, ◌≤◌, List, ◌++◌, length, take, drop, replicate, slice_range}
+-- A text in a row of copies of one character, as a buffer holds it.
+use Rattle.std.specs.Prelude.{◌≡◌, ℕ, ◌-◌, ◌<◌, ◌≤◌, List, ◌++◌, length, take, drop}
+use Rattle.std.specs.Prelude.{replicate, slice_range}
 use Rattle.std.specs.Str.{IsAscii}
 
 -- a text in a row of copies of one character: how many stand before it and behind it

@@ -1,14 +1,16 @@
+-- The text of a view, and what `render` answers of it.
 use Rattle.std.specs.Prelude.{◌≡◌, Bool, true, false, ℕ, List, [], ◌∷◌, Option, Some, None, Result}
 use Rattle.std.specs.Prelude.{Ok, Err, codes}
 use Rattle.interpolator_render.specs.declared.number.NumberForm.{NumberForm}
 use Rattle.interpolator_render.specs.declared.text_write.Refusal.{Refusal}
 use Rattle.interpolator_render.specs.declared.view.RenderFault.{RenderFault}
 use Rattle.interpolator_render.specs.declared.view.RenderFault.TheVariants.{Refused}
-use Rattle.interpolator_render.specs.declared.view.RenderFault.TheVariants.{NotImplemented as NotImplementedFault}
+use Rattle.interpolator_render.specs.declared.view.RenderFault.TheVariants.{NotImplemented as Nothing}
 use Rattle.interpolator_render.specs.declared.view.RenderFault.TheVariants.{Failed as FailedFault}
 use Rattle.interpolator_render.specs.declared.view.Spec.{Spec}
 use Rattle.interpolator_render.specs.declared.view.Trait.{Trait}
 use Rattle.interpolator_render.specs.declared.view.Trait.TheVariants.{Debug, Display}
+use Rattle.interpolator_render.specs.Characters.{double_quote, single_quote}
 use Rattle.interpolator_render.specs.Numbers.{number_form, number_text, has_minus, magnitude}
 use Rattle.interpolator_render.specs.Padding.{displayed_text}
 use Rattle.interpolator_render.specs.Quoting.{quoted}
@@ -39,8 +41,7 @@ under Display displayed debugged = has_text displayed
 under Debug displayed debugged = has_text debugged
 under _ displayed debugged = is_missing
 
--- the text of what a view shows, under a trait and a spec: 34 and 39 are the quotes of texts and of
--- characters
+-- the text of what a view shows, under a trait and a spec
 unfoldable pub view_text : Shown → Trait → Spec → ViewText
 view_text (signed_number z bits) t spec =
     in_form (number_form t spec.hex_debug)
@@ -49,8 +50,10 @@ view_text (unsigned_number n) t spec =
     in_form (number_form t spec.hex_debug) (λ form. number_text form spec false n)
 view_text (truth_value truth) t spec =
     under t (displayed_text spec (truth_text truth)) (displayed_text spec (truth_text truth))
-view_text (one_character c) t spec = under t (displayed_text spec (c ∷ [])) (quoted 39 (c ∷ []))
-view_text (some_text text) t spec = under t (displayed_text spec text) (quoted 34 text)
+view_text (one_character c) t spec =
+    under t (displayed_text spec (c ∷ [])) (quoted single_quote (c ∷ []))
+view_text (some_text text) t spec =
+    under t (displayed_text spec text) (quoted double_quote text)
 view_text (plain_text text) t spec = has_text text
 view_text nothing_implemented t spec = is_missing
 view_text failure t spec = has_failed
@@ -60,7 +63,7 @@ view_text failure t spec = has_failed
 abbrev pub Renders : ViewText → Written → Result (Unit {0}) RenderFault → Written → Type 0
 Renders (has_text text) old (Ok _) new = Appends old text new
 Renders (has_text text) old (Err Refused) new = AppendsBeginning old text new
-Renders is_missing old (Err NotImplementedFault) new = new ≡ old
+Renders is_missing old (Err Nothing) new = new ≡ old
 Renders has_failed old (Err FailedFault) new = new ≡ old
 Renders _ _ _ _ = ⊥
 

@@ -1,3 +1,4 @@
+-- What is known of a writer, and the outcomes of a call that writes a text.
 use Rattle.std.specs.Prelude.{◌≡◌, ℕ, ◌<◌, ◌-◌, ◌^◌, min, Bool, true, List, [], ◌++◌, length}
 use Rattle.std.specs.Prelude.{encode_utf8_all, Result, MatchResult}
 use Rattle.interpolator_render.specs.declared.text_write.Refusal.{Refusal}
@@ -32,6 +33,10 @@ pub record AppendsBeginning (old : Written) (text : List ℕ) (new : Written) : 
 pub record Refuses (old : Written) (text : List ℕ) (taken : ℕ) (new : Written) : Type 0 where
   pub part : AppendsBeginning old text new
   pub counted : taken ≡ byte_count part.beginning
+
+-- nothing was taken, and the flag alone was set
+abbrev pub RefusesWhole : Written → ℕ → Written → Type 0
+RefusesWhole old taken new = (taken ≡ 0) × (new ≡ record old { refused = true })
 
 -- the same of a text that may be longer than any `&str`: the greatest `usize` stands for a greater
 -- count

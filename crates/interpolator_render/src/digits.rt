@@ -1,5 +1,5 @@
 //! The digits of a number, in a buffer of bytes.
-ghost use Rattle.std.specs.Prelude.{◌≡◌, ◌<◌, ◌≤◌, ◌+◌, ◌∷◌, ◌++◌, false, length};
+ghost use Rattle.std.specs.Prelude.{◌≡◌, ◌<◌, ◌≤◌, ◌+◌, ◌-◌, ◌/◌, ◌∷◌, ◌++◌, false, length};
 ghost use Rattle.std.specs.Prelude.{take, drop, map};
 ghost use Rattle.std.specs.Fmt.{digit_glyph};
 ghost use Rattle.std.specs.Int.Digits.{digits_of};
@@ -26,7 +26,7 @@ pub(crate) fn ascii_digit(digit: u8, upper: bool) -> u8
 /// Writes the last digits of a number at the end of the buffer, as many as leave a rest of at most
 /// 64 bits. Returns where they begin, and the rest.
 #[inline(never)]
-fn fill_wide(n: u128, base: u64, upper: bool, out: &mut [u8; 128]) -> (usize, u64)
+fn write_wide(n: u128, base: u64, upper: bool, out: &mut [u8; 128]) -> (usize, u64)
     requires lowest { 2 ≤ base }
     requires highest { base ≤ 16 }
     ensures place { result.0 ≤ 128 }
@@ -47,7 +47,7 @@ fn fill_wide(n: u128, base: u64, upper: bool, out: &mut [u8; 128]) -> (usize, u6
 
 /// Writes the digits of a number before the place `end`. Returns where they begin.
 #[inline(always)]
-fn fill_narrow(n: u64, base: u64, upper: bool, end: usize, out: &mut [u8; 128]) -> usize
+fn write_narrow(n: u64, base: u64, upper: bool, end: usize, out: &mut [u8; 128]) -> usize
     requires lowest { 2 ≤ base }
     requires highest { base ≤ 16 }
     requires place { end ≤ 128 }
@@ -66,10 +66,94 @@ fn fill_narrow(n: u64, base: u64, upper: bool, end: usize, out: &mut [u8; 128]) 
     at
 }
 
+/// Writes the last digit of a number of several before the place `at`. Returns the number that the
+/// others make.
+#[inline(always)]
+fn write_last(n: u64, base: u64, upper: bool, at: usize, out: &mut [u8; 128]) -> u64
+    requires lowest { 2 ≤ base }
+    requires highest { base ≤ 16 }
+    requires several { base ≤ n }
+    requires room { 1 ≤ at }
+    requires place { at ≤ 128 }
+    ensures rest { result ≡ n / base }
+    ensures written { digit_text base upper result ++ drop (at - 1) out.new
+        ≡ digit_text base upper n ++ drop at out.old }
+    ensures front { take (at - 1) out.new ≡ take (at - 1) out.old }
+{
+    out[at - 1] = ascii_digit((n % base) as u8, upper);
+    n / base
+}
+
+/// Writes the last four digits of a number of more before the place `at`. Returns the number that
+/// the others make.
+#[inline(always)]
+fn write_last_four(n: u64, base: u64, upper: bool, at: usize, out: &mut [u8; 128]) -> u64
+    requires lowest { 2 ≤ base }
+    requires highest { base ≤ 16 }
+    requires more { base ≤ n / base / base / base }
+    requires room { 4 ≤ at }
+    requires place { at ≤ 128 }
+    ensures rest { result ≡ n / base / base / base / base }
+    ensures written { digit_text base upper result ++ drop (at - 4) out.new
+        ≡ digit_text base upper n ++ drop at out.old }
+    ensures front { take (at - 4) out.new ≡ take (at - 4) out.old }
+{
+    let tens = write_last(n, base, upper, at, out);
+    let hundreds = write_last(tens, base, upper, at - 1, out);
+    let thousands = write_last(hundreds, base, upper, at - 2, out);
+    write_last(thousands, base, upper, at - 3, out)
+}
+
+/// Writes the last digits of a number before the place `end`, four at a time, until one to four
+/// are left. Returns where they begin, and the rest.
+#[inline(always)]
+fn write_fours(n: u64, base: u64, upper: bool, end: usize, out: &mut [u8; 128]) -> (usize, u64)
+    requires lowest { 2 ≤ base }
+    requires highest { base ≤ 16 }
+    requires place { end ≤ 128 }
+    requires room { length (digit_text base upper n) ≤ end }
+    ensures begins { result.0 + length (digit_text base upper n)
+        ≡ end + length (digit_text base upper result.1) }
+    ensures written { digit_text base upper result.1 ++ drop result.0 out.new
+        ≡ digit_text base upper n ++ drop end out.old }
+    ensures front { take result.0 out.new ≡ take result.0 out.old }
+{
+    let mut at = end;
+    let mut rest = n;
+    while rest / base / base / base >= base {
+        rest = write_last_four(rest, base, upper, at, out);
+        at -= 4;
+    }
+    (at, rest)
+}
+
 /// Writes the text of a number but for its first digit before the place `end`. Returns where it
 /// begins, and the first digit.
 #[inline(always)]
-pub(crate) fn fill_low(
+fn write_ones(n: u64, base: u64, upper: bool, end: usize, out: &mut [u8; 128]) -> (usize, u64)
+    requires lowest { 2 ≤ base }
+    requires highest { base ≤ 16 }
+    requires place { end ≤ 128 }
+    requires room { length (digit_text base upper n) ≤ end }
+    ensures first { result.1 < base }
+    ensures leads { digit_text base upper n
+        ≡ digit_glyph upper result.1 ∷ drop 1 (digit_text base upper n) }
+    ensures begins { result.0 + length (drop 1 (digit_text base upper n)) ≡ end }
+    ensures written { drop result.0 out.new ≡ drop 1 (digit_text base upper n) ++ drop end out.old }
+    ensures front { take result.0 out.new ≡ take result.0 out.old }
+{
+    let mut at = end;
+    let mut rest = n;
+    while rest >= base {
+        rest = write_last(rest, base, upper, at, out);
+        at -= 1;
+    }
+    (at, rest)
+}
+
+/// As [`write_ones`], four digits at a time while there are more.
+#[inline(always)]
+pub(crate) fn write_low(
     n: u64,
     base: u64,
     upper: bool,
@@ -87,20 +171,14 @@ pub(crate) fn fill_low(
     ensures written { drop result.0 out.new ≡ drop 1 (digit_text base upper n) ++ drop end out.old }
     ensures front { take result.0 out.new ≡ take result.0 out.old }
 {
-    let mut at = end;
-    let mut rest = n;
-    while rest >= base {
-        at -= 1;
-        out[at] = ascii_digit((rest % base) as u8, upper);
-        rest /= base;
-    }
-    (at, rest)
+    let (at, rest) = write_fours(n, base, upper, end, out);
+    write_ones(rest, base, upper, at, out)
 }
 
 /// Writes the last digits of a number in base ten before the place `end`, two by each division,
 /// until one or two are left. Returns where they begin, and the rest.
 #[inline(always)]
-fn fill_pairs(n: u64, end: usize, out: &mut [u8; 128]) -> (usize, u64)
+fn write_pairs(n: u64, end: usize, out: &mut [u8; 128]) -> (usize, u64)
     requires place { end ≤ 128 }
     requires room { length (digit_text 10 false n) ≤ end }
     ensures begins { result.0 + length (digit_text 10 false n)
@@ -121,9 +199,9 @@ fn fill_pairs(n: u64, end: usize, out: &mut [u8; 128]) -> (usize, u64)
     (at, rest)
 }
 
-/// As [`fill_low`], in base ten.
+/// As [`write_ones`], in base ten, two digits at a time while there are more.
 #[inline(always)]
-pub(crate) fn fill_low_decimal(n: u64, end: usize, out: &mut [u8; 128]) -> (usize, u64)
+pub(crate) fn write_low_decimal(n: u64, end: usize, out: &mut [u8; 128]) -> (usize, u64)
     requires place { end ≤ 128 }
     requires room { length (digit_text 10 false n) ≤ end }
     ensures first { result.1 < 10 }
@@ -133,14 +211,14 @@ pub(crate) fn fill_low_decimal(n: u64, end: usize, out: &mut [u8; 128]) -> (usiz
     ensures written { drop result.0 out.new ≡ drop 1 (digit_text 10 false n) ++ drop end out.old }
     ensures front { take result.0 out.new ≡ take result.0 out.old }
 {
-    let (at, rest) = fill_pairs(n, end, out);
-    fill_low(rest, 10, false, at, out)
+    let (at, rest) = write_pairs(n, end, out);
+    write_ones(rest, 10, false, at, out)
 }
 
 /// Writes the digits of a number at the end of the buffer. Returns where they begin.
 ///
 /// Only what stands above 64 bits is divided as a `u128`, which costs several times as much.
-pub(crate) fn fill_digits(n: u128, base: u64, upper: bool, out: &mut [u8; 128]) -> usize
+pub(crate) fn write_digits(n: u128, base: u64, upper: bool, out: &mut [u8; 128]) -> usize
     requires lowest { 2 ≤ base }
     requires highest { base ≤ 16 }
     ensures within { result < 128 }
@@ -151,18 +229,18 @@ pub(crate) fn fill_digits(n: u128, base: u64, upper: bool, out: &mut [u8; 128]) 
         out[127] = b'0';
         return 127;
     }
-    let (end, rest) = fill_wide(n, base, upper, out);
-    fill_narrow(rest, base, upper, end, out)
+    let (end, rest) = write_wide(n, base, upper, out);
+    write_narrow(rest, base, upper, end, out)
 }
 
 /// The same in base ten, where any number has at most 39 digits.
-pub(crate) fn fill_decimal(n: u128, out: &mut [u8; 128]) -> usize
+pub(crate) fn write_decimal(n: u128, out: &mut [u8; 128]) -> usize
     ensures within { result < 128 }
     ensures room { 89 ≤ result }
     ensures written { drop result out.new ≡ digit_text 10 false n }
     ensures ascii { IsAscii (drop result out.new) }
 {
-    fill_digits(n, 10, false, out)
+    write_digits(n, 10, false, out)
 }
 
 /// Bytes below 128 as a text.
@@ -182,6 +260,6 @@ pub(crate) fn digit_str<'a>(n: u128, base: u64, upper: bool, buffer: &'a mut [u8
     ensures ascii { IsAscii result.now }
     ensures short { length result.now ≤ 128 }
 {
-    let start = fill_digits(n, base, upper, buffer);
+    let start = write_digits(n, base, upper, buffer);
     ascii_str(&buffer[start..])
 }

@@ -2,11 +2,12 @@
 ghost use Rattle.std.specs.Prelude.{◌≡◌, ◌+◌, ◌/◌, ◌^◌, ◌<◌, ◌≤◌, ◌++◌, false, length, drop};
 ghost use Rattle.std.specs.Prelude.{replicate, slice_range};
 ghost use Rattle.std.specs.Str.{IsAscii};
+ghost use Rattle.interpolator_render.specs.Characters.{zero_digit};
 ghost use Rattle.interpolator_render.specs.Exponent.{exponent_of, exponent_tail, nearest, pointed};
 ghost use Rattle.interpolator_render.specs.Exponent.{rounded, scientific, trimmed};
 ghost use Rattle.interpolator_render.specs.Digits.{digit_text};
 
-use crate::digits::{MOST_DIGITS, ascii_str, fill_decimal};
+use crate::digits::{MOST_DIGITS, ascii_str, write_decimal};
 
 /// What stands before the mark of an exponent form, and the exponent behind it.
 #[derive(Clone, Copy)]
@@ -74,8 +75,8 @@ fn with_point(buffer: &mut [u8; 128], start: usize, end: usize, zeros: usize) ->
     requires some { start < end }
     requires within { end ≤ 128 }
     requires ascii { IsAscii (drop start buffer.old) }
-    ensures text { result.now ++ replicate zeros 48
-        ≡ pointed (slice_range buffer.old start end ++ replicate zeros 48) }
+    ensures text { result.now ++ replicate zeros zero_digit
+        ≡ pointed (slice_range buffer.old start end ++ replicate zeros zero_digit) }
     ensures ascii { IsAscii result.now }
     ensures short { length result.now ≤ 128 }
 {
@@ -89,14 +90,14 @@ fn with_point(buffer: &mut [u8; 128], start: usize, end: usize, zeros: usize) ->
 
 /// The digits of a number in exponent form at a precision, with their point.
 pub(crate) fn mantissa_of(n: u128, precision: Option<usize>, buffer: &mut [u8; 128]) -> Mantissa<'_>
-    ensures text { result.head.now ++ replicate result.zeros 48
+    ensures text { result.head.now ++ replicate result.zeros zero_digit
         ≡ pointed (scientific precision n).digits }
     ensures exponent { result.exponent ≡ (scientific precision n).exponent }
     ensures small { result.exponent < 128 }
     ensures ascii { IsAscii result.head.now }
     ensures short { length result.head.now ≤ 128 }
 {
-    let start = fill_decimal(n, buffer);
+    let start = write_decimal(n, buffer);
     let exponent = MOST_DIGITS - 1 - start;
     match precision {
         None => {
@@ -109,7 +110,7 @@ pub(crate) fn mantissa_of(n: u128, precision: Option<usize>, buffer: &mut [u8; 1
         }
         Some(places) if places < exponent => {
             let (digits, exponent) = rounded(n, places, exponent);
-            let start = fill_decimal(digits, buffer);
+            let start = write_decimal(digits, buffer);
             Mantissa {
                 head: with_point(buffer, start, MOST_DIGITS, 0),
                 zeros: 0,
@@ -133,7 +134,7 @@ pub(crate) fn exponent_tail(upper: bool, exponent: usize, buffer: &mut [u8; 128]
     ensures ascii { IsAscii result.now }
     ensures short { length result.now ≤ 128 }
 {
-    let start = fill_decimal(exponent as u128, buffer) - 1;
+    let start = write_decimal(exponent as u128, buffer) - 1;
     buffer[start] = if upper { b'E' } else { b'e' };
     ascii_str(&buffer[start..])
 }

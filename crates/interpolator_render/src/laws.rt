@@ -1,20 +1,22 @@
 //! What the definitions that the contracts cite say in other words: laws, proved once for all
 //! values. Their bodies are empty, and their contracts are the laws.
-ghost use Rattle.std.specs.Prelude.{◌≡◌, ◌+◌, ◌*◌, ◌^◌, ◌<◌, ◌≤◌, ◌≢◌, ◌↔◌, ◌++◌, ◌+ℤ◌, ◌*ℤ◌};
-ghost use Rattle.std.specs.Prelude.{max, ℕ, ℤ, pos, Bool, List, Some, None, IsTrue, false};
+ghost use Rattle.std.specs.Prelude.{◌≡◌, ◌+◌, ◌-◌, ◌*◌, ◌^◌, ◌<◌, ◌≤◌, ◌≢◌, ◌↔◌, ◌++◌, ◌+ℤ◌};
+ghost use Rattle.std.specs.Prelude.{◌*ℤ◌, max, ℕ, ℤ, pos, Bool, List, Some, None, IsTrue, false};
 ghost use Rattle.std.specs.Prelude.{length, replicate, slice_index, unwrap_or};
 ghost use Rattle.std.specs.Str.Parse.{digits_value};
-ghost use Rattle.interpolator_render.specs.declared.view.Bits.{Bits};
-ghost use Rattle.interpolator_render.specs.declared.view.Spec.{Spec};
+ghost use Rattle.interpolator_render.specs.Characters.{zero_digit};
 ghost use Rattle.interpolator_render.specs.Digits.{digit_text};
 ghost use Rattle.interpolator_render.specs.Exponent.{exponent_of, nearest, scientific, trimmed};
 ghost use Rattle.interpolator_render.specs.Exponent.{IsNearest};
 ghost use Rattle.interpolator_render.specs.Numbers.{twos_complement};
 ghost use Rattle.interpolator_render.specs.Padding.{padded_number, padded_text, displayed_text};
+ghost use Rattle.interpolator_render.specs.Quoting.{quoted};
+ghost use Rattle.interpolator_render.specs.Unquoting.{IsQuote, unquoted};
 ghost use Rattle.interpolator_render.specs.Views.{bit_count};
 ghost use Rattle.interpolator_render.specs.Written.{Written, Appends};
 
-use crate::view::{Alignment, HexDebug, Sign, Spec, Trait};
+use crate::text_write::Refusal;
+use crate::view::{Alignment, Bits, HexDebug, RenderFault, Sign, Spec, Trait};
 
 /// The digits of a number, read back in their base, are the number, and the first is no zero but
 /// for zero itself.
@@ -22,12 +24,14 @@ pub fn digits_read_back()
     ensures value { (base n : ℕ) (upper : Bool) → 2 ≤ base → base ≤ 16
         → digits_value base (digit_text base upper n) ≡ n }
     ensures first { (base n : ℕ) (upper : Bool) → 2 ≤ base → base ≤ 16 → 0 < n
-        → slice_index (digit_text base upper n) 0 ≢ 48 }
+        → slice_index (digit_text base upper n) 0 ≢ zero_digit }
 {}
 
-/// The exponent of a number above zero is the greatest whose power of ten is at most the number.
+/// The exponent of a number above zero is the greatest whose power of ten is at most the number,
+/// and that of zero is 0.
 pub fn exponent_bounds()
-    ensures { (n : ℕ) → 0 < n → (10 ^ exponent_of n ≤ n) × (n < 10 ^ (exponent_of n + 1)) }
+    ensures some { (n : ℕ) → 0 < n → (10 ^ exponent_of n ≤ n) × (n < 10 ^ (exponent_of n + 1)) }
+    ensures zero { exponent_of 0 ≡ 0 }
 {}
 
 /// A rounded number of units lies within half a unit, and is even where it lies just so far; no
@@ -38,15 +42,37 @@ pub fn rounding_is_to_nearest()
         → count ≡ nearest n unit }
 {}
 
-/// Digits are those that remain of them without the zeros at their end, and those zeros.
+/// Digits are those that remain of them without the zeros at their end, and those zeros; where more
+/// than one remains, the last of them is no zero.
 pub fn trimmed_digits()
-    ensures { (digits : List ℕ)
-        → (count : ℕ) × (digits ≡ trimmed digits ++ replicate count 48) }
+    ensures zeros { (digits : List ℕ)
+        → (count : ℕ) × (digits ≡ trimmed digits ++ replicate count zero_digit) }
+    ensures last { (digits : List ℕ) → 1 < length (trimmed digits)
+        → slice_index (trimmed digits) (length (trimmed digits) - 1) ≢ zero_digit }
 {}
 
-/// With a precision there are exactly so many digits behind the first.
+/// With a precision there are exactly so many digits behind the first. Where the number has no
+/// more, they are the number's own and zeros; where it has more, they and the exponent make the
+/// nearest number of units of the last place.
 pub fn precise_digits()
-    ensures { (places n : ℕ) → length (scientific (Some places) n).digits ≡ places + 1 }
+    ensures count { (places n : ℕ) → length (scientific (Some places) n).digits ≡ places + 1 }
+    ensures whole { (places n : ℕ) → exponent_of n ≤ places
+        → ((scientific (Some places) n).exponent ≡ exponent_of n)
+        × (digits_value 10 (scientific (Some places) n).digits
+        ≡ n * 10 ^ (places - exponent_of n)) }
+    ensures rounded { (places n : ℕ) → places < exponent_of n
+        → (places ≤ (scientific (Some places) n).exponent)
+        × (digits_value 10 (scientific (Some places) n).digits
+        * 10 ^ ((scientific (Some places) n).exponent - places)
+        ≡ nearest n (10 ^ (exponent_of n - places)) * 10 ^ (exponent_of n - places)) }
+{}
+
+/// A quoted text, read with its escapes up to the first quote that is not escaped, is the text, and
+/// nothing stands between that quote and the end.
+pub fn quoted_reads_back()
+    ensures { (quote : ℕ) (text behind : List ℕ) → IsQuote quote
+        → unquoted quote (quoted quote text ++ behind)
+        ≡ Some (record { text = text; behind = behind }) }
 {}
 
 /// A padded text has as many characters as the width says, or all its own where they are more.
@@ -76,6 +102,48 @@ pub fn twos_complement_is_congruent()
 
 /// Two traits are equal exactly where they are the same variant.
 pub fn equal_traits(left: Trait, right: Trait) -> bool
+    ensures { IsTrue result ↔ (left ≡ right) }
+{
+    left == right
+}
+
+/// Two alignments are equal exactly where they are the same variant.
+pub fn equal_alignments(left: Alignment, right: Alignment) -> bool
+    ensures { IsTrue result ↔ (left ≡ right) }
+{
+    left == right
+}
+
+/// Two signs are equal exactly where they are the same variant.
+pub fn equal_signs(left: Sign, right: Sign) -> bool
+    ensures { IsTrue result ↔ (left ≡ right) }
+{
+    left == right
+}
+
+/// Two ways to write debug numbers are equal exactly where they are the same variant.
+pub fn equal_hex_debugs(left: HexDebug, right: HexDebug) -> bool
+    ensures { IsTrue result ↔ (left ≡ right) }
+{
+    left == right
+}
+
+/// Two widths are equal exactly where they are the same variant.
+pub fn equal_bits(left: Bits, right: Bits) -> bool
+    ensures { IsTrue result ↔ (left ≡ right) }
+{
+    left == right
+}
+
+/// Two faults of a view are equal exactly where they are the same variant.
+pub fn equal_render_faults(left: RenderFault, right: RenderFault) -> bool
+    ensures { IsTrue result ↔ (left ≡ right) }
+{
+    left == right
+}
+
+/// Two refusals are equal exactly where they have taken as many bytes.
+pub fn equal_refusals(left: Refusal, right: Refusal) -> bool
     ensures { IsTrue result ↔ (left ≡ right) }
 {
     left == right

@@ -1,6 +1,7 @@
 //! A text in parts, written one after the other.
 ghost use Rattle.std.specs.Prelude.{◌≡◌, ◌∷◌, [], ◌<◌, ◌≤◌, replicate};
 ghost use Rattle.std.specs.Str.{chars, IsAscii};
+ghost use Rattle.interpolator_render.specs.Characters.{space, zero_digit};
 ghost use Rattle.interpolator_render.specs.Layout.{part_text, text_of_parts};
 ghost use Rattle.interpolator_render.specs.Written.{Puts, byte_count};
 
@@ -80,14 +81,14 @@ fn put_copies<W: TextWrite>(out: &mut W, c: char, run: &str, count: usize) -> Re
 
 #[inline(always)]
 fn put_spaces<W: TextWrite>(out: &mut W, count: usize) -> Result<(), Refusal>
-    ensures { Puts (W.written out.old) (replicate count 32) result (W.written out.new) }
+    ensures { Puts (W.written out.old) (replicate count space) result (W.written out.new) }
 {
     put_copies(out, ' ', SPACES, count)
 }
 
 #[inline(always)]
 fn put_zeros<W: TextWrite>(out: &mut W, count: usize) -> Result<(), Refusal>
-    ensures { Puts (W.written out.old) (replicate count 48) result (W.written out.new) }
+    ensures { Puts (W.written out.old) (replicate count zero_digit) result (W.written out.new) }
 {
     put_copies(out, '0', ZEROS, count)
 }

@@ -1,7 +1,26 @@
 //! Numbers, truth values, characters and texts, written under a trait, flags, width and precision.
+//!
+//! A [`View`] is what is written: one number, one truth value, one character or one text. A
+//! [`Trait`] says in which way (display, debug, a base, an exponent form), and a [`Spec`] with which
+//! flags, to which width and at which precision, as the text behind the colon of a format string
+//! does in Rust. [`render`] appends the text of a view to a writer, and [`pad`] a text as display
+//! shows it. A writer is any type with [`TextWrite`]; [`TextBuffer`] is one over a `String`. A type
+//! of one's own becomes writable by [`Value`], which says what it shows.
+//!
+//! ```text
+//! let mut out = TextBuffer::new(rt.alloc());
+//! let spec = Spec { alternate: true, zero: true, width: Some(6), ..Spec::default() };
+//! render(&mut out, View::from(10u8), Trait::LowerHex, &spec)?;   // as `{:#06x}`
+//! out.as_str()                                                   // "0x000a"
+//! ```
+//!
+//! The contracts pin the texts. Read on at [`render`], at the laws of [`laws`], and in the
+//! definitions of `specs/`, of which `Texts` is the first. Nothing here takes memory but a
+//! `TextBuffer`, from the allocator that it was made with.
 #![tactic(auto)]
 
 mod characters;
+mod conversions;
 mod digits;
 mod exponent;
 pub mod laws;

@@ -2,10 +2,11 @@
 ghost use Rattle.std.specs.Prelude.{◌≡◌, ◌<◌, ◌≤◌, ◌∷◌, [], false, drop, length, replicate};
 ghost use Rattle.std.specs.Fmt.{digit_glyph};
 ghost use Rattle.std.specs.Str.{IsAscii};
+ghost use Rattle.interpolator_render.specs.Characters.{zero_digit};
 ghost use Rattle.interpolator_render.specs.Digits.{digit_text};
 ghost use Rattle.interpolator_render.specs.Rows.{Row, IsRow, row_of, grown, grown_behind};
 
-use crate::digits::{ascii_digit, ascii_str, fill_low, fill_low_decimal};
+use crate::digits::{ascii_digit, ascii_str, write_low, write_low_decimal};
 use std::marker::Model;
 
 /// The greatest width that a line has room for, whatever its alignment.
@@ -79,7 +80,7 @@ impl Line {
             ≡ digit_glyph upper result ∷ drop 1 (digit_text base upper n) }
         ensures grown { self.new ≡ grown (drop 1 (digit_text base upper n)) self.old }
     {
-        let (start, first) = fill_low(n, base, upper, self.start, &mut self.bytes);
+        let (start, first) = write_low(n, base, upper, self.start, &mut self.bytes);
         self.start = start;
         first
     }
@@ -93,7 +94,7 @@ impl Line {
             ≡ digit_glyph false result ∷ drop 1 (digit_text 10 false n) }
         ensures grown { self.new ≡ grown (drop 1 (digit_text 10 false n)) self.old }
     {
-        let (start, first) = fill_low_decimal(n, self.start, &mut self.bytes);
+        let (start, first) = write_low_decimal(n, self.start, &mut self.bytes);
         self.start = start;
         first
     }
@@ -124,7 +125,7 @@ impl Line {
     #[inline(always)]
     pub(crate) fn put_zeros(&mut self, count: usize)
         requires { count ≤ self.old.before }
-        ensures { self.new ≡ grown (replicate count 48) self.old }
+        ensures { self.new ≡ grown (replicate count zero_digit) self.old }
     {
         let mut done = 0;
         while done < count {

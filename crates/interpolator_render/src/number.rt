@@ -1,9 +1,11 @@
 //! Whole numbers: sign, prefix, digits or exponent form, and their padding.
 ghost use Rattle.std.specs.Prelude.{◌≡◌, ◌<◌, ◌≤◌, ◌+◌, ◌++◌, length, replicate, unwrap_or};
+ghost use Rattle.interpolator_render.specs.Characters.{zero_digit};
 ghost use Rattle.interpolator_render.specs.Digits.{digit_text};
 ghost use Rattle.interpolator_render.specs.Numbers.{base_of, is_upper, prefix_of, number_form};
-ghost use Rattle.interpolator_render.specs.Numbers.{sign_text, front_text, twos_complement, has_minus};
-ghost use Rattle.interpolator_render.specs.Numbers.{magnitude, number_text, IsShortAscii};
+ghost use Rattle.interpolator_render.specs.Numbers.{sign_text, front_text, twos_complement};
+ghost use Rattle.interpolator_render.specs.Numbers.{has_minus, magnitude, number_text};
+ghost use Rattle.interpolator_render.specs.Numbers.{IsShortAscii};
 ghost use Rattle.interpolator_render.specs.Padding.{fill_of, spaces_before, padded_number};
 ghost use Rattle.interpolator_render.specs.Padding.{IsNumberLayout, IsNumberRow};
 ghost use Rattle.interpolator_render.specs.Rows.{grown};
@@ -19,7 +21,7 @@ use crate::view::{Alignment, Bits, HexDebug, Sign, Spec, Trait};
 
 /// A base in which digits are written.
 #[derive(Clone, Copy)]
-pub(crate) enum Notation {
+pub(crate) enum Radix {
     Decimal,
     Binary,
     Octal,
@@ -30,7 +32,7 @@ pub(crate) enum Notation {
 /// How a number is written: by its digits, or in exponent form with `E` (true) or `e`.
 #[derive(Clone, Copy)]
 pub(crate) enum NumberForm {
-    Digits(Notation),
+    Digits(Radix),
     Exponent(bool),
 }
 
@@ -55,24 +57,24 @@ struct NumberLayout {
     after: usize,
 }
 
-impl Notation {
+impl Radix {
     fn base(self) -> u64
         ensures value { result ≡ base_of self }
         ensures lowest { 2 ≤ result }
         ensures highest { result ≤ 16 }
     {
         match self {
-            Notation::Decimal => 10,
-            Notation::Binary => 2,
-            Notation::Octal => 8,
-            Notation::LowerHex | Notation::UpperHex => 16,
+            Radix::Decimal => 10,
+            Radix::Binary => 2,
+            Radix::Octal => 8,
+            Radix::LowerHex | Radix::UpperHex => 16,
         }
     }
 
     fn is_upper(self) -> bool
         ensures { result ≡ is_upper self }
     {
-        matches!(self, Notation::UpperHex)
+        matches!(self, Radix::UpperHex)
     }
 
     fn prefix(self) -> &'static str
@@ -80,11 +82,11 @@ impl Notation {
         ensures ascii { IsShortAscii result.now }
     {
         match self {
-            Notation::Decimal => "",
-            Notation::Binary => "0b",
-            Notation::Octal => "0o",
-            Notation::LowerHex => "0x",
-            Notation::UpperHex => "0x",
+            Radix::Decimal => "",
+            Radix::Binary => "0b",
+            Radix::Octal => "0o",
+            Radix::LowerHex => "0x",
+            Radix::UpperHex => "0x",
         }
     }
 }
@@ -95,16 +97,16 @@ pub(crate) fn number_form(t: Trait, hex_debug: HexDebug) -> Option<NumberForm>
     ensures { result ≡ number_form t hex_debug }
 {
     match t {
-        Trait::Display => Some(NumberForm::Digits(Notation::Decimal)),
+        Trait::Display => Some(NumberForm::Digits(Radix::Decimal)),
         Trait::Debug => Some(NumberForm::Digits(match hex_debug {
-            HexDebug::No => Notation::Decimal,
-            HexDebug::Lower => Notation::LowerHex,
-            HexDebug::Upper => Notation::UpperHex,
+            HexDebug::No => Radix::Decimal,
+            HexDebug::Lower => Radix::LowerHex,
+            HexDebug::Upper => Radix::UpperHex,
         })),
-        Trait::Binary => Some(NumberForm::Digits(Notation::Binary)),
-        Trait::Octal => Some(NumberForm::Digits(Notation::Octal)),
-        Trait::LowerHex => Some(NumberForm::Digits(Notation::LowerHex)),
-        Trait::UpperHex => Some(NumberForm::Digits(Notation::UpperHex)),
+        Trait::Binary => Some(NumberForm::Digits(Radix::Binary)),
+        Trait::Octal => Some(NumberForm::Digits(Radix::Octal)),
+        Trait::LowerHex => Some(NumberForm::Digits(Radix::LowerHex)),
+        Trait::UpperHex => Some(NumberForm::Digits(Radix::UpperHex)),
         Trait::LowerExp => Some(NumberForm::Exponent(false)),
         Trait::UpperExp => Some(NumberForm::Exponent(true)),
         Trait::Iter => None,
@@ -148,7 +150,7 @@ pub(crate) fn sign_and_magnitude(form: NumberForm, number: i128, bits: Bits) -> 
     ensures number { result.1 ≡ magnitude form number bits }
 {
     match form {
-        NumberForm::Digits(Notation::Decimal) => (number < 0, number.unsigned_abs()),
+        NumberForm::Digits(Radix::Decimal) => (number < 0, number.unsigned_abs()),
         NumberForm::Digits(_) => (false, twos_complement(number, bits)),
         NumberForm::Exponent(_) => (number < 0, number.unsigned_abs()),
     }
@@ -204,7 +206,7 @@ fn put_padded<W: TextWrite>(
     requires tail { IsShortAscii number.tail.now }
     ensures { let parts = number.entry in Puts (W.written out.old)
         (padded_number spec.now (parts.sign.now ++ parts.prefix.now)
-        (parts.head.now ++ (replicate parts.zeros 48 ++ parts.tail.now)))
+        (parts.head.now ++ (replicate parts.zeros zero_digit ++ parts.tail.now)))
         result (W.written out.new) }
 {
     let short = number.sign.len() + number.prefix.len() + number.head.len() + number.tail.len();
@@ -228,24 +230,20 @@ fn put_padded<W: TextWrite>(
 #[inline(never)]
 fn put_long<W: TextWrite>(
     out: &mut W,
-    notation: Notation,
+    radix: Radix,
     spec: &Spec,
     negative: bool,
     n: u128,
 ) -> Result<(), Refusal>
     ensures { Puts (W.written out.old)
-        (number_text (NumberForm.Digits notation) spec.now negative n)
+        (number_text (NumberForm.Digits radix) spec.now negative n)
         result (W.written out.new) }
 {
     let mut buffer = [0u8; 128];
     let number = NumberParts {
         sign: sign_str(negative, spec.sign),
-        prefix: if spec.alternate {
-            notation.prefix()
-        } else {
-            ""
-        },
-        head: digit_str(n, notation.base(), notation.is_upper(), &mut buffer),
+        prefix: if spec.alternate { radix.prefix() } else { "" },
+        head: digit_str(n, radix.base(), radix.is_upper(), &mut buffer),
         zeros: 0,
         tail: "",
     };
@@ -278,16 +276,16 @@ fn put_sign(line: &mut Line, negative: bool, sign: Sign)
 }
 
 #[inline(always)]
-fn put_prefix(line: &mut Line, notation: Notation)
+fn put_prefix(line: &mut Line, radix: Radix)
     requires { 2 ≤ line.old.before }
-    ensures { line.new ≡ grown (prefix_of notation) line.old }
+    ensures { line.new ≡ grown (prefix_of radix) line.old }
 {
-    let letter = match notation {
-        Notation::Decimal => return,
-        Notation::Binary => b'b',
-        Notation::Octal => b'o',
-        Notation::LowerHex => b'x',
-        Notation::UpperHex => b'x',
+    let letter = match radix {
+        Radix::Decimal => return,
+        Radix::Binary => b'b',
+        Radix::Octal => b'o',
+        Radix::LowerHex => b'x',
+        Radix::UpperHex => b'x',
     };
     line.push(letter);
     line.push(b'0');
@@ -299,9 +297,9 @@ fn put_front(line: &mut Line, form: NumberForm, spec: &Spec, negative: bool)
     requires { 3 ≤ line.old.before }
     ensures { line.new ≡ grown (front_text form spec.now negative) line.old }
 {
-    if let NumberForm::Digits(notation) = form {
+    if let NumberForm::Digits(radix) = form {
         if spec.alternate {
-            put_prefix(line, notation);
+            put_prefix(line, radix);
         }
     }
     put_sign(line, negative, spec.sign);
@@ -314,7 +312,7 @@ fn front_len(form: NumberForm, spec: &Spec, negative: bool) -> usize
 {
     let sign = sign_str(negative, spec.sign).len();
     match form {
-        NumberForm::Digits(notation) if spec.alternate => sign + notation.prefix().len(),
+        NumberForm::Digits(radix) if spec.alternate => sign + radix.prefix().len(),
         _ => sign,
     }
 }
@@ -340,18 +338,18 @@ fn put_around(line: &mut Line, form: NumberForm, spec: &Spec, negative: bool)
     }
 }
 
-/// Writes the digits of a number, each notation's by a base that the compiler knows.
+/// Writes the digits of a number, each radix's by a base that the compiler knows.
 #[inline(always)]
-fn put_notation(line: &mut Line, notation: Notation, n: u64)
+fn put_in_radix(line: &mut Line, radix: Radix, n: u64)
     requires { 64 ≤ line.old.before }
-    ensures { line.new ≡ grown (digit_text (base_of notation) (is_upper notation) n) line.old }
+    ensures { line.new ≡ grown (digit_text (base_of radix) (is_upper radix) n) line.old }
 {
-    match notation {
-        Notation::Decimal => line.put_decimal(n),
-        Notation::Binary => line.put_digits(n, 2, false),
-        Notation::Octal => line.put_digits(n, 8, false),
-        Notation::LowerHex => line.put_digits(n, 16, false),
-        Notation::UpperHex => line.put_digits(n, 16, true),
+    match radix {
+        Radix::Decimal => line.put_decimal(n),
+        Radix::Binary => line.put_digits(n, 2, false),
+        Radix::Octal => line.put_digits(n, 8, false),
+        Radix::LowerHex => line.put_digits(n, 16, false),
+        Radix::UpperHex => line.put_digits(n, 16, true),
     }
 }
 
@@ -359,19 +357,19 @@ fn put_notation(line: &mut Line, notation: Notation, n: u64)
 #[inline(always)]
 fn put_short<W: TextWrite>(
     out: &mut W,
-    notation: Notation,
+    radix: Radix,
     spec: &Spec,
     negative: bool,
     n: u64,
 ) -> Result<(), Refusal>
     requires narrow { unwrap_or spec.now.width 0 ≤ 40 }
     ensures { Puts (W.written out.old)
-        (number_text (NumberForm.Digits notation) spec.now negative n)
+        (number_text (NumberForm.Digits radix) spec.now negative n)
         result (W.written out.new) }
 {
     let mut line = Line::new(fill_byte(spec));
-    put_notation(&mut line, notation, n);
-    put_around(&mut line, NumberForm::Digits(notation), spec, negative);
+    put_in_radix(&mut line, radix, n);
+    put_around(&mut line, NumberForm::Digits(radix), spec, negative);
     put_ascii(out, line.as_str())
 }
 
@@ -379,19 +377,19 @@ fn put_short<W: TextWrite>(
 #[inline(always)]
 fn put_digits<W: TextWrite>(
     out: &mut W,
-    notation: Notation,
+    radix: Radix,
     spec: &Spec,
     negative: bool,
     n: u128,
 ) -> Result<(), Refusal>
     ensures { Puts (W.written out.old)
-        (number_text (NumberForm.Digits notation) spec.now negative n)
+        (number_text (NumberForm.Digits radix) spec.now negative n)
         result (W.written out.new) }
 {
     if n <= 0xffff_ffff_ffff_ffff && spec.width.unwrap_or(0) <= LINE_WIDTH {
-        put_short(out, notation, spec, negative, n as u64)
+        put_short(out, radix, spec, negative, n as u64)
     } else {
-        put_long(out, notation, spec, negative, n)
+        put_long(out, radix, spec, negative, n)
     }
 }
 
@@ -475,7 +473,7 @@ pub(crate) fn put_number<W: TextWrite>(
         result (W.written out.new) }
 {
     match form {
-        NumberForm::Digits(notation) => put_digits(out, notation, spec, negative, n),
+        NumberForm::Digits(radix) => put_digits(out, radix, spec, negative, n),
         NumberForm::Exponent(upper) => put_exponent(out, upper, spec, negative, n),
     }
 }

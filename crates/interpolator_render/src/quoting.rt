@@ -2,6 +2,7 @@
 ghost use Rattle.std.specs.Prelude.{◌≡◌, ◌<◌, ◌++◌, ◌∷◌, [], false, true, codes};
 ghost use Rattle.std.specs.List.{flat_map};
 ghost use Rattle.std.specs.Str.{chars};
+ghost use Rattle.interpolator_render.specs.Characters.{backslash};
 ghost use Rattle.interpolator_render.specs.Digits.{digit_text};
 ghost use Rattle.interpolator_render.specs.Quoting.{escape_letter, escaped, quoted};
 ghost use Rattle.interpolator_render.specs.Written.{Puts, Writes};
@@ -47,7 +48,7 @@ fn escape_letter(quote: char, c: char) -> Option<char>
 
 /// Writes a character behind a backslash.
 fn put_letter<W: TextWrite>(out: &mut W, letter: char) -> Result<(), Refusal>
-    ensures { Puts (W.written out.old) (92 ∷ letter ∷ []) result (W.written out.new) }
+    ensures { Puts (W.written out.old) (backslash ∷ letter ∷ []) result (W.written out.new) }
 {
     let mut bytes = [0u8; 4];
     put_parts(

@@ -1,6 +1,7 @@
 //! The text of a view, written.
 ghost use Rattle.std.specs.Prelude.{◌≡◌, ◌∷◌, [], ◌<◌};
 ghost use Rattle.std.specs.Str.{chars};
+ghost use Rattle.interpolator_render.specs.Characters.{single_quote};
 ghost use Rattle.interpolator_render.specs.Padding.{between_spaces, displayed_text};
 ghost use Rattle.interpolator_render.specs.Quoting.{quoted};
 ghost use Rattle.interpolator_render.specs.Texts.{under, truth_text, view_text};
@@ -35,10 +36,14 @@ fn put_between<W: TextWrite>(
 
 /// Writes a text as display does: its first characters, as many as the precision says, and spaces
 /// up to the width, behind it unless the alignment says otherwise. Sign, `#` and the zero flag do
-/// nothing.
+/// nothing. Width and precision count characters. The call takes no memory of its own.
 ///
-/// Where the writer refuses, `taken` is the bytes that this whole call appended, or the greatest
-/// `usize` where they are more. The call takes no memory of its own.
+/// # Errors
+///
+/// A [`Refusal`] where the writer refused, whose flag then stands. Its `taken` is the bytes that
+/// this whole call appended, or the greatest `usize` where they are more.
+///
+/// # Examples
 ///
 /// ```text
 /// pad(&mut out, "é", &Spec { width: Some(3), alignment: Alignment::Center, ..Spec::default() })
@@ -96,7 +101,7 @@ fn render_character<W: TextWrite>(
     c: char,
     spec: &Spec,
 ) -> Result<(), RenderFault>
-    ensures { Renders (under t (displayed_text spec.now (c ∷ [])) (quoted 39 (c ∷ [])))
+    ensures { Renders (under t (displayed_text spec.now (c ∷ [])) (quoted single_quote (c ∷ [])))
         (W.written out.old) result (W.written out.new) }
 {
     let mut bytes = [0u8; 4];
@@ -121,10 +126,18 @@ fn render_truth<W: TextWrite>(
 
 /// Writes the text of a view under a trait and a spec.
 ///
-/// `Ok` says that exactly this text was appended. `NotImplemented` and `Failed` come where the view
-/// has no text, and nothing was written. `Refused` comes only where the writer refused: a beginning
-/// of the text was appended, and the writer's flag stands. A signed number has to lie in the range
-/// of its width. The call takes no memory of its own.
+/// `Ok` says that exactly this text was appended. A signed number has to lie in the range of its
+/// width. The call takes no memory of its own.
+///
+/// # Errors
+///
+/// - [`RenderFault::NotImplemented`] where the view has no text under this trait, as a text under
+///   `Trait::Octal`. Nothing was written.
+/// - [`RenderFault::Failed`] where the view is `View::Failed`. Nothing was written.
+/// - [`RenderFault::Refused`] where the writer refused. A proper beginning of the text was
+///   appended, none of it where the writer's flag stood before, and the flag stands.
+///
+/// # Examples
 ///
 /// ```text
 /// let spec = Spec { alternate: true, zero: true, width: Some(10), ..Spec::default() };

@@ -1,5 +1,7 @@
 //! Numbers of 64 bits in exponent form, in one buffer.
-ghost use Rattle.std.specs.Prelude.{◌≡◌, ◌+◌, ◌-◌, ◌^◌, ◌<◌, ◌≤◌, ◌++◌, false, replicate, unwrap_or};
+ghost use Rattle.std.specs.Prelude.{◌≡◌, ◌+◌, ◌-◌, ◌^◌, ◌<◌, ◌≤◌, ◌++◌, false, replicate};
+ghost use Rattle.std.specs.Prelude.{unwrap_or};
+ghost use Rattle.interpolator_render.specs.Characters.{zero_digit};
 ghost use Rattle.interpolator_render.specs.Digits.{digit_text};
 ghost use Rattle.interpolator_render.specs.Exponent.{exponent_of, exponent_tail, mark, nearest};
 ghost use Rattle.interpolator_render.specs.Exponent.{pointed, rounded, scientific, trimmed};
@@ -120,7 +122,7 @@ fn rounded(n: u64, places: usize, exponent: usize) -> Shown
 /// What exponent form shows of a number at a precision.
 #[inline(always)]
 pub(crate) fn shown_of(n: u64, precision: Option<usize>) -> Shown
-    ensures digits { digit_text 10 false result.digits ++ replicate result.zeros 48
+    ensures digits { digit_text 10 false result.digits ++ replicate result.zeros zero_digit
         ≡ (scientific precision n).digits }
     ensures exponent { result.exponent ≡ (scientific precision n).exponent }
     ensures few { result.zeros ≤ unwrap_or precision 0 }
@@ -168,7 +170,7 @@ fn put_pointed(line: &mut Line, digits: u64, zeros: usize)
     requires few { zeros ≤ 40 }
     requires room { 61 ≤ line.old.before }
     ensures { line.new
-        ≡ grown (pointed (digit_text 10 false digits ++ replicate zeros 48)) line.old }
+        ≡ grown (pointed (digit_text 10 false digits ++ replicate zeros zero_digit)) line.old }
 {
     line.put_zeros(zeros);
     let first = line.put_low_decimal(digits);
@@ -188,7 +190,7 @@ pub(crate) fn put_shown(line: &mut Line, upper: bool, shown: Shown)
     requires few { shown.zeros ≤ 40 }
     requires room { 64 ≤ line.old.before }
     ensures { line.new
-        ≡ grown (pointed (digit_text 10 false shown.digits ++ replicate shown.zeros 48)
+        ≡ grown (pointed (digit_text 10 false shown.digits ++ replicate shown.zeros zero_digit)
         ++ exponent_tail upper shown.exponent) line.old }
 {
     put_tail(line, upper, shown.exponent);

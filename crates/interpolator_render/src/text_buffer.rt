@@ -1,6 +1,9 @@
 //! A writer over a `String`.
-ghost use Rattle.std.specs.Prelude.{◌≡◌, [], false, string_bytes};
+ghost use Rattle.std.specs.Prelude.{◌≡◌, ◌+◌, ◌<◌, ◌++◌, ◌∷◌, [], ◌⊎◌, true, false, length};
+ghost use Rattle.std.specs.Prelude.{encode_utf8, string_bytes, string_capacity, string_len};
+ghost use Rattle.std.specs.Prelude.{MatchResult, OnOk, OnErr};
 ghost use Rattle.std.specs.Str.{chars};
+ghost use Rattle.interpolator_render.specs.Written.{Appends, Refuses, RefusesWhole};
 
 use crate::text_write::{Refusal, TextWrite};
 use std::alloc::Global;
@@ -9,7 +12,8 @@ use std::marker::Model;
 /// A writer over a `String`.
 ///
 /// It refuses a text for which there is no memory, whole, and from then on every text but the
-/// empty one, until [`TextBuffer::forget_refusal`].
+/// empty one, until [`TextBuffer::forget_refusal`]. A text that its `String` has room for is never
+/// refused otherwise.
 ///
 /// ```text
 /// let mut out = TextBuffer::new(rt.alloc());
@@ -77,38 +81,78 @@ impl TextBuffer {
     }
 }
 
+/// Appends a text to a buffer's, or sets the flag and changes nothing else.
+#[inline(always)]
+fn append(held: &mut String, refused: &mut bool, text: &str) -> Result<(), Refusal>
+    ensures ok { OnOk result ((string_bytes held.new ≡ string_bytes held.old ++ text.now)
+        × (refused.old ≡ false) × (refused.new ≡ false)) }
+    ensures err { OnErr result ((string_bytes held.new ≡ string_bytes held.old)
+        × (refused.new ≡ true)) }
+    ensures taken { MatchResult result (λ _. Unit {0}) (λ refusal. refusal.taken ≡ 0) }
+    ensures full { OnErr result ((refused.old ≡ true)
+        ⊎ (string_capacity held.old < string_len held.old + length text.now)) }
+{
+    if *refused {
+        return Err(Refusal { taken: 0 });
+    }
+    match held.push_str(text) {
+        Ok(()) => Ok(()),
+        Err(_) => {
+            *refused = true;
+            Err(Refusal { taken: 0 })
+        }
+    }
+}
+
+/// The same of a character.
+#[inline(always)]
+fn append_char(held: &mut String, refused: &mut bool, c: char) -> Result<(), Refusal>
+    ensures ok { OnOk result ((string_bytes held.new ≡ string_bytes held.old ++ encode_utf8 c)
+        × (refused.old ≡ false) × (refused.new ≡ false)) }
+    ensures err { OnErr result ((string_bytes held.new ≡ string_bytes held.old)
+        × (refused.new ≡ true)) }
+    ensures taken { MatchResult result (λ _. Unit {0}) (λ refusal. refusal.taken ≡ 0) }
+    ensures full { OnErr result ((refused.old ≡ true)
+        ⊎ (string_capacity held.old < string_len held.old + length (encode_utf8 c))) }
+{
+    if *refused {
+        return Err(Refusal { taken: 0 });
+    }
+    match held.push(c) {
+        Ok(()) => Ok(()),
+        Err(_) => {
+            *refused = true;
+            Err(Refusal { taken: 0 })
+        }
+    }
+}
+
 impl TextWrite for TextBuffer {
     ghost written = { λ buffer. buffer };
 
     #[inline(always)]
-    fn write_str(&mut self, text: &str) -> Result<(), Refusal> {
+    fn write_str(&mut self, text: &str) -> Result<(), Refusal>
+        ensures written { MatchResult result
+            (λ _. Appends self.old (chars text.now) self.new)
+            (λ refusal. Refuses self.old (chars text.now) refusal.taken self.new) }
+        ensures whole { MatchResult result
+            (λ _. Unit {0}) (λ refusal. RefusesWhole self.old refusal.taken self.new) }
+    {
         if text.is_empty() {
             return Ok(());
         }
-        if self.refused {
-            return Err(Refusal { taken: 0 });
-        }
-        match self.text.push_str(text) {
-            Ok(()) => Ok(()),
-            Err(_) => {
-                self.refused = true;
-                Err(Refusal { taken: 0 })
-            }
-        }
+        append(&mut self.text, &mut self.refused, text)
     }
 
     #[inline(always)]
-    fn write_char(&mut self, c: char) -> Result<(), Refusal> {
-        if self.refused {
-            return Err(Refusal { taken: 0 });
-        }
-        match self.text.push(c) {
-            Ok(()) => Ok(()),
-            Err(_) => {
-                self.refused = true;
-                Err(Refusal { taken: 0 })
-            }
-        }
+    fn write_char(&mut self, c: char) -> Result<(), Refusal>
+        ensures written { MatchResult result
+            (λ _. Appends self.old (c ∷ []) self.new)
+            (λ refusal. Refuses self.old (c ∷ []) refusal.taken self.new) }
+        ensures whole { MatchResult result
+            (λ _. Unit {0}) (λ refusal. RefusesWhole self.old refusal.taken self.new) }
+    {
+        append_char(&mut self.text, &mut self.refused, c)
     }
 
     fn refused(&self) -> bool {

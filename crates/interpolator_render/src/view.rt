@@ -23,7 +23,7 @@ pub enum Trait {
     Iter,
 }
 
-/// Where a text stands between the spaces that fill it to its width.
+/// Where a text stands between the spaces that bring it to its width.
 #[derive(Clone, Copy, Debug, Default, PartialEq, Eq)]
 pub enum Alignment {
     /// Numbers on the right, all else on the left.
@@ -62,7 +62,7 @@ pub enum HexDebug {
 }
 
 /// The width of a signed number's type, in bits.
-#[derive(Clone, Copy, Debug, PartialEq, Eq)]
+#[derive(Clone, Copy, PartialEq, Eq, Debug)]
 pub enum Bits {
     /// 8 bits, as of an `i8`.
     B8,
@@ -81,7 +81,7 @@ pub enum Bits {
 /// ```text
 /// let spec = Spec { zero: true, width: Some(6), ..Spec::default() };   // as `{:06}`
 /// ```
-#[derive(Clone, Copy, Debug, Default, PartialEq, Eq)]
+#[derive(Clone, Copy, PartialEq, Eq, Debug, Default)]
 pub struct Spec {
     /// Where the text stands between its spaces.
     pub alignment: Alignment,
@@ -89,7 +89,7 @@ pub struct Spec {
     pub sign: Sign,
     /// `#`: a prefix before numbers in base two, eight and sixteen.
     pub alternate: bool,
-    /// `0`: numbers are filled with zeros behind their sign and prefix, whatever the alignment.
+    /// `0`: numbers are padded with zeros behind their sign and prefix, whatever the alignment.
     pub zero: bool,
     /// The least number of characters.
     pub width: Option<usize>,

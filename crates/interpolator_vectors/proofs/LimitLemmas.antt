@@ -10,12 +10,16 @@ some_left [] h = absurd (omega arith)
 some_left (c ∷ cs) h = omega arith
 
 -- a buffer took the first characters of a text, and refuses the rest
-pub buffer_stops : (now new : Written) (a bytes part : List ℕ) (n : ℕ) → IsUtf8 a → IsUtf8 bytes → IsUtf8 part → now.text ≡ chars a → now.refused ≡ false →
-    chars part ≡ take n (chars bytes) → length part < length bytes → new.text ≡ chars (a ++ part) → new.refused ≡ true → Refuses now (chars bytes) (length part) new
+pub buffer_stops :
+    (now new : Written) (a bytes part : List ℕ) (n : ℕ) → IsUtf8 a → IsUtf8 bytes → IsUtf8 part
+    → now.text ≡ chars a → now.refused ≡ false →
+    chars part ≡ take n (chars bytes) → length part < length bytes → new.text ≡ chars (a ++ part)
+    → new.refused ≡ true → Refuses now (chars bytes) (length part) new
 buffer_stops now new a bytes part n u v w s f e h t g =
     let split : chars bytes ≡ chars part ++ drop n (chars bytes) = sym (rw e (take-append-drop n (chars bytes))) in
     let count : length bytes ≡ length part + byte_count (drop n (chars bytes)) =
-    sym (byte_count-chars bytes v) ∙ (ap byte_count split ∙ (byte_count-append (chars part) (drop n (chars bytes)) ∙ ap (λ (k : ℕ). k + byte_count (drop n (chars bytes))) (byte_count-chars part w))) in
+    sym (byte_count-chars bytes v)
+    ∙ (ap byte_count split ∙ (byte_count-append (chars part) (drop n (chars bytes)) ∙ ap (λ (k : ℕ). k + byte_count (drop n (chars bytes))) (byte_count-chars part w))) in
     record {
       part = record {
         beginning = chars part;
@@ -30,8 +34,10 @@ buffer_stops now new a bytes part n u v w s f e h t g =
     }
 
 -- a front that is as long as the text is the text
-pub whole_front : (bytes part : List ℕ) → part ≡ take (length part) bytes → length part ≡ length bytes → part ≡ bytes
+pub whole_front : (bytes part : List ℕ) → part ≡ take (length part) bytes
+    → length part ≡ length bytes → part ≡ bytes
 whole_front bytes part e h = e ∙ take_all (length part) bytes (omega arith)
 
-pub front_shorter : (bytes part : List ℕ) → part ≡ take (length part) bytes → (length part ≡ length bytes → ⊥) → length part < length bytes
+pub front_shorter : (bytes part : List ℕ) → part ≡ take (length part) bytes
+    → (length part ≡ length bytes → ⊥) → length part < length bytes
 front_shorter bytes part e h = let n = ap length e in let k = length-take (length part) bytes in omega (arith, h)

@@ -1,45 +1,23 @@
-//! Rows of formats with plain names: what is written, and what is answered.
+//! Rows of formats: what is written, and what is answered.
 
+mod held;
 mod own;
 mod rows;
-mod told;
+mod spec_rows;
+pub(crate) mod told;
 
 use crate::counting::Counting;
 use crate::limited::Limited;
-use interpolator::{Bits, Formattable, Interpolate, TextBuffer, TextWrite, View, format, write};
-use own::{Everywhere, Nowhere};
-use rows::{LIMITED, PLAIN, Row};
+use held::map_of;
+use interpolator::{Formattable, Interpolate, TextBuffer, TextWrite, Trait, View, format, write};
+use own::{Everywhere, Nowhere, OnlyFive};
+use rows::{PLAIN, PLAIN_ROOM, RoomRow, RoomTable, Row, Table};
+use spec_rows::{ASKED, ASKED_IN_VAIN, BROKEN, CUTS, ROOM, UNTIL_LISTS, WRITTEN};
 use std::alloc::Global;
 use std::collections::HashMap;
 use std::process::Abort;
 use std::test::Fail;
 use told::{Told, told_by};
-
-/// A map with the values of the rows.
-fn values<'a>(
-    alloc: Global,
-    shown: &'a [(&'a str, View<'a>)],
-) -> Result<HashMap<&'a str, Formattable<'a, View<'a>>>, Fail> {
-    let mut map = HashMap::new(alloc);
-    for (name, view) in shown {
-        map.insert(*name, Formattable::display(view))?;
-    }
-    map.insert("none", Formattable::default())?;
-    Ok(map)
-}
-
-const SHOWN: [(&str, View<'static>); 10] = [
-    ("name", View::Text("Ann")),
-    ("n", View::Signed(-7, Bits::B32)),
-    ("x", View::Unsigned(1)),
-    ("é", View::Unsigned(1)),
-    ("a{b", View::Unsigned(1)),
-    ("", View::Unsigned(1)),
-    ("y", View::Unsigned(1)),
-    ("w ", View::Unsigned(1)),
-    ("plain", View::Plain("{x}")),
-    ("failed", View::Failed),
-];
 
 /// The row is given by every way to write or make a text.
 fn gives<'a>(
@@ -51,42 +29,99 @@ fn gives<'a>(
     let mut out = TextBuffer::new(alloc);
     let answer = map.write_to(alloc, &mut out, row.format);
     assert_eq!(rt; told_by(&answer), row.told, "at {}", row.format);
-    assert_eq!(rt; out.as_str(), row.text);
+    assert_eq!(rt; out.as_str(), row.text, "at {}", row.format);
     assert!(rt; !out.refused());
     let made = map.format(alloc, row.format);
     assert_eq!(rt; told_by(&made), row.told, "at {}", row.format);
     match made {
-        Ok(text) => assert_eq!(rt; text.as_str(), row.text),
+        Ok(text) => assert_eq!(rt; text.as_str(), row.text, "at {}", row.format),
         Err(_error) => {}
     }
     Ok(())
 }
 
+/// The rows are given in their context.
+fn give(rt: &impl Abort, alloc: Global, table: &Table<'_>) -> Result<(), Fail> {
+    let map = map_of(alloc, table.values)?;
+    for row in table.rows {
+        gives(rt, alloc, row, &map)?;
+    }
+    Ok(())
+}
+
 #[test]
-fn rows_give_their_texts_and_faults(rt: HostRuntime) -> Result<(), Fail> {
-    let map = values(rt.alloc(), &SHOWN)?;
-    for row in &PLAIN {
-        gives(&rt, rt.alloc(), row, &map)?;
+fn plain_names(rt: HostRuntime) -> Result<(), Fail> {
+    give(&rt, rt.alloc(), &PLAIN)
+}
+
+#[test]
+fn specs_are_written(rt: HostRuntime) -> Result<(), Fail> {
+    for table in &WRITTEN {
+        give(&rt, rt.alloc(), table)?;
+    }
+    Ok(())
+}
+
+#[test]
+fn specs_are_refused(rt: HostRuntime) -> Result<(), Fail> {
+    for table in &BROKEN {
+        give(&rt, rt.alloc(), table)?;
+    }
+    Ok(())
+}
+
+#[test]
+fn until_lists_come(rt: HostRuntime) -> Result<(), Fail> {
+    give(&rt, rt.alloc(), &UNTIL_LISTS)
+}
+
+#[test]
+fn cuts(rt: HostRuntime) -> Result<(), Fail> {
+    give(&rt, rt.alloc(), &CUTS)
+}
+
+/// The row is given by a writer that takes no more than its room.
+fn gives_in_room<'a>(
+    rt: &impl Abort,
+    alloc: Global,
+    row: &RoomRow<'_>,
+    map: &HashMap<&'a str, Formattable<'a, View<'a>>>,
+) -> Result<(), Fail> {
+    let mut out = Limited::new(alloc, row.room)?;
+    let answer = map.write_to(alloc, &mut out, row.format);
+    assert_eq!(rt;
+        told_by(&answer),
+        row.told,
+        "at {} in {}",
+        row.format,
+        row.room
+    );
+    assert_eq!(rt; out.as_str(), row.text, "at {} in {}", row.format, row.room);
+    Ok(())
+}
+
+/// The rows are given in their context.
+fn give_in_room(rt: &impl Abort, alloc: Global, table: &RoomTable<'_>) -> Result<(), Fail> {
+    let map = map_of(alloc, table.values)?;
+    for row in table.rows {
+        gives_in_room(rt, alloc, row, &map)?;
     }
     Ok(())
 }
 
 #[test]
 fn limited_writers_hold_beginnings(rt: HostRuntime) -> Result<(), Fail> {
-    let map = values(rt.alloc(), &SHOWN)?;
-    for row in &LIMITED {
-        let mut out = Limited::new(rt.alloc(), row.room)?;
-        let answer = map.write_to(rt.alloc(), &mut out, row.format);
-        assert_eq!(rt;
-            told_by(&answer),
-            row.told,
-            "at {} in {}",
-            row.format,
-            row.room
-        );
-        assert_eq!(rt; out.as_str(), row.text);
+    give_in_room(&rt, rt.alloc(), &PLAIN_ROOM)?;
+    for table in &ROOM {
+        give_in_room(&rt, rt.alloc(), table)?;
     }
     Ok(())
+}
+
+#[test]
+fn each_spec_asks_its_slot(rt: HostRuntime) -> Result<(), Fail> {
+    give(&rt, rt.alloc(), &ASKED)?;
+    give(&rt, rt.alloc(), &ASKED_IN_VAIN)
 }
 
 #[test]
@@ -103,6 +138,13 @@ fn contexts_of_ones_own(rt: HostRuntime) -> Result<(), Fail> {
     assert_eq!(rt; out.as_str(), "a");
     let text = format(rt.alloc(), "{{}}", &Nowhere)?;
     assert_eq!(rt; text.as_str(), "{}");
+    let context = Everywhere {
+        value: Formattable::display(&OnlyFive),
+    };
+    let mut out = TextBuffer::new(rt.alloc());
+    let answer = context.write_to(rt.alloc(), &mut out, "{v:5}{v}");
+    assert_eq!(rt; told_by(&answer), Told::MissingTraitImpl(Trait::Display, 7));
+    assert_eq!(rt; out.as_str(), "w5   ");
     Ok(())
 }
 
@@ -116,6 +158,19 @@ fn a_run_of_literals_is_one_call(rt: HostRuntime) -> Result<(), Fail> {
     write(rt.alloc(), &mut out, text.as_str(), &Nowhere)?;
     assert_eq!(rt; out.as_str(), text.as_str());
     assert_eq!(rt; out.calls, 1);
+    assert_eq!(rt; out.empty_calls, 0);
+    Ok(())
+}
+
+#[test]
+fn padding_is_written_in_slices(rt: HostRuntime) -> Result<(), Fail> {
+    let mut out = Counting::new(rt.alloc());
+    let context = Everywhere {
+        value: Formattable::display(&7u64),
+    };
+    context.write_to(rt.alloc(), &mut out, "{v:1001}")?;
+    assert_eq!(rt; out.as_str().len(), 1001);
+    assert!(rt; out.calls <= 17, "{} calls", out.calls);
     assert_eq!(rt; out.empty_calls, 0);
     Ok(())
 }

@@ -2,11 +2,15 @@
 #![tactic(auto)]
 
 #[cfg(test)]
+mod arguments;
+#[cfg(test)]
 mod counting;
 #[cfg(test)]
 mod formats;
 #[cfg(test)]
 mod limited;
+#[cfg(test)]
+mod pairs;
 #[cfg(test)]
 mod render;
 #[cfg(test)]

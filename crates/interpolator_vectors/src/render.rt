@@ -1,5 +1,6 @@
 //! Rows of the renderer.
 
+mod border_rows;
 mod exponent_rows;
 mod number_rows;
 mod other_rows;
@@ -8,6 +9,7 @@ mod text_rows;
 
 use crate::counting::Counting;
 use crate::limited::Limited;
+use border_rows::{DIGIT_BORDERS, EXPONENT_BORDERS, digit_row, exponent_row};
 use exponent_rows::EXPONENTS;
 use interpolator_render::{
     Refusal, RenderFault, TextBuffer, TextWrite, Trait, Value, View, pad, render,
@@ -79,6 +81,18 @@ fn rows_give_their_texts(rt: HostRuntime) -> Result<(), Fail> {
     give(&rt, rt.alloc(), &TEXTS)
 }
 
+/// Numbers at the borders between the two ways to write them give their texts.
+#[test]
+fn border_rows_give_their_texts(rt: HostRuntime) -> Result<(), Fail> {
+    for border in &DIGIT_BORDERS {
+        give(&rt, rt.alloc(), &[digit_row(border)])?;
+    }
+    for border in &EXPONENT_BORDERS {
+        give(&rt, rt.alloc(), &[exponent_row(border)])?;
+    }
+    Ok(())
+}
+
 /// A view that has no text under a trait, or that failed, writes nothing.
 #[test]
 fn faults_write_nothing(rt: HostRuntime) {
@@ -97,6 +111,48 @@ fn greatest_width_and_precision(rt: HostRuntime) -> Result<(), Fail> {
     for row in &ENDLESS {
         let room = row.text.len();
         gives_beginning(&rt, rt.alloc(), row, room, Err(RenderFault::Refused))?;
+    }
+    Ok(())
+}
+
+/// A view of each type that is a value, all in one list.
+#[test]
+fn views_of_values(rt: HostRuntime) -> Result<(), Fail> {
+    let owned = String::from_str(rt.alloc(), "é")?;
+    let rows = [
+        (View::from(u8::MAX), "255"),
+        (View::from(u16::MAX), "65535"),
+        (View::from(u32::MAX), "4294967295"),
+        (View::from(u64::MAX), "18446744073709551615"),
+        (
+            View::from(u128::MAX),
+            "340282366920938463463374607431768211455",
+        ),
+        (View::from(usize::MAX), "18446744073709551615"),
+        (View::from(i8::MIN), "-128"),
+        (View::from(i16::MIN), "-32768"),
+        (View::from(i32::MIN), "-2147483648"),
+        (View::from(i64::MIN), "-9223372036854775808"),
+        (
+            View::from(i128::MIN),
+            "-170141183460469231731687303715884105728",
+        ),
+        (View::from(isize::MIN), "-9223372036854775808"),
+        (View::from(true), "true"),
+        (View::from('é'), "é"),
+        (View::from("a\"b"), "a\"b"),
+        (View::from(&owned), "é"),
+    ];
+    for (view, text) in &rows {
+        let mut out = TextBuffer::new(rt.alloc());
+        let answer = render(
+            &mut out,
+            view.view(Trait::Display, &PLAIN),
+            Trait::Display,
+            &PLAIN,
+        );
+        assert_eq!(rt; answer, Ok(()));
+        assert_eq!(rt; out.as_str(), *text);
     }
     Ok(())
 }

@@ -1,11 +1,91 @@
 //! What a user writes: contexts and formats, with no proof of his own.
 
 use interpolator::{
-    Bits, ContextMap, Error, Formattable, Interpolate, Spec, TextBuffer, Trait, Value, View,
+    Bits, ContextMap, Error, Formattable, Interpolate, Pairs, Spec, TextBuffer, Trait, Value, View,
 };
 use std::alloc::Global;
 use std::collections::HashMap;
 use std::test::Fail;
+
+/// A row of a table.
+#[derive(Clone, Copy)]
+struct Guest<'a> {
+    name: &'a str,
+    city: &'a str,
+}
+
+/// A letter for each row, by pairs: with no map and no memory.
+fn letters(
+    alloc: Global,
+    out: &mut TextBuffer,
+    template: &str,
+    guests: &[Guest<'_>],
+) -> Result<(), Error> {
+    for guest in guests {
+        Pairs(&[
+            ("name", Formattable::display(&guest.name)),
+            ("city", Formattable::display(&guest.city)),
+        ])
+        .write_to(alloc, out, template)?;
+    }
+    Ok(())
+}
+
+/// Pairs of several kinds, which stand in one local.
+fn apples(alloc: Global, name: &str, apples: i32) -> Result<String, Error> {
+    let values = [
+        View::Text(name),
+        View::Signed(i128::from(apples), Bits::B32),
+    ];
+    Pairs(&[
+        ("name", Formattable::debug_display(&values[0])),
+        ("n", Formattable::integer(&values[1])),
+    ])
+    .format(alloc, "{name} has {{{n}}} apples")
+}
+
+/// Pairs that are known when the program runs.
+fn listed_names(alloc: Global, header: &str, row: &str, text: &str) -> Result<String, Error> {
+    let fields = row.split(',').collect::<Vec<&str>>(alloc)?;
+    let mut pairs = Vec::new(alloc);
+    for (name, field) in header.split(',').zip(&fields) {
+        pairs.push((name, Formattable::debug_display(field)))?;
+    }
+    Pairs(&pairs).format(alloc, text)
+}
+
+/// Rows of views, in a loop.
+fn lines(alloc: Global, layout: &str, records: &[(&str, u32)]) -> Result<String, Error> {
+    let mut out = TextBuffer::new(alloc);
+    for (level, line) in records {
+        let values = [View::Text(level), View::Unsigned(u128::from(*line))];
+        Pairs(&[
+            ("level", Formattable::debug_display(&values[0])),
+            ("line", Formattable::integer(&values[1])),
+        ])
+        .write_to(alloc, &mut out, layout)?;
+    }
+    Ok(out.into_string())
+}
+
+/// A report in columns: specs say their width and alignment, and the base of numbers.
+fn stock(alloc: Global, rows: &[(&str, u32)]) -> Result<String, Error> {
+    let mut out = TextBuffer::new(alloc);
+    for (item, count) in rows {
+        let values = [View::Text(item), View::Unsigned(u128::from(*count))];
+        Pairs(&[
+            ("item", Formattable::display(&values[0])),
+            ("n", Formattable::integer(&values[1])),
+        ])
+        .write_to(alloc, &mut out, "{item:<10}|{n:>6}|{n:#06x}\n")?;
+    }
+    Ok(out.into_string())
+}
+
+/// A name as it is, and as it stands in code.
+fn badge(alloc: Global, name: &str) -> Result<String, Error> {
+    Pairs(&[("name", Formattable::debug_display(&name))]).format(alloc, "[{name:^9}] {name:?}")
+}
 
 /// One kind of values, by `&str` names.
 fn greeting(alloc: Global, name: &str, city: &str) -> Result<String, Error> {
@@ -86,6 +166,66 @@ fn line(alloc: Global, out: &mut TextBuffer, low: i32, high: Option<i32>) -> Res
         context.insert("high", Formattable::display(high))?;
     }
     context.write_to(alloc, out, "{low} to {high}\n")
+}
+
+/// Degrees in two locals: values of several locals are pushed.
+fn range(alloc: Global, low: i32, high: Option<i32>) -> Result<String, Error> {
+    let low = Degrees { celsius: low };
+    let high = high.map(|celsius| Degrees { celsius });
+    let mut pairs = Vec::new(alloc);
+    pairs.push(("low", Formattable::display(&low)))?;
+    pairs.push(("high", Formattable::display(&low)))?;
+    if let Some(high) = &high {
+        pairs.push(("high", Formattable::display(high)))?;
+    }
+    Pairs(&pairs).format(alloc, "{low} to {high}")
+}
+
+#[test]
+fn users_write_pairs(rt: HostRuntime) -> Result<(), Fail> {
+    let alloc = rt.alloc();
+    let guests = [
+        Guest {
+            name: "Ann",
+            city: "Oslo",
+        },
+        Guest {
+            name: "Béla",
+            city: "Győr",
+        },
+    ];
+    let mut out = TextBuffer::new(alloc);
+    letters(alloc, &mut out, "Hello {name}, how is {city}?\n", &guests)?;
+    assert_eq!(rt;
+        out.as_str(),
+        "Hello Ann, how is Oslo?\nHello Béla, how is Győr?\n"
+    );
+    let mut columns = TextBuffer::new(alloc);
+    letters(alloc, &mut columns, "{name:>6}|{city:.2}\n", &guests)?;
+    assert_eq!(rt; columns.as_str(), "   Ann|Os\n  Béla|Gy\n");
+    assert_eq!(rt; apples(alloc, "Ann", -7)?.as_str(), "Ann has {-7} apples");
+    assert_eq!(rt;
+        listed_names(alloc, "name,n,name", "Ann,7,Eve", "{n} {name}")?.as_str(),
+        "7 Eve"
+    );
+    assert_eq!(rt;
+        lines(alloc, "[{level}] {line};", &[("info", 1), ("warn", 22)])?.as_str(),
+        "[info] 1;[warn] 22;"
+    );
+    assert_eq!(rt;
+        stock(alloc, &[("bread", 7), ("crème", 1234)])?.as_str(),
+        "bread     |     7|0x0007\ncrème     |  1234|0x04d2\n"
+    );
+    assert_eq!(rt;
+        badge(alloc, "Zoé \"Z\"")?.as_str(),
+        "[ Zoé \"Z\" ] \"Zoé \\\"Z\\\"\""
+    );
+    assert_eq!(rt; range(alloc, -4, Some(3))?.as_str(), "-4 to 3");
+    assert_eq!(rt; range(alloc, -4, None)?.as_str(), "-4 to -4");
+    let seven = 7u64;
+    let text = Pairs(&[("n", Formattable::display(&seven))]).format(alloc, "{n}")?;
+    assert_eq!(rt; text.as_str(), "7");
+    Ok(())
 }
 
 #[test]

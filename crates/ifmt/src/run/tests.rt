@@ -1,4 +1,4 @@
-//! Tests of the lines that are written, and of writers that refuse.
+//! Tests of the lines that are written, of the flush behind each, and of writers that refuse.
 
 use crate::run::{complain, run, usage};
 use interpolator::ContextMap;
@@ -9,58 +9,103 @@ use std::test::Fail;
 
 const USAGE: &str = "usage: ifmt FORMAT [NAME=TEXT | NAME:=NUMBER | NAME[]=ITEM,ITEM..]\n";
 
-/// A writer that takes this many calls, and then refuses.
+const NO_Q: &str = "specified value not in context `q` at 2\n";
+
+const NO_END: &str = "error while parsing input: Format spec at 3 is nether closed with a `}`\n";
+
+/// A writer that counts its calls, and refuses one of them.
 #[derive(Drop)]
-struct Refusing {
+struct Spy {
     calls: usize,
+    flushes: usize,
+    // Whether the last call was a flush.
+    flushed: bool,
+    // The call that is refused, counted from 1; none for 0.
+    refuses: usize,
 }
 
-impl Refusing {
-    fn call(&mut self) -> io::Result<()> {
-        if self.calls == 0 {
+impl Spy {
+    fn new(refuses: usize) -> Spy {
+        Spy {
+            calls: 0,
+            flushes: 0,
+            flushed: false,
+            refuses,
+        }
+    }
+
+    fn call(&mut self, is_flush: bool) -> io::Result<()> {
+        self.calls = self.calls.saturating_add(1);
+        self.flushed = is_flush;
+        if self.calls == self.refuses {
             return Err(io::Error::from(ErrorKind::BrokenPipe));
         }
-        self.calls -= 1;
         Ok(())
     }
 }
 
-impl Write for Refusing {
+impl Write for Spy {
     fn write(&mut self, buf: &[u8]) -> io::Result<usize> {
-        self.call()?;
+        self.call(false)?;
         Ok(buf.len())
     }
 
     fn flush(&mut self) -> io::Result<()> {
-        self.call()
+        self.flushes = self.flushes.saturating_add(1);
+        self.call(true)
     }
 }
+
+/// What is asked of the writers.
+#[derive(Clone, Copy, Debug)]
+enum Call {
+    Text,
+    Fault,
+    Complain,
+    Usage,
+}
+
+/// Each call, and its status where no write is refused.
+const CALLS: [(Call, u8); 4] = [
+    (Call::Text, 0),
+    (Call::Fault, 1),
+    (Call::Complain, 2),
+    (Call::Usage, 2),
+];
 
 fn run_on<O: Write, E: Write>(alloc: Global, format: &str, out: &mut O, err: &mut E) -> u8 {
     let context: ContextMap<'_, u64> = ContextMap::new(alloc);
     run(alloc, format, &context, out, err)
 }
 
+/// Makes the call, with the writer that it goes to and the other one.
+fn status_of(alloc: Global, call: Call, to: &mut Spy, other: &mut Spy) -> u8 {
+    match call {
+        Call::Text => run_on(alloc, "Hi", to, other),
+        Call::Fault => run_on(alloc, "{q}", other, to),
+        Call::Complain => complain("a", to),
+        Call::Usage => usage(to),
+    }
+}
+
 #[test]
 fn lines_are_written_whole(rt: HostRuntime) -> Result<(), Fail> {
     let alloc = rt.alloc();
+    // The format, what `out` and `err` get, and the status: the texts of the faults are those of
+    // the crate that this one ports.
     let rows = [
         ("Hi", "Hi\n", "", 0),
         ("", "\n", "", 0),
-        ("a{q}", "", "specified value not in context `q` at 2\n", 1),
-        (
-            "é{",
-            "",
-            "error while parsing input: Format spec at 3 is nether closed with a `}`\n",
-            1,
-        ),
+        ("a{q}", "", NO_Q, 1),
+        ("é{", "", NO_END, 1),
     ];
     for (format, text, fault, status) in rows {
         let mut out = Vec::new(alloc);
         let mut err = Vec::new(alloc);
-        assert_eq!(rt; run_on(alloc, format, &mut out, &mut err), status);
-        assert_eq!(rt; out.as_slice(), text.as_bytes());
-        assert_eq!(rt; err.as_slice(), fault.as_bytes());
+        let answered = run_on(alloc, format, &mut out, &mut err);
+        assert_eq!(rt; answered, status, "{format}");
+        assert_eq!(rt; out.as_slice(), text.as_bytes(), "{format}");
+        assert_eq!(rt; err.as_slice(), fault.as_bytes(), "{format}");
     }
     let mut err = Vec::new(alloc);
     assert_eq!(rt; complain("a", &mut err), 2);
@@ -71,31 +116,37 @@ fn lines_are_written_whole(rt: HostRuntime) -> Result<(), Fail> {
     Ok(())
 }
 
-/// What is asked of a writer that refuses its call behind the first `calls`.
-fn status_after(alloc: Global, call: u8, calls: usize) -> u8 {
-    let mut refusing = Refusing { calls };
-    let mut untouched = Refusing { calls: 0 };
-    match call {
-        0 => run_on(alloc, "Hi", &mut refusing, &mut untouched),
-        1 => run_on(alloc, "{q}", &mut untouched, &mut refusing),
-        2 => complain("a", &mut refusing),
-        _ => usage(&mut refusing),
+#[test]
+fn each_line_is_flushed_behind_its_end(rt: HostRuntime) {
+    for (call, wanted) in CALLS {
+        let mut to = Spy::new(0);
+        let mut other = Spy::new(0);
+        let status = status_of(rt.alloc(), call, &mut to, &mut other);
+        assert_eq!(rt; status, wanted, "{call:?}");
+        assert!(rt; to.calls >= 2, "{call:?} writes and flushes");
+        assert!(rt; to.flushed, "{call:?} ends with a flush");
+        assert_eq!(rt; to.flushes, 1, "{call:?} flushes once");
+        assert_eq!(rt; other.calls, 0, "{call:?} leaves the other writer alone");
     }
 }
 
 #[test]
 fn each_refused_call_shows(rt: HostRuntime) {
-    for (call, wanted) in [(0u8, 0u8), (1, 1), (2, 2), (3, 2)] {
-        let mut answered = false;
-        for calls in 0..16 {
-            let status = status_after(rt.alloc(), call, calls);
-            if status != 3 {
-                assert_eq!(rt; status, wanted);
-                assert!(rt; calls >= 2, "a write and a flush");
-                answered = true;
+    for (call, wanted) in CALLS {
+        let mut met = 0usize;
+        for refuses in 1..64 {
+            let mut to = Spy::new(refuses);
+            let mut other = Spy::new(0);
+            let status = status_of(rt.alloc(), call, &mut to, &mut other);
+            assert_eq!(rt; other.calls, 0, "{call:?} leaves the other writer alone");
+            if to.calls < refuses {
+                assert_eq!(rt; status, wanted, "{call:?} with no call refused");
                 break;
             }
+            met = refuses;
+            assert_eq!(rt; status, 3, "{call:?} with call {refuses} refused");
+            assert_eq!(rt; to.calls, refuses, "{call:?} ends at the refused call");
         }
-        assert!(rt; answered);
+        assert!(rt; met >= 2 && met < 63, "{call:?} meets a write and a flush");
     }
 }

@@ -1,60 +1,78 @@
 //! Tests of the words.
 
-use crate::words::{Word, classify};
+use crate::words::{Word, classify, items};
+
+/// The name `n` with the least and the greatest number of 128 bits, and one past either.
+const LEAST: &str = "n:=-170141183460469231731687303715884105728";
+
+const GREATEST: &str = "n:=170141183460469231731687303715884105727";
+
+const TOO_LITTLE: &str = "n:=-170141183460469231731687303715884105729";
+
+const TOO_GREAT: &str = "n:=170141183460469231731687303715884105728";
+
+/// A word, its name and its text: by hand, from the rule that the first `=` cuts it.
+const TEXTS: [(&str, &str, &str); 10] = [
+    ("a=b=c", "a", "b=c"),
+    ("a=", "a", ""),
+    ("=x", "", "x"),
+    ("=", "", ""),
+    ("a:b=c", "a:b", "c"),
+    ("n=:5", "n", ":5"),
+    ("n[=5", "n[", "5"),
+    ("n]=5", "n]", "5"),
+    ("n =5", "n ", "5"),
+    ("é=ü", "é", "ü"),
+];
+
+/// A word, its name and its number: by hand, the least and the greatest those of Rust's `i128`.
+const NUMBERS: [(&str, &str, i128); 8] = [
+    ("n:=5", "n", 5),
+    ("n:=-12", "n", -12),
+    (":=5", "", 5),
+    ("a:b:=1", "a:b", 1),
+    ("n:=-0", "n", 0),
+    ("n:=007", "n", 7),
+    (LEAST, "n", i128::MIN),
+    (GREATEST, "n", i128::MAX),
+];
+
+/// Words that mean nothing: by the same rule; list words until lists come.
+const BAD: [&str; 16] = [
+    "a", "", "n:=+1", "n:=", "n:=-", "n:=x", "n:=1 ", "n:= 1", "n:=--1", "n:=1-", "n:=1=", "n:=٣",
+    TOO_LITTLE, TOO_GREAT, "a[]=x", "[]=",
+];
+
+/// The text of a list, and its items: by hand, from the rule that each comma ends one, and that the
+/// empty text has none.
+const ITEMS: [(&str, &[&str]); 6] = [
+    ("", &[]),
+    ("a", &["a"]),
+    ("a,b", &["a", "b"]),
+    ("a,,b", &["a", "", "b"]),
+    (",", &["", ""]),
+    ("é,a=b, ", &["é", "a=b", " "]),
+];
 
 #[test]
 fn words_mean_what_they_say(rt: HostRuntime) {
-    let texts = [
-        ("a=b=c", "a", "b=c"),
-        ("a=", "a", ""),
-        ("=x", "", "x"),
-        ("=", "", ""),
-        ("a:b=c", "a:b", "c"),
-        ("n=:5", "n", ":5"),
-        ("n[=5", "n[", "5"),
-        ("n]=5", "n]", "5"),
-        ("n =5", "n ", "5"),
-        ("é=ü", "é", "ü"),
-    ];
-    for (word, name, text) in texts {
-        assert_eq!(rt; classify(word), Word::Text { name, text });
+    for (word, name, text) in TEXTS {
+        assert_eq!(rt; classify(word), Word::Text { name, text }, "{word}");
     }
-    let numbers = [
-        ("n:=5", "n", 5i128),
-        ("n:=-12", "n", -12),
-        (":=5", "", 5),
-        ("a:b:=1", "a:b", 1),
-        ("n:=-0", "n", 0),
-        ("n:=007", "n", 7),
-        (
-            "n:=-170141183460469231731687303715884105728",
-            "n",
-            i128::MIN,
-        ),
-        ("n:=170141183460469231731687303715884105727", "n", i128::MAX),
-    ];
-    for (word, name, value) in numbers {
-        assert_eq!(rt; classify(word), Word::Number { name, value });
+    for (word, name, value) in NUMBERS {
+        assert_eq!(rt; classify(word), Word::Number { name, value }, "{word}");
     }
-    let bad = [
-        "a",
-        "",
-        "n:=+1",
-        "n:=",
-        "n:=-",
-        "n:=x",
-        "n:=1 ",
-        "n:= 1",
-        "n:=--1",
-        "n:=1-",
-        "n:=1=",
-        "n:=٣",
-        "n:=170141183460469231731687303715884105728",
-        "n:=-170141183460469231731687303715884105729",
-        "a[]=x",
-        "[]=",
-    ];
-    for word in bad {
-        assert_eq!(rt; classify(word), Word::Bad);
+    for word in BAD {
+        assert_eq!(rt; classify(word), Word::Bad, "{word}");
+    }
+}
+
+#[test]
+fn lists_are_split_at_commas(rt: HostRuntime) {
+    for (text, wanted) in ITEMS {
+        match items(rt.alloc(), text) {
+            Ok(parts) => assert_eq!(rt; parts.as_slice(), wanted, "{text}"),
+            Err(_) => assert!(rt; false, "{text}"),
+        }
     }
 }

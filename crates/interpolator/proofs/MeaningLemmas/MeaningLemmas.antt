@@ -17,7 +17,8 @@ use Rattle.interpolator.specs.Meaning.Meanings.{Meaning, nothing, text_alone, or
 use Rattle.interpolator.specs.declared.syntax.class.Class.TheVariants.{Literal}
 use Rattle.interpolator.proofs.SyntaxLemmas.PieceLemmas.{behind_shorter, piece_begins, pieces_none, pieces_next, OptionWithin, strip_within, argument_from_within}
 
-shift_twice : (a b : ℕ) (ns : List ℕ) → map (λ n. a + b + n) ns ≡ map (λ n. a + n) (map (λ n. b + n) ns)
+shift_twice : (a b : ℕ) (ns : List ℕ)
+    → map (λ n. a + b + n) ns ≡ map (λ n. a + n) (map (λ n. b + n) ns)
 shift_twice a b [] = refl
 shift_twice a b (n ∷ ns) = let e : a + b + n ≡ a + (b + n) = omega arith in rw (e, shift_twice a b ns) refl
 
@@ -25,7 +26,8 @@ shift_twice a b (n ∷ ns) = let e : a + b + n ≡ a + (b + n) = omega arith in 
 pub joined_assoc : (m k l : Meaning) → joined (joined m k) l ≡ joined m (joined k l)
 joined_assoc m k l = by_faults m.fault refl k.fault refl
   where
-    by_faults : (o : Option Fault) → m.fault ≡ o → (p : Option Fault) → k.fault ≡ p → joined (or_fault o m k) l ≡ or_fault o m (or_fault p k l)
+    by_faults : (o : Option Fault) → m.fault ≡ o → (p : Option Fault) → k.fault ≡ p
+        → joined (or_fault o m k) l ≡ or_fault o m (or_fault p k l)
     by_faults (Some f) e p d = rw e refl
     by_faults None e (Some f) d = rw d refl
     by_faults None e None d = rw (d, append_assoc m.text k.text l.text, length-append m.text k.text, shift_twice (length m.text) (length k.text) l.memory_points, map-append (λ n. length m.text + n) k.memory_points (map (λ n. length k.text + n) l.memory_points), append_assoc m.memory_points (map (λ n. length m.text + n) k.memory_points) (map (λ n. length m.text + n) (map (λ n. length k.text + n) l.memory_points))) refl
@@ -51,24 +53,29 @@ module _ {X : Type 0} (shows : X → Trait → Spec → Shown) (e : Environment 
   means_none p = ap (pieces_mean shows e) (pieces_none p)
 
   -- the first piece, and then what stands behind it
-  pub means_next : (p c : ℕ) (cs : List ℕ) → means shows e (record { place = p; text = c ∷ cs }) ≡ joined (piece_means shows e p (piece_from p c (past p c cs)).piece.kind) (means shows e (piece_from p c (past p c cs)).rest)
+  pub means_next : (p c : ℕ) (cs : List ℕ)
+      → means shows e (record { place = p; text = c ∷ cs }) ≡ joined (piece_means shows e p (piece_from p c (past p c cs)).piece.kind) (means shows e (piece_from p c (past p c cs)).rest)
   unfolding means
   means_next p c cs =
       let s = piece_from p c (past p c cs) in
-      ap (pieces_mean shows e) (pieces_next p c cs) ∙ ap (λ q. joined (piece_means shows e q s.piece.kind) (pieces_mean shows e (pieces s.rest))) (piece_begins p c (past p c cs))
+      ap (pieces_mean shows e) (pieces_next p c cs)
+      ∙ ap (λ q. joined (piece_means shows e q s.piece.kind) (pieces_mean shows e (pieces s.rest))) (piece_begins p c (past p c cs))
 
-  literal_next : (p c : ℕ) (cs : List ℕ) → is_brace c ≡ false → means shows e (record { place = p; text = c ∷ cs }) ≡ joined (text_alone ((c, p) ∷ [])) (means shows e (past p c cs))
+  literal_next : (p c : ℕ) (cs : List ℕ) → is_brace c ≡ false
+      → means shows e (record { place = p; text = c ∷ cs }) ≡ joined (text_alone ((c, p) ∷ [])) (means shows e (past p c cs))
   literal_next p c cs h =
       let tests = no_brace c h in
       let b = past p c cs in
-      means_next p c cs ∙ ap (λ s. joined (piece_means shows e p s.piece.kind) (means shows e s.rest))
+      means_next p c cs
+      ∙ ap (λ s. joined (piece_means shows e p s.piece.kind) (means shows e s.rest))
       (ap (λ t. cond t (open_step p b (strip open_brace b)) (cond (eqb c close_brace) (close_step p b (strip close_brace b)) (step p (c ∷ []) (literal c) b))) tests.0
       ∙ ap (λ t. cond t (close_step p b (strip close_brace b)) (step p (c ∷ []) (literal c) b)) tests.1)
 
   abbrev IsRun : ℕ → List ℕ → Type 0
   IsRun p cs = means shows e (record { place = p; text = cs }) ≡ joined (text_alone (placed_from p (front_of (in_class Literal) cs))) (means shows e (record { place = p + size (front_of (in_class Literal) cs); text = behind_of (in_class Literal) cs }))
 
-  one_more : (p c : ℕ) (cs : List ℕ) (t : Bool) → is_brace c ≡ t → IsRun (p + len_utf8 c) cs → IsRun p (c ∷ cs)
+  one_more : (p c : ℕ) (cs : List ℕ) (t : Bool) → is_brace c ≡ t → IsRun (p + len_utf8 c) cs
+      → IsRun p (c ∷ cs)
   one_more p c cs true h k = let none : p + 0 ≡ p = omega arith in rw (h, none) (sym (joined_none _))
   one_more p c cs false h k =
       let front = front_of (in_class Literal) cs in
@@ -84,11 +91,15 @@ module _ {X : Type 0} (shows : X → Trait → Spec → Shown) (e : Environment 
   abbrev AnyPlace : (q p : ℕ) → Step → Step → Type 0
   AnyPlace q p s t = (piece_means shows e q s.piece.kind ≡ piece_means shows e p t.piece.kind) × (s.rest ≡ t.rest)
 
-  any_place_step : (q p : ℕ) (b : At) (x : Argument) (r : At) (o : Option At) → AnyPlace q p (argument_step q b x r o) (argument_step p b x r o)
+  any_place_step :
+      (q p : ℕ) (b : At) (x : Argument) (r : At) (o : Option At)
+      → AnyPlace q p (argument_step q b x r o) (argument_step p b x r o)
   any_place_step q p b x r None = (refl, refl)
   any_place_step q p b x r (Some rest) = (refl, refl)
 
-  any_place_read : (q p : ℕ) (b : At) (r : Result (Argument × At) Fault) → AnyPlace q p (argument_or_broken q b r) (argument_or_broken p b r)
+  any_place_read :
+      (q p : ℕ) (b : At) (r : Result (Argument × At) Fault)
+      → AnyPlace q p (argument_or_broken q b r) (argument_or_broken p b r)
   any_place_read q p b (Ok x) = any_place_step q p b x.0 x.1 (strip close_brace x.1)
   any_place_read q p b (Err f) = (refl, refl)
 
@@ -102,11 +113,13 @@ module _ {X : Type 0} (shows : X → Trait → Spec → Shown) (e : Environment 
   abbrev ThenScanned : ℕ → Token × At → Meaning
   ThenScanned p x = joined (token_means shows e p x.0 x.1) (means shows e (past_token x.0 x.1))
 
-  opened : (p : ℕ) (b : At) (o : Option At) → Then p (open_step p b o) ≡ ThenScanned p (open_scan b o)
+  opened : (p : ℕ) (b : At) (o : Option At)
+      → Then p (open_step p b o) ≡ ThenScanned p (open_scan b o)
   opened p b (Some rest) = refl
   opened p b None = let same = any_place p b.place b in rw (same.0, same.1) refl
 
-  closed_by : (p : ℕ) (b : At) (o : Option At) → Then p (close_step p b o) ≡ ThenScanned p (close_scan b o)
+  closed_by : (p : ℕ) (b : At) (o : Option At)
+      → Then p (close_step p b o) ≡ ThenScanned p (close_scan b o)
   closed_by p b (Some rest) = refl
   closed_by p b None = refl
 
@@ -115,12 +128,14 @@ module _ {X : Type 0} (shows : X → Trait → Spec → Shown) (e : Environment 
   Leads a None = means shows e a ≡ nothing
   Leads a (Some x) = means shows e a ≡ ThenScanned a.place x
 
-  leads_at : (p : ℕ) (cs : List ℕ) → Leads (record { place = p; text = cs }) (first_token (record { place = p; text = cs }))
+  leads_at : (p : ℕ) (cs : List ℕ)
+      → Leads (record { place = p; text = cs }) (first_token (record { place = p; text = cs }))
   unfolding first_token
   leads_at p [] = means_none p
   leads_at p (c ∷ cs) = by_open (eqb c open_brace) refl
     where
-      by_close : (t : Bool) → eqb c open_brace ≡ false → eqb c close_brace ≡ t → Leads (record { place = p; text = c ∷ cs }) (no_open_scan (record { place = p; text = c ∷ cs }) (cond t (Some (past p c cs)) None))
+      by_close : (t : Bool) → eqb c open_brace ≡ false → eqb c close_brace ≡ t
+          → Leads (record { place = p; text = c ∷ cs }) (no_open_scan (record { place = p; text = c ∷ cs }) (cond t (Some (past p c cs)) None))
       by_close true n d =
           means_next p c cs
           ∙ ap (λ t. Then p (cond t (open_step p (past p c cs) (strip open_brace (past p c cs))) (cond (eqb c close_brace) (close_step p (past p c cs) (strip close_brace (past p c cs))) (step p (c ∷ []) (literal c) (past p c cs))))) n
@@ -128,20 +143,23 @@ module _ {X : Type 0} (shows : X → Trait → Spec → Shown) (e : Environment 
           ∙ closed_by p (past p c cs) (strip close_brace (past p c cs))
       by_close false n d = means_literals p (c ∷ cs)
 
-      by_open : (t : Bool) → eqb c open_brace ≡ t → Leads (record { place = p; text = c ∷ cs }) (scan_by (record { place = p; text = c ∷ cs }) (cond t (Some (past p c cs)) None))
+      by_open : (t : Bool) → eqb c open_brace ≡ t
+          → Leads (record { place = p; text = c ∷ cs }) (scan_by (record { place = p; text = c ∷ cs }) (cond t (Some (past p c cs)) None))
       by_open true n =
           means_next p c cs
           ∙ ap (λ t. Then p (cond t (open_step p (past p c cs) (strip open_brace (past p c cs))) (cond (eqb c close_brace) (close_step p (past p c cs) (strip close_brace (past p c cs))) (step p (c ∷ []) (literal c) (past p c cs))))) n
           ∙ opened p (past p c cs) (strip open_brace (past p c cs))
       by_open false n = by_close (eqb c close_brace) n refl
 
-  pub means_first : (a : At) (x : Token × At) → first_token a ≡ Some x → means shows e a ≡ joined (token_means shows e a.place x.0 x.1) (means shows e (past_token x.0 x.1))
+  pub means_first : (a : At) (x : Token × At) → first_token a ≡ Some x
+      → means shows e a ≡ joined (token_means shows e a.place x.0 x.1) (means shows e (past_token x.0 x.1))
   means_first a x h = subst (Leads a) h (leads_at a.place a.text)
 
   pub means_end : (a : At) → first_token a ≡ None → means shows e a ≡ nothing
   means_end a h = subst (Leads a) h (leads_at a.place a.text)
 
-literal_shorter : (c : ℕ) (cs : List ℕ) → is_brace c ≡ false → length (behind_of (in_class Literal) (c ∷ cs)) < length (c ∷ cs)
+literal_shorter : (c : ℕ) (cs : List ℕ) → is_brace c ≡ false
+    → length (behind_of (in_class Literal) (c ∷ cs)) < length (c ∷ cs)
 literal_shorter c cs h = rw h (omega (arith, behind_shorter (in_class Literal) cs))
 
 -- what stands behind what the scan hands on, and its argument, has fewer characters
@@ -149,26 +167,32 @@ abbrev ScanShorter : ℕ → Option (Token × At) → Type 0
 ScanShorter n None = Unit {0}
 ScanShorter n (Some x) = length (past_token x.0 x.1).text < n
 
-open_shorter : (n : ℕ) (b : At) (o : Option At) → length b.text < n → OptionWithin (length b.text) o → ScanShorter n (Some (open_scan b o))
+open_shorter : (n : ℕ) (b : At) (o : Option At) → length b.text < n → OptionWithin (length b.text) o
+    → ScanShorter n (Some (open_scan b o))
 open_shorter n b (Some rest) h k = omega (arith, k)
 open_shorter n b None h k = omega (arith, argument_from_within b.place b)
 
-close_shorter : (n : ℕ) (b : At) (o : Option At) → length b.text < n → OptionWithin (length b.text) o → ScanShorter n (Some (close_scan b o))
+close_shorter : (n : ℕ) (b : At) (o : Option At) → length b.text < n
+    → OptionWithin (length b.text) o → ScanShorter n (Some (close_scan b o))
 close_shorter n b (Some rest) h k = omega (arith, k)
 close_shorter n b None h k = h
 
-scan_shorter_at : (p : ℕ) (cs : List ℕ) → ScanShorter (length cs) (first_token (record { place = p; text = cs }))
+scan_shorter_at : (p : ℕ) (cs : List ℕ)
+    → ScanShorter (length cs) (first_token (record { place = p; text = cs }))
 unfolding first_token
 scan_shorter_at p [] = tt
 scan_shorter_at p (c ∷ cs) = by_open (eqb c open_brace) refl
   where
-    by_close : (t : Bool) → eqb c open_brace ≡ false → eqb c close_brace ≡ t → ScanShorter (length (c ∷ cs)) (no_open_scan (record { place = p; text = c ∷ cs }) (cond t (Some (past p c cs)) None))
+    by_close : (t : Bool) → eqb c open_brace ≡ false → eqb c close_brace ≡ t
+        → ScanShorter (length (c ∷ cs)) (no_open_scan (record { place = p; text = c ∷ cs }) (cond t (Some (past p c cs)) None))
     by_close true n d = close_shorter (length (c ∷ cs)) (past p c cs) _ (omega arith) (strip_within close_brace (p + len_utf8 c) cs (length cs) (omega arith))
     by_close false n d = literal_shorter c cs (rw (n, d) refl)
 
-    by_open : (t : Bool) → eqb c open_brace ≡ t → ScanShorter (length (c ∷ cs)) (scan_by (record { place = p; text = c ∷ cs }) (cond t (Some (past p c cs)) None))
+    by_open : (t : Bool) → eqb c open_brace ≡ t
+        → ScanShorter (length (c ∷ cs)) (scan_by (record { place = p; text = c ∷ cs }) (cond t (Some (past p c cs)) None))
     by_open true n = open_shorter (length (c ∷ cs)) (past p c cs) _ (omega arith) (strip_within open_brace (p + len_utf8 c) cs (length cs) (omega arith))
     by_open false n = by_close (eqb c close_brace) n refl
 
-pub scan_shorter : (a rest : At) (x : Token × At) → first_token a ≡ Some x → rest ≡ past_token x.0 x.1 → length rest.text < length a.text
+pub scan_shorter : (a rest : At) (x : Token × At) → first_token a ≡ Some x
+    → rest ≡ past_token x.0 x.1 → length rest.text < length a.text
 scan_shorter a rest x h r = rw r (subst (ScanShorter (length a.text)) h (scan_shorter_at a.place a.text))

@@ -14,7 +14,8 @@ pub appends_none : (a : Written) → Appends a [] a
 appends_none a = record { appended = sym (append-nil a.text); same_flag = refl; only_empty = λ _. refl }
 
 -- two texts, one after the other
-appends_both : (a b c : Written) (t u : List ℕ) → Appends a t b → Appends b u c → Appends a (t ++ u) c
+appends_both : (a b c : Written) (t u : List ℕ) → Appends a t b → Appends b u c
+    → Appends a (t ++ u) c
 appends_both a b c t u p q = record {
   appended = q.appended ∙ (ap (λ (x : List ℕ). x ++ u) p.appended ∙ append_assoc a.text t u);
   same_flag = q.same_flag ∙ p.same_flag;
@@ -29,16 +30,20 @@ no_fault None e = refl
 no_fault (Some f) e = cc
 
 -- of the three outcomes only the first answers no fault
-pub finished_if_none : (m : Meaning) (old new : Written) → Outcome m old new None → Finished m old new None
+pub finished_if_none : (m : Meaning) (old new : Written) → Outcome m old new None
+    → Finished m old new None
 finished_if_none m old new (inl h) = h
 finished_if_none m old new (inr (inl h)) = absurd (let e = h.told in cc)
 finished_if_none m old new (inr (inr h)) = absurd (let e = h.told in cc)
 
-Contains-map : {A B : Type 0} (f : A → B) (xs : List A) (x : A) → Contains xs x → Contains (map f xs) (f x)
+Contains-map :
+    {A B : Type 0} (f : A → B) (xs : List A) (x : A) → Contains xs x → Contains (map f xs) (f x)
 Contains-map f xs x h = let k = h.1 in (h.0, rw length-map k, get_or-map f xs h.0 x ∙ ap f h.2)
 
 -- behind a meaning that was finished without a fault
-pub after_finished : (m k : Meaning) (old mid new : Written) (answer : Option Answer) → Finished m old mid None → Outcome k mid new answer → Outcome (joined m k) old new answer
+pub after_finished :
+    (m k : Meaning) (old mid new : Written) (answer : Option Answer) → Finished m old mid None
+    → Outcome k mid new answer → Outcome (joined m k) old new answer
 after_finished m k old mid new answer h (inl o) = rw (no_fault m.fault h.told)
     (inl (record { all = rw (text_of-append m.text k.text) (appends_both old mid new _ _ h.all o.all); told = o.told }))
 after_finished m k old mid new answer h (inr (inl o)) = rw (no_fault m.fault h.told)
@@ -48,7 +53,9 @@ after_finished m k old mid new answer h (inr (inl o)) = rw (no_fault m.fault h.t
       place = o.place;
       back = o.back;
       split = ap (λ l. m.text ++ l) o.split ∙ sym (append_assoc m.text o.front _);
-      appended = o.appended ∙ (ap (λ (x : List ℕ). x ++ text_of o.front) h.all.appended ∙ append_assoc old.text (text_of m.text) (text_of o.front)) ∙ ap (λ (x : List ℕ). old.text ++ x) (sym (text_of-append m.text o.front));
+      appended = o.appended
+          ∙ (ap (λ (x : List ℕ). x ++ text_of o.front) h.all.appended ∙ append_assoc old.text (text_of m.text) (text_of o.front))
+          ∙ ap (λ (x : List ℕ). old.text ++ x) (sym (text_of-append m.text o.front));
       flag = o.flag;
       none_after_refusal = λ r. let e : text_of m.text ≡ [] = h.all.only_empty r in
           let d : text_of o.front ≡ [] = o.none_after_refusal (h.all.same_flag ∙ r) in text_of-append m.text o.front ∙ rw (e, d) refl;
@@ -65,7 +72,9 @@ after_finished m k old mid new answer h (inr (inr o)) = rw (no_fault m.fault h.t
     })))
 
 -- a fault ends the run: what would follow is neither written nor read
-pub before_fault : (m k : Meaning) (old new : Written) (q : Answer) (o : Option Fault) → m.fault ≡ o → Outcome m old new (Some q) → Outcome (or_fault o m k) old new (Some q)
+pub before_fault :
+    (m k : Meaning) (old new : Written) (q : Answer) (o : Option Fault) → m.fault ≡ o
+    → Outcome m old new (Some q) → Outcome (or_fault o m k) old new (Some q)
 before_fault m k old new q (Some _) e h = h
 before_fault m k old new q None e (inl h) = absurd (let f = h.told ∙ ap (option_map fault) e in cc)
 before_fault m k old new q None e (inr (inl h)) =

@@ -11,6 +11,7 @@ use Rattle.interpolator.specs.Syntax.At.{text_of, placed_at, placed_from, size}
 use Rattle.interpolator.specs.Faults.{fault, fmt}
 use Rattle.interpolator.specs.Meaning.Meanings.{text_alone, view_means}
 use Rattle.interpolator.specs.Meaning.Outcomes.{Outcome}
+use Rattle.interpolator.proofs.SyntaxLemmas.LocalityLemmas.{size-append}
 use Rattle.interpolator.proofs.SyntaxLemmas.CharacterLemmas.{length-encodes}
 
 text_of-placed_at : (p : ℕ) (cs : List ℕ) → text_of (placed_at p cs) ≡ cs
@@ -21,21 +22,25 @@ text_of-placed_from : (p : ℕ) (cs : List ℕ) → text_of (placed_from p cs) �
 text_of-placed_from p [] = refl
 text_of-placed_from p (c ∷ cs) = ap (λ xs. c ∷ xs) (text_of-placed_from (p + len_utf8 c) cs)
 
-pub placed_from-append : (p : ℕ) (xs ys : List ℕ) → placed_from p (xs ++ ys) ≡ placed_from p xs ++ placed_from (p + size xs) ys
+pub placed_from-append : (p : ℕ) (xs ys : List ℕ)
+    → placed_from p (xs ++ ys) ≡ placed_from p xs ++ placed_from (p + size xs) ys
 placed_from-append p [] ys = let e : p + 0 ≡ p = omega arith in rw e refl
 placed_from-append p (c ∷ cs) ys =
     let e : p + (len_utf8 c + size cs) ≡ p + len_utf8 c + size cs = omega arith in
     rw e (ap (λ xs. (c, p) ∷ xs) (placed_from-append (p + len_utf8 c) cs ys))
 
 -- a text at one place was written whole
-pub wrote_at : (p : ℕ) (cs : List ℕ) (old new : Written) → Appends old cs new → Outcome (text_alone (placed_at p cs)) old new None
+pub wrote_at : (p : ℕ) (cs : List ℕ) (old new : Written) → Appends old cs new
+    → Outcome (text_alone (placed_at p cs)) old new None
 wrote_at p cs old new h = inl (record { all = rw (text_of-placed_at p cs) h; told = refl })
 
 -- it was refused
-pub refused_at : (p : ℕ) (cs : List ℕ) (old new : Written) → AppendsBeginning old cs new → Outcome (text_alone (placed_at p cs)) old new (Some (fault (fmt p)))
+pub refused_at : (p : ℕ) (cs : List ℕ) (old new : Written) → AppendsBeginning old cs new
+    → Outcome (text_alone (placed_at p cs)) old new (Some (fault (fmt p)))
 refused_at p cs old new h = by_rest h.rest h.parts h.not_whole
   where
-    by_rest : (rest : List ℕ) → cs ≡ h.beginning ++ rest → 0 < length rest → Outcome (text_alone (placed_at p cs)) old new (Some (fault (fmt p)))
+    by_rest : (rest : List ℕ) → cs ≡ h.beginning ++ rest → 0 < length rest
+        → Outcome (text_alone (placed_at p cs)) old new (Some (fault (fmt p)))
     by_rest [] e n = absurd (omega arith)
     by_rest (c ∷ rest) e n =
         inr (inl (record {
@@ -51,17 +56,21 @@ refused_at p cs old new h = by_rest h.rest h.parts h.not_whole
         }))
 
 -- a run of characters was written whole
-pub wrote_from : (p : ℕ) (cs : List ℕ) (old new : Written) → Appends old cs new → Outcome (text_alone (placed_from p cs)) old new None
+pub wrote_from : (p : ℕ) (cs : List ℕ) (old new : Written) → Appends old cs new
+    → Outcome (text_alone (placed_from p cs)) old new None
 wrote_from p cs old new h = inl (record { all = rw (text_of-placed_from p cs) h; told = refl })
 
 -- it was refused behind so many bytes
-pub refused_from : (p : ℕ) (cs : List ℕ) (taken : ℕ) (old new : Written) → Refuses old cs taken new → Outcome (text_alone (placed_from p cs)) old new (Some (fault (fmt (p + taken))))
+pub refused_from :
+    (p : ℕ) (cs : List ℕ) (taken : ℕ) (old new : Written) → Refuses old cs taken new
+    → Outcome (text_alone (placed_from p cs)) old new (Some (fault (fmt (p + taken))))
 refused_from p cs taken old new h = by_rest h.part.rest h.part.parts h.part.not_whole
   where
     bytes : taken ≡ size h.part.beginning
     bytes = h.counted ∙ length-encodes h.part.beginning
 
-    by_rest : (rest : List ℕ) → cs ≡ h.part.beginning ++ rest → 0 < length rest → Outcome (text_alone (placed_from p cs)) old new (Some (fault (fmt (p + taken))))
+    by_rest : (rest : List ℕ) → cs ≡ h.part.beginning ++ rest → 0 < length rest
+        → Outcome (text_alone (placed_from p cs)) old new (Some (fault (fmt (p + taken))))
     by_rest [] e n = absurd (omega arith)
     by_rest (c ∷ rest) e n =
         inr (inl (record {
@@ -72,27 +81,29 @@ refused_from p cs taken old new h = by_rest h.part.rest h.part.parts h.part.not_
           split = ap (placed_from p) e ∙ placed_from-append p h.part.beginning (c ∷ rest);
           appended = rw (text_of-placed_from p h.part.beginning) h.part.appended;
           flag = h.part.flag_set;
-          none_after_refusal = λ r. text_of-placed_from p h.part.beginning ∙ h.part.none_after_refusal r;
+          none_after_refusal = λ r. text_of-placed_from p h.part.beginning
+              ∙ h.part.none_after_refusal r;
           told = rw bytes refl;
         }))
 
-size-append : (xs ys : List ℕ) → size (xs ++ ys) ≡ size xs + size ys
-size-append [] ys = omega arith
-size-append (c ∷ cs) ys = omega (arith, size-append cs ys)
-
 -- a writer takes less of a refused text than all of it
-pub taken_fits : (cs : List ℕ) (taken : ℕ) (old new : Written) → Refuses old cs taken new → taken < size cs + 1
+pub taken_fits :
+    (cs : List ℕ) (taken : ℕ) (old new : Written) → Refuses old cs taken new → taken < size cs + 1
 taken_fits cs taken old new h =
     let whole = ap size h.part.parts ∙ size-append h.part.beginning h.part.rest in
     let part = h.counted ∙ length-encodes h.part.beginning in omega arith
 
 -- a view was written whole, or refused
-pub view_wrote : (t : Trait) (p : ℕ) (m : ViewText) (old new : Written) (u : Unit {0}) → Renders m old (Ok u) new → Outcome (view_means t p m) old new None
+pub view_wrote :
+    (t : Trait) (p : ℕ) (m : ViewText) (old new : Written) (u : Unit {0}) → Renders m old (Ok u) new
+    → Outcome (view_means t p m) old new None
 view_wrote t p (has_text cs) old new u h = wrote_at p cs old new h
 view_wrote t p is_missing old new u h = absurd h
 view_wrote t p has_failed old new u h = absurd h
 
-pub view_refused : (t : Trait) (p : ℕ) (m : ViewText) (old new : Written) → Renders m old (Err RefusedFault) new → Outcome (view_means t p m) old new (Some (fault (fmt p)))
+pub view_refused :
+    (t : Trait) (p : ℕ) (m : ViewText) (old new : Written) → Renders m old (Err RefusedFault) new
+    → Outcome (view_means t p m) old new (Some (fault (fmt p)))
 view_refused t p (has_text cs) old new h = refused_at p cs old new h
 view_refused t p is_missing old new h = absurd h
 view_refused t p has_failed old new h = absurd h

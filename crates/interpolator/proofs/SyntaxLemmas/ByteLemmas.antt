@@ -28,7 +28,8 @@ module _ (first second : ℕ) where
   abbrev Lane : ℕ → ℕ → ℕ
   Lane a b = cond (eqb a b) 255 0
 
-  tops : (xs : List ℕ) → map (top 7) (map (λ b. bit_or (Lane b first) (Lane b second)) xs) ≡ map IsEither xs
+  tops : (xs : List ℕ)
+      → map (top 7) (map (λ b. bit_or (Lane b first) (Lane b second)) xs) ≡ map IsEither xs
   tops [] = refl
   tops (x ∷ xs) = rw (top_either (eqb x first) (eqb x second)) (ap (λ (ms : List Bool). IsEither x ∷ ms) (tops xs))
 
@@ -39,27 +40,33 @@ module _ (first second : ℕ) where
   mask_is xs n long room =
       let lanes = zip2_of_maps bit_or (λ b. Lane b first) (λ b. Lane b second) xs (zip2_splat Lane xs n first long) (zip2_splat Lane xs n second long) in
       let as_long : length (map IsEither xs) ≡ length xs = length-map xs IsEither in
-      ap (λ (ms : List Bool). mask_l ms % 2 ^ 64) (ap (map (top 7)) lanes ∙ tops xs) ∙ mask_l-mod (map IsEither xs) 64 (omega (arith, long, room, as_long))
+      ap (λ (ms : List Bool). mask_l ms % 2 ^ 64) (ap (map (top 7)) lanes ∙ tops xs)
+      ∙ mask_l-mod (map IsEither xs) 64 (omega (arith, long, room, as_long))
 
-  pub no_hit : (xs : List ℕ) (n : ℕ) → length xs ≡ n → n ≤ 64 → Mask xs n ≡ 0 → n ≡ position_or_len IsEither xs
+  pub no_hit : (xs : List ℕ) (n : ℕ) → length xs ≡ n → n ≤ 64 → Mask xs n ≡ 0
+      → n ≡ position_or_len IsEither xs
   no_hit xs n long room none = sym (leading_from_mask_l IsEither xs (sym (mask_is xs n long room) ∙ none) ∙ long)
 
-  pub a_hit : (xs : List ℕ) (n : ℕ) → length xs ≡ n → n ≤ 64 → ¬ (Mask xs n ≡ 0) → count_trailing_zeros 64 (Mask xs n) ≡ position_or_len IsEither xs
+  pub a_hit : (xs : List ℕ) (n : ℕ) → length xs ≡ n → n ≤ 64 → ¬ (Mask xs n ≡ 0)
+      → count_trailing_zeros 64 (Mask xs n) ≡ position_or_len IsEither xs
   a_hit xs n long room some =
       let is = mask_is xs n long room in
       let more : 0 < mask_l (map IsEither xs) = omega (arith, is, some) in
-      ap (count_trailing_zeros 64) is ∙ trailing_mask_l IsEither 64 xs (omega (arith, long, room)) more
+      ap (count_trailing_zeros 64) is
+      ∙ trailing_mask_l IsEither 64 xs (omega (arith, long, room)) more
 
 -- how far the first that passes lies from the end is the same of a whole and of what is left of it
 abbrev pub SameFirst : (ℕ → Bool) → List ℕ → List ℕ → Type 0
 SameFirst test all rest = (length rest ≤ length all) × (position_or_len test all + length rest ≡ position_or_len test rest + length all)
 
 -- past bytes that do not pass
-drop_one : (t : Bool) (m k n : ℕ) → suc k ≤ cond (not t) (1 + m) 0 → (k ≤ m → m ≡ k + n) → cond (not t) (1 + m) 0 ≡ suc k + n
+drop_one : (t : Bool) (m k n : ℕ) → suc k ≤ cond (not t) (1 + m) 0 → (k ≤ m → m ≡ k + n)
+    → cond (not t) (1 + m) 0 ≡ suc k + n
 drop_one true m k n h rest = absurd (omega arith)
 drop_one false m k n h rest = let same = rest (omega arith) in omega (arith, same)
 
-drop_before : (test : ℕ → Bool) (k : ℕ) (xs : List ℕ) → k ≤ position_or_len test xs → position_or_len test xs ≡ k + position_or_len test (drop k xs)
+drop_before : (test : ℕ → Bool) (k : ℕ) (xs : List ℕ) → k ≤ position_or_len test xs
+    → position_or_len test xs ≡ k + position_or_len test (drop k xs)
 drop_before test zero xs h = omega arith
 drop_before test (suc k) [] h = absurd (omega arith)
 drop_before test (suc k) (x ∷ xs) h = drop_one (test x) (position_or_len test xs) k (position_or_len test (drop k xs)) h (drop_before test k xs)
@@ -68,7 +75,8 @@ at_least : (t : Bool) (m n k : ℕ) → m ≤ n → m ≤ cond t (n + k) m
 at_least true m n k h = omega arith
 at_least false m n k h = omega arith
 
-take_before : (test : ℕ → Bool) (n : ℕ) (xs : List ℕ) → position_or_len test (take n xs) ≤ position_or_len test xs
+take_before : (test : ℕ → Bool) (n : ℕ) (xs : List ℕ)
+    → position_or_len test (take n xs) ≤ position_or_len test xs
 take_before test n xs =
     let front = take n xs in
     let whole : position_or_len test (front ++ drop n xs) ≡ position_or_len test xs = ap (position_or_len test) (take-append-drop n xs) in
@@ -81,7 +89,9 @@ length_drop zero xs h = omega arith
 length_drop (suc k) [] h = absurd (omega arith)
 length_drop (suc k) (x ∷ xs) h = let less = length_drop k xs (omega arith) in omega (arith, less)
 
-pub one_block_less : (test : ℕ → Bool) (all rest left : List ℕ) (n k : ℕ) → SameFirst test all rest → k ≡ position_or_len test (take n rest) → left ≡ drop k rest → SameFirst test all left
+pub one_block_less :
+    (test : ℕ → Bool) (all rest left : List ℕ) (n k : ℕ) → SameFirst test all rest
+    → k ≡ position_or_len test (take n rest) → left ≡ drop k rest → SameFirst test all left
 one_block_less test all rest left n k same is e =
     let low : k ≤ position_or_len test rest = let at_most = take_before test n rest in omega (arith, is, at_most) in
     let high : position_or_len test rest ≤ length rest = prefix_len-le-length _ rest in
@@ -93,7 +103,8 @@ no_place : (t : Bool) (n : ℕ) → cond t (Some n) None ≡ None → t ≡ fals
 no_place true n e = absurd (cc)
 no_place false n e = refl
 
-pub found_nowhere : (test : ℕ → Bool) (all rest : List ℕ) → SameFirst test all rest → position test rest ≡ None → length all ≡ position_or_len test all
+pub found_nowhere : (test : ℕ → Bool) (all rest : List ℕ) → SameFirst test all rest
+    → position test rest ≡ None → length all ≡ position_or_len test all
 found_nowhere test all rest same e =
     let late : nat_lt (position_or_len test rest) (length rest) ≡ false = no_place (nat_lt (position_or_len test rest) (length rest)) (position_or_len test rest) e in
     let low : length rest ≤ position_or_len test rest = search rules in
@@ -105,7 +116,9 @@ some_place true n place e = (refl, cc)
 some_place false n place e = absurd (cc)
 
 -- found among the first n bytes
-pub found_near : (test : ℕ → Bool) (bs : List ℕ) (n place : ℕ) → n ≤ length bs → position test (take n bs) ≡ Some place → place ≡ position_or_len test bs
+pub found_near :
+    (test : ℕ → Bool) (bs : List ℕ) (n place : ℕ) → n ≤ length bs
+    → position test (take n bs) ≡ Some place → place ≡ position_or_len test bs
 found_near test bs n place within e =
     let near = take n bs in
     let parts = some_place (nat_lt (position_or_len test near) (length near)) (position_or_len test near) place e in
@@ -150,34 +163,40 @@ module _ (first second : ℕ) (low_first : first < 128) (low_second : second < 1
       let not_second : eqb b second ≡ false = let d : b ≢ second = omega arith in search rules in
       rw (not_first, not_second) refl
 
-  front_over : (xs ys : List ℕ) → AllHigh xs → front_of (avoids first second) (xs ++ ys) ≡ xs ++ front_of (avoids first second) ys
+  front_over : (xs ys : List ℕ) → AllHigh xs
+      → front_of (avoids first second) (xs ++ ys) ≡ xs ++ front_of (avoids first second) ys
   front_over [] ys h = refl
   front_over (x ∷ xs) ys h = rw (avoids_high x h.0) (ap (λ zs. x ∷ zs) (front_over xs ys h.1))
 
-  behind_over : (xs ys : List ℕ) → AllHigh xs → behind_of (avoids first second) (xs ++ ys) ≡ behind_of (avoids first second) ys
+  behind_over : (xs ys : List ℕ) → AllHigh xs
+      → behind_of (avoids first second) (xs ++ ys) ≡ behind_of (avoids first second) ys
   behind_over [] ys h = refl
   behind_over (x ∷ xs) ys h = rw (avoids_high x h.0) (behind_over xs ys h.1)
 
   -- one more character, by the size of its code
-  front_more : (c : ℕ) (cs : List ℕ) → (c < 128) ⊎ (128 ≤ c) → front_of (avoids first second) (encode_utf8_all cs) ≡ encode_utf8_all (front_of (avoids first second) cs)
+  front_more : (c : ℕ) (cs : List ℕ) → (c < 128) ⊎ (128 ≤ c)
+      → front_of (avoids first second) (encode_utf8_all cs) ≡ encode_utf8_all (front_of (avoids first second) cs)
       → front_of (avoids first second) (encode_utf8 c ++ encode_utf8_all cs) ≡ encode_utf8_all (front_of (avoids first second) (c ∷ cs))
   front_more c cs (inl low) h = rw (encode_ascii c low)
       (elim (avoids first second c) as (λ t. cond t (c ∷ front_of (avoids first second) (encode_utf8_all cs)) [] ≡ encode_utf8_all (cond t (c ∷ front_of (avoids first second) cs) []))
       [ true ↦ rw (encode_ascii c low) (ap (λ zs. c ∷ zs) h) | false ↦ refl ])
   front_more c cs (inr high) h = rw (avoids_high c high) (front_over (encode_utf8 c) (encode_utf8_all cs) (encode_high c high) ∙ ap (λ zs. encode_utf8 c ++ zs) h)
 
-  behind_more : (c : ℕ) (cs : List ℕ) → (c < 128) ⊎ (128 ≤ c) → behind_of (avoids first second) (encode_utf8_all cs) ≡ encode_utf8_all (behind_of (avoids first second) cs)
+  behind_more : (c : ℕ) (cs : List ℕ) → (c < 128) ⊎ (128 ≤ c)
+      → behind_of (avoids first second) (encode_utf8_all cs) ≡ encode_utf8_all (behind_of (avoids first second) cs)
       → behind_of (avoids first second) (encode_utf8 c ++ encode_utf8_all cs) ≡ encode_utf8_all (behind_of (avoids first second) (c ∷ cs))
   behind_more c cs (inl low) h = rw (encode_ascii c low)
       (elim (avoids first second c) as (λ t. cond t (behind_of (avoids first second) (encode_utf8_all cs)) (c ∷ encode_utf8_all cs) ≡ encode_utf8_all (cond t (behind_of (avoids first second) cs) (c ∷ cs)))
       [ true ↦ h | false ↦ rw (encode_ascii c low) refl ])
   behind_more c cs (inr high) h = rw (avoids_high c high) (behind_over (encode_utf8 c) (encode_utf8_all cs) (encode_high c high) ∙ h)
 
-  front_bytes : (cs : List ℕ) → front_of (avoids first second) (encode_utf8_all cs) ≡ encode_utf8_all (front_of (avoids first second) cs)
+  front_bytes : (cs : List ℕ)
+      → front_of (avoids first second) (encode_utf8_all cs) ≡ encode_utf8_all (front_of (avoids first second) cs)
   front_bytes [] = refl
   front_bytes (c ∷ cs) = front_more c cs (split_at_128 c) (front_bytes cs)
 
-  behind_bytes : (cs : List ℕ) → behind_of (avoids first second) (encode_utf8_all cs) ≡ encode_utf8_all (behind_of (avoids first second) cs)
+  behind_bytes : (cs : List ℕ)
+      → behind_of (avoids first second) (encode_utf8_all cs) ≡ encode_utf8_all (behind_of (avoids first second) cs)
   behind_bytes [] = refl
   behind_bytes (c ∷ cs) = behind_more c cs (split_at_128 c) (behind_bytes cs)
 
@@ -187,12 +206,14 @@ module _ (first second : ℕ) (low_first : first < 128) (low_second : second < 1
   one_more : (n : ℕ) → 1 + n ≡ suc n
   one_more n = omega arith
 
-  pub take_front : (bs : List ℕ) → take (position_or_len Stops bs) bs ≡ front_of (avoids first second) bs
+  pub take_front : (bs : List ℕ)
+      → take (position_or_len Stops bs) bs ≡ front_of (avoids first second) bs
   take_front [] = refl
   take_front (b ∷ bs) = elim (Stops b) as (λ t. take (cond (not t) (1 + position_or_len Stops bs) 0) (b ∷ bs) ≡ cond (not t) (b ∷ front_of (avoids first second) bs) [])
       [ true ↦ refl | false ↦ ap (λ n. take n (b ∷ bs)) (one_more (position_or_len Stops bs)) ∙ ap (λ zs. b ∷ zs) (take_front bs) ]
 
-  pub drop_behind : (bs : List ℕ) → drop (position_or_len Stops bs) bs ≡ behind_of (avoids first second) bs
+  pub drop_behind : (bs : List ℕ)
+      → drop (position_or_len Stops bs) bs ≡ behind_of (avoids first second) bs
   drop_behind [] = refl
   drop_behind (b ∷ bs) = elim (Stops b) as (λ t. drop (cond (not t) (1 + position_or_len Stops bs) 0) (b ∷ bs) ≡ cond (not t) (behind_of (avoids first second) bs) (b ∷ bs))
       [ true ↦ refl | false ↦ ap (λ n. drop n (b ∷ bs)) (one_more (position_or_len Stops bs)) ∙ drop_behind bs ]
@@ -212,7 +233,8 @@ module _ (first second : ℕ) (low_first : first < 128) (low_second : second < 1
   cuts_later n b bs (inl e) = inl (omega arith)
   cuts_later n b bs (inr h) = inr (omega (arith, h.0), subst (λ (k : ℕ). get_or (b ∷ bs) k 0 < 128) (sym (one_more n)) h.1)
 
-  cuts_here : (b : ℕ) (bs : List ℕ) (t : Bool) → Stops b ≡ t → Cuts (position_or_len Stops bs) bs → Cuts (cond (not t) (1 + position_or_len Stops bs) 0) (b ∷ bs)
+  cuts_here : (b : ℕ) (bs : List ℕ) (t : Bool) → Stops b ≡ t → Cuts (position_or_len Stops bs) bs
+      → Cuts (cond (not t) (1 + position_or_len Stops bs) 0) (b ∷ bs)
   cuts_here b bs true e h = inr (omega arith, stop_is_ascii b e)
   cuts_here b bs false e h = cuts_later (position_or_len Stops bs) b bs h
 
@@ -228,14 +250,18 @@ module _ (first second : ℕ) (low_first : first < 128) (low_second : second < 1
       by_cut n (inr h) = IsCharBoundary-before_ascii bs n h.0 h.1
 
   -- the characters of the bytes up to the cut, and from it on
-  pub chars_front : (bs : List ℕ) → IsUtf8 bs → chars (take (position_or_len Stops bs) bs) ≡ front_of (avoids first second) (chars bs)
+  pub chars_front : (bs : List ℕ) → IsUtf8 bs
+      → chars (take (position_or_len Stops bs) bs) ≡ front_of (avoids first second) (chars bs)
   chars_front bs u = sym (chars_from_encodes (front_of (avoids first second) (chars bs)) _ (IsUtf8-take bs _ u (cut_boundary bs))
       (sym (front_bytes (chars bs)) ∙ ap (front_of (avoids first second)) (encodes-chars bs u) ∙ sym (take_front bs)))
 
-  pub chars_behind : (bs : List ℕ) → IsUtf8 bs → chars (drop (position_or_len Stops bs) bs) ≡ behind_of (avoids first second) (chars bs)
+  pub chars_behind : (bs : List ℕ) → IsUtf8 bs
+      → chars (drop (position_or_len Stops bs) bs) ≡ behind_of (avoids first second) (chars bs)
   chars_behind bs u = sym (chars_from_encodes (behind_of (avoids first second) (chars bs)) _ (IsUtf8-drop bs _ u (cut_boundary bs))
       (sym (behind_bytes (chars bs)) ∙ ap (behind_of (avoids first second)) (encodes-chars bs u) ∙ sym (drop_behind bs)))
 
-pub near_is : (test : ℕ → Bool) (bs : List ℕ) (n : ℕ) (r : Option ℕ) → n ≤ length bs → r ≡ position test (take n bs) → IfSome r (λ place. place ≡ position_or_len test bs)
+pub near_is :
+    (test : ℕ → Bool) (bs : List ℕ) (n : ℕ) (r : Option ℕ) → n ≤ length bs
+    → r ≡ position test (take n bs) → IfSome r (λ place. place ≡ position_or_len test bs)
 near_is test bs n None within e = tt
 near_is test bs n (Some place) within e = found_near test bs n place within (sym e)

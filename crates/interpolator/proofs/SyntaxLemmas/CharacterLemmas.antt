@@ -8,16 +8,20 @@ use Rattle.std.specs.Str.{encode_utf8_all}
 use Rattle.interpolator.specs.Syntax.At.{size}
 use Rattle.std.proofs.lemmas.List.{length-append, nil_from_length}
 
-pub chars_of_next : (bs rest : List ℕ) (c : ℕ) → IsUtf8 bs → bs ≡ encode_utf8 c ++ rest → chars bs ≡ c ∷ chars rest
+pub chars_of_next : (bs rest : List ℕ) (c : ℕ) → IsUtf8 bs → bs ≡ encode_utf8 c ++ rest
+    → chars bs ≡ c ∷ chars rest
 chars_of_next bs rest c u e = chars_past_char bs rest c u e
 
 pub chars_of_end : (bs : List ℕ) → length bs ≡ 0 → chars bs ≡ []
 chars_of_end bs e = ap chars (nil_from_length bs e) ∙ chars-nil
 
-pub length_of_next : (bs rest : List ℕ) (c : ℕ) → bs ≡ encode_utf8 c ++ rest → length bs ≡ len_utf8 c + length rest
-length_of_next bs rest c e = ap length e ∙ length-append (encode_utf8 c) rest ∙ ap (λ n. n + length rest) (length-encode c)
+pub length_of_next : (bs rest : List ℕ) (c : ℕ) → bs ≡ encode_utf8 c ++ rest
+    → length bs ≡ len_utf8 c + length rest
+length_of_next bs rest c e = ap length e ∙ length-append (encode_utf8 c) rest
+    ∙ ap (λ n. n + length rest) (length-encode c)
 
-pub shorter_after : (bs rest : List ℕ) (c : ℕ) → bs ≡ encode_utf8 c ++ rest → length rest < length bs
+pub shorter_after : (bs rest : List ℕ) (c : ℕ) → bs ≡ encode_utf8 c ++ rest
+    → length rest < length bs
 shorter_after bs rest c e = omega (arith, length_of_next bs rest c e, len_utf8_bounds c)
 
 pub nil_of_end : (bs : List ℕ) → length bs ≡ 0 → bs ≡ []
@@ -25,7 +29,8 @@ nil_of_end bs e = nil_from_length bs e
 
 pub length-encodes : (cs : List ℕ) → length (encode_utf8_all cs) ≡ size cs
 length-encodes [] = refl
-length-encodes (c ∷ cs) = length_of_next (encode_utf8_all (c ∷ cs)) (encode_utf8_all cs) c refl ∙ ap (λ n. len_utf8 c + n) (length-encodes cs)
+length-encodes (c ∷ cs) = length_of_next (encode_utf8_all (c ∷ cs)) (encode_utf8_all cs) c refl
+    ∙ ap (λ n. len_utf8 c + n) (length-encodes cs)
 
 -- how many bytes a text has
 pub size-chars : (bs : List ℕ) → IsUtf8 bs → size (chars bs) ≡ length bs

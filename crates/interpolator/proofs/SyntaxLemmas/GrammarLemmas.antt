@@ -26,7 +26,8 @@ Shows p c cs (literal d) rest = (d ≡ c) × (rest ≡ cs)
 same_reading :
     (p start : ℕ) (cs ds : List ℕ) → start ≡ p + 1 → cs ≡ ds
     → argument_at (from_place (p + 1) cs) ≡ argument_at (from_place start ds)
-same_reading p start cs ds e h = ap (λ n. argument_at (from_place n cs)) (sym e) ∙ ap (λ xs. argument_at (from_place start xs)) h
+same_reading p start cs ds e h = ap (λ n. argument_at (from_place n cs)) (sym e)
+    ∙ ap (λ xs. argument_at (from_place start xs)) h
 
 head_same : {c d : ℕ} {cs ds : List ℕ} → c ∷ cs ≡ d ∷ ds → c ≡ d
 head_same e = cc
@@ -64,7 +65,8 @@ pub stands_shown :
 stands_shown p c cs x rest s = shown p c cs x.kind x.text rest s.split s.fits
 
 -- no piece is empty
-not_empty : (p : ℕ) (k : PieceKind) (text rest : List ℕ) → [] ≡ text ++ rest → Fits p k text rest → ⊥
+not_empty : (p : ℕ) (k : PieceKind) (text rest : List ℕ) → [] ≡ text ++ rest → Fits p k text rest
+    → ⊥
 not_empty p (doubled brace) text rest e h = let k = e ∙ ap (λ t. t ++ rest) h.1 in cc
 not_empty p (closed start x end) text rest e h = let k = e ∙ ap (λ t. t ++ rest) h.in_braces in cc
 not_empty p (unclosed start x end) text rest e h = let k = e ∙ ap (λ t. t ++ rest) h.in_front in cc

@@ -10,9 +10,11 @@ use Rattle.interpolator.specs.Syntax.Arguments.{Argument, argument_at}
 use Rattle.interpolator.specs.Faults.{Fault}
 use Rattle.interpolator.specs.Syntax.Pieces.{PieceKind, Step, literal, doubled, lone_close, closed, unclosed, broken, step, argument_step, argument_or_broken, argument_from, open_step, close_step, piece_from, past, pieces}
 use Rattle.interpolator.specs.Syntax.Grammar.{rank, from_place, NotFirst, Fits, StandsFirst, IsPieces}
-use Rattle.interpolator.proofs.SyntaxLemmas.PieceLemmas.{none_some, passed, piece_within, pieces_none, pieces_next}
+use Rattle.interpolator.proofs.SyntaxLemmas.PieceLemmas.{piece_within, pieces_none, pieces_next}
+use Rattle.interpolator.proofs.SyntaxLemmas.TestLemmas.{none_some, passed, err_ok}
 use Rattle.interpolator.proofs.SyntaxLemmas.GrammarLemmas.{Shows, stands_shown, same_ok}
-use Rattle.interpolator.proofs.SyntaxLemmas.GrammarArgumentLemmas.{err_ok, size-append, argument_behind}
+use Rattle.interpolator.proofs.SyntaxLemmas.LocalityLemmas.{size-append}
+use Rattle.interpolator.proofs.SyntaxLemmas.ReaderLemmas.{argument_takes}
 
 -- what stands behind a character
 strip_behind :
@@ -103,7 +105,8 @@ closed_first p cs no_more (literal d) r h = omega arith
 
 -- no argument stands there that ends in front of a closing brace
 abbrev NotClosed : At → Type 0
-NotClosed b = (x : Argument) (end : ℕ) (more : List ℕ) → argument_at b ≢ Ok (x, from_place end (close_brace ∷ more))
+NotClosed b = (x : Argument) (end : ℕ) (more : List ℕ)
+    → argument_at b ≢ Ok (x, from_place end (close_brace ∷ more))
 
 ends_elsewhere :
     (b : At) (x : Argument) (q : At) → argument_at b ≡ Ok (x, q) → NotFirst close_brace q.text
@@ -155,7 +158,8 @@ close_first p cs (Some rest) e =
       goes_on = omega (arith, behind.1);
     }
 
-cut_front : (cs front rest : List ℕ) → cs ≡ front ++ rest → take (length cs - length rest) cs ≡ front
+cut_front : (cs front rest : List ℕ) → cs ≡ front ++ rest
+    → take (length cs - length rest) cs ≡ front
 cut_front cs front rest e =
     let n : length cs - length rest ≡ length front = omega (arith, ap length e, length-append front rest) in
     ap (λ k. take k cs) n ∙ ap (λ xs. take (length front) xs) e ∙ take-append_seam front rest
@@ -185,7 +189,7 @@ argument_step_first p cs x q None no_more reads e = record {
 }
 argument_step_first p cs x q (Some rest) no_more reads e =
     let b = from_place (p + 1) cs in
-    let front = argument_behind b x q reads in
+    let front = argument_takes b x q reads in
     let close = strip_behind close_brace q.place q.text rest e in
     let inner = front.front in
     let whole : cs ≡ inner ++ (close_brace ∷ rest.text) = front.split ∙ ap (λ xs. inner ++ xs) close.0 in

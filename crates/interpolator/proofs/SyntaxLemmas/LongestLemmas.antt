@@ -21,7 +21,8 @@ module _ (passes : ℕ → Bool) where
       by_test true e more = All-cons (λ c. IsTrue (passes c)) c (front_of passes cs) e more
       by_test false e more = All-nil (λ c. IsTrue (passes c))
 
-  behind_stops : (cs : List ℕ) (c : ℕ) (more : List ℕ) → behind_of passes cs ≡ c ∷ more → passes c ≡ false
+  behind_stops : (cs : List ℕ) (c : ℕ) (more : List ℕ) → behind_of passes cs ≡ c ∷ more
+      → passes c ≡ false
   behind_stops [] c more h = cc
   behind_stops (d ∷ ds) c more h = by_test (passes d) refl h (behind_stops ds c more)
     where
@@ -38,7 +39,8 @@ module _ (passes : ℕ → Bool) where
   abbrev Stops : List ℕ → Type 0
   Stops rest = (c : ℕ) (more : List ℕ) → rest ≡ c ∷ more → IsFalse (passes c)
 
-  front_stops : (rest : List ℕ) → Stops rest → (front_of passes rest ≡ []) × (behind_of passes rest ≡ rest)
+  front_stops : (rest : List ℕ) → Stops rest
+      → (front_of passes rest ≡ []) × (behind_of passes rest ≡ rest)
   front_stops [] h = (refl, refl)
   front_stops (c ∷ cs) h = let e = h c cs refl in
       (ap (λ b. cond b (c ∷ front_of passes cs) []) e, ap (λ b. cond b (behind_of passes cs) (c ∷ cs)) e)

@@ -2,74 +2,53 @@
 use Rattle.std.proofs.Common.{◌≡◌, ℕ, zero, suc, ◌≤◌, Bool, true, false, cond, eqb, List, [], ◌∷◌, length, arith, refl, ap, Result, Ok, Err, Option, Some, None}
 use Rattle.interpolator.specs.Syntax.At.{At, behind, strip, strip_of}
 use Rattle.interpolator.specs.Syntax.Classes.{behind_of, in_class, open_brace, close_brace}
-use Rattle.interpolator.specs.Syntax.Arguments.{Argument, argument_at, after_name, plain_argument}
-use Rattle.interpolator.specs.Syntax.Classes.{front_of}
+use Rattle.interpolator.specs.Syntax.Arguments.{Argument, argument_at}
 use Rattle.interpolator.specs.Faults.{Fault}
 use Rattle.interpolator.specs.Syntax.Pieces.{Step, argument_step, argument_or_broken, argument_from, open_step, close_step, piece_from, past, pieces_within, pieces}
-use Rattle.interpolator.specs.declared.syntax.class.Class.TheVariants.{WhiteSpace, Name}
-
-pub none_some : {A : Type 0} {x : A} → None ≡ Some x → ⊥
-none_some e = cc
-
-pub some_same : {A : Type 0} {x y : A} → Some x ≡ Some y → x ≡ y
-some_same e = cc
-
--- a test that gave something passed
-pub passed : {A : Type 0} (b : Bool) (x y : A) → cond b (Some x) None ≡ Some y → (b ≡ true) × (x ≡ y)
-passed true x y e = (refl, some_same e)
-passed false x y e = absurd (none_some e)
-
--- what holds in both cases
-pub in_both : {A : Type 0} (P : A → Type 0) (b : Bool) (x y : A) → P x → P y → P (cond b x y)
-in_both P true x y p q = p
-in_both P false x y p q = q
+use Rattle.interpolator.proofs.SyntaxLemmas.LocalityLemmas.{takes_shorter}
+use Rattle.interpolator.proofs.SyntaxLemmas.ReaderLemmas.{argument_takes}
+use Rattle.interpolator.proofs.SyntaxLemmas.TestLemmas.{in_both}
 
 pub behind_shorter : (passes : ℕ → Bool) (cs : List ℕ) → length (behind_of passes cs) ≤ length cs
 behind_shorter passes [] = omega arith
 behind_shorter passes (c ∷ cs) = elim (passes c) as (λ b. length (cond b (behind_of passes cs) (c ∷ cs)) ≤ length (c ∷ cs)) [ true ↦ omega (arith, behind_shorter passes cs) | false ↦ omega arith ]
 
--- what stands behind an argument is no longer than so many characters
-abbrev pub LeavesWithin : ℕ → Result (Argument × At) Fault → Type 0
-LeavesWithin n (Ok x) = length x.1.text ≤ n
-LeavesWithin n (Err f) = Unit {0}
-
-after_name_within : (start : ℕ) (x : Argument) (q : At) (cs : List ℕ) (n : ℕ) → length q.text ≤ n → LeavesWithin n (after_name start x q cs)
-after_name_within start x q [] n h = tt
-after_name_within start x q (c ∷ cs) n h = in_both (LeavesWithin n) (eqb c close_brace) _ _ h tt
-
-argument_within : (a : At) → LeavesWithin (length a.text) (argument_at a)
-unfolding argument_at
-argument_within a =
-    let b = behind (in_class WhiteSpace) a in
-    let q = behind (in_class Name) b in
-    after_name_within a.place (plain_argument (front_of (in_class Name) b.text) b.place) q q.text (length a.text) (omega (arith, behind_shorter (in_class WhiteSpace) a.text, behind_shorter (in_class Name) b.text))
-
--- the same of what stands behind a character, if it stands there
+-- what stands behind a character, if it stands there, is no longer than so many characters
 abbrev pub OptionWithin : ℕ → Option At → Type 0
 OptionWithin n None = Unit {0}
 OptionWithin n (Some rest) = length rest.text ≤ n
 
-pub strip_within : (c p : ℕ) (cs : List ℕ) (n : ℕ) → length cs ≤ n → OptionWithin n (strip_of c p cs)
+pub strip_within : (c p : ℕ) (cs : List ℕ) (n : ℕ) → length cs ≤ n
+    → OptionWithin n (strip_of c p cs)
 strip_within c p [] n h = tt
 strip_within c p (d ∷ ds) n h = in_both (OptionWithin n) (eqb d c) _ _ (omega arith) tt
 
-argument_step_within : (p : ℕ) (b : At) (x : Argument) (q : At) (n : ℕ) (o : Option At) → OptionWithin n o → length (argument_step p b x q o).rest.text ≤ n
+argument_step_within :
+    (p : ℕ) (b : At) (x : Argument) (q : At) (n : ℕ) (o : Option At) → OptionWithin n o
+    → length (argument_step p b x q o).rest.text ≤ n
 argument_step_within p b x q n None h = omega arith
 argument_step_within p b x q n (Some rest) h = h
 
-argument_or_broken_within : (p : ℕ) (b : At) (n : ℕ) (r : Result (Argument × At) Fault) → LeavesWithin n r → length (argument_or_broken p b r).rest.text ≤ n
-argument_or_broken_within p b n (Ok x) h = argument_step_within p b x.0 x.1 n (strip close_brace x.1) (strip_within close_brace x.1.place x.1.text n h)
-argument_or_broken_within p b n (Err f) h = omega arith
+argument_or_broken_within :
+    (p : ℕ) (b : At) (r : Result (Argument × At) Fault) → argument_at b ≡ r
+    → length (argument_or_broken p b r).rest.text ≤ length b.text
+argument_or_broken_within p b (Ok x) e =
+    let shorter = takes_shorter b x.1 (argument_takes b x.0 x.1 e) in
+    argument_step_within p b x.0 x.1 (length b.text) (strip close_brace x.1)
+    (strip_within close_brace x.1.place x.1.text (length b.text) shorter)
+argument_or_broken_within p b (Err f) e = omega arith
 
 pub argument_from_within : (p : ℕ) (b : At) → length (argument_from p b).rest.text ≤ length b.text
 unfolding argument_from
-argument_from_within p b = argument_or_broken_within p b (length b.text) _ (argument_within b)
+argument_from_within p b = argument_or_broken_within p b (argument_at b) refl
 
-open_within : (p : ℕ) (b : At) (o : Option At) → OptionWithin (length b.text) o → length (open_step p b o).rest.text ≤ length b.text
+open_within : (p : ℕ) (b : At) (o : Option At) → OptionWithin (length b.text) o
+    → length (open_step p b o).rest.text ≤ length b.text
 open_within p b None h = argument_from_within p b
 open_within p b (Some rest) h = h
 
-close_within : (p : ℕ) (b : At) (o : Option At) → OptionWithin (length b.text) o → length (close_step p b o).rest.text ≤ length b.text
+close_within : (p : ℕ) (b : At) (o : Option At) → OptionWithin (length b.text) o
+    → length (close_step p b o).rest.text ≤ length b.text
 close_within p b None h = omega arith
 close_within p b (Some rest) h = h
 
@@ -83,11 +62,13 @@ piece_within p c b =
 abbrev BeginsAt : ℕ → Step → Type 0
 BeginsAt p s = s.piece.place ≡ p
 
-argument_step_begins : (p : ℕ) (b : At) (x : Argument) (q : At) (o : Option At) → BeginsAt p (argument_step p b x q o)
+argument_step_begins :
+    (p : ℕ) (b : At) (x : Argument) (q : At) (o : Option At) → BeginsAt p (argument_step p b x q o)
 argument_step_begins p b x q None = refl
 argument_step_begins p b x q (Some rest) = refl
 
-argument_or_broken_begins : (p : ℕ) (b : At) (r : Result (Argument × At) Fault) → BeginsAt p (argument_or_broken p b r)
+argument_or_broken_begins :
+    (p : ℕ) (b : At) (r : Result (Argument × At) Fault) → BeginsAt p (argument_or_broken p b r)
 argument_or_broken_begins p b (Ok x) = argument_step_begins p b x.0 x.1 (strip close_brace x.1)
 argument_or_broken_begins p b (Err f) = refl
 
@@ -106,7 +87,8 @@ piece_begins p c b =
     (in_both (BeginsAt p) (eqb c close_brace) _ _ (close_begins p b (strip close_brace b)) refl)
 
 -- any bound that is long enough gives the same pieces
-enough : (n m p : ℕ) (cs : List ℕ) → length cs ≤ n → length cs ≤ m → pieces_within n p cs ≡ pieces_within m p cs
+enough : (n m p : ℕ) (cs : List ℕ) → length cs ≤ n → length cs ≤ m
+    → pieces_within n p cs ≡ pieces_within m p cs
 enough n m p [] h k = refl
 enough zero m p (c ∷ cs) h k = absurd (omega arith)
 enough (suc n) zero p (c ∷ cs) h k = absurd (omega arith)
@@ -120,7 +102,8 @@ unfolding pieces
 pieces_none p = refl
 
 -- the first piece, and then those of what stands behind it
-pub pieces_next : (p c : ℕ) (cs : List ℕ) → pieces (record { place = p; text = c ∷ cs }) ≡ (piece_from p c (past p c cs)).piece ∷ pieces (piece_from p c (past p c cs)).rest
+pub pieces_next : (p c : ℕ) (cs : List ℕ)
+    → pieces (record { place = p; text = c ∷ cs }) ≡ (piece_from p c (past p c cs)).piece ∷ pieces (piece_from p c (past p c cs)).rest
 unfolding pieces
 pieces_next p c cs =
     let s = piece_from p c (past p c cs) in

@@ -13,55 +13,53 @@ use Rattle.interpolator.specs.Syntax.Grammar.{NotFirst}
 same_test : (n : ℕ) → eqb n n ≡ true
 same_test n = search rules
 
-pub strip_here : (wanted p : ℕ) (bs rest : List ℕ) → wanted < 128 → IsUtf8 bs → bs ≡ wanted ∷ rest → strip_of wanted p (chars bs) ≡ Some (record { place = p + 1; text = chars rest })
+pub strip_here : (wanted p : ℕ) (bs rest : List ℕ) → wanted < 128 → IsUtf8 bs → bs ≡ wanted ∷ rest
+    → strip_of wanted p (chars bs) ≡ Some (record { place = p + 1; text = chars rest })
 strip_here wanted p bs rest low u e =
     let whole : chars bs ≡ wanted ∷ chars rest = chars_past_char bs rest wanted u (rw (encode_ascii wanted low) e) in
     rw (whole, same_test wanted, len_utf8_ascii wanted low) refl
 
-strip_other_at : (wanted p : ℕ) (bs cs : List ℕ) → wanted < 128 → NotFirst wanted bs → encode_utf8_all cs ≡ bs → strip_of wanted p cs ≡ None
+strip_other_at : (wanted p : ℕ) (bs cs : List ℕ) → wanted < 128 → NotFirst wanted bs
+    → encode_utf8_all cs ≡ bs → strip_of wanted p cs ≡ None
 strip_other_at wanted p bs [] low h e = refl
 strip_other_at wanted p bs (c ∷ cs) low h e = by_test (eqb c wanted) refl
   where
-    by_test : (t : Bool) → eqb c wanted ≡ t → cond {A = Option At} t (Some (record { place = p + len_utf8 c; text = cs })) None ≡ None
+    by_test : (t : Bool) → eqb c wanted ≡ t
+        → cond {A = Option At} t (Some (record { place = p + len_utf8 c; text = cs })) None ≡ None
     by_test true d = absurd (
         let same : c ≡ wanted = search rules in
         let begins : encode_utf8 c ≡ wanted ∷ [] = ap encode_utf8 same ∙ encode_ascii wanted low in
         h (encode_utf8_all cs) (sym e ∙ ap (λ xs. xs ++ encode_utf8_all cs) begins))
     by_test false d = refl
 
-pub strip_other : (wanted p : ℕ) (bs : List ℕ) → wanted < 128 → IsUtf8 bs → NotFirst wanted bs → strip_of wanted p (chars bs) ≡ None
+pub strip_other : (wanted p : ℕ) (bs : List ℕ) → wanted < 128 → IsUtf8 bs → NotFirst wanted bs
+    → strip_of wanted p (chars bs) ≡ None
 strip_other wanted p bs low u h = strip_other_at wanted p bs (chars bs) low h (encodes-chars bs u)
 
-pub is_utf8_behind : (wanted : ℕ) (bs rest : List ℕ) → wanted < 128 → IsUtf8 bs → bs ≡ wanted ∷ rest → IsUtf8 rest
-is_utf8_behind wanted bs rest low u e = IsUtf8-past_char bs rest wanted u (rw (encode_ascii wanted low) e)
-
-pub first_is : (bs : List ℕ) (b : ℕ) → slice_get bs 0 ≡ Some b → bs ≡ b ∷ drop 1 bs
-first_is [] b e = absurd (cc)
-first_is (x ∷ xs) b e = let same : x ≡ b = cc in ap (λ y. y ∷ xs) same
-
-pub no_first : (bs : List ℕ) (b : ℕ) → slice_get bs 0 ≡ None → NotFirst b bs
-no_first [] b e = λ more d. absurd (cc)
-no_first (x ∷ xs) b e = absurd (cc)
-
-pub other_first : (bs : List ℕ) (b wanted : ℕ) → slice_get bs 0 ≡ Some b → b ≢ wanted → NotFirst wanted bs
-other_first bs b wanted e n = λ more d. let whole : b ∷ drop 1 bs ≡ wanted ∷ more = sym (first_is bs b e) ∙ d in n (cc)
-
-pub boundary_behind : (bs : List ℕ) (b : ℕ) → slice_get bs 0 ≡ Some b → b < 128 → IsUtf8 bs → IsCharBoundary bs 1
+pub boundary_behind : (bs : List ℕ) (b : ℕ) → slice_get bs 0 ≡ Some b → b < 128 → IsUtf8 bs
+    → IsCharBoundary bs 1
 boundary_behind [] b e low u = absurd (cc)
 boundary_behind (x ∷ xs) b e low u = let same : x ≡ b = cc in IsCharBoundary-after_ascii (x ∷ xs) 0 u (omega arith) (omega arith)
 
 -- a text that is not empty and begins with no brace begins with a run of literals
-pub literals_scanned : (p : ℕ) (bs cs : List ℕ) (r : At) → 0 < length bs → IsUtf8 bs → None ≡ strip open_brace (record { place = p; text = chars bs }) → None ≡ strip close_brace (record { place = p; text = chars bs })
-    → cs ≡ front_of (in_class Literal) (chars bs) → r ≡ behind (in_class Literal) (record { place = p; text = chars bs }) → Some (literals cs, r) ≡ first_token (record { place = p; text = chars bs })
+pub literals_scanned : (p : ℕ) (bs cs : List ℕ) (r : At) → 0 < length bs → IsUtf8 bs
+    → None ≡ strip open_brace (record { place = p; text = chars bs })
+    → None ≡ strip close_brace (record { place = p; text = chars bs })
+    → cs ≡ front_of (in_class Literal) (chars bs)
+    → r ≡ behind (in_class Literal) (record { place = p; text = chars bs })
+    → Some (literals cs, r) ≡ first_token (record { place = p; text = chars bs })
 unfolding first_token
 literals_scanned p bs cs r n u h k f b = rw (sym h, sym k, f, b) (by_chars (chars bs) (encodes-chars bs u))
   where
-    by_chars : (ds : List ℕ) → encode_utf8_all ds ≡ bs → Some (literals (front_of (in_class Literal) (chars bs)), behind (in_class Literal) (record { place = p; text = chars bs })) ≡ literal_scan (record { place = p; text = chars bs }) ds
+    by_chars : (ds : List ℕ) → encode_utf8_all ds ≡ bs
+        → Some (literals (front_of (in_class Literal) (chars bs)), behind (in_class Literal) (record { place = p; text = chars bs })) ≡ literal_scan (record { place = p; text = chars bs }) ds
     by_chars [] e = let none : length bs ≡ 0 = sym (ap length e) in absurd (omega arith)
     by_chars (d ∷ ds) e = refl
 
 -- a text of one byte
-pub one_char : (bs cs : List ℕ) → cs ≡ bs → length cs ≡ 1 → get_or cs 0 0 < 128 → IsUtf8 bs → chars bs ≡ get_or cs 0 0 ∷ []
+pub one_char : (bs cs : List ℕ) → cs ≡ bs → length cs ≡ 1 → get_or cs 0 0 < 128 → IsUtf8 bs
+    → chars bs ≡ get_or cs 0 0 ∷ []
 one_char bs [] s n low u = absurd (omega arith)
-one_char bs (b ∷ []) s n low u = chars_past_char bs [] b u (rw (encode_ascii b low) (sym s)) ∙ ap (λ xs. b ∷ xs) chars-nil
+one_char bs (b ∷ []) s n low u = chars_past_char bs [] b u (rw (encode_ascii b low) (sym s))
+    ∙ ap (λ xs. b ∷ xs) chars-nil
 one_char bs (b ∷ d ∷ ds) s n low u = absurd (omega arith)

@@ -10,7 +10,8 @@ use Rattle.interpolator.specs.Faults.{Fault, missing_value, missing_trait_impl, 
 use Rattle.interpolator.specs.Faults.{expected}
 use Rattle.interpolator.specs.Trees.{Tree, slots, slot_at}
 use Rattle.interpolator.specs.Meaning.Environments.{Environment, given}
-use Rattle.interpolator.specs.Syntax.Arguments.{Argument, Kind, of_value}
+use Rattle.interpolator.specs.Syntax.SpecTexts.{Kind, of_value}
+use Rattle.interpolator.specs.Syntax.Arguments.{Argument}
 use Rattle.interpolator.specs.Syntax.Pieces.{Piece, PieceKind, literal, doubled, lone_close, closed}
 use Rattle.interpolator.specs.Syntax.Pieces.{unclosed, broken, argument_from, pieces}
 use Rattle.interpolator.specs.Syntax.Tokens.{Token, literals, brace, argument}

@@ -1,25 +1,19 @@
 -- What stands behind an opening brace.
-use Rattle.std.specs.Prelude.{ℕ, ◌==◌, if◌then◌else◌, List, [], ◌∷◌, false, None, Result}
-use Rattle.std.specs.Prelude.{Ok, Err, codes}
+use Rattle.std.specs.Prelude.{ℕ, List, drop, Option, None, Some, Result, Ok, Err}
 use Rattle.std.specs.Str.{chars}
-use Rattle.interpolator_render.specs.declared.view.Trait.{Trait}
-use Rattle.interpolator_render.specs.declared.view.Trait.TheVariants.{Display}
 use Rattle.interpolator_render.specs.declared.view.Spec.{Spec}
-use Rattle.interpolator_render.specs.declared.view.Alignment.TheVariants.{Unset}
-use Rattle.interpolator_render.specs.declared.view.Sign.TheVariants.{Unset as NoSign}
-use Rattle.interpolator_render.specs.declared.view.HexDebug.TheVariants.{No}
-use Rattle.interpolator.specs.Syntax.At.{At, behind}
-use Rattle.interpolator.specs.Syntax.Classes.{front_of, in_class, close_brace}
-use Rattle.interpolator.specs.Faults.{Fault, parse, unclosed, expected, parse_fault_of}
+use Rattle.interpolator.specs.Syntax.At.{At, strip}
+use Rattle.interpolator.specs.Syntax.Classes.{close_brace, colon}
+use Rattle.interpolator.specs.Syntax.Readers.{Reader, ◌>>=◌, give, here, span}
+use Rattle.interpolator.specs.Syntax.SpecTexts.{Kind, of_value, Asked, plain_display, spec_behind}
+use Rattle.interpolator.specs.Faults.{Fault, Answer, fault, parse, unclosed, broken_fault_of}
+use Rattle.interpolator.specs.Faults.{answer_of}
+use Rattle.interpolator.specs.declared.error.Error.{Error}
 use Rattle.interpolator.specs.declared.syntax.class.Class.TheVariants.{WhiteSpace, Name}
-use Rattle.interpolator.specs.declared.error.ParseError.{ParseError}
+use Rattle.interpolator.specs.declared.syntax.broken.Broken.{Broken}
 use Rattle.interpolator.specs.declared.syntax.argument.Kind as code_kind
 use Rattle.interpolator.specs.declared.syntax.argument.Kind.TheVariants.{Value}
 use Rattle.interpolator.specs.declared.syntax.argument.Argument as code_argument
-
--- what an argument asks for: a value under a trait
-pub data Kind : Type 0 where
-  of_value : Trait → Kind
 
 -- what stands in braces
 pub record Argument : Type 0 where
@@ -28,55 +22,76 @@ pub record Argument : Type 0 where
   pub spec : Spec
   pub kind : Kind
 
--- nothing is set
-abbrev pub plain_spec : Spec
-plain_spec = record {
-  alignment = Unset;
-  sign = NoSign;
-  alternate = false;
-  zero = false;
-  width = None;
-  precision = None;
-  hex_debug = No;
-}
+-- a name at a place, and what is asked of it
+abbrev pub argument : List ℕ → ℕ → Asked → Argument
+argument name place asked =
+    record { name = name; name_place = place; spec = asked.spec; kind = asked.kind }
 
--- plain display of a name
-abbrev pub plain_argument : List ℕ → ℕ → Argument
-plain_argument name place =
-    record { name = name; name_place = place; spec = plain_spec; kind = of_value Display }
+-- behind a name: a closing brace, or a colon and the spec behind it; the text does not end there
+abbrev pub asked_by : (start : ℕ) → (a : At) → Option At → Option At → Result (Asked × At) Fault
+asked_by start a (Some closed) spec = Ok (plain_display, a)
+asked_by start a None (Some rest) = spec_behind start rest
+asked_by start a None None = Err (parse (unclosed start))
 
--- what follows a name that ends at q, before these characters
-abbrev pub after_name : (start : ℕ) → Argument → (q : At) → List ℕ → Result (Argument × At) Fault
-after_name start x q [] = Err (parse (unclosed start))
-after_name start x q (c ∷ cs) =
-    if c == close_brace then Ok (x, q) else Err (parse (expected (codes "}") q.place))
+-- what is asked behind the name of the argument that begins at `start`
+abbrev pub asked_at : (start : ℕ) → Reader Asked
+asked_at start = λ a. asked_by start a (strip close_brace a) (strip colon a)
 
--- the name begins behind the white space, and ends before the first colon or closing brace
-abbrev pub named_from : (start : ℕ) → At → Result (Argument × At) Fault
-named_from start a =
-    let end = behind (in_class Name) a in
-    after_name start (plain_argument (front_of (in_class Name) a.text) a.place) end end.text
+-- white space, the name, up to the first `:` or `}`, and what is asked of it
+abbrev pub argument_parts : (start : ℕ) → Reader Argument
+argument_parts start =
+    do
+      spaces ← span WhiteSpace
+      place ← here
+      name ← span Name
+      asked ← asked_at start
+      give (argument name place asked)
 
 -- the argument that begins here, behind its brace, and what stands behind its spec; or why it is
 -- broken
-unfoldable pub argument_at : At → Result (Argument × At) Fault
-argument_at a = named_from a.place (behind (in_class WhiteSpace) a)
+unfoldable pub argument_at : Reader Argument
+argument_at = λ a. argument_parts a.place a
 
 -- the kind as the code has it
 abbrev pub kind_of : code_kind.Kind → Kind
 kind_of (Value t) = of_value t
 
+-- what is asked, as the code has it
+abbrev pub asked_of : code_argument.Argument → Asked
+asked_of x = record { spec = x.spec; kind = kind_of x.kind }
+
 -- an argument as the code has it, without where it lies in memory
 abbrev pub argument_of : code_argument.Argument → Argument
-argument_of x = record {
-  name = chars x.name.now;
-  name_place = x.name_place;
-  spec = x.spec;
-  kind = kind_of x.kind;
-}
+argument_of x = argument (chars x.name.now) x.name_place (asked_of x)
 
--- what the code read, up to q: an argument, or why it is broken
-abbrev pub argument_read : Result code_argument.Argument ParseError → (q : At)
+-- what the code read, up to q, into the argument x; or why it is broken
+abbrev pub argument_read : Result (Unit {0}) Broken → code_argument.Argument → (q : At)
     → Result (Argument × At) Fault
-argument_read (Ok x) q = Ok (argument_of x, q)
-argument_read (Err e) q = Err (parse (parse_fault_of e))
+argument_read (Ok _) x q = Ok (argument_of x, q)
+argument_read (Err broken) x q = Err (broken_fault_of broken)
+
+-- an argument, and the byte behind its spec
+abbrev pub with_end : Result (Argument × At) Fault → Result (Argument × ℕ) Fault
+with_end (Ok w) = Ok (w.0, w.1.place)
+with_end (Err f) = Err f
+
+-- what a caller is told of an argument; no fault of it is want of memory
+abbrev pub argument_told : Result (code_argument.Argument × ℕ) Error
+    → Result (Argument × ℕ) Answer
+argument_told (Ok w) = Ok (argument_of w.0, w.1)
+argument_told (Err error) = Err (answer_of error)
+
+-- the answer that a fault makes
+abbrev pub answering : Result (Argument × ℕ) Fault → Result (Argument × ℕ) Answer
+answering (Ok w) = Ok w
+answering (Err f) = Err (fault f)
+
+-- the characters of a text from a byte on
+abbrev pub from_byte : (text : List ℕ) → (start : ℕ) → At
+from_byte text start = record { place = start; text = chars (drop start text) }
+
+-- the same of what is asked
+abbrev pub asked_read : Result (Unit {0}) Broken → code_argument.Argument → (q : At)
+    → Result (Asked × At) Fault
+asked_read (Ok _) x q = Ok (asked_of x, q)
+asked_read (Err broken) x q = Err (broken_fault_of broken)

@@ -1,14 +1,10 @@
--- The pieces of a text as a relation: each is of the first kind that its place allows. And an
--- argument as its parts, one behind the other.
+-- The pieces of a text as a relation: each is of the first kind that its place allows.
 use Rattle.std.specs.Prelude.{◌≡◌, ◌≢◌, ℕ, ◌+◌, ◌≤◌, Bool, IsTrue, IsFalse, All, List, [], ◌∷◌}
-use Rattle.std.specs.Prelude.{◌++◌, Ok, Err, codes}
-use Rattle.interpolator_render.specs.declared.view.Spec.{Spec}
-use Rattle.interpolator_render.specs.declared.view.Trait.TheVariants.{Display}
+use Rattle.std.specs.Prelude.{◌++◌, Ok, Err}
 use Rattle.interpolator.specs.Syntax.At.{At, size}
-use Rattle.interpolator.specs.Syntax.Classes.{open_brace, close_brace, is_brace, in_class}
-use Rattle.interpolator.specs.Syntax.Arguments.{Kind, of_value, Argument, plain_spec, argument_at}
-use Rattle.interpolator.specs.Faults.{Fault, parse, unclosed as unclosed_at, expected}
-use Rattle.interpolator.specs.declared.syntax.class.Class.TheVariants.{WhiteSpace, Name}
+use Rattle.interpolator.specs.Syntax.Classes.{open_brace, close_brace, is_brace}
+use Rattle.interpolator.specs.Syntax.Arguments.{Argument, argument_at}
+use Rattle.interpolator.specs.Faults.{Fault}
 use Rattle.interpolator.specs.Syntax.Pieces.{PieceKind, Piece, literal, doubled, lone_close, closed}
 use Rattle.interpolator.specs.Syntax.Pieces.{unclosed, broken}
 
@@ -82,45 +78,10 @@ IsPieces a (x ∷ xs) =
     (rest : List ℕ) × StandsFirst a x rest
     × IsPieces (from_place (a.place + size x.text) rest) xs
 
--- ---- what stands in braces
+-- ---- fronts of a text
 
 -- the longest front of a text whose characters pass, and what stands behind it
 pub record IsLongest (passes : ℕ → Bool) (text front rest : List ℕ) : Type 0 where
   pub split : text ≡ front ++ rest
   pub pass : All (λ c. IsTrue (passes c)) front
   pub stops : (c : ℕ) (more : List ℕ) → rest ≡ c ∷ more → IsFalse (passes c)
-
--- no spec stands between the name and a closing brace, so plain display is asked for
-pub record IsSpecText (spec : Spec) (kind : Kind) (text rest : List ℕ) : Type 0 where
-  pub more : List ℕ
-  pub none : text ≡ []
-  pub closes : rest ≡ close_brace ∷ more
-  pub plain : spec ≡ plain_spec
-  pub displays : kind ≡ of_value Display
-
--- the argument that begins at a, in front of what stands at q: white space, then the name, up to
--- the first `:` or `}`, then the spec, each at its place
-pub record IsArgument (a : At) (x : Argument) (q : At) : Type 0 where
-  pub spaces : List ℕ
-  pub spec_text : List ℕ
-  pub white : IsLongest (in_class WhiteSpace) a.text spaces (x.name ++ (spec_text ++ q.text))
-  pub named :
-      IsLongest (in_class Name) (x.name ++ (spec_text ++ q.text)) x.name (spec_text ++ q.text)
-  pub asks : IsSpecText x.spec x.kind spec_text q.text
-  pub name_place : x.name_place ≡ a.place + size spaces
-  pub end_place : q.place ≡ x.name_place + size x.name + size spec_text
-
--- the argument that starts at `start` is not closed at p, where this rest stands, for this reason:
--- the text ends there, or something other than a closing brace stands there
-abbrev pub IsNoSpecText : (start p : ℕ) → (rest : List ℕ) → Fault → Type 0
-IsNoSpecText start p [] f = f ≡ parse (unclosed_at start)
-IsNoSpecText start p (c ∷ cs) f = (c ≢ close_brace) × (f ≡ parse (expected (codes "}") p))
-
--- no argument begins at a, for this reason: nothing behind the name closes it
-pub record IsNoArgument (a : At) (f : Fault) : Type 0 where
-  pub spaces : List ℕ
-  pub name : List ℕ
-  pub rest : List ℕ
-  pub white : IsLongest (in_class WhiteSpace) a.text spaces (name ++ rest)
-  pub named : IsLongest (in_class Name) (name ++ rest) name rest
-  pub refused : IsNoSpecText a.place (a.place + size spaces + size name) rest f

@@ -12,14 +12,15 @@ ghost use Rattle.interpolator.specs.Meaning.Scopes.{environment_of};
 ghost use Rattle.interpolator.specs.Meaning.Sinks.{Writes};
 ghost use Rattle.interpolator.specs.Trees.{tree_of};
 
-use crate::syntax::argument::{Argument, Kind, take_argument};
 use crate::context::Context;
-use crate::syntax::cursor::Cursor;
 use crate::error::{Error, ParseError};
-use crate::syntax::piece::{Piece, next_piece};
 use crate::meaning::scope::Scope;
 use crate::meaning::sink::Sink;
 use crate::slots::Formattable;
+use crate::syntax::argument::{Argument, Kind, take_argument};
+use crate::syntax::broken::error_of;
+use crate::syntax::cursor::Cursor;
+use crate::syntax::piece::{Piece, next_piece};
 use interpolator_render::{TextWrite, Value};
 use std::alloc::Global;
 
@@ -40,11 +41,11 @@ fn missing_name(alloc: Global, name: &str, start: usize) -> Error
 fn write_found<W: TextWrite, V: Value>(
     sink: &mut Sink<'_, W>,
     found: Formattable<'_, V>,
-    argument: Argument<'_>,
+    argument: &Argument<'_>,
     end: usize,
 ) -> Result<(), Error>
     ensures writes { Writes W.written
-        (kind_means V.shows (kind_of argument.entry.kind) argument.entry.spec end
+        (kind_means V.shows (kind_of argument.now.kind) argument.now.spec end
         (tree_of found.entry))
         sink.old sink.new (answered result) }
 {
@@ -59,13 +60,13 @@ fn write_value<'a, W: TextWrite, C: Context>(
     alloc: Global,
     sink: &mut Sink<'_, W>,
     start: usize,
-    argument: Argument<'_>,
+    argument: &Argument<'_>,
     end: usize,
     scope: &Scope<'a, C, C::Object>,
 ) -> Result<(), Error>
     ensures writes { Writes W.written
         (argument_means C.Object.shows (environment_of C.finds scope.now) start
-        (argument_of argument.entry) end)
+        (argument_of argument.now) end)
         sink.old sink.new (answered result) }
 {
     if let Some(item) = scope.inner(argument.name) {
@@ -92,11 +93,12 @@ fn write_argument<'t, 'a, W: TextWrite, C: Context>(
     ensures rest { IfOk result (λ r. at r ≡ (argument_from here.entry.place (at here.entry)).rest) }
 {
     let mut end = here;
-    let argument = match take_argument(&mut end) {
-        Ok(argument) => argument,
-        Err(fault) => return Err(Error::Parse(fault)),
-    };
-    write_value(alloc, sink, here.place, argument, end.place, scope)?;
+    let mut argument = Argument::unnamed();
+    match take_argument(&mut end, &mut argument) {
+        Ok(()) => {}
+        Err(broken) => return Err(error_of(broken)),
+    }
+    write_value(alloc, sink, here.place, &argument, end.place, scope)?;
     match end.strip(b'}') {
         Some(behind) => Ok(behind),
         None => Err(Error::Parse(ParseError::Expected("}", end.place))),

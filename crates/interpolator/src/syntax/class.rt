@@ -1,6 +1,6 @@
 //! Classes of characters, and the longest front of a text that is of one class.
 ghost use Rattle.std.specs.Prelude.{◌≡◌, ◌+◌, ◌++◌, ◌<◌, ◌≤◌, length, take, [], ◌∷◌, ◌==◌, ◌||◌, MatchOption};
-ghost use Rattle.std.specs.Prelude.{IfSome};
+ghost use Rattle.std.specs.Prelude.{IfSome, ℕ};
 ghost use Rattle.std.specs.Str.{chars};
 ghost use Rattle.std.specs.Char.{len_utf8, encode_utf8};
 ghost use Rattle.std.specs.List.{position, position_or_len};
@@ -16,8 +16,14 @@ pub(crate) enum Class {
     WhiteSpace,
     /// What a name is made of: neither `:` nor `}`.
     Name,
+    /// What a number is made of: ASCII digits and `-`.
+    Number,
     /// What is copied as it stands: no brace.
     Literal,
+    /// What guards a group: `#`.
+    Sign,
+    /// What may stand in front of the first `)`.
+    Enclosed,
 }
 
 /// The first character of a text, and the text behind it.
@@ -51,18 +57,43 @@ pub(crate) fn strip_ascii(text: &str, wanted: u8) -> Option<&str>
     Some(rest)
 }
 
-/// The longest front of white space, and what stands behind it.
+/// Whether a character is of that class.
 #[inline(always)]
-fn split_white_space(text: &str) -> (&str, &str)
-    ensures front { chars result.0.now ≡ front_of (in_class Class.WhiteSpace) (chars text.now) }
-    ensures behind { chars result.1.now ≡ behind_of (in_class Class.WhiteSpace) (chars text.now) }
+fn is_in(class: Class, c: char) -> bool
+    ensures { result ≡ in_class class c }
+{
+    match class {
+        Class::WhiteSpace => c.is_whitespace(),
+        Class::Name => c != ':' && c != '}',
+        Class::Number => c.is_ascii_digit() || c == '-',
+        Class::Literal => c != '{' && c != '}',
+        Class::Sign => c == '#',
+        Class::Enclosed => c != ')',
+    }
+}
+
+/// What stands behind the first character, where it is of that class.
+#[inline(always)]
+fn past_one(text: &str, class: Class) -> Option<&str>
+    ensures behind { MatchOption result
+        (behind_of (in_class class) (chars text.now) ≡ chars text.now)
+        (λ r. behind_of (in_class class) (chars text.now) ≡ behind_of (in_class class) (chars r.now)) }
+    ensures bytes { IfSome result (λ r. (c : ℕ) × (text.now ≡ encode_utf8 c ++ r.now)) }
+    ensures shorter { IfSome result (λ r. length r.now < length text.now) }
+{
+    let (c, rest) = split_first(text)?;
+    if is_in(class, c) { Some(rest) } else { None }
+}
+
+/// The longest front of that class, read character by character, and what stands behind it.
+#[inline(always)]
+fn split_while(text: &str, class: Class) -> (&str, &str)
+    ensures front { chars result.0.now ≡ front_of (in_class class) (chars text.now) }
+    ensures behind { chars result.1.now ≡ behind_of (in_class class) (chars text.now) }
     ensures whole { text.now ≡ result.0.now ++ result.1.now }
 {
     let mut rest = text;
-    while let Some((c, after)) = split_first(rest) {
-        if !c.is_whitespace() {
-            break;
-        }
+    while let Some(after) = past_one(rest, class) {
         rest = after;
     }
     text.split_at(text.len() - rest.len())
@@ -74,6 +105,9 @@ const NEAR_NAME: usize = 8;
 
 /// The same of a literal text.
 const NEAR_LITERAL: usize = 2;
+
+/// The same of the text in a bracket.
+const NEAR_ENCLOSED: usize = 8;
 
 /// How many bytes are tested at once.
 const BLOCK: usize = 16;
@@ -170,8 +204,11 @@ pub(crate) fn split_class(text: &str, class: Class) -> (&str, &str)
     ensures whole { text.now ≡ result.0.now ++ result.1.now }
 {
     match class {
-        Class::WhiteSpace => split_white_space(text),
+        Class::WhiteSpace => split_while(text, Class::WhiteSpace),
+        Class::Number => split_while(text, Class::Number),
         Class::Name => split_before(text, NEAR_NAME, b':', b'}'),
         Class::Literal => split_before(text, NEAR_LITERAL, b'{', b'}'),
+        Class::Sign => split_while(text, Class::Sign),
+        Class::Enclosed => split_before(text, NEAR_ENCLOSED, b')', b')'),
     }
 }

@@ -1,8 +1,10 @@
 //! Contexts of the tests' own.
-ghost use Rattle.std.specs.Prelude.{Some, None};
+ghost use Rattle.std.specs.Prelude.{Some, None, unwrap_or, ◌==◌, if◌then◌else◌, codes};
+ghost use Rattle.std.specs.Str.{chars};
 ghost use Rattle.interpolator.specs.Trees.{tree_of};
+ghost use Rattle.interpolator_render.specs.Views.{some_text, nothing_implemented};
 
-use interpolator::{Context, Formattable, Interpolate, Value};
+use interpolator::{Context, Formattable, Interpolate, Spec, Trait, Value, View};
 
 /// One value under every name.
 #[derive(Drop)]
@@ -33,5 +35,22 @@ impl Context for Nowhere {
 
     fn get(&self, _key: &str) -> Option<Formattable<'_, u64>> {
         None
+    }
+}
+
+/// The text `w5` where the width is 5, and else nothing.
+#[derive(Clone, Copy)]
+pub(crate) struct OnlyFive;
+
+impl Value for OnlyFive {
+    ghost shows = { λ value t spec. if unwrap_or spec.width 0 == 5
+        then some_text (chars (codes "w5")) else nothing_implemented };
+
+    fn view(&self, _t: Trait, spec: &Spec) -> View<'_> {
+        if spec.width.unwrap_or(0) == 5 {
+            View::Text("w5")
+        } else {
+            View::NotImplemented
+        }
     }
 }

@@ -10,8 +10,8 @@ pub(crate) enum Told<'a> {
     MissingTraitImpl(Trait, usize),
     Fmt(usize),
     Parse(ParseError),
+    UnsupportedOption(&'a str, &'a str, usize),
     NoMemory,
-    Other,
 }
 
 /// What the answer says.
@@ -23,6 +23,8 @@ pub(crate) fn told_by<T>(answer: &Result<T, Error>) -> Told<'_> {
         Err(Error::Fmt(_, place)) => Told::Fmt(*place),
         Err(Error::Parse(fault)) => Told::Parse(*fault),
         Err(Error::NoMemory) => Told::NoMemory,
-        Err(Error::UnsupportedOption(_, _, _)) => Told::Other,
+        Err(Error::UnsupportedOption(option, feature, place)) => {
+            Told::UnsupportedOption(*option, *feature, *place)
+        }
     }
 }

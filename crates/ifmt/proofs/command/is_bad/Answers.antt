@@ -1,8 +1,8 @@
-use Rattle.ifmt.proofs.FirstBad.{good_unless_bad}
+use Rattle.ifmt.proofs.FirstBadLemmas.{bad_is_not_good, good_unless_bad}
 use Rattle.ifmt.proofs.command.is_bad.Goals as goal
 
 pub returns-in-Bad : goal.returns-in-Bad
-returns-in-Bad c = λ good. let same = (c.in-Bad.ensures good.0).0 good.1 in cc
+returns-in-Bad c = bad_is_not_good c.args.word.now c.in-Bad.ensures
 
 pub returns-in_default : goal.returns-in_default
 returns-in_default c =

@@ -1,4 +1,4 @@
-use Rattle.ifmt.proofs.Cuts.{uncut, cut_once}
+use Rattle.ifmt.proofs.CutLemmas.{uncut, cut_once}
 use Rattle.ifmt.proofs.words.classify.Goals as goal
 
 pub returns-in-None : goal.returns-in-None

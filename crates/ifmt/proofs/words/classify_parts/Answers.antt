@@ -3,7 +3,7 @@ use Rattle.std.specs.Int.{w128}
 use Rattle.std.proofs.lemmas.Int.{to_z-of_z}
 use Rattle.std.proofs.lemmas.Str.Pattern.{strip_suffix_char}
 use Rattle.ifmt.specs.Words.{EndsIn}
-use Rattle.ifmt.proofs.Parts.{no_number, one_number, plain_text}
+use Rattle.ifmt.proofs.PartLemmas.{no_number, one_number, plain_text}
 use Rattle.ifmt.proofs.words.classify_parts.Goals as goal
 
 pub returns-in-None : goal.returns-in-None

@@ -6,4 +6,5 @@ use Rattle.interpolator_render.proofs.layout.put_ascii.Goals as goal
 pub returns : goal.returns
 returns g c =
     let n = byte_count-chars c.args.text.now c.utf8.text in
-    rw (← chars-IsAscii c.args.text.now c.requires) (puts_from_write _ _ _ _ (omega arith) c.write_str.ensures)
+    rw (← chars-IsAscii c.args.text.now c.requires)
+    (puts_from_write _ _ _ _ (omega arith) c.write_str.ensures)

@@ -3,4 +3,5 @@ use Rattle.interpolator_render.proofs.LayoutLemmas.{puts_from_write, byte_count-
 use Rattle.interpolator_render.proofs.layout.put_char.Goals as goal
 
 pub returns : goal.returns
-returns g c = let n = byte_count-char c.args.c in puts_from_write _ _ _ _ (omega arith) c.write_char.ensures
+returns g c = let n = byte_count-char c.args.c in
+    puts_from_write _ _ _ _ (omega arith) c.write_char.ensures

@@ -3,11 +3,13 @@ use Rattle.interpolator_render.proofs.LayoutLemmas.{copies_more, copies_stop}
 use Rattle.interpolator_render.proofs.layout.put_copies.Goals as goal
 
 pub returns-in-Err : goal.returns-in-Err
-returns-in-Err g c = copies_stop _ _ _ c.args.count c.loop-left.left c.min-now.result c.args.c c.in-Err.refusal.taken _ c.requires.ascii (omega arith)
+returns-in-Err g c = copies_stop _ _ _ c.args.count c.loop-left.left c.min-now.result c.args.c
+    c.in-Err.refusal.taken _ c.requires.ascii (omega arith)
     c.loop-left.invariant.0 (omega arith) (search rules) c.loop-left.invariant.1 c.in-Err.ensures
 
 pub loop-left-preserved : goal.loop-left-preserved
 loop-left-preserved g c = (
   omega arith,
-  copies_more _ _ _ c.args.count c.loop-left.left c.min-now.result c.args.c (omega arith) c.loop-left.invariant.0 c.loop-left.invariant.1 c.in_default.ensures,
+  copies_more _ _ _ c.args.count c.loop-left.left c.min-now.result c.args.c (omega arith)
+      c.loop-left.invariant.0 c.loop-left.invariant.1 c.in_default.ensures,
 )

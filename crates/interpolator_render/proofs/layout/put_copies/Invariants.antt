@@ -3,7 +3,9 @@ use Rattle.interpolator_render.specs.Written.{Appends}
 use Rattle.interpolator_render.proofs.layout.put_copies.Given as goal
 
 abbrev pub invariant-loop-left : goal.invariant-loop-left
-invariant-loop-left g l = (l.left ≤ l.count) × Appends (g.W.TextWrite.written l.initial.out) (replicate (l.count - l.left) l.fn.c) (g.W.TextWrite.written l.out)
+invariant-loop-left g l = (l.left ≤ l.count)
+    × Appends (g.W.TextWrite.written l.initial.out) (replicate (l.count - l.left) l.fn.c)
+    (g.W.TextWrite.written l.out)
 
 abbrev pub decreases-loop-left : goal.decreases-loop-left
 decreases-loop-left g l = l.left

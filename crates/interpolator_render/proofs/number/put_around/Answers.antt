@@ -8,7 +8,8 @@ pub returns-then-spec : goal.returns-then-spec
 returns-then-spec c =
     let front = front_text c.args.form c.args.spec.now c.args.negative in
     ap (λ (r : Row). r.text) (c.put_front.ensures ∙ ap (grown front) c.pad_before.ensures)
-    ∙ zero_padded c.args.spec.now front c.args.line.now.text c.saturating_sub.result c.args.line.now.fill c.if-spec.true c.requires.fill (omega arith)
+    ∙ zero_padded c.args.spec.now front c.args.line.now.text c.saturating_sub.result
+    c.args.line.now.fill c.if-spec.true c.requires.fill (omega arith)
 
 pub returns-else-spec : goal.returns-else-spec
 returns-else-spec c =
@@ -18,6 +19,8 @@ returns-else-spec c =
     let size = length-append front c.args.line.now.text in
     let text = ap (λ (r : Row). length r.text) c.put_front-else-spec.ensures in
     ap (λ (r : Row). r.text) (c.pad_behind.ensures
-    ∙ (ap (λ (r : Row). grown_behind (replicate (missing - before) r.fill) r) (c.pad_before-else-spec.ensures
+    ∙ (ap (λ (r : Row). grown_behind (replicate (missing - before) r.fill) r)
+    (c.pad_before-else-spec.ensures
     ∙ ap (λ (r : Row). grown (replicate before r.fill) r) c.put_front-else-spec.ensures)))
-    ∙ space_padded c.args.spec.now front c.args.line.now.text missing before c.args.line.now.fill c.if-spec.false c.requires.fill (omega arith) c.spaces_before-before.ensures.before
+    ∙ space_padded c.args.spec.now front c.args.line.now.text missing before c.args.line.now.fill
+    c.if-spec.false c.requires.fill (omega arith) c.spaces_before-before.ensures.before

@@ -15,6 +15,7 @@ returns g c =
     let zeros_size = length-replicate {A = ℕ} number.zeros 48 in
     let end_size = length-append (replicate number.zeros 48) number.tail.now in
     let body_size = length-append number.head.now (replicate number.zeros 48 ++ number.tail.now) in
-    rw (← number_parts c.args.spec.now number.sign.now number.prefix.now number.head.now number.tail.now
+    rw (← number_parts c.args.spec.now number.sign.now number.prefix.now number.head.now
+    number.tail.now
     _ _ _ number.zeros _ (omega arith) c.number_layout-layout.ensures)
     (rw (sign, prefix, head, tail) at c.put_parts.ensures)

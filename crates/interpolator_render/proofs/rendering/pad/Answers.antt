@@ -3,4 +3,8 @@ use Rattle.interpolator_render.proofs.rendering.pad.Goals as goal
 
 pub returns : goal.returns
 unfolding padded_text
-returns g c = rw (c.spaces_before-before.ensures.before, c.missing-missing.ensures, c.cut-shown.ensures) at c.put_between.ensures
+returns g c = rw (
+  c.spaces_before-before.ensures.before,
+  c.missing-missing.ensures,
+  c.cut-shown.ensures,
+) at c.put_between.ensures

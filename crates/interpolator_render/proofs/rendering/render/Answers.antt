@@ -15,21 +15,34 @@ returns-in-Some g c =
     let fits : FitsSigned w128 c.in-Signed.number = search rules in
     let parts = c.sign_and_magnitude-negative.ensures in
     rw c.in-Signed.is (renders_puts _ _ _ c.put_number.result _ _
-    (signed_text c.in-Signed.number c.in-Signed.bits c.args.t c.args.spec.now c.in-Some.form (sym c.number_form.ensures ∙ c.in-Some.is)) c.refused.ensures
-    (rw (parts.negative, parts.number, to_z-of_z w128 c.in-Signed.number fits) at c.put_number.ensures))
+    (signed_text c.in-Signed.number c.in-Signed.bits c.args.t c.args.spec.now c.in-Some.form
+    (sym c.number_form.ensures ∙ c.in-Some.is)) c.refused.ensures
+    (rw (
+      parts.negative,
+      parts.number,
+      to_z-of_z w128 c.in-Signed.number
+          fits,
+    ) at c.put_number.ensures))
 
 pub returns-in-None-number_form : goal.returns-in-None-number_form
 unfolding view_text
-returns-in-None-number_form g c = rw (c.in-Unsigned.is, sym c.number_form-in-Unsigned.ensures, c.in-None-number_form.is) refl
+returns-in-None-number_form g c = rw (
+  c.in-Unsigned.is,
+  sym c.number_form-in-Unsigned.ensures,
+  c.in-None-number_form.is,
+) refl
 
 pub returns-in-Some-number_form : goal.returns-in-Some-number_form
-returns-in-Some-number_form g c = rw c.in-Unsigned.is (renders_puts _ _ _ c.put_number-in-Some-number_form.result _ _
-    (unsigned_text c.in-Unsigned.number c.args.t c.args.spec.now c.in-Some-number_form.form (sym c.number_form-in-Unsigned.ensures ∙ c.in-Some-number_form.is))
+returns-in-Some-number_form g c = rw c.in-Unsigned.is
+    (renders_puts _ _ _ c.put_number-in-Some-number_form.result _ _
+    (unsigned_text c.in-Unsigned.number c.args.t c.args.spec.now c.in-Some-number_form.form
+    (sym c.number_form-in-Unsigned.ensures ∙ c.in-Some-number_form.is))
     c.refused-in-Some-number_form.ensures c.put_number-in-Some-number_form.ensures)
 
 pub returns-in-Plain : goal.returns-in-Plain
 unfolding view_text
-returns-in-Plain g c = rw c.in-Plain.is (renders_puts _ _ _ c.put_text.result _ _ refl c.refused-in-Plain.ensures c.put_text.ensures)
+returns-in-Plain g c = rw c.in-Plain.is
+    (renders_puts _ _ _ c.put_text.result _ _ refl c.refused-in-Plain.ensures c.put_text.ensures)
 
 pub returns-in-Failed : goal.returns-in-Failed
 unfolding view_text

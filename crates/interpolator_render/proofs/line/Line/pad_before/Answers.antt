@@ -9,7 +9,9 @@ returns c =
     let row = c.self.inside in
     let place : row.start ≡ c.args.self.now.before = ap (λ (r : Row). r.before) c.self.view_is in
     let few : c.args.count ≤ row.start = omega arith in
-    let written = copies_in_front row.bytes row.fill c.args.count row.start row.end few (omega arith) c.self.invariant in
+    let written = copies_in_front row.bytes row.fill c.args.count row.start row.end few
+    (omega arith) c.self.invariant in
     let n = length-replicate c.args.count row.fill in
-    row_grows row.bytes row.bytes (replicate c.args.count row.fill) row.fill (row.start - c.args.count) row.start row.end c.self.invariant.ordered (omega arith) written
+    row_grows row.bytes row.bytes (replicate c.args.count row.fill) row.fill
+    (row.start - c.args.count) row.start row.end c.self.invariant.ordered (omega arith) written
     ∙ ap (λ (r : Row). grown (replicate c.args.count r.fill) r) c.self.view_is

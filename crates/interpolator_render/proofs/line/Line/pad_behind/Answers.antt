@@ -8,12 +8,14 @@ invariant_of-self c =
     let row = c.self.inside in
     let room : 128 - row.end ≡ c.args.self.now.after = ap (λ (r : Row). r.after) c.self.view_is in
     let within = c.self.invariant.within in
-    IsRow-grows_behind row.bytes row.fill c.args.count row.start row.end (omega arith) c.self.invariant
+    IsRow-grows_behind row.bytes row.fill c.args.count row.start row.end (omega arith)
+    c.self.invariant
 
 pub returns : goal.returns
 returns c =
     let row = c.self.inside in
     let room : 128 - row.end ≡ c.args.self.now.after = ap (λ (r : Row). r.after) c.self.view_is in
     let within = c.self.invariant.within in
-    row_grows_behind row.bytes row.fill c.args.count row.start row.end (omega arith) c.self.invariant
+    row_grows_behind row.bytes row.fill c.args.count row.start row.end (omega arith)
+    c.self.invariant
     ∙ ap (λ (r : Row). grown_behind (replicate c.args.count r.fill) r) c.self.view_is

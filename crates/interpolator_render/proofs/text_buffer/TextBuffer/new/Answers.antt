@@ -5,4 +5,5 @@ use Rattle.interpolator_render.specs.Written.{Written}
 use Rattle.interpolator_render.proofs.text_buffer.TextBuffer.new.Goals as goal
 
 pub returns : goal.returns
-returns c = let of : List ℕ → Written = λ bytes. record { text = chars bytes; refused = false } in rw (c.new.ensures.bytes, chars-nil) refl
+returns c = let of : List ℕ → Written = λ bytes. record { text = chars bytes; refused = false } in
+    rw (c.new.ensures.bytes, chars-nil) refl

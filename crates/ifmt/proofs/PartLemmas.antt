@@ -1,0 +1,45 @@
+-- What the two parts of a word mean, by the ending of the part before the `=`.
+use Rattle.std.proofs.Common.{◌≡◌, ◌↔◌, ℕ, ℤ, List, ◌++◌, codes, None, Some, sym, ap, ◌∙◌}
+use Rattle.std.proofs.lemmas.List.{append_cancel_right}
+use Rattle.ifmt.specs.Words.{Assignment, text, number, list, PartsMean, Spells, EndsIn}
+
+-- a part that ends in `:`, before no number, means nothing
+pub no_number : (left right name : List ℕ) → left ≡ name ++ codes ":" →
+    ((value : ℤ) → Spells right value ↔ (None ≡ Some value)) →
+    (assignment : Assignment) → PartsMean left right assignment ↔ (None ≡ Some assignment)
+no_number left right name ends spells (text _ _) =
+    (λ meant. absurd (meant.2 (name, ends)), λ same. cc)
+no_number left right name ends spells (number _ value) =
+    (λ meant. let same = (spells value).0 meant.1 in cc, λ same. cc)
+no_number left right name ends spells (list _ _) = (λ meant. absurd meant, λ same. cc)
+
+-- a part that ends in `:`, before a number, means that number
+pub one_number : (left right name : List ℕ) (found : ℤ) → left ≡ name ++ codes ":" →
+    ((value : ℤ) → Spells right value ↔ (Some found ≡ Some value)) →
+    (assignment : Assignment) →
+    PartsMean left right assignment ↔ (Some (number name found) ≡ Some assignment)
+one_number left right name found ends spells (text _ _) =
+    (λ meant. absurd (meant.2 (name, ends)), λ same. cc)
+one_number left right name found ends spells (number other value) = (
+  λ meant.
+      let names = append_cancel_right name other (codes ":") (sym ends ∙ meant.0) in
+      let values = (spells value).0 meant.1 in cc,
+  λ same.
+      let names : name ≡ other = cc in
+      let values : Some found ≡ Some value = cc in
+      (ends ∙ ap (λ front. front ++ codes ":") names, (spells value).1 values),
+)
+one_number left right name found ends spells (list _ _) = (λ meant. absurd meant, λ same. cc)
+
+-- a part that ends in neither means a text
+pub plain_text : (left right : List ℕ) →
+    ¬ (EndsIn (codes ":") left) → ¬ (EndsIn (codes "[]") left) →
+    (assignment : Assignment) →
+    PartsMean left right assignment ↔ (Some (text left right) ≡ Some assignment)
+plain_text left right no_colon no_brackets (text name value) = (
+  λ meant. let names = meant.0 in let texts = meant.1 in cc,
+  λ same. (cc, cc, no_colon, no_brackets),
+)
+plain_text left right no_colon no_brackets (number name value) =
+    (λ meant. absurd (no_colon (name, meant.0)), λ same. cc)
+plain_text left right no_colon no_brackets (list _ _) = (λ meant. absurd meant, λ same. cc)

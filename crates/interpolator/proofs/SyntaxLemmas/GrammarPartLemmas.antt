@@ -1,0 +1,249 @@
+-- Readers that agree with parts of a text, and how they are chained.
+use Rattle.std.proofs.Common.{◌≡◌, ◌≢◌, ℕ, ◌+◌, Bool, true, false, cond, eqb, List, [], ◌∷◌, arith, rules, refl, ap, ◌∙◌, sym, subst, Result, Ok, Err, Option, Some, None, inl, inr, eqb-true}
+use Rattle.std.specs.Char.{len_utf8}
+use Rattle.std.proofs.lemmas.Bool.{eqb-false, ne_eqb}
+use Rattle.interpolator.specs.Syntax.At.{At, size, first, first_of, strip, strip_of, behind}
+use Rattle.interpolator.specs.Syntax.Classes.{front_of, in_class}
+use Rattle.interpolator.specs.Syntax.Readers.{Reader, on, ◌>>=◌ as ◌>>>◌, give, read_or_stay, letter_first, letter as read_letter, was_there, flag as read_flag, run_before, run as read_run}
+use Rattle.interpolator.specs.Syntax.Grammar.{from_place, NotFirst}
+use Rattle.interpolator.specs.Syntax.GrammarParts.{Part, ◌>>=◌, ends, placed, Lies, NoLetter, letter, flag, IsRun, run}
+use Rattle.interpolator.specs.Faults.{Fault}
+use Rattle.interpolator.specs.declared.syntax.class.Class.{Class}
+use Rattle.interpolator.proofs.SyntaxLemmas.LongestLemmas.{at_same, front_longest, longest_front, behind_longest}
+
+pub err_ok : {A B : Type 0} {d : B} {x : A} → ◌≡◌ {A = Result A B} (Err d) (Ok x) → ⊥
+err_ok e = cc
+
+pub ok_same : {A B : Type 0} {x y : A} → ◌≡◌ {A = Result A B} (Ok x) (Ok y) → x ≡ y
+ok_same e = cc
+
+pub err_same : {A B : Type 0} {x y : B} → ◌≡◌ {A = Result A B} (Err x) (Err y) → x ≡ y
+err_same e = cc
+
+pub none_some : {A : Type 0} {x : A} → ◌≡◌ {A = Option A} None (Some x) → ⊥
+none_some e = cc
+
+pub some_same : {A : Type 0} {x y : A} → ◌≡◌ {A = Option A} (Some x) (Some y) → x ≡ y
+some_same e = cc
+
+pub ok_pair :
+    {A : Type 0} {x y : A} {q r : At} → x ≡ y → q ≡ r
+    → ◌≡◌ {A = Result (A × At) Fault} (Ok (x, q)) (Ok (y, r))
+ok_pair e h = cc
+
+-- what a reader answers stands there
+abbrev pub Says : {A : Type 0} → Part A → At → Result (A × At) Fault → Type 0
+Says part a (Ok w) = part.is a w.0 w.1
+Says part a (Err f) = part.is_not a f
+
+-- a reader and a part that say the same
+pub record Agrees {A : Type 0} (read : Reader A) (part : Part A) : Type 0 where
+  pub says : (a : At) → Says part a (read a)
+  pub only : (a q : At) (x : A) → part.is a x q → read a ≡ Ok (x, q)
+  pub only_not : (a : At) (f : Fault) → part.is_not a f → read a ≡ Err f
+
+module _ {A : Type 0} (read : Reader A) (part : Part A) (h : Agrees read part) where
+  pub agrees_is : (a q : At) (x : A) → read a ≡ Ok (x, q) → part.is a x q
+  agrees_is a q x e = subst (Says part a) e (h.says a)
+
+  pub agrees_is_not : (a : At) (f : Fault) → read a ≡ Err f → part.is_not a f
+  agrees_is_not a f e = subst (Says part a) e (h.says a)
+
+-- ---- chains
+
+module _
+    {A B : Type 0} (read : Reader A) (next : A → Reader B) (part : Part A) (after : A → Part B)
+    (h : Agrees read part) (k : (x : A) → Agrees (next x) (after x)) where
+  behind_says :
+      (a b : At) (x : A) → part.is a x b → (o : Result (B × At) Fault) → Says (after x) b o
+      → Says (part >>= after) a o
+  behind_says a b x s (Ok w) t = (x, b, s, t)
+  behind_says a b x s (Err f) t = inr (x, b, s, t)
+
+  then_says : (a : At) (o : Result (A × At) Fault) → Says part a o
+      → Says (part >>= after) a (on o next)
+  then_says a (Ok w) s = behind_says a w.1 w.0 s (next w.0 w.1) ((k w.0).says w.1)
+  then_says a (Err f) s = inl s
+
+  pub agrees_then : Agrees (read >>> next) (part >>= after)
+  agrees_then = record {
+    says = λ a. then_says a (read a) (h.says a);
+    only = λ a q y t. ap (λ o. on o next) (h.only a t.1 t.0 t.2) ∙ (k t.0).only t.1 q y t.3;
+    only_not = λ a f t. elim t [
+      | inl s ↦ ap (λ o. on o next) (h.only_not a f s)
+      | inr s ↦ ap (λ o. on o next) (h.only a s.1 s.0 s.2) ∙ (k s.0).only_not s.1 f s.3
+    ];
+  }
+
+pub agrees_ends : {A : Type 0} (x : A) → Agrees (give x) (ends x)
+agrees_ends x = record {
+  says = λ a. (refl, refl);
+  only = λ a q y t. ok_pair (sym t.0) (sym t.1);
+  only_not = λ a f t. absurd t;
+}
+
+pub agrees_placed :
+    {A : Type 0} (read : ℕ → Reader A) (part : ℕ → Part A) → ((p : ℕ) → Agrees (read p) (part p))
+    → Agrees (λ a. read a.place a) (placed part)
+agrees_placed read part h = record {
+  says = λ a. (h a.place).says a;
+  only = λ a q y t. (h a.place).only a q y t;
+  only_not = λ a f t. (h a.place).only_not a f t;
+}
+
+-- ---- the first character
+
+pub lies_here :
+    (p c : ℕ) (cs : List ℕ) → Lies (from_place p (c ∷ cs)) (c ∷ []) (from_place (p + len_utf8 c) cs)
+lies_here p c cs = record { split = refl; place = omega arith }
+
+pub lies_cons :
+    (p c : ℕ) (cs ds : List ℕ) (q : At) → Lies (from_place (p + len_utf8 c) cs) ds q
+    → Lies (from_place p (c ∷ cs)) (c ∷ ds) q
+lies_cons p c cs ds q h = record { split = ap (λ xs. c ∷ xs) h.split; place = omega (arith, h.place) }
+
+-- what stands behind characters at a
+pub lies_end : (a : At) (cs : List ℕ) (q : At) → Lies a cs q
+    → from_place (a.place + size cs) q.text ≡ q
+lies_end a cs q h = at_same (sym h.place) refl
+
+past_end : (a : At) (c : ℕ) (q : At) → Lies a (c ∷ []) q
+    → from_place (a.place + len_utf8 c) q.text ≡ q
+past_end a c q h = at_same (omega (arith, h.place)) refl
+
+pub first_lies : (a : At) (c : ℕ) (q : At) → Lies a (c ∷ []) q → first a ≡ Some (c, q)
+first_lies a c q h = ap (first_of a.place) h.split ∙ ap (λ (b : At). Some (c, b)) (past_end a c q h)
+
+pub head_same : {c d : ℕ} {cs ds : List ℕ} → c ∷ cs ≡ d ∷ ds → c ≡ d
+head_same e = cc
+
+-- what `strip` tells
+abbrev pub Stripped : (c : ℕ) (a : At) → Option At → Type 0
+Stripped c a (Some q) = Lies a (c ∷ []) q
+Stripped c a None = NotFirst c a.text
+
+stripped_at : (c p : ℕ) (cs : List ℕ) → Stripped c (from_place p cs) (strip_of c p cs)
+stripped_at c p [] = λ more e. cc
+stripped_at c p (d ∷ ds) = by_test (eqb d c) refl
+  where
+    by_test :
+        (b : Bool) → eqb d c ≡ b
+        → Stripped c (from_place p (d ∷ ds)) (cond b (Some (from_place (p + len_utf8 d) ds)) None)
+    by_test true e =
+        let same = eqb-true d c e in
+        let past = from_place (p + len_utf8 d) ds in
+        subst (λ n. Lies (from_place p (d ∷ ds)) (n ∷ []) past) same (lies_here p d ds)
+    by_test false e = λ more k. eqb-false d c e (head_same k)
+
+pub stripped : (c : ℕ) (a : At) → Stripped c a (strip c a)
+stripped c a = stripped_at c a.place a.text
+
+test_same : (n : ℕ) → eqb n n ≡ true
+test_same n = search rules
+
+pub strip_lies : (c : ℕ) (a q : At) → Lies a (c ∷ []) q → strip c a ≡ Some q
+strip_lies c a q h =
+    ap (strip_of c a.place) h.split
+    ∙ ap (λ b. cond b (Some (from_place (a.place + len_utf8 c) q.text)) None) (test_same c)
+    ∙ ap Some (past_end a c q h)
+
+strip_not_at : (c p : ℕ) (cs : List ℕ) → NotFirst c cs → strip_of c p cs ≡ None
+strip_not_at c p [] h = refl
+strip_not_at c p (d ∷ ds) h =
+    let other = ne_eqb d c (λ e. h ds (ap (λ n. n ∷ ds) e)) in
+    ap (λ b. cond b (Some (from_place (p + len_utf8 d) ds)) None) other
+
+pub strip_not : (c : ℕ) (a : At) → NotFirst c a.text → strip c a ≡ None
+strip_not c a h = strip_not_at c a.place a.text h
+
+-- ---- letters and flags
+
+module _ {A : Type 0} (table : ℕ → Option A) (absent : A) where
+  letter_says_at :
+      (p : ℕ) (cs : List ℕ)
+      → Says (letter table absent) (from_place p cs) (read_letter table absent (from_place p cs))
+  letter_says_at p [] = inr (λ c k. let e = k.1 in cc, refl, refl)
+  letter_says_at p (c ∷ cs) = by_table (table c) refl
+    where
+      by_table :
+          (o : Option A) → table c ≡ o
+          → Says (letter table absent) (from_place p (c ∷ cs))
+          (read_or_stay absent (from_place p (c ∷ cs)) (from_place (p + len_utf8 c) cs) o)
+      by_table (Some x) e = inl (c, e, lies_here p c cs)
+      by_table None e = inr (λ d k. ap table (sym (head_same k.1)) ∙ e, refl, refl)
+
+  no_letter : (p : ℕ) (cs : List ℕ) → NoLetter table cs
+      → read_letter table absent (from_place p cs) ≡ Ok (absent, from_place p cs)
+  no_letter p [] h = refl
+  no_letter p (c ∷ cs) h =
+      ap (read_or_stay absent (from_place p (c ∷ cs)) (from_place (p + len_utf8 c) cs)) (h c (cs, refl))
+
+  pub agrees_letter : Agrees (read_letter table absent) (letter table absent)
+  agrees_letter = record {
+    says = λ a. letter_says_at a.place a.text;
+    only = λ a q x t. elim t [
+      | inl s ↦
+          ap (letter_first table absent a) (first_lies a s.0 q s.2)
+          ∙ ap (read_or_stay absent a q) s.1
+      | inr s ↦ no_letter a.place a.text s.0 ∙ ok_pair (sym s.1) (sym s.2)
+    ];
+    only_not = λ a f t. absurd t;
+  }
+
+flag_says : (c : ℕ) (a : At) (o : Option At) → Stripped c a o → Says (flag c) a (was_there a o)
+flag_says c a (Some q) h = inl (h, refl)
+flag_says c a None h = inr (h, refl, refl)
+
+pub agrees_flag : (c : ℕ) → Agrees (read_flag c) (flag c)
+agrees_flag c = record {
+  says = λ a. flag_says c a (strip c a) (stripped c a);
+  only = λ a q x t. elim t [
+    | inl s ↦ ap (was_there a) (strip_lies c a q s.0) ∙ ok_pair (sym s.1) refl
+    | inr s ↦ ap (was_there a) (strip_not c a s.0) ∙ ok_pair (sym s.1) (sym s.2)
+  ];
+  only_not = λ a f t. absurd t;
+}
+
+-- ---- runs
+
+run_end :
+    (class : Class) (a : At) (cs : List ℕ) (q : At) → IsRun class a cs q
+    → behind (in_class class) a ≡ q
+run_end class a cs q h =
+    behind_longest (in_class class) a cs q.text h.longest ∙ at_same (sym h.place) refl
+
+run_is :
+    (class : Class) (a : At)
+    → IsRun class a (front_of (in_class class) a.text) (behind (in_class class) a)
+run_is class a = record { longest = front_longest (in_class class) a.text; place = refl }
+
+run_says :
+    (class : Class) (start : ℕ) (a : At) (cs : List ℕ) (p : ℕ) (ds : List ℕ)
+    → IsRun class a cs (from_place p ds)
+    → Says (run class start) a (run_before start cs (from_place p ds) ds)
+run_says class start a cs p [] h = (cs, from_place p [], h, refl, refl)
+run_says class start a cs p (d ∷ ds) h = (h, λ e. cc)
+
+more_behind :
+    (start : ℕ) (cs : List ℕ) (p : ℕ) (ds : List ℕ) → ds ≢ []
+    → run_before start cs (from_place p ds) ds ≡ Ok (cs, from_place p ds)
+more_behind start cs p [] h = absurd (h refl)
+more_behind start cs p (d ∷ ds) h = refl
+
+pub agrees_run : (class : Class) (start : ℕ)
+    → Agrees (read_run (in_class class) start) (run class start)
+agrees_run class start = record {
+  says = λ a.
+      let b = behind (in_class class) a in
+      run_says class start a (front_of (in_class class) a.text) b.place b.text (run_is class a);
+  only = λ a q cs t.
+      let read = run_before start (front_of (in_class class) a.text) in
+      ap (λ (b : At). read b b.text) (run_end class a cs q t.0)
+      ∙ more_behind start _ q.place q.text t.1
+      ∙ ap (λ (xs : List ℕ). Ok (xs, q)) (longest_front (in_class class) a.text cs q.text t.0.longest).0;
+  only_not = λ a f t.
+      let read = run_before start (front_of (in_class class) a.text) in
+      ap (λ (b : At). read b b.text) (run_end class a t.0 t.1 t.2)
+      ∙ ap (read t.1) t.3
+      ∙ ap Err (sym t.4);
+}

@@ -1,0 +1,11 @@
+-- The pairs are asked for the bytes of the name, which are the bytes of its characters.
+use Rattle.std.proofs.Common.{ap, ◌∙◌}
+use Rattle.std.specs.Option.{option_map}
+use Rattle.std.proofs.lemmas.Str.{encodes-chars}
+use Rattle.interpolator.specs.Trees.{tree_of}
+use Rattle.interpolator.proofs.pairs.PairsContext.get.Goals as goal
+
+pub returns : goal.returns
+returns g c = record {
+  found = rw (encodes-chars c.args.key.now c.utf8.key) (ap (option_map tree_of) (c.copied.ensures ∙ c.last_under.ensures));
+}

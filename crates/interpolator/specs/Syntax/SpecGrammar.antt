@@ -1,0 +1,137 @@
+-- A spec's text as its parts, one behind the other, each where its first character stands.
+use Rattle.std.specs.Prelude.{◌≡◌, ◌≢◌, ◌⊎◌, ℕ, ◌^◌, ◌≤◌, ◌||◌, Bool, IsTrue, IsFalse, All}
+use Rattle.std.specs.Prelude.{List, [], ◌∷◌, length, Option, Some, None, codes, ⊤}
+use Rattle.std.specs.Char.{is_ascii_digit}
+use Rattle.interpolator_render.specs.declared.view.Trait.{Trait}
+use Rattle.interpolator_render.specs.declared.view.Trait.TheVariants as traits
+use Rattle.interpolator_render.specs.declared.view.Alignment.TheVariants as alignments
+use Rattle.interpolator_render.specs.declared.view.Sign.TheVariants as signs
+use Rattle.interpolator_render.specs.declared.view.HexDebug.{HexDebug}
+use Rattle.interpolator_render.specs.declared.view.HexDebug.TheVariants as hex_debugs
+use Rattle.interpolator.specs.Syntax.At.{At}
+use Rattle.interpolator.specs.Syntax.Classes.{is_alignment, hash, zero_digit, point, close_brace}
+use Rattle.interpolator.specs.Syntax.Classes.{question_mark, lower_p}
+use Rattle.interpolator.specs.Syntax.SpecTexts.{of_value, Asked, plain_display, Wanted, wanted}
+use Rattle.interpolator.specs.Syntax.SpecTexts.{alignment_letter, sign_letter}
+use Rattle.interpolator.specs.Syntax.NumberGrammar.{IsNumber, IsNoNumber}
+use Rattle.interpolator.specs.Syntax.Grammar.{NotFirst}
+use Rattle.interpolator.specs.Syntax.GrammarParts.{Part, ◌>>=◌, ends, placed, IsFirst, Lies}
+use Rattle.interpolator.specs.Syntax.GrammarParts.{letter, flag, where_first, where_behind, run}
+use Rattle.interpolator.specs.Faults.{Fault, ParseFault, parse, unclosed, expected, fill}
+use Rattle.interpolator.specs.Faults.{invalid_width, invalid_precision, unsupported_option}
+use Rattle.interpolator.specs.declared.error.NumberError.{NumberError}
+use Rattle.interpolator.specs.declared.error.NumberError.TheVariants.{PosOverflow}
+use Rattle.interpolator.specs.declared.syntax.class.Class.TheVariants.{Number}
+
+-- the run that stood at p spells a number
+abbrev pub spelled : (NumberError → ℕ → ParseFault) → (p : ℕ) → (cs : List ℕ) → Part (Option ℕ)
+spelled wrong p cs = record {
+  is = λ a x q. (n : ℕ) × IsNumber (2 ^ 64) cs n × (x ≡ Some n) × (q ≡ a);
+  is_not =
+      λ a f. (kind : NumberError) × IsNoNumber (2 ^ 64) PosOverflow cs kind
+      × (f ≡ parse (wrong kind p));
+}
+
+-- a number: a run of digits and `-` that spells one
+abbrev pub number : (NumberError → ℕ → ParseFault) → (start : ℕ) → Part (Option ℕ)
+number wrong start =
+    placed (λ p.
+    do
+      cs ← run Number start
+      spelled wrong p cs)
+
+-- a number, where a digit stands
+abbrev pub width : (start : ℕ) → Part (Option ℕ)
+width start = where_first is_ascii_digit (number invalid_width start)
+
+-- a number behind a `.`, where one stands
+abbrev pub precision : (start : ℕ) → Part (Option ℕ)
+precision start = where_behind point (number invalid_precision start)
+
+-- the text of a trait, and of how debug writes numbers; display has none
+abbrev pub trait_text : Trait → HexDebug → Option (List ℕ)
+trait_text traits.Debug hex_debugs.No = Some (codes "?")
+trait_text traits.Debug hex_debugs.Lower = Some (codes "x?")
+trait_text traits.Debug hex_debugs.Upper = Some (codes "X?")
+trait_text traits.Octal hex_debugs.No = Some (codes "o")
+trait_text traits.LowerHex hex_debugs.No = Some (codes "x")
+trait_text traits.UpperHex hex_debugs.No = Some (codes "X")
+trait_text traits.Binary hex_debugs.No = Some (codes "b")
+trait_text traits.LowerExp hex_debugs.No = Some (codes "e")
+trait_text traits.UpperExp hex_debugs.No = Some (codes "E")
+trait_text _ _ = None
+
+-- `x` and `X` end only where no `?` follows
+abbrev pub MayEnd : Trait → (rest : List ℕ) → Type 0
+MayEnd traits.LowerHex rest = NotFirst question_mark rest
+MayEnd traits.UpperHex rest = NotFirst question_mark rest
+MayEnd _ rest = ⊤
+
+-- display is asked for in front of a `}`, and at the end of the text where no `#` or `0` was read
+abbrev pub AsksDisplay : (flagged : Bool) → (text : List ℕ) → Type 0
+AsksDisplay flagged text = IsFirst close_brace text ⊎ ((text ≡ []) × IsFalse flagged)
+
+-- a trait's text, or nothing for display; why there is none: the text ends, a `p` stands there, or
+-- another character that begins no trait
+abbrev pub shown : (start : ℕ) → (flagged : Bool) → Part Wanted
+shown start flagged = record {
+  is =
+      λ a x q. (AsksDisplay flagged a.text × (x ≡ wanted traits.Display) × (q ≡ a))
+      ⊎ ((cs : List ℕ) × (trait_text x.slot x.hex_debug ≡ Some cs) × Lies a cs q
+      × MayEnd x.slot q.text);
+  is_not =
+      λ a f. ((a.text ≡ []) × IsTrue flagged × (f ≡ parse (unclosed start)))
+      ⊎ ((IsFirst lower_p a.text
+      × (f ≡ unsupported_option (codes "p") (codes "pointer") a.place))
+      ⊎ ((c : ℕ) × IsFirst c a.text × All (λ d. c ≢ d) (codes "}?oxXbeEp")
+      × (f ≡ parse (expected (codes "}") a.place))));
+}
+
+-- the parts of a spec
+abbrev pub parts : (start : ℕ) → Part Asked
+parts start =
+    do
+      alignment ← letter alignment_letter alignments.Unset
+      sign ← letter sign_letter signs.Unset
+      alternate ← flag hash
+      zero ← flag zero_digit
+      width ← width start
+      precision ← precision start
+      shown ← shown start (alternate || zero)
+      ends (record {
+        spec = record {
+          alignment = alignment;
+          sign = sign;
+          alternate = alternate;
+          zero = zero;
+          width = width;
+          precision = precision;
+          hex_debug = shown.hex_debug;
+        };
+        kind = of_value shown.slot;
+      })
+
+-- the second character of the text is d
+abbrev pub IsSecond : (d : ℕ) → (text : List ℕ) → Type 0
+IsSecond d text = (c : ℕ) × (more : List ℕ) × (text ≡ c ∷ d ∷ more)
+
+-- the text behind the colon of the argument that begins at `start`: at most one character is plain
+-- display, and not read; a second character that is an alignment would make the first a fill; else
+-- the parts stand there
+abbrev pub spec : (start : ℕ) → Part Asked
+spec start = record {
+  is =
+      λ a x q. ((length a.text ≤ 1) × (x ≡ plain_display) × (q ≡ a))
+      ⊎ ((d : ℕ) × IsSecond d a.text × IsFalse (is_alignment d) × (parts start).is a x q);
+  is_not =
+      λ a f. ((d : ℕ) × IsSecond d a.text × IsTrue (is_alignment d) × (f ≡ parse (fill a.place)))
+      ⊎ ((d : ℕ) × IsSecond d a.text × IsFalse (is_alignment d) × (parts start).is_not a f);
+}
+
+-- what x asks stands behind the colon, and behind it what stands at q
+abbrev pub IsSpec : (start : ℕ) → (a : At) → (x : Asked) → (q : At) → Type 0
+IsSpec start = (spec start).is
+
+-- no spec stands behind the colon, for this reason
+abbrev pub IsNoSpec : (start : ℕ) → (a : At) → (f : Fault) → Type 0
+IsNoSpec start = (spec start).is_not

@@ -1,0 +1,47 @@
+//! Laws of the specs in a format text, each the contract of a small function.
+
+ghost use Rattle.std.specs.Prelude.{◌≡◌, ℕ, Ok, Err};
+ghost use Rattle.interpolator.specs.Syntax.At.{At};
+ghost use Rattle.interpolator.specs.Syntax.SpecTexts.{Asked, spec_behind};
+ghost use Rattle.interpolator.specs.Syntax.SpecGrammar.{IsSpec, IsNoSpec};
+ghost use Rattle.interpolator.specs.Faults.{Fault};
+
+/// The text behind a colon is a spec exactly where its parts stand one behind the other, each where
+/// its first character stands:
+///
+/// 1. an alignment: `<`, `^` or `>`
+/// 2. a sign: `+` or `-`
+/// 3. `#`
+/// 4. `0`
+/// 5. a width: where a digit stands, the longest run of digits and `-`, which is a number
+/// 6. a precision: where a `.` stands, the same behind it
+/// 7. a trait: `?`, `x?`, `X?`, `o`, `x`, `X`, `b`, `e` or `E`, or nothing in front of a `}`
+///
+/// A text of at most one character is not read, and asks for plain display.
+///
+/// So `<+#08.3x?}` is a spec whose `}` is not read, and `3` at the end of the format asks for no
+/// width.
+pub fn spec_is_its_parts()
+    ensures is { (start : ℕ) (a q : At) (asked : Asked) → spec_behind start a ≡ Ok (asked, q)
+        → IsSpec start a asked q }
+    ensures only { (start : ℕ) (a q : At) (asked : Asked) → IsSpec start a asked q
+        → spec_behind start a ≡ Ok (asked, q) }
+{}
+
+/// Where no spec stands, the fault is that of the first part that does not stand, from the left:
+///
+/// - an alignment as the second character would make the first a fill
+/// - a width or a precision that ends with the text leaves the argument unclosed, and one that is
+///   no number is named by the place where its run begins
+/// - the end of the text, where a trait may stand, leaves the argument unclosed behind `#` or `0`
+/// - `p` is an option that is not supported, and any other character that begins no trait stands
+///   where a `}` is expected
+///
+/// So the fault of `{a:x<}` is `Fill(3)`, of `{a:1-2}` it is `InvalidWidth(InvalidDigit, 3)`, of
+/// `{a:55` it is `FormatSpecUnclosed(1)`, and of `{a:5y}` it is `Expected("}", 4)`.
+pub fn spec_is_refused_otherwise()
+    ensures is { (start : ℕ) (a : At) (fault : Fault) → spec_behind start a ≡ Err fault
+        → IsNoSpec start a fault }
+    ensures only { (start : ℕ) (a : At) (fault : Fault) → IsNoSpec start a fault
+        → spec_behind start a ≡ Err fault }
+{}

@@ -1,0 +1,50 @@
+//! Why the program ends early.
+
+use interpolator::{Error, RenderFault};
+use std::alloc::{AllocError, AllocFailed};
+use std::io;
+
+/// Why the program ends early.
+#[derive(Drop)]
+pub enum Failure {
+    /// The command line asks for nothing that there is.
+    Usage,
+    /// A format was refused.
+    Format(Error),
+    /// A value was not rendered.
+    Render(RenderFault),
+    /// There was no memory for a workload's own texts.
+    NoMemory,
+    /// The arguments were not read, or the answer was not written.
+    Io(io::Error),
+}
+
+impl From<Error> for Failure {
+    fn from(error: Error) -> Failure {
+        Failure::Format(error)
+    }
+}
+
+impl From<RenderFault> for Failure {
+    fn from(fault: RenderFault) -> Failure {
+        Failure::Render(fault)
+    }
+}
+
+impl From<AllocError> for Failure {
+    fn from(_refused: AllocError) -> Failure {
+        Failure::NoMemory
+    }
+}
+
+impl<T: Drop> From<AllocFailed<T>> for Failure {
+    fn from(_refused: AllocFailed<T>) -> Failure {
+        Failure::NoMemory
+    }
+}
+
+impl From<io::Error> for Failure {
+    fn from(error: io::Error) -> Failure {
+        Failure::Io(error)
+    }
+}

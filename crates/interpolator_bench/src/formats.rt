@@ -1,0 +1,119 @@
+//! Formats whose context is made once.
+
+use crate::failure::Failure;
+use interpolator::{ContextMap, Formattable, Interpolate, Value, View};
+use std::alloc::{AllocError, Global};
+use std::collections::HashMap;
+
+const LAYOUT: &str = "{time} {level} [{module}] {message} (line {line})";
+
+const NUMBER_NAMES: [&str; 32] = [
+    "a", "b", "c", "d", "e", "f", "g", "h", "i", "j", "k", "l", "m", "n", "o", "p", "q", "r", "s",
+    "t", "u", "v", "w", "x", "y", "z", "aa", "bb", "cc", "dd", "ee", "ff",
+];
+
+const NUMBERS: [u32; 32] = [
+    0, 1, 2, 3, 5, 8, 13, 21, 34, 55, 89, 144, 233, 377, 610, 987, 4, 6, 9, 10, 12, 14, 15, 16, 18,
+    20, 22, 24, 25, 26, 27, 28,
+];
+
+const TEXT_NAMES: [&str; 18] = [
+    "name", "title", "street", "city", "country", "phone", "email", "company", "job", "topic",
+    "greeting", "closing", "sender", "office", "unit", "date", "place", "motto",
+];
+
+const TEXTS: [&str; 18] = [
+    "Ann Svensson",
+    "Dr",
+    "Long Street 12",
+    "Oslo",
+    "Norway",
+    "555-0199",
+    "ann@example.org",
+    "Acme",
+    "baker",
+    "bread",
+    "Dear",
+    "Yours",
+    "Bob",
+    "North",
+    "B4",
+    "2024-05-17",
+    "Bergen",
+    "onwards",
+];
+
+/// A layout of log lines, over texts and a number.
+pub fn log_line(alloc: Global, repeats: u32) -> Result<String, Failure> {
+    let time = View::Text("2024-05-17T12:34:56Z");
+    let level = View::Text("INFO");
+    let module = View::Text("store::index");
+    let message = View::Text("rebuilt the index of all orders");
+    let line = View::Unsigned(217);
+    let mut context = HashMap::new(alloc);
+    context.insert("time", Formattable::display(&time))?;
+    context.insert("level", Formattable::display(&level))?;
+    context.insert("module", Formattable::display(&module))?;
+    context.insert("message", Formattable::display(&message))?;
+    context.insert("line", Formattable::integer(&line))?;
+    repeat_format(alloc, LAYOUT, &context, repeats)
+}
+
+/// Thirty-two short names, of numbers.
+pub fn number_names(alloc: Global, repeats: u32) -> Result<String, Failure> {
+    let format = names_format(alloc, &NUMBER_NAMES)?;
+    let mut context = HashMap::new(alloc);
+    for (name, number) in NUMBER_NAMES.iter().zip(&NUMBERS) {
+        context.insert(*name, Formattable::integer(number))?;
+    }
+    repeat_format(alloc, format.as_str(), &context, repeats)
+}
+
+/// Eighteen names, of texts.
+pub fn text_names(alloc: Global, repeats: u32) -> Result<String, Failure> {
+    let format = names_format(alloc, &TEXT_NAMES)?;
+    let mut context = HashMap::new(alloc);
+    for (name, text) in TEXT_NAMES.iter().zip(&TEXTS) {
+        context.insert(*name, Formattable::display(text))?;
+    }
+    repeat_format(alloc, format.as_str(), &context, repeats)
+}
+
+/// So many copies of a text, as a format that asks no name.
+pub fn copies(alloc: Global, piece: &str, count: u32, repeats: u32) -> Result<String, Failure> {
+    let mut format = String::new(alloc);
+    for _ in 0..count {
+        format.push_str(piece)?;
+    }
+    let context: ContextMap<'_, u32> = ContextMap::new(alloc);
+    let mut text = String::new(alloc);
+    for _ in 0..repeats {
+        text = context.format(alloc, format.as_str())?;
+    }
+    Ok(text)
+}
+
+// A format that asks each name, and has a space behind it.
+fn names_format(alloc: Global, names: &[&str]) -> Result<String, AllocError> {
+    let mut format = String::new(alloc);
+    for name in names {
+        format.push('{')?;
+        format.push_str(name)?;
+        format.push_str("} ")?;
+    }
+    Ok(format)
+}
+
+/// Formats so often, each time into a new text. Gives the last.
+pub fn repeat_format<V: Value>(
+    alloc: Global,
+    format: &str,
+    context: &HashMap<&str, Formattable<'_, V>>,
+    repeats: u32,
+) -> Result<String, Failure> {
+    let mut text = String::new(alloc);
+    for _ in 0..repeats {
+        text = context.format(alloc, format)?;
+    }
+    Ok(text)
+}

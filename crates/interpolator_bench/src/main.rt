@@ -1,0 +1,97 @@
+//! `interpolator_bench`: makes texts again and again, to be timed from outside.
+#![tactic(auto)]
+
+mod checksum;
+mod command;
+mod failure;
+mod formats;
+mod merge;
+mod renders;
+mod rows;
+mod spec_formats;
+mod workloads;
+
+use checksum::checksum_of;
+use command::{Command, command_of};
+use failure::Failure;
+use std::process::ExitCode;
+use std::rt::Env;
+use std::{env, io};
+use workloads::Workload;
+
+const FAULT: u8 = 1;
+
+const BAD_USE: u8 = 2;
+
+fn main(rt: HostRuntime) -> ExitCode {
+    let status = match answer(&rt) {
+        Ok(()) => return ExitCode::SUCCESS,
+        Err(Failure::Usage) => BAD_USE,
+        Err(_) => FAULT,
+    };
+    ExitCode::from(status)
+}
+
+// Runs what the command line asks, and complains where that fails.
+fn answer(rt: &(impl Env + Print + Eprint + AllocGlobal)) -> Result<(), Failure> {
+    let answer = match asked(rt) {
+        Ok(command) => run(rt, command),
+        Err(failure) => Err(failure),
+    };
+    if let Err(failure) = &answer {
+        complain(rt, failure)?;
+    }
+    answer
+}
+
+// What the words behind the program's name ask.
+fn asked(rt: &(impl Env + AllocGlobal)) -> Result<Command, Failure> {
+    let words = env::args(rt)?.skip(1).collect::<Vec<String>>(rt.alloc())?;
+    command_of(words.as_slice()).ok_or(Failure::Usage)
+}
+
+fn run(rt: &(impl Print + AllocGlobal), command: Command) -> Result<(), Failure> {
+    let Command { workload, repeats } = command;
+    match workload {
+        Some(workload) => report(rt, workload, repeats),
+        None => {
+            for workload in Workload::ALL {
+                report(rt, workload, repeats)?;
+            }
+            Ok(())
+        }
+    }
+}
+
+// Runs a workload, and prints how long its text is, and its checksum.
+fn report(
+    rt: &(impl Print + AllocGlobal),
+    workload: Workload,
+    repeats: u32,
+) -> Result<(), Failure> {
+    let text = workload.run(rt.alloc(), repeats)?;
+    let name = workload.name();
+    let len = text.len();
+    let sum = checksum_of(text.as_str());
+    println!(rt; "{name}: {len} bytes, checksum {sum:016x}")?;
+    Ok(())
+}
+
+fn complain(rt: &impl Eprint, failure: &Failure) -> io::Result<()> {
+    match failure {
+        Failure::Usage => usage(rt),
+        Failure::Format(error) => eprintln!(rt; "{error}"),
+        Failure::Render(fault) => eprintln!(rt; "not rendered: {fault:?}"),
+        Failure::NoMemory => eprintln!(rt; "out of memory"),
+        Failure::Io(error) => eprintln!(rt; "{error}"),
+    }
+}
+
+fn usage(rt: &impl Eprint) -> io::Result<()> {
+    eprint!(rt; "usage: interpolator_bench WORKLOAD REPEATS, a workload being all")?;
+    for workload in Workload::ALL {
+        let name = workload.name();
+        eprint!(rt; ", {name}")?;
+    }
+    eprintln!(rt; "")
+}

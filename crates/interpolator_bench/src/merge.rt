@@ -1,0 +1,113 @@
+//! A letter for each of many records, whose context is made anew.
+//!
+//! A merge by another kind of context is a variant of `Kind`, over the same records.
+
+use crate::failure::Failure;
+use interpolator::{Error, Formattable, Interpolate, Pairs, TextBuffer, View};
+use std::alloc::Global;
+use std::collections::HashMap;
+
+const RECORDS: u32 = 10_000;
+
+const LETTER: &str = "Dear {name} of {city}, your {count} {goods} are order {order}.\n";
+
+const NAMES: [&str; 5] = ["Ann", "Bob", "Carla", "Dmitri", "Eve"];
+
+const CITIES: [&str; 3] = ["Oslo", "Lima", "Kyoto"];
+
+const GOODS: [&str; 4] = ["loaves", "rolls", "cakes", "pies"];
+
+/// What one letter tells.
+#[derive(Clone, Copy)]
+struct Record {
+    name: &'static str,
+    city: &'static str,
+    goods: &'static str,
+    count: u32,
+    order: u32,
+}
+
+/// The kind of context that each letter gets.
+#[derive(Clone, Copy)]
+enum Kind {
+    HashMap,
+    Pairs,
+}
+
+/// The letters of all records, by a `HashMap` for each.
+pub fn by_hash_map(alloc: Global, repeats: u32) -> Result<String, Failure> {
+    repeat_letters(alloc, Kind::HashMap, repeats)
+}
+
+/// The letters of all records, by `Pairs` for each.
+pub fn by_pairs(alloc: Global, repeats: u32) -> Result<String, Failure> {
+    repeat_letters(alloc, Kind::Pairs, repeats)
+}
+
+// Writes all letters, so often anew in the same buffer. Gives the last text.
+fn repeat_letters(alloc: Global, kind: Kind, repeats: u32) -> Result<String, Failure> {
+    let mut text = String::new(alloc);
+    for _ in 0..repeats {
+        text.clear();
+        text = put_letters(alloc, text, kind)?;
+    }
+    Ok(text)
+}
+
+// Appends the letters of all records.
+fn put_letters(alloc: Global, text: String, kind: Kind) -> Result<String, Error> {
+    let mut out = TextBuffer::from_string(text);
+    for order in 0..RECORDS {
+        let record = record_of(order);
+        match kind {
+            Kind::HashMap => put_by_hash_map(alloc, &mut out, &record)?,
+            Kind::Pairs => put_by_pairs(alloc, &mut out, &record)?,
+        }
+    }
+    Ok(out.into_string())
+}
+
+fn put_by_hash_map(alloc: Global, out: &mut TextBuffer, record: &Record) -> Result<(), Error> {
+    let name = View::Text(record.name);
+    let city = View::Text(record.city);
+    let goods = View::Text(record.goods);
+    let count = View::Unsigned(u128::from(record.count));
+    let order = View::Unsigned(u128::from(record.order));
+    let mut context = HashMap::new(alloc);
+    context.insert("name", Formattable::display(&name))?;
+    context.insert("city", Formattable::display(&city))?;
+    context.insert("goods", Formattable::display(&goods))?;
+    context.insert("count", Formattable::integer(&count))?;
+    context.insert("order", Formattable::integer(&order))?;
+    context.write_to(alloc, out, LETTER)
+}
+
+fn put_by_pairs(alloc: Global, out: &mut TextBuffer, record: &Record) -> Result<(), Error> {
+    let values = [
+        View::Text(record.name),
+        View::Text(record.city),
+        View::Text(record.goods),
+        View::Unsigned(u128::from(record.count)),
+        View::Unsigned(u128::from(record.order)),
+    ];
+    Pairs(&[
+        ("name", Formattable::display(&values[0])),
+        ("city", Formattable::display(&values[1])),
+        ("goods", Formattable::display(&values[2])),
+        ("count", Formattable::integer(&values[3])),
+        ("order", Formattable::integer(&values[4])),
+    ])
+    .write_to(alloc, out, LETTER)
+}
+
+// The record of an order: each field goes round its values.
+fn record_of(order: u32) -> Record {
+    let place = order as usize;
+    Record {
+        name: NAMES[place % NAMES.len()],
+        city: CITIES[place % CITIES.len()],
+        goods: GOODS[place % GOODS.len()],
+        count: order % 90 + 10,
+        order,
+    }
+}

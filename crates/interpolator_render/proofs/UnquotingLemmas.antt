@@ -1,0 +1,133 @@
+-- A quoted text, read back, is the text.
+use Rattle.std.proofs.Common.{◌≡◌, ◌≢◌, ℕ, ◌<◌, ◌+◌, ◌*◌, inl, inr, true, false}
+use Rattle.std.proofs.Common.{List, [], ◌∷◌, ◌++◌, ◌==◌, ◌||◌, if◌then◌else◌, map, refl, sym, ◌∙◌}
+use Rattle.std.proofs.Common.{ap, arith, rules, append_assoc}
+use Rattle.std.specs.Char.{digit_value}
+use Rattle.std.specs.Fmt.{digit_glyph}
+use Rattle.std.specs.Int.Digits.{digits_of, AllBelowBase}
+use Rattle.std.specs.List.{flat_map}
+use Rattle.std.specs.Prelude.{Some, None, nat_lt, codes}
+use Rattle.std.specs.Str.Parse.{digits_value, digits_value_after}
+use Rattle.std.proofs.lemmas.Bool.{cases_eq}
+use Rattle.std.proofs.lemmas.Bool.Decides.{nat_tests}
+use Rattle.std.proofs.lemmas.Int.Digits.{all_below_base_digits_of}
+use Rattle.interpolator_render.specs.Digits.{digit_text}
+use Rattle.interpolator_render.specs.Quoting.{escape_letter, escaped, quoted}
+use Rattle.interpolator_render.specs.Unquoting.{IsQuote, preceded_by, escape_meaning}
+use Rattle.interpolator_render.specs.Unquoting.{unquoted_from, unquoted, at_character, in_number}
+use Rattle.interpolator_render.proofs.DigitLemmas.{zero_or_more, digit_text_zero, digit_text_map}
+use Rattle.interpolator_render.proofs.LawLemmas.{digits_value-digit_text}
+
+-- what is asked of a quote: it is no backslash and no `u`, and stands for itself
+record StandsForItself (quote : ℕ) : Type 0 where
+  slash : (92 == quote) ≡ false
+  letter : (quote == 117) ≡ false
+  own : escape_meaning quote ≡ quote
+
+quotes_stand : (quote : ℕ) → IsQuote quote → StandsForItself quote
+quotes_stand quote (inl e) = rw e (record { slash = refl; letter = refl; own = refl })
+quotes_stand quote (inr e) = rw e (record { slash = refl; letter = refl; own = refl })
+
+-- a character that stands behind a backslash as a letter
+letter_read : (quote c letter : ℕ) (rest : List ℕ) → StandsForItself quote →
+    escape_letter quote c ≡ Some letter → (letter == 117) ≡ false → escape_meaning letter ≡ c →
+    unquoted_from quote at_character (escaped quote c ++ rest)
+    ≡ preceded_by c (unquoted_from quote at_character rest)
+letter_read quote c letter rest p e u m = rw (e, p.slash, u, m) refl
+
+-- ---- numbers
+
+no_brace : (d : ℕ) → d < 16 → (digit_glyph false d == 125) ≡ false
+no_brace d h = grind (arith, nat_tests)
+
+number_read : (quote n : ℕ) (ds rest : List ℕ) → AllBelowBase 16 ds →
+    unquoted_from quote (in_number n) (map (digit_glyph false) ds ++ 125 ∷ rest)
+    ≡ preceded_by (digits_value_after 16 n (map (digit_glyph false) ds))
+    (unquoted_from quote at_character rest)
+number_read quote n [] rest a = refl
+number_read quote n (d ∷ ds) rest a =
+    rw (no_brace d (omega (arith, a.0)))
+    (number_read quote (n * 16 + digit_value (digit_glyph false d)) ds rest a.1)
+
+text_read : (quote n : ℕ) (rest : List ℕ) →
+    unquoted_from quote (in_number 0) (digit_text 16 false n ++ 125 ∷ rest)
+    ≡ preceded_by (digits_value 16 (digit_text 16 false n)) (unquoted_from quote at_character rest)
+text_read quote n rest = elim (zero_or_more n) [
+  | inl e ↦ rw (digit_text_zero 16 false n e) refl
+  | inr h ↦ rw (digit_text_map 16 n false h)
+      (number_read quote 0 (digits_of 16 n) rest (all_below_base_digits_of 16 n (omega arith)))
+]
+
+-- a character that stands behind a backslash by its number
+code_read : (quote c : ℕ) (rest : List ℕ) → StandsForItself quote →
+    unquoted_from quote at_character ((codes "\\u{" ++ (digit_text 16 false c ++ codes "}"))
+    ++ rest)
+    ≡ preceded_by c (unquoted_from quote at_character rest)
+code_read quote c rest p =
+    rw (p.slash, append_assoc (digit_text 16 false c) (125 ∷ []) rest)
+    (text_read quote c rest
+    ∙ ap (λ (n : ℕ). preceded_by n (unquoted_from quote at_character rest))
+    (digits_value-digit_text 16 c false (omega arith) (omega arith)))
+
+-- ---- characters
+
+none_read : (quote c : ℕ) (rest : List ℕ) → StandsForItself quote → c ≢ quote → c ≢ 92 →
+    escape_letter quote c ≡ None →
+    unquoted_from quote at_character (escaped quote c ++ rest)
+    ≡ preceded_by c (unquoted_from quote at_character rest)
+none_read quote c rest p q s e =
+    let other : (c == quote) ≡ false = search rules in
+    let slash : (c == 92) ≡ false = search rules in
+    rw e (elim (nat_lt c 32 || (c == 127)) as (λ b. unquoted_from quote at_character
+    ((if b then codes "\\u{" ++ (digit_text 16 false c ++ codes "}") else c ∷ []) ++ rest)
+    ≡ preceded_by c (unquoted_from quote at_character rest)) [
+      | true ↦ code_read quote c rest p
+      | false ↦ rw (other, slash) refl
+    ])
+
+escaped_read : (quote c : ℕ) (rest : List ℕ) → StandsForItself quote →
+    unquoted_from quote at_character (escaped quote c ++ rest)
+    ≡ preceded_by c (unquoted_from quote at_character rest)
+escaped_read quote c rest p = elim (cases_eq c quote) [
+  | inl same ↦ let t : (c == quote) ≡ true = search rules in
+      letter_read quote c quote rest p (rw t refl) p.letter (p.own ∙ sym same)
+  | inr q ↦ let f : (c == quote) ≡ false = search rules in elim (cases_eq c 92) [
+    | inl same ↦ let t : (c == 92) ≡ true = search rules in
+        letter_read quote c 92 rest p (rw (f, t) refl) refl (sym same)
+    | inr s ↦ let g : (c == 92) ≡ false = search rules in elim (cases_eq c 0) [
+      | inl same ↦ let t : (c == 0) ≡ true = search rules in
+          letter_read quote c 48 rest p (rw (f, g, t) refl) refl (sym same)
+      | inr a ↦ let h : (c == 0) ≡ false = search rules in elim (cases_eq c 9) [
+        | inl same ↦ let t : (c == 9) ≡ true = search rules in
+            letter_read quote c 116 rest p (rw (f, g, h, t) refl) refl (sym same)
+        | inr b ↦ let i : (c == 9) ≡ false = search rules in elim (cases_eq c 13) [
+          | inl same ↦ let t : (c == 13) ≡ true = search rules in
+              letter_read quote c 114 rest p (rw (f, g, h, i, t) refl) refl (sym same)
+          | inr d ↦ let j : (c == 13) ≡ false = search rules in elim (cases_eq c 10) [
+            | inl same ↦ let t : (c == 10) ≡ true = search rules in
+                letter_read quote c 110 rest p (rw (f, g, h, i, j, t) refl) refl (sym same)
+            | inr k ↦ let l : (c == 10) ≡ false = search rules in
+                none_read quote c rest p q s (rw (f, g, h, i, j, l) refl)
+          ]
+        ]
+      ]
+    ]
+  ]
+]
+
+-- ---- texts
+
+inside_read : (quote : ℕ) (text behind : List ℕ) → StandsForItself quote →
+    unquoted_from quote at_character (flat_map (escaped quote) text ++ quote ∷ behind)
+    ≡ record { text = text; behind = behind }
+inside_read quote [] behind p = let t : (quote == quote) ≡ true = search rules in rw t refl
+inside_read quote (c ∷ cs) behind p =
+    rw append_assoc (escaped_read quote c (flat_map (escaped quote) cs ++ quote ∷ behind) p
+    ∙ ap (preceded_by c) (inside_read quote cs behind p))
+
+pub quoted_read : (quote : ℕ) (text behind : List ℕ) → IsQuote quote →
+    unquoted quote (quoted quote text ++ behind) ≡ Some (record { text = text; behind = behind })
+quoted_read quote text behind q =
+    let t : (quote == quote) ≡ true = search rules in
+    rw (t, append_assoc (flat_map (escaped quote) text) (quote ∷ []) behind)
+    (ap Some (inside_read quote text behind (quotes_stand quote q)))

@@ -1,0 +1,63 @@
+use Rattle.std.proofs.Common.{◌≡◌, ◌∙◌, ◌<◌, ◌≤◌, ◌-◌, Bool, length, drop, ◌++◌, List, ℕ, ◌∷◌, ap}
+use Rattle.std.proofs.Common.{arith}
+use Rattle.std.specs.Fmt.{digit_glyph}
+use Rattle.interpolator_render.specs.Digits.{digit_text}
+use Rattle.interpolator_render.proofs.DigitLemmas.{digit_text_some, digit_count_step}
+use Rattle.interpolator_render.proofs.DigitLemmas.{digit_text_one, led, take_less}
+use Rattle.interpolator_render.proofs.digits.write_ones.Goals as goal
+
+pub write_last-rest-requires-clause-room : goal.write_last-rest-requires-clause-room
+write_last-rest-requires-clause-room c =
+    let begins = c.loop-rest.invariant.begins in
+    let step = digit_count_step c.args.base c.loop-rest.rest c.args.upper c.requires.lowest
+    c.loop-rest-test.true in
+    omega arith
+
+pub overflow_sub-at : goal.overflow_sub-at
+overflow_sub-at c =
+    let begins = c.loop-rest.invariant.begins in
+    let step = digit_count_step c.args.base c.loop-rest.rest c.args.upper c.requires.lowest
+    c.loop-rest-test.true in
+    omega arith
+
+pub loop-rest-preserved : goal.loop-rest-preserved
+loop-rest-preserved c =
+    let l = c.loop-rest in
+    let put = c.write_last-rest in
+    let begins = l.invariant.begins in
+    let step = digit_count_step c.args.base l.rest c.args.upper c.requires.lowest
+    c.loop-rest-test.true in
+    record {
+      place = omega arith;
+      size = put.array_long;
+      begins = rw put.ensures.rest (omega arith);
+      written = put.ensures.written ∙ l.invariant.written;
+      front = put.ensures.front ∙ take_less (l.at - 1) l.at l.out c.args.out.now (omega arith)
+          l.invariant.front;
+    }
+
+-- the last that is left is the first
+one_left : (base n rest at end : ℕ) (upper : Bool) (out old : List ℕ) → 2 ≤ base → rest < base →
+    digit_text base upper rest ++ drop at out ≡ digit_text base upper n ++ drop end old →
+    (digit_text base upper n ≡ digit_glyph upper rest ∷ drop 1 (digit_text base upper n))
+    × (drop at out ≡ drop 1 (digit_text base upper n) ++ drop end old)
+one_left base n rest at end upper out old b h e =
+    led (digit_text base upper n) (drop end old) (drop at out) (digit_glyph upper rest)
+    (digit_text_some base n upper b) (rw (digit_text_one base rest upper b h) at e)
+
+pub returns-clause-leads : goal.returns-clause-leads
+returns-clause-leads c = let l = c.loop-rest in
+    (one_left c.args.base c.args.n l.rest l.at c.args.end c.args.upper l.out c.args.out.now
+    c.requires.lowest (omega arith) l.invariant.written).0
+
+pub returns-clause-written : goal.returns-clause-written
+returns-clause-written c = let l = c.loop-rest in
+    (one_left c.args.base c.args.n l.rest l.at c.args.end c.args.upper l.out c.args.out.now
+    c.requires.lowest (omega arith) l.invariant.written).1
+
+pub returns-clause-begins : goal.returns-clause-begins
+returns-clause-begins c =
+    let one = ap length (digit_text_one c.args.base c.loop-rest.rest c.args.upper c.requires.lowest
+    (omega arith)) in
+    let all = ap length (returns-clause-leads c) in
+    omega arith
