@@ -7,7 +7,7 @@ use Rattle.interpolator.specs.declared.error.Error.{Error}
 use Rattle.interpolator.specs.declared.error.Error.TheVariants.{NoMemory}
 use Rattle.interpolator.specs.Faults.{answer_of}
 use Rattle.ifmt.specs.Run.{Puts, Tells, complaint, usage_line}
-use Rattle.ifmt.specs.Command.{AllGood, IsFirstBad, IsTold, no_format, bad_word}
+use Rattle.ifmt.specs.Command.{AllGood, IsFirstBad, no_format, bad_word}
 use Rattle.ifmt.specs.Command.{RunsOver, Answers, wrong, ran, wanted_memory}
 
 -- a writer that is not touched keeps its bytes

@@ -1,9 +1,10 @@
 -- What the words bind, one behind the other.
 use Rattle.std.proofs.Common.{◌≡◌, ℕ, ◌+◌, ◌<◌, ◌≤◌, List, [], ◌∷◌, ◌++◌, take, length, get_or}
-use Rattle.std.proofs.Common.{Option, None, Some}
+use Rattle.std.proofs.Common.{map}
+use Rattle.std.proofs.Common.{Option, None}
 use Rattle.std.proofs.Common.{string_bytes, refl, sym, ap, ◌∙◌, subst}
 use Rattle.std.proofs.Math.Path.{fun_ext}
-use Rattle.std.specs.List.{All, AllZip, FoldsTo}
+use Rattle.std.specs.List.{AllZip, FoldsTo}
 use Rattle.std.specs.Option.{option_map}
 use Rattle.std.specs.declared.string.String.{String}
 use Rattle.std.proofs.lemmas.List.{take_more, take_all}
@@ -15,16 +16,24 @@ use Rattle.interpolator.specs.declared.slots.Formattable.{Formattable}
 use Rattle.interpolator.specs.declared.context_map.NameMap.{NameMap}
 use Rattle.interpolator.specs.NameMaps.{under, found}
 use Rattle.interpolator.specs.Trees.{Tree, tree_of}
+use Rattle.interpolator.specs.Views.{shown_as_value}
 use Rattle.ifmt.specs.declared.words.Word.{Word}
 use Rattle.ifmt.specs.declared.words.Word.TheVariants.{Text, Number, List as ListWord, Bad}
-use Rattle.ifmt.specs.Words.{IsGood, Means}
-use Rattle.ifmt.specs.Binding.{AreBound, Binds, Fills, HasObject}
+use Rattle.ifmt.specs.declared.binding.Object.{Object}
+use Rattle.ifmt.specs.declared.binding.Entry.{Entry}
+use Rattle.ifmt.specs.Words.{IsGood, Classifies}
+use Rattle.ifmt.specs.Binding.{AreBound, Binds, Fills, HasObject, Lends}
+use Rattle.ifmt.specs.Binding.{items_show, item_trees, object_shows}
 use Rattle.ifmt.specs.Command.{AllGood}
 
--- the objects, in their order, were filled in where nothing was
-abbrev pub AreFilled : List (Word × View) → (finds : List ℕ → Option (Tree View)) → Type 0
-AreFilled objects finds =
-    FoldsTo (λ old object new. Fills old object.0 object.1 new) (λ _. None) objects finds
+-- an entry was filled in
+abbrev pub IsFilled : (old : List ℕ → Option (Tree View)) → Entry
+    → (new : List ℕ → Option (Tree View)) → Type 0
+IsFilled old entry new = Fills old entry.word entry.value.now (map tree_of entry.items.items) new
+
+-- the entries, in their order, were filled in where nothing was
+abbrev pub AreFilled : List Entry → (finds : List ℕ → Option (Tree View)) → Type 0
+AreFilled entries finds = FoldsTo IsFilled (λ _. None) entries finds
 
 module _ {A : Type 0} (xs : List A) (i : ℕ) (x : A) (within : i < length xs)
     (here : x ≡ get_or xs i x) where
@@ -39,67 +48,99 @@ module _ {A : Type 0} (xs : List A) (i : ℕ) (x : A) (within : i < length xs)
       subst (λ front. AllZip R front (ys ++ (y ∷ []))) (sym taken)
       (all_zipped_more R (take i xs) ys x y so_far more)
 
--- one more object
-pub filled_more : (objects : List (Word × View)) (i : ℕ) (d : Word × View)
-    (old new : List ℕ → Option (Tree View)) → i < length objects →
-    AreFilled (take i objects) old →
-    Fills old (get_or objects i d).0 (get_or objects i d).1 new →
-    AreFilled (take (i + 1) objects) new
-filled_more objects i d old new within so_far more =
-    subst (λ front. AreFilled front new) (sym (take_more objects i d within))
-    (FoldsTo-push _ (λ _. None) (take i objects) old (get_or objects i d) new so_far more)
+-- one more entry
+pub filled_more : (entries : List Entry) (i : ℕ) (entry : Entry)
+    (old new : List ℕ → Option (Tree View)) → i < length entries →
+    entry ≡ get_or entries i entry → AreFilled (take i entries) old → IsFilled old entry new →
+    AreFilled (take (i + 1) entries) new
+filled_more entries i entry old new within here so_far more =
+    subst (λ front. AreFilled front new) (sym (taken entries i entry within here))
+    (FoldsTo-push IsFilled (λ _. None) (take i entries) old entry new so_far more)
+
+-- a word with its objects, from what was said of each
+pub has_object : (text spelled : List ℕ) (word : Word) (object : Object) → spelled ≡ text →
+    Classifies spelled word → object.word ≡ word →
+    shown_as_value object.value ≡ object_shows word →
+    map shown_as_value object.items.items ≡ items_show word → HasObject text object
+has_object text spelled word object same means is shows items = record {
+  classified = rw (← same, is) means;
+  value = rw is shows;
+  items = rw is items;
+}
 
 -- in a map with no name nothing is filled in
 pub none_filled : (map : NameMap (Formattable View)) → ((name : List ℕ) → under map name ≡ None) →
     AreFilled [] (found map)
 none_filled map none = fun_ext (λ name. ap (option_map tree_of) (sym (none name)))
 
--- an object that is filled in is what its word binds
-binds : (word : List ℕ) (object : Word × View) (old new : List ℕ → Option (Tree View)) →
-    IsGood word → HasObject word object → Fills old object.0 object.1 new → Binds old word new
-binds word (Text name value, view) old new good has filled = record {
+-- objects of a word that is filled in are what the word binds
+binds : (text : List ℕ) (word : Word) (value : View) (objects : List View)
+    (old new : List ℕ → Option (Tree View)) → IsGood text → Classifies text word →
+    shown_as_value value ≡ object_shows word → map shown_as_value objects ≡ items_show word →
+    Fills old word value (item_trees objects) new → Binds old text new
+binds text (Text _ _) value objects old new good means shows items filled = record {
   assignment = _;
-  means = (has.0 _).1 refl;
+  means = (means _).1 refl;
   tree = _;
-  merges = (view, has.1, refl);
+  merges = (value, shows, refl);
   here = filled.here;
   others = filled.others;
 }
-binds word (Number name value, view) old new good has filled = record {
+binds text (Number _ _) value objects old new good means shows items filled = record {
   assignment = _;
-  means = (has.0 _).1 refl;
+  means = (means _).1 refl;
   tree = _;
-  merges = (view, has.1, refl);
+  merges = (value, shows, refl);
   here = filled.here;
   others = filled.others;
 }
-binds word (ListWord name items, view) old new good has filled =
-    absurd ((has.0 _).1 refl).meant
-binds word (Bad, view) old new good has filled =
-    let same = (has.0 good.0).0 good.1 in cc
+binds text (ListWord _ _) value objects old new good means shows items filled = record {
+  assignment = _;
+  means = (means _).1 refl;
+  tree = _;
+  merges = (objects, items, refl);
+  here = filled.here;
+  others = filled.others;
+}
+binds text Bad value objects old new good means shows items filled =
+    let same = (means good.0).0 good.1 in cc
+
+-- and so is an entry that lends them
+entry_binds : (text : List ℕ) (object : Object) (entry : Entry)
+    (old new : List ℕ → Option (Tree View)) → IsGood text → HasObject text object →
+    Lends object entry → IsFilled old entry new → Binds old text new
+entry_binds text object entry old new good has lends filled =
+    let of_object : Fills old object.word object.value (item_trees object.items.items) new =
+    rw (← lends.same_word, ← lends.same_value, ← lends.filled) filled in
+    binds text object.word object.value object.items.items old new good has.classified has.value
+    has.items of_object
 
 module _ {Z : Type 0} where
-  -- objects that are filled in are what their words bind
-  binds_all : (words : List (String Z)) (objects : List (Word × View))
+  -- entries that are filled in are what their words bind
+  binds_all : (words : List (String Z)) (objects : List Object) (entries : List Entry)
       (old new : List ℕ → Option (Tree View)) → AllGood words →
       AllZip (λ word object. HasObject (string_bytes word) object) words objects →
-      FoldsTo (λ old object new. Fills old object.0 object.1 new) old objects new →
+      AllZip Lends objects entries → FoldsTo IsFilled old entries new →
       FoldsTo (λ old word new. Binds old (string_bytes word) new) old words new
-  binds_all [] [] old new good has filled = filled
-  binds_all [] (_ ∷ _) old new good has filled = absurd has
-  binds_all (_ ∷ _) [] old new good has filled = absurd has
-  binds_all (word ∷ words) (object ∷ objects) old new good has filled = (
+  binds_all [] [] [] old new good has lends filled = filled
+  binds_all [] [] (_ ∷ _) old new good has lends filled = absurd lends
+  binds_all [] (_ ∷ _) entries old new good has lends filled = absurd has
+  binds_all (_ ∷ _) [] entries old new good has lends filled = absurd has
+  binds_all (_ ∷ _) (_ ∷ _) [] old new good has lends filled = absurd lends
+  binds_all (word ∷ words) (object ∷ objects) (entry ∷ entries) old new good has lends filled = (
     filled.0,
-    binds (string_bytes word) object old filled.0
-        (All-head (λ each. IsGood (string_bytes each)) word words good) has.0 filled.1,
-    binds_all words objects filled.0 new
-        (All-tail (λ each. IsGood (string_bytes each)) word words good) has.1 filled.2,
+    entry_binds (string_bytes word) object entry old filled.0
+        (All-head (λ each. IsGood (string_bytes each)) word words good) has.0 lends.0 filled.1,
+    binds_all words objects entries filled.0 new
+        (All-tail (λ each. IsGood (string_bytes each)) word words good) has.1 lends.1 filled.2,
   )
 
-  -- and so do all objects below a place behind the last
-  pub bound : (words : List (String Z)) (objects : List (Word × View)) (i : ℕ)
+  -- and so do all entries below a place behind the last
+  pub bound : (words : List (String Z)) (objects : List Object) (entries : List Entry) (i : ℕ)
       (finds : List ℕ → Option (Tree View)) → AllGood words →
       AllZip (λ word object. HasObject (string_bytes word) object) words objects →
-      length objects ≤ i → AreFilled (take i objects) finds → AreBound words finds
-  bound words objects i finds good has behind filled =
-      binds_all words objects (λ _. None) finds good has (rw (take_all i objects behind) at filled)
+      AllZip Lends objects entries → length entries ≤ i → AreFilled (take i entries) finds →
+      AreBound words finds
+  bound words objects entries i finds good has lends behind filled =
+      binds_all words objects entries (λ _. None) finds good has lends
+      (rw (take_all i entries behind) at filled)

@@ -1,5 +1,5 @@
 -- A text has one list of items: what it is when split at its commas.
-use Rattle.std.proofs.Common.{◌≡◌, ◌≢◌, ◌↔◌, ℕ, ◌<◌, List, [], ◌∷◌, ◌++◌, Bool, true, false, length}
+use Rattle.std.proofs.Common.{◌≡◌, ◌≢◌, ◌↔◌, ℕ, List, [], ◌∷◌, false, length}
 use Rattle.std.proofs.Common.{eqb, inl, inr, refl, sym, ap, ◌∙◌, get_or, Contains}
 use Rattle.std.specs.List.{All, join_with_byte, onto_first, slice_split}
 use Rattle.std.proofs.lemmas.Bool.{cases_Bool, ne_eqb}
@@ -36,7 +36,8 @@ onto_apart c other [] apart =
     All-cons Apart (c ∷ []) [] (All-cons Other c [] other (All-nil Other)) (All-nil Apart)
 onto_apart c other (part ∷ parts) apart =
     All-cons Apart (c ∷ part) parts
-    (All-cons Other c part other (All-head Apart part parts apart)) (All-tail Apart part parts apart)
+    (All-cons Other c part other (All-head Apart part parts apart))
+    (All-tail Apart part parts apart)
 
 -- no part of a split text holds a comma
 split_apart : (text : List ℕ) → All Apart (slice_split (λ sign. eqb sign comma) text)

@@ -1,7 +1,25 @@
 -- What the two parts of a word mean, by the ending of the part before the `=`.
-use Rattle.std.proofs.Common.{◌≡◌, ◌↔◌, ℕ, ℤ, List, ◌++◌, codes, None, Some, sym, ap, ◌∙◌}
+use Rattle.std.proofs.Common.{◌≡◌, ◌↔◌, ℕ, ℤ, List, [], ◌∷◌, ◌++◌, codes, None, Some, sym, ap, ◌∙◌}
+use Rattle.std.proofs.Common.{length, length-append, append_assoc, arith}
 use Rattle.std.proofs.lemmas.List.{append_cancel_right}
 use Rattle.ifmt.specs.Words.{Assignment, text, number, list, PartsMean, Spells, EndsIn}
+
+-- a text has one last sign
+one_last : (front other : List ℕ) (last another : ℕ) →
+    front ++ (last ∷ []) ≡ other ++ (another ∷ []) → last ≡ another
+one_last [] [] last another same = cc
+one_last [] (c ∷ cs) last another same =
+    let count = ap length same in omega (arith, count, length-append cs (another ∷ []))
+one_last (c ∷ cs) [] last another same =
+    let count = ap length same in omega (arith, count, length-append cs (last ∷ []))
+one_last (c ∷ cs) (d ∷ ds) last another same =
+    let rest : cs ++ (last ∷ []) ≡ ds ++ (another ∷ []) = cc in one_last cs ds last another rest
+
+-- no text ends in `:` and in `[]`
+two_endings : (front other : List ℕ) → front ++ codes ":" ≡ other ++ codes "[]" → ⊥
+two_endings front other same =
+    let last = one_last front (other ++ codes "[") 58 93
+    (same ∙ sym (append_assoc other (codes "[") (codes "]"))) in omega (arith, last)
 
 -- a part that ends in `:`, before no number, means nothing
 pub no_number : (left right name : List ℕ) → left ≡ name ++ codes ":" →
@@ -11,7 +29,8 @@ no_number left right name ends spells (text _ _) =
     (λ meant. absurd (meant.2 (name, ends)), λ same. cc)
 no_number left right name ends spells (number _ value) =
     (λ meant. let same = (spells value).0 meant.1 in cc, λ same. cc)
-no_number left right name ends spells (list _ _) = (λ meant. absurd meant, λ same. cc)
+no_number left right name ends spells (list other _) =
+    (λ meant. absurd (two_endings name other (sym ends ∙ meant.0)), λ same. cc)
 
 -- a part that ends in `:`, before a number, means that number
 pub one_number : (left right name : List ℕ) (found : ℤ) → left ≡ name ++ codes ":" →
@@ -29,7 +48,25 @@ one_number left right name found ends spells (number other value) = (
       let values : Some found ≡ Some value = cc in
       (ends ∙ ap (λ front. front ++ codes ":") names, (spells value).1 values),
 )
-one_number left right name found ends spells (list _ _) = (λ meant. absurd meant, λ same. cc)
+one_number left right name found ends spells (list other _) =
+    (λ meant. absurd (two_endings name other (sym ends ∙ meant.0)), λ same. cc)
+
+-- a part that ends in `[]` means the list of what stands behind
+pub one_list : (left right name : List ℕ) → left ≡ name ++ codes "[]" →
+    (assignment : Assignment) →
+    PartsMean left right assignment ↔ (Some (list name right) ≡ Some assignment)
+one_list left right name ends (text _ _) =
+    (λ meant. absurd (meant.3 (name, ends)), λ same. cc)
+one_list left right name ends (number other _) =
+    (λ meant. absurd (two_endings other name (sym meant.0 ∙ ends)), λ same. cc)
+one_list left right name ends (list other items) = (
+  λ meant.
+      let names = append_cancel_right name other (codes "[]") (sym ends ∙ meant.0) in
+      let texts = meant.1 in cc,
+  λ same.
+      let names : name ≡ other = cc in
+      (ends ∙ ap (λ front. front ++ codes "[]") names, cc),
+)
 
 -- a part that ends in neither means a text
 pub plain_text : (left right : List ℕ) →
@@ -42,4 +79,5 @@ plain_text left right no_colon no_brackets (text name value) = (
 )
 plain_text left right no_colon no_brackets (number name value) =
     (λ meant. absurd (no_colon (name, meant.0)), λ same. cc)
-plain_text left right no_colon no_brackets (list _ _) = (λ meant. absurd meant, λ same. cc)
+plain_text left right no_colon no_brackets (list name items) =
+    (λ meant. absurd (no_brackets (name, meant.0)), λ same. cc)

@@ -6,7 +6,7 @@ use Rattle.std.specs.declared.string.String.{String}
 use Rattle.std.proofs.lemmas.Str.{encodes-chars, IsUtf8-string_bytes}
 use Rattle.interpolator.specs.declared.error.Error.{Error}
 use Rattle.interpolator.specs.Syntax.At.{text_of}
-use Rattle.interpolator.specs.Faults.{Answer, Fault, fault, no_memory, answer_of}
+use Rattle.interpolator.specs.Faults.{Answer, Fault, fault, answer_of}
 use Rattle.interpolator.specs.Meaning.Meanings.{Meaning}
 use Rattle.interpolator.specs.Meaning.Outcomes.{Formats}
 use Rattle.ifmt.specs.Run.{Prints, Tells, Runs, printed, told, wanted_memory}

@@ -1,16 +1,20 @@
 -- What the words of a command line put under their names, one behind the other.
-use Rattle.std.specs.Prelude.{◌≡◌, ◌≢◌, ℕ, List, Option, None, Some, string_bytes}
+use Rattle.std.specs.Prelude.{◌≡◌, ◌≢◌, ℕ, List, [], map, Option, None, Some, string_bytes}
 use Rattle.std.specs.Option.{unwrap_or}
 use Rattle.std.specs.List.{FoldsTo}
 use Rattle.std.specs.Str.{chars}
 use Rattle.std.specs.declared.string.String.{String}
 use Rattle.interpolator.specs.declared.View.{View}
 use Rattle.interpolator.specs.declared.Bits.TheVariants.{B128}
-use Rattle.interpolator.specs.Trees.{Tree, empty_tree, with_debug_display, with_integer}
+use Rattle.interpolator.specs.Trees.{Tree, tree_of, empty_tree, with_debug_display, with_integer}
+use Rattle.interpolator.specs.Trees.{with_iter}
 use Rattle.interpolator.specs.Views.{Shown, shown_as_value, some_text, signed_number}
 use Rattle.interpolator.specs.Views.{nothing_implemented}
 use Rattle.ifmt.specs.declared.words.Word.{Word}
 use Rattle.ifmt.specs.declared.words.Word.TheVariants.{Text, Number, List as ListWord, Bad}
+use Rattle.ifmt.specs.declared.binding.Object.{Object}
+use Rattle.ifmt.specs.declared.binding.Entry.{Entry}
+use Rattle.ifmt.specs.Items.{items_of}
 use Rattle.ifmt.specs.Words.{Assignment, text, number, list, Means, Classifies}
 
 -- the name of an assignment, by its characters
@@ -19,42 +23,70 @@ assigned_name (text name value) = chars name
 assigned_name (number name value) = chars name
 assigned_name (list name items) = chars name
 
--- what the object of a `Word` shows: its text, or its number at 128 bits
+-- what the object of a `Word` shows: its text, or its number at 128 bits; a list has no such object
 abbrev pub object_shows : Word → Shown
 object_shows (Text name value) = some_text (chars value.now)
 object_shows (Number name value) = signed_number value B128
 object_shows (ListWord name items) = nothing_implemented
 object_shows Bad = nothing_implemented
 
--- a word, classified, and a view that shows its value
-abbrev pub HasObject : List ℕ → Word × View → Type 0
-HasObject word object = Classifies word object.0 × (shown_as_value object.1 ≡ object_shows object.0)
+-- what objects show that hold texts
+abbrev pub texts_show : List (List ℕ) → List Shown
+texts_show texts = map (λ value. some_text (chars value)) texts
+
+-- what the objects of a list's items show: their texts; another `Word` has no items
+abbrev pub items_show : Word → List Shown
+items_show (Text name value) = []
+items_show (Number name value) = []
+items_show (ListWord name items) = texts_show (items_of items.now)
+items_show Bad = []
+
+-- a word, classified, with objects that show its value
+pub record HasObject (word : List ℕ) (object : Object) : Type 0 where
+  pub classified : Classifies word object.word
+  pub value : shown_as_value object.value ≡ object_shows object.word
+  pub items : map shown_as_value object.items.items ≡ items_show object.word
 
 module _ {X : Type 0} where
+  -- items of a list, each with its slots of debug and display filled, and no other
+  abbrev pub item_trees : List X → List (Tree X)
+  item_trees objects = map (λ object. with_debug_display empty_tree object) objects
+
   -- one name's tree was changed, from no slot where it had none, and the other names stayed
   pub record Changes (old : List ℕ → Option (Tree X)) (name : List ℕ) (change : Tree X → Tree X)
       (new : List ℕ → Option (Tree X)) : Type 0 where
     pub here : new name ≡ Some (change (unwrap_or (old name) empty_tree))
     pub others : (other : List ℕ) → other ≢ name → new other ≡ old other
 
-  -- a text word fills the slots of debug and display of its name, a number word those of an integer
+  -- a text word fills the slots of debug and display of its name, a number word those of an
+  -- integer, a list word that of the items
   abbrev pub Fills : (old : List ℕ → Option (Tree X)) → Word → (object : X)
-      → (new : List ℕ → Option (Tree X)) → Type 0
-  Fills old (Text name value) object new =
+      → (items : List (Tree X)) → (new : List ℕ → Option (Tree X)) → Type 0
+  Fills old (Text name value) object items new =
       Changes old (chars name.now) (λ tree. with_debug_display tree object) new
-  Fills old (Number name value) object new =
+  Fills old (Number name value) object items new =
       Changes old (chars name.now) (λ tree. with_integer tree object) new
-  Fills old (ListWord name items) object new = new ≡ old
-  Fills old Bad object new = new ≡ old
+  Fills old (ListWord name value) object items new =
+      Changes old (chars name.now) (λ tree. with_iter tree items) new
+  Fills old Bad object items new = new ≡ old
+
+-- the entry lends what the object has, and its items are filled with the object's
+pub record Lends (object : Object) (entry : Entry) : Type 0 where
+  pub same_word : entry.word ≡ object.word
+  pub same_value : entry.value.now ≡ object.value
+  pub filled : map tree_of entry.items.items ≡ item_trees object.items.items
 
 -- what an assignment makes of the tree under its name: an object that shows a text fills the
--- slots of debug and display, one that shows a number those of an integer; no word has a list yet
+-- slots of debug and display, one that shows a number those of an integer, and objects that show
+-- the items of a list are the items in the slot of a list, each in its slots of debug and display
 abbrev pub Merges : Assignment → (before after : Tree View) → Type 0
 Merges (text name value) before after = (object : View)
     × (shown_as_value object ≡ some_text (chars value)) × (after ≡ with_debug_display before object)
 Merges (number name value) before after = (object : View)
     × (shown_as_value object ≡ signed_number value B128) × (after ≡ with_integer before object)
-Merges (list name items) before after = ⊥
+Merges (list name value) before after = (objects : List View)
+    × (map shown_as_value objects ≡ texts_show (items_of value))
+    × (after ≡ with_iter before (item_trees objects))
 
 -- the word's assignment was merged into the tree under its name, and the other names stayed
 pub record Binds (old : List ℕ → Option (Tree View)) (word : List ℕ)

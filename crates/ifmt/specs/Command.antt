@@ -7,7 +7,7 @@ use Rattle.interpolator.specs.declared.View.{View}
 use Rattle.interpolator.specs.Syntax.At.{outermost}
 use Rattle.interpolator.specs.Meaning.Environments.{environment}
 use Rattle.interpolator.specs.Faults.{no_memory}
-use Rattle.interpolator.specs.Meaning.Meanings.{Meaning, means}
+use Rattle.interpolator.specs.Meaning.Meanings.{means}
 use Rattle.interpolator.specs.Trees.{Tree}
 use Rattle.interpolator.specs.Views.{shown_as_value}
 use Rattle.ifmt.specs.Words.{IsGood}

@@ -40,13 +40,13 @@ pub record Spells (whole : List ℕ) (value : ℤ) : Type 0 where
       ⊎ ((whole ≡ codes "-" ++ digits) × (value ≡ neg_ℤ (pos (digits_value 10 digits))))
   pub fits : FitsSigned w128 value
 
--- the rule on the parts before and behind the `=`: behind `:` a number, behind `[]` a list, which
--- no word can be yet, else a text
+-- the rule on the parts before and behind the `=`: behind `:` a number, behind `[]` the items of a
+-- list, else a text
 abbrev pub PartsMean : List ℕ → List ℕ → Assignment → Type 0
 PartsMean left right (text name value) =
     (left ≡ name) × (right ≡ value) × ¬ (EndsIn (codes ":") left) × ¬ (EndsIn (codes "[]") left)
 PartsMean left right (number name value) = (left ≡ name ++ codes ":") × Spells right value
-PartsMean left right (list name items) = ⊥
+PartsMean left right (list name items) = (left ≡ name ++ codes "[]") × (right ≡ items)
 
 -- what a word means, by its parts
 pub record Means (word : List ℕ) (assignment : Assignment) : Type 0 where

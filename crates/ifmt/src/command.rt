@@ -1,18 +1,14 @@
 //! A command line, answered.
 
-ghost use Rattle.std.specs.Prelude.{◌≡◌, IfErr, IfOk, MatchBool, MatchOption, OnErr, OnOk};
-ghost use Rattle.std.specs.Prelude.{string_bytes};
-ghost use Rattle.std.specs.List.{AllZip};
-ghost use Rattle.interpolator.specs.Views.{shown_as_value};
-ghost use Rattle.interpolator.specs.NameMaps.{found};
+ghost use Rattle.std.specs.Prelude.{◌≡◌, IfErr, IfOk, MatchBool, MatchOption, OnErr};
 ghost use Rattle.interpolator.specs.declared.error.Error.TheVariants.{NoMemory};
 ghost use Rattle.ifmt.specs.Words.{IsGood};
-ghost use Rattle.ifmt.specs.Binding.{Fills, HasObject, object_shows};
 ghost use Rattle.ifmt.specs.Command.{AllGood, Answers, IsFirstBad, RunsOver};
 
+use crate::binding::{entries_of, fill, objects_of};
 use crate::run::{complain, report, run, usage};
 use crate::words::{Word, classify};
-use interpolator::{Bits, ContextMap, Error, View};
+use interpolator::{ContextMap, Error};
 use std::alloc::Global;
 use std::io::Write;
 
@@ -75,52 +71,13 @@ fn run_words<O: Write, E: Write>(
     ensures rest { OnErr result (E.contents err.new ≡ E.contents err.old) }
 {
     let objects = objects_of(alloc, words)?;
+    let entries = entries_of(alloc, objects.as_slice())?;
     let mut context = ContextMap::new(alloc);
-    for (word, object) in &objects {
-        fill(&mut context, *word, object)?;
+    for entry in &entries {
+        let items = entry.items.as_slice();
+        fill(&mut context, entry.word, entry.value, items)?;
     }
     Ok(run(alloc, format, &context, out, err))
-}
-
-// Each word, classified, and its object.
-fn objects_of<'a>(alloc: Global, words: &'a [String]) -> Result<Vec<(Word<'a>, View<'a>)>, Error>
-    ensures ok { IfOk result (λ objects.
-        AllZip (λ word object. HasObject (string_bytes word) object) words.now objects.items) }
-    ensures err { IfErr result (λ error. error ≡ NoMemory) }
-{
-    let mut objects = Vec::with_capacity(alloc, words.len())?;
-    for text in words {
-        let word = classify(text.as_str());
-        objects.push((word, object_of(word)))?;
-    }
-    Ok(objects)
-}
-
-// What a word's value shows; a word with none shows nothing.
-fn object_of<'a>(word: Word<'a>) -> View<'a>
-    ensures { shown_as_value result ≡ object_shows word.entry }
-{
-    match word {
-        Word::Text { name: _, text } => View::Text(text),
-        Word::Number { name: _, value } => View::Signed(value, Bits::B128),
-        Word::List { name: _, items: _ } => View::NotImplemented,
-        Word::Bad => View::NotImplemented,
-    }
-}
-
-// Fills the slots of a word's name: a text those of debug and display, a number all of an integer.
-fn fill<'a, V>(context: &mut ContextMap<'a, V>, word: Word<'_>, object: &'a V) -> Result<(), Error>
-    ensures ok { OnOk result
-        (Fills (found context.old) word.entry object.now (found context.new)) }
-    ensures err { IfErr result (λ error. error ≡ NoMemory) }
-{
-    match word {
-        Word::Text { name, text: _ } => context.entry(name)?.set_debug_display(object),
-        Word::Number { name, value: _ } => context.entry(name)?.set_integer(object),
-        Word::List { name: _, items: _ } => {}
-        Word::Bad => {}
-    }
-    Ok(())
 }
 
 #[cfg(test)]

@@ -1,6 +1,7 @@
 //! `ifmt`: formats on the command line.
 #![tactic(auto)]
 
+mod binding;
 mod command;
 mod run;
 mod words;

@@ -34,11 +34,12 @@ pub enum Word<'a> {
 /// Tells what a word means.
 ///
 /// It is cut at its first `=`. Where the part before ends in `:`, the part behind is a number: an
-/// optional `-` and one or more ASCII digits within `i128`. Where it ends in `[]`, the word would
-/// be a list, and is `Bad` until lists come. Else the part behind is a text. The name is what
-/// stands before the ending, and may be empty. Any other word is `Bad`.
+/// optional `-` and one or more ASCII digits within `i128`. Where it ends in `[]`, the part behind
+/// has the [`items`] of a list. Else the part behind is a text. The name is what stands before the
+/// ending, and may be empty. Any other word is `Bad`.
 ///
-/// `a=b=c` is the text `b=c` under `a`, and `n:=-12` the number -12 under `n`.
+/// `a=b=c` is the text `b=c` under `a`, `n:=-12` the number -12 under `n`, and `l[]=a,b` the list
+/// of `a` and `b` under `l`.
 pub fn classify(word: &str) -> Word<'_>
     ensures { Classifies word.now result }
 {
@@ -59,8 +60,8 @@ fn classify_parts<'a>(left: &'a str, right: &'a str) -> Word<'a>
             Some(value) => Word::Number { name, value },
         };
     }
-    if left.ends_with(LIST_MARK) {
-        return Word::Bad;
+    if let Some(name) = left.strip_suffix(LIST_MARK) {
+        return Word::List { name, items: right };
     }
     Word::Text {
         name: left,

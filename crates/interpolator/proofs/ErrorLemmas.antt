@@ -3,7 +3,9 @@ use Rattle.std.proofs.Common.{◌≡◌, ℕ, List, refl, ap, sym, ◌∙◌, st
 use Rattle.std.specs.Str.{chars}
 use Rattle.std.proofs.lemmas.Str.{encodes-chars, IsUtf8-string_bytes}
 use Rattle.interpolator.specs.declared.error.Error.{Error}
-use Rattle.interpolator.specs.declared.error.Error.TheVariants.{MissingTraitImpl, Fmt, Parse, MissingValue, UnsupportedOption, NoMemory}
+use Rattle.interpolator.specs.declared.error.Error.TheVariants.{MissingTraitImpl, Fmt, Parse}
+use Rattle.interpolator.specs.declared.error.Error.TheVariants.{MissingValue, UnsupportedOption}
+use Rattle.interpolator.specs.declared.error.Error.TheVariants.{NoMemory}
 use Rattle.interpolator.specs.Faults.{Answer, fault, missing_value, answer_of}
 
 -- what an error says, with a missing name in bytes

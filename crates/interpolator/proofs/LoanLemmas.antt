@@ -1,5 +1,6 @@
 -- What an insertion into a map of names leaves, and what a loan of a value does.
-use Rattle.std.proofs.Common.{◌≡◌, ◌≢◌, refl, sym, ◌∙◌, ℕ, ◌+◌, List, Option, None, Some, MatchOption, true, false, arith, String, Global}
+use Rattle.std.proofs.Common.{◌≡◌, ◌≢◌, refl, sym, ◌∙◌, ℕ, ◌+◌, List, Option, None, Some}
+use Rattle.std.proofs.Common.{MatchOption, true, false, arith, String, Global}
 use Rattle.std.specs.Borrow.{Bor, MutBor}
 use Rattle.std.specs.Option.{option_copied, option_copied_mut, is_some, OnSome}
 use Rattle.std.specs.Str.{bytes_eq, encode_utf8_all}
@@ -17,7 +18,9 @@ use Rattle.interpolator.specs.declared.context_map.NameMap.{NameMap}
 other_bytes : (name other : List ℕ) → other ≢ name
     → bytes_eq (encode_utf8_all name) (encode_utf8_all other) ≡ false
 other_bytes name other differs = false_from_ne_true _
-    (λ e. differs (sym (encodes_same name other ((bytes_eq-Decides (encode_utf8_all name) (encode_utf8_all other)).0 e))))
+    (λ e. differs
+    (sym (encodes_same name other
+    ((bytes_eq-Decides (encode_utf8_all name) (encode_utf8_all other)).0 e))))
 
 module _ {T : Type 0} where
   -- a change at the bytes of one name leaves the others
@@ -26,7 +29,8 @@ module _ {T : Type 0} where
       → UpdatesBy string_eq (λ key. bytes_eq bytes (string_bytes key)) old.map new.map value
       → (other : List ℕ) → other ≢ name → under new other ≡ under old other
   others_kept old new name bytes value spelt updates other differs =
-      let unequal : bytes_eq bytes (encode_utf8_all other) ≡ false = rw spelt (other_bytes name other differs) in
+      let unequal : bytes_eq bytes (encode_utf8_all other) ≡ false =
+      rw spelt (other_bytes name other differs) in
       hash_map_updates_text bytes old.map new.map value updates (encode_utf8_all other)
       ∙ rw unequal refl
 
@@ -49,7 +53,8 @@ module _ {T : Type 0} where
   same old new e = record { finds = λ name. rw e refl; count = rw e refl }
 
   -- what an insertion under a name leaves
-  pub put_in : (old new : NameMap T) (key : String Global) (name : List ℕ) (value : T) (replaced : Option T)
+  pub put_in : (old new : NameMap T) (key : String Global) (name : List ℕ) (value : T)
+      (replaced : Option T)
       → string_bytes key ≡ encode_utf8_all name → Updates string_eq old.map new.map key (Some value)
       → replaced ≡ get_by_text old.map (string_bytes key)
       → name_count new ≡ name_count old + (if is_some replaced then 0 else 1)
@@ -75,7 +80,8 @@ module _ {T : Type 0} where
         → option_copied found ≡ under old name
         → is_some found ≡ true → HasAdded IsDefault old name old
     kept old name None value e = cc
-    kept old name (Some there) value e = rw (← value) (record { finds = λ other. refl; count = refl })
+    kept old name (Some there) value e =
+        rw (← value) (record { finds = λ other. refl; count = refl })
 
     -- a name that was absent
     pub new_name :
@@ -86,7 +92,8 @@ module _ {T : Type 0} where
     put_cases :
         (old added new : NameMap T) (name : List ℕ) (last : T) (was : Option T)
         → under old name ≡ was
-        → MatchOption was ((value : T) × (IsDefault value × HasPut old name value added)) (λ _. IsSame old added)
+        → MatchOption was ((value : T) × (IsDefault value × HasPut old name value added))
+        (λ _. IsSame old added)
         → HasPut added name last new → HasPut old name last new
     put_cases old added new name last None e put written = let first = put.1.1 in record {
       here = written.here;
@@ -106,18 +113,22 @@ module _ {T : Type 0} where
     pub put_after :
         (old added new : NameMap T) (name : List ℕ) (last : T) → HasAdded IsDefault old name added
         → HasPut added name last new → HasPut old name last new
-    put_after old added new name last adds written = put_cases old added new name last (under old name) refl adds written
+    put_after old added new name last adds written =
+        put_cases old added new name last (under old name) refl adds written
 
     value_cases :
         (old added : NameMap T) (name : List ℕ) (lent : T) (was : Option T) → under old name ≡ was
-        → MatchOption was ((value : T) × (IsDefault value × HasPut old name value added)) (λ _. IsSame old added)
+        → MatchOption was ((value : T) × (IsDefault value × HasPut old name value added))
+        (λ _. IsSame old added)
         → Some lent ≡ under added name → MatchOption was (IsDefault lent) (λ value. lent ≡ value)
     value_cases old added name lent None e put found =
         let same_value : lent ≡ put.0 = (let here = put.1.1.here in cc) in rw same_value put.1.0
-    value_cases old added name lent (Some value) e as_before found = let there = as_before.finds name in cc
+    value_cases old added name lent (Some value) e as_before found =
+        let there = as_before.finds name in cc
 
     -- the value that is lent of a name that was put in first
     pub value_after :
         (old added : NameMap T) (name : List ℕ) (lent : T) → HasAdded IsDefault old name added
         → Some lent ≡ under added name → IsEntry IsDefault old name lent
-    value_after old added name lent adds found = value_cases old added name lent (under old name) refl adds found
+    value_after old added name lent adds found =
+        value_cases old added name lent (under old name) refl adds found

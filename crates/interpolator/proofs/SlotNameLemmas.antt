@@ -1,5 +1,6 @@
 -- The text of the filled slots' names, while they are written one by one.
-use Rattle.std.proofs.Common.{◌≡◌, refl, sym, ◌∙◌, ap, ℕ, ◌+◌, ◌<◌, List, [], ◌∷◌, ◌++◌, append_assoc, append-nil, get_or, take, map, Bool, true, false}
+use Rattle.std.proofs.Common.{◌≡◌, refl, sym, ◌∙◌, ap, ℕ, ◌+◌, ◌<◌, List, [], ◌∷◌, ◌++◌}
+use Rattle.std.proofs.Common.{append_assoc, append-nil, get_or, take, map, Bool, true, false}
 use Rattle.std.specs.Prelude.{filter, codes}
 use Rattle.std.specs.List.{join_by}
 use Rattle.std.specs.Fmt.{HasWritten, IsPlainFormatter}
@@ -38,16 +39,20 @@ no_name-more [] name = refl
 no_name-more (first ∷ names) name = refl
 
 module _ (filled : Trait → Bool) (index : ℕ) (below : index < 9) where
-  one_slot : take (index + 1) slot_order ≡ take index slot_order ++ get_or slot_order index Binary ∷ []
+  one_slot : take (index + 1) slot_order ≡ take index slot_order ++ get_or slot_order index Binary ∷
+      []
   one_slot = take_more slot_order index Binary below
 
   -- the name of a slot that is filled comes behind the names so far
   pub one_more : filled (get_or slot_order index Binary) ≡ true
-      → names_of filled (take (index + 1) slot_order) ≡ names_of filled (take index slot_order) ++ slot_name (get_or slot_order index Binary) ∷ []
+      → names_of filled (take (index + 1) slot_order)
+      ≡ names_of filled (take index slot_order) ++ slot_name (get_or slot_order index Binary) ∷
+      []
   one_more passes =
       let slot = get_or slot_order index Binary in
       let kept : filter filled (slot ∷ []) ≡ slot ∷ [] = rw passes refl in
-      rw (one_slot, filter-append filled (take index slot_order) (slot ∷ []), kept) (map-append slot_name _ _)
+      rw (one_slot, filter-append filled (take index slot_order) (slot ∷ []), kept)
+      (map-append slot_name _ _)
 
   -- one that is not changes no name
   pub none_more : filled (get_or slot_order index Binary) ≡ false
@@ -55,16 +60,20 @@ module _ (filled : Trait → Bool) (index : ℕ) (below : index < 9) where
   none_more fails =
       let slot = get_or slot_order index Binary in
       let dropped : filter filled (slot ∷ []) ≡ [] = rw fails refl in
-      rw (one_slot, filter-append filled (take index slot_order) (slot ∷ []), dropped) (ap (map slot_name) (append-nil _))
+      rw (one_slot, filter-append filled (take index slot_order) (slot ∷ []), dropped)
+      (ap (map slot_name) (append-nil _))
 
 module _ {W : Type 0} (took : W → List ℕ → W → Type 0) where
   -- a name that is written behind the names so far
-  pub name_written : (f g h : Formatter W) (front : List ℕ) (names : List (List ℕ)) (name shown : List ℕ) (is_first : Bool)
+  pub name_written : (f g h : Formatter W) (front : List ℕ) (names : List (List ℕ))
+      (name shown : List ℕ) (is_first : Bool)
       → is_first ≡ no_name names → shown ≡ name → HasWritten took f (front ++ opened names) g
       → (IsPlainFormatter g → true ≡ true → HasWritten took g (name_behind is_first shown) h)
       → HasWritten took f (front ++ opened (names ++ name ∷ [])) h
   name_written f g h front names name shown is_first e same before after =
-      let joined : (front ++ opened names) ++ name_behind is_first shown ≡ front ++ opened (names ++ name ∷ []) =
+      let joined : (front ++ opened names) ++ name_behind is_first shown
+      ≡ front ++ opened (names ++ name ∷ []) =
       rw (e, same) (append_assoc front (opened names) (name_behind (no_name names) name)
       ∙ ap (λ text. front ++ text) (sym (opened-more names name))) in
-      put_two took f g h (front ++ opened names) (name_behind is_first shown) _ before (after before.plain refl) joined
+      put_two took f g h (front ++ opened names) (name_behind is_first shown) _ before
+      (after before.plain refl) joined

@@ -1,6 +1,7 @@
 -- Lemmas on what a format text is made of.
 pub mod ByteLemmas
 pub mod CharacterLemmas
+pub mod EndingLemmas
 pub mod FrontLemmas
 pub mod GroupLemmas
 pub mod GrammarGroupLemmas
@@ -10,10 +11,16 @@ pub mod GrammarNumberLemmas
 pub mod GrammarPartLemmas
 pub mod GrammarPieceLemmas
 pub mod LocalityLemmas
+pub mod GrammarOptionLemmas
+pub mod GrammarListLemmas
+pub mod GrammarTraitLemmas
 pub mod GrammarSpecLemmas
+pub mod ListReaderLemmas
 pub mod LongestLemmas
 pub mod PieceLemmas
 pub mod ReaderLemmas
+pub mod SeamLemmas
 pub mod SimpleReaderLemmas
+pub mod SizeLemmas
 pub mod StripLemmas
 pub mod TestLemmas

@@ -3,10 +3,13 @@ use Rattle.std.proofs.Common.{◌≡◌, refl, ◌∙◌, ap, List, [], ◌∷�
 use Rattle.std.specs.Option.{option_map, option_copied}
 use Rattle.std.specs.Borrow.{Bor}
 use Rattle.interpolator.specs.Trees.{Tree, Slots, slots, trees}
-use Rattle.interpolator.specs.Trees.{items, forest, with_items, layer_slots, layer_tree, tree_of, trees_behind}
+use Rattle.interpolator.specs.Trees.{items, forest, with_items, layer_slots, layer_tree, tree_of}
+use Rattle.interpolator.specs.Trees.{trees_behind}
 use Rattle.interpolator.specs.declared.slots.Formattable.TheShapes.{former-Formattable-iter}
-use Rattle.interpolator.specs.declared.slots.Formattable.{Formattable, Formattable-F, out-Formattable}
-use Rattle.interpolator.specs.declared.slots.Formattable.{roll-Formattable, fold-Formattable, fold_out-Formattable}
+use Rattle.interpolator.specs.declared.slots.Formattable.{Formattable, Formattable-F}
+use Rattle.interpolator.specs.declared.slots.Formattable.{out-Formattable}
+use Rattle.interpolator.specs.declared.slots.Formattable.{roll-Formattable, fold-Formattable}
+use Rattle.interpolator.specs.declared.slots.Formattable.{fold_out-Formattable}
 use Rattle.interpolator.specs.declared.slots.Formattable.{out-roll-Formattable}
 
 module _ {X : Type 0} where
@@ -27,7 +30,8 @@ module _ {X : Type 0} where
 
   -- what a fold over one layer makes of the slice
   mapped : {A : Type 0} (f : Formattable X → A) (slice : Option (Bor (List (Formattable X))))
-      → option_copied ((former-Formattable-iter X).map (Formattable X) A f slice) ≡ option_map (λ lent. map f lent.now) slice
+      → option_copied ((former-Formattable-iter X).map (Formattable X) A f slice)
+      ≡ option_map (λ lent. map f lent.now) slice
   mapped f None = refl
   mapped f (Some lent) = refl
 
@@ -38,7 +42,8 @@ module _ {X : Type 0} where
   tree_of-out formattable =
       let layer = out-Formattable X formattable in
       fold_out-Formattable X (Tree X) layer_tree formattable
-      ∙ ap (λ list. with_items (layer_slots layer) list) (mapped (fold-Formattable X (Tree X) layer_tree) layer.iter)
+      ∙ ap (λ list. with_items (layer_slots layer) list)
+      (mapped (fold-Formattable X (Tree X) layer_tree) layer.iter)
 
   pub slots-tree_of : (formattable : Formattable X)
       → slots (tree_of formattable) ≡ layer_slots (out-Formattable X formattable)
@@ -50,9 +55,12 @@ module _ {X : Type 0} where
 
   -- the tree of a `Formattable` that is made of these fields
   pub tree_of-roll : (layer : Formattable-F X (Formattable X))
-      → tree_of (roll-Formattable X layer) ≡ with_items (layer_slots layer) (trees_behind layer.iter)
+      → tree_of (roll-Formattable X layer)
+      ≡ with_items (layer_slots layer) (trees_behind layer.iter)
   tree_of-roll layer = tree_of-out (roll-Formattable X layer)
-      ∙ ap (λ fields. with_items (layer_slots fields) (trees_behind fields.iter)) (out-roll-Formattable X layer)
+      ∙ ap (λ fields. with_items (layer_slots fields) (trees_behind fields.iter))
+      (out-roll-Formattable X layer)
 
 -- for the goals of constructors, setters and getters
-pub ruleset tree_layers = (tree_of-roll, slots-tree_of, items-tree_of, slots-with_items, items-with_items)
+pub ruleset tree_layers =
+    (tree_of-roll, slots-tree_of, items-tree_of, slots-with_items, items-with_items)

@@ -9,3 +9,4 @@ pub mod Trees
 pub mod SlotNames
 pub mod Contexts
 pub mod NameMaps
+pub mod Escaping

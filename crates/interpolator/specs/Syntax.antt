@@ -15,5 +15,7 @@ pub mod NumberGrammar
 pub mod GroupGrammar
 pub mod Grammar
 pub mod GrammarParts
+pub mod ListGrammar
 pub mod SpecGrammar
 pub mod ArgumentGrammar
+pub mod Seams

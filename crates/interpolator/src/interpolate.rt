@@ -1,16 +1,22 @@
 //! Formats as methods of a context.
-ghost use Rattle.std.specs.Prelude.{length};
+ghost use Rattle.std.specs.Prelude.{◌≡◌, length, ◌<◌, ◌^◌};
 ghost use Rattle.std.specs.Str.{chars};
 ghost use Rattle.interpolator.specs.Syntax.At.{outermost};
-ghost use Rattle.interpolator.specs.Meaning.Environments.{environment};
+ghost use Rattle.interpolator.specs.Meaning.AskedNames.{asked_names};
+ghost use Rattle.interpolator.specs.Meaning.Environments.{environment, cut};
 ghost use Rattle.interpolator.specs.Faults.{answered, PlaceWithin};
+ghost use Rattle.interpolator.specs.Meaning.Lines.{line_means};
 ghost use Rattle.interpolator.specs.Meaning.Meanings.{means};
 ghost use Rattle.interpolator.specs.Meaning.Outcomes.{Outcome, Formats};
+ghost use Rattle.interpolator.specs.Meaning.Parts.{joined_text, texts_of, bytes_of, parts_mean};
+ghost use Rattle.interpolator.specs.Meaning.Parts.{Clean, FrontsClose};
 
 use crate::context::{ByNames, Context};
 use crate::context_map::NameMap;
 use crate::error::Error;
+use crate::line::iwriteln;
 use crate::pairs::Pairs;
+use crate::parts::write_parts;
 use crate::slots::Formattable;
 use crate::writing::{format, write};
 use interpolator_render::{TextWrite, Value};
@@ -18,7 +24,7 @@ use std::alloc::Global;
 use std::collections::HashMap;
 use std::marker::PhantomData;
 
-/// The functions `format` and `write` as methods of a context.
+/// The functions `format`, `write` and `iwriteln` as methods of a context.
 ///
 /// A caller with a map of borrowed values writes `map.format(alloc, text)?` and proves nothing. A
 /// context of one's own that names at most one lifetime has them by an empty impl.
@@ -32,6 +38,9 @@ pub trait Interpolate: Context {
         ensures formats { Formats
             (means Self.Object.shows (environment (Self.finds self.now))
             (outermost (chars text.now)))
+            result }
+        ensures asked { let a = outermost (chars text.now) in Formats
+            (means Self.Object.shows (cut (environment (Self.finds self.now)) (asked_names a)) a)
             result }
         ensures place { PlaceWithin (length text.now) (answered result) }
     {
@@ -48,9 +57,63 @@ pub trait Interpolate: Context {
             (means Self.Object.shows (environment (Self.finds self.now))
             (outermost (chars text.now)))
             (W.written out.old) (W.written out.new) (answered result) }
+        ensures asked { let a = outermost (chars text.now) in Outcome
+            (means Self.Object.shows (cut (environment (Self.finds self.now)) (asked_names a)) a)
+            (W.written out.old) (W.written out.new) (answered result) }
         ensures place { PlaceWithin (length text.now) (answered result) }
     {
         write(alloc, out, text, self)
+    }
+
+    /// Writes what the format means and a newline behind it, as the function `iwriteln` does.
+    ///
+    /// # Errors
+    ///
+    /// Those of `write_to`; `Fmt` at place 0 where the writer refuses the newline alone.
+    fn write_line_to<W: TextWrite>(
+        &self,
+        alloc: Global,
+        out: &mut W,
+        text: &str,
+    ) -> Result<(), Error>
+        ensures outcome { Outcome
+            (line_means
+            (means Self.Object.shows (environment (Self.finds self.now))
+            (outermost (chars text.now))))
+            (W.written out.old) (W.written out.new) (answered result) }
+        ensures asked { let a = outermost (chars text.now) in Outcome
+            (line_means
+            (means Self.Object.shows (cut (environment (Self.finds self.now)) (asked_names a)) a))
+            (W.written out.old) (W.written out.new) (answered result) }
+        ensures place { PlaceWithin (length text.now) (answered result) }
+    {
+        iwriteln(alloc, out, text, self)
+    }
+
+    /// Writes what the parts mean one after the other, as the function `write_parts` does.
+    ///
+    /// # Errors
+    ///
+    /// The first fault of the parts; `Fmt` where the writer refuses; `NoMemory`.
+    fn write_parts_to<W: TextWrite>(
+        &self,
+        alloc: Global,
+        out: &mut W,
+        parts: &[&str],
+    ) -> Result<(), Error>
+        requires fits { bytes_of parts.now < 2 ^ 64 }
+        ensures outcome { Outcome
+            (parts_mean Self.Object.shows (environment (Self.finds self.now)) 0
+            (texts_of parts.now))
+            (W.written out.old) (W.written out.new) (answered result) }
+        ensures composes { Clean (texts_of parts.now) → FrontsClose 0 (texts_of parts.now)
+            → parts_mean Self.Object.shows (environment (Self.finds self.now)) 0
+            (texts_of parts.now)
+            ≡ means Self.Object.shows (environment (Self.finds self.now))
+            (outermost (joined_text (texts_of parts.now))) }
+        ensures place { PlaceWithin (bytes_of parts.now) (answered result) }
+    {
+        write_parts(alloc, out, parts, self)
     }
 }
 
@@ -76,5 +139,31 @@ impl<'k, 'a, V: Value> Interpolate for HashMap<&'k str, Formattable<'a, V>> {
             of: PhantomData,
         };
         write(alloc, out, text, &names)
+    }
+
+    fn write_line_to<W: TextWrite>(
+        &self,
+        alloc: Global,
+        out: &mut W,
+        text: &str,
+    ) -> Result<(), Error> {
+        let names = ByNames {
+            map: self,
+            of: PhantomData,
+        };
+        iwriteln(alloc, out, text, &names)
+    }
+
+    fn write_parts_to<W: TextWrite>(
+        &self,
+        alloc: Global,
+        out: &mut W,
+        parts: &[&str],
+    ) -> Result<(), Error> {
+        let names = ByNames {
+            map: self,
+            of: PhantomData,
+        };
+        write_parts(alloc, out, parts, &names)
     }
 }

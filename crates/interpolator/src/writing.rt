@@ -3,7 +3,8 @@
 ghost use Rattle.std.specs.Prelude.{◌≡◌, [], false, length, IfOk};
 ghost use Rattle.std.specs.Str.{chars};
 ghost use Rattle.interpolator.specs.Syntax.At.{outermost};
-ghost use Rattle.interpolator.specs.Meaning.Environments.{environment};
+ghost use Rattle.interpolator.specs.Meaning.AskedNames.{asked_names};
+ghost use Rattle.interpolator.specs.Meaning.Environments.{environment, cut};
 ghost use Rattle.interpolator.specs.Faults.{answered, PlaceWithin};
 ghost use Rattle.interpolator.specs.Meaning.Meanings.{means};
 ghost use Rattle.interpolator.specs.Meaning.Outcomes.{Outcome, Formats};
@@ -21,17 +22,24 @@ use std::alloc::{AllocError, Global};
 ///
 /// The pieces of the format are read once, from left to right, and written as they come: `{{` as
 /// `{`, `}}` as `}`, `{name}` as the text of the value under the name, and every other character
-/// as it stands. Memory is taken for the name in a `MissingValue`, and for nothing else.
+/// as it stands. `{name:i}` writes the items of a list one behind the other: each displayed plainly
+/// or, where a group `(..)` follows, by the format in it, in which the empty name is the item. A
+/// second group is written between two items.
+///
+/// Under a width the text of a list is made whole in a buffer and then padded, and of a list in
+/// which a fault is found nothing is written. Memory is taken for such a buffer, before anything of
+/// its argument is written, and for the name in a `MissingValue`; and for nothing else.
 ///
 /// # Errors
 ///
-/// - `Parse`: an argument is broken. The text before it was written.
+/// - `Parse`: an argument is broken, or asks of a list a precision, a sign, `#` or the zero flag.
+///   The text before it was written.
 /// - `MissingValue`: the context has nothing under the name.
 /// - `MissingTraitImpl`: the value has no slot for the trait, or no text under it.
 /// - `Fmt`: a value failed, or the writer refused. Where the writer refused a literal character,
-///   the place is that of the first which was not appended; where it refused a value, the byte
-///   behind the argument's spec.
-/// - `NoMemory`: a missing name could not be copied.
+///   the place is that of the first which was not appended; where it refused a value or a padded
+///   list, the byte behind the argument's spec.
+/// - `NoMemory`: a missing name could not be copied, or a padded list's text found no memory.
 ///
 /// Every place counts bytes from the beginning of the format, and is at most its length.
 ///
@@ -40,6 +48,8 @@ use std::alloc::{AllocError, Global};
 /// ```text
 /// write(alloc, &mut out, "Hello {name}, {{n}} is {n} }", &context)?;
 /// // with `Ann` under `name` and -7 under `n`: Hello Ann, {n} is -7 }
+/// write(alloc, &mut out, "{l:i(<{}>)(, )}", &context)?;
+/// // with the list of 1, 2 and 3 under `l`: <1>, <2>, <3>
 /// ```
 pub fn write<W: TextWrite, C: Context>(
     alloc: Global,
@@ -49,6 +59,9 @@ pub fn write<W: TextWrite, C: Context>(
 ) -> Result<(), Error>
     ensures outcome { Outcome
         (means C.Object.shows (environment (C.finds context.now)) (outermost (chars format.now)))
+        (W.written out.old) (W.written out.new) (answered result) }
+    ensures asked { let a = outermost (chars format.now) in Outcome
+        (means C.Object.shows (cut (environment (C.finds context.now)) (asked_names a)) a)
         (W.written out.old) (W.written out.new) (answered result) }
     ensures place { PlaceWithin (length format.now) (answered result) }
 {
@@ -95,6 +108,8 @@ pub fn format<C: Context>(alloc: Global, format: &str, context: &C) -> Result<St
     ensures formats { Formats
         (means C.Object.shows (environment (C.finds context.now)) (outermost (chars format.now)))
         result }
+    ensures asked { let a = outermost (chars format.now) in Formats
+        (means C.Object.shows (cut (environment (C.finds context.now)) (asked_names a)) a) result }
     ensures place { PlaceWithin (length format.now) (answered result) }
 {
     let mut out = buffer_for(alloc, format)?;

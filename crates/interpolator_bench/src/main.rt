@@ -5,6 +5,7 @@ mod checksum;
 mod command;
 mod failure;
 mod formats;
+mod lists;
 mod merge;
 mod renders;
 mod rows;

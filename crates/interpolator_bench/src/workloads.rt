@@ -1,7 +1,7 @@
 //! The table of workloads.
 
 use crate::failure::Failure;
-use crate::{formats, merge, renders, spec_formats};
+use crate::{formats, lists, merge, renders, spec_formats};
 use std::alloc::Global;
 
 /// Sixty-four bytes that stand for themselves.
@@ -33,6 +33,10 @@ pub enum Workload {
     FormatExponents,
     FormatPaddedTexts,
     FormatWide,
+    List,
+    LongList,
+    LongPaddedList,
+    NestedLists,
     Specs,
     Radix,
     Exponents,
@@ -45,7 +49,7 @@ pub enum Workload {
 
 impl Workload {
     /// Every workload, in the order in which `all` runs them.
-    pub const ALL: [Workload; 22] = [
+    pub const ALL: [Workload; 26] = [
         Workload::LogLine,
         Workload::NumberNames,
         Workload::TextNames,
@@ -60,6 +64,10 @@ impl Workload {
         Workload::FormatExponents,
         Workload::FormatPaddedTexts,
         Workload::FormatWide,
+        Workload::List,
+        Workload::LongList,
+        Workload::LongPaddedList,
+        Workload::NestedLists,
         Workload::Specs,
         Workload::Radix,
         Workload::Exponents,
@@ -87,6 +95,10 @@ impl Workload {
             Workload::FormatExponents => "format-exponents",
             Workload::FormatPaddedTexts => "format-padded-texts",
             Workload::FormatWide => "format-wide",
+            Workload::List => "list-1000",
+            Workload::LongList => "list-100000",
+            Workload::LongPaddedList => "list-100000-padded",
+            Workload::NestedLists => "lists-32-deep",
             Workload::Specs => "render-specs",
             Workload::Radix => "render-radix",
             Workload::Exponents => "render-exponents",
@@ -115,6 +127,12 @@ impl Workload {
             Workload::FormatExponents => spec_formats::exponents(alloc, repeats),
             Workload::FormatPaddedTexts => spec_formats::padded_texts(alloc, repeats),
             Workload::FormatWide => spec_formats::wide(alloc, repeats),
+            Workload::List => lists::numbers(alloc, 1_000, "{n:i({})(, )}", repeats),
+            Workload::LongList => lists::numbers(alloc, 100_000, "{n:i({} )}", repeats),
+            Workload::LongPaddedList => {
+                lists::numbers(alloc, 100_000, "{n:>600000i({} )}", repeats)
+            }
+            Workload::NestedLists => lists::nested(alloc, repeats),
             Workload::Specs => renders::specs(alloc, repeats),
             Workload::Radix => renders::radix(alloc, repeats),
             Workload::Exponents => renders::exponents(alloc, repeats),

@@ -41,7 +41,8 @@ pub power_at : (i : ℕ) → i ≤ 19 → get_or {A = ℕ}
     ∷ 10000000000 ∷ 100000000000 ∷ 1000000000000 ∷ 10000000000000 ∷ 100000000000000
     ∷ 1000000000000000 ∷ 10000000000000000 ∷ 100000000000000000 ∷ 1000000000000000000
     ∷ 10000000000000000000 ∷ []) i 0 ≡ 10 ^ i
-power_at i h = power_from 20 1 i (omega arith) ∙ (let one : 1 * 10 ^ i ≡ 10 ^ i = omega arith in one)
+power_at i h =
+    power_from 20 1 i (omega arith) ∙ (let one : 1 * 10 ^ i ≡ 10 ^ i = omega arith in one)
 
 -- the exponent between two powers
 pub exponent_found : (n e : ℕ) → (0 < e → 10 ^ e ≤ n) → n < 10 ^ (e + 1) → e ≡ exponent_of n

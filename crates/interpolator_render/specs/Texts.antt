@@ -22,12 +22,12 @@ use Rattle.interpolator_render.specs.Written.{Written, Appends, AppendsBeginning
 -- a text, or one of the two reasons why there is none
 pub data ViewText : Type 0 where
   has_text : List ℕ → ViewText
-  is_missing : ViewText
+  has_no_text : ViewText
   has_failed : ViewText
 
 -- a number's text in the form that the trait asks for, if it asks for one
 abbrev pub in_form : Option NumberForm → (NumberForm → List ℕ) → ViewText
-in_form None text = is_missing
+in_form None text = has_no_text
 in_form (Some form) text = has_text (text form)
 
 -- the text of a truth value
@@ -39,7 +39,7 @@ truth_text false = codes "false"
 abbrev pub under : Trait → List ℕ → List ℕ → ViewText
 under Display displayed debugged = has_text displayed
 under Debug displayed debugged = has_text debugged
-under _ displayed debugged = is_missing
+under _ displayed debugged = has_no_text
 
 -- the text of what a view shows, under a trait and a spec
 unfoldable pub view_text : Shown → Trait → Spec → ViewText
@@ -55,7 +55,7 @@ view_text (one_character c) t spec =
 view_text (some_text text) t spec =
     under t (displayed_text spec text) (quoted double_quote text)
 view_text (plain_text text) t spec = has_text text
-view_text nothing_implemented t spec = is_missing
+view_text nothing_implemented t spec = has_no_text
 view_text failure t spec = has_failed
 
 -- `Ok` and exactly the text, or refused on the way, or the reason why there is none, with nothing
@@ -63,7 +63,7 @@ view_text failure t spec = has_failed
 abbrev pub Renders : ViewText → Written → Result (Unit {0}) RenderFault → Written → Type 0
 Renders (has_text text) old (Ok _) new = Appends old text new
 Renders (has_text text) old (Err Refused) new = AppendsBeginning old text new
-Renders is_missing old (Err Nothing) new = new ≡ old
+Renders has_no_text old (Err Nothing) new = new ≡ old
 Renders has_failed old (Err FailedFault) new = new ≡ old
 Renders _ _ _ _ = ⊥
 

@@ -1,4 +1,5 @@
-use Rattle.std.proofs.Common.{◌≡◌, ℕ, ◌<◌, ◌+◌, true, false, List, [], ◌∷◌, ◌++◌, length, take, drop, sym, ◌∙◌, ap, arith}
+use Rattle.std.proofs.Common.{◌≡◌, ℕ, ◌<◌, ◌+◌, true, false, List, [], ◌∷◌, ◌++◌, length, take}
+use Rattle.std.proofs.Common.{drop, sym, ◌∙◌, ap, arith}
 use Rattle.std.specs.Str.{chars, IsUtf8}
 use Rattle.std.proofs.lemmas.Str.{chars-append}
 use Rattle.std.proofs.lemmas.List.{take-append-drop, take_all, length-take}
@@ -16,10 +17,12 @@ pub buffer_stops :
     chars part ≡ take n (chars bytes) → length part < length bytes → new.text ≡ chars (a ++ part)
     → new.refused ≡ true → Refuses now (chars bytes) (length part) new
 buffer_stops now new a bytes part n u v w s f e h t g =
-    let split : chars bytes ≡ chars part ++ drop n (chars bytes) = sym (rw e (take-append-drop n (chars bytes))) in
+    let split : chars bytes ≡ chars part ++ drop n (chars bytes) =
+    sym (rw e (take-append-drop n (chars bytes))) in
     let count : length bytes ≡ length part + byte_count (drop n (chars bytes)) =
     sym (byte_count-chars bytes v)
-    ∙ (ap byte_count split ∙ (byte_count-append (chars part) (drop n (chars bytes)) ∙ ap (λ (k : ℕ). k + byte_count (drop n (chars bytes))) (byte_count-chars part w))) in
+    ∙ (ap byte_count split ∙ (byte_count-append (chars part) (drop n (chars bytes))
+    ∙ ap (λ (k : ℕ). k + byte_count (drop n (chars bytes))) (byte_count-chars part w))) in
     record {
       part = record {
         beginning = chars part;
@@ -40,4 +43,5 @@ whole_front bytes part e h = e ∙ take_all (length part) bytes (omega arith)
 
 pub front_shorter : (bytes part : List ℕ) → part ≡ take (length part) bytes
     → (length part ≡ length bytes → ⊥) → length part < length bytes
-front_shorter bytes part e h = let n = ap length e in let k = length-take (length part) bytes in omega (arith, h)
+front_shorter bytes part e h =
+    let n = ap length e in let k = length-take (length part) bytes in omega (arith, h)

@@ -1,8 +1,8 @@
 //! Rows of formats: what is written, and what is answered.
 
-mod held;
+pub(crate) mod held;
 mod own;
-mod rows;
+pub(crate) mod rows;
 mod spec_rows;
 pub(crate) mod told;
 
@@ -12,7 +12,7 @@ use held::map_of;
 use interpolator::{Formattable, Interpolate, TextBuffer, TextWrite, Trait, View, format, write};
 use own::{Everywhere, Nowhere, OnlyFive};
 use rows::{PLAIN, PLAIN_ROOM, RoomRow, RoomTable, Row, Table};
-use spec_rows::{ASKED, ASKED_IN_VAIN, BROKEN, CUTS, ROOM, UNTIL_LISTS, WRITTEN};
+use spec_rows::{ASKED, ASKED_IN_VAIN, BROKEN, CUTS, ROOM, WRITTEN};
 use std::alloc::Global;
 use std::collections::HashMap;
 use std::process::Abort;
@@ -20,7 +20,7 @@ use std::test::Fail;
 use told::{Told, told_by};
 
 /// The row is given by every way to write or make a text.
-fn gives<'a>(
+pub(crate) fn gives<'a>(
     rt: &impl Abort,
     alloc: Global,
     row: &Row<'_>,
@@ -30,7 +30,7 @@ fn gives<'a>(
     let answer = map.write_to(alloc, &mut out, row.format);
     assert_eq!(rt; told_by(&answer), row.told, "at {}", row.format);
     assert_eq!(rt; out.as_str(), row.text, "at {}", row.format);
-    assert!(rt; !out.refused());
+    assert!(rt; !out.refused(), "at {}", row.format);
     let made = map.format(alloc, row.format);
     assert_eq!(rt; told_by(&made), row.told, "at {}", row.format);
     match made {
@@ -71,17 +71,12 @@ fn specs_are_refused(rt: HostRuntime) -> Result<(), Fail> {
 }
 
 #[test]
-fn until_lists_come(rt: HostRuntime) -> Result<(), Fail> {
-    give(&rt, rt.alloc(), &UNTIL_LISTS)
-}
-
-#[test]
 fn cuts(rt: HostRuntime) -> Result<(), Fail> {
     give(&rt, rt.alloc(), &CUTS)
 }
 
 /// The row is given by a writer that takes no more than its room.
-fn gives_in_room<'a>(
+pub(crate) fn gives_in_room<'a>(
     rt: &impl Abort,
     alloc: Global,
     row: &RoomRow<'_>,

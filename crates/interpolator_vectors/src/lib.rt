@@ -3,6 +3,9 @@
 
 #[cfg(test)]
 mod arguments;
+pub mod cells;
+#[cfg(test)]
+mod choices;
 #[cfg(test)]
 mod counting;
 #[cfg(test)]
@@ -10,7 +13,17 @@ mod formats;
 #[cfg(test)]
 mod limited;
 #[cfg(test)]
+mod lines;
+#[cfg(test)]
+mod lists;
+#[cfg(test)]
+mod lists_of_users;
+#[cfg(test)]
+mod long;
+#[cfg(test)]
 mod pairs;
+#[cfg(test)]
+mod parts;
 #[cfg(test)]
 mod render;
 #[cfg(test)]

@@ -1,4 +1,5 @@
-//! Rows of the renderer.
+//! Rows of the renderer. What the tables expect is worked by hand from the rules of views and of
+//! rendering in docs/DEFINITIONS.md.
 
 mod border_rows;
 mod exponent_rows;

@@ -1,5 +1,11 @@
 //! What a user writes: contexts and formats, with no proof of his own.
 
+mod catalogue;
+mod cell;
+mod log;
+mod merge;
+mod record;
+
 use interpolator::{
     Bits, ContextMap, Error, Formattable, Interpolate, Pairs, Spec, TextBuffer, Trait, Value, View,
 };

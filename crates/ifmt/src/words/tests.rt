@@ -12,7 +12,7 @@ const TOO_LITTLE: &str = "n:=-170141183460469231731687303715884105729";
 const TOO_GREAT: &str = "n:=170141183460469231731687303715884105728";
 
 /// A word, its name and its text: by hand, from the rule that the first `=` cuts it.
-const TEXTS: [(&str, &str, &str); 10] = [
+const TEXTS: [(&str, &str, &str); 13] = [
     ("a=b=c", "a", "b=c"),
     ("a=", "a", ""),
     ("=x", "", "x"),
@@ -21,36 +21,55 @@ const TEXTS: [(&str, &str, &str); 10] = [
     ("n=:5", "n", ":5"),
     ("n[=5", "n[", "5"),
     ("n]=5", "n]", "5"),
+    ("n[] =5", "n[] ", "5"),
+    ("n[1]=5", "n[1]", "5"),
+    ("n=[]", "n", "[]"),
     ("n =5", "n ", "5"),
     ("é=ü", "é", "ü"),
 ];
 
 /// A word, its name and its number: by hand, the least and the greatest those of Rust's `i128`.
-const NUMBERS: [(&str, &str, i128); 8] = [
+const NUMBERS: [(&str, &str, i128); 9] = [
     ("n:=5", "n", 5),
     ("n:=-12", "n", -12),
     (":=5", "", 5),
     ("a:b:=1", "a:b", 1),
+    ("n[]:=1", "n[]", 1),
     ("n:=-0", "n", 0),
     ("n:=007", "n", 7),
     (LEAST, "n", i128::MIN),
     (GREATEST, "n", i128::MAX),
 ];
 
-/// Words that mean nothing: by the same rule; list words until lists come.
+/// A word, its name and the text of its items: by hand, from the same rule.
+const LISTS: [(&str, &str, &str); 9] = [
+    ("l[]=a,b", "l", "a,b"),
+    ("l[]=", "l", ""),
+    ("[]=a", "", "a"),
+    ("[]=", "", ""),
+    ("l[][]=a", "l[]", "a"),
+    ("n:[]=1", "n:", "1"),
+    ("l[]=a=b,[]=", "l", "a=b,[]="),
+    ("l[]=:=1", "l", ":=1"),
+    ("é[]=ü", "é", "ü"),
+];
+
+/// Words that mean nothing: by the same rule.
 const BAD: [&str; 16] = [
     "a", "", "n:=+1", "n:=", "n:=-", "n:=x", "n:=1 ", "n:= 1", "n:=--1", "n:=1-", "n:=1=", "n:=٣",
-    TOO_LITTLE, TOO_GREAT, "a[]=x", "[]=",
+    TOO_LITTLE, TOO_GREAT, "a[]", "l[]:=a",
 ];
 
 /// The text of a list, and its items: by hand, from the rule that each comma ends one, and that the
 /// empty text has none.
-const ITEMS: [(&str, &[&str]); 6] = [
+const ITEMS: [(&str, &[&str]); 8] = [
     ("", &[]),
     ("a", &["a"]),
     ("a,b", &["a", "b"]),
     ("a,,b", &["a", "", "b"]),
     (",", &["", ""]),
+    ("a,", &["a", ""]),
+    (",a", &["", "a"]),
     ("é,a=b, ", &["é", "a=b", " "]),
 ];
 
@@ -61,6 +80,9 @@ fn words_mean_what_they_say(rt: HostRuntime) {
     }
     for (word, name, value) in NUMBERS {
         assert_eq!(rt; classify(word), Word::Number { name, value }, "{word}");
+    }
+    for (word, name, items) in LISTS {
+        assert_eq!(rt; classify(word), Word::List { name, items }, "{word}");
     }
     for word in BAD {
         assert_eq!(rt; classify(word), Word::Bad, "{word}");

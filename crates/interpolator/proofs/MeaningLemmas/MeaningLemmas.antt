@@ -1,5 +1,7 @@
 -- What a text means: what the scan hands on first, and then the rest.
-use Rattle.std.proofs.Common.{◌≡◌, ℕ, ◌+◌, ◌<◌, Bool, true, false, cond, eqb, subst, List, [], ◌∷◌, map, length, arith, refl, ap, ◌∙◌, sym, Option, Some, None, Result, Ok, Err, append_assoc, length-append}
+use Rattle.std.proofs.Common.{◌≡◌, ℕ, ◌+◌, ◌<◌, Bool, true, false, cond, eqb, subst, List, [], ◌∷◌}
+use Rattle.std.proofs.Common.{map, length, arith, refl, ap, ◌∙◌, sym, Option, Some, None, Result}
+use Rattle.std.proofs.Common.{Ok, Err, append_assoc, length-append}
 use Rattle.std.specs.Prelude.{◌||◌}
 use Rattle.std.proofs.lemmas.List.{map-append}
 use Rattle.std.specs.Char.{len_utf8}
@@ -7,20 +9,29 @@ use Rattle.interpolator_render.specs.declared.view.Trait.{Trait}
 use Rattle.interpolator_render.specs.declared.view.Spec.{Spec}
 use Rattle.interpolator_render.specs.Views.{Shown}
 use Rattle.interpolator.specs.Syntax.At.{At, placed_from, size, strip}
-use Rattle.interpolator.specs.Syntax.Classes.{front_of, behind_of, in_class, is_brace, open_brace, close_brace}
+use Rattle.interpolator.specs.Syntax.Classes.{front_of, behind_of, in_class, is_brace, open_brace}
+use Rattle.interpolator.specs.Syntax.Classes.{close_brace}
 use Rattle.interpolator.specs.Meaning.Environments.{Environment}
 use Rattle.interpolator.specs.Faults.{Fault}
-use Rattle.interpolator.specs.Syntax.Pieces.{Step, piece_from, past, pieces, literal, open_step, close_step, step, argument_step, argument_or_broken, argument_from}
-use Rattle.interpolator.specs.Syntax.Tokens.{Token, first_token, past_token, open_scan, close_scan, no_open_scan, scan_by}
+use Rattle.interpolator.specs.Syntax.Pieces.{Step, piece_from, past, pieces, literal, open_step}
+use Rattle.interpolator.specs.Syntax.Pieces.{close_step, step, argument_step, argument_or_broken}
+use Rattle.interpolator.specs.Syntax.Pieces.{argument_from}
+use Rattle.interpolator.specs.Syntax.Tokens.{Token, first_token, past_token, open_scan, close_scan}
+use Rattle.interpolator.specs.Syntax.Tokens.{no_open_scan, scan_by}
 use Rattle.interpolator.specs.Syntax.Arguments.{Argument, argument_at}
-use Rattle.interpolator.specs.Meaning.Meanings.{Meaning, nothing, text_alone, or_fault, joined, piece_means, pieces_mean, token_means, means}
+use Rattle.interpolator.specs.Meaning.Meanings.{Meaning, nothing, text_alone, or_fault, joined}
+use Rattle.interpolator.specs.Meaning.Meanings.{piece_means, pieces_mean, token_means, means}
 use Rattle.interpolator.specs.declared.syntax.class.Class.TheVariants.{Literal}
-use Rattle.interpolator.proofs.SyntaxLemmas.PieceLemmas.{behind_shorter, piece_begins, pieces_none, pieces_next, OptionWithin, strip_within, argument_from_within}
+use Rattle.interpolator.proofs.MeaningLemmas.DepthLemmas.{means_pieces}
+use Rattle.interpolator.proofs.SyntaxLemmas.PieceLemmas.{behind_shorter, piece_begins, pieces_none}
+use Rattle.interpolator.proofs.SyntaxLemmas.PieceLemmas.{pieces_next, OptionWithin, strip_within}
+use Rattle.interpolator.proofs.SyntaxLemmas.PieceLemmas.{argument_from_within}
 
 shift_twice : (a b : ℕ) (ns : List ℕ)
     → map (λ n. a + b + n) ns ≡ map (λ n. a + n) (map (λ n. b + n) ns)
 shift_twice a b [] = refl
-shift_twice a b (n ∷ ns) = let e : a + b + n ≡ a + (b + n) = omega arith in rw (e, shift_twice a b ns) refl
+shift_twice a b (n ∷ ns) =
+    let e : a + b + n ≡ a + (b + n) = omega arith in rw (e, shift_twice a b ns) refl
 
 -- joining is associative
 pub joined_assoc : (m k l : Meaning) → joined (joined m k) l ≡ joined m (joined k l)
@@ -30,7 +41,20 @@ joined_assoc m k l = by_faults m.fault refl k.fault refl
         → joined (or_fault o m k) l ≡ or_fault o m (or_fault p k l)
     by_faults (Some f) e p d = rw e refl
     by_faults None e (Some f) d = rw d refl
-    by_faults None e None d = rw (d, append_assoc m.text k.text l.text, length-append m.text k.text, shift_twice (length m.text) (length k.text) l.memory_points, map-append (λ n. length m.text + n) k.memory_points (map (λ n. length k.text + n) l.memory_points), append_assoc m.memory_points (map (λ n. length m.text + n) k.memory_points) (map (λ n. length m.text + n) (map (λ n. length k.text + n) l.memory_points))) refl
+    by_faults None e None d =
+        rw (
+          d,
+          append_assoc m.text k.text l.text,
+          length-append m.text k.text,
+          shift_twice
+              (length m.text) (length k.text) l.memory_points,
+          map-append
+              (λ n. length m.text + n) k.memory_points
+              (map (λ n. length k.text + n) l.memory_points),
+          append_assoc m.memory_points
+              (map (λ n. length m.text + n) k.memory_points) (map (λ n. length m.text + n)
+              (map (λ n. length k.text + n) l.memory_points)),
+        ) refl
 
 unmoved : (ns : List ℕ) → map (λ n. 0 + n) ns ≡ ns
 unmoved [] = refl
@@ -49,38 +73,58 @@ no_brace c e = by_test (eqb c open_brace) (eqb c close_brace) e
 
 module _ {X : Type 0} (shows : X → Trait → Spec → Shown) (e : Environment X) where
   pub means_none : (p : ℕ) → means shows e (record { place = p; text = [] }) ≡ nothing
-  unfolding means
-  means_none p = ap (pieces_mean shows e) (pieces_none p)
+  means_none p =
+      means_pieces shows e (record { place = p; text = [] })
+      ∙ ap (pieces_mean shows (means shows) e) (pieces_none p)
 
   -- the first piece, and then what stands behind it
   pub means_next : (p c : ℕ) (cs : List ℕ)
-      → means shows e (record { place = p; text = c ∷ cs }) ≡ joined (piece_means shows e p (piece_from p c (past p c cs)).piece.kind) (means shows e (piece_from p c (past p c cs)).rest)
-  unfolding means
+      → means shows e (record { place = p; text = c ∷ cs })
+      ≡ joined (piece_means shows (means shows) e p (piece_from p c (past p c cs)).piece.kind)
+      (means shows e (piece_from p c (past p c cs)).rest)
   means_next p c cs =
       let s = piece_from p c (past p c cs) in
-      ap (pieces_mean shows e) (pieces_next p c cs)
-      ∙ ap (λ q. joined (piece_means shows e q s.piece.kind) (pieces_mean shows e (pieces s.rest))) (piece_begins p c (past p c cs))
+      let first = λ (q : ℕ). piece_means shows (means shows) e q s.piece.kind in
+      means_pieces shows e (record { place = p; text = c ∷ cs })
+      ∙ ap (pieces_mean shows (means shows) e) (pieces_next p c cs)
+      ∙ ap (λ q. joined (first q) (pieces_mean shows (means shows) e (pieces s.rest)))
+      (piece_begins p c (past p c cs))
+      ∙ ap (joined (first p)) (sym (means_pieces shows e s.rest))
 
   literal_next : (p c : ℕ) (cs : List ℕ) → is_brace c ≡ false
-      → means shows e (record { place = p; text = c ∷ cs }) ≡ joined (text_alone ((c, p) ∷ [])) (means shows e (past p c cs))
+      → means shows e (record { place = p; text = c ∷ cs })
+      ≡ joined (text_alone ((c, p) ∷ [])) (means shows e (past p c cs))
   literal_next p c cs h =
       let tests = no_brace c h in
       let b = past p c cs in
       means_next p c cs
-      ∙ ap (λ s. joined (piece_means shows e p s.piece.kind) (means shows e s.rest))
-      (ap (λ t. cond t (open_step p b (strip open_brace b)) (cond (eqb c close_brace) (close_step p b (strip close_brace b)) (step p (c ∷ []) (literal c) b))) tests.0
-      ∙ ap (λ t. cond t (close_step p b (strip close_brace b)) (step p (c ∷ []) (literal c) b)) tests.1)
+      ∙ ap (λ s. joined (piece_means shows (means shows) e p s.piece.kind) (means shows e s.rest))
+      (ap (λ t. cond t (open_step p b (strip open_brace b)) (cond (eqb c close_brace)
+      (close_step p b (strip close_brace b)) (step p (c ∷ []) (literal c) b))) tests.0
+      ∙ ap (λ t. cond t (close_step p b (strip close_brace b)) (step p (c ∷ []) (literal c) b))
+      tests.1)
 
   abbrev IsRun : ℕ → List ℕ → Type 0
-  IsRun p cs = means shows e (record { place = p; text = cs }) ≡ joined (text_alone (placed_from p (front_of (in_class Literal) cs))) (means shows e (record { place = p + size (front_of (in_class Literal) cs); text = behind_of (in_class Literal) cs }))
+  IsRun p cs =
+      means shows e (record { place = p; text = cs })
+      ≡ joined (text_alone (placed_from p (front_of (in_class Literal) cs)))
+      (means shows e
+      (record {
+        place = p + size (front_of (in_class Literal) cs);
+        text = behind_of
+            (in_class Literal) cs;
+      }))
 
   one_more : (p c : ℕ) (cs : List ℕ) (t : Bool) → is_brace c ≡ t → IsRun (p + len_utf8 c) cs
       → IsRun p (c ∷ cs)
-  one_more p c cs true h k = let none : p + 0 ≡ p = omega arith in rw (h, none) (sym (joined_none _))
+  one_more p c cs true h k =
+      let none : p + 0 ≡ p = omega arith in rw (h, none) (sym (joined_none _))
   one_more p c cs false h k =
       let front = front_of (in_class Literal) cs in
       let further : p + (len_utf8 c + size front) ≡ p + len_utf8 c + size front = omega arith in
-      rw (h, further) (literal_next p c cs h ∙ ap (joined (text_alone ((c, p) ∷ []))) k ∙ sym (joined_assoc (text_alone ((c, p) ∷ [])) (text_alone (placed_from (p + len_utf8 c) front)) _))
+      rw (h, further) (literal_next p c cs h ∙ ap (joined (text_alone ((c, p) ∷ []))) k
+      ∙ sym (joined_assoc (text_alone ((c, p) ∷ []))
+      (text_alone (placed_from (p + len_utf8 c) front)) _))
 
   -- a run of literals, and then what stands behind it
   means_literals : (p : ℕ) (cs : List ℕ) → IsRun p cs
@@ -89,7 +133,9 @@ module _ {X : Type 0} (shows : X → Trait → Spec → Shown) (e : Environment 
 
   -- the argument behind a brace means the same wherever the brace stands
   abbrev AnyPlace : (q p : ℕ) → Step → Step → Type 0
-  AnyPlace q p s t = (piece_means shows e q s.piece.kind ≡ piece_means shows e p t.piece.kind) × (s.rest ≡ t.rest)
+  AnyPlace q p s t =
+      (piece_means shows (means shows) e q s.piece.kind
+      ≡ piece_means shows (means shows) e p t.piece.kind) × (s.rest ≡ t.rest)
 
   any_place_step :
       (q p : ℕ) (b : At) (x : Argument) (r : At) (o : Option At)
@@ -108,7 +154,7 @@ module _ {X : Type 0} (shows : X → Trait → Spec → Shown) (e : Environment 
   any_place q p b = any_place_read q p b (argument_at b)
 
   abbrev Then : ℕ → Step → Meaning
-  Then p s = joined (piece_means shows e p s.piece.kind) (means shows e s.rest)
+  Then p s = joined (piece_means shows (means shows) e p s.piece.kind) (means shows e s.rest)
 
   abbrev ThenScanned : ℕ → Token × At → Meaning
   ThenScanned p x = joined (token_means shows e p x.0 x.1) (means shows e (past_token x.0 x.1))
@@ -135,24 +181,35 @@ module _ {X : Type 0} (shows : X → Trait → Spec → Shown) (e : Environment 
   leads_at p (c ∷ cs) = by_open (eqb c open_brace) refl
     where
       by_close : (t : Bool) → eqb c open_brace ≡ false → eqb c close_brace ≡ t
-          → Leads (record { place = p; text = c ∷ cs }) (no_open_scan (record { place = p; text = c ∷ cs }) (cond t (Some (past p c cs)) None))
+          → Leads (record { place = p; text = c ∷ cs })
+          (no_open_scan (record { place = p; text = c ∷ cs })
+          (cond t (Some (past p c cs)) None))
       by_close true n d =
           means_next p c cs
-          ∙ ap (λ t. Then p (cond t (open_step p (past p c cs) (strip open_brace (past p c cs))) (cond (eqb c close_brace) (close_step p (past p c cs) (strip close_brace (past p c cs))) (step p (c ∷ []) (literal c) (past p c cs))))) n
-          ∙ ap (λ t. Then p (cond t (close_step p (past p c cs) (strip close_brace (past p c cs))) (step p (c ∷ []) (literal c) (past p c cs)))) d
+          ∙ ap (λ t. Then p (cond t (open_step p (past p c cs) (strip open_brace (past p c cs)))
+          (cond (eqb c close_brace) (close_step p (past p c cs)
+          (strip close_brace (past p c cs))) (step p (c ∷ []) (literal c) (past p c cs)))))
+          n
+          ∙ ap (λ t. Then p (cond t (close_step p (past p c cs) (strip close_brace (past p c cs)))
+          (step p (c ∷ []) (literal c) (past p c cs)))) d
           ∙ closed_by p (past p c cs) (strip close_brace (past p c cs))
       by_close false n d = means_literals p (c ∷ cs)
 
       by_open : (t : Bool) → eqb c open_brace ≡ t
-          → Leads (record { place = p; text = c ∷ cs }) (scan_by (record { place = p; text = c ∷ cs }) (cond t (Some (past p c cs)) None))
+          → Leads (record { place = p; text = c ∷ cs })
+          (scan_by (record { place = p; text = c ∷ cs }) (cond t (Some (past p c cs)) None))
       by_open true n =
           means_next p c cs
-          ∙ ap (λ t. Then p (cond t (open_step p (past p c cs) (strip open_brace (past p c cs))) (cond (eqb c close_brace) (close_step p (past p c cs) (strip close_brace (past p c cs))) (step p (c ∷ []) (literal c) (past p c cs))))) n
+          ∙ ap (λ t. Then p (cond t (open_step p (past p c cs) (strip open_brace (past p c cs)))
+          (cond (eqb c close_brace) (close_step p (past p c cs)
+          (strip close_brace (past p c cs))) (step p (c ∷ []) (literal c) (past p c cs)))))
+          n
           ∙ opened p (past p c cs) (strip open_brace (past p c cs))
       by_open false n = by_close (eqb c close_brace) n refl
 
   pub means_first : (a : At) (x : Token × At) → first_token a ≡ Some x
-      → means shows e a ≡ joined (token_means shows e a.place x.0 x.1) (means shows e (past_token x.0 x.1))
+      → means shows e a ≡ joined (token_means shows e a.place x.0 x.1)
+      (means shows e (past_token x.0 x.1))
   means_first a x h = subst (Leads a) h (leads_at a.place a.text)
 
   pub means_end : (a : At) → first_token a ≡ None → means shows e a ≡ nothing
@@ -162,20 +219,21 @@ literal_shorter : (c : ℕ) (cs : List ℕ) → is_brace c ≡ false
     → length (behind_of (in_class Literal) (c ∷ cs)) < length (c ∷ cs)
 literal_shorter c cs h = rw h (omega (arith, behind_shorter (in_class Literal) cs))
 
--- what stands behind what the scan hands on, and its argument, has fewer characters
+-- what stands behind what the scan hands on, and what stands behind its argument too, has fewer
+-- characters
 abbrev ScanShorter : ℕ → Option (Token × At) → Type 0
 ScanShorter n None = Unit {0}
-ScanShorter n (Some x) = length (past_token x.0 x.1).text < n
+ScanShorter n (Some x) = (length x.1.text < n) × (length (past_token x.0 x.1).text < n)
 
 open_shorter : (n : ℕ) (b : At) (o : Option At) → length b.text < n → OptionWithin (length b.text) o
     → ScanShorter n (Some (open_scan b o))
-open_shorter n b (Some rest) h k = omega (arith, k)
-open_shorter n b None h k = omega (arith, argument_from_within b.place b)
+open_shorter n b (Some rest) h k = let s : length rest.text < n = omega (arith, h, k) in (s, s)
+open_shorter n b None h k = (h, omega (arith, h, argument_from_within b.place b))
 
 close_shorter : (n : ℕ) (b : At) (o : Option At) → length b.text < n
     → OptionWithin (length b.text) o → ScanShorter n (Some (close_scan b o))
-close_shorter n b (Some rest) h k = omega (arith, k)
-close_shorter n b None h k = h
+close_shorter n b (Some rest) h k = let s : length rest.text < n = omega (arith, h, k) in (s, s)
+close_shorter n b None h k = (h, h)
 
 scan_shorter_at : (p : ℕ) (cs : List ℕ)
     → ScanShorter (length cs) (first_token (record { place = p; text = cs }))
@@ -184,15 +242,27 @@ scan_shorter_at p [] = tt
 scan_shorter_at p (c ∷ cs) = by_open (eqb c open_brace) refl
   where
     by_close : (t : Bool) → eqb c open_brace ≡ false → eqb c close_brace ≡ t
-        → ScanShorter (length (c ∷ cs)) (no_open_scan (record { place = p; text = c ∷ cs }) (cond t (Some (past p c cs)) None))
-    by_close true n d = close_shorter (length (c ∷ cs)) (past p c cs) _ (omega arith) (strip_within close_brace (p + len_utf8 c) cs (length cs) (omega arith))
-    by_close false n d = literal_shorter c cs (rw (n, d) refl)
+        → ScanShorter (length (c ∷ cs)) (no_open_scan (record { place = p; text = c ∷ cs })
+        (cond t (Some (past p c cs)) None))
+    by_close true n d =
+        close_shorter (length (c ∷ cs)) (past p c cs) _ (omega arith) (strip_within close_brace
+        (p + len_utf8 c) cs (length cs) (omega arith))
+    by_close false n d = let s = literal_shorter c cs (rw (n, d) refl) in (s, s)
 
     by_open : (t : Bool) → eqb c open_brace ≡ t
-        → ScanShorter (length (c ∷ cs)) (scan_by (record { place = p; text = c ∷ cs }) (cond t (Some (past p c cs)) None))
-    by_open true n = open_shorter (length (c ∷ cs)) (past p c cs) _ (omega arith) (strip_within open_brace (p + len_utf8 c) cs (length cs) (omega arith))
+        → ScanShorter (length (c ∷ cs)) (scan_by (record { place = p; text = c ∷ cs })
+        (cond t (Some (past p c cs)) None))
+    by_open true n =
+        open_shorter (length (c ∷ cs)) (past p c cs) _ (omega arith)
+        (strip_within open_brace (p + len_utf8 c) cs (length cs) (omega arith))
     by_open false n = by_close (eqb c close_brace) n refl
 
 pub scan_shorter : (a rest : At) (x : Token × At) → first_token a ≡ Some x
     → rest ≡ past_token x.0 x.1 → length rest.text < length a.text
-scan_shorter a rest x h r = rw r (subst (ScanShorter (length a.text)) h (scan_shorter_at a.place a.text))
+scan_shorter a rest x h r =
+    rw r (subst (ScanShorter (length a.text)) h (scan_shorter_at a.place a.text)).1
+
+-- what stands behind what the scan hands on has fewer characters
+pub token_shorter : (a : At) (x : Token × At) → first_token a ≡ Some x
+    → length x.1.text < length a.text
+token_shorter a x h = (subst (ScanShorter (length a.text)) h (scan_shorter_at a.place a.text)).0

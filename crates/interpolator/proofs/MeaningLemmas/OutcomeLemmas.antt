@@ -1,26 +1,17 @@
 -- One outcome behind another.
-use Rattle.std.proofs.Common.{◌≡◌, refl, sym, ◌∙◌, ap, subst, ℕ, ◌+◌, List, [], ◌++◌, map, length, Option, None, Some, option_map, inl, inr, append_assoc, append-nil, length-append}
+use Rattle.std.proofs.Common.{◌≡◌, refl, sym, ◌∙◌, ap, subst, ℕ, ◌+◌, List, [], ◌++◌, map, length}
+use Rattle.std.proofs.Common.{Option, None, Some, option_map, inl, inr, append_assoc}
+use Rattle.std.proofs.Common.{length-append}
 use Rattle.std.proofs.lemmas.List.{map-append, length-map}
 use Rattle.std.proofs.Math.ListN.{get_or-map}
 use Rattle.std.proofs.lemmas.List.Elements.{Contains-append_left, Contains-append_right}
 use Rattle.std.specs.List.{Contains}
-use Rattle.interpolator_render.specs.Written.{Written, Appends}
+use Rattle.interpolator_render.proofs.LayoutLemmas.{appends_both}
+use Rattle.interpolator_render.specs.Written.{Written}
 use Rattle.interpolator.specs.Syntax.At.{Placed, text_of}
 use Rattle.interpolator.specs.Faults.{Fault, Answer, fault}
 use Rattle.interpolator.specs.Meaning.Meanings.{Meaning, or_fault, joined}
 use Rattle.interpolator.specs.Meaning.Outcomes.{Finished, Outcome}
-
-pub appends_none : (a : Written) → Appends a [] a
-appends_none a = record { appended = sym (append-nil a.text); same_flag = refl; only_empty = λ _. refl }
-
--- two texts, one after the other
-appends_both : (a b c : Written) (t u : List ℕ) → Appends a t b → Appends b u c
-    → Appends a (t ++ u) c
-appends_both a b c t u p q = record {
-  appended = q.appended ∙ (ap (λ (x : List ℕ). x ++ u) p.appended ∙ append_assoc a.text t u);
-  same_flag = q.same_flag ∙ p.same_flag;
-  only_empty = λ h. let e : t ≡ [] = p.only_empty h in let d : u ≡ [] = q.only_empty (p.same_flag ∙ h) in rw (e, d) refl;
-}
 
 text_of-append : (xs ys : Placed) → text_of (xs ++ ys) ≡ text_of xs ++ text_of ys
 text_of-append xs ys = map-append (λ c. c.0) xs ys
@@ -45,7 +36,11 @@ pub after_finished :
     (m k : Meaning) (old mid new : Written) (answer : Option Answer) → Finished m old mid None
     → Outcome k mid new answer → Outcome (joined m k) old new answer
 after_finished m k old mid new answer h (inl o) = rw (no_fault m.fault h.told)
-    (inl (record { all = rw (text_of-append m.text k.text) (appends_both old mid new _ _ h.all o.all); told = o.told }))
+    (inl (record {
+      all = rw (text_of-append m.text k.text)
+          (appends_both old mid new _ _ h.all o.all);
+      told = o.told;
+    }))
 after_finished m k old mid new answer h (inr (inl o)) = rw (no_fault m.fault h.told)
     (inr (inl (record {
       front = m.text ++ o.front;
@@ -54,11 +49,14 @@ after_finished m k old mid new answer h (inr (inl o)) = rw (no_fault m.fault h.t
       back = o.back;
       split = ap (λ l. m.text ++ l) o.split ∙ sym (append_assoc m.text o.front _);
       appended = o.appended
-          ∙ (ap (λ (x : List ℕ). x ++ text_of o.front) h.all.appended ∙ append_assoc old.text (text_of m.text) (text_of o.front))
+          ∙ (ap (λ (x : List ℕ). x ++ text_of o.front) h.all.appended
+          ∙ append_assoc old.text (text_of m.text) (text_of o.front))
           ∙ ap (λ (x : List ℕ). old.text ++ x) (sym (text_of-append m.text o.front));
       flag = o.flag;
       none_after_refusal = λ r. let e : text_of m.text ≡ [] = h.all.only_empty r in
-          let d : text_of o.front ≡ [] = o.none_after_refusal (h.all.same_flag ∙ r) in text_of-append m.text o.front ∙ rw (e, d) refl;
+          let d : text_of o.front ≡ [] =
+          o.none_after_refusal (h.all.same_flag ∙ r) in text_of-append m.text o.front
+          ∙ rw (e, d) refl;
       told = o.told;
     })))
 after_finished m k old mid new answer h (inr (inr o)) = rw (no_fault m.fault h.told)
@@ -66,7 +64,10 @@ after_finished m k old mid new answer h (inr (inr o)) = rw (no_fault m.fault h.t
       front = m.text ++ o.front;
       back = o.back;
       split = ap (λ l. m.text ++ l) o.split ∙ sym (append_assoc m.text o.front _);
-      point = subst (λ n. Contains (m.memory_points ++ map (λ n. length m.text + n) k.memory_points) n) (sym (length-append m.text o.front)) (Contains-append_right m.memory_points _ _ (Contains-map (λ n. length m.text + n) k.memory_points _ o.point));
+      point =
+          subst (λ n. Contains (m.memory_points ++ map (λ n. length m.text + n) k.memory_points) n)
+          (sym (length-append m.text o.front)) (Contains-append_right m.memory_points _ _
+          (Contains-map (λ n. length m.text + n) k.memory_points _ o.point));
       begun = rw (text_of-append m.text o.front) (appends_both old mid new _ _ h.all o.begun);
       told = o.told;
     })))

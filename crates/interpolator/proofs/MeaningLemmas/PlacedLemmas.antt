@@ -1,11 +1,15 @@
 -- What a writer leaves of a text whose characters have places.
-use Rattle.std.proofs.Common.{◌≡◌, refl, ◌∙◌, ap, ℕ, ◌+◌, ◌<◌, List, [], ◌∷◌, ◌++◌, length, None, Some, inl, inr, arith}
+use Rattle.std.proofs.Common.{◌≡◌, refl, ◌∙◌, ap, ℕ, ◌+◌, ◌<◌, List, [], ◌∷◌, ◌++◌, length, subst}
+use Rattle.std.proofs.Common.{None, Some, inl, inr, arith}
 use Rattle.std.proofs.lemmas.List.{map-append}
 use Rattle.std.specs.Char.{len_utf8}
 use Rattle.std.specs.Prelude.{Ok, Err}
+use Rattle.interpolator_render.specs.declared.view.Spec.{Spec}
 use Rattle.interpolator_render.specs.declared.view.Trait.{Trait}
 use Rattle.interpolator_render.specs.declared.view.RenderFault.TheVariants.{Refused as RefusedFault}
-use Rattle.interpolator_render.specs.Texts.{ViewText, has_text, is_missing, has_failed, Renders}
+use Rattle.interpolator_render.specs.Characters.{cut}
+use Rattle.interpolator_render.specs.Padding.{padded_text, displayed_text}
+use Rattle.interpolator_render.specs.Texts.{ViewText, has_text, has_no_text, has_failed, Renders}
 use Rattle.interpolator_render.specs.Written.{Written, Appends, AppendsBeginning, Refuses}
 use Rattle.interpolator.specs.Syntax.At.{text_of, placed_at, placed_from, size}
 use Rattle.interpolator.specs.Faults.{fault, fmt}
@@ -98,12 +102,27 @@ pub view_wrote :
     (t : Trait) (p : ℕ) (m : ViewText) (old new : Written) (u : Unit {0}) → Renders m old (Ok u) new
     → Outcome (view_means t p m) old new None
 view_wrote t p (has_text cs) old new u h = wrote_at p cs old new h
-view_wrote t p is_missing old new u h = absurd h
+view_wrote t p has_no_text old new u h = absurd h
 view_wrote t p has_failed old new u h = absurd h
 
 pub view_refused :
     (t : Trait) (p : ℕ) (m : ViewText) (old new : Written) → Renders m old (Err RefusedFault) new
     → Outcome (view_means t p m) old new (Some (fault (fmt p)))
 view_refused t p (has_text cs) old new h = refused_at p cs old new h
-view_refused t p is_missing old new h = absurd h
+view_refused t p has_no_text old new h = absurd h
 view_refused t p has_failed old new h = absurd h
+
+-- a padded text was written whole, or refused
+module _ (spec : Spec) (cs : List ℕ) (p : ℕ) (old new : Written) (none : spec.precision
+    ≡ None) where
+  pub pad_wrote : Appends old (displayed_text spec cs) new
+      → Outcome (text_alone (placed_at p (padded_text spec cs))) old new None
+  pad_wrote h =
+      wrote_at p (padded_text spec cs) old new
+      (subst (λ o. Appends old (padded_text spec (cut o cs)) new) none h)
+
+  pub pad_refused : AppendsBeginning old (displayed_text spec cs) new
+      → Outcome (text_alone (placed_at p (padded_text spec cs))) old new (Some (fault (fmt p)))
+  pad_refused h =
+      refused_at p (padded_text spec cs) old new
+      (subst (λ o. AppendsBeginning old (padded_text spec (cut o cs)) new) none h)

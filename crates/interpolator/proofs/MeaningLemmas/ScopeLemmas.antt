@@ -1,5 +1,6 @@
 -- Names that are empty, and those that are not.
-use Rattle.std.proofs.Common.{◌≡◌, refl, sym, ap, ℕ, ◌<◌, List, [], ◌∷◌, length, Option, None, Some, arith}
+use Rattle.std.proofs.Common.{◌≡◌, refl, sym, ap, ℕ, ◌<◌, List, [], ◌∷◌, length, Option, None, Some}
+use Rattle.std.proofs.Common.{arith}
 use Rattle.std.specs.Str.{chars, IsUtf8}
 use Rattle.std.specs.Prelude.{encode_utf8_all}
 use Rattle.std.proofs.lemmas.Str.{chars-nil, encodes-chars}
@@ -28,8 +29,16 @@ module _ {X : Type 0} (finds : List ℕ → Option (Tree X)) where
   -- the inner value, where there is one, is what the empty name means
   pub inner_at : (inner : Option (Bor (Formattable X))) (bs : List ℕ) → length bs ≡ 0
       → MatchOption inner
-      (given (record { finds = finds; inner = option_map (λ item. tree_of item.now) inner; names = None }) (chars bs) ≡ finds (chars bs))
-      (λ item. given (record { finds = finds; inner = option_map (λ item. tree_of item.now) inner; names = None }) (chars bs) ≡ Some (tree_of item.now))
+      (given (record {
+        finds = finds;
+        inner = option_map (λ item. tree_of item.now) inner;
+        names = None;
+      }) (chars bs) ≡ finds (chars bs))
+      (λ item. given (record {
+        finds = finds;
+        inner = option_map (λ item. tree_of item.now) inner;
+        names = None;
+      }) (chars bs) ≡ Some (tree_of item.now))
   inner_at None bs e = refl
   inner_at (Some item) bs e = empty_name bs (tree_of item.now) e
 

@@ -1,5 +1,6 @@
 -- The characters of a text, and its bytes.
-use Rattle.std.proofs.Common.{◌≡◌, ℕ, ◌+◌, List, [], ◌∷◌, ◌++◌, length, arith, refl, ◌<◌, ap, ◌∙◌, sym}
+use Rattle.std.proofs.Common.{◌≡◌, ℕ, ◌+◌, List, [], ◌∷◌, ◌++◌, length, arith, refl, ◌<◌, ap, ◌∙◌}
+use Rattle.std.proofs.Common.{sym}
 use Rattle.std.specs.Str.{chars, IsUtf8}
 use Rattle.std.specs.Char.{encode_utf8, len_utf8}
 use Rattle.std.proofs.lemmas.Str.{chars_past_char, chars-nil, length-encode, len_utf8_bounds}
@@ -40,4 +41,5 @@ pub no_text : (bs : List ℕ) → bs ≡ [] → chars bs ≡ []
 no_text bs e = ap chars e ∙ chars-nil
 
 -- what the first character leaves of a text
-pub ruleset first_character = (chars_of_next, chars_of_end, length_of_next, shorter_after, nil_of_end)
+pub ruleset first_character =
+    (chars_of_next, chars_of_end, length_of_next, shorter_after, nil_of_end)

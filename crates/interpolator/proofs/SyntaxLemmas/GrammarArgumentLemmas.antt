@@ -1,5 +1,6 @@
 -- An argument is its parts, one behind the other, both ways.
-use Rattle.std.proofs.Common.{◌≡◌, ℕ, ◌+◌, IsFalse, List, [], ◌∷◌, ◌++◌, arith, refl, ap, ◌∙◌, sym, subst, Result, Ok, Err, Option, Some, None, inl, inr, eqb, eqb-true}
+use Rattle.std.proofs.Common.{◌≡◌, ℕ, ◌+◌, IsFalse, List, [], ◌∷◌, ◌++◌, arith, refl, ap, ◌∙◌, sym}
+use Rattle.std.proofs.Common.{subst, Result, Ok, Err, Option, Some, None, inl, inr, eqb, eqb-true}
 use Rattle.std.proofs.lemmas.Bool.{not-false, or_cases}
 use Rattle.interpolator.specs.Syntax.At.{At, size, behind, strip}
 use Rattle.interpolator.specs.Syntax.Classes.{front_of, in_class, close_brace, colon}
@@ -10,11 +11,15 @@ use Rattle.interpolator.specs.Faults.{Fault}
 use Rattle.interpolator.specs.Syntax.Grammar.{from_place, NotFirst, IsLongest}
 use Rattle.interpolator.specs.Syntax.GrammarParts.{Lies}
 use Rattle.interpolator.specs.Syntax.SpecGrammar.{spec}
-use Rattle.interpolator.specs.Syntax.ArgumentGrammar.{IsNamed, Asks, AsksNothing, asked, IsArgument, IsNoArgument}
+use Rattle.interpolator.specs.Syntax.ArgumentGrammar.{IsNamed, Asks, AsksNothing, asked, IsArgument}
+use Rattle.interpolator.specs.Syntax.ArgumentGrammar.{IsNoArgument}
 use Rattle.interpolator.specs.declared.syntax.class.Class.TheVariants.{WhiteSpace, Name}
 use Rattle.interpolator.proofs.SyntaxLemmas.FrontLemmas.{front_behind}
-use Rattle.interpolator.proofs.SyntaxLemmas.LongestLemmas.{at_same, front_longest, longest_front, behind_longest}
-use Rattle.interpolator.proofs.SyntaxLemmas.GrammarPartLemmas.{ok_same, err_same, ok_pair, Says, Stripped, stripped, strip_lies, strip_not}
+use Rattle.interpolator.proofs.SyntaxLemmas.LongestLemmas.{at_same, front_longest, longest_front}
+use Rattle.interpolator.proofs.SyntaxLemmas.LongestLemmas.{behind_longest}
+use Rattle.interpolator.proofs.SyntaxLemmas.GrammarPartLemmas.{ok_same, err_same, ok_pair, Says}
+use Rattle.interpolator.proofs.SyntaxLemmas.GrammarPartLemmas.{Stripped, stripped, strip_lies}
+use Rattle.interpolator.proofs.SyntaxLemmas.GrammarPartLemmas.{strip_not}
 use Rattle.interpolator.proofs.SyntaxLemmas.GrammarSpecLemmas.{agrees_spec, only_spec, only_no_spec}
 
 -- ---- the name
@@ -35,7 +40,8 @@ module _ (a : At) where
       record {
         spaces = front_of (in_class WhiteSpace) a.text;
         white =
-            subst (IsLongest (in_class WhiteSpace) a.text (front_of (in_class WhiteSpace) a.text)) whole
+            subst (IsLongest (in_class WhiteSpace) a.text (front_of (in_class WhiteSpace) a.text))
+            whole
             (front_longest (in_class WhiteSpace) a.text);
         named =
             subst (λ cs. IsLongest (in_class Name) cs name_read name_end.text) whole
@@ -57,7 +63,8 @@ name_found a name p b h =
     let ends : behind (in_class Name) w ≡ b =
     behind_longest (in_class Name) w name b.text h.named
     ∙ at_same (omega (arith, h.end_place, h.name_place)) refl in
-    ap (λ (m : At). named_so a.place (front_of (in_class Name) m.text) m.place (behind (in_class Name) m))
+    ap (λ (m : At). named_so a.place (front_of (in_class Name) m.text) m.place
+    (behind (in_class Name) m))
     (behind_longest (in_class WhiteSpace) a h.spaces (name ++ b.text) h.white)
     ∙ ap (λ (cs : List ℕ). named_so a.place cs w.place (behind (in_class Name) w))
     (longest_front (in_class Name) w.text name b.text h.named).0
@@ -93,12 +100,14 @@ module _ (start : ℕ) (b : At) where
       ((c : ℕ) (more : List ℕ) → b.text ≡ c ∷ more → IsFalse (in_class Name c)) → (x y : Option At)
       → Stripped close_brace b x → Stripped colon b y → Told start b (asked_by start b x y)
   asked_told stops (Some q) y h k = inl ((q.text, h.split), refl, refl)
-  asked_told stops None (Some m) h k = spec_told m k (spec_behind start m) ((agrees_spec start).says m)
+  asked_told stops None (Some m) h k =
+      spec_told m k (spec_behind start m) ((agrees_spec start).says m)
   asked_told stops None None h k = inl (name_ends b.text stops h k, refl)
 
   behind_colon : (m : At) → Lies b (colon ∷ []) m → asked_at start b ≡ spec_behind start m
   behind_colon m h =
-      let other : NotFirst close_brace b.text = λ more e. colon_first m.text more (sym h.split ∙ e) in
+      let other : NotFirst close_brace b.text =
+      λ more e. colon_first m.text more (sym h.split ∙ e) in
       ap (λ (o : Option At). asked_by start b o (strip colon b)) (strip_not close_brace b other)
       ∙ ap (asked_by start b None) (strip_lies colon b m h)
     where
@@ -110,7 +119,8 @@ module _ (start : ℕ) (b : At) where
     | inl s ↦
         let closed : Lies b (close_brace ∷ []) (from_place (b.place + 1) s.0.0) =
         record { split = s.0.1; place = omega arith } in
-        ap (λ (o : Option At). asked_by start b o (strip colon b)) (strip_lies close_brace b _ closed)
+        ap (λ (o : Option At). asked_by start b o (strip colon b))
+        (strip_lies close_brace b _ closed)
         ∙ ok_pair (sym s.1) (sym s.2)
     | inr s ↦ behind_colon s.0 s.1 ∙ only_spec start s.0 q x s.2
   ]

@@ -1,13 +1,16 @@
 -- At most one list of pieces is the text, each piece of the first kind that its place allows.
-use Rattle.std.proofs.Common.{◌≡◌, ℕ, ◌+◌, IsTrue, List, [], ◌∷◌, ◌++◌, arith, refl, ap, ◌∙◌, sym, subst, Result, Ok, Err, append_assoc, append-nil}
+use Rattle.std.proofs.Common.{◌≡◌, ℕ, ◌+◌, IsTrue, List, [], ◌∷◌, ◌++◌, arith, refl, ap, ◌∙◌, sym}
+use Rattle.std.proofs.Common.{subst, Result, Ok, Err, append_assoc, append-nil}
 use Rattle.std.specs.List.{flat_map}
 use Rattle.std.proofs.lemmas.List.{append_cancel_right}
 use Rattle.interpolator.specs.Syntax.At.{At, size}
 use Rattle.interpolator.specs.Syntax.Classes.{open_brace, close_brace, is_brace}
 use Rattle.interpolator.specs.Syntax.Arguments.{Argument, argument_at}
 use Rattle.interpolator.specs.Faults.{Fault}
-use Rattle.interpolator.specs.Syntax.Pieces.{PieceKind, Piece, literal, doubled, lone_close, closed, unclosed, broken}
-use Rattle.interpolator.specs.Syntax.Grammar.{rank, from_place, NotFirst, Fits, Stands, StandsFirst, IsPieces}
+use Rattle.interpolator.specs.Syntax.Pieces.{PieceKind, Piece, literal, doubled, lone_close, closed}
+use Rattle.interpolator.specs.Syntax.Pieces.{unclosed, broken}
+use Rattle.interpolator.specs.Syntax.Grammar.{rank, from_place, NotFirst, Fits, Stands, StandsFirst}
+use Rattle.interpolator.specs.Syntax.Grammar.{IsPieces}
 
 -- what a piece of this kind in front of this rest shows of a text that begins with c at p
 abbrev pub Shows : (p c : ℕ) (cs : List ℕ) → PieceKind → (rest : List ℕ) → Type 0
@@ -19,7 +22,8 @@ Shows p c cs (unclosed start x end) rest =
     (left : List ℕ) × (c ≡ open_brace) × (start ≡ p + 1)
     × (argument_at (from_place (p + 1) cs) ≡ Ok (x, from_place end left))
     × (rest ≡ []) × NotFirst close_brace left
-Shows p c cs (broken f) rest = (c ≡ open_brace) × (argument_at (from_place (p + 1) cs) ≡ Err f) × (rest ≡ [])
+Shows p c cs (broken f) rest =
+    (c ≡ open_brace) × (argument_at (from_place (p + 1) cs) ≡ Err f) × (rest ≡ [])
 Shows p c cs lone_close rest = (c ≡ close_brace) × (rest ≡ cs)
 Shows p c cs (literal d) rest = (d ≡ c) × (rest ≡ cs)
 
@@ -40,19 +44,32 @@ shown :
     → Fits p k text rest → Shows p c cs k rest
 shown p c cs (doubled brace) text rest e h =
     let whole = e ∙ ap (λ t. t ++ rest) h.1 in
-    let same = head_same whole in
-    (subst (λ n. IsTrue (is_brace n)) (sym same) h.0, sym same, tail_same whole ∙ ap (λ n. n ∷ rest) (sym same))
+    let same = head_same whole in (
+      subst (λ n. IsTrue (is_brace n)) (sym same) h.0,
+      sym same,
+      tail_same whole
+          ∙ ap (λ n. n ∷ rest) (sym same),
+    )
 shown p c cs (closed start x end) text rest e h =
     let whole = e ∙ ap (λ t. t ++ rest) h.in_braces in
     let inner = tail_same whole ∙ append_assoc h.inner (close_brace ∷ []) rest in
     (head_same whole, h.begins, same_reading p start cs _ h.begins inner ∙ h.reads)
 shown p c cs (unclosed start x end) text rest e h =
     let whole : c ∷ cs ≡ open_brace ∷ (h.inner ++ rest) = e ∙ ap (λ t. t ++ rest) h.in_front in
-    let inner : cs ≡ h.inner = tail_same whole ∙ ap (λ xs. h.inner ++ xs) h.takes_all ∙ append-nil h.inner in
-    (h.left, head_same whole, h.begins, same_reading p start cs h.inner h.begins inner ∙ h.reads, h.takes_all, h.not_closed)
+    let inner : cs ≡ h.inner =
+    tail_same whole ∙ ap (λ xs. h.inner ++ xs) h.takes_all ∙ append-nil h.inner in (
+      h.left,
+      head_same whole,
+      h.begins,
+      same_reading p start cs h.inner h.begins inner
+          ∙ h.reads,
+      h.takes_all,
+      h.not_closed,
+    )
 shown p c cs (broken f) text rest e h =
     let whole : c ∷ cs ≡ open_brace ∷ (h.inner ++ rest) = e ∙ ap (λ t. t ++ rest) h.in_front in
-    let inner : cs ≡ h.inner = tail_same whole ∙ ap (λ xs. h.inner ++ xs) h.takes_all ∙ append-nil h.inner in
+    let inner : cs ≡ h.inner =
+    tail_same whole ∙ ap (λ xs. h.inner ++ xs) h.takes_all ∙ append-nil h.inner in
     (head_same whole, same_reading p (p + 1) cs h.inner refl inner ∙ h.reads, h.takes_all)
 shown p c cs lone_close text rest e h =
     let whole = e ∙ ap (λ t. t ++ rest) h in (head_same whole, sym (tail_same whole))
@@ -85,7 +102,8 @@ same_ok {x} {y} {q} {r} e =
 same_kind :
     (p c : ℕ) (cs : List ℕ) (k l : PieceKind) (r s : List ℕ) → Shows p c cs k r → Shows p c cs l s
     → rank k ≡ rank l → (k ≡ l) × (r ≡ s)
-same_kind p c cs (doubled b) (doubled d) r s h k e = (ap doubled (h.1 ∙ sym k.1), tail_same (sym h.2 ∙ k.2))
+same_kind p c cs (doubled b) (doubled d) r s h k e =
+    (ap doubled (h.1 ∙ sym k.1), tail_same (sym h.2 ∙ k.2))
 same_kind p c cs (closed n x i) (closed m y j) r s h k e =
     let same = same_ok (sym h.2 ∙ k.2) in
     let rest : r ≡ s = tail_same (ap (λ (a : At). a.text) same.1) in
@@ -106,7 +124,8 @@ same_kind p c cs k l r s h j e = absurd (omega arith)
 
 piece_same :
     {p q : ℕ} {cs ds : List ℕ} {k l : PieceKind} → p ≡ q → cs ≡ ds → k ≡ l
-    → ◌≡◌ {A = Piece} (record { place = p; text = cs; kind = k }) (record { place = q; text = ds; kind = l })
+    → ◌≡◌ {A = Piece} (record { place = p; text = cs; kind = k })
+    (record { place = q; text = ds; kind = l })
 piece_same e d h = cc
 
 -- two pieces that stand first in a text that is not empty are one
@@ -139,8 +158,10 @@ pieces_moved {x} {y} {r} {s} p xs e d h =
 -- at most one list is the pieces of a text
 pub one_list : (xs ys : List Piece) (a : At) → IsPieces a xs → IsPieces a ys → xs ≡ ys
 one_list [] [] a h k = refl
-one_list [] (y ∷ ys) a h k = absurd (not_empty a.place y.kind y.text k.0 (sym h ∙ k.1.stands.split) k.1.stands.fits)
-one_list (x ∷ xs) [] a h k = absurd (not_empty a.place x.kind x.text h.0 (sym k ∙ h.1.stands.split) h.1.stands.fits)
+one_list [] (y ∷ ys) a h k =
+    absurd (not_empty a.place y.kind y.text k.0 (sym h ∙ k.1.stands.split) k.1.stands.fits)
+one_list (x ∷ xs) [] a h k =
+    absurd (not_empty a.place x.kind x.text h.0 (sym k ∙ h.1.stands.split) h.1.stands.fits)
 one_list (x ∷ xs) (y ∷ ys) a h k =
     let same = first_same a.place a.text x y h.0 k.0 h.1 k.1 in
     let first : x ≡ y = same.0 in

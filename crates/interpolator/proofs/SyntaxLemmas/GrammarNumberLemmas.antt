@@ -1,15 +1,21 @@
 -- A number is its digits, both ways, and why a text is none.
-use Rattle.std.proofs.Common.{◌≡◌, ℕ, ◌+◌, ◌*◌, ◌-◌, ◌^◌, ◌<◌, ◌≤◌, Bool, true, false, cond, ltb, eqb, IsTrue, IsFalse, List, [], ◌∷◌, ◌++◌, length, arith, refl, ◌≢◌, ap, ◌∙◌, sym, subst, Result, Ok, Err, inl, inr, ◌⊎◌, eqb-true}
+use Rattle.std.proofs.Common.{◌≡◌, ℕ, ◌+◌, ◌*◌, ◌-◌, ◌^◌, ◌<◌, ◌≤◌, Bool, true, false, cond, ltb}
+use Rattle.std.proofs.Common.{eqb, IsTrue, IsFalse, List, [], ◌∷◌, ◌++◌, length, arith, refl, ◌≢◌}
+use Rattle.std.proofs.Common.{ap, ◌∙◌, sym, subst, Result, Ok, Err, inl, inr, ◌⊎◌, eqb-true}
 use Rattle.std.specs.Prelude.{ℤ, pos}
 use Rattle.std.specs.Char.{is_ascii_digit}
-use Rattle.std.proofs.lemmas.Bool.{ltb-true, ltb-false, lt-ltb, le-ltb, eqb-false, ne_eqb, both_ways}
+use Rattle.std.proofs.lemmas.Bool.{ltb-true, ltb-false, lt-ltb, le-ltb, eqb-false, ne_eqb}
+use Rattle.std.proofs.lemmas.Bool.{both_ways}
 use Rattle.std.proofs.lemmas.List.Elements.{All-nil, All-cons, All-head, All-tail}
 use Rattle.std.proofs.Math.Nat.{pow-suc, one-le-pow, le-mul_of_pos_right}
 use Rattle.interpolator.specs.Syntax.Classes.{minus, zero_digit}
-use Rattle.interpolator.specs.Syntax.Numbers.{with_digit, digits_behind, natural, signed, negated, negative, integer}
-use Rattle.interpolator.specs.Syntax.NumberGrammar.{decimal_value, AreDigits, IsNumber, IsStopped, IsNoNumber, IsSigned, IsInteger, IsNoInteger}
+use Rattle.interpolator.specs.Syntax.Numbers.{with_digit, digits_behind, natural, signed, negated}
+use Rattle.interpolator.specs.Syntax.Numbers.{negative, integer}
+use Rattle.interpolator.specs.Syntax.NumberGrammar.{decimal_value, AreDigits, IsNumber, IsStopped}
+use Rattle.interpolator.specs.Syntax.NumberGrammar.{IsNoNumber, IsSigned, IsInteger, IsNoInteger}
 use Rattle.interpolator.specs.declared.error.NumberError.{NumberError}
-use Rattle.interpolator.specs.declared.error.NumberError.TheVariants.{Empty, InvalidDigit, PosOverflow, NegOverflow}
+use Rattle.interpolator.specs.declared.error.NumberError.TheVariants.{Empty, InvalidDigit}
+use Rattle.interpolator.specs.declared.error.NumberError.TheVariants.{PosOverflow, NegOverflow}
 
 err_ok : {A B : Type 0} {d : B} {x : A} → ◌≡◌ {A = Result A B} (Err d) (Ok x) → ⊥
 err_ok e = cc
@@ -63,8 +69,12 @@ module _ (limit : ℕ) (overflow : NumberError) where
           → AreDigits cs × (m ≡ value_from (with_digit n c) cs) × (m < limit))
           → AreDigits (c ∷ cs) × (m ≡ value_from n (c ∷ cs)) × (m < limit)
       by_test true true d l k more =
-          let h = more (ltb-true _ _ l) k in
-          (All-cons (λ c. IsTrue (is_ascii_digit c)) c cs d h.0, h.1 ∙ sym (value_digit n c cs), h.2)
+          let h = more (ltb-true _ _ l) k in (
+            All-cons (λ c. IsTrue (is_ascii_digit c)) c cs d h.0,
+            h.1
+                ∙ sym (value_digit n c cs),
+            h.2,
+          )
       by_test true false d l k more = absurd (err_ok k)
       by_test false t d l k more = absurd (err_ok k)
 
@@ -139,7 +149,8 @@ module _ (limit : ℕ) (overflow : NumberError) where
 
       by_test :
           (b t : Bool) → is_ascii_digit c ≡ b → ltb (with_digit n c) limit ≡ t
-          → cond b (cond t (read_from (with_digit n c) cs) (Err overflow)) (Err InvalidDigit) ≡ Err kind
+          → cond b (cond t (read_from (with_digit n c) cs) (Err overflow)) (Err InvalidDigit)
+          ≡ Err kind
           → (with_digit n c < limit → read_from (with_digit n c) cs ≡ Err kind
           → IsStoppedFrom (with_digit n c) cs kind)
           → IsStoppedFrom n (c ∷ cs) kind
@@ -159,7 +170,8 @@ module _ (limit : ℕ) (overflow : NumberError) where
           let past : limit ≤ value_from n (c ∷ []) =
           omega (arith, ltb-false _ _ l, value_digit n c [], value_none (with_digit n c)) in
           at_once (inr (d, past, sym same))
-      by_test false t d l k more = let same : InvalidDigit ≡ kind = cc in at_once (inl (d, sym same))
+      by_test false t d l k more =
+          let same : InvalidDigit ≡ kind = cc in at_once (inl (d, sym same))
 
   only_stopped :
       (n : ℕ) (front rest : List ℕ) (c : ℕ) (kind : NumberError) → AreDigits front
@@ -280,7 +292,8 @@ abbrev from_zero : ℕ → List ℕ → Result ℕ NumberError
 from_zero c cs = digits_behind (2 ^ 63) PosOverflow 0 (c ∷ cs)
 
 sign_first : (c d : ℕ) (ds : List ℕ) → eqb c minus ≡ true → IsSigned (c ∷ d ∷ ds) (d ∷ ds)
-sign_first c d ds t = record { split = ap (λ n. n ∷ d ∷ ds) (eqb-true c minus t); not_empty = λ e. cc }
+sign_first c d ds t =
+    record { split = ap (λ n. n ∷ d ∷ ds) (eqb-true c minus t); not_empty = λ e. cc }
 
 negative_is :
     (c : ℕ) (cs : List ℕ) (z : ℤ) → eqb c minus ≡ true → negative cs ≡ Ok z

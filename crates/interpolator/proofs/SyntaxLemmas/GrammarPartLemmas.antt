@@ -1,15 +1,21 @@
 -- Readers that agree with parts of a text, and how they are chained.
-use Rattle.std.proofs.Common.{◌≡◌, ◌≢◌, ℕ, ◌+◌, Bool, true, false, cond, eqb, List, [], ◌∷◌, arith, rules, refl, ap, ◌∙◌, sym, subst, Result, Ok, Err, Option, Some, None, inl, inr, eqb-true}
+use Rattle.std.proofs.Common.{◌≡◌, ◌≢◌, ℕ, ◌+◌, Bool, true, false, cond, eqb, List, [], ◌∷◌, arith}
+use Rattle.std.proofs.Common.{rules, refl, ap, ◌∙◌, sym, subst, Result, Ok, Err, Option, Some, None}
+use Rattle.std.proofs.Common.{inl, inr, eqb-true}
 use Rattle.std.specs.Char.{len_utf8}
 use Rattle.std.proofs.lemmas.Bool.{eqb-false, ne_eqb}
 use Rattle.interpolator.specs.Syntax.At.{At, size, first, first_of, strip, strip_of, behind}
 use Rattle.interpolator.specs.Syntax.Classes.{front_of, in_class}
-use Rattle.interpolator.specs.Syntax.Readers.{Reader, on, ◌>>=◌ as ◌>>>◌, give, read_or_stay, letter_first, letter as read_letter, was_there, flag as read_flag, run_before, run as read_run}
+use Rattle.interpolator.specs.Syntax.Readers.{Reader, on, ◌>>=◌ as ◌>>>◌, give, read_or_stay}
+use Rattle.interpolator.specs.Syntax.Readers.{letter_first, letter as read_letter, was_there}
+use Rattle.interpolator.specs.Syntax.Readers.{flag as read_flag, run_before, run as read_run}
 use Rattle.interpolator.specs.Syntax.Grammar.{from_place, NotFirst}
-use Rattle.interpolator.specs.Syntax.GrammarParts.{Part, ◌>>=◌, ends, placed, Lies, NoLetter, letter, flag, IsRun, run}
+use Rattle.interpolator.specs.Syntax.GrammarParts.{Part, ◌>>=◌, ends, placed, Lies, NoLetter}
+use Rattle.interpolator.specs.Syntax.GrammarParts.{letter, flag, IsRun, run}
 use Rattle.interpolator.specs.Faults.{Fault}
 use Rattle.interpolator.specs.declared.syntax.class.Class.{Class}
-use Rattle.interpolator.proofs.SyntaxLemmas.LongestLemmas.{at_same, front_longest, longest_front, behind_longest}
+use Rattle.interpolator.proofs.SyntaxLemmas.LongestLemmas.{at_same, front_longest, longest_front}
+use Rattle.interpolator.proofs.SyntaxLemmas.LongestLemmas.{behind_longest}
 
 pub err_ok : {A B : Type 0} {d : B} {x : A} → ◌≡◌ {A = Result A B} (Err d) (Ok x) → ⊥
 err_ok e = cc
@@ -100,7 +106,8 @@ lies_here p c cs = record { split = refl; place = omega arith }
 pub lies_cons :
     (p c : ℕ) (cs ds : List ℕ) (q : At) → Lies (from_place (p + len_utf8 c) cs) ds q
     → Lies (from_place p (c ∷ cs)) (c ∷ ds) q
-lies_cons p c cs ds q h = record { split = ap (λ xs. c ∷ xs) h.split; place = omega (arith, h.place) }
+lies_cons p c cs ds q h =
+    record { split = ap (λ xs. c ∷ xs) h.split; place = omega (arith, h.place) }
 
 -- what stands behind characters at a
 pub lies_end : (a : At) (cs : List ℕ) (q : At) → Lies a cs q
@@ -176,7 +183,8 @@ module _ {A : Type 0} (table : ℕ → Option A) (absent : A) where
       → read_letter table absent (from_place p cs) ≡ Ok (absent, from_place p cs)
   no_letter p [] h = refl
   no_letter p (c ∷ cs) h =
-      ap (read_or_stay absent (from_place p (c ∷ cs)) (from_place (p + len_utf8 c) cs)) (h c (cs, refl))
+      ap (read_or_stay absent (from_place p (c ∷ cs)) (from_place (p + len_utf8 c) cs))
+      (h c (cs, refl))
 
   pub agrees_letter : Agrees (read_letter table absent) (letter table absent)
   agrees_letter = record {
@@ -240,7 +248,8 @@ agrees_run class start = record {
       let read = run_before start (front_of (in_class class) a.text) in
       ap (λ (b : At). read b b.text) (run_end class a cs q t.0)
       ∙ more_behind start _ q.place q.text t.1
-      ∙ ap (λ (xs : List ℕ). Ok (xs, q)) (longest_front (in_class class) a.text cs q.text t.0.longest).0;
+      ∙ ap (λ (xs : List ℕ). Ok (xs, q))
+      (longest_front (in_class class) a.text cs q.text t.0.longest).0;
   only_not = λ a f t.
       let read = run_before start (front_of (in_class class) a.text) in
       ap (λ (b : At). read b b.text) (run_end class a t.0 t.1 t.2)

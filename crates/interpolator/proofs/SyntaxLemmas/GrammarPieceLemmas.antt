@@ -1,5 +1,8 @@
 -- The pieces that the reader finds are each of the first kind that its place allows.
-use Rattle.std.proofs.Common.{◌≡◌, ◌≢◌, ◌⊎◌, inl, inr, ℕ, zero, suc, ◌+◌, ◌-◌, ◌≤◌, IsTrue, Bool, true, false, cond, eqb, List, [], ◌∷◌, ◌++◌, length, take, arith, refl, ap, ◌∙◌, sym, subst, Result, Ok, Err, Option, Some, None, append_assoc, append-nil, length-append, eqb-true}
+use Rattle.std.proofs.Common.{◌≡◌, ◌≢◌, ◌⊎◌, inl, inr, ℕ, zero, suc, ◌+◌, ◌-◌, ◌≤◌, IsTrue, Bool}
+use Rattle.std.proofs.Common.{true, false, cond, eqb, List, [], ◌∷◌, ◌++◌, length, take, arith}
+use Rattle.std.proofs.Common.{refl, ap, ◌∙◌, sym, subst, Result, Ok, Err, Option, Some, None}
+use Rattle.std.proofs.Common.{append_assoc, append-nil, length-append, eqb-true}
 use Rattle.std.specs.Prelude.{◌||◌}
 use Rattle.std.specs.Char.{len_utf8}
 use Rattle.std.proofs.lemmas.Bool.{eqb-false}
@@ -8,8 +11,12 @@ use Rattle.interpolator.specs.Syntax.At.{At, size, strip, strip_of}
 use Rattle.interpolator.specs.Syntax.Classes.{open_brace, close_brace, is_brace}
 use Rattle.interpolator.specs.Syntax.Arguments.{Argument, argument_at}
 use Rattle.interpolator.specs.Faults.{Fault}
-use Rattle.interpolator.specs.Syntax.Pieces.{PieceKind, Step, literal, doubled, lone_close, closed, unclosed, broken, step, argument_step, argument_or_broken, argument_from, open_step, close_step, piece_from, past, pieces}
-use Rattle.interpolator.specs.Syntax.Grammar.{rank, from_place, NotFirst, Fits, StandsFirst, IsPieces}
+use Rattle.interpolator.specs.Syntax.Pieces.{PieceKind, Step, literal, doubled, lone_close, closed}
+use Rattle.interpolator.specs.Syntax.Pieces.{unclosed, broken, step, argument_step}
+use Rattle.interpolator.specs.Syntax.Pieces.{argument_or_broken, argument_from, open_step}
+use Rattle.interpolator.specs.Syntax.Pieces.{close_step, piece_from, past, pieces}
+use Rattle.interpolator.specs.Syntax.Grammar.{rank, from_place, NotFirst, Fits, StandsFirst}
+use Rattle.interpolator.specs.Syntax.Grammar.{IsPieces}
 use Rattle.interpolator.proofs.SyntaxLemmas.PieceLemmas.{piece_within, pieces_none, pieces_next}
 use Rattle.interpolator.proofs.SyntaxLemmas.TestLemmas.{none_some, passed, err_ok}
 use Rattle.interpolator.proofs.SyntaxLemmas.GrammarLemmas.{Shows, stands_shown, same_ok}
@@ -71,7 +78,8 @@ brace_is c h = elim (one_of (eqb c open_brace) (eqb c close_brace) h) [
 literal_first :
     (p c : ℕ) (cs : List ℕ) → c ≢ open_brace → c ≢ close_brace → (k : PieceKind) (r : List ℕ)
     → Shows p c cs k r → 4 ≤ rank k
-literal_first p c cs no_open no_close (doubled brace) r h = absurd (elim (brace_is c h.0) [ inl e ↦ no_open e | inr e ↦ no_close e ])
+literal_first p c cs no_open no_close (doubled brace) r h =
+    absurd (elim (brace_is c h.0) [ inl e ↦ no_open e | inr e ↦ no_close e ])
 literal_first p c cs no_open no_close (closed start x end) r h = absurd (no_open h.0)
 literal_first p c cs no_open no_close (unclosed start x end) r h = absurd (no_open h.1)
 literal_first p c cs no_open no_close (broken f) r h = absurd (no_open h.0)
@@ -111,7 +119,8 @@ NotClosed b = (x : Argument) (end : ℕ) (more : List ℕ)
 ends_elsewhere :
     (b : At) (x : Argument) (q : At) → argument_at b ≡ Ok (x, q) → NotFirst close_brace q.text
     → NotClosed b
-ends_elsewhere b x q reads no_close y end more h = no_close more (ap (λ (a : At). a.text) (same_ok (sym reads ∙ h)).1)
+ends_elsewhere b x q reads no_close y end more h =
+    no_close more (ap (λ (a : At). a.text) (same_ok (sym reads ∙ h)).1)
 
 -- what is not closed takes all the rest
 unclosed_first :
@@ -161,7 +170,8 @@ close_first p cs (Some rest) e =
 cut_front : (cs front rest : List ℕ) → cs ≡ front ++ rest
     → take (length cs - length rest) cs ≡ front
 cut_front cs front rest e =
-    let n : length cs - length rest ≡ length front = omega (arith, ap length e, length-append front rest) in
+    let n : length cs - length rest ≡ length front =
+    omega (arith, ap length e, length-append front rest) in
     ap (λ k. take k cs) n ∙ ap (λ xs. take (length front) xs) e ∙ take-append_seam front rest
 
 -- an argument that ends at q
@@ -192,9 +202,11 @@ argument_step_first p cs x q (Some rest) no_more reads e =
     let front = argument_takes b x q reads in
     let close = strip_behind close_brace q.place q.text rest e in
     let inner = front.front in
-    let whole : cs ≡ inner ++ (close_brace ∷ rest.text) = front.split ∙ ap (λ xs. inner ++ xs) close.0 in
+    let whole : cs ≡ inner ++ (close_brace ∷ rest.text) =
+    front.split ∙ ap (λ xs. inner ++ xs) close.0 in
     let closed_inner = inner ++ (close_brace ∷ []) in
-    let parts : cs ≡ closed_inner ++ rest.text = whole ∙ sym (append_assoc inner (close_brace ∷ []) rest.text) in
+    let parts : cs ≡ closed_inner ++ rest.text =
+    whole ∙ sym (append_assoc inner (close_brace ∷ []) rest.text) in
     let all_parts = ap (λ xs. open_brace ∷ xs) parts in
     let text = cut_front (open_brace ∷ cs) (open_brace ∷ closed_inner) rest.text all_parts in
     record {
@@ -210,14 +222,16 @@ argument_step_first p cs x q (Some rest) no_more reads e =
             ∙ ap (λ xs. Ok (x, from_place q.place xs)) close.0;
       };
       first = closed_first p cs no_more;
-      goes_on = omega (arith, ap size text, size-append inner (close_brace ∷ []), close.1, front.place);
+      goes_on =
+          omega (arith, ap size text, size-append inner (close_brace ∷ []), close.1, front.place);
     }
 
 argument_first :
     (p : ℕ) (cs : List ℕ) (o : Result (Argument × At) Fault) → NotFirst open_brace cs
     → argument_at (from_place (p + 1) cs) ≡ o
     → IsFirstStep p open_brace cs (argument_or_broken p (from_place (p + 1) cs) o)
-argument_first p cs (Ok w) no_more reads = argument_step_first p cs w.0 w.1 (strip close_brace w.1) no_more reads refl
+argument_first p cs (Ok w) no_more reads =
+    argument_step_first p cs w.0 w.1 (strip close_brace w.1) no_more reads refl
 argument_first p cs (Err f) no_more reads = record {
   begins = refl;
   split = sym (append-nil (open_brace ∷ cs));
@@ -231,7 +245,8 @@ open_first :
     → IsFirstStep p open_brace cs (open_step p (past p open_brace cs) o)
 unfolding argument_from
 open_first p cs None e =
-    argument_first p cs (argument_at (from_place (p + 1) cs)) (strip_none open_brace (p + 1) cs e) refl
+    argument_first p cs (argument_at (from_place (p + 1) cs)) (strip_none open_brace (p + 1) cs e)
+    refl
 open_first p cs (Some rest) e =
     let behind = strip_behind open_brace (p + 1) cs rest e in
     record {
@@ -254,10 +269,13 @@ step_first p c cs =
     let opens = λ (n : ℕ). open_step p (past p n cs) (strip open_brace (past p n cs)) in
     let closes = λ (n : ℕ). close_step p (past p n cs) (strip close_brace (past p n cs)) in
     in_each (IsFirstStep p c cs) (eqb c open_brace) _ _
-    (λ e. subst (λ n. IsFirstStep p n cs (opens n)) (sym (eqb-true c open_brace e)) (open_first p cs _ refl))
+    (λ e. subst (λ n. IsFirstStep p n cs (opens n)) (sym (eqb-true c open_brace e))
+    (open_first p cs _ refl))
     (λ no_open. in_each (IsFirstStep p c cs) (eqb c close_brace) _ _
-    (λ e. subst (λ n. IsFirstStep p n cs (closes n)) (sym (eqb-true c close_brace e)) (close_first p cs _ refl))
-    (λ no_close. literal_step p c cs (eqb-false c open_brace no_open) (eqb-false c close_brace no_close)))
+    (λ e. subst (λ n. IsFirstStep p n cs (closes n)) (sym (eqb-true c close_brace e))
+    (close_first p cs _ refl))
+    (λ no_close. literal_step p c cs (eqb-false c open_brace no_open)
+    (eqb-false c close_brace no_close)))
 
 are_pieces :
     (most p : ℕ) (cs : List ℕ) → length cs ≤ most
@@ -269,9 +287,21 @@ are_pieces (suc most) p (c ∷ cs) h =
     let first = step_first p c cs in
     let shorter = piece_within p c (past p c cs) in
     let more = are_pieces most s.rest.place s.rest.text (omega arith) in
-    let there = subst (λ q. IsPieces (from_place q s.rest.text) (pieces s.rest)) first.goes_on more in
-    subst (IsPieces (from_place p (c ∷ cs))) (sym (pieces_next p c cs)) (s.rest.text, stands_first p c cs s first, there)
+    let there =
+    subst (λ q. IsPieces (from_place q s.rest.text) (pieces s.rest)) first.goes_on more in
+    subst (IsPieces (from_place p (c ∷ cs))) (sym (pieces_next p c cs))
+    (s.rest.text, stands_first p c cs s first, there)
 
 -- the pieces that the reader finds are pieces of the text
 pub pieces_are : (a : At) → IsPieces a (pieces a)
 pieces_are a = are_pieces (length a.text) a.place a.text (omega arith)
+
+-- what stands behind the first piece ends where the text ends
+pub step_reaches :
+    (p c : ℕ) (cs : List ℕ)
+    → (piece_from p c (past p c cs)).rest.place + size (piece_from p c (past p c cs)).rest.text
+    ≡ p + size (c ∷ cs)
+step_reaches p c cs =
+    let first = step_first p c cs in
+    let s = piece_from p c (past p c cs) in
+    omega (arith, first.goes_on, ap size first.split, size-append s.piece.text s.rest.text)

@@ -1,5 +1,7 @@
 -- Where a group closes.
-use Rattle.std.proofs.Common.{◌≡◌, ℕ, zero, suc, ◌+◌, ◌-◌, ◌<◌, ◌≤◌, Bool, true, false, cond, eqb, not, ◌||◌, IsFalse, List, [], ◌∷◌, ◌++◌, length, take, arith, refl, ap, ◌∙◌, sym, subst, Option, Some, None, append_assoc}
+use Rattle.std.proofs.Common.{◌≡◌, ℕ, suc, ◌+◌, ◌-◌, ◌<◌, ◌≤◌, Bool, true, false, cond, eqb}
+use Rattle.std.proofs.Common.{not, ◌||◌, IsFalse, List, [], ◌∷◌, ◌++◌, length, take, arith, refl}
+use Rattle.std.proofs.Common.{ap, ◌∙◌, sym, subst, Option, Some, None, append_assoc}
 use Rattle.std.proofs.lemmas.List.{append-nil, append_cancel_right, length-append}
 use Rattle.std.proofs.lemmas.Bool.{eqb-true}
 use Rattle.std.proofs.lemmas.Str.{encodes-chars, encodes-append, IsUtf8-take, chars-append}
@@ -8,10 +10,12 @@ use Rattle.std.specs.Char.{len_utf8}
 use Rattle.std.specs.Str.{chars, IsUtf8, encode_utf8_all}
 use Rattle.interpolator.specs.Syntax.At.{At, size, strip, strip_of, behind}
 use Rattle.interpolator.specs.Syntax.Classes.{front_of, behind_of, in_class, hash, close_bracket}
-use Rattle.interpolator.specs.Syntax.Groups.{behind_signs, here_or_later, close_from, with_behind, next_close}
+use Rattle.interpolator.specs.Syntax.Groups.{behind_signs, here_or_later, close_from, with_behind}
+use Rattle.interpolator.specs.Syntax.Groups.{next_close}
 use Rattle.interpolator.specs.declared.syntax.class.Class.TheVariants.{Sign, Enclosed}
 use Rattle.interpolator.proofs.SyntaxLemmas.CharacterLemmas.{size-chars}
-use Rattle.interpolator.proofs.SyntaxLemmas.FrontLemmas.{IsRest, front_behind, rest_boundary, cut_at_rest}
+use Rattle.interpolator.proofs.SyntaxLemmas.FrontLemmas.{IsRest, front_behind, rest_boundary}
+use Rattle.interpolator.proofs.SyntaxLemmas.FrontLemmas.{cut_at_rest}
 use Rattle.interpolator.specs.Syntax.Grammar.{IsLongest}
 use Rattle.interpolator.proofs.SyntaxLemmas.LongestLemmas.{front_longest}
 use Rattle.interpolator.proofs.SyntaxLemmas.TestLemmas.{none_some, some_same, passed}
@@ -19,7 +23,8 @@ use Rattle.interpolator.proofs.SyntaxLemmas.TestLemmas.{none_some, some_same, pa
 -- ---- signs
 
 -- behind a sign one less is wanted
-pub signs_next : (k p : ℕ) (cs : List ℕ) (q : At) → strip_of hash p cs ≡ Some q → behind_signs (suc k) p cs ≡ behind_signs k q.place q.text
+pub signs_next : (k p : ℕ) (cs : List ℕ) (q : At) → strip_of hash p cs ≡ Some q
+    → behind_signs (suc k) p cs ≡ behind_signs k q.place q.text
 signs_next k p [] q e = absurd (none_some e)
 signs_next k p (c ∷ cs) q e =
     let t = passed (eqb c hash) _ q e in
@@ -27,11 +32,14 @@ signs_next k p (c ∷ cs) q e =
     ∙ ap (λ (a : At). behind_signs k a.place a.text) t.1
 
 -- where no sign stands, none is left to skip
-pub signs_none : (k p : ℕ) (cs : List ℕ) → strip_of hash p cs ≡ None → behind_signs (suc k) p cs ≡ None
+pub signs_none : (k p : ℕ) (cs : List ℕ) → strip_of hash p cs ≡ None → behind_signs (suc k) p cs
+    ≡ None
 signs_none k p [] e = refl
 signs_none k p (c ∷ cs) e = by_test (eqb c hash) e
   where
-    by_test : (b : Bool) → cond {A = Option At} b (Some (record { place = p + len_utf8 c; text = cs })) None ≡ None → cond b (behind_signs k (p + len_utf8 c) cs) None ≡ None
+    by_test : (b : Bool)
+        → cond {A = Option At} b (Some (record { place = p + len_utf8 c; text = cs })) None ≡ None
+        → cond b (behind_signs k (p + len_utf8 c) cs) None ≡ None
     by_test true e = absurd (none_some (sym e))
     by_test false e = refl
 
@@ -39,17 +47,22 @@ pub one_less : (n i : ℕ) → i < n → n - i ≡ suc (n - (i + 1))
 one_less n i h = omega arith
 
 -- a sign is one byte
-pub signs_size : (cs : List ℕ) → size (front_of (in_class Sign) cs) ≡ length (front_of (in_class Sign) cs)
+pub signs_size : (cs : List ℕ) → size (front_of (in_class Sign) cs)
+    ≡ length (front_of (in_class Sign) cs)
 signs_size [] = refl
 signs_size (c ∷ cs) = by_test (eqb c hash) (eqb-true c hash) (signs_size cs)
   where
-    by_test : (b : Bool) → (b ≡ true → c ≡ hash) → size (front_of (in_class Sign) cs) ≡ length (front_of (in_class Sign) cs)
-        → size (cond b (c ∷ front_of (in_class Sign) cs) []) ≡ length (cond b (c ∷ front_of (in_class Sign) cs) [])
-    by_test true e h = ap (λ n. len_utf8 n + size (front_of (in_class Sign) cs)) (e refl) ∙ omega arith
+    by_test : (b : Bool) → (b ≡ true → c ≡ hash) → size (front_of (in_class Sign) cs)
+        ≡ length (front_of (in_class Sign) cs)
+        → size (cond b (c ∷ front_of (in_class Sign) cs) [])
+        ≡ length (cond b (c ∷ front_of (in_class Sign) cs) [])
+    by_test true e h =
+        ap (λ n. len_utf8 n + size (front_of (in_class Sign) cs)) (e refl) ∙ omega arith
     by_test false e h = refl
 
 -- so the bytes of the signs are their count
-pub signs_bytes : (bs cs : List ℕ) → IsUtf8 bs → chars bs ≡ front_of (in_class Sign) cs → length bs ≡ length (front_of (in_class Sign) cs)
+pub signs_bytes : (bs cs : List ℕ) → IsUtf8 bs → chars bs ≡ front_of (in_class Sign) cs → length bs
+    ≡ length (front_of (in_class Sign) cs)
 signs_bytes bs cs u e = sym (size-chars bs u) ∙ ap size e ∙ signs_size cs
 
 -- ---- the closing bracket
@@ -62,11 +75,13 @@ front_none : (o : Option (List ℕ × At)) → behind_front [] o ≡ o
 front_none None = refl
 front_none (Some w) = refl
 
-one_more : (front : List ℕ) (c : ℕ) (o : Option (List ℕ × At)) → behind_front front (here_or_later c None o) ≡ behind_front (front ++ (c ∷ [])) o
+one_more : (front : List ℕ) (c : ℕ) (o : Option (List ℕ × At))
+    → behind_front front (here_or_later c None o) ≡ behind_front (front ++ (c ∷ [])) o
 one_more front c None = refl
 one_more front c (Some w) = ap (λ xs. Some (xs, w.1)) (sym (append_assoc front (c ∷ []) w.0))
 
-front_then : (xs ys : List ℕ) (o : Option (List ℕ × At)) → behind_front xs (behind_front ys o) ≡ behind_front (xs ++ ys) o
+front_then : (xs ys : List ℕ) (o : Option (List ℕ × At)) → behind_front xs (behind_front ys o)
+    ≡ behind_front (xs ++ ys) o
 front_then xs ys None = refl
 front_then xs ys (Some w) = ap (λ zs. Some (zs, w.1)) (sym (append_assoc xs ys w.0))
 
@@ -74,32 +89,46 @@ abbrev enclosed : List ℕ → List ℕ
 enclosed cs = front_of (in_class Enclosed) cs
 
 -- a text in whose front no bracket stands closes where it closes behind that
-pub close_past : (k p : ℕ) (cs : List ℕ) → close_from k p cs ≡ behind_front (enclosed cs) (close_from k (p + size (enclosed cs)) (behind_of (in_class Enclosed) cs))
+pub close_past : (k p : ℕ) (cs : List ℕ) → close_from k p cs
+    ≡ behind_front (enclosed cs) (close_from k (p + size (enclosed cs))
+    (behind_of (in_class Enclosed) cs))
 close_past k p [] = refl
 close_past k p (c ∷ cs) = by_test (eqb c close_bracket) refl (close_past k (p + len_utf8 c) cs)
   where
     by_test :
         (b : Bool) → eqb c close_bracket ≡ b
-        → close_from k (p + len_utf8 c) cs ≡ behind_front (enclosed cs) (close_from k (p + len_utf8 c + size (enclosed cs)) (behind_of (in_class Enclosed) cs))
+        → close_from k (p + len_utf8 c) cs
+        ≡ behind_front (enclosed cs) (close_from k (p + len_utf8 c + size (enclosed cs))
+        (behind_of (in_class Enclosed) cs))
         → close_from k p (c ∷ cs)
-        ≡ behind_front (cond (not (b || b)) (c ∷ enclosed cs) []) (close_from k (p + size (cond (not (b || b)) (c ∷ enclosed cs) [])) (cond (not (b || b)) (behind_of (in_class Enclosed) cs) (c ∷ cs)))
+        ≡ behind_front (cond (not (b || b)) (c ∷ enclosed cs) [])
+        (close_from k (p + size (cond (not (b || b)) (c ∷ enclosed cs) []))
+        (cond (not (b || b)) (behind_of (in_class Enclosed) cs) (c ∷ cs)))
     by_test true e h =
         let same : p ≡ p + 0 = omega arith in
-        sym (front_none (close_from k p (c ∷ cs))) ∙ ap (λ n. behind_front [] (close_from k n (c ∷ cs))) same
+        sym (front_none (close_from k p (c ∷ cs)))
+        ∙ ap (λ n. behind_front [] (close_from k n (c ∷ cs))) same
     by_test false e h =
-        let same : p + len_utf8 c + size (enclosed cs) ≡ p + (len_utf8 c + size (enclosed cs)) = omega arith in
-        ap (λ t. here_or_later c (cond t (behind_signs k (p + len_utf8 c) cs) None) (close_from k (p + len_utf8 c) cs)) e
+        let same : p + len_utf8 c + size (enclosed cs) ≡ p + (len_utf8 c + size (enclosed cs)) =
+        omega arith in
+        ap (λ t. here_or_later c (cond t (behind_signs k (p + len_utf8 c) cs) None)
+        (close_from k (p + len_utf8 c) cs)) e
         ∙ ap (behind_front (c ∷ [])) h
-        ∙ front_then (c ∷ []) (enclosed cs) (close_from k (p + len_utf8 c + size (enclosed cs)) (behind_of (in_class Enclosed) cs))
-        ∙ ap (λ n. behind_front (c ∷ enclosed cs) (close_from k n (behind_of (in_class Enclosed) cs))) same
+        ∙ front_then (c ∷ []) (enclosed cs) (close_from k (p + len_utf8 c + size (enclosed cs))
+        (behind_of (in_class Enclosed) cs))
+        ∙ ap (λ n. behind_front (c ∷ enclosed cs)
+        (close_from k n (behind_of (in_class Enclosed) cs))) same
 
 -- where no bracket stands, nothing closes
-none_behind : (k p q : ℕ) (cs rest : List ℕ) → IsLongest (in_class Enclosed) cs (enclosed cs) rest → strip_of close_bracket q rest ≡ None → close_from k p rest ≡ None
+none_behind : (k p q : ℕ) (cs rest : List ℕ) → IsLongest (in_class Enclosed) cs (enclosed cs) rest
+    → strip_of close_bracket q rest ≡ None → close_from k p rest ≡ None
 none_behind k p q cs [] h e = refl
 none_behind k p q cs (d ∷ ds) h e = by_test (eqb d close_bracket) (h.stops d ds refl) e
   where
     by_test :
-        (b : Bool) → IsFalse (not (b || b)) → cond {A = Option At} b (Some (record { place = q + len_utf8 d; text = ds })) None ≡ None
+        (b : Bool) → IsFalse (not (b || b))
+        → cond {A = Option At} b (Some (record { place = q + len_utf8 d; text = ds })) None
+        ≡ None
         → close_from k p (d ∷ ds) ≡ None
     by_test true f n = absurd (none_some (sym n))
     by_test false f n = let bad : true ≡ false = f in cc
@@ -108,8 +137,10 @@ pub close_none : (k : ℕ) (a : At) → next_close a ≡ None → close_from k a
 close_none k a e =
     close_past k a.place a.text
     ∙ ap (behind_front (enclosed a.text))
-    (none_behind k (a.place + size (enclosed a.text)) (a.place + size (enclosed a.text)) a.text (behind_of (in_class Enclosed) a.text)
-    (front_longest (in_class Enclosed) a.text) (no_pair (behind (in_class Enclosed) a) (strip close_bracket (behind (in_class Enclosed) a)) e))
+    (none_behind k (a.place + size (enclosed a.text)) (a.place + size (enclosed a.text)) a.text
+    (behind_of (in_class Enclosed) a.text)
+    (front_longest (in_class Enclosed) a.text) (no_pair (behind (in_class Enclosed) a)
+    (strip close_bracket (behind (in_class Enclosed) a)) e))
   where
     no_pair : (b : At) (o : Option At) → with_behind b o ≡ None → o ≡ None
     no_pair b None h = refl
@@ -118,18 +149,23 @@ close_none k a e =
 -- a bracket at b, behind which r stands
 pub record Bracket (b r : At) : Type 0 where
   pub text : b.text ≡ close_bracket ∷ r.text
-  pub closes : (k : ℕ) → close_from k b.place b.text ≡ here_or_later close_bracket (behind_signs k r.place r.text) (close_from k r.place r.text)
+  pub closes : (k : ℕ) → close_from k b.place b.text
+      ≡ here_or_later close_bracket (behind_signs k r.place r.text) (close_from k r.place r.text)
 
-bracket_here : (p : ℕ) (cs : List ℕ) (r : At) → strip_of close_bracket p cs ≡ Some r → Bracket (record { place = p; text = cs }) r
+bracket_here : (p : ℕ) (cs : List ℕ) (r : At) → strip_of close_bracket p cs ≡ Some r
+    → Bracket (record { place = p; text = cs }) r
 bracket_here p [] r e = absurd (none_some e)
 bracket_here p (c ∷ cs) r e =
     let t = passed (eqb c close_bracket) (record { place = p + len_utf8 c; text = cs }) r e in
     let same = eqb-true c close_bracket t.0 in record {
       text = ap (λ n. n ∷ cs) same ∙ ap (λ (a : At). close_bracket ∷ a.text) t.1;
       closes = λ k.
-          ap (λ b. here_or_later c (cond b (behind_signs k (p + len_utf8 c) cs) None) (close_from k (p + len_utf8 c) cs)) t.0
-          ∙ ap (λ (a : At). here_or_later c (behind_signs k a.place a.text) (close_from k a.place a.text)) t.1
-          ∙ ap (λ n. here_or_later n (behind_signs k r.place r.text) (close_from k r.place r.text)) same;
+          ap (λ b. here_or_later c (cond b (behind_signs k (p + len_utf8 c) cs) None)
+          (close_from k (p + len_utf8 c) cs)) t.0
+          ∙ ap (λ (a : At). here_or_later c (behind_signs k a.place a.text)
+          (close_from k a.place a.text)) t.1
+          ∙ ap (λ n. here_or_later n (behind_signs k r.place r.text) (close_from k r.place r.text))
+          same;
     }
 
 -- the next bracket in the text at h
@@ -140,15 +176,20 @@ pub record Next (h b r : At) : Type 0 where
 pub next_is : (h b r : At) → next_close h ≡ Some (b, r) → Next h b r
 next_is h b r e = by_strip (strip close_bracket (behind (in_class Enclosed) h)) refl e
   where
-    by_strip : (o : Option At) → strip close_bracket (behind (in_class Enclosed) h) ≡ o → with_behind (behind (in_class Enclosed) h) o ≡ Some (b, r) → Next h b r
+    by_strip : (o : Option At) → strip close_bracket (behind (in_class Enclosed) h)
+        ≡ o → with_behind (behind (in_class Enclosed) h) o ≡ Some (b, r) → Next h b r
     by_strip None k g = absurd (none_some g)
     by_strip (Some q) k g =
         let pair : (behind (in_class Enclosed) h, q) ≡ (b, r) = some_same g in
         let first : behind (in_class Enclosed) h ≡ b = ap (λ (w : At × At). w.0) pair in
         let second : q ≡ r = ap (λ (w : At × At). w.1) pair in
-        let here = bracket_here (behind (in_class Enclosed) h).place (behind (in_class Enclosed) h).text q k in record {
+        let here =
+        bracket_here (behind (in_class Enclosed) h).place (behind (in_class Enclosed) h).text q
+        k in record {
           is = sym first;
-          bracket = subst (λ x. Bracket x r) first (subst (Bracket (behind (in_class Enclosed) h)) second here);
+          bracket =
+              subst (λ x. Bracket x r) first (subst (Bracket (behind (in_class Enclosed) h)) second
+              here);
         }
 
 -- what stands behind it is shorter
@@ -157,7 +198,14 @@ next_shorter h b r e =
     let n = next_is h b r e in
     let whole = ap length (front_behind (in_class Enclosed) h.text) in
     let there = ap (λ (x : At). length x.text) n.is in
-    omega (arith, whole, there, ap length n.bracket.text, length-append (enclosed h.text) (behind_of (in_class Enclosed) h.text))
+    omega (
+      arith,
+      whole,
+      there,
+      ap length n.bracket.text,
+      length-append (enclosed h.text)
+          (behind_of (in_class Enclosed) h.text),
+    )
 
 -- ---- the search for it
 
@@ -168,33 +216,44 @@ pub record Reached (k : ℕ) (a h : At) : Type 0 where
   pub closes : behind_front front (close_from k h.place h.text) ≡ close_from k a.place a.text
 
 pub reached_here : (k : ℕ) (a : At) → Reached k a a
-reached_here k a = record { front = []; split = refl; closes = front_none (close_from k a.place a.text) }
+reached_here k a =
+    record { front = []; split = refl; closes = front_none (close_from k a.place a.text) }
 
 -- nothing closes where no bracket is left
-pub reached_end : (k : ℕ) (a h : At) → Reached k a h → next_close h ≡ None → None ≡ close_from k a.place a.text
+pub reached_end : (k : ℕ) (a h : At) → Reached k a h → next_close h ≡ None → None
+    ≡ close_from k a.place a.text
 reached_end k a h g e = ap (behind_front g.front) (sym (close_none k h e)) ∙ g.closes
 
 -- the next bracket is reached
-pub reached_bracket : (k : ℕ) (a h b r : At) → Reached k a h → next_close h ≡ Some (b, r) → Reached k a b
+pub reached_bracket : (k : ℕ) (a h b r : At) → Reached k a h → next_close h ≡ Some (b, r)
+    → Reached k a b
 reached_bracket k a h b r g e =
     let n = next_is h b r e in
     let past = behind (in_class Enclosed) h in
     subst (Reached k a) (sym n.is) (record {
       front = g.front ++ enclosed h.text;
-      split = g.split ∙ ap (λ xs. g.front ++ xs) (sym (front_behind (in_class Enclosed) h.text)) ∙ sym (append_assoc g.front (enclosed h.text) past.text);
-      closes = sym (front_then g.front (enclosed h.text) (close_from k past.place past.text)) ∙ ap (behind_front g.front) (sym (close_past k h.place h.text)) ∙ g.closes;
+      split =
+          g.split ∙ ap (λ xs. g.front ++ xs) (sym (front_behind (in_class Enclosed) h.text))
+          ∙ sym (append_assoc g.front (enclosed h.text) past.text);
+      closes =
+          sym (front_then g.front (enclosed h.text) (close_from k past.place past.text))
+          ∙ ap (behind_front g.front) (sym (close_past k h.place h.text)) ∙ g.closes;
     })
 
 -- and passed, where too few signs stand behind it
-pub reached_past : (k : ℕ) (a h b r : At) → Reached k a h → next_close h ≡ Some (b, r) → behind_signs k r.place r.text ≡ None → Reached k a r
+pub reached_past : (k : ℕ) (a h b r : At) → Reached k a h → next_close h ≡ Some (b, r)
+    → behind_signs k r.place r.text ≡ None → Reached k a r
 reached_past k a h b r g e none =
     let n = next_is h b r e in
     let there = reached_bracket k a h b r g e in record {
       front = there.front ++ (close_bracket ∷ []);
-      split = there.split ∙ ap (λ xs. there.front ++ xs) n.bracket.text ∙ sym (append_assoc there.front (close_bracket ∷ []) r.text);
+      split =
+          there.split ∙ ap (λ xs. there.front ++ xs) n.bracket.text
+          ∙ sym (append_assoc there.front (close_bracket ∷ []) r.text);
       closes =
           sym (one_more there.front close_bracket (close_from k r.place r.text))
-          ∙ ap (λ o. behind_front there.front (here_or_later close_bracket o (close_from k r.place r.text))) (sym none)
+          ∙ ap (λ o. behind_front there.front (here_or_later close_bracket o
+          (close_from k r.place r.text))) (sym none)
           ∙ ap (behind_front there.front) (sym (n.bracket.closes k))
           ∙ there.closes;
     }
@@ -202,22 +261,27 @@ reached_past k a h b r g e none =
 -- the text closes there, where the signs stand
 pub reached_close :
     (k : ℕ) (a h b r q : At) (inner : List ℕ) → Reached k a h → next_close h ≡ Some (b, r)
-    → behind_signs k r.place r.text ≡ Some q → inner ++ b.text ≡ a.text → Some (inner, q) ≡ close_from k a.place a.text
+    → behind_signs k r.place r.text ≡ Some q → inner ++ b.text ≡ a.text → Some (inner, q)
+    ≡ close_from k a.place a.text
 reached_close k a h b r q inner g e signs cut =
     let n = next_is h b r e in
     let there = reached_bracket k a h b r g e in
-    ap (λ xs. Some (xs, q)) (append_cancel_right inner there.front b.text (cut ∙ there.split) ∙ sym (append-nil there.front))
-    ∙ ap (λ o. behind_front there.front (here_or_later close_bracket o (close_from k r.place r.text))) (sym signs)
+    ap (λ xs. Some (xs, q)) (append_cancel_right inner there.front b.text (cut ∙ there.split)
+    ∙ sym (append-nil there.front))
+    ∙ ap (λ o. behind_front there.front (here_or_later close_bracket o
+    (close_from k r.place r.text))) (sym signs)
     ∙ ap (behind_front there.front) (sym (n.bracket.closes k))
     ∙ there.closes
 
 -- ---- a text in front of a rest of it
 
 -- a rest by its characters is a rest by its bytes
-pub rest_of_chars : (text rest front : List ℕ) → IsUtf8 text → IsUtf8 rest → chars text ≡ front ++ chars rest → IsRest text rest
+pub rest_of_chars : (text rest front : List ℕ) → IsUtf8 text → IsUtf8 rest → chars text
+    ≡ front ++ chars rest → IsRest text rest
 rest_of_chars text rest front u v e = (
   encode_utf8_all front,
-  sym (encodes-chars text u) ∙ ap encode_utf8_all e ∙ encodes-append front (chars rest) ∙ ap (λ xs. encode_utf8_all front ++ xs) (encodes-chars rest v),
+  sym (encodes-chars text u) ∙ ap encode_utf8_all e ∙ encodes-append front (chars rest)
+      ∙ ap (λ xs. encode_utf8_all front ++ xs) (encodes-chars rest v),
 )
 
 pub rest_short : (text rest : List ℕ) → IsRest text rest → length rest ≤ length text
@@ -227,5 +291,8 @@ pub chars_of_cut :
     (text rest front : List ℕ) → IsUtf8 text → IsUtf8 rest → IsRest text rest
     → front ≡ take (length text - length rest) text → chars front ++ chars rest ≡ chars text
 chars_of_cut text rest front u v r e =
-    let is_text = subst IsUtf8 (sym e) (IsUtf8-take text (length text - length rest) u (rest_boundary text rest r v)) in
-    sym (chars-append front rest is_text) ∙ ap chars (ap (λ xs. xs ++ rest) e ∙ cut_at_rest text rest r)
+    let is_text =
+    subst IsUtf8 (sym e) (IsUtf8-take text (length text - length rest) u
+    (rest_boundary text rest r v)) in
+    sym (chars-append front rest is_text) ∙ ap chars (ap (λ xs. xs ++ rest) e
+    ∙ cut_at_rest text rest r)

@@ -1,6 +1,8 @@
 -- What a reader takes is a front of its text, its faults lie there, and it looks no further than
 -- one character past what it takes.
-use Rattle.std.proofs.Common.{◌≡◌, ℕ, ◌+◌, ◌≤◌, Bool, true, false, cond, eqb, List, [], ◌∷◌, ◌++◌, length, arith, refl, ap, ◌∙◌, sym, subst, Result, Ok, Err, Option, Some, None, inl, inr, ◌⊎◌, append_assoc}
+use Rattle.std.proofs.Common.{◌≡◌, ℕ, ◌+◌, ◌≤◌, Bool, true, false, cond, eqb, List, [], ◌∷◌, ◌++◌}
+use Rattle.std.proofs.Common.{length, arith, refl, ap, ◌∙◌, sym, subst, Result, Ok, Err, Option}
+use Rattle.std.proofs.Common.{Some, None, inr, ◌⊎◌, append_assoc}
 use Rattle.std.specs.Char.{len_utf8}
 use Rattle.std.proofs.lemmas.List.{length-append}
 use Rattle.std.proofs.lemmas.Bool.{eqb-true}
@@ -199,6 +201,27 @@ module _ {A : Type 0} (start : ℕ) (more : List ℕ) where
       keeps_unguarded start (stands p []) more (f None) (g None) _ (λ guard. guard) none
   keeps_first p (c ∷ cs) f g none some = some c (stands (p + len_utf8 c) cs) (takes_one p c cs)
 
+  -- an answer at a by whether a text that ends where that at a does begins with c
+  pub keeps_strip_at :
+      (a : At) (c p : ℕ) (cs : List ℕ) (f g : Option At → Result (A × At) Fault)
+      → (Guarded a.text → Guarded cs)
+      → Keeps start a more (f None) (g None)
+      → ((b : At) → cs ≡ c ∷ b.text → Takes (stands p cs) b
+      → Keeps start a more (f (Some b)) (g (Some (with_more b more))))
+      → Keeps start a more (f (strip_of c p cs)) (g (strip_of c p (cs ++ more)))
+  keeps_strip_at a c p [] f g guards none some =
+      keeps_unguarded start a more (f None) (g None) _ (λ guard. guards guard) none
+  keeps_strip_at a c p (d ∷ ds) f g guards none some = by_test (eqb d c) (eqb-true d c)
+    where
+      by_test :
+          (t : Bool) → (t ≡ true → d ≡ c)
+          → Keeps start a more
+          (f (cond t (Some (stands (p + len_utf8 d) ds)) None))
+          (g (cond t (Some (stands (p + len_utf8 d) (ds ++ more))) None))
+      by_test true e =
+          some (stands (p + len_utf8 d) ds) (ap (λ n. n ∷ ds) (e refl)) (takes_one p d ds)
+      by_test false e = none
+
   -- an answer by whether the first character is c
   pub keeps_strip :
       (c p : ℕ) (cs : List ℕ) (f g : Option At → Result (A × At) Fault)
@@ -206,15 +229,4 @@ module _ {A : Type 0} (start : ℕ) (more : List ℕ) where
       → ((b : At) → cs ≡ c ∷ b.text → Takes (stands p cs) b
       → Keeps start (stands p cs) more (f (Some b)) (g (Some (with_more b more))))
       → Keeps start (stands p cs) more (f (strip_of c p cs)) (g (strip_of c p (cs ++ more)))
-  keeps_strip c p [] f g none some =
-      keeps_unguarded start (stands p []) more (f None) (g None) _ (λ guard. guard) none
-  keeps_strip c p (d ∷ ds) f g none some = by_test (eqb d c) (eqb-true d c)
-    where
-      by_test :
-          (t : Bool) → (t ≡ true → d ≡ c)
-          → Keeps start (stands p (d ∷ ds)) more
-          (f (cond t (Some (stands (p + len_utf8 d) ds)) None))
-          (g (cond t (Some (stands (p + len_utf8 d) (ds ++ more))) None))
-      by_test true e =
-          some (stands (p + len_utf8 d) ds) (ap (λ n. n ∷ ds) (e refl)) (takes_one p d ds)
-      by_test false e = none
+  keeps_strip c p cs f g = keeps_strip_at (stands p cs) c p cs f g (λ guard. guard)

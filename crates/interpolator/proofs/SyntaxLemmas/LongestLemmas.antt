@@ -1,6 +1,7 @@
 -- The longest front of a text whose characters pass: the one defined by recursion is one, and no
 -- other is.
-use Rattle.std.proofs.Common.{◌≡◌, ℕ, ◌+◌, Bool, true, false, cond, IsTrue, IsFalse, All, List, [], ◌∷◌, ◌++◌, refl, ap, ◌∙◌, sym}
+use Rattle.std.proofs.Common.{◌≡◌, ℕ, ◌+◌, Bool, true, false, cond, IsTrue, IsFalse, All, List, []}
+use Rattle.std.proofs.Common.{◌∷◌, ◌++◌, refl, ap, ◌∙◌, sym}
 use Rattle.std.proofs.lemmas.List.Elements.{All-nil, All-cons, All-head, All-tail}
 use Rattle.interpolator.specs.Syntax.At.{At, size, behind}
 use Rattle.interpolator.specs.Syntax.Classes.{front_of, behind_of}
@@ -34,7 +35,12 @@ module _ (passes : ℕ → Bool) where
 
   -- the front and what stands behind it are the longest front and its rest
   pub front_longest : (cs : List ℕ) → IsLongest passes cs (front_of passes cs) (behind_of passes cs)
-  front_longest cs = record { split = sym (front_behind passes cs); pass = front_passes cs; stops = behind_stops cs }
+  front_longest cs =
+      record {
+        split = sym (front_behind passes cs);
+        pass = front_passes cs;
+        stops = behind_stops cs;
+      }
 
   abbrev Stops : List ℕ → Type 0
   Stops rest = (c : ℕ) (more : List ℕ) → rest ≡ c ∷ more → IsFalse (passes c)
@@ -42,8 +48,11 @@ module _ (passes : ℕ → Bool) where
   front_stops : (rest : List ℕ) → Stops rest
       → (front_of passes rest ≡ []) × (behind_of passes rest ≡ rest)
   front_stops [] h = (refl, refl)
-  front_stops (c ∷ cs) h = let e = h c cs refl in
-      (ap (λ b. cond b (c ∷ front_of passes cs) []) e, ap (λ b. cond b (behind_of passes cs) (c ∷ cs)) e)
+  front_stops (c ∷ cs) h = let e = h c cs refl in (
+    ap (λ b. cond b (c ∷ front_of passes cs) []) e,
+    ap (λ b. cond b (behind_of passes cs)
+        (c ∷ cs)) e,
+  )
 
   front_then :
       (front rest : List ℕ) → All (λ c. IsTrue (passes c)) front → Stops rest

@@ -1,17 +1,22 @@
 -- The pieces of a text, one after the other.
-use Rattle.std.proofs.Common.{◌≡◌, ℕ, zero, suc, ◌≤◌, Bool, true, false, cond, eqb, List, [], ◌∷◌, length, arith, refl, ap, Result, Ok, Err, Option, Some, None}
-use Rattle.interpolator.specs.Syntax.At.{At, behind, strip, strip_of}
-use Rattle.interpolator.specs.Syntax.Classes.{behind_of, in_class, open_brace, close_brace}
+use Rattle.std.proofs.Common.{◌≡◌, ℕ, zero, suc, ◌≤◌, Bool, true, false, cond, eqb, List, [], ◌∷◌}
+use Rattle.std.proofs.Common.{length, arith, refl, ap, Result, Ok, Err, Option, Some, None}
+use Rattle.interpolator.specs.Syntax.At.{At, strip, strip_of}
+use Rattle.interpolator.specs.Syntax.Classes.{behind_of, open_brace, close_brace}
 use Rattle.interpolator.specs.Syntax.Arguments.{Argument, argument_at}
 use Rattle.interpolator.specs.Faults.{Fault}
-use Rattle.interpolator.specs.Syntax.Pieces.{Step, argument_step, argument_or_broken, argument_from, open_step, close_step, piece_from, past, pieces_within, pieces}
+use Rattle.interpolator.specs.Syntax.Pieces.{Step, argument_step, argument_or_broken, argument_from}
+use Rattle.interpolator.specs.Syntax.Pieces.{open_step, close_step, piece_from, past, pieces_within}
+use Rattle.interpolator.specs.Syntax.Pieces.{pieces}
 use Rattle.interpolator.proofs.SyntaxLemmas.LocalityLemmas.{takes_shorter}
 use Rattle.interpolator.proofs.SyntaxLemmas.ReaderLemmas.{argument_takes}
 use Rattle.interpolator.proofs.SyntaxLemmas.TestLemmas.{in_both}
 
 pub behind_shorter : (passes : ℕ → Bool) (cs : List ℕ) → length (behind_of passes cs) ≤ length cs
 behind_shorter passes [] = omega arith
-behind_shorter passes (c ∷ cs) = elim (passes c) as (λ b. length (cond b (behind_of passes cs) (c ∷ cs)) ≤ length (c ∷ cs)) [ true ↦ omega (arith, behind_shorter passes cs) | false ↦ omega arith ]
+behind_shorter passes (c ∷ cs) =
+    elim (passes c) as (λ b. length (cond b (behind_of passes cs) (c ∷ cs)) ≤ length (c ∷ cs))
+    [ true ↦ omega (arith, behind_shorter passes cs) | false ↦ omega arith ]
 
 -- what stands behind a character, if it stands there, is no longer than so many characters
 abbrev pub OptionWithin : ℕ → Option At → Type 0
@@ -55,8 +60,10 @@ close_within p b (Some rest) h = h
 pub piece_within : (p c : ℕ) (b : At) → length (piece_from p c b).rest.text ≤ length b.text
 piece_within p c b =
     let P = λ (s : Step). length s.rest.text ≤ length b.text in
-    in_both P (eqb c open_brace) _ _ (open_within p b (strip open_brace b) (strip_within open_brace b.place b.text _ (omega arith)))
-    (in_both P (eqb c close_brace) _ _ (close_within p b (strip close_brace b) (strip_within close_brace b.place b.text _ (omega arith))) (omega arith))
+    in_both P (eqb c open_brace) _ _ (open_within p b (strip open_brace b)
+    (strip_within open_brace b.place b.text _ (omega arith)))
+    (in_both P (eqb c close_brace) _ _ (close_within p b (strip close_brace b)
+    (strip_within close_brace b.place b.text _ (omega arith))) (omega arith))
 
 -- a piece stands where it begins
 abbrev BeginsAt : ℕ → Step → Type 0
@@ -103,8 +110,10 @@ pieces_none p = refl
 
 -- the first piece, and then those of what stands behind it
 pub pieces_next : (p c : ℕ) (cs : List ℕ)
-    → pieces (record { place = p; text = c ∷ cs }) ≡ (piece_from p c (past p c cs)).piece ∷ pieces (piece_from p c (past p c cs)).rest
+    → pieces (record { place = p; text = c ∷ cs }) ≡ (piece_from p c (past p c cs)).piece ∷ pieces
+    (piece_from p c (past p c cs)).rest
 unfolding pieces
 pieces_next p c cs =
     let s = piece_from p c (past p c cs) in
-    ap (λ xs. s.piece ∷ xs) (enough (length cs) (length s.rest.text) s.rest.place s.rest.text (piece_within p c (past p c cs)) (omega arith))
+    ap (λ xs. s.piece ∷ xs) (enough (length cs) (length s.rest.text) s.rest.place s.rest.text
+    (piece_within p c (past p c cs)) (omega arith))

@@ -1,5 +1,7 @@
 -- What each reader of an argument takes, where its faults lie, and how far it looks.
-use Rattle.std.proofs.Common.{◌≡◌, ℕ, ◌+◌, ◌≤◌, Bool, false, eqb, List, [], ◌∷◌, ◌++◌, arith, refl, ap, ◌∙◌, sym, subst, Result, Ok, Err, Option, Some, None, inl, inr, ◌||◌}
+use Rattle.std.proofs.Common.{◌≡◌, ℕ, ◌+◌, ◌≤◌, Bool, false, eqb, List, [], ◌∷◌, ◌++◌, arith, refl}
+use Rattle.std.proofs.Common.{ap, ◌∙◌, sym, subst, Result, Ok, Err, Option, Some, None, inl, inr}
+use Rattle.std.proofs.Common.{◌||◌}
 use Rattle.std.specs.Char.{is_ascii_digit}
 use Rattle.interpolator_render.specs.declared.view.Trait.{Trait}
 use Rattle.interpolator_render.specs.declared.view.Trait.TheVariants as traits
@@ -8,17 +10,33 @@ use Rattle.interpolator_render.specs.declared.view.HexDebug.TheVariants as hex_d
 use Rattle.interpolator_render.specs.declared.view.Alignment.TheVariants as alignments
 use Rattle.interpolator_render.specs.declared.view.Sign.TheVariants as signs
 use Rattle.interpolator.specs.Syntax.At.{At, size, strip, behind}
-use Rattle.interpolator.specs.Syntax.Classes.{front_of, in_class, is_alignment, close_brace, colon, point, question_mark, hash, zero_digit, lower_p, lower_x, upper_x}
+use Rattle.interpolator.specs.Syntax.Classes.{front_of, in_class, is_alignment, close_brace, colon}
+use Rattle.interpolator.specs.Syntax.Classes.{point, question_mark, hash, zero_digit, lower_p}
+use Rattle.interpolator.specs.Syntax.Classes.{lower_x, upper_x}
 use Rattle.interpolator.specs.Syntax.Numbers.{natural}
 use Rattle.interpolator.specs.Syntax.Readers.{on, ◌>>=◌, give, here, span, run}
-use Rattle.interpolator.specs.Syntax.SpecTexts.{Asked, plain_display, alignment_letter, sign_letter, number_or, number_at, if_digit, width_at, if_point, precision_at, Wanted, wanted, hexadecimal, trait_letter, no_trait, lettered, trait_first, trait_at, spec_parts, spec_of, spec_behind, begins_alignment}
+use Rattle.interpolator.specs.Syntax.SpecTexts.{Asked, plain_display, alignment_letter, sign_letter}
+use Rattle.interpolator.specs.Syntax.SpecTexts.{number_or, number_at, if_digit, width_at, if_point}
+use Rattle.interpolator.specs.Syntax.SpecTexts.{precision_at, wanted, hexadecimal, trait_letter}
+use Rattle.interpolator.specs.Syntax.SpecTexts.{no_trait, lettered, trait_first, trait_at}
+use Rattle.interpolator.specs.Syntax.SpecTexts.{spec_parts, spec_of, spec_behind, begins_alignment}
 use Rattle.interpolator.specs.Syntax.Arguments.{Argument, argument, asked_by, asked_at, argument_at}
-use Rattle.interpolator.specs.Faults.{Fault, ParseFault, fault_place, parse_place, parse, unclosed, fill, invalid_width, invalid_precision}
+use Rattle.interpolator.specs.Faults.{Fault, ParseFault, fault_place, parse_place, parse, unclosed}
+use Rattle.interpolator.specs.Faults.{fill, invalid_width, invalid_precision}
 use Rattle.interpolator.specs.declared.error.NumberError.{NumberError}
 use Rattle.interpolator.specs.declared.syntax.class.Class.TheVariants.{WhiteSpace, Name, Number}
 use Rattle.interpolator.proofs.SyntaxLemmas.TestLemmas.{in_both}
-use Rattle.interpolator.proofs.SyntaxLemmas.LocalityLemmas.{Takes, stands, takes_none, takes_then, takes_behind, Guarded, takes_guards, with_more, Reads, Keeps, KeepsAt, kept_takes, kept_refuses, kept_same, reads_by, keeps_by, keeps_stay, keeps_past, keeps_unguarded, keeps_either, keeps_then, reads_then, keeps_first, keeps_strip}
-use Rattle.interpolator.proofs.SyntaxLemmas.SimpleReaderLemmas.{reads_give, reads_span, reads_run, reads_letter, reads_flag}
+use Rattle.interpolator.proofs.SyntaxLemmas.LocalityLemmas.{Takes, stands, takes_none, takes_then}
+use Rattle.interpolator.proofs.SyntaxLemmas.LocalityLemmas.{takes_behind, Guarded, takes_guards}
+use Rattle.interpolator.proofs.SyntaxLemmas.LocalityLemmas.{with_more, Reads, Keeps, KeepsAt}
+use Rattle.interpolator.proofs.SyntaxLemmas.LocalityLemmas.{kept_takes, kept_refuses, kept_same}
+use Rattle.interpolator.proofs.SyntaxLemmas.LocalityLemmas.{reads_by, keeps_by, keeps_stay}
+use Rattle.interpolator.proofs.SyntaxLemmas.LocalityLemmas.{keeps_past, keeps_unguarded}
+use Rattle.interpolator.proofs.SyntaxLemmas.LocalityLemmas.{keeps_either, keeps_then, reads_then}
+use Rattle.interpolator.proofs.SyntaxLemmas.LocalityLemmas.{keeps_first, keeps_strip}
+use Rattle.interpolator.proofs.SyntaxLemmas.SimpleReaderLemmas.{reads_give, reads_span, reads_run}
+use Rattle.interpolator.proofs.SyntaxLemmas.SimpleReaderLemmas.{reads_letter, reads_flag}
+use Rattle.interpolator.proofs.SyntaxLemmas.ListReaderLemmas.{reads_kind}
 
 -- ---- width and precision
 
@@ -121,7 +139,8 @@ reads_parts start =
     reads_then (reads_flag start zero_digit) (λ zero.
     reads_then (reads_width start) (λ width.
     reads_then (reads_precision start) (λ precision.
-    reads_then (reads_trait start (alternate || zero)) (λ shown. reads_give start _)))))))
+    reads_then (reads_trait start (alternate || zero)) (λ shown.
+    reads_then (reads_kind start shown.slot) (λ kind. reads_give start _))))))))
 
 -- an empty spec, in front of a closing brace at p
 abbrev Empty : (start p : ℕ) → Result (Asked × At) Fault → List ℕ → Type 0

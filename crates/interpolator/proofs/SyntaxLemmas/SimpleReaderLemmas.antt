@@ -1,11 +1,16 @@
 -- What the readers keep that the parts of an argument are made of.
-use Rattle.std.proofs.Common.{◌≡◌, ℕ, ◌+◌, Bool, true, false, cond, List, [], ◌∷◌, ◌++◌, arith, refl, ap, ◌∙◌, sym, Result, Ok, Option, Some, None}
+use Rattle.std.proofs.Common.{◌≡◌, ℕ, ◌+◌, Bool, true, false, cond, List, [], ◌∷◌, ◌++◌, arith}
+use Rattle.std.proofs.Common.{refl, ap, ◌∙◌, sym, Result, Ok, Option, Some, None}
 use Rattle.interpolator.specs.Syntax.At.{At, size, behind}
 use Rattle.interpolator.specs.Syntax.Classes.{front_of, behind_of, in_class}
-use Rattle.interpolator.specs.Syntax.Readers.{give, here, span, read_or_stay, letter_first, letter, was_there, flag, run_before, run}
+use Rattle.interpolator.specs.Syntax.Readers.{give, here, span, read_or_stay, letter_first, letter}
+use Rattle.interpolator.specs.Syntax.Readers.{was_there, flag, run_before, run}
 use Rattle.interpolator.specs.Faults.{Fault}
 use Rattle.interpolator.specs.declared.syntax.class.Class.{Class}
-use Rattle.interpolator.proofs.SyntaxLemmas.LocalityLemmas.{Takes, stands, takes_behind, Guarded, with_more, Reads, Keeps, KeepsAt, reads_by, keeps_stay, keeps_first, keeps_strip}
+use Rattle.interpolator.proofs.SyntaxLemmas.LocalityLemmas.{Takes, stands, takes_behind, Guarded}
+use Rattle.interpolator.proofs.SyntaxLemmas.LocalityLemmas.{with_more, Reads, Keeps, KeepsAt}
+use Rattle.interpolator.proofs.SyntaxLemmas.LocalityLemmas.{reads_by, keeps_stay, keeps_first}
+use Rattle.interpolator.proofs.SyntaxLemmas.LocalityLemmas.{keeps_strip}
 
 -- ---- the longest front
 

@@ -1,9 +1,12 @@
 -- An ASCII character at the beginning of a text, by its byte.
-use Rattle.std.proofs.Common.{◌≡◌, ◌≢◌, ℕ, ◌+◌, ◌<◌, Bool, true, false, cond, eqb, List, [], ◌∷◌, ◌++◌, length, drop, get_or, arith, refl, ap, ◌∙◌, sym, rules, Option, Some, None}
+use Rattle.std.proofs.Common.{◌≡◌, ℕ, ◌+◌, ◌<◌, Bool, true, false, cond, eqb, List, [], ◌∷◌}
+use Rattle.std.proofs.Common.{◌++◌, length, get_or, arith, refl, ap, ◌∙◌, sym, rules, Option}
+use Rattle.std.proofs.Common.{Some, None}
 use Rattle.std.specs.Str.{chars, IsUtf8, IsCharBoundary, encode_utf8_all}
 use Rattle.std.specs.Char.{encode_utf8, len_utf8}
 use Rattle.std.specs.List.{slice_get}
-use Rattle.std.proofs.lemmas.Str.{chars_past_char, chars-nil, encodes-chars, encode_ascii, len_utf8_ascii, IsUtf8-past_char, IsCharBoundary-after_ascii}
+use Rattle.std.proofs.lemmas.Str.{chars_past_char, chars-nil, encodes-chars, encode_ascii}
+use Rattle.std.proofs.lemmas.Str.{len_utf8_ascii, IsCharBoundary-after_ascii}
 use Rattle.interpolator.specs.Syntax.At.{At, strip, strip_of, behind}
 use Rattle.interpolator.specs.Syntax.Classes.{front_of, in_class, open_brace, close_brace}
 use Rattle.interpolator.specs.Syntax.Tokens.{literals, first_token, literal_scan}
@@ -16,7 +19,8 @@ same_test n = search rules
 pub strip_here : (wanted p : ℕ) (bs rest : List ℕ) → wanted < 128 → IsUtf8 bs → bs ≡ wanted ∷ rest
     → strip_of wanted p (chars bs) ≡ Some (record { place = p + 1; text = chars rest })
 strip_here wanted p bs rest low u e =
-    let whole : chars bs ≡ wanted ∷ chars rest = chars_past_char bs rest wanted u (rw (encode_ascii wanted low) e) in
+    let whole : chars bs ≡ wanted ∷ chars rest =
+    chars_past_char bs rest wanted u (rw (encode_ascii wanted low) e) in
     rw (whole, same_test wanted, len_utf8_ascii wanted low) refl
 
 strip_other_at : (wanted p : ℕ) (bs cs : List ℕ) → wanted < 128 → NotFirst wanted bs
@@ -39,7 +43,8 @@ strip_other wanted p bs low u h = strip_other_at wanted p bs (chars bs) low h (e
 pub boundary_behind : (bs : List ℕ) (b : ℕ) → slice_get bs 0 ≡ Some b → b < 128 → IsUtf8 bs
     → IsCharBoundary bs 1
 boundary_behind [] b e low u = absurd (cc)
-boundary_behind (x ∷ xs) b e low u = let same : x ≡ b = cc in IsCharBoundary-after_ascii (x ∷ xs) 0 u (omega arith) (omega arith)
+boundary_behind (x ∷ xs) b e low u =
+    let same : x ≡ b = cc in IsCharBoundary-after_ascii (x ∷ xs) 0 u (omega arith) (omega arith)
 
 -- a text that is not empty and begins with no brace begins with a run of literals
 pub literals_scanned : (p : ℕ) (bs cs : List ℕ) (r : At) → 0 < length bs → IsUtf8 bs
@@ -49,10 +54,16 @@ pub literals_scanned : (p : ℕ) (bs cs : List ℕ) (r : At) → 0 < length bs �
     → r ≡ behind (in_class Literal) (record { place = p; text = chars bs })
     → Some (literals cs, r) ≡ first_token (record { place = p; text = chars bs })
 unfolding first_token
-literals_scanned p bs cs r n u h k f b = rw (sym h, sym k, f, b) (by_chars (chars bs) (encodes-chars bs u))
+literals_scanned p bs cs r n u h k f b =
+    rw (sym h, sym k, f, b) (by_chars (chars bs) (encodes-chars bs u))
   where
     by_chars : (ds : List ℕ) → encode_utf8_all ds ≡ bs
-        → Some (literals (front_of (in_class Literal) (chars bs)), behind (in_class Literal) (record { place = p; text = chars bs })) ≡ literal_scan (record { place = p; text = chars bs }) ds
+        → Some (
+          literals (front_of (in_class Literal) (chars bs)),
+          behind (in_class Literal)
+              (record { place = p; text = chars bs }),
+        )
+        ≡ literal_scan (record { place = p; text = chars bs }) ds
     by_chars [] e = let none : length bs ≡ 0 = sym (ap length e) in absurd (omega arith)
     by_chars (d ∷ ds) e = refl
 

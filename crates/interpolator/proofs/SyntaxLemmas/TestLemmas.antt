@@ -1,5 +1,6 @@
 -- Options, results, and values that a test chooses.
-use Rattle.std.proofs.Common.{◌≡◌, Bool, true, false, cond, refl, Option, None, Some, Result, Ok, Err}
+use Rattle.std.proofs.Common.{◌≡◌, Bool, true, false, cond, refl, None, Some, Result, Ok}
+use Rattle.std.proofs.Common.{Err}
 
 pub none_some : {A : Type 0} {x : A} → None ≡ Some x → ⊥
 none_some e = cc

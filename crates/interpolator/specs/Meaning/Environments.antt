@@ -16,6 +16,13 @@ abbrev pub is_among : List ℕ → List (List ℕ) → Bool
 is_among name [] = false
 is_among name (x ∷ xs) = bytes_eq name x || is_among name xs
 
+-- of these names the ones that are among those of a list, if there is one
+abbrev pub kept : Option (List (List ℕ)) → List (List ℕ) → List (List ℕ)
+kept None names = names
+kept (Some own) [] = []
+kept (Some own) (name ∷ names) =
+    if is_among name own then name ∷ kept (Some own) names else kept (Some own) names
+
 module _ {X : Type 0} where
   -- what the context gives, and nothing for a name outside the list
   abbrev pub within : Option (List (List ℕ)) → (List ℕ → Option (Tree X)) → List ℕ → Option (Tree X)
@@ -39,3 +46,7 @@ module _ {X : Type 0} where
   -- the same with this inner value
   abbrev pub bind : Environment X → Tree X → Environment X
   bind e t = record { finds = e.finds; inner = Some t; names = e.names }
+
+  -- the same cut to these names: under another name the context is not asked
+  abbrev pub cut : Environment X → List (List ℕ) → Environment X
+  cut e names = record { finds = e.finds; inner = e.inner; names = Some (kept e.names names) }

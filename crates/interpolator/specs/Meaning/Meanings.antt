@@ -1,20 +1,28 @@
 -- What a format means: text with places, at most one fault, and where memory is taken.
-use Rattle.std.specs.Prelude.{ℕ, ◌+◌, List, [], ◌∷◌, ◌++◌, map, length, Option, None, Some, codes}
+use Rattle.std.specs.Prelude.{ℕ, zero, suc, ◌+◌, ◌||◌, Bool, true, false, is_some, if◌then◌else◌}
+use Rattle.std.specs.Prelude.{List, [], ◌∷◌, ◌++◌, map, length, Option, None, Some, codes}
 use Rattle.interpolator_render.specs.declared.view.Trait.{Trait}
+use Rattle.interpolator_render.specs.declared.view.Trait.TheVariants as traits
+use Rattle.interpolator_render.specs.declared.view.Sign.{Sign}
+use Rattle.interpolator_render.specs.declared.view.Sign.TheVariants as signs
 use Rattle.interpolator_render.specs.declared.view.Spec.{Spec}
+use Rattle.interpolator_render.specs.Padding.{padded_text}
 use Rattle.interpolator_render.specs.Views.{Shown}
-use Rattle.interpolator_render.specs.Texts.{ViewText, has_text, is_missing, has_failed, view_text}
-use Rattle.interpolator.specs.Syntax.At.{At, Placed, placed_at, placed_from}
+use Rattle.interpolator_render.specs.Texts.{ViewText, has_text, has_no_text, has_failed, view_text}
+use Rattle.interpolator.specs.Syntax.At.{At, Placed, placed_at, placed_from, text_of}
 use Rattle.interpolator.specs.Syntax.Classes.{close_brace}
-use Rattle.interpolator.specs.Faults.{Fault, missing_value, missing_trait_impl, fmt, parse}
-use Rattle.interpolator.specs.Faults.{expected}
-use Rattle.interpolator.specs.Trees.{Tree, slots, slot_at}
-use Rattle.interpolator.specs.Meaning.Environments.{Environment, given}
-use Rattle.interpolator.specs.Syntax.SpecTexts.{Kind, of_value}
+use Rattle.interpolator.specs.Syntax.Groups.{Group}
+use Rattle.interpolator.specs.Syntax.Lists.{ListAsked}
+use Rattle.interpolator.specs.Syntax.SpecTexts.{Kind, of_value, of_list, plain_spec}
 use Rattle.interpolator.specs.Syntax.Arguments.{Argument}
 use Rattle.interpolator.specs.Syntax.Pieces.{Piece, PieceKind, literal, doubled, lone_close, closed}
 use Rattle.interpolator.specs.Syntax.Pieces.{unclosed, broken, argument_from, pieces}
 use Rattle.interpolator.specs.Syntax.Tokens.{Token, literals, brace, argument}
+use Rattle.interpolator.specs.Faults.{Fault, missing_value, missing_trait_impl, fmt, parse}
+use Rattle.interpolator.specs.Faults.{expected, iter}
+use Rattle.interpolator.specs.Trees.{Tree, slots, items, slot_at}
+use Rattle.interpolator.specs.Meaning.Choices.{chosen_items}
+use Rattle.interpolator.specs.Meaning.Environments.{Environment, given, bind}
 
 -- a placed text, at most one fault, and the memory points: before how many characters memory is
 -- taken
@@ -55,7 +63,7 @@ joined m k = or_fault m.fault m k
 -- the text of a view, each character at q
 abbrev pub view_means : Trait → (q : ℕ) → ViewText → Meaning
 view_means t q (has_text cs) = text_alone (placed_at q cs)
-view_means t q is_missing = fault_alone (missing_trait_impl t q)
+view_means t q has_no_text = fault_alone (missing_trait_impl t q)
 view_means t q has_failed = fault_alone (fmt q)
 
 -- what stands in a slot, where `shows` is what the value shows under a trait and a spec
@@ -64,17 +72,78 @@ abbrev pub value_means : {X : Type 0} → (shows : X → Trait → Spec → Show
 value_means shows t spec q None = fault_alone (missing_trait_impl t q)
 value_means shows t spec q (Some x) = view_means t q (view_text (shows x t spec) t spec)
 
+-- a sign was asked for
+abbrev pub has_sign : Sign → Bool
+has_sign signs.Unset = false
+has_sign signs.Plus = true
+has_sign signs.Minus = true
+
+-- what the spec of a list may not ask: a precision, a sign, `#` or the zero flag
+abbrev pub forbids_list : Spec → Bool
+forbids_list spec = is_some spec.precision || (has_sign spec.sign || (spec.alternate || spec.zero))
+
+-- a text that is made whole in a buffer and then padded, each character at q: memory is taken
+-- first, and with a fault inside nothing of it is written
+abbrev pub made_whole : Spec → (q : ℕ) → Option Fault → List ℕ → Meaning
+made_whole spec q (Some f) cs = fault_wanting_memory f
+made_whole spec q None cs =
+    record { text = placed_at q (padded_text spec cs); fault = None; memory_points = 0 ∷ [] }
+
+-- under a spec with a width a list is made whole and padded
+abbrev pub padded_list : Spec → (q : ℕ) → Meaning → Meaning
+padded_list spec q m =
+    if is_some spec.width then made_whole spec q m.fault (text_of m.text) else m
+
+-- what stands in a group, at its place
+abbrev pub inside : Group → At
+inside g = record { place = g.place; text = g.text }
+
+-- each with the join before it
+abbrev pub items_behind : {X : Type 0} → (join : Meaning) → (X → Meaning) → List X → Meaning
+items_behind join item [] = nothing
+items_behind join item (x ∷ xs) = joined join (joined (item x) (items_behind join item xs))
+
+-- the items in order, and the join between two of them
+abbrev pub items_mean : {X : Type 0} → (join : Meaning) → (X → Meaning) → List X → Meaning
+items_mean join item [] = nothing
+items_mean join item (x ∷ xs) = joined (item x) (items_behind join item xs)
+
 module _ {X : Type 0} (shows : X → Trait → Spec → Shown) where
-  -- what was found means, by what the argument asks for
-  abbrev pub kind_means : Kind → Spec → (q : ℕ) → Tree X → Meaning
-  kind_means (of_value t) spec q found = value_means shows t spec q (slot_at t (slots found))
+  -- `run` is what a text within this one means
+  module _ (run : Environment X → At → Meaning) (e : Environment X) where
+    -- an item by its format, in which the empty name is the item; without one it is displayed
+    -- plainly
+    abbrev pub item_means : (q : ℕ) → Option Group → Tree X → Meaning
+    item_means q (Some g) item = run (bind e item) (inside g)
+    item_means q None item =
+        value_means shows traits.Display plain_spec q (slot_at traits.Display (slots item))
 
-  -- what was found under the name of an argument that starts at `start`
-  abbrev pub found_means : (start : ℕ) → Argument → (q : ℕ) → Option (Tree X) → Meaning
-  found_means start x q None = fault_wanting_memory (missing_value x.name start)
-  found_means start x q (Some found) = kind_means x.kind x.spec q found
+    -- what stands between two items means the same between any two
+    abbrev pub join_means : Option Group → Meaning
+    join_means (Some g) = run e (inside g)
+    join_means None = nothing
 
-  module _ (e : Environment X) where
+    -- the chosen items of a list, written one behind the other
+    abbrev pub chosen_means : ListAsked → (q : ℕ) → List (Tree X) → Meaning
+    chosen_means l q chosen = items_mean (join_means l.join) (item_means q l.item) chosen
+
+    -- the items of what was found, if it is a list
+    abbrev pub list_means : ListAsked → Spec → (q : ℕ) → Option (List (Tree X)) → Meaning
+    list_means l spec q None = fault_alone (missing_trait_impl traits.Iter q)
+    list_means l spec q (Some ts) =
+        if forbids_list spec then fault_alone (parse (iter q))
+        else padded_list spec q (chosen_means l q (chosen_items l.range ts))
+
+    -- what was found means, by what the argument asks for
+    abbrev pub kind_means : Kind → Spec → (q : ℕ) → Tree X → Meaning
+    kind_means (of_value t) spec q found = value_means shows t spec q (slot_at t (slots found))
+    kind_means (of_list l) spec q found = list_means l spec q (items found)
+
+    -- what was found under the name of an argument that starts at `start`
+    abbrev pub found_means : (start : ℕ) → Argument → (q : ℕ) → Option (Tree X) → Meaning
+    found_means start x q None = fault_wanting_memory (missing_value x.name start)
+    found_means start x q (Some found) = kind_means x.kind x.spec q found
+
     -- an argument means what its name gives
     abbrev pub argument_means : (start : ℕ) → Argument → (q : ℕ) → Meaning
     argument_means start x q = found_means start x q (given e x.name)
@@ -94,16 +163,22 @@ module _ {X : Type 0} (shows : X → Trait → Spec → Shown) where
     pieces_mean [] = nothing
     pieces_mean (x ∷ xs) = joined (piece_means x.place x.kind) (pieces_mean xs)
 
+  -- what a text means in which groups are nested less than so deep
+  abbrev pub means_within : (depth : ℕ) → Environment X → At → Meaning
+  means_within zero e a = nothing
+  means_within (suc depth) e a = pieces_mean (means_within depth) e (pieces a)
+
+  -- what a text means in an environment: a group is shorter than the text that it stands in
+  unfoldable pub means : Environment X → At → Meaning
+  means e a = means_within (suc (length a.text)) e a
+
+  module _ (e : Environment X) where
     -- the argument that begins at b, behind its brace
     abbrev pub argument_from_means : At → Meaning
-    argument_from_means b = piece_means b.place (argument_from b.place b).piece.kind
+    argument_from_means b = piece_means means e b.place (argument_from b.place b).piece.kind
 
     -- what the scan hands on at p, where b stands behind it
     abbrev pub token_means : (p : ℕ) → Token → (b : At) → Meaning
     token_means p (literals cs) b = text_alone (placed_from p cs)
     token_means p (brace c) b = text_alone ((c, p) ∷ [])
     token_means p argument b = argument_from_means b
-
-    -- what a text means in an environment
-    unfoldable pub means : At → Meaning
-    means a = pieces_mean (pieces a)

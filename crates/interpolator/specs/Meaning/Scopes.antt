@@ -9,4 +9,8 @@ use Rattle.interpolator.specs.Meaning.Environments.{Environment}
 abbrev pub environment_of : {C X : Type 0} → (C → List ℕ → Option (Tree X)) → Scope C X
     → Environment X
 environment_of finds s =
-    record { finds = finds s.context.now; inner = option_map (λ item. tree_of item.now) s.inner; names = None }
+    record {
+      finds = finds s.context.now;
+      inner = option_map (λ item. tree_of item.now) s.inner;
+      names = None;
+    }

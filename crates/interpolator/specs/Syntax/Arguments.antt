@@ -1,18 +1,21 @@
 -- What stands behind an opening brace.
-use Rattle.std.specs.Prelude.{ℕ, List, drop, Option, None, Some, Result, Ok, Err}
+use Rattle.std.specs.Prelude.{ℕ, List, drop, Option, None, Some, option_map, Result, Ok, Err}
 use Rattle.std.specs.Str.{chars}
 use Rattle.interpolator_render.specs.declared.view.Spec.{Spec}
-use Rattle.interpolator.specs.Syntax.At.{At, strip}
+use Rattle.interpolator.specs.Syntax.At.{At, at, strip}
 use Rattle.interpolator.specs.Syntax.Classes.{close_brace, colon}
 use Rattle.interpolator.specs.Syntax.Readers.{Reader, ◌>>=◌, give, here, span}
-use Rattle.interpolator.specs.Syntax.SpecTexts.{Kind, of_value, Asked, plain_display, spec_behind}
+use Rattle.interpolator.specs.Syntax.Groups.{group_of}
+use Rattle.interpolator.specs.Syntax.SpecTexts.{Kind, of_value, of_list, Asked}
+use Rattle.interpolator.specs.Syntax.SpecTexts.{plain_display, spec_behind}
 use Rattle.interpolator.specs.Faults.{Fault, Answer, fault, parse, unclosed, broken_fault_of}
 use Rattle.interpolator.specs.Faults.{answer_of}
 use Rattle.interpolator.specs.declared.error.Error.{Error}
 use Rattle.interpolator.specs.declared.syntax.class.Class.TheVariants.{WhiteSpace, Name}
 use Rattle.interpolator.specs.declared.syntax.broken.Broken.{Broken}
 use Rattle.interpolator.specs.declared.syntax.argument.Kind as code_kind
-use Rattle.interpolator.specs.declared.syntax.argument.Kind.TheVariants.{Value}
+use Rattle.interpolator.specs.declared.syntax.argument.Kind.TheVariants.{Value, List as ListKind}
+use Rattle.interpolator.specs.declared.syntax.cursor.Cursor.{Cursor}
 use Rattle.interpolator.specs.declared.syntax.argument.Argument as code_argument
 
 -- what stands in braces
@@ -55,6 +58,16 @@ argument_at = λ a. argument_parts a.place a
 -- the kind as the code has it
 abbrev pub kind_of : code_kind.Kind → Kind
 kind_of (Value t) = of_value t
+kind_of (ListKind range item join) = of_list (record {
+  range = range;
+  item = option_map group_of item;
+  join = option_map group_of join;
+})
+
+-- a kind, and what stands behind it; or why it is broken
+abbrev pub kind_read : Result (code_kind.Kind × Cursor) Broken → Result (Kind × At) Fault
+kind_read (Ok x) = Ok (kind_of x.0, at x.1)
+kind_read (Err broken) = Err (broken_fault_of broken)
 
 -- what is asked, as the code has it
 abbrev pub asked_of : code_argument.Argument → Asked

@@ -5,8 +5,11 @@ use Rattle.std.specs.Prelude.{List, [], ◌∷◌, ◌++◌, Option, Some, None}
 use Rattle.interpolator.specs.Syntax.At.{At, size}
 use Rattle.interpolator.specs.Syntax.Classes.{in_class}
 use Rattle.interpolator.specs.Syntax.Grammar.{NotFirst, IsLongest}
-use Rattle.interpolator.specs.Faults.{Fault, parse, unclosed}
+use Rattle.interpolator.specs.Syntax.NumberGrammar.{Spelling}
+use Rattle.interpolator.specs.Faults.{Fault, ParseFault, parse, unclosed}
+use Rattle.interpolator.specs.declared.error.NumberError.{NumberError}
 use Rattle.interpolator.specs.declared.syntax.class.Class.{Class}
+use Rattle.interpolator.specs.declared.syntax.class.Class.TheVariants.{Number}
 
 -- `is a x q`: x stands at a, and behind it what stands at q; `is_not a f`: none stands at a, and f
 -- is the fault
@@ -100,3 +103,21 @@ run class start = record {
       λ a f. (cs : List ℕ) × (b : At) × IsRun class a cs b × (b.text ≡ [])
       × (f ≡ parse (unclosed start));
 }
+
+-- the run that stood at p spells a number
+abbrev pub spelled : {A : Type 0} → Spelling A → (NumberError → ℕ → ParseFault) → (p : ℕ)
+    → (cs : List ℕ) → Part (Option A)
+spelled {A = A} spelling wrong p cs = record {
+  is = λ a x q. (n : A) × spelling.spells cs n × (x ≡ Some n) × (q ≡ a);
+  is_not =
+      λ a f. (kind : NumberError) × spelling.spells_none cs kind × (f ≡ parse (wrong kind p));
+}
+
+-- a number: a run of digits and `-` that spells one
+abbrev pub number : {A : Type 0} → Spelling A → (NumberError → ℕ → ParseFault) → (start : ℕ)
+    → Part (Option A)
+number spelling wrong start =
+    placed (λ p.
+    do
+      cs ← run Number start
+      spelled spelling wrong p cs)

@@ -69,3 +69,16 @@ IsNoInteger text kind =
     (((behind : List ℕ) → IsSigned text behind → ⊥) × IsNoNumber (2 ^ 63) PosOverflow text kind)
     ⊎ ((behind : List ℕ) × IsSigned text behind
     × IsNoNumber (2 ^ 63 + 1) NegOverflow behind kind)
+
+-- which texts spell which numbers, and why the others spell none
+pub record Spelling (A : Type 0) : Type 1 where
+  pub spells : List ℕ → A → Type 0
+  pub spells_none : List ℕ → NumberError → Type 0
+
+-- numbers without a sign, of 64 bits
+abbrev pub naturals : Spelling ℕ
+naturals = record { spells = IsNumber (2 ^ 64); spells_none = IsNoNumber (2 ^ 64) PosOverflow }
+
+-- integers, of 64 bits
+abbrev pub integers : Spelling ℤ
+integers = record { spells = IsInteger; spells_none = IsNoInteger }

@@ -13,7 +13,8 @@ with_digit n c = n * 10 + (c - zero_digit)
 
 -- the digits behind those of n, for numbers below `limit`: from the left, the first character
 -- decides that is no digit, or whose digit takes the number to the limit
-abbrev pub digits_behind : (limit : ℕ) → (overflow : NumberError) → ℕ → List ℕ → Result ℕ NumberError
+abbrev pub digits_behind : (limit : ℕ) → (overflow : NumberError) → ℕ → List ℕ
+    → Result ℕ NumberError
 digits_behind limit overflow n [] = Ok n
 digits_behind limit overflow n (c ∷ cs) =
     if is_ascii_digit c

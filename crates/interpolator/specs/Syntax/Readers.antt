@@ -64,4 +64,5 @@ run_before start cs rest (d ∷ ds) = Ok (cs, rest)
 -- the longest run of characters that pass, in the argument that begins at `start`: the text does
 -- not end with it
 abbrev pub run : (ℕ → Bool) → (start : ℕ) → Reader (List ℕ)
-run passes start = λ a. run_before start (front_of passes a.text) (behind passes a) (behind passes a).text
+run passes start =
+    λ a. run_before start (front_of passes a.text) (behind passes a) (behind passes a).text

@@ -1,5 +1,5 @@
 -- A spec's text as its parts, one behind the other, each where its first character stands.
-use Rattle.std.specs.Prelude.{◌≡◌, ◌≢◌, ◌⊎◌, ℕ, ◌^◌, ◌≤◌, ◌||◌, Bool, IsTrue, IsFalse, All}
+use Rattle.std.specs.Prelude.{◌≡◌, ◌≢◌, ◌⊎◌, ℕ, ◌≤◌, ◌||◌, Bool, IsTrue, IsFalse, All}
 use Rattle.std.specs.Prelude.{List, [], ◌∷◌, length, Option, Some, None, codes, ⊤}
 use Rattle.std.specs.Char.{is_ascii_digit}
 use Rattle.interpolator_render.specs.declared.view.Trait.{Trait}
@@ -11,42 +11,23 @@ use Rattle.interpolator_render.specs.declared.view.HexDebug.TheVariants as hex_d
 use Rattle.interpolator.specs.Syntax.At.{At}
 use Rattle.interpolator.specs.Syntax.Classes.{is_alignment, hash, zero_digit, point, close_brace}
 use Rattle.interpolator.specs.Syntax.Classes.{question_mark, lower_p}
-use Rattle.interpolator.specs.Syntax.SpecTexts.{of_value, Asked, plain_display, Wanted, wanted}
-use Rattle.interpolator.specs.Syntax.SpecTexts.{alignment_letter, sign_letter}
-use Rattle.interpolator.specs.Syntax.NumberGrammar.{IsNumber, IsNoNumber}
+use Rattle.interpolator.specs.Syntax.SpecTexts.{Kind, of_value, of_list, Asked, plain_display}
+use Rattle.interpolator.specs.Syntax.SpecTexts.{Wanted, wanted, alignment_letter, sign_letter}
+use Rattle.interpolator.specs.Syntax.NumberGrammar.{naturals}
 use Rattle.interpolator.specs.Syntax.Grammar.{NotFirst}
-use Rattle.interpolator.specs.Syntax.GrammarParts.{Part, ◌>>=◌, ends, placed, IsFirst, Lies}
-use Rattle.interpolator.specs.Syntax.GrammarParts.{letter, flag, where_first, where_behind, run}
-use Rattle.interpolator.specs.Faults.{Fault, ParseFault, parse, unclosed, expected, fill}
+use Rattle.interpolator.specs.Syntax.GrammarParts.{Part, ◌>>=◌, ends, IsFirst, Lies, letter, flag}
+use Rattle.interpolator.specs.Syntax.GrammarParts.{where_first, where_behind, number}
+use Rattle.interpolator.specs.Syntax.ListGrammar.{list}
+use Rattle.interpolator.specs.Faults.{Fault, parse, unclosed, expected, fill}
 use Rattle.interpolator.specs.Faults.{invalid_width, invalid_precision, unsupported_option}
-use Rattle.interpolator.specs.declared.error.NumberError.{NumberError}
-use Rattle.interpolator.specs.declared.error.NumberError.TheVariants.{PosOverflow}
-use Rattle.interpolator.specs.declared.syntax.class.Class.TheVariants.{Number}
-
--- the run that stood at p spells a number
-abbrev pub spelled : (NumberError → ℕ → ParseFault) → (p : ℕ) → (cs : List ℕ) → Part (Option ℕ)
-spelled wrong p cs = record {
-  is = λ a x q. (n : ℕ) × IsNumber (2 ^ 64) cs n × (x ≡ Some n) × (q ≡ a);
-  is_not =
-      λ a f. (kind : NumberError) × IsNoNumber (2 ^ 64) PosOverflow cs kind
-      × (f ≡ parse (wrong kind p));
-}
-
--- a number: a run of digits and `-` that spells one
-abbrev pub number : (NumberError → ℕ → ParseFault) → (start : ℕ) → Part (Option ℕ)
-number wrong start =
-    placed (λ p.
-    do
-      cs ← run Number start
-      spelled wrong p cs)
 
 -- a number, where a digit stands
 abbrev pub width : (start : ℕ) → Part (Option ℕ)
-width start = where_first is_ascii_digit (number invalid_width start)
+width start = where_first is_ascii_digit (number naturals invalid_width start)
 
 -- a number behind a `.`, where one stands
 abbrev pub precision : (start : ℕ) → Part (Option ℕ)
-precision start = where_behind point (number invalid_precision start)
+precision start = where_behind point (number naturals invalid_precision start)
 
 -- the text of a trait, and of how debug writes numbers; display has none
 abbrev pub trait_text : Trait → HexDebug → Option (List ℕ)
@@ -59,6 +40,7 @@ trait_text traits.UpperHex hex_debugs.No = Some (codes "X")
 trait_text traits.Binary hex_debugs.No = Some (codes "b")
 trait_text traits.LowerExp hex_debugs.No = Some (codes "e")
 trait_text traits.UpperExp hex_debugs.No = Some (codes "E")
+trait_text traits.Iter hex_debugs.No = Some (codes "i")
 trait_text _ _ = None
 
 -- `x` and `X` end only where no `?` follows
@@ -83,9 +65,17 @@ shown start flagged = record {
       λ a f. ((a.text ≡ []) × IsTrue flagged × (f ≡ parse (unclosed start)))
       ⊎ ((IsFirst lower_p a.text
       × (f ≡ unsupported_option (codes "p") (codes "pointer") a.place))
-      ⊎ ((c : ℕ) × IsFirst c a.text × All (λ d. c ≢ d) (codes "}?oxXbeEp")
+      ⊎ ((c : ℕ) × IsFirst c a.text × All (λ d. c ≢ d) (codes "}?oxXbeEip")
       × (f ≡ parse (expected (codes "}") a.place))));
 }
+
+-- what is asked for under a trait: behind the letter of a list stands how it is written
+abbrev pub kind : (start : ℕ) → Trait → Part Kind
+kind start traits.Iter =
+    do
+      l ← list start
+      ends (of_list l)
+kind start t = ends (of_value t)
 
 -- the parts of a spec
 abbrev pub parts : (start : ℕ) → Part Asked
@@ -98,6 +88,7 @@ parts start =
       width ← width start
       precision ← precision start
       shown ← shown start (alternate || zero)
+      kind ← kind start shown.slot
       ends (record {
         spec = record {
           alignment = alignment;
@@ -108,7 +99,7 @@ parts start =
           precision = precision;
           hex_debug = shown.hex_debug;
         };
-        kind = of_value shown.slot;
+        kind = kind;
       })
 
 -- the second character of the text is d

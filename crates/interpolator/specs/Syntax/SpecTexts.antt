@@ -1,5 +1,6 @@
 -- What stands behind the colon of an argument.
-use Rattle.std.specs.Prelude.{ℕ, Bool, false, ◌==◌, ◌||◌, if◌then◌else◌, List, [], ◌∷◌, Option, None}
+use Rattle.std.specs.Prelude.{ℕ, Bool, false, ◌==◌, ◌||◌, if◌then◌else◌, List, [], ◌∷◌, Option}
+use Rattle.std.specs.Prelude.{None}
 use Rattle.std.specs.Prelude.{Some, Result, Ok, Err, codes}
 use Rattle.std.specs.Char.{is_ascii_digit}
 use Rattle.interpolator_render.specs.declared.view.Trait.{Trait}
@@ -15,7 +16,9 @@ use Rattle.interpolator.specs.Syntax.At.{At, first, strip}
 use Rattle.interpolator.specs.Syntax.Classes.{in_class, is_alignment, left_angle, caret}
 use Rattle.interpolator.specs.Syntax.Classes.{right_angle, plus, minus, hash, zero_digit, point}
 use Rattle.interpolator.specs.Syntax.Classes.{question_mark, close_brace, upper_x, lower_x}
-use Rattle.interpolator.specs.Syntax.Classes.{upper_e, lower_e, lower_b, lower_o, lower_p}
+use Rattle.interpolator.specs.Syntax.Classes.{upper_e, lower_e, lower_b, lower_i, lower_o}
+use Rattle.interpolator.specs.Syntax.Classes.{lower_p}
+use Rattle.interpolator.specs.Syntax.Lists.{ListAsked, list_at}
 use Rattle.interpolator.specs.Syntax.Numbers.{natural}
 use Rattle.interpolator.specs.Syntax.Readers.{Reader, ◌>>=◌, give, letter, flag, run}
 use Rattle.interpolator.specs.Faults.{Fault, parse, unclosed, expected, fill}
@@ -24,9 +27,10 @@ use Rattle.interpolator.specs.Faults.{ParseFault}
 use Rattle.interpolator.specs.declared.error.NumberError.{NumberError}
 use Rattle.interpolator.specs.declared.syntax.class.Class.TheVariants.{Number}
 
--- what an argument asks for: a value under a trait
+-- what an argument asks for: a value under a trait, or a list
 pub data Kind : Type 0 where
   of_value : Trait → Kind
+  of_list : ListAsked → Kind
 
 -- a spec, and what is asked for
 pub record Asked : Type 0 where
@@ -104,14 +108,15 @@ abbrev pub hexadecimal : Trait → HexDebug → (rest : At) → Option At → Re
 hexadecimal t hex rest None = Ok (wanted t, rest)
 hexadecimal t hex rest (Some end) = Ok (record { slot = traits.Debug; hex_debug = hex }, end)
 
--- `?`, `o`, `b`, `e`, `E`
+-- `?`, `o`, `b`, `e`, `E`, `i`
 abbrev pub trait_letter : ℕ → Option Trait
 trait_letter c =
     if c == question_mark then Some traits.Debug
     else (if c == lower_o then Some traits.Octal
     else (if c == lower_b then Some traits.Binary
     else (if c == lower_e then Some traits.LowerExp
-    else (if c == upper_e then Some traits.UpperExp else None))))
+    else (if c == upper_e then Some traits.UpperExp
+    else (if c == lower_i then Some traits.Iter else None)))))
 
 -- why no trait begins with c at p
 abbrev pub no_trait : (c p : ℕ) → Fault
@@ -145,7 +150,17 @@ trait_first start flagged a (Some w) = trait_from a w.0 w.1
 abbrev pub trait_at : (start : ℕ) → (flagged : Bool) → Reader Wanted
 trait_at start flagged = λ a. trait_first start flagged a (first a)
 
--- alignment, sign, `#`, `0`, width, precision, trait, each where it stands
+-- how a list is written, behind its letter
+abbrev pub list_kind_at : (start : ℕ) → Reader Kind
+list_kind_at start = list_at start >>= λ l. give (of_list l)
+
+-- what is asked for under a trait that was read
+abbrev pub kind_at : (start : ℕ) → Trait → Reader Kind
+kind_at start traits.Iter = list_kind_at start
+kind_at start t = give (of_value t)
+
+-- alignment, sign, `#`, `0`, width, precision, trait, each where it stands; and behind the letter
+-- of a list how it is written
 unfoldable pub spec_parts : (start : ℕ) → Reader Asked
 spec_parts start =
     do
@@ -156,6 +171,7 @@ spec_parts start =
       width ← width_at start
       precision ← precision_at start
       shown ← trait_at start (alternate || zero)
+      kind ← kind_at start shown.slot
       give (record {
         spec = record {
           alignment = alignment;
@@ -166,7 +182,7 @@ spec_parts start =
           precision = precision;
           hex_debug = shown.hex_debug;
         };
-        kind = of_value shown.slot;
+        kind = kind;
       })
 
 -- an alignment stands first

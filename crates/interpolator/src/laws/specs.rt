@@ -15,12 +15,15 @@ ghost use Rattle.interpolator.specs.Faults.{Fault};
 /// 4. `0`
 /// 5. a width: where a digit stands, the longest run of digits and `-`, which is a number
 /// 6. a precision: where a `.` stands, the same behind it
-/// 7. a trait: `?`, `x?`, `X?`, `o`, `x`, `X`, `b`, `e` or `E`, or nothing in front of a `}`
+/// 7. a trait: `?`, `x?`, `X?`, `o`, `x`, `X`, `b`, `e`, `E` or `i`, or nothing in front of a `}`
+/// 8. behind `i`, how a list is written: a range, where a bound or `..` stands, and up to two groups,
+///    the format of an item and the join, each where a `(` or a `#` stands
 ///
 /// A text of at most one character is not read, and asks for plain display.
 ///
-/// So `<+#08.3x?}` is a spec whose `}` is not read, and `3` at the end of the format asks for no
-/// width.
+/// So `<+#08.3x?}` is a spec whose `}` is not read, `3` at the end of the format asks for no width,
+/// and `>6i1..({})(,)}` asks for the list from its second item on, with `{}` for an item and `,`
+/// between two.
 pub fn spec_is_its_parts()
     ensures is { (start : ℕ) (a q : At) (asked : Asked) → spec_behind start a ≡ Ok (asked, q)
         → IsSpec start a asked q }
@@ -36,9 +39,14 @@ pub fn spec_is_its_parts()
 /// - the end of the text, where a trait may stand, leaves the argument unclosed behind `#` or `0`
 /// - `p` is an option that is not supported, and any other character that begins no trait stands
 ///   where a `}` is expected
+/// - behind `i`, a bound that ends with the text leaves the argument unclosed, and one that is no
+///   integer is named by the place where its run begins
+/// - a group whose signs end the text, or that nothing closes, leaves the argument unclosed, and
+///   another character than `(` behind its signs stands where a `(` is expected
 ///
 /// So the fault of `{a:x<}` is `Fill(3)`, of `{a:1-2}` it is `InvalidWidth(InvalidDigit, 3)`, of
-/// `{a:55` it is `FormatSpecUnclosed(1)`, and of `{a:5y}` it is `Expected("}", 4)`.
+/// `{a:55` it is `FormatSpecUnclosed(1)`, of `{a:5y}` it is `Expected("}", 4)`, and of `{a:i#b}` it
+/// is `Expected("(", 5)`.
 pub fn spec_is_refused_otherwise()
     ensures is { (start : ℕ) (a : At) (fault : Fault) → spec_behind start a ≡ Err fault
         → IsNoSpec start a fault }

@@ -1,11 +1,13 @@
 //! Writes what the pieces of a text mean, up to the first fault.
-ghost use Rattle.std.specs.Prelude.{◌≡◌, ◌⊎◌, IfOk};
-ghost use Rattle.std.specs.Str.{chars};
+ghost use Rattle.std.specs.Prelude.{◌≡◌, IfOk, None, Some, map, option_map};
 ghost use Rattle.interpolator.specs.Syntax.At.{at};
 ghost use Rattle.interpolator.specs.Syntax.Arguments.{argument_of, kind_of};
-ghost use Rattle.interpolator.specs.Faults.{answered, answer_of, fault, missing_value, no_memory};
-ghost use Rattle.interpolator.specs.Meaning.Meanings.{kind_means, argument_means, argument_from_means};
-ghost use Rattle.interpolator.specs.Meaning.Meanings.{token_means, means};
+ghost use Rattle.interpolator.specs.Syntax.Groups.{group_of};
+ghost use Rattle.interpolator.specs.Faults.{answered};
+ghost use Rattle.interpolator.specs.Meaning.Meanings.{means, argument_means, argument_from_means};
+ghost use Rattle.interpolator.specs.Meaning.Meanings.{token_means, kind_means, list_means};
+ghost use Rattle.interpolator.specs.Meaning.Meanings.{chosen_means, item_means, join_means};
+ghost use Rattle.interpolator.specs.Meaning.Lists.{list_asked, all_asked, whole_means};
 ghost use Rattle.interpolator.specs.Syntax.Pieces.{argument_from};
 ghost use Rattle.interpolator.specs.Syntax.Tokens.{token_of, past_token, RunFits};
 ghost use Rattle.interpolator.specs.Meaning.Scopes.{environment_of};
@@ -14,47 +16,195 @@ ghost use Rattle.interpolator.specs.Trees.{tree_of};
 
 use crate::context::Context;
 use crate::error::{Error, ParseError};
-use crate::meaning::scope::Scope;
+use crate::meaning::list::{Groups, choose, forbids_list, inside};
+use crate::meaning::scope::{Scope, missing_name};
 use crate::meaning::sink::Sink;
 use crate::slots::Formattable;
 use crate::syntax::argument::{Argument, Kind, take_argument};
 use crate::syntax::broken::error_of;
 use crate::syntax::cursor::Cursor;
+use crate::syntax::group::Group;
 use crate::syntax::piece::{Piece, next_piece};
-use interpolator_render::{TextWrite, Value};
+use crate::syntax::range::Range;
+use interpolator_render::{Spec, TextBuffer, TextWrite, Trait};
 use std::alloc::Global;
 
-/// The fault of an absent name, which is copied.
-#[inline(never)]
-fn missing_name(alloc: Global, name: &str, start: usize) -> Error
-    ensures told { (answer_of result ≡ fault (missing_value (chars name.now) start))
-        ⊎ (answer_of result ≡ no_memory) }
+/// Writes one item of a list whose argument's spec ends at `place`.
+#[cycle(evaluate)]
+fn write_item<'a, W: TextWrite, C: Context>(
+    alloc: Global,
+    sink: &mut Sink<'_, W>,
+    format: Option<Group<'_>>,
+    place: usize,
+    item: &'a Formattable<'a, C::Object>,
+    scope: &Scope<'a, C, C::Object>,
+) -> Result<(), Error>
+    ensures writes { Writes W.written
+        (item_means C.Object.shows (means C.Object.shows) (environment_of C.finds scope.now) place
+        (option_map group_of format.entry) (tree_of item.now))
+        sink.old sink.new (answered result) }
 {
-    match String::from_str(alloc, name) {
-        Ok(name) => Error::MissingValue(name, start),
-        Err(_) => Error::NoMemory,
+    match format {
+        Some(group) => write_text(alloc, sink, inside(group), &scope.bind(item)),
+        None => {
+            let value = item.slot(Trait::Display);
+            sink.put_value(value, Trait::Display, &Spec::default(), place)
+        }
+    }
+}
+
+/// Writes what stands between two items.
+#[cycle(evaluate)]
+fn write_join<'a, W: TextWrite, C: Context>(
+    alloc: Global,
+    sink: &mut Sink<'_, W>,
+    format: Option<Group<'_>>,
+    scope: &Scope<'a, C, C::Object>,
+) -> Result<(), Error>
+    ensures writes { Writes W.written
+        (join_means C.Object.shows (means C.Object.shows) (environment_of C.finds scope.now)
+        (option_map group_of format.entry))
+        sink.old sink.new (answered result) }
+{
+    match format {
+        Some(group) => write_text(alloc, sink, inside(group), scope),
+        None => Ok(()),
+    }
+}
+
+/// Writes the items of a list, and the join between two of them.
+#[cycle(evaluate)]
+fn write_items<'a, W: TextWrite, C: Context>(
+    alloc: Global,
+    sink: &mut Sink<'_, W>,
+    groups: &Groups<'_>,
+    place: usize,
+    items: &'a [Formattable<'a, C::Object>],
+    scope: &Scope<'a, C, C::Object>,
+) -> Result<(), Error>
+    ensures writes { Writes W.written
+        (chosen_means C.Object.shows (means C.Object.shows) (environment_of C.finds scope.now)
+        (all_asked groups.now) place (map tree_of items.now))
+        sink.old sink.new (answered result) }
+{
+    let Some((first, rest)) = items.split_first() else {
+        return Ok(());
+    };
+    write_item(alloc, sink, groups.item, place, first, scope)?;
+    for item in rest {
+        write_join(alloc, sink, groups.join, scope)?;
+        write_item(alloc, sink, groups.item, place, item, scope)?;
+    }
+    Ok(())
+}
+
+/// Makes the text of the items in a buffer, and then writes it with spaces up to the width.
+#[cycle(evaluate)]
+fn write_whole<'a, W: TextWrite, C: Context>(
+    alloc: Global,
+    sink: &mut Sink<'_, W>,
+    groups: &Groups<'_>,
+    spec: &Spec,
+    place: usize,
+    items: &'a [Formattable<'a, C::Object>],
+    scope: &Scope<'a, C, C::Object>,
+) -> Result<(), Error>
+    requires no_precision { spec.now.precision ≡ None }
+    ensures writes { Writes W.written
+        (whole_means spec.now place
+        (chosen_means C.Object.shows (means C.Object.shows) (environment_of C.finds scope.now)
+        (all_asked groups.now) place (map tree_of items.now)))
+        sink.old sink.new (answered result) }
+{
+    let mut made = Some(TextBuffer::new(alloc));
+    let mut inner = Sink {
+        out: &mut *sink.out,
+        aside: &mut made,
+    };
+    let answer = write_items(alloc, &mut inner, groups, place, items, scope);
+    let Sink { out: _, aside: _ } = inner;
+    match made {
+        None => unreachable!(),
+        Some(buffer) => {
+            if buffer.refused() {
+                return Err(Error::NoMemory);
+            }
+            answer?;
+            sink.put_padded(buffer.as_str(), spec, place)
+        }
+    }
+}
+
+/// Writes the items of a list that the range chooses, for an argument whose spec ends at `place`.
+#[cycle(evaluate)]
+#[inline(never)]
+fn write_list<'a, W: TextWrite, C: Context>(
+    alloc: Global,
+    sink: &mut Sink<'_, W>,
+    range: Option<Range>,
+    groups: &Groups<'_>,
+    spec: &Spec,
+    place: usize,
+    items: &'a [Formattable<'a, C::Object>],
+    scope: &Scope<'a, C, C::Object>,
+) -> Result<(), Error>
+    ensures writes { Writes W.written
+        (list_means C.Object.shows (means C.Object.shows) (environment_of C.finds scope.now)
+        (list_asked range groups.now) spec.now place (Some (map tree_of items.now)))
+        sink.old sink.new (answered result) }
+{
+    if forbids_list(spec) {
+        return Err(Error::Parse(ParseError::Iter(place)));
+    }
+    let items = choose(items, range);
+    if spec.width.is_some() {
+        write_whole(alloc, sink, groups, spec, place, items, scope)
+    } else {
+        write_items(alloc, sink, groups, place, items, scope)
     }
 }
 
 /// Writes what was found under the name of an argument whose spec ends at `end`.
+#[cycle(evaluate)]
 #[inline(always)]
-fn write_found<W: TextWrite, V: Value>(
+fn write_found<'a, W: TextWrite, C: Context>(
+    alloc: Global,
     sink: &mut Sink<'_, W>,
-    found: Formattable<'_, V>,
+    found: Formattable<'a, C::Object>,
     argument: &Argument<'_>,
     end: usize,
+    scope: &Scope<'a, C, C::Object>,
 ) -> Result<(), Error>
     ensures writes { Writes W.written
-        (kind_means V.shows (kind_of argument.now.kind) argument.now.spec end
-        (tree_of found.entry))
+        (kind_means C.Object.shows (means C.Object.shows) (environment_of C.finds scope.now)
+        (kind_of argument.now.kind) argument.now.spec end (tree_of found.entry))
         sink.old sink.new (answered result) }
 {
     match argument.kind {
         Kind::Value(t) => sink.put_value(found.slot(t), t, &argument.spec, end),
+        Kind::List { range, item, join } => {
+            let groups = Groups { item, join };
+            match found.list() {
+                Some(items) => {
+                    write_list(
+                        alloc,
+                        sink,
+                        range,
+                        &groups,
+                        &argument.spec,
+                        end,
+                        items,
+                        scope,
+                    )
+                }
+                None => Err(Error::MissingTraitImpl(Trait::Iter, end)),
+            }
+        }
     }
 }
 
 /// Writes the value of an argument that starts at `start` and whose spec ends at `end`.
+#[cycle(evaluate)]
 #[inline(always)]
 fn write_value<'a, W: TextWrite, C: Context>(
     alloc: Global,
@@ -65,21 +215,22 @@ fn write_value<'a, W: TextWrite, C: Context>(
     scope: &Scope<'a, C, C::Object>,
 ) -> Result<(), Error>
     ensures writes { Writes W.written
-        (argument_means C.Object.shows (environment_of C.finds scope.now) start
-        (argument_of argument.now) end)
+        (argument_means C.Object.shows (means C.Object.shows) (environment_of C.finds scope.now)
+        start (argument_of argument.now) end)
         sink.old sink.new (answered result) }
 {
     if let Some(item) = scope.inner(argument.name) {
-        return write_found(sink, *item, argument, end);
+        return write_found(alloc, sink, *item, argument, end, scope);
     }
     match scope.outer(argument.name) {
-        Some(found) => write_found(sink, found, argument, end),
+        Some(found) => write_found(alloc, sink, found, argument, end, scope),
         None => Err(missing_name(alloc, argument.name, start)),
     }
 }
 
 /// Writes what the argument means that begins here, behind its brace. Returns what stands behind
 /// its closing brace.
+#[cycle(evaluate)]
 #[inline(always)]
 fn write_argument<'t, 'a, W: TextWrite, C: Context>(
     alloc: Global,
@@ -107,6 +258,7 @@ fn write_argument<'t, 'a, W: TextWrite, C: Context>(
 
 /// Writes what a piece at a place means, behind which stands `rest`. Returns what stands behind it
 /// and its argument.
+#[cycle(evaluate)]
 #[inline(always)]
 fn write_piece<'t, 'a, W: TextWrite, C: Context>(
     alloc: Global,
@@ -132,6 +284,7 @@ fn write_piece<'t, 'a, W: TextWrite, C: Context>(
 }
 
 /// Writes what a text means, piece by piece.
+#[cycle(evaluate)]
 pub(crate) fn write_text<'a, W: TextWrite, C: Context>(
     alloc: Global,
     sink: &mut Sink<'_, W>,

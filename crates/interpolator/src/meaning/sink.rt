@@ -1,22 +1,25 @@
 //! Where text goes: to the writer, or aside into a buffer.
-ghost use Rattle.std.specs.Prelude.{◌+◌, ◌^◌, ◌<◌, length, [], ◌∷◌};
+ghost use Rattle.std.specs.Prelude.{◌≡◌, ◌+◌, ◌^◌, ◌<◌, length, [], ◌∷◌, None};
 ghost use Rattle.std.specs.Str.{chars};
 ghost use Rattle.std.specs.Option.{option_copied};
 ghost use Rattle.interpolator_render.specs.Views.{IsInRange, shown_by};
+ghost use Rattle.interpolator_render.specs.Padding.{padded_text};
 ghost use Rattle.interpolator_render.specs.Texts.{view_text};
-ghost use Rattle.interpolator.specs.Syntax.At.{placed_from};
+ghost use Rattle.interpolator.specs.Syntax.At.{placed_at, placed_from};
 ghost use Rattle.interpolator.specs.Faults.{answered};
 ghost use Rattle.interpolator.specs.Meaning.Meanings.{text_alone, view_means, value_means};
 ghost use Rattle.interpolator.specs.Meaning.Outcomes.{Outcome};
 ghost use Rattle.interpolator.specs.Meaning.Sinks.{Writes};
 
 use crate::error::Error;
-use interpolator_render::{RenderFault, Spec, TextBuffer, TextWrite, Trait, Value, View, render};
+use interpolator_render::{
+    RenderFault, Spec, TextBuffer, TextWrite, Trait, Value, View, pad, render,
+};
 use std::fmt;
 
 /// Writes one character of the format.
 #[inline(always)]
-fn write_char<W: TextWrite>(out: &mut W, c: char, place: usize) -> Result<(), Error>
+pub(crate) fn write_char<W: TextWrite>(out: &mut W, c: char, place: usize) -> Result<(), Error>
     ensures outcome { Outcome (text_alone ((c, place) ∷ []))
         (W.written out.old) (W.written out.new) (answered result) }
 {
@@ -65,6 +68,23 @@ fn write_view<W: TextWrite>(
     }
 }
 
+/// Writes a text with spaces up to the width, each character of which stands at one place.
+fn write_padded<W: TextWrite>(
+    out: &mut W,
+    text: &str,
+    spec: &Spec,
+    place: usize,
+) -> Result<(), Error>
+    requires no_precision { spec.now.precision ≡ None }
+    ensures outcome { Outcome (text_alone (placed_at place (padded_text spec.now (chars text.now))))
+        (W.written out.old) (W.written out.new) (answered result) }
+{
+    match pad(out, text, spec) {
+        Ok(()) => Ok(()),
+        Err(_) => Err(Error::Fmt(fmt::Error, place)),
+    }
+}
+
 /// Where text goes: to the writer, or aside into a buffer if there is one.
 pub(crate) struct Sink<'s, W> {
     pub(crate) out: &'s mut W,
@@ -94,6 +114,19 @@ impl<'s, W: TextWrite> Sink<'s, W> {
         match &mut *self.aside {
             None => write_run(&mut *self.out, text, place),
             Some(buffer) => write_run(buffer, text, place),
+        }
+    }
+
+    /// A text with spaces up to the width, each character at one place.
+    pub(crate) fn put_padded(&mut self, text: &str, spec: &Spec, place: usize) -> Result<(), Error>
+        requires no_precision { spec.now.precision ≡ None }
+        ensures writes { Writes W.written
+            (text_alone (placed_at place (padded_text spec.now (chars text.now))))
+            self.old self.new (answered result) }
+    {
+        match &mut *self.aside {
+            None => write_padded(&mut *self.out, text, spec, place),
+            Some(buffer) => write_padded(buffer, text, spec, place),
         }
     }
 

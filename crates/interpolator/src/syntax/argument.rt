@@ -8,14 +8,26 @@ use crate::error::{Error, ParseError};
 use crate::syntax::broken::{Broken, error_of};
 use crate::syntax::class::Class;
 use crate::syntax::cursor::Cursor;
+use crate::syntax::group::Group;
+use crate::syntax::range::Range;
 use crate::syntax::spec::take_spec;
 use interpolator_render::{Spec, Trait};
 
 /// What an argument asks for.
 #[derive(Clone, Copy)]
-pub enum Kind {
+pub enum Kind<'a> {
     /// A value, written under a trait.
     Value(Trait),
+    /// A list, written item by item.
+    List {
+        /// Which of its items; all, where there is none.
+        range: Option<Range>,
+        /// The format of an item, in which the empty name is the item. Without one each item is
+        /// displayed plainly.
+        item: Option<Group<'a>>,
+        /// The format of what stands between two items; nothing, where there is none.
+        join: Option<Group<'a>>,
+    },
 }
 
 /// What stands in braces: a name, and how its value is written.
@@ -28,7 +40,7 @@ pub struct Argument<'a> {
     /// How the value is written.
     pub spec: Spec,
     /// What is asked for.
-    pub kind: Kind,
+    pub kind: Kind<'a>,
 }
 
 impl<'a> Argument<'a> {

@@ -47,7 +47,7 @@ fn find_bracket(here: Cursor<'_>) -> Option<(Cursor<'_>, Cursor<'_>)>
 
 /// The text in front of a rest of it.
 #[inline(always)]
-fn text_before<'a>(text: &'a str, rest: &str) -> &'a str
+pub(crate) fn text_before<'a>(text: &'a str, rest: &str) -> &'a str
     requires { (front : List ℕ) × (chars text.now ≡ front ++ chars rest.now) }
     ensures chars { chars result.now ++ chars rest.now ≡ chars text.now }
     ensures len { length result.now ≤ length text.now }

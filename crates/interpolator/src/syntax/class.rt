@@ -140,8 +140,8 @@ fn skip_blocks(bytes: &[u8], first: u8, second: u8) -> &[u8]
 {
     let mut rest = bytes;
     while rest.len() >= BLOCK {
-        if let Some(place) = block_position(rest, first, second) {
-            let (_, found) = rest.split_at(place);
+        if let Some(index) = block_position(rest, first, second) {
+            let (_, found) = rest.split_at(index);
             return found;
         }
         let (_, behind) = rest.split_at(BLOCK);
@@ -150,7 +150,7 @@ fn skip_blocks(bytes: &[u8], first: u8, second: u8) -> &[u8]
     rest
 }
 
-/// The place of the first byte that is one of these two.
+/// The index of the first byte that is one of these two.
 #[inline(always)]
 fn byte_position(bytes: &[u8], first: u8, second: u8) -> Option<usize>
     ensures { result ≡ position (λ b. b == first || b == second) bytes.now }
@@ -173,13 +173,13 @@ fn near_position(bytes: &[u8], near: usize, first: u8, second: u8) -> Option<usi
 fn bytes_before(bytes: &[u8], near: usize, first: u8, second: u8) -> usize
     ensures { result ≡ position_or_len (λ b. b == first || b == second) bytes.now }
 {
-    if let Some(place) = near_position(bytes, near, first, second) {
-        return place;
+    if let Some(index) = near_position(bytes, near, first, second) {
+        return index;
     }
     let rest = skip_blocks(bytes, first, second);
     let skipped = bytes.len() - rest.len();
     match byte_position(rest, first, second) {
-        Some(place) => skipped + place,
+        Some(index) => skipped + index,
         None => bytes.len(),
     }
 }

@@ -2,9 +2,9 @@
 ghost use Rattle.std.specs.Prelude.{◌≡◌, ◌<◌, Result};
 ghost use Rattle.std.specs.Str.{chars};
 ghost use Rattle.interpolator.specs.Syntax.At.{at};
-ghost use Rattle.interpolator.specs.Syntax.Arguments.{asked_read};
+ghost use Rattle.interpolator.specs.Syntax.Arguments.{asked_read, kind_read};
 ghost use Rattle.interpolator.specs.Syntax.Readers.{letter, flag};
-ghost use Rattle.interpolator.specs.Syntax.SpecTexts.{alignment_letter, sign_letter, width_at, precision_at, trait_at, spec_parts, spec_behind};
+ghost use Rattle.interpolator.specs.Syntax.SpecTexts.{alignment_letter, sign_letter, width_at, precision_at, trait_at, kind_at, spec_parts, spec_behind};
 ghost use Rattle.interpolator.specs.Syntax.SpecReads.{part_read, number_read, wanted_read};
 ghost use Rattle.interpolator_render.specs.declared.view.Alignment.TheVariants as alignments;
 ghost use Rattle.interpolator_render.specs.declared.view.Sign.TheVariants as signs;
@@ -14,6 +14,7 @@ use crate::syntax::argument::{Argument, Kind};
 use crate::syntax::broken::Broken;
 use crate::syntax::class::Class;
 use crate::syntax::cursor::Cursor;
+use crate::syntax::list::take_list;
 use crate::syntax::number::parse_natural;
 use interpolator_render::{Alignment, HexDebug, Sign, Spec, Trait};
 
@@ -133,8 +134,25 @@ fn take_trait(
         Some(('b', rest)) => Ok((Trait::Binary, HexDebug::No, rest)),
         Some(('e', rest)) => Ok((Trait::LowerExp, HexDebug::No, rest)),
         Some(('E', rest)) => Ok((Trait::UpperExp, HexDebug::No, rest)),
+        Some(('i', rest)) => Ok((Trait::Iter, HexDebug::No, rest)),
         Some(('p', _)) => Err(Broken::Pointer(here.place)),
         Some(_) => Err(Broken::Text(ParseError::Expected("}", here.place))),
+    }
+}
+
+/// What is asked for under a trait whose letter was read, in the argument that begins at `start`:
+/// behind the letter of a list stands how it is written.
+#[inline(always)]
+fn take_kind(
+    here: Cursor<'_>,
+    start: usize,
+    wanted: Trait,
+) -> Result<(Kind<'_>, Cursor<'_>), Broken>
+    ensures { kind_read result ≡ kind_at start wanted (at here.entry) }
+{
+    match wanted {
+        Trait::Iter => take_list(here, start),
+        value => Ok((Kind::Value(value), here)),
     }
 }
 
@@ -157,6 +175,7 @@ fn take_parts<'a>(
     let (width, rest) = take_width(rest, start)?;
     let (precision, rest) = take_precision(rest, start)?;
     let (slot, hex_debug, rest) = take_trait(rest, start, alternate || zero)?;
+    let (kind, rest) = take_kind(rest, start, slot)?;
     *here = rest;
     argument.spec = Spec {
         alignment,
@@ -167,7 +186,7 @@ fn take_parts<'a>(
         precision,
         hex_debug,
     };
-    argument.kind = Kind::Value(slot);
+    argument.kind = kind;
     Ok(())
 }
 

@@ -15,6 +15,36 @@ pub(crate) struct Reading<'a> {
     pub(crate) end: usize,
 }
 
+/// The bounds of a range.
+#[derive(Clone, Copy, Debug, PartialEq)]
+pub(crate) struct Bounds {
+    pub(crate) lower: Option<isize>,
+    pub(crate) inclusive: bool,
+    pub(crate) upper: Option<isize>,
+}
+
+/// The text of a group, and the byte at which it begins.
+#[derive(Clone, Copy, Debug, PartialEq)]
+pub(crate) struct Inner<'a> {
+    pub(crate) text: &'a str,
+    pub(crate) place: usize,
+}
+
+/// A text whose argument, which starts at byte `start`, asks for a list: the name at its place, the
+/// spec, the parts of the list, and the byte behind them.
+#[derive(Clone, Copy)]
+pub(crate) struct Listing<'a> {
+    pub(crate) text: &'a str,
+    pub(crate) start: usize,
+    pub(crate) name: &'a str,
+    pub(crate) name_place: usize,
+    pub(crate) spec: Spec,
+    pub(crate) range: Option<Bounds>,
+    pub(crate) item: Option<Inner<'a>>,
+    pub(crate) join: Option<Inner<'a>>,
+    pub(crate) end: usize,
+}
+
 /// A text, the byte at which its argument starts, and why it is none.
 pub(crate) struct Refusal<'a> {
     pub(crate) text: &'a str,
@@ -69,9 +99,54 @@ pub(crate) const READ: [Reading<'static>; 19] = [
     Reading { text: "{a}{b:o}", start: 5, name: "", name_place: 5, spec: PLAIN, t: Trait::Octal, end: 7 },
 ];
 
+/// A list of which nothing more is asked.
+const LIST: Listing<'static> = Listing {
+    text: "",
+    start: 1,
+    name: "h",
+    name_place: 1,
+    spec: PLAIN,
+    range: None,
+    item: None,
+    join: None,
+    end: 0,
+};
+
 /// Worked by hand, as the rows above.
 #[rattlefmt::skip]
-pub(crate) const REFUSED: [Refusal<'static>; 18] = [
+pub(crate) const LISTS: [Listing<'static>; 27] = [
+    Listing { text: "{h:i}", end: 4, ..LIST },
+    Listing { text: "{h:i.}", end: 4, ..LIST },
+    Listing { text: "{h:i.1}", end: 4, ..LIST },
+    Listing { text: "{h:i1}", range: Some(Bounds { lower: Some(1), inclusive: true, upper: Some(1) }), end: 5, ..LIST },
+    Listing { text: "{h:i-1}", range: Some(Bounds { lower: Some(-1), inclusive: true, upper: Some(-1) }), end: 6, ..LIST },
+    Listing { text: "{h:i1.}", range: Some(Bounds { lower: Some(1), inclusive: true, upper: Some(1) }), end: 5, ..LIST },
+    Listing { text: "{h:i..}", range: Some(Bounds { lower: None, inclusive: false, upper: None }), end: 6, ..LIST },
+    Listing { text: "{h:i..=}", range: Some(Bounds { lower: None, inclusive: true, upper: None }), end: 7, ..LIST },
+    Listing { text: "{h:i1..}", range: Some(Bounds { lower: Some(1), inclusive: false, upper: None }), end: 7, ..LIST },
+    Listing { text: "{h:i1..=}", range: Some(Bounds { lower: Some(1), inclusive: true, upper: None }), end: 8, ..LIST },
+    Listing { text: "{h:i..-2}", range: Some(Bounds { lower: None, inclusive: false, upper: Some(-2) }), end: 8, ..LIST },
+    Listing { text: "{h:i..=-5}", range: Some(Bounds { lower: None, inclusive: true, upper: Some(-5) }), end: 9, ..LIST },
+    Listing { text: "{h:i-5..-10}", range: Some(Bounds { lower: Some(-5), inclusive: false, upper: Some(-10) }), end: 11, ..LIST },
+    Listing { text: "{h:i007..=-0}", range: Some(Bounds { lower: Some(7), inclusive: true, upper: Some(0) }), end: 12, ..LIST },
+    Listing { text: "{h:i-9223372036854775808..9223372036854775807}", range: Some(Bounds { lower: Some(isize::MIN), inclusive: false, upper: Some(isize::MAX) }), end: 45, ..LIST },
+    Listing { text: "{h:i1..", range: Some(Bounds { lower: Some(1), inclusive: false, upper: None }), end: 7, ..LIST },
+    Listing { text: "{h:i..=", range: Some(Bounds { lower: None, inclusive: true, upper: None }), end: 7, ..LIST },
+    Listing { text: "{h:i2..1({})}", range: Some(Bounds { lower: Some(2), inclusive: false, upper: Some(1) }), item: Some(Inner { text: "{}", place: 9 }), end: 12, ..LIST },
+    Listing { text: "{h:i()", item: Some(Inner { text: "", place: 5 }), end: 6, ..LIST },
+    Listing { text: "{h:i#(a)))# hello", item: Some(Inner { text: "a))", place: 6 }), end: 11, ..LIST },
+    Listing { text: "{h:i###((a:)#>))##))###)### hello", item: Some(Inner { text: "(a:)#>))##)", place: 8 }), end: 23, ..LIST },
+    Listing { text: "{h:i(`{:+05}`)#() )#}", item: Some(Inner { text: "`{:+05}`", place: 5 }), join: Some(Inner { text: ") ", place: 16 }), end: 20, ..LIST },
+    Listing { text: "{h:i(a)(b)(c)}", item: Some(Inner { text: "a", place: 5 }), join: Some(Inner { text: "b", place: 8 }), end: 10, ..LIST },
+    Listing { text: "{h:i(a)#(b)##}", item: Some(Inner { text: "a", place: 5 }), join: Some(Inner { text: "b", place: 9 }), end: 12, ..LIST },
+    Listing { text: "{h:>6i1..=-1({})(,)}", spec: Spec { alignment: Alignment::Right, width: Some(6), ..PLAIN }, range: Some(Bounds { lower: Some(1), inclusive: true, upper: Some(-1) }), item: Some(Inner { text: "{}", place: 13 }), join: Some(Inner { text: ",", place: 17 }), end: 19, ..LIST },
+    Listing { text: "{h:+#0.3i", spec: Spec { sign: Sign::Plus, alternate: true, zero: true, precision: Some(3), ..PLAIN }, end: 9, ..LIST },
+    Listing { text: "é{ü:+i#(é)é)#(日)}", start: 3, name: "ü", name_place: 3, spec: Spec { sign: Sign::Plus, ..PLAIN }, item: Some(Inner { text: "é)é", place: 10 }), join: Some(Inner { text: "日", place: 18 }), end: 22, ..LIST },
+];
+
+/// Worked by hand, as the rows above.
+#[rattlefmt::skip]
+pub(crate) const REFUSED: [Refusal<'static>; 36] = [
     Refusal { text: "{x", start: 1, told: Told::Parse(ParseError::FormatSpecUnclosed(1)) },
     Refusal { text: "{x:<#", start: 1, told: Told::Parse(ParseError::FormatSpecUnclosed(1)) },
     Refusal { text: "{x:+0", start: 1, told: Told::Parse(ParseError::FormatSpecUnclosed(1)) },
@@ -90,4 +165,22 @@ pub(crate) const REFUSED: [Refusal<'static>; 18] = [
     Refusal { text: "é{ü:<é}", start: 3, told: Told::Parse(ParseError::Expected("}", 7)) },
     Refusal { text: "{a}{b:1-1}", start: 4, told: Told::Parse(ParseError::InvalidWidth(NumberError::InvalidDigit, 6)) },
     Refusal { text: "", start: 0, told: Told::Parse(ParseError::FormatSpecUnclosed(0)) },
+    Refusal { text: "{h:i-}", start: 1, told: Told::Parse(ParseError::RangeBound(NumberError::InvalidDigit, 4)) },
+    Refusal { text: "{h:i--5}", start: 1, told: Told::Parse(ParseError::RangeBound(NumberError::InvalidDigit, 4)) },
+    Refusal { text: "{h:i1-}", start: 1, told: Told::Parse(ParseError::RangeBound(NumberError::InvalidDigit, 4)) },
+    Refusal { text: "{h:i-9223372036854775809}", start: 1, told: Told::Parse(ParseError::RangeBound(NumberError::NegOverflow, 4)) },
+    Refusal { text: "{h:i9223372036854775808}", start: 1, told: Told::Parse(ParseError::RangeBound(NumberError::PosOverflow, 4)) },
+    Refusal { text: "{h:i1..=9223372036854775808}", start: 1, told: Told::Parse(ParseError::RangeBound(NumberError::PosOverflow, 8)) },
+    Refusal { text: "{h:i1..--5}", start: 1, told: Told::Parse(ParseError::RangeBound(NumberError::InvalidDigit, 7)) },
+    Refusal { text: "{h:i1", start: 1, told: Told::Parse(ParseError::FormatSpecUnclosed(1)) },
+    Refusal { text: "{h:i--", start: 1, told: Told::Parse(ParseError::FormatSpecUnclosed(1)) },
+    Refusal { text: "{h:i..1", start: 1, told: Told::Parse(ParseError::FormatSpecUnclosed(1)) },
+    Refusal { text: "{h:i###()##", start: 1, told: Told::Parse(ParseError::FormatSpecUnclosed(1)) },
+    Refusal { text: "{h:i###", start: 1, told: Told::Parse(ParseError::FormatSpecUnclosed(1)) },
+    Refusal { text: "{h:i###a", start: 1, told: Told::Parse(ParseError::Expected("(", 7)) },
+    Refusal { text: "{h:i(a", start: 1, told: Told::Parse(ParseError::FormatSpecUnclosed(1)) },
+    Refusal { text: "{h:i(a)(b", start: 1, told: Told::Parse(ParseError::FormatSpecUnclosed(1)) },
+    Refusal { text: "{h:i(a)#b}", start: 1, told: Told::Parse(ParseError::Expected("(", 8)) },
+    Refusal { text: "é{h:i#é)", start: 3, told: Told::Parse(ParseError::Expected("(", 7)) },
+    Refusal { text: "é{h:i-(é)}", start: 3, told: Told::Parse(ParseError::RangeBound(NumberError::InvalidDigit, 6)) },
 ];

@@ -40,7 +40,7 @@ fn fill<'a, V: Value>(held: &mut Formattable<'a, V>, slots: Slots, value: &'a V)
 }
 
 /// A value that fills these slots alone.
-fn filled<'a, V: Value>(slots: &[Slots], value: &'a V) -> Formattable<'a, V> {
+pub(crate) fn filled<'a, V: Value>(slots: &[Slots], value: &'a V) -> Formattable<'a, V> {
     let mut held = Formattable::default();
     for some in slots {
         fill(&mut held, *some, value);

@@ -155,13 +155,6 @@ pub(crate) const BROKEN: [Table<'static>; 3] = [
     },
 ];
 
-/// Until lists come: the letter `i` is no trait. Worked by hand, as the rows above.
-#[rattlefmt::skip]
-pub(crate) const UNTIL_LISTS: Table<'static> = Table {
-    values: &[("h", &[Slots::Integer], View::Unsigned(1))],
-    rows: &[Row { format: "{h:i}", text: "", told: Told::Parse(ParseError::Expected("}", 3)) }],
-};
-
 /// One format, cut behind each of its characters. Worked by hand from the rules of arguments and
 /// specs in docs/DEFINITIONS.md.
 #[rattlefmt::skip]

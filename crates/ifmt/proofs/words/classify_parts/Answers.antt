@@ -3,7 +3,7 @@ use Rattle.std.specs.Int.{w128}
 use Rattle.std.proofs.lemmas.Int.{to_z-of_z}
 use Rattle.std.proofs.lemmas.Str.Pattern.{strip_suffix_char}
 use Rattle.ifmt.specs.Words.{EndsIn}
-use Rattle.ifmt.proofs.PartLemmas.{no_number, one_number, plain_text}
+use Rattle.ifmt.proofs.PartLemmas.{no_number, one_number, one_list, plain_text}
 use Rattle.ifmt.proofs.words.classify_parts.Goals as goal
 
 pub returns-in-None : goal.returns-in-None
@@ -22,11 +22,16 @@ returns-in-Some-number_of c =
     rw (to_z-of_z w128 found fits)
     (one_number c.args.left.now c.args.right.now name.now found ends spelled)
 
+pub returns-in-Some-strip_suffix : goal.returns-in-Some-strip_suffix
+returns-in-Some-strip_suffix c =
+    let (_, found, rest, _) = c.in-Some-strip_suffix.ensures.cases in
+    one_list c.args.left.now c.args.right.now c.in-Some-strip_suffix.name.now (rw rest found.1)
+
 pub returns : goal.returns
 returns c =
     let left = c.args.left.now in
     let no_colon = strip_suffix_char 58 left None c.in_default.ensures.cases (lit< tt) in
-    let no_brackets = c.if-ends_with.ensures.cases in
+    let no_brackets = c.in_default-strip_suffix.ensures.cases in
     plain_text left c.args.right.now
     (λ (ends : EndsIn (codes ":") left). no_colon ends.0 ends.1)
     (λ (ends : EndsIn (codes "[]") left). no_brackets ends.0 ends.1)

@@ -7,5 +7,7 @@ use Rattle.interpolator.proofs.context.HashMapRefStrFormattableContext.get.Goals
 
 pub returns : goal.returns
 returns g c = record {
-  found = rw (encodes-chars c.args.key.now c.utf8.key) (ap (option_map tree_of) (c.copied.ensures ∙ c.get.ensures.value));
+  found =
+      rw (encodes-chars c.args.key.now c.utf8.key) (ap (option_map tree_of) (c.copied.ensures
+      ∙ c.get.ensures.value));
 }

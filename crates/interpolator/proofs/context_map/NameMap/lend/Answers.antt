@@ -11,10 +11,12 @@ returns g c =
     let map = c.args.self.now in
     let name = chars c.args.name.now in
     let spelt = encodes-chars c.args.name.now c.utf8.name in
-    let value : option_copied_mut c.get_mut.result ≡ under map name = rw spelt c.get_mut.ensures.value in (
+    let value : option_copied_mut c.get_mut.result ≡ under map name =
+    rw spelt c.get_mut.ensures.value in (
       (
         refl,
-        λ last. lent_in map _ c.get_mut.result name c.args.name.now last (sym spelt) value (c.get_mut.follows.holds last),
+        λ last. lent_in map _ c.get_mut.result name c.args.name.now last (sym spelt) value
+            (c.get_mut.follows.holds last),
         same _ _ c.get_mut.follows.holds-at-none,
       ),
       value,

@@ -10,8 +10,13 @@ returns g c =
     let name = chars c.args.name.now in (
       (
         refl,
-        λ last _. put_after IsDefault map _ _ name last c.in_ok-add.ensures.ok (rw c.in-Some.is at (c.lend.follows.holds last)),
+        λ last _. put_after IsDefault map _ _ name last c.in_ok-add.ensures.ok
+            (rw c.in-Some.is at (c.lend.follows.holds last)),
         tt,
       ),
-      (value_after IsDefault map _ name c.in-Some.lent.now c.in_ok-add.ensures.ok c.in-Some.ensures.value, tt),
+      (
+        value_after IsDefault map _ name c.in-Some.lent.now c.in_ok-add.ensures.ok
+            c.in-Some.ensures.value,
+        tt,
+      ),
     )

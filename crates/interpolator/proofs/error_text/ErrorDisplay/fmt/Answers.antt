@@ -5,4 +5,5 @@ use Rattle.interpolator.proofs.error_text.ErrorDisplay.fmt.Goals as goal
 pub returns-in-MissingValue-clause-writes : goal.returns-in-MissingValue-clause-writes
 returns-in-MissingValue-clause-writes g c =
     let name = c.in-MissingValue.name in
-    rw (c.in-MissingValue.is, encodes-chars _ (IsUtf8-string_bytes name)) c.write-in-MissingValue.ensures.writes
+    rw (c.in-MissingValue.is, encodes-chars _ (IsUtf8-string_bytes name))
+    c.write-in-MissingValue.ensures.writes

@@ -6,7 +6,8 @@ pub returns : goal.returns
 returns c =
     let error = c.args.error.now in
     let other = c.args.other.now in
-    let in_bytes : IsTrue c.eq.result ↔ (byte_answer_of error ≡ byte_answer_of other) = search rules in (
+    let in_bytes : IsTrue c.eq.result ↔ (byte_answer_of error ≡ byte_answer_of other) =
+    search rules in (
       λ equal. same_answers error other (in_bytes.0 equal),
       λ same. in_bytes.1 (same_byte_answers error other same),
     )

@@ -9,6 +9,7 @@ pub loop-preserved : goal.loop-preserved
 loop-preserved c =
     let p = c.loop.here.place in
     let cs = chars c.loop.here.rest.now in
-    sym (signs_next (c.args.count - (c.loop.counter + 1)) p cs (at c.in_ok-here.here) (sym c.in_ok-here.ensures))
+    sym (signs_next (c.args.count - (c.loop.counter + 1)) p cs (at c.in_ok-here.here)
+    (sym c.in_ok-here.ensures))
     ∙ ap (λ n. behind_signs n p cs) (sym (one_less c.args.count c.loop.counter (omega arith)))
     ∙ c.loop.invariant

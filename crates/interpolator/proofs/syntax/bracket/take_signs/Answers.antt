@@ -6,4 +6,5 @@ use Rattle.interpolator.proofs.syntax.bracket.take_signs.Goals as goal
 pub returns-clause-count : goal.returns-clause-count
 returns-clause-count c =
     let utf8 : IsUtf8 c.take_class.result.0.now = search rules in
-    signs_bytes c.take_class.result.0.now (chars c.args.here.rest.now) utf8 c.take_class.ensures.front
+    signs_bytes c.take_class.result.0.now (chars c.args.here.rest.now) utf8
+    c.take_class.ensures.front

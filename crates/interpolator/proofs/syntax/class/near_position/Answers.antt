@@ -6,4 +6,5 @@ use Rattle.interpolator.proofs.syntax.class.near_position.Goals as goal
 pub returns : goal.returns
 returns c =
     let within : c.min.result ≤ length c.args.bytes.now = search rules in
-    near_is _ c.args.bytes.now c.min.result c.byte_position.result within (c.byte_position.ensures ∙ ap (position _) c.split_at.ensures.front)
+    near_is _ c.args.bytes.now c.min.result c.byte_position.result within (c.byte_position.ensures
+    ∙ ap (position _) c.split_at.ensures.front)

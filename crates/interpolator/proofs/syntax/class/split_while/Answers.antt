@@ -1,5 +1,4 @@
-use Rattle.std.proofs.Common.{◌++◌, ap, ◌∙◌}
-use Rattle.std.specs.Str.{chars, IsUtf8}
+use Rattle.std.proofs.Common.{◌∙◌}
 use Rattle.std.proofs.lemmas.Str.{IsUtf8-past_char}
 use Rattle.interpolator.specs.Syntax.Classes.{in_class}
 use Rattle.interpolator.proofs.SyntaxLemmas.FrontLemmas.{rest_more, rest_boundary, front_at_rest}
@@ -17,10 +16,12 @@ loop-after-preserved c =
 
 pub split_at-requires : goal.split_at-requires
 split_at-requires c =
-    rest_boundary c.args.text.now c.loop-after.rest.now c.loop-after.invariant.1 c.loop-after.invariant.0
+    rest_boundary c.args.text.now c.loop-after.rest.now c.loop-after.invariant.1
+    c.loop-after.invariant.0
 
 pub returns-clause-front : goal.returns-clause-front
 returns-clause-front c =
-    front_at_rest (in_class c.args.class) c.args.text.now c.split_at.result.0.now c.loop-after.rest.now
+    front_at_rest (in_class c.args.class) c.args.text.now c.split_at.result.0.now
+    c.loop-after.rest.now
     c.utf8.text c.loop-after.invariant.0 c.loop-after.invariant.1 c.split_at.ensures.front
     (c.loop-after.invariant.2 ∙ c.in_default.ensures.behind)

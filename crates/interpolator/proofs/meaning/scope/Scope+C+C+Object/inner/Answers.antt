@@ -5,7 +5,8 @@ use Rattle.interpolator.proofs.meaning.scope.Scope+C+C+Object.inner.Goals as goa
 pub returns-then-is_empty : goal.returns-then-is_empty
 returns-then-is_empty g c =
     let none : length c.args.name.now ≡ 0 = search rules in
-    inner_at (g.C.Context.finds c.args.self.now.context.now) c.args.self.now.inner c.args.name.now none
+    inner_at (g.C.Context.finds c.args.self.now.context.now) c.args.self.now.inner c.args.name.now
+    none
 
 pub returns-else-is_empty : goal.returns-else-is_empty
 returns-else-is_empty g c =

@@ -1,0 +1,172 @@
+//! What the words of a command line put under their names.
+
+ghost use Rattle.std.specs.Prelude.{◌≡◌, IfErr, IfOk, OnOk, List, map, string_bytes};
+ghost use Rattle.std.specs.List.{AllZip};
+ghost use Rattle.interpolator.specs.Views.{shown_as_value};
+ghost use Rattle.interpolator.specs.Trees.{tree_of};
+ghost use Rattle.interpolator.specs.NameMaps.{found};
+ghost use Rattle.interpolator.specs.declared.error.Error.TheVariants.{NoMemory};
+ghost use Rattle.ifmt.specs.Items.{texts_of};
+ghost use Rattle.ifmt.specs.Binding.{Fills, HasObject, Lends, item_trees, items_show};
+ghost use Rattle.ifmt.specs.Binding.{object_shows, texts_show};
+
+use crate::words::{Word, classify, items};
+use interpolator::{Bits, ContextMap, Error, Formattable, View};
+use std::alloc::Global;
+
+/// A word, and what its value shows.
+#[derive(Drop)]
+pub struct Object<'a> {
+    /// The word, classified.
+    pub word: Word<'a>,
+    /// Shows a text or a number.
+    pub value: View<'a>,
+    /// Show the items of a list.
+    pub items: Vec<View<'a>>,
+}
+
+/// A word with its object, lent, and the items of a list with their slots filled.
+#[derive(Drop)]
+pub struct Entry<'a> {
+    /// The word, classified.
+    pub word: Word<'a>,
+    /// Shows a text or a number.
+    pub value: &'a View<'a>,
+    /// The items of a list.
+    pub items: Vec<Formattable<'a, View<'a>>>,
+}
+
+/// Each word, classified, with its objects.
+///
+/// # Errors
+///
+/// `NoMemory`.
+pub fn objects_of(alloc: Global, words: &[String]) -> Result<Vec<Object<'_>>, Error>
+    ensures ok { IfOk result (λ objects.
+        AllZip (λ word object. HasObject (string_bytes word) object) words.now objects.items) }
+    ensures err { IfErr result (λ error. error ≡ NoMemory) }
+{
+    let mut objects = Vec::with_capacity(alloc, words.len())?;
+    for text in words {
+        objects.push(object_of(alloc, classify(text.as_str()))?)?;
+    }
+    Ok(objects)
+}
+
+// A word with its objects.
+fn object_of<'a>(alloc: Global, word: Word<'a>) -> Result<Object<'a>, Error>
+    ensures word { IfOk result (λ object. object.word ≡ word.entry) }
+    ensures value { IfOk result (λ object. shown_as_value object.value ≡ object_shows word.entry) }
+    ensures items { IfOk result (λ object.
+        map shown_as_value object.items.items ≡ items_show word.entry) }
+    ensures err { IfErr result (λ error. error ≡ NoMemory) }
+{
+    let items = item_objects(alloc, word)?;
+    Ok(Object {
+        word,
+        value: value_of(word),
+        items,
+    })
+}
+
+// What a word's text or number shows; a word with neither shows nothing.
+fn value_of<'a>(word: Word<'a>) -> View<'a>
+    ensures { shown_as_value result ≡ object_shows word.entry }
+{
+    match word {
+        Word::Text { name: _, text } => View::Text(text),
+        Word::Number { name: _, value } => View::Signed(value, Bits::B128),
+        Word::List { name: _, items: _ } => View::NotImplemented,
+        Word::Bad => View::NotImplemented,
+    }
+}
+
+// What the items of a list word show; another word has none.
+fn item_objects<'a>(alloc: Global, word: Word<'a>) -> Result<Vec<View<'a>>, Error>
+    ensures ok { IfOk result (λ objects.
+        map shown_as_value objects.items ≡ items_show word.entry) }
+    ensures err { IfErr result (λ error. error ≡ NoMemory) }
+{
+    match word {
+        Word::List {
+            name: _,
+            items: text,
+        } => {
+            let texts = items(alloc, text)?;
+            views_of(alloc, texts.as_slice())
+        }
+        Word::Text { name: _, text: _ } => Ok(Vec::new(alloc)),
+        Word::Number { name: _, value: _ } => Ok(Vec::new(alloc)),
+        Word::Bad => Ok(Vec::new(alloc)),
+    }
+}
+
+// Each text, as an object.
+fn views_of<'a>(alloc: Global, texts: &[&'a str]) -> Result<Vec<View<'a>>, Error>
+    ensures ok { IfOk result (λ objects.
+        map shown_as_value objects.items ≡ texts_show (texts_of texts.now)) }
+    ensures err { IfErr result (λ error. error ≡ NoMemory) }
+{
+    let mut objects = Vec::with_capacity(alloc, texts.len())?;
+    for text in texts {
+        objects.push(View::Text(text))?;
+    }
+    Ok(objects)
+}
+
+/// Each object, lent, with its items.
+///
+/// # Errors
+///
+/// `NoMemory`.
+pub fn entries_of<'e, 'a>(alloc: Global, objects: &'e [Object<'a>]) -> Result<Vec<Entry<'e>>, Error>
+    ensures ok { IfOk result (λ entries. AllZip Lends objects.now entries.items) }
+    ensures err { IfErr result (λ error. error ≡ NoMemory) }
+{
+    let mut entries = Vec::with_capacity(alloc, objects.len())?;
+    for object in objects {
+        entries.push(Entry {
+            word: object.word,
+            value: &object.value,
+            items: as_items(alloc, object.items.as_slice())?,
+        })?;
+    }
+    Ok(entries)
+}
+
+// Each object as an item: its slots of debug and display are filled.
+fn as_items<'a, V>(alloc: Global, objects: &'a [V]) -> Result<Vec<Formattable<'a, V>>, Error>
+    ensures ok { IfOk result (λ items. map tree_of items.items ≡ item_trees objects.now) }
+    ensures err { IfErr result (λ error. error ≡ NoMemory) }
+{
+    let mut items = Vec::with_capacity(alloc, objects.len())?;
+    for object in objects {
+        items.push(Formattable::debug_display(object))?;
+    }
+    Ok(items)
+}
+
+/// Fills the slots of a word's name: a text those of debug and display, a number all of an integer,
+/// a list that of its items. The other slots stay as they were.
+///
+/// # Errors
+///
+/// `NoMemory`.
+pub fn fill<'a, V>(
+    context: &mut ContextMap<'a, V>,
+    word: Word<'_>,
+    value: &'a V,
+    items: &'a [Formattable<'a, V>],
+) -> Result<(), Error>
+    ensures ok { OnOk result (Fills
+        (found context.old) word.entry value.now (map tree_of items.now) (found context.new)) }
+    ensures err { IfErr result (λ error. error ≡ NoMemory) }
+{
+    match word {
+        Word::Text { name, text: _ } => context.entry(name)?.set_debug_display(value),
+        Word::Number { name, value: _ } => context.entry(name)?.set_integer(value),
+        Word::List { name, items: _ } => context.entry(name)?.set_iter(items),
+        Word::Bad => {}
+    }
+    Ok(())
+}

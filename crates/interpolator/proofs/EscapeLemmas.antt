@@ -1,0 +1,220 @@
+-- Doubled braces: as they are appended, and what a text with doubled braces means.
+use Rattle.std.proofs.Common.{◌≡◌, ℕ, zero, suc, ◌+◌, ◌≤◌, Bool, true, false, eqb, List, []}
+use Rattle.std.proofs.Common.{◌∷◌, ◌++◌, map, length, arith, refl, ap, ◌∙◌, sym, subst, Option}
+use Rattle.std.proofs.Common.{Some, append_assoc, append-nil}
+use Rattle.std.specs.Prelude.{◌||◌}
+use Rattle.std.specs.Char.{len_utf8}
+use Rattle.std.specs.Str.{chars}
+use Rattle.std.proofs.lemmas.Str.{chars-nil}
+use Rattle.std.proofs.lemmas.Bool.{eqb-true}
+use Rattle.interpolator_render.specs.declared.view.Trait.{Trait}
+use Rattle.interpolator_render.specs.declared.view.Spec.{Spec}
+use Rattle.interpolator_render.specs.Views.{Shown}
+use Rattle.interpolator.specs.Syntax.At.{At, outermost}
+use Rattle.interpolator.specs.Syntax.Classes.{front_of, behind_of, in_class, is_brace, open_brace}
+use Rattle.interpolator.specs.Syntax.Classes.{close_brace}
+use Rattle.interpolator.specs.Syntax.Pieces.{PieceKind, Piece, literal, doubled, lone_close, closed}
+use Rattle.interpolator.specs.Syntax.Pieces.{unclosed, broken, step, piece_from, past, pieces}
+use Rattle.interpolator.specs.Meaning.Environments.{Environment}
+use Rattle.interpolator.specs.Meaning.Meanings.{Meaning, text_alone, joined, means}
+use Rattle.interpolator.specs.Escaping.{braces_doubled, plain_character, ArePlain, SaysAlone}
+use Rattle.interpolator.specs.declared.syntax.class.Class.TheVariants.{Literal}
+use Rattle.interpolator.proofs.SyntaxLemmas.PieceLemmas.{piece_within, pieces_none, pieces_next}
+use Rattle.interpolator.proofs.MeaningLemmas.MeaningLemmas.{means_none, means_next}
+
+same_head : {A : Type 0} {x y : A} {xs ys : List A} → x ∷ xs ≡ y ∷ ys → x ≡ y
+same_head e = cc
+
+same_tail : {A : Type 0} {x y : A} {xs ys : List A} → x ∷ xs ≡ y ∷ ys → xs ≡ ys
+same_tail e = cc
+
+-- ---- appended
+
+doubled_front : (cs : List ℕ)
+    → front_of (in_class Literal) cs ++ braces_doubled (behind_of (in_class Literal) cs)
+    ≡ braces_doubled cs
+doubled_front [] = refl
+doubled_front (c ∷ cs) = by_test (is_brace c) refl (doubled_front cs)
+  where
+    by_test : (b : Bool) → is_brace c ≡ b
+        → front_of (in_class Literal) cs ++ braces_doubled (behind_of (in_class Literal) cs)
+        ≡ braces_doubled cs
+        → front_of (in_class Literal) (c ∷ cs) ++ braces_doubled (behind_of (in_class Literal)
+        (c ∷ cs)) ≡ braces_doubled (c ∷ cs)
+    by_test true e more = rw e (rw e refl)
+    by_test false e more = rw e (ap (λ xs. c ∷ xs) more)
+
+-- what stands behind the front begins with a brace
+front_stops : (cs rest : List ℕ) (c : ℕ) → behind_of (in_class Literal) cs ≡ c ∷ rest
+    → is_brace c ≡ true
+front_stops [] rest c e = absurd (cc)
+front_stops (d ∷ ds) rest c e = by_test (is_brace d) refl (λ k. front_stops ds rest c k)
+  where
+    by_test : (b : Bool) → is_brace d ≡ b
+        → (behind_of (in_class Literal) ds ≡ c ∷ rest → is_brace c ≡ true) → is_brace c ≡ true
+    by_test true h more =
+        let k : d ∷ ds ≡ c ∷ rest = (rw h at e) in ap is_brace (sym (same_head k)) ∙ h
+    by_test false h more = more (rw h at e)
+
+doubled_next : (c : ℕ) (cs : List ℕ) → is_brace c ≡ true
+    → braces_doubled (c ∷ cs) ≡ c ∷ c ∷ braces_doubled cs
+doubled_next c cs h = rw h refl
+
+-- a front was appended
+pub front_appended :
+    (old new run rest text : List ℕ) → new ≡ old ++ run → run ≡ front_of (in_class Literal) text
+    → rest ≡ behind_of (in_class Literal) text
+    → new ++ braces_doubled rest ≡ old ++ braces_doubled text
+front_appended old new run rest text a f b =
+    rw (
+      a,
+      f,
+      b,
+      append_assoc old (front_of (in_class Literal) text)
+          (braces_doubled (behind_of (in_class Literal) text)),
+      doubled_front text,
+    ) refl
+
+-- and behind it a brace, twice
+pub brace_appended :
+    (old mid new run rest behind text : List ℕ) (c : ℕ) → mid ≡ old ++ run
+    → run ≡ front_of (in_class Literal) text → rest ≡ behind_of (in_class Literal) text
+    → new ≡ mid ++ (c ∷ c ∷ []) → rest ≡ c ∷ behind
+    → new ++ braces_doubled behind ≡ old ++ braces_doubled text
+brace_appended old mid new run rest behind text c a f b n e =
+    ap (λ xs. xs ++ braces_doubled behind) n
+    ∙ append_assoc mid (c ∷ c ∷ []) (braces_doubled behind)
+    ∙ ap (λ xs. mid ++ xs) (sym (doubled_next c behind (front_stops text behind c (sym b ∙ e))))
+    ∙ ap (λ xs. mid ++ braces_doubled xs) (sym e)
+    ∙ front_appended old mid run rest text a f b
+
+-- nothing was appended yet
+pub nothing_appended : (old text : List ℕ) (bytes : List ℕ) → old ≡ chars bytes → bytes ≡ []
+    → old ++ text ≡ text
+nothing_appended old text bytes o b = rw (o, b, chars-nil) refl
+
+-- and nothing is left
+pub all_appended : (out rest text : List ℕ) → length rest ≡ 0
+    → out ++ braces_doubled (chars rest) ≡ text → out ≡ text
+all_appended out [] text n e = sym (append-nil out) ∙ (rw chars-nil at e)
+all_appended out (b ∷ bs) text n e = absurd (omega arith)
+
+-- ---- pieces
+
+no_brace : (c : ℕ) → is_brace c ≡ false → (eqb c open_brace ≡ false) × (eqb c close_brace ≡ false)
+no_brace c e = by_test (eqb c open_brace) (eqb c close_brace) e
+  where
+    by_test : (b d : Bool) → (b || d) ≡ false → (b ≡ false) × (d ≡ false)
+    by_test true d e = absurd (cc)
+    by_test false d e = (refl, e)
+
+literal_step : (p c : ℕ) (b : At) → is_brace c ≡ false
+    → piece_from p c b ≡ step p (c ∷ []) (literal c) b
+literal_step p c b h = let tests = no_brace c h in rw (tests.0, tests.1) refl
+
+doubled_step : (p c : ℕ) (cs : List ℕ) → is_brace c ≡ true
+    → piece_from p c (past p c (c ∷ cs))
+    ≡ step p (c ∷ c ∷ []) (doubled c) (past (p + len_utf8 c) c cs)
+doubled_step p c cs h = by_test (eqb c open_brace) (eqb c close_brace) refl refl h
+  where
+    IsDoubled : ℕ → Type 0
+    IsDoubled n =
+        piece_from p n (past p n (n ∷ cs))
+        ≡ step p (n ∷ n ∷ []) (doubled n) (past (p + len_utf8 n) n cs)
+
+    by_test : (b d : Bool) → eqb c open_brace ≡ b → eqb c close_brace ≡ d → (b || d) ≡ true
+        → IsDoubled c
+    by_test true d e k j = subst IsDoubled (sym (eqb-true c open_brace e)) refl
+    by_test false true e k j = subst IsDoubled (sym (eqb-true c close_brace k)) refl
+    by_test false false e k j = absurd (cc)
+
+abbrev Characters : List Piece → List (Option ℕ)
+Characters xs = map (λ x. plain_character x.kind) xs
+
+abbrev IsDoubledPlain : List ℕ → Type 0
+IsDoubledPlain cs = (p : ℕ) → ArePlain (pieces (record { place = p; text = braces_doubled cs })) cs
+
+one_more_plain : (c : ℕ) (cs : List ℕ) → IsDoubledPlain cs → (b : Bool) → is_brace c ≡ b
+    → IsDoubledPlain (c ∷ cs)
+one_more_plain c cs more true h p = rw h
+    (ap Characters (pieces_next p c (c ∷ braces_doubled cs))
+    ∙ ap (λ s. Characters (s.piece ∷ pieces s.rest)) (doubled_step p c (braces_doubled cs) h)
+    ∙ ap (λ xs. Some c ∷ xs) (more (p + len_utf8 c + len_utf8 c)))
+one_more_plain c cs more false h p = rw h
+    (ap Characters (pieces_next p c (braces_doubled cs))
+    ∙ ap (λ s. Characters (s.piece ∷ pieces s.rest))
+    (literal_step p c (past p c (braces_doubled cs)) h)
+    ∙ ap (λ xs. Some c ∷ xs) (more (p + len_utf8 c)))
+
+-- a text with doubled braces has plain pieces alone
+doubled_plain : (cs : List ℕ) → IsDoubledPlain cs
+doubled_plain [] p = ap Characters (pieces_none p)
+doubled_plain (c ∷ cs) p = one_more_plain c cs (doubled_plain cs) (is_brace c) refl p
+
+pub escaped_plain : (text cs : List ℕ) → text ≡ braces_doubled cs
+    → ArePlain (pieces (outermost text)) cs
+escaped_plain text cs e = rw e (doubled_plain cs 0)
+
+-- ---- meanings
+
+says_nothing : {m : Meaning} (text : List ℕ) → m ≡ text_alone [] → [] ≡ text → SaysAlone text m
+says_nothing text e t = rw (e, ← t) (record { says = refl; no_fault = refl; no_memory = refl })
+
+says_next :
+    {m k : Meaning} (p c : ℕ) (text : List ℕ) → m ≡ joined (text_alone ((c, p) ∷ [])) k
+    → SaysAlone text k → SaysAlone (c ∷ text) m
+says_next p c text e h = rw e (record {
+  says = ap (λ cs. c ∷ cs) h.says;
+  no_fault = h.no_fault;
+  no_memory = ap (λ ns. map (λ n. 1 + n) ns) h.no_memory;
+})
+
+same_some : {a b : ℕ} → ◌≡◌ {A = Option ℕ} (Some a) (Some b) → a ≡ b
+same_some e = cc
+
+module _ {X : Type 0} (shows : X → Trait → Spec → Shown) (e : Environment X) where
+  abbrev Says : (p : ℕ) → (cs text : List ℕ) → Type 0
+  Says p cs text = SaysAlone text (means shows e (record { place = p; text = cs }))
+
+  kind_says :
+      (p c d : ℕ) (cs text : List ℕ) (k : PieceKind) → (piece_from p c (past p c cs)).piece.kind ≡ k
+      → plain_character k ≡ Some d
+      → SaysAlone text (means shows e (piece_from p c (past p c cs)).rest)
+      → Says p (c ∷ cs) (d ∷ text)
+  kind_says p c d cs text (literal b) n j r =
+      rw (← same_some j) (says_next p b text (rw n at (means_next {X = X} shows e p c cs)) r)
+  kind_says p c d cs text (doubled b) n j r =
+      rw (← same_some j) (says_next p b text (rw n at (means_next {X = X} shows e p c cs)) r)
+  kind_says p c d cs text lone_close n j r = absurd (cc)
+  kind_says p c d cs text (closed start x q) n j r = absurd (cc)
+  kind_says p c d cs text (unclosed start x q) n j r = absurd (cc)
+  kind_says p c d cs text (broken f) n j r = absurd (cc)
+
+  first_says :
+      (p c : ℕ) (cs text : List ℕ)
+      → Characters ((piece_from p c (past p c cs)).piece ∷ pieces
+      (piece_from p c (past p c cs)).rest) ≡ map Some text
+      → ((more : List ℕ) → ArePlain (pieces (piece_from p c (past p c cs)).rest) more
+      → SaysAlone more (means shows e (piece_from p c (past p c cs)).rest))
+      → Says p (c ∷ cs) text
+  first_says p c cs [] k says = absurd (cc)
+  first_says p c cs (d ∷ text) k says =
+      kind_says p c d cs text (piece_from p c (past p c cs)).piece.kind refl (same_head k)
+      (says text (same_tail k))
+
+  plain_says : (most p : ℕ) (cs text : List ℕ) → length cs ≤ most
+      → ArePlain (pieces (record { place = p; text = cs })) text → Says p cs text
+  plain_says most p [] [] l h = says_nothing [] (means_none shows e p) refl
+  plain_says most p [] (d ∷ text) l h =
+      absurd (let k = sym (ap Characters (pieces_none p)) ∙ h in cc)
+  plain_says zero p (c ∷ cs) text l h = absurd (omega arith)
+  plain_says (suc most) p (c ∷ cs) text l h =
+      let rest = (piece_from p c (past p c cs)).rest in
+      let shorter = piece_within p c (past p c cs) in
+      first_says p c cs text (sym (ap Characters (pieces_next p c cs)) ∙ h)
+      (λ more k. plain_says most rest.place rest.text more (omega arith) k)
+
+  -- where all pieces are plain, the text says their characters alone
+  pub plain_means : (a : At) (text : List ℕ) → ArePlain (pieces a) text
+      → SaysAlone text (means shows e a)
+  plain_means a text h = plain_says (length a.text) a.place a.text text (omega arith) h

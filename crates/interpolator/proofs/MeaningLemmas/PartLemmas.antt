@@ -1,0 +1,206 @@
+-- What parts mean, one after the other, and what their joined text means.
+use Rattle.std.proofs.Common.{◌≡◌, ◌≢◌, ℕ, ◌+◌, Bool, true, false, cond, List, [], ◌∷◌, ◌++◌, map}
+use Rattle.std.proofs.Common.{length, arith, refl, ap, ◌∙◌, sym, subst, Option, Some, None}
+use Rattle.std.proofs.Common.{append_assoc, append-nil, codes, ◌<◌, suc, drop, get_or}
+use Rattle.std.proofs.Math.Seq.{drop-cons}
+use Rattle.std.specs.Borrow.{Bor}
+use Rattle.std.specs.Str.{chars}
+use Rattle.interpolator_render.specs.declared.view.Trait.{Trait}
+use Rattle.interpolator_render.specs.declared.view.Spec.{Spec}
+use Rattle.interpolator_render.specs.Views.{Shown}
+use Rattle.interpolator.specs.Syntax.At.{At, Placed, size, outermost}
+use Rattle.interpolator.specs.Syntax.Pieces.{PieceKind, Piece, literal, doubled, lone_close, closed}
+use Rattle.interpolator.specs.Syntax.Pieces.{unclosed, broken, pieces}
+use Rattle.interpolator.specs.Syntax.Seams.{ends_empty_spec, kind_ending, piece_ending, last_ending}
+use Rattle.interpolator.specs.Syntax.Seams.{ending}
+use Rattle.interpolator.specs.Faults.{Fault, Answer, parse, expected}
+use Rattle.interpolator.specs.Meaning.Environments.{Environment}
+use Rattle.interpolator.specs.Meaning.Meanings.{Meaning, nothing, fault_alone, or_fault, joined}
+use Rattle.interpolator.specs.Meaning.Meanings.{argument_means, piece_means, pieces_mean, means}
+use Rattle.interpolator.specs.Meaning.Parts.{joined_text, texts_of, parts_mean}
+use Rattle.interpolator.specs.Meaning.Parts.{CleanBehind, Clean, FrontsClose}
+use Rattle.interpolator.specs.Meaning.Sinks.{SinkState, Evaluates}
+use Rattle.interpolator.specs.declared.parts.Ending.{Ending}
+use Rattle.interpolator.specs.declared.parts.Ending.TheVariants.{Settled, EmptySpec, Open}
+use Rattle.interpolator.proofs.SyntaxLemmas.LocalityLemmas.{stands, size-append}
+use Rattle.interpolator.proofs.SyntaxLemmas.TestLemmas.{none_some}
+use Rattle.interpolator.proofs.SyntaxLemmas.PieceLemmas.{pieces_none}
+use Rattle.interpolator.proofs.SyntaxLemmas.SeamLemmas.{Leaves, pieces_append, both_close}
+use Rattle.interpolator.proofs.MeaningLemmas.DepthLemmas.{means_pieces}
+use Rattle.interpolator.proofs.MeaningLemmas.MeaningLemmas.{joined_assoc, means_none}
+use Rattle.interpolator.proofs.MeaningLemmas.SinkLemmas.{and_then, fault_first, nothing_done}
+
+unmoved : (ns : List ℕ) → map (λ n. 0 + n) ns ≡ ns
+unmoved [] = refl
+unmoved (n ∷ ns) = let e : 0 + n ≡ n = omega arith in rw (e, unmoved ns) refl
+
+nothing_first : (m : Meaning) → joined nothing m ≡ m
+nothing_first m = rw (unmoved m.memory_points) refl
+
+-- a meaning by its parts
+abbrev whole : Placed → List ℕ → Option Fault → Meaning
+whole text points o = record { text = text; fault = o; memory_points = points }
+
+nothing_last : (m : Meaning) → joined m nothing ≡ m
+nothing_last m = by_fault m.fault refl
+  where
+    by_fault : (o : Option Fault) → m.fault ≡ o → or_fault o m nothing ≡ m
+    by_fault (Some f) e = refl
+    by_fault None e =
+        ap (λ (text : Placed). whole text (m.memory_points ++ []) None) (append-nil m.text)
+        ∙ ap (λ (points : List ℕ). whole m.text points None) (append-nil m.memory_points)
+        ∙ ap (λ (o : Option Fault). whole m.text m.memory_points o) (sym e)
+
+zero_and : (n : ℕ) → 0 + n ≡ n
+zero_and n = omega arith
+
+module _ {X : Type 0} (shows : X → Trait → Spec → Shown) (e : Environment X) where
+  pieces_mean_append : (xs ys : List Piece)
+      → pieces_mean shows (means shows) e (xs ++ ys) ≡ joined (pieces_mean shows (means shows) e xs)
+      (pieces_mean shows (means shows) e ys)
+  pieces_mean_append [] ys = sym (nothing_first (pieces_mean shows (means shows) e ys))
+  pieces_mean_append (x ∷ xs) ys =
+      ap (joined (piece_means shows (means shows) e x.place x.kind)) (pieces_mean_append xs ys)
+      ∙ sym (joined_assoc (piece_means shows (means shows) e x.place x.kind)
+      (pieces_mean shows (means shows) e xs) (pieces_mean shows (means shows) e ys))
+
+  -- what two texts mean, one behind the other
+  means_both :
+      (p : ℕ) (cs more : List ℕ) → Leaves (ending (stands p cs)) more
+      → means shows e (stands p (cs ++ more))
+      ≡ joined (means shows e (stands p cs)) (means shows e (stands (p + size cs) more))
+  means_both p cs more h =
+      let run = pieces_mean shows (means shows) e in
+      let a = stands p cs in
+      let b = stands (p + size cs) more in
+      means_pieces shows e (stands p (cs ++ more))
+      ∙ ap run (pieces_append (length cs) p cs more (omega arith) h)
+      ∙ pieces_mean_append (pieces a) (pieces b)
+      ∙ ap (λ m. joined m (run (pieces b))) (sym (means_pieces shows e a))
+      ∙ ap (joined (means shows e a)) (sym (means_pieces shows e b))
+
+  means_next : (before part : List ℕ) → Leaves (ending (outermost before)) part
+      → joined (means shows e (outermost before)) (means shows e (stands (size before) part))
+      ≡ means shows e (outermost (before ++ part))
+  means_next before part h =
+      ap (λ n. joined (means shows e (outermost before)) (means shows e (stands n part)))
+      (sym (zero_and (size before)))
+      ∙ sym (means_both 0 before part h)
+
+  compose_behind :
+      (before part : List ℕ) (parts : List (List ℕ)) → ending (outermost before) ≢ Open
+      → CleanBehind before (part ∷ parts) → FrontsClose (size before) (part ∷ parts)
+      → joined (means shows e (outermost before)) (parts_mean shows e (size before) (part ∷ parts))
+      ≡ means shows e (outermost (before ++ joined_text (part ∷ parts)))
+  compose_behind before part [] h clean close =
+      ap (joined (means shows e (outermost before)))
+      (nothing_last (means shows e (stands (size before) part)))
+      ∙ means_next before part (h, clean.0)
+      ∙ ap (λ cs. means shows e (outermost (before ++ cs))) (sym (append-nil part))
+  compose_behind before part (next ∷ parts) h clean close =
+      let here = means shows e (stands (size before) part) in
+      let there = size-append before part in
+      let rest = λ (n : ℕ). parts_mean shows e n (next ∷ parts) in
+      let ends =
+      subst (λ n. ending (stands n part) ≢ Open) (sym (zero_and (size before))) close.0 in
+      let closes = both_close 0 before part (h, clean.0) ends in
+      let more =
+      compose_behind (before ++ part) next parts closes clean.1
+      (subst (λ n. FrontsClose n (next ∷ parts)) (sym there) close.1) in
+      sym (joined_assoc (means shows e (outermost before)) here (rest (size before + size part)))
+      ∙ ap (λ m. joined m (rest (size before + size part))) (means_next before part (h, clean.0))
+      ∙ ap (λ n. joined (means shows e (outermost (before ++ part))) (rest n)) (sym there)
+      ∙ more
+      ∙ ap (λ cs. means shows e (outermost cs)) (append_assoc before part
+      (joined_text (next ∷ parts)))
+
+  -- clean parts mean what their joined text means
+  pub parts_are_one : (parts : List (List ℕ)) → Clean parts → FrontsClose 0 parts
+      → parts_mean shows e 0 parts ≡ means shows e (outermost (joined_text parts))
+  parts_are_one [] clean close = sym (means_none shows e 0)
+  parts_are_one (part ∷ parts) clean close =
+      let settled : ending (outermost []) ≢ Open =
+      subst (λ (d : Ending). d ≢ Open) (sym (ap (last_ending Settled) (pieces_none 0)))
+      (λ d. cc) in
+      sym (nothing_first (parts_mean shows e 0 (part ∷ parts)))
+      ∙ ap (λ m. joined m (parts_mean shows e 0 (part ∷ parts))) (sym (means_none shows e 0))
+      ∙ compose_behind [] part parts settled clean close
+
+  -- ---- a text without fault
+
+  no_fault_first : (m k : Meaning) → (joined m k).fault ≡ None → (m.fault ≡ None) × (k.fault ≡ None)
+  no_fault_first m k h = by_fault m.fault refl h
+    where
+      by_fault : (o : Option Fault) → m.fault ≡ o → (or_fault o m k).fault ≡ None
+          → (m.fault ≡ None) × (k.fault ≡ None)
+      by_fault (Some f) d g = absurd (none_some (sym (sym d ∙ g)))
+      by_fault None d g = (d, g)
+
+  closed_stays : (b : Bool) → cond b EmptySpec Settled ≢ Open
+  closed_stays true d = cc
+  closed_stays false d = cc
+
+  piece_closes : (p : ℕ) (k : PieceKind) (text : List ℕ)
+      → (piece_means shows (means shows) e p k).fault ≡ None
+      → kind_ending k text ≢ Open
+  piece_closes p (literal c) text h = λ d. cc
+  piece_closes p (doubled c) text h = λ d. cc
+  piece_closes p lone_close text h = λ d. cc
+  piece_closes p (closed start x q) text h = closed_stays (ends_empty_spec text)
+  piece_closes p (unclosed start x q) text h =
+      let parts =
+      no_fault_first (argument_means shows (means shows) e start x q)
+      (fault_alone (parse (expected (codes "}") q))) h in
+      absurd (none_some (sym parts.1))
+  piece_closes p (broken f) text h = absurd (none_some (sym h))
+
+  pieces_close : (d : Ending) (xs : List Piece) → d ≢ Open
+      → (pieces_mean shows (means shows) e xs).fault ≡ None
+      → last_ending d xs ≢ Open
+  pieces_close d [] k h = k
+  pieces_close d (x ∷ xs) k h =
+      let both =
+      no_fault_first (piece_means shows (means shows) e x.place x.kind)
+      (pieces_mean shows (means shows) e xs) h in
+      pieces_close (piece_ending x) xs (piece_closes x.place x.kind x.text both.0) both.1
+
+  -- a text without fault ends in no argument that is unclosed or broken
+  pub faultless_closes : (a : At) → (means shows e a).fault ≡ None → ending a ≢ Open
+  faultless_closes a h =
+      pieces_close Settled (pieces a) (λ d. cc)
+      (ap (λ (m : Meaning). m.fault) (sym (means_pieces shows e a)) ∙ h)
+
+  -- ---- runs
+
+  module _ (p : ℕ) (part : Bor (List ℕ)) (parts behind : List (Bor (List ℕ))) (split : parts
+      ≡ part ∷ behind) where
+    pub part_runs :
+        (q : ℕ) (s t u : SinkState) (answer : Option Answer) → q ≡ p + size (chars part.now)
+        → Evaluates (means shows e (stands p (chars part.now))) s t None
+        → Evaluates (parts_mean shows e q (texts_of behind)) t u answer
+        → Evaluates (parts_mean shows e p (texts_of parts)) s u answer
+    part_runs q s t u answer h o k =
+        rw split (and_then _ _ s t u answer o
+        (subst (λ n. Evaluates (parts_mean shows e n (texts_of behind)) t u answer) h k))
+
+    pub part_faults :
+        (s t : SinkState) (w : Answer)
+        → Evaluates (means shows e (stands p (chars part.now))) s t (Some w)
+        → Evaluates (parts_mean shows e p (texts_of parts)) s t (Some w)
+    part_faults s t w o = rw split (fault_first _ _ s t w o)
+
+  pub no_parts_run : (p : ℕ) (parts : List (Bor (List ℕ))) (s : SinkState) → parts ≡ []
+      → Evaluates (parts_mean shows e p (texts_of parts)) s s None
+  no_parts_run p parts s none = rw none (nothing_done s)
+
+-- the part at an index, as a loop takes it; there is none at an index past the last
+abbrev pub part_at : List (Bor (List ℕ)) → ℕ → Bor (List ℕ)
+part_at parts i = get_or parts i (record { ref_ptr = (0, 0); now = [] })
+
+-- the parts from an index on
+pub rest_at : (parts : List (Bor (List ℕ))) (i : ℕ) → i < length parts
+    → drop i parts ≡ part_at parts i ∷ drop (i + 1) parts
+rest_at parts i within =
+    let next : suc i ≡ i + 1 = omega arith in
+    drop-cons parts i (record { ref_ptr = (0, 0); now = [] }) within
+    ∙ ap (λ (n : ℕ). part_at parts i ∷ drop n parts) next

@@ -1,0 +1,381 @@
+-- How a text ends, as the scan finds it.
+use Rattle.std.proofs.Common.{◌≡◌, ◌≢◌, ℕ, ◌+◌, ◌<◌, Bool, true, false, cond, eqb, List, [], ◌∷◌}
+use Rattle.std.proofs.Common.{◌++◌, length, take, ◌-◌, arith, refl, ap, ◌∙◌, sym, subst, Result, Ok}
+use Rattle.std.proofs.Common.{Err, Option, Some, None, append_assoc, length-append}
+use Rattle.std.proofs.Common.{eqb-true}
+use Rattle.std.specs.Prelude.{◌&&◌, ◌||◌, ◌==◌}
+use Rattle.std.specs.Char.{len_utf8}
+use Rattle.std.specs.Str.{chars, IsUtf8, encode_utf8_all}
+use Rattle.std.proofs.lemmas.List.{append_cancel_right}
+use Rattle.std.proofs.lemmas.Str.{encode_ascii, encodes-chars, encodes-append, chars-nil}
+use Rattle.interpolator.specs.Syntax.At.{At, size, behind, strip, strip_of}
+use Rattle.interpolator.specs.Syntax.Classes.{front_of, behind_of, in_class, is_brace, open_brace}
+use Rattle.interpolator.specs.Syntax.Classes.{close_brace, colon}
+use Rattle.interpolator.specs.Syntax.Arguments.{Argument, argument_at}
+use Rattle.interpolator.specs.Faults.{Fault}
+use Rattle.interpolator.specs.Syntax.Pieces.{Piece, literal, step, Step, argument_step}
+use Rattle.interpolator.specs.Syntax.Pieces.{argument_or_broken, argument_from, open_step}
+use Rattle.interpolator.specs.Syntax.Pieces.{close_step, past, pieces, text_up_to}
+use Rattle.interpolator.specs.Syntax.Tokens.{Token, first_token, past_token, open_scan, close_scan}
+use Rattle.interpolator.specs.Syntax.Tokens.{no_open_scan, scan_by}
+use Rattle.interpolator.specs.Syntax.Seams.{ends_empty_spec, closed_ending, piece_ending}
+use Rattle.interpolator.specs.Syntax.Seams.{last_ending, token_ending}
+use Rattle.interpolator.specs.declared.syntax.class.Class.TheVariants.{Literal}
+use Rattle.interpolator.specs.declared.parts.Ending.{Ending}
+use Rattle.interpolator.specs.declared.parts.Ending.TheVariants.{Settled, EmptySpec, Open}
+use Rattle.interpolator.proofs.SyntaxLemmas.CharacterLemmas.{chars_of_next}
+use Rattle.interpolator.proofs.SyntaxLemmas.FrontLemmas.{cut_at_rest}
+use Rattle.interpolator.proofs.SyntaxLemmas.GroupLemmas.{chars_of_cut}
+use Rattle.interpolator.proofs.SyntaxLemmas.TestLemmas.{none_some, passed}
+use Rattle.interpolator.proofs.SyntaxLemmas.LocalityLemmas.{stands}
+use Rattle.interpolator.proofs.SyntaxLemmas.ReaderLemmas.{argument_takes}
+use Rattle.interpolator.proofs.SyntaxLemmas.PieceLemmas.{pieces_none, pieces_next}
+
+-- ---- `:}` at the end of a text
+
+pub ends_append :
+    (cs : List ℕ) (c d : ℕ)
+    → ends_empty_spec (cs ++ (c ∷ d ∷ [])) ≡ (c == colon && d == close_brace)
+ends_append [] c d = refl
+ends_append (x ∷ []) c d = refl
+ends_append (x ∷ y ∷ []) c d = refl
+ends_append (x ∷ y ∷ z ∷ zs) c d = ends_append (y ∷ z ∷ zs) c d
+
+-- a text that does not end in a colon, with a closing brace behind it
+no_colon :
+    (x : ℕ) (cs : List ℕ) → ((front : List ℕ) → x ∷ cs ≢ front ++ (colon ∷ []))
+    → ends_empty_spec (x ∷ (cs ++ (close_brace ∷ []))) ≡ false
+no_colon x [] h = by_test (eqb x colon) refl
+  where
+    by_test : (t : Bool) → eqb x colon ≡ t → (t && true) ≡ false
+    by_test true e = absurd (h [] (ap (λ n. n ∷ []) (eqb-true x colon e)))
+    by_test false e = refl
+no_colon x (y ∷ []) h = no_colon y [] (λ front e. h (x ∷ front) (ap (λ cs. x ∷ cs) e))
+no_colon x (y ∷ z ∷ zs) h = no_colon y (z ∷ zs) (λ front e. h (x ∷ front) (ap (λ cs. x ∷ cs) e))
+
+head_same : {c d : ℕ} {cs ds : List ℕ} → c ∷ cs ≡ d ∷ ds → c ≡ d
+head_same e = cc
+
+pub tail_same : {c d : ℕ} {cs ds : List ℕ} → c ∷ cs ≡ d ∷ ds → cs ≡ ds
+tail_same e = cc
+
+no_colon_in_braces :
+    (cs : List ℕ) → ((front : List ℕ) → cs ≢ front ++ (colon ∷ []))
+    → ends_empty_spec (open_brace ∷ (cs ++ (close_brace ∷ []))) ≡ false
+no_colon_in_braces cs h = no_colon open_brace cs other
+  where
+    other : (front : List ℕ) → open_brace ∷ cs ≢ front ++ (colon ∷ [])
+    other [] e = let same : open_brace ≡ colon = head_same e in omega (arith, same)
+    other (x ∷ front) e = h front (tail_same e)
+
+colon_in_braces :
+    (front : List ℕ)
+    → ends_empty_spec (open_brace ∷ ((front ++ (colon ∷ [])) ++ (close_brace ∷ []))) ≡ true
+colon_in_braces front =
+    ap (λ cs. ends_empty_spec (open_brace ∷ cs)) (append_assoc front (colon ∷ [])
+    (close_brace ∷ []))
+    ∙ ends_append (open_brace ∷ front) colon close_brace
+
+colon_byte : encode_utf8_all (colon ∷ []) ≡ colon ∷ []
+colon_byte = ap (λ bs. bs ++ []) (encode_ascii colon (omega arith))
+
+-- a text whose last byte is a colon, and one whose last byte is not
+colon_bytes :
+    (bs front : List ℕ) → IsUtf8 bs → bs ≡ front ++ (colon ∷ [])
+    → (cs : List ℕ) × (chars bs ≡ cs ++ (colon ∷ []))
+colon_bytes bs front u e =
+    let is_text : IsUtf8 (colon ∷ []) = (colon ∷ [], (refl, colon_byte)) in
+    let one : chars (colon ∷ []) ≡ colon ∷ [] =
+    chars_of_next (colon ∷ []) [] colon is_text (sym colon_byte)
+    ∙ ap (λ cs. colon ∷ cs) chars-nil in
+    let cut = chars_of_cut bs (colon ∷ []) _ u is_text (front, e) refl in (
+      chars (take (length bs - 1) bs),
+      sym cut
+          ∙ ap (λ cs. chars (take (length bs - 1) bs) ++ cs) one,
+    )
+
+colon_chars :
+    (bs front : List ℕ) → IsUtf8 bs → chars bs ≡ front ++ (colon ∷ [])
+    → bs ≡ encode_utf8_all front ++ (colon ∷ [])
+colon_chars bs front u e =
+    sym (encodes-chars bs u) ∙ ap encode_utf8_all e ∙ encodes-append front (colon ∷ [])
+    ∙ ap (λ bs. encode_utf8_all front ++ bs) colon_byte
+
+-- ---- what the scan hands on, in pieces
+
+-- the pieces of a text are some, of which the last ends as told, and those of what stands behind
+pub record Scanned (a : At) (e : Ending) (rest : At) : Type 0 where
+  pub front : List Piece
+  pub last : Piece
+  pub split : pieces a ≡ front ++ (last ∷ pieces rest)
+  pub ends : e ≡ piece_ending last
+
+-- the argument behind a brace ends the same wherever the brace stands
+abbrev AnyPlace : Step → Step → Type 0
+AnyPlace s t = (piece_ending s.piece ≡ piece_ending t.piece) × (s.rest ≡ t.rest)
+
+any_place : (q p : ℕ) (b : At) → AnyPlace (argument_from q b) (argument_from p b)
+unfolding argument_from
+any_place q p b = by_result (argument_at b)
+  where
+    by_step : (x : Argument) (r : At) (o : Option At)
+        → AnyPlace (argument_step q b x r o) (argument_step p b x r o)
+    by_step x r None = (refl, refl)
+    by_step x r (Some rest) = (refl, refl)
+
+    by_result : (o : Result (Argument × At) Fault)
+        → AnyPlace (argument_or_broken q b o) (argument_or_broken p b o)
+    by_result (Ok w) = by_step w.0 w.1 (strip close_brace w.1)
+    by_result (Err f) = (refl, refl)
+
+-- what the scan hands on first, by what stands behind it
+abbrev ScansTo : At → Option (Token × At) → Type 0
+ScansTo a None = pieces a ≡ []
+ScansTo a (Some x) = Scanned a (token_ending a x.0 x.1) (past_token x.0 x.1)
+
+scans_open :
+    (p : ℕ) (cs : List ℕ) (b : At) (o : Option At)
+    → pieces (stands p (open_brace ∷ cs)) ≡ (open_step p b o).piece ∷ pieces (open_step p b o).rest
+    → ScansTo (stands p (open_brace ∷ cs)) (Some (open_scan b o))
+scans_open p cs b (Some rest) e = record { front = []; last = _; split = e; ends = refl }
+scans_open p cs b None e =
+    let same = any_place b.place p b in record {
+      front = [];
+      last = (argument_from p b).piece;
+      split = e ∙ ap (λ r. (argument_from p b).piece ∷ pieces r) (sym same.1);
+      ends = same.0;
+    }
+
+scans_close :
+    (p : ℕ) (cs : List ℕ) (o : Option At)
+    → strip close_brace (past p close_brace cs) ≡ o
+    → pieces (stands p (close_brace ∷ cs))
+    ≡ (close_step p (past p close_brace cs) o).piece
+    ∷ pieces (close_step p (past p close_brace cs) o).rest
+    → ScansTo (stands p (close_brace ∷ cs)) (Some (close_scan (past p close_brace cs) o))
+scans_close p cs (Some rest) d e = record { front = []; last = _; split = e; ends = rw d refl }
+scans_close p cs None d e = record { front = []; last = _; split = e; ends = rw d refl }
+
+-- a run of literals
+abbrev ScansRun : At → Type 0
+ScansRun a = Scanned a Settled (behind (in_class Literal) a)
+
+neither : (b d : Bool) → (b || d) ≡ false → (b ≡ false) × (d ≡ false)
+neither true d e = absurd (cc)
+neither false d e = (refl, e)
+
+literal_next :
+    (p c : ℕ) (cs : List ℕ) → is_brace c ≡ false
+    → pieces (stands p (c ∷ cs))
+    ≡ (step p (c ∷ []) (literal c) (past p c cs)).piece ∷ pieces (past p c cs)
+literal_next p c cs h =
+    let tests = neither (eqb c open_brace) (eqb c close_brace) h in
+    let b = past p c cs in
+    pieces_next p c cs
+    ∙ ap (λ (s : Step). s.piece ∷ pieces s.rest)
+    (ap (λ t. cond t (open_step p b (strip open_brace b)) (cond (eqb c close_brace)
+    (close_step p b (strip close_brace b)) (step p (c ∷ []) (literal c) b))) tests.0
+    ∙ ap (λ t. cond t (close_step p b (strip close_brace b)) (step p (c ∷ []) (literal c) b))
+    tests.1)
+
+-- what stands behind a run that begins with a literal
+behind_literal :
+    (p c : ℕ) (cs : List ℕ) → is_brace c ≡ false
+    → behind (in_class Literal) (past p c cs) ≡ behind (in_class Literal) (stands p (c ∷ cs))
+behind_literal p c cs h =
+    let n : p + len_utf8 c + size (front_of (in_class Literal) cs)
+    ≡ p + (len_utf8 c + size (front_of (in_class Literal) cs)) = omega arith in
+    rw (h, n) refl
+
+no_run : (p : ℕ) (cs : List ℕ) → front_of (in_class Literal) cs ≡ []
+    → behind_of (in_class Literal) cs ≡ cs → behind (in_class Literal) (stands p cs) ≡ stands p cs
+no_run p cs e d = let n : p + 0 ≡ p = omega arith in rw (e, d, n) refl
+
+abbrev literal_piece : ℕ → ℕ → Piece
+literal_piece p c = record { place = p; text = c ∷ []; kind = literal c }
+
+scans_run : (p c : ℕ) (cs : List ℕ) → is_brace c ≡ false → ScansRun (stands p (c ∷ cs))
+scans_run p c [] h = record {
+  front = [];
+  last = literal_piece p c;
+  split = literal_next p c [] h
+      ∙ ap (λ (r : At). literal_piece p c ∷ pieces r) (sym (no_run (p + len_utf8 c) [] refl refl)
+      ∙ behind_literal p c [] h);
+  ends = refl;
+}
+scans_run p c (d ∷ ds) h = by_test (is_brace d) refl (λ k. scans_run (p + len_utf8 c) d ds k)
+  where
+    by_test :
+        (t : Bool) → is_brace d ≡ t
+        → (is_brace d ≡ false → ScansRun (stands (p + len_utf8 c) (d ∷ ds)))
+        → ScansRun (stands p (c ∷ d ∷ ds))
+    by_test true k run = record {
+      front = [];
+      last = literal_piece p c;
+      split = literal_next p c (d ∷ ds) h
+          ∙ ap (λ (r : At). literal_piece p c ∷ pieces r)
+          (sym (no_run (p + len_utf8 c) (d ∷ ds) (rw k refl) (rw k refl))
+          ∙ behind_literal p c (d ∷ ds) h);
+      ends = refl;
+    }
+    by_test false k run =
+        let more = run k in
+        record {
+          front = literal_piece p c ∷ more.front;
+          last = more.last;
+          split = literal_next p c (d ∷ ds) h
+              ∙ ap (λ (xs : List Piece). literal_piece p c ∷ xs) more.split
+              ∙ ap (λ (r : At). literal_piece p c ∷ (more.front ++ (more.last ∷ pieces r)))
+              (behind_literal p c (d ∷ ds) h);
+          ends = more.ends;
+        }
+
+scans_at : (p : ℕ) (cs : List ℕ) → ScansTo (stands p cs) (first_token (stands p cs))
+unfolding first_token
+scans_at p [] = pieces_none p
+scans_at p (c ∷ cs) = by_open (eqb c open_brace) refl
+  where
+    by_close : (t : Bool) → eqb c open_brace ≡ false → eqb c close_brace ≡ t
+        → ScansTo (stands p (c ∷ cs)) (no_open_scan (stands p (c ∷ cs))
+        (cond t (Some (past p c cs)) None))
+    by_close true n d =
+        subst (λ k. ScansTo (stands p (k ∷ cs)) (no_open_scan (stands p (k ∷ cs))
+        (Some (past p k cs)))) (sym (eqb-true c close_brace d))
+        (scans_close p cs (strip close_brace (past p close_brace cs)) refl
+        (pieces_next p close_brace cs))
+    by_close false n d = scans_run p c cs (rw (n, d) refl)
+
+    by_open : (t : Bool) → eqb c open_brace ≡ t
+        → ScansTo (stands p (c ∷ cs)) (scan_by (stands p (c ∷ cs))
+        (cond t (Some (past p c cs)) None))
+    by_open true n =
+        subst (λ k. ScansTo (stands p (k ∷ cs)) (scan_by (stands p (k ∷ cs)) (Some (past p k cs))))
+        (sym (eqb-true c open_brace n))
+        (scans_open p cs (past p open_brace cs) (strip open_brace (past p open_brace cs))
+        (pieces_next p open_brace cs))
+    by_open false n = by_close (eqb c close_brace) n refl
+
+pub scanned : (a : At) (x : Token × At) → first_token a ≡ Some x
+    → Scanned a (token_ending a x.0 x.1) (past_token x.0 x.1)
+scanned a x h = subst (ScansTo a) h (scans_at a.place a.text)
+
+pub scanned_end : (a : At) → first_token a ≡ None → pieces a ≡ []
+scanned_end a h = subst (ScansTo a) h (scans_at a.place a.text)
+
+-- how the last piece ends is decided behind any front
+pub last_behind : (e : Ending) (front : List Piece) (x : Piece) (xs : List Piece)
+    → last_ending e (front ++ (x ∷ xs)) ≡ last_ending (piece_ending x) xs
+last_behind e [] x xs = refl
+last_behind e (y ∷ front) x xs = last_behind (piece_ending y) front x xs
+
+-- a step of the scan
+pub ending_step :
+    (a : At) (x : Token × At) (rest : At) (e d whole : Ending) → first_token a ≡ Some x
+    → d ≡ token_ending a x.0 x.1 → pieces rest ≡ pieces (past_token x.0 x.1)
+    → last_ending e (pieces a) ≡ whole → last_ending d (pieces rest) ≡ whole
+ending_step a x rest e d whole h ends r k =
+    let s = scanned a x h in
+    rw (ends, s.ends, r) (sym (last_behind e s.front s.last (pieces (past_token x.0 x.1)))
+    ∙ sym (ap (last_ending e) s.split) ∙ k)
+
+pub ending_smaller :
+    (a : At) (x : Token × At) (rest : At) → first_token a ≡ Some x
+    → pieces rest ≡ pieces (past_token x.0 x.1) → length (pieces rest) < length (pieces a)
+ending_smaller a x rest h r =
+    let s = scanned a x h in
+    omega (
+      arith,
+      ap length s.split,
+      length-append s.front (s.last ∷ pieces (past_token x.0 x.1)),
+      ap length r,
+    )
+
+pub ending_done : (a : At) (e whole : Ending) → first_token a ≡ None
+    → last_ending e (pieces a) ≡ whole → e ≡ whole
+ending_done a e whole h k = sym (ap (last_ending e) (scanned_end a h)) ∙ k
+
+-- ---- how an argument ends
+
+-- what stands behind a character that stands there
+pub strip_text : (c p : ℕ) (cs : List ℕ) (r : At) → strip_of c p cs ≡ Some r → cs ≡ c ∷ r.text
+strip_text c p [] r e = absurd (none_some e)
+strip_text c p (d ∷ ds) r e =
+    let t = passed (eqb d c) _ r e in
+    ap (λ n. n ∷ ds) (eqb-true d c t.0) ∙ ap (λ (a : At). c ∷ a.text) t.1
+
+module _ (text rest bs front : List ℕ) (u : IsUtf8 bs) (whole : chars bs ++ chars rest ≡ chars text)
+    (e : chars text ≡ front ++ chars rest) where
+  same_front : chars bs ≡ front
+  same_front = append_cancel_right (chars bs) front (chars rest) (whole ∙ e)
+
+  -- the text in front of the closing brace ends in no colon
+  pub ends_settled : ((f : List ℕ) → bs ≢ f ++ (colon ∷ []))
+      → Settled ≡ closed_ending (open_brace ∷ (front ++ (close_brace ∷ [])))
+  ends_settled h =
+      let ends =
+      no_colon_in_braces front (λ f k. h (encode_utf8_all f) (colon_chars bs f u (same_front
+      ∙ k))) in
+      rw ends refl
+
+  -- it ends in one
+  pub ends_empty : (f : List ℕ) → bs ≡ f ++ (colon ∷ [])
+      → EmptySpec ≡ closed_ending (open_brace ∷ (front ++ (close_brace ∷ [])))
+  ends_empty f h =
+      let cut = colon_bytes bs f u h in
+      let ends =
+      ap (λ cs. ends_empty_spec (open_brace ∷ (cs ++ (close_brace ∷ [])))) (sym same_front
+      ∙ cut.1) ∙ colon_in_braces cut.0 in
+      rw ends refl
+
+-- the text of a closed argument
+closed_text :
+    (b r : At) (front : List ℕ) → b.text ≡ front ++ (close_brace ∷ r.text)
+    → text_up_to b r ≡ open_brace ∷ (front ++ (close_brace ∷ []))
+closed_text b r front e =
+    let inner = front ++ (close_brace ∷ []) in
+    let whole : open_brace ∷ b.text ≡ (open_brace ∷ inner) ++ r.text =
+    ap (λ cs. open_brace ∷ cs) (e ∙ sym (append_assoc front (close_brace ∷ []) r.text)) in
+    append_cancel_right (text_up_to b r) (open_brace ∷ inner) r.text
+    (cut_at_rest (open_brace ∷ b.text) r.text (open_brace ∷ inner, whole) ∙ whole)
+
+module _ (a : At) (x : Argument) (q : At) (h : argument_at a ≡ Ok (x, q)) where
+  pub closed_ends :
+      (rest : At) (e : Ending) → strip close_brace q ≡ Some rest
+      → ((front : List ℕ) → a.text ≡ front ++ q.text → e
+      ≡ closed_ending (open_brace ∷ (front ++ (close_brace ∷ []))))
+      → e ≡ piece_ending (argument_from a.place a).piece
+  unfolding argument_from
+  closed_ends rest e d ends =
+      let front = argument_takes a x q h in
+      let whole =
+      front.split ∙ ap (λ cs. front.front ++ cs) (strip_text close_brace q.place q.text rest d)
+      in
+      rw (h, d) (ends front.front front.split
+      ∙ ap closed_ending (sym (closed_text a rest front.front whole)))
+
+  pub closed_behind : (rest : At) → strip close_brace q ≡ Some rest
+      → pieces rest ≡ pieces (argument_from a.place a).rest
+  unfolding argument_from
+  closed_behind rest d = rw (h, d) refl
+
+  pub unclosed_ends : strip close_brace q ≡ None → Open
+      ≡ piece_ending (argument_from a.place a).piece
+  unfolding argument_from
+  unclosed_ends d = rw (h, d) refl
+
+  pub unclosed_behind : (p : ℕ) → strip close_brace q ≡ None
+      → pieces (stands p (chars [])) ≡ pieces (argument_from a.place a).rest
+  unfolding argument_from
+  unclosed_behind p d =
+      rw (h, d, chars-nil) (pieces_none p ∙ sym (pieces_none (a.place + size a.text)))
+
+pub broken_ends : (a : At) (f : Fault) → argument_at a ≡ Err f
+    → Open ≡ piece_ending (argument_from a.place a).piece
+unfolding argument_from
+broken_ends a f h = rw h refl
+
+pub broken_behind : (a : At) (f : Fault) (p : ℕ) → argument_at a ≡ Err f
+    → pieces (stands p (chars [])) ≡ pieces (argument_from a.place a).rest
+unfolding argument_from
+broken_behind a f p h =
+    rw (h, chars-nil) (pieces_none p ∙ sym (pieces_none (a.place + size a.text)))

@@ -1,0 +1,300 @@
+-- The pieces of a text that has another behind it.
+use Rattle.std.proofs.Common.{◌≡◌, ◌≢◌, ℕ, zero, suc, ◌+◌, ◌-◌, ◌≤◌, Bool, true, false, cond, eqb}
+use Rattle.std.proofs.Common.{List, [], ◌∷◌, ◌++◌, length, take, arith, refl, ap, ◌∙◌, sym, subst}
+use Rattle.std.proofs.Common.{Result, Ok, Err, Option, Some, None, inl, append_assoc, append-nil}
+use Rattle.std.proofs.Common.{length-append}
+use Rattle.std.specs.Prelude.{not}
+use Rattle.std.specs.Char.{len_utf8}
+use Rattle.std.proofs.lemmas.List.{take-append-le}
+use Rattle.interpolator.specs.Syntax.At.{At, size, strip, strip_of, behind}
+use Rattle.interpolator.specs.Syntax.Classes.{front_of, in_class, open_brace, close_brace, colon}
+use Rattle.interpolator.specs.Syntax.Readers.{on, give}
+use Rattle.interpolator.specs.Syntax.SpecTexts.{begins_alignment, plain_display, spec_behind}
+use Rattle.interpolator.specs.Syntax.Arguments.{Argument, argument, asked_at, argument_at}
+use Rattle.interpolator.specs.Faults.{Fault}
+use Rattle.interpolator.specs.Syntax.Pieces.{Piece, Step, closed, literal, step, text_up_to}
+use Rattle.interpolator.specs.Syntax.Pieces.{argument_step, argument_or_broken, argument_from}
+use Rattle.interpolator.specs.Syntax.Pieces.{open_step, close_step, piece_from, past, pieces}
+use Rattle.interpolator.specs.Syntax.Seams.{ends_empty_spec, closed_ending, piece_ending}
+use Rattle.interpolator.specs.Syntax.Seams.{last_ending, ending, begins_close, may_follow}
+use Rattle.interpolator.specs.declared.syntax.class.Class.TheVariants.{WhiteSpace, Name}
+use Rattle.interpolator.specs.declared.parts.Ending.{Ending}
+use Rattle.interpolator.specs.declared.parts.Ending.TheVariants.{Settled, EmptySpec}
+use Rattle.interpolator.specs.declared.parts.Ending.TheVariants.{Open}
+use Rattle.interpolator.proofs.SyntaxLemmas.FrontLemmas.{IsRest, cut_at_rest}
+use Rattle.interpolator.proofs.SyntaxLemmas.TestLemmas.{none_some, passed}
+use Rattle.interpolator.proofs.SyntaxLemmas.LocalityLemmas.{stands, with_more, Takes, takes_then}
+use Rattle.interpolator.proofs.SyntaxLemmas.LocalityLemmas.{takes_behind, Guarded}
+use Rattle.interpolator.proofs.SyntaxLemmas.ReaderLemmas.{name_end, NoFillBehind, argument_takes}
+use Rattle.interpolator.proofs.SyntaxLemmas.ReaderLemmas.{argument_same}
+use Rattle.interpolator.proofs.SyntaxLemmas.GrammarLemmas.{same_ok}
+use Rattle.interpolator.proofs.SyntaxLemmas.GrammarPieceLemmas.{step_reaches}
+use Rattle.interpolator.proofs.SyntaxLemmas.PieceLemmas.{piece_within, pieces_none, pieces_next}
+use Rattle.interpolator.proofs.SyntaxLemmas.EndingLemmas.{tail_same, ends_append, strip_text}
+
+-- a text behind one that ends so leaves its pieces as they are
+abbrev pub Leaves : Ending → List ℕ → Type 0
+Leaves e more = (e ≢ Open) × (may_follow e more ≡ true)
+
+-- ---- one character ahead
+
+strip_more :
+    (c p : ℕ) (cs more : List ℕ) (r : At) → strip_of c p cs ≡ Some r
+    → strip_of c p (cs ++ more) ≡ Some (with_more r more)
+strip_more c p [] more r e = absurd (none_some e)
+strip_more c p (d ∷ ds) more r e =
+    let t = passed (eqb d c) _ r e in
+    rw t.0 (ap (λ (x : At). Some (with_more x more)) t.1)
+
+not_passed : {A : Type 0} (b : Bool) (x : A) → cond b (Some x) None ≡ None → b ≡ false
+not_passed true x e = absurd (none_some (sym e))
+not_passed false x e = refl
+
+strip_none_more :
+    (c p : ℕ) (cs more : List ℕ) → strip_of c p cs ≡ None → cs ≢ []
+    → strip_of c p (cs ++ more) ≡ None
+strip_none_more c p [] more e h = absurd (h refl)
+strip_none_more c p (d ∷ ds) more e h = rw (not_passed (eqb d c) _ e) refl
+
+not_true : (b : Bool) → not b ≡ true → b ≡ false
+not_true true e = absurd (cc)
+not_true false e = refl
+
+no_close : (p : ℕ) (more : List ℕ) → begins_close more ≡ false → strip_of close_brace p more ≡ None
+no_close p [] h = refl
+no_close p (d ∷ ds) h = rw h refl
+
+-- ---- arguments
+
+-- the text behind a brace, where its name is followed by `:}` and no more
+reads_empty :
+    (a : At) (x : Argument) (q : At) → argument_at a ≡ Ok (x, q)
+    → (name_end a).text ≡ colon ∷ close_brace ∷ [] → q.text ≡ close_brace ∷ []
+unfolding argument_at spec_behind
+reads_empty a x q e h =
+    let b = behind (in_class WhiteSpace) a in
+    let n = name_end a in
+    let name = front_of (in_class Name) b.text in
+    let there = ap (stands n.place) h in
+    let end = stands (n.place + len_utf8 colon) (close_brace ∷ []) in
+    let read : ◌≡◌ {A = Result (Argument × At) Fault} (Ok (x, q))
+    (Ok (argument name b.place plain_display, end)) =
+    sym e ∙ ap (λ (m : At). on (asked_at a.place m) (λ asked. give (argument name b.place asked)))
+    there in
+    ap (λ (m : At). m.text) (same_ok read).1
+
+-- a closed argument is the same whatever comes behind it, but for an alignment behind `:}`
+pub closed_same :
+    (a : At) (more : List ℕ) (x : Argument) (q : At) (rest : List ℕ) → argument_at a ≡ Ok (x, q)
+    → q.text ≡ close_brace ∷ rest
+    → (rest ≡ [] → ends_empty_spec a.text ≡ true → begins_alignment more ≡ false)
+    → argument_at (with_more a more) ≡ Ok (x, with_more q more)
+closed_same a more x q rest e closes h =
+    argument_same a more x q e (subst Guarded (sym closes) (inl refl)) no_fill
+  where
+    front : Takes a (name_end a)
+    front =
+        takes_then a (behind (in_class WhiteSpace) a) (name_end a)
+        (takes_behind (in_class WhiteSpace) a) (takes_behind (in_class Name)
+        (behind (in_class WhiteSpace) a))
+
+    no_fill : NoFillBehind (name_end a) more
+    no_fill k =
+        let whole = front.split ∙ ap (λ cs. front.front ++ cs) k in
+        let same : close_brace ∷ rest ≡ close_brace ∷ [] = sym closes ∙ reads_empty a x q e k in
+        h (tail_same same) (ap ends_empty_spec whole ∙ ends_append front.front colon close_brace)
+
+-- ---- pieces
+
+-- what a piece needs of the text behind it, where it is the last
+abbrev Goes : Step → List ℕ → Type 0
+Goes s more = s.rest.text ≡ [] → Leaves (piece_ending s.piece) more
+
+abbrev step_more : Step → List ℕ → Step
+step_more s more = record { piece = s.piece; rest = with_more s.rest more }
+
+never : {A : Type 0} (more : List ℕ) → Leaves Open more → A
+never more h = absurd (h.0 refl)
+
+cut_more :
+    (cs r more : List ℕ) → length r ≤ length cs
+    → take (length (cs ++ more) - length (r ++ more)) (cs ++ more) ≡ take (length cs - length r) cs
+cut_more cs r more h =
+    let n : length (cs ++ more) - length (r ++ more) ≡ length cs - length r =
+    omega (arith, h, length-append cs more, length-append r more) in
+    ap (λ k. take k (cs ++ more)) n ∙ take-append-le (length cs - length r) cs more (omega arith)
+
+-- the text of an argument behind which nothing stands
+last_text :
+    (b r : At) (front : List ℕ) → b.text ≡ front ++ (close_brace ∷ r.text) → r.text ≡ []
+    → text_up_to b r ≡ open_brace ∷ b.text
+last_text b r front e none =
+    let rest : IsRest (open_brace ∷ b.text) r.text = (
+      open_brace ∷ (front ++ (close_brace ∷ [])),
+      ap (λ cs. open_brace ∷ cs) (e ∙ sym (append_assoc front (close_brace ∷ []) r.text)),
+    ) in
+    sym (append-nil (text_up_to b r)) ∙ ap (λ cs. text_up_to b r ++ cs) (sym none)
+    ∙ cut_at_rest (open_brace ∷ b.text) r.text rest
+
+ends_behind : (c : ℕ) (cs : List ℕ) → ends_empty_spec cs ≡ true → ends_empty_spec (c ∷ cs) ≡ true
+ends_behind c [] h = absurd (cc)
+ends_behind c (x ∷ []) h = absurd (cc)
+ends_behind c (x ∷ y ∷ ys) h = h
+
+empty_leaves : (text more : List ℕ) → ends_empty_spec text ≡ true
+    → Leaves (closed_ending text) more → begins_alignment more ≡ false
+empty_leaves text more h k =
+    let ends : closed_ending text ≡ EmptySpec = rw h refl in
+    not_true (begins_alignment more) (sym (ap (λ e. may_follow e more) ends) ∙ k.1)
+
+module _ (p : ℕ) (b : At) (more : List ℕ) where
+  closed_more :
+      (x : Argument) (q r : At) → argument_at b ≡ Ok (x, q) → strip close_brace q ≡ Some r
+      → Goes (argument_step p b x q (Some r)) more
+      → argument_or_broken p (with_more b more) (argument_at (with_more b more))
+      ≡ step_more (argument_step p b x q (Some r)) more
+  closed_more x q r e d g =
+      let front = argument_takes b x q e in
+      let closes = strip_text close_brace q.place q.text r d in
+      let whole = front.split ∙ ap (λ cs. front.front ++ cs) closes in
+      let same = closed_same b more x q r.text e closes (λ none ends.
+      empty_leaves (open_brace ∷ b.text) more (ends_behind open_brace b.text ends)
+      (subst (λ text. Leaves (closed_ending text) more) (last_text b r front.front whole none)
+      (g none))) in
+      let shorter : length r.text ≤ length (open_brace ∷ b.text) =
+      omega (arith, ap length whole, length-append front.front (close_brace ∷ r.text)) in
+      ap (argument_or_broken p (with_more b more)) same
+      ∙ ap (argument_step p (with_more b more) x (with_more q more))
+      (strip_more close_brace q.place q.text more r d)
+      ∙ ap (λ text. step p text (closed b.place x q.place) (with_more r more))
+      (cut_more (open_brace ∷ b.text) r.text more shorter)
+
+  argument_more :
+      (o : Result (Argument × At) Fault) → argument_at b ≡ o
+      → Goes (argument_or_broken p b o) more
+      → argument_or_broken p (with_more b more) (argument_at (with_more b more))
+      ≡ step_more (argument_or_broken p b o) more
+  argument_more (Err f) e g = never more (g refl)
+  argument_more (Ok w) e g = by_close (strip close_brace w.1) refl g
+    where
+      by_close : (o : Option At) → strip close_brace w.1 ≡ o
+          → Goes (argument_step p b w.0 w.1 o) more
+          → argument_or_broken p (with_more b more) (argument_at (with_more b more))
+          ≡ step_more (argument_step p b w.0 w.1 o) more
+      by_close None d k = never more (k refl)
+      by_close (Some r) d k = closed_more w.0 w.1 r e d k
+
+  argument_from_more : Goes (argument_from p b) more
+      → argument_from p (with_more b more) ≡ step_more (argument_from p b) more
+  unfolding argument_from
+  argument_from_more g = argument_more (argument_at b) refl g
+
+-- behind a brace that ends the text no argument is closed
+brace_last : (p q : ℕ) (more : List ℕ) → Goes (argument_from p (stands q [])) more → ⊥
+unfolding argument_from argument_at
+brace_last p q more g = (g refl).0 refl
+
+module _ (p : ℕ) (more : List ℕ) where
+  open_more :
+      (q : ℕ) (cs : List ℕ) (o : Option At) → strip_of open_brace q cs ≡ o
+      → Goes (open_step p (stands q cs) o) more
+      → open_step p (stands q (cs ++ more)) (strip_of open_brace q (cs ++ more))
+      ≡ step_more (open_step p (stands q cs) o) more
+  open_more q cs (Some r) e g =
+      ap (open_step p (stands q (cs ++ more))) (strip_more open_brace q cs more r e)
+  open_more q [] None e g = absurd (brace_last p q more g)
+  open_more q (c ∷ cs) None e g =
+      ap (open_step p (stands q (c ∷ (cs ++ more)))) (strip_none_more open_brace q (c ∷ cs) more e
+      (λ h. cc))
+      ∙ argument_from_more p (stands q (c ∷ cs)) more g
+
+  close_more :
+      (q : ℕ) (cs : List ℕ) (o : Option At) → strip_of close_brace q cs ≡ o
+      → Goes (close_step p (stands q cs) o) more
+      → close_step p (stands q (cs ++ more)) (strip_of close_brace q (cs ++ more))
+      ≡ step_more (close_step p (stands q cs) o) more
+  close_more q cs (Some r) e g =
+      ap (close_step p (stands q (cs ++ more))) (strip_more close_brace q cs more r e)
+  close_more q [] None e g =
+      ap (close_step p (stands q more)) (no_close q more (not_true (begins_close more) (g refl).1))
+  close_more q (c ∷ cs) None e g =
+      ap (close_step p (stands q (c ∷ (cs ++ more)))) (strip_none_more close_brace q (c ∷ cs) more e
+      (λ h. cc))
+
+  piece_more :
+      (c q : ℕ) (cs : List ℕ) → Goes (piece_from p c (stands q cs)) more
+      → piece_from p c (stands q (cs ++ more)) ≡ step_more (piece_from p c (stands q cs)) more
+  piece_more c q cs g = by_tests (eqb c open_brace) (eqb c close_brace) g
+    where
+      by_tests : (t u : Bool)
+          → Goes (cond t (open_step p (stands q cs) (strip_of open_brace q cs))
+          (cond u (close_step p (stands q cs) (strip_of close_brace q cs))
+          (step p (c ∷ []) (literal c) (stands q cs)))) more
+          → cond t (open_step p (stands q (cs ++ more)) (strip_of open_brace q (cs ++ more)))
+          (cond u (close_step p (stands q (cs ++ more)) (strip_of close_brace q (cs ++ more)))
+          (step p (c ∷ []) (literal c) (stands q (cs ++ more))))
+          ≡ step_more (cond t (open_step p (stands q cs) (strip_of open_brace q cs))
+          (cond u (close_step p (stands q cs) (strip_of close_brace q cs))
+          (step p (c ∷ []) (literal c) (stands q cs)))) more
+      by_tests true u k = open_more q cs (strip_of open_brace q cs) refl k
+      by_tests false true k = close_more q cs (strip_of close_brace q cs) refl k
+      by_tests false false k = refl
+
+-- ---- whole texts
+
+settled_leaves : (more : List ℕ) → Leaves Settled more
+settled_leaves more = (λ e. cc, refl)
+
+-- what is left of the pieces, if any, ends as all do
+rest_leaves : (e : Ending) (xs : List Piece) (more : List ℕ) → Leaves (last_ending e xs) more
+    → Leaves (last_ending Settled xs) more
+rest_leaves e [] more h = settled_leaves more
+rest_leaves e (x ∷ xs) more h = h
+
+last_leaves : (e : Ending) (a : At) (more : List ℕ) → Leaves (last_ending e (pieces a)) more
+    → a.text ≡ [] → Leaves e more
+last_leaves e a more h none =
+    subst (λ xs. Leaves (last_ending e xs) more) (ap (λ cs. pieces (stands a.place cs)) none
+    ∙ pieces_none a.place) h
+
+-- the pieces of two texts are those of the first, and then those of the second
+pub pieces_append :
+    (n p : ℕ) (cs more : List ℕ) → length cs ≤ n → Leaves (ending (stands p cs)) more
+    → pieces (stands p (cs ++ more)) ≡ pieces (stands p cs) ++ pieces (stands (p + size cs) more)
+pieces_append n p [] more h m = let e : p + 0 ≡ p = omega arith in rw (e, pieces_none p) refl
+pieces_append zero p (c ∷ cs) more h m = absurd (omega arith)
+pieces_append (suc n) p (c ∷ cs) more h m =
+    let s = piece_from p c (past p c cs) in
+    let leaves = subst (λ xs. Leaves (last_ending Settled xs) more) (pieces_next p c cs) m in
+    let same =
+    piece_more p more c (p + len_utf8 c) cs
+    (last_leaves (piece_ending s.piece) s.rest more leaves) in
+    let shorter : length s.rest.text ≤ n = omega (arith, h, piece_within p c (past p c cs)) in
+    pieces_next p c (cs ++ more)
+    ∙ ap (λ (t : Step). t.piece ∷ pieces t.rest) same
+    ∙ ap (λ xs. s.piece ∷ xs) (pieces_append n s.rest.place s.rest.text more shorter
+    (rest_leaves (piece_ending s.piece) (pieces s.rest) more leaves))
+    ∙ ap (λ k. (s.piece ∷ pieces s.rest) ++ pieces (stands k more)) (step_reaches p c cs)
+    ∙ ap (λ xs. xs ++ pieces (stands (p + size (c ∷ cs)) more)) (sym (pieces_next p c cs))
+
+-- ---- how two texts end
+
+pub last_append : (e : Ending) (xs ys : List Piece)
+    → last_ending e (xs ++ ys) ≡ last_ending (last_ending e xs) ys
+last_append e [] ys = refl
+last_append e (x ∷ xs) ys = last_append (piece_ending x) xs ys
+
+not_open : (e : Ending) (xs : List Piece) → e ≢ Open → last_ending Settled xs ≢ Open
+    → last_ending e xs ≢ Open
+not_open e [] h k = h
+not_open e (x ∷ xs) h k = k
+
+pub both_close :
+    (p : ℕ) (cs more : List ℕ) → Leaves (ending (stands p cs)) more
+    → ending (stands (p + size cs) more) ≢ Open → ending (stands p (cs ++ more)) ≢ Open
+both_close p cs more h k =
+    let whole = ap (last_ending Settled) (pieces_append (length cs) p cs more (omega arith) h) in
+    let split =
+    whole ∙ last_append Settled (pieces (stands p cs)) (pieces (stands (p + size cs) more)) in
+    subst (λ (e : Ending). e ≢ Open) (sym split) (not_open (ending (stands p cs))
+    (pieces (stands (p + size cs) more)) h.0 k)

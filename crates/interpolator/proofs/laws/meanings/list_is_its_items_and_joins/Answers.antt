@@ -1,0 +1,19 @@
+use Rattle.interpolator.specs.Meaning.Choices.{chosen_items}
+use Rattle.interpolator.specs.Meaning.ListArguments.{join_of, item_of}
+use Rattle.interpolator.proofs.MeaningLemmas.ListLawLemmas.{items_finish, items_fail}
+use Rattle.interpolator.proofs.laws.meanings.list_is_its_items_and_joins.Goals as goal
+
+pub returns-clause-text : goal.returns-clause-text
+returns-clause-text g c = λ e q l ts h.
+    let shows = g.V.Value.shows in
+    (items_finish (join_of shows e l) (item_of shows e l q) (chosen_items l.range ts) h).1
+
+pub returns-clause-all : goal.returns-clause-all
+returns-clause-all g c = λ e q l ts h.
+    let shows = g.V.Value.shows in
+    (items_finish (join_of shows e l) (item_of shows e l q) (chosen_items l.range ts) h).0
+
+pub returns-clause-first : goal.returns-clause-first
+returns-clause-first g c = λ e q l ts f h.
+    let shows = g.V.Value.shows in
+    items_fail (join_of shows e l) (item_of shows e l q) (chosen_items l.range ts) f h

@@ -1,0 +1,5 @@
+use Rattle.interpolator.proofs.SyntaxLemmas.SeamLemmas.{closed_same}
+use Rattle.interpolator.proofs.laws.parts.closed_argument_stays.Goals as goal
+
+pub returns : goal.returns
+returns c = record { stays = λ a q x rest more e closes h. closed_same a more x q rest e closes h }

@@ -1,0 +1,14 @@
+use Rattle.std.proofs.Common.{◌≡◌, refl, ap, arith, length}
+use Rattle.interpolator.specs.Syntax.Arguments.{argument_at}
+use Rattle.interpolator.specs.Syntax.Pieces.{pieces, argument_from}
+use Rattle.interpolator.specs.Syntax.SpecTexts.{spec_behind}
+use Rattle.interpolator.proofs.laws.parts.seams_are_real.Goals as goal
+
+pub returns : goal.returns
+unfolding pieces argument_from argument_at spec_behind
+returns c = record {
+  braces_seam = refl;
+  braces = λ e. let n : 1 ≡ 2 = ap length e in omega (arith, n);
+  fill_seam = refl;
+  fill = λ e. let n : 1 ≡ 2 = ap length e in omega (arith, n);
+}

@@ -1,0 +1,324 @@
+use Rattle.std.proofs.Common.{◌≡◌, ◌≤◌, ◌<◌, refl, sym, arith, rules, length, map, None, Some}
+use Rattle.std.specs.Str.{chars}
+use Rattle.std.proofs.lemmas.Result.{err_from_is_err_and}
+use Rattle.interpolator.specs.Syntax.At.{at}
+use Rattle.interpolator.specs.Syntax.Tokens.{token_read}
+use Rattle.interpolator.specs.Syntax.Arguments.{argument_of, kind_of}
+use Rattle.interpolator.specs.Trees.{tree_of}
+use Rattle.interpolator.specs.Meaning.Lists.{list_asked, all_asked}
+use Rattle.interpolator.specs.Meaning.Meanings.{means, item_means, join_means, chosen_means}
+use Rattle.interpolator.specs.Meaning.Scopes.{environment_of}
+use Rattle.interpolator.proofs.MeaningLemmas.SinkLemmas.{same_sink, same_then, and_then}
+use Rattle.interpolator.proofs.MeaningLemmas.SinkLemmas.{fault_first, whole_refused, whole_fault}
+use Rattle.interpolator.proofs.MeaningLemmas.MeaningLemmas.{scan_shorter, token_shorter}
+use Rattle.interpolator.proofs.MeaningLemmas.ListLemmas.{kind_size, groups_within, list_whole}
+use Rattle.interpolator.proofs.MeaningLemmas.ListLemmas.{list_plain, first_runs, first_fault}
+use Rattle.interpolator.proofs.MeaningLemmas.ListLemmas.{item_runs, item_fault, items_end}
+use Rattle.interpolator.proofs.MeaningLemmas.RunLemmas.{end_runs, step_runs, fault_runs}
+use Rattle.interpolator.proofs.MeaningLemmas.RunLemmas.{broken_runs, value_fault_runs, closed_runs}
+use Rattle.interpolator.proofs.MeaningLemmas.RunLemmas.{closed_rest, unclosed_runs}
+use Rattle.interpolator.proofs.meaning.evaluate.+evaluate.Goals as goal
+
+pub write_argument-returns-in-Err-clause-writes : goal.write_argument-returns-in-Err-clause-writes
+write_argument-returns-in-Err-clause-writes g t c =
+    let shows = g.C.Object.Value.shows in
+    let e = environment_of g.C.Context.finds c.args.scope.now in
+    record {
+      evaluates = rw c.error_of.ensures
+          (broken_runs shows e (at c.args.here) _ _ (sym c.in-Err.ensures.read));
+      same = same_sink c.args.sink.now;
+    }
+
+pub write_argument-write_value-requires : goal.write_argument-write_value-requires
+write_argument-write_value-requires g t c =
+    let x = argument_of c.take_argument.new.argument in
+    let q = at c.take_argument.new.here in
+    let kind = kind_of c.take_argument.new.argument.kind in
+    let within : kind_size kind ≤ length (chars c.args.here.rest.now) =
+    groups_within (at c.args.here) x q (sym c.in-Ok.ensures.read) in
+    search rules
+
+pub write_argument-returns-in_err-write_value-clause-writes :
+    goal.write_argument-returns-in_err-write_value-clause-writes
+write_argument-returns-in_err-write_value-clause-writes g t c =
+    let shows = g.C.Object.Value.shows in
+    let e = environment_of g.C.Context.finds c.args.scope.now in
+    let x = argument_of c.take_argument.new.argument in
+    let q = at c.take_argument.new.here in
+    let residual = c.from_residual in
+    let err = err_from_is_err_and residual.result residual.ensures.1 in
+    let o = c.in_err-write_value.ensures.writes in
+    rw (err.1, err.2) (record {
+      evaluates = value_fault_runs shows e (at c.args.here) x q (sym c.in-Ok.ensures.read) _ _ _
+          o.evaluates;
+      same = o.same;
+    })
+
+pub write_argument-returns-in-Some-clause-writes : goal.write_argument-returns-in-Some-clause-writes
+write_argument-returns-in-Some-clause-writes g t c =
+    let shows = g.C.Object.Value.shows in
+    let e = environment_of g.C.Context.finds c.args.scope.now in
+    let x = argument_of c.take_argument.new.argument in
+    let q = at c.take_argument.new.here in
+    let o = c.in_ok-write_value.ensures.writes in
+    record {
+      evaluates = closed_runs shows e (at c.args.here) x q (sym c.in-Ok.ensures.read) _ _ _
+          (sym c.in-Some.ensures) o.evaluates;
+      same = o.same;
+    }
+
+pub write_argument-returns-in-Some-clause-rest : goal.write_argument-returns-in-Some-clause-rest
+write_argument-returns-in-Some-clause-rest g t c =
+    let x = argument_of c.take_argument.new.argument in
+    let q = at c.take_argument.new.here in
+    sym (closed_rest (at c.args.here) x q _ (sym c.in-Ok.ensures.read) (sym c.in-Some.ensures))
+
+pub write_argument-returns-in-None-clause-writes : goal.write_argument-returns-in-None-clause-writes
+write_argument-returns-in-None-clause-writes g t c =
+    let shows = g.C.Object.Value.shows in
+    let e = environment_of g.C.Context.finds c.args.scope.now in
+    let x = argument_of c.take_argument.new.argument in
+    let q = at c.take_argument.new.here in
+    let o = c.in_ok-write_value.ensures.writes in
+    record {
+      evaluates = unclosed_runs shows e (at c.args.here) x q (sym c.in-Ok.ensures.read) _ _
+          (sym c.in-None.ensures) o.evaluates;
+      same = o.same;
+    }
+
+pub write_text-write_piece-requires : goal.write_text-write_piece-requires
+write_text-write_piece-requires g t c =
+    let token = token_read (c.in-Some.piece, c.in-Some.rest) in
+    let behind = length (chars c.in-Some.rest.rest.now) in
+    let shorter : behind < length (chars c.loop-piece.here.rest.now) =
+    token_shorter (at c.loop-piece.here) token (sym c.in-Some.ensures.token) in
+    let within = c.loop-piece.invariant.shorter in
+    search rules
+
+pub write_text-returns-in_err-here : goal.write_text-returns-in_err-here
+write_text-returns-in_err-here g t c =
+    let shows = g.C.Object.Value.shows in
+    let e = environment_of g.C.Context.finds c.args.scope.now in
+    let token = token_read (c.in-Some.piece, c.in-Some.rest) in
+    let residual = c.from_residual in
+    let err = err_from_is_err_and residual.result residual.ensures.1 in
+    let so_far = c.loop-piece.invariant.so_far in
+    let o = c.in_err-here.ensures.writes in
+    rw (err.1, err.2) (record {
+      writes = record {
+        evaluates = so_far _ _ (fault_runs shows e (at c.loop-piece.here) token _ _ _
+            (sym c.in-Some.ensures.token) o.evaluates);
+        same = same_then _ _ _ c.loop-piece.invariant.same o.same;
+      };
+    })
+
+pub write_text-loop-piece-smaller : goal.write_text-loop-piece-smaller
+write_text-loop-piece-smaller g t c =
+    let token = token_read (c.in-Some.piece, c.in-Some.rest) in
+    scan_shorter (at c.loop-piece.here) (at c.in_ok-here.here) token (sym c.in-Some.ensures.token)
+    c.in_ok-here.ensures.rest
+
+pub write_text-loop-piece-preserved : goal.write_text-loop-piece-preserved
+write_text-loop-piece-preserved g t c =
+    let shows = g.C.Object.Value.shows in
+    let e = environment_of g.C.Context.finds c.args.scope.now in
+    let token = token_read (c.in-Some.piece, c.in-Some.rest) in
+    let o = c.in_ok-here.ensures.writes in
+    let shorter = scan_shorter (at c.loop-piece.here) (at c.in_ok-here.here) token
+    (sym c.in-Some.ensures.token) c.in_ok-here.ensures.rest in
+    record {
+      shorter = omega (arith, shorter, c.loop-piece.invariant.shorter);
+      so_far = λ new answer k. c.loop-piece.invariant.so_far new answer
+          (step_runs shows e (at c.loop-piece.here) token (at c.in_ok-here.here) _ _ _ _
+          (sym c.in-Some.ensures.token) c.in_ok-here.ensures.rest o.evaluates k);
+      same = same_then _ _ _ c.loop-piece.invariant.same o.same;
+    }
+
+pub write_text-returns : goal.write_text-returns
+write_text-returns g t c =
+    let shows = g.C.Object.Value.shows in
+    let e = environment_of g.C.Context.finds c.args.scope.now in
+    let so_far = c.loop-piece.invariant.so_far in
+    record {
+      writes = record {
+        evaluates = so_far _ None
+            (end_runs shows e (at c.loop-piece.here) _ (sym c.in_default.ensures.token));
+        same = c.loop-piece.invariant.same;
+      };
+    }
+
+pub write_found-returns-in-Some : goal.write_found-returns-in-Some
+write_found-returns-in-Some g t c =
+    rw (c.in-List.is, ← c.list.ensures, c.in-Some.is)
+    (record { writes = c.write_list.ensures.writes })
+
+pub write_list-returns-then-is_some : goal.write_list-returns-then-is_some
+write_list-returns-then-is_some g t c =
+    let shows = g.C.Object.Value.shows in
+    let e = environment_of g.C.Context.finds c.args.scope.now in
+    let asked = list_asked c.args.range c.args.groups.now in
+    let o = c.write_whole.ensures.writes in
+    record {
+      writes = record {
+        evaluates = list_whole shows (means shows) e tree_of asked c.args.spec.now c.args.place
+            c.args.items.now c.choose-items.result.now _ _ _ (search rules) c.choose-items.ensures
+            (search rules) o.evaluates;
+        same = o.same;
+      };
+    }
+
+pub write_list-returns-else-is_some : goal.write_list-returns-else-is_some
+write_list-returns-else-is_some g t c =
+    let shows = g.C.Object.Value.shows in
+    let e = environment_of g.C.Context.finds c.args.scope.now in
+    let asked = list_asked c.args.range c.args.groups.now in
+    let o = c.write_items.ensures.writes in
+    record {
+      writes = record {
+        evaluates = list_plain shows (means shows) e tree_of asked c.args.spec.now c.args.place
+            c.args.items.now c.choose-items.result.now _ _ _ (search rules) c.choose-items.ensures
+            (search rules) o.evaluates;
+        same = o.same;
+      };
+    }
+
+pub write_whole-returns-then-refused : goal.write_whole-returns-then-refused
+write_whole-returns-then-refused g t c =
+    let shows = g.C.Object.Value.shows in
+    let e = environment_of g.C.Context.finds c.args.scope.now in
+    let asked = all_asked c.args.groups.now in
+    let trees = map tree_of c.args.items.now in
+    let items = chosen_means shows (means shows) e asked c.args.place trees in
+    let made : c.write_items-answer.new.sink.aside.now ≡ Some c.in-Some.buffer = search rules in
+    record {
+      writes = record {
+        evaluates = whole_refused c.args.spec.now c.args.place items _ _ c.new.result
+            c.in-Some.buffer _ _ (rw made at c.write_items-answer.ensures.writes.evaluates);
+        same = record { out = refl; aside = refl };
+      };
+    }
+
+pub write_whole-returns-in_err-answer-in-Some : goal.write_whole-returns-in_err-answer-in-Some
+write_whole-returns-in_err-answer-in-Some g t c =
+    let residual = c.from_residual in
+    let err = err_from_is_err_and residual.result residual.ensures.1 in
+    let shows = g.C.Object.Value.shows in
+    let e = environment_of g.C.Context.finds c.args.scope.now in
+    let asked = all_asked c.args.groups.now in
+    let trees = map tree_of c.args.items.now in
+    let items = chosen_means shows (means shows) e asked c.args.place trees in
+    let made : c.write_items-answer.new.sink.aside.now ≡ Some c.in-Some.buffer = search rules in
+    rw (err.1, err.2) (record {
+      writes = record {
+        evaluates = whole_fault c.args.spec.now c.args.place items _ _ c.new.result
+            c.in-Some.buffer _ _ (search rules)
+            (rw made at c.in_err-answer-in-Some.ensures.writes.evaluates);
+        same = record { out = refl; aside = refl };
+      };
+    })
+
+pub write_items-returns-in_err-write_item : goal.write_items-returns-in_err-write_item
+write_items-returns-in_err-write_item g t c =
+    let residual = c.from_residual in
+    let err = err_from_is_err_and residual.result residual.ensures.1 in
+    let shows = g.C.Object.Value.shows in
+    let e = environment_of g.C.Context.finds c.args.scope.now in
+    let asked = all_asked c.args.groups.now in
+    let join = join_means shows (means shows) e asked.join in
+    let one = item_means shows (means shows) e c.args.place asked.item in
+    let o = c.in_err-write_item.ensures.writes in
+    rw (err.1, err.2) (record {
+      writes = record {
+        evaluates = first_fault tree_of join one c.args.items.now c.in-Some.first.now
+            c.in-Some.rest.now _ _ _ (search rules) o.evaluates;
+        same = o.same;
+      };
+    })
+
+pub write_items-loop-item-init : goal.write_items-loop-item-init
+write_items-loop-item-init g t c =
+    let shows = g.C.Object.Value.shows in
+    let e = environment_of g.C.Context.finds c.args.scope.now in
+    let asked = all_asked c.args.groups.now in
+    let join = join_means shows (means shows) e asked.join in
+    let one = item_means shows (means shows) e c.args.place asked.item in
+    let o = c.in_ok-write_item.ensures.writes in
+    record {
+      so_far = λ new answer k. first_runs tree_of join one c.args.items.now c.in-Some.first.now
+          c.in-Some.rest.now _ _ _ _ (search rules) o.evaluates k;
+      same = o.same;
+    }
+
+pub write_items-returns-in_err-write_join : goal.write_items-returns-in_err-write_join
+write_items-returns-in_err-write_join g t c =
+    let residual = c.from_residual-in_err-write_join in
+    let err = err_from_is_err_and residual.result residual.ensures.1 in
+    let shows = g.C.Object.Value.shows in
+    let e = environment_of g.C.Context.finds c.args.scope.now in
+    let asked = all_asked c.args.groups.now in
+    let join = join_means shows (means shows) e asked.join in
+    let one = item_means shows (means shows) e c.args.place asked.item in
+    let so_far = c.loop-item.invariant.so_far in
+    let o = c.in_err-write_join.ensures.writes in
+    rw (err.1, err.2) (record {
+      writes = record {
+        evaluates = so_far _ _ (item_fault tree_of join one c.in-Some.rest.now
+            c.loop-item.item-index c.item-item.result _ _ _ c.loop-item-test.true c.item-item.is
+            (fault_first _ _ _ _ _ o.evaluates));
+        same = same_then _ _ _ c.loop-item.invariant.same o.same;
+      };
+    })
+
+pub write_items-returns-in_err-write_item-2 : goal.write_items-returns-in_err-write_item-2
+write_items-returns-in_err-write_item-2 g t c =
+    let residual = c.from_residual-in_err-write_item-2 in
+    let err = err_from_is_err_and residual.result residual.ensures.1 in
+    let shows = g.C.Object.Value.shows in
+    let e = environment_of g.C.Context.finds c.args.scope.now in
+    let asked = all_asked c.args.groups.now in
+    let join = join_means shows (means shows) e asked.join in
+    let one = item_means shows (means shows) e c.args.place asked.item in
+    let so_far = c.loop-item.invariant.so_far in
+    let before = c.in_ok-write_join.ensures.writes in
+    let o = c.in_err-write_item-2.ensures.writes in
+    rw (err.1, err.2) (record {
+      writes = record {
+        evaluates = so_far _ _ (item_fault tree_of join one c.in-Some.rest.now
+            c.loop-item.item-index c.item-item.result _ _ _ c.loop-item-test.true c.item-item.is
+            (and_then _ _ _ _ _ _ before.evaluates o.evaluates));
+        same = same_then _ _ _ c.loop-item.invariant.same (same_then _ _ _ before.same o.same);
+      };
+    })
+
+pub write_items-loop-item-preserved : goal.write_items-loop-item-preserved
+write_items-loop-item-preserved g t c =
+    let shows = g.C.Object.Value.shows in
+    let e = environment_of g.C.Context.finds c.args.scope.now in
+    let asked = all_asked c.args.groups.now in
+    let join = join_means shows (means shows) e asked.join in
+    let one = item_means shows (means shows) e c.args.place asked.item in
+    let before = c.in_ok-write_join.ensures.writes in
+    let o = c.in_ok-write_item-2.ensures.writes in
+    record {
+      so_far = λ new answer k. c.loop-item.invariant.so_far new answer
+          (item_runs tree_of join one c.in-Some.rest.now c.loop-item.item-index c.item-item.result
+          _ _ _ _ c.loop-item-test.true c.item-item.is
+          (and_then _ _ _ _ _ _ before.evaluates o.evaluates) k);
+      same = same_then _ _ _ c.loop-item.invariant.same (same_then _ _ _ before.same o.same);
+    }
+
+pub write_items-returns : goal.write_items-returns
+write_items-returns g t c =
+    let shows = g.C.Object.Value.shows in
+    let e = environment_of g.C.Context.finds c.args.scope.now in
+    let asked = all_asked c.args.groups.now in
+    let join = join_means shows (means shows) e asked.join in
+    let one = item_means shows (means shows) e c.args.place asked.item in
+    let so_far = c.loop-item.invariant.so_far in
+    record {
+      writes = record {
+        evaluates = so_far _ None (items_end tree_of join one c.in-Some.rest.now
+            c.loop-item.item-index _ c.loop-item-test.false);
+        same = c.loop-item.invariant.same;
+      };
+    }

@@ -1,0 +1,12 @@
+use Rattle.std.proofs.Common.{◌≡◌, length}
+use Rattle.interpolator.specs.Syntax.At.{at}
+use Rattle.interpolator.specs.Syntax.Pieces.{pieces}
+use Rattle.interpolator.specs.Syntax.Seams.{ending, last_ending}
+use Rattle.interpolator.proofs.parts.ending_of.Given as goal
+
+-- how the rest ends, behind what was read, is how the whole text ends
+abbrev pub invariant-loop-piece : goal.invariant-loop-piece
+invariant-loop-piece l = last_ending l.ending (pieces (at l.here)) ≡ ending (at l.fn.text)
+
+abbrev pub decreases-loop-piece : goal.decreases-loop-piece
+decreases-loop-piece l = length (pieces (at l.here))

@@ -1,0 +1,28 @@
+-- Texts whose braces are doubled, and meanings that are a text alone.
+use Rattle.std.specs.Prelude.{◌≡◌, ℕ, if◌then◌else◌, List, [], ◌∷◌, map, Option, Some, None}
+use Rattle.interpolator.specs.Syntax.At.{text_of}
+use Rattle.interpolator.specs.Syntax.Classes.{is_brace}
+use Rattle.interpolator.specs.Syntax.Pieces.{PieceKind, Piece, literal, doubled}
+use Rattle.interpolator.specs.Meaning.Meanings.{Meaning}
+
+-- every brace twice, and every other character once
+abbrev pub braces_doubled : List ℕ → List ℕ
+braces_doubled [] = []
+braces_doubled (c ∷ cs) =
+    if is_brace c then c ∷ c ∷ braces_doubled cs else (c ∷ braces_doubled cs)
+
+-- the character that a literal or a doubled brace is written as; no other piece has one
+abbrev pub plain_character : PieceKind → Option ℕ
+plain_character (literal c) = Some c
+plain_character (doubled brace) = Some brace
+plain_character _ = None
+
+-- literals and doubled braces alone, which are written as these characters
+abbrev pub ArePlain : List Piece → List ℕ → Type 0
+ArePlain xs text = map (λ x. plain_character x.kind) xs ≡ map Some text
+
+-- these characters, with no fault, and no memory is taken
+pub record SaysAlone (text : List ℕ) (m : Meaning) : Type 0 where
+  pub says : text_of m.text ≡ text
+  pub no_fault : m.fault ≡ None
+  pub no_memory : m.memory_points ≡ []

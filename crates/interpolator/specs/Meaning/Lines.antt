@@ -1,0 +1,15 @@
+-- What a format means with a newline behind it.
+use Rattle.std.specs.Prelude.{ℕ, [], ◌∷◌}
+use Rattle.interpolator.specs.Meaning.Meanings.{Meaning, text_alone, joined}
+
+-- `\n`
+abbrev pub newline : ℕ
+newline = 10
+
+-- a newline, which has place 0
+abbrev pub newline_means : Meaning
+newline_means = text_alone ((newline, 0) ∷ [])
+
+-- a meaning, and behind its text a newline where it has no fault
+abbrev pub line_means : Meaning → Meaning
+line_means m = joined m newline_means

@@ -1,0 +1,91 @@
+//! Laws of what a list means, each the contract of a small function.
+
+ghost use Rattle.std.specs.Prelude.{◌≡◌, ℕ, List, [], None, Some, false, if◌then◌else◌};
+ghost use Rattle.std.specs.Prelude.{length, max, replicate, unwrap_or};
+ghost use Rattle.interpolator_render.specs.Characters.{space};
+ghost use Rattle.interpolator_render.specs.Padding.{padded_text};
+ghost use Rattle.interpolator.specs.Syntax.At.{placed_at, text_of};
+ghost use Rattle.interpolator.specs.Syntax.Arguments.{Argument};
+ghost use Rattle.interpolator.specs.Syntax.Lists.{ListAsked};
+ghost use Rattle.interpolator.specs.Faults.{Fault, parse, iter};
+ghost use Rattle.interpolator.specs.Trees.{Tree};
+ghost use Rattle.interpolator.specs.Meaning.Choices.{chosen_items};
+ghost use Rattle.interpolator.specs.Meaning.Environments.{Environment};
+ghost use Rattle.interpolator.specs.Meaning.ListArguments.{FindsList, written, unpadded};
+ghost use Rattle.interpolator.specs.Meaning.ListArguments.{join_of, item_of, AllFinish};
+ghost use Rattle.interpolator.specs.Meaning.ListArguments.{joined_texts, FirstFault};
+ghost use Rattle.interpolator.specs.Meaning.Meanings.{forbids_list};
+
+use interpolator_render::Value;
+
+/// What a list means before it is padded: the chosen items in order and the join between two of
+/// them, up to the first fault. Without a fault in an item or, where there are two, in the join,
+/// all of them are written; else what stands before the first fault, which is the list's.
+///
+/// So `{l:i({})(, )}` of the items 1, 2 and 3 writes `1, 2, 3`, and where the second item cannot be
+/// displayed, `1, `.
+pub fn list_is_its_items_and_joins<V: Value>()
+    ensures text { (e : Environment V) (q : ℕ) (l : ListAsked) (ts : List (Tree V))
+        → (unpadded V.shows e l q ts).fault ≡ None
+        → (unpadded V.shows e l q ts).text
+        ≡ joined_texts (join_of V.shows e l) (item_of V.shows e l q) (chosen_items l.range ts) }
+    ensures all { (e : Environment V) (q : ℕ) (l : ListAsked) (ts : List (Tree V))
+        → (unpadded V.shows e l q ts).fault ≡ None
+        → AllFinish (join_of V.shows e l) (item_of V.shows e l q) (chosen_items l.range ts) }
+    ensures first { (e : Environment V) (q : ℕ) (l : ListAsked) (ts : List (Tree V)) (f : Fault)
+        → (unpadded V.shows e l q ts).fault ≡ Some f
+        → FirstFault (join_of V.shows e l) (item_of V.shows e l q) (chosen_items l.range ts) f
+        (unpadded V.shows e l q ts).text }
+{}
+
+/// A list argument that chooses no item writes as many spaces as its width says, and without a
+/// width nothing. Its groups are not looked at, so it finds no fault in them: the one fault that it
+/// can have is that of a spec that no list may have.
+///
+/// So `{l:i2..({q})}` of a list of two items writes nothing, whatever `q` is, and `{l:4i2..}`
+/// writes four spaces.
+pub fn list_of_no_item_is_its_padding<V: Value>()
+    ensures text { (e : Environment V) (start q : ℕ) (x : Argument) (l : ListAsked)
+        (ts : List (Tree V)) → FindsList e x l ts → chosen_items l.range ts ≡ []
+        → (written V.shows e start x q).fault ≡ None
+        → (written V.shows e start x q).text
+        ≡ placed_at q (replicate (unwrap_or x.spec.width 0) space) }
+    ensures fault { (e : Environment V) (start q : ℕ) (x : Argument) (l : ListAsked)
+        (ts : List (Tree V)) → FindsList e x l ts → chosen_items l.range ts ≡ []
+        → (written V.shows e start x q).fault
+        ≡ (if forbids_list x.spec then Some (parse (iter q)) else None) }
+{}
+
+/// A list argument with a width that has no fault writes as many characters as the width says, or
+/// all those of its chosen items and of the joins between them where they are more: these, with
+/// spaces before and behind them. Each character stands at the byte behind the argument's spec.
+///
+/// So `{l:>4i}` of the items 1 and 2 writes `  12`, and `{l:2i(item)}` writes `itemitem`.
+pub fn padded_list_fills_its_width<V: Value>()
+    ensures count { (e : Environment V) (start q width : ℕ) (x : Argument) (l : ListAsked)
+        (ts : List (Tree V)) → FindsList e x l ts → x.spec.width ≡ Some width
+        → (written V.shows e start x q).fault ≡ None
+        → length (written V.shows e start x q).text
+        ≡ max width (length (unpadded V.shows e l q ts).text) }
+    ensures text { (e : Environment V) (start q width : ℕ) (x : Argument) (l : ListAsked)
+        (ts : List (Tree V)) → FindsList e x l ts → x.spec.width ≡ Some width
+        → (written V.shows e start x q).fault ≡ None
+        → (written V.shows e start x q).text
+        ≡ placed_at q (padded_text x.spec (text_of (unpadded V.shows e l q ts).text)) }
+{}
+
+/// Where a chosen item or a join has a fault, it is the fault of the list. A list with a width then
+/// writes nothing, and one without a width what stands before the fault.
+///
+/// So `{l:i(a{q})}`, where nothing stands under `q`, writes `a` for the first item and ends there,
+/// and `{l:4i(a{q})}` writes nothing.
+pub fn fault_ends_a_list<V: Value>()
+    ensures padded { (e : Environment V) (start q width : ℕ) (x : Argument) (l : ListAsked)
+        (ts : List (Tree V)) (f : Fault) → FindsList e x l ts → forbids_list x.spec ≡ false
+        → x.spec.width ≡ Some width → (unpadded V.shows e l q ts).fault ≡ Some f
+        → ((written V.shows e start x q).text ≡ [])
+        × ((written V.shows e start x q).fault ≡ Some f) }
+    ensures unpadded { (e : Environment V) (start q : ℕ) (x : Argument) (l : ListAsked)
+        (ts : List (Tree V)) → FindsList e x l ts → forbids_list x.spec ≡ false
+        → x.spec.width ≡ None → written V.shows e start x q ≡ unpadded V.shows e l q ts }
+{}

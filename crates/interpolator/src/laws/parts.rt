@@ -1,0 +1,71 @@
+//! Laws of formats that stand one behind the other, each the contract of a small function.
+
+ghost use Rattle.std.specs.Prelude.{◌≡◌, ◌≢◌, ℕ, ◌+◌, ◌++◌, List, [], ◌∷◌, IsTrue, IsFalse};
+ghost use Rattle.std.specs.Prelude.{Ok, None, codes};
+ghost use Rattle.interpolator.specs.Syntax.At.{At, size, outermost};
+ghost use Rattle.interpolator.specs.Syntax.Classes.{close_brace};
+ghost use Rattle.interpolator.specs.Syntax.Arguments.{Argument, argument_at};
+ghost use Rattle.interpolator.specs.Syntax.SpecTexts.{begins_alignment};
+ghost use Rattle.interpolator.specs.Syntax.Grammar.{from_place};
+ghost use Rattle.interpolator.specs.Syntax.Pieces.{pieces};
+ghost use Rattle.interpolator.specs.Syntax.Seams.{ends_empty_spec, ending, may_follow, seam_of};
+ghost use Rattle.interpolator.specs.Meaning.Environments.{Environment};
+ghost use Rattle.interpolator.specs.Meaning.Meanings.{means};
+ghost use Rattle.interpolator.specs.Meaning.Parts.{joined_text, parts_mean, Clean, FrontsClose};
+ghost use Rattle.interpolator.specs.declared.parts.Ending.TheVariants.{Open};
+
+use interpolator_render::Value;
+
+/// The pieces of two texts, one behind the other, are those of the first and then those of the
+/// second, at its place, where the first does not end in an argument that is unclosed or broken,
+/// and the seam between the two is true.
+///
+/// So the pieces of `a{x}` followed by `}` are those of `a{x}`, and then a lone `}`.
+pub fn pieces_compose()
+    ensures compose { (a : At) (more : List ℕ) → ending a ≢ Open
+        → IsTrue (may_follow (ending a) more)
+        → pieces (from_place a.place (a.text ++ more))
+        ≡ pieces a ++ pieces (from_place (a.place + size a.text) more) }
+{}
+
+/// A closed argument is the same whatever stands behind its `}`, unless its text ends in `:}` and
+/// what stands behind it begins with `<`, `^` or `>`.
+///
+/// So in `{x:?}` the argument is `x:?`, and it is so in `{x:?}<` too.
+pub fn closed_argument_stays()
+    ensures stays { (a q : At) (x : Argument) (rest more : List ℕ) → argument_at a ≡ Ok (x, q)
+        → q.text ≡ close_brace ∷ rest
+        → (rest ≡ [] → IsTrue (ends_empty_spec a.text) → IsFalse (begins_alignment more))
+        → argument_at (from_place a.place (a.text ++ more))
+        ≡ Ok (x, from_place q.place (q.text ++ more)) }
+{}
+
+/// Parts mean what their joined text means, in every environment, where none but the last ends in
+/// an argument that is unclosed or broken, and at each border the seam between all parts before it,
+/// joined, and the next is true: text, fault and memory points are the same.
+///
+/// So the parts `{x} ` and `{q}` mean what `{x} {q}` means.
+pub fn parts_compose<V: Value>()
+    ensures compose { (e : Environment V) (parts : List (List ℕ)) → Clean parts
+        → FrontsClose 0 parts
+        → parts_mean V.shows e 0 parts ≡ means V.shows e (outermost (joined_text parts)) }
+{}
+
+/// A text that means no fault in some environment ends in no argument that is unclosed or broken.
+///
+/// So fronts without fault compose with every text behind them, but for the two seams.
+pub fn faultless_text_closes<V: Value>()
+    ensures closes { (e : Environment V) (a : At) → (means V.shows e a).fault ≡ None
+        → ending a ≢ Open }
+{}
+
+/// Where the seam is false the pieces are others: `}` and `}`, one behind the other, are one
+/// doubled brace, and `{x:}<` is a broken argument.
+pub fn seams_are_real()
+    ensures braces_seam { IsFalse (seam_of (codes "}") (codes "}")) }
+    ensures braces { pieces (outermost (codes "}}"))
+        ≢ pieces (outermost (codes "}")) ++ pieces (from_place 1 (codes "}")) }
+    ensures fill_seam { IsFalse (seam_of (codes "{x:}") (codes "<")) }
+    ensures fill { pieces (outermost (codes "{x:}<"))
+        ≢ pieces (outermost (codes "{x:}")) ++ pieces (from_place 4 (codes "<")) }
+{}

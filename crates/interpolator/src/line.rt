@@ -1,0 +1,62 @@
+//! Formats with a newline behind them.
+ghost use Rattle.std.specs.Prelude.{length};
+ghost use Rattle.std.specs.Str.{chars};
+ghost use Rattle.interpolator.specs.Syntax.At.{outermost};
+ghost use Rattle.interpolator.specs.Meaning.AskedNames.{asked_names};
+ghost use Rattle.interpolator.specs.Meaning.Environments.{environment, cut};
+ghost use Rattle.interpolator.specs.Faults.{answered, PlaceWithin};
+ghost use Rattle.interpolator.specs.Meaning.Meanings.{means};
+ghost use Rattle.interpolator.specs.Meaning.Lines.{newline_means, line_means};
+ghost use Rattle.interpolator.specs.Meaning.Outcomes.{Outcome};
+
+use crate::context::Context;
+use crate::error::Error;
+use crate::meaning::sink::write_char;
+use crate::writing::write;
+use interpolator_render::TextWrite;
+use std::alloc::Global;
+
+/// Writes a newline, which has place 0.
+#[inline(always)]
+fn write_newline<W: TextWrite>(out: &mut W) -> Result<(), Error>
+    ensures outcome { Outcome newline_means
+        (W.written out.old) (W.written out.new) (answered result) }
+{
+    write_char(out, '\n', 0)
+}
+
+/// Writes what the format means in the context, as `write` does, and behind it a newline where
+/// there is no fault.
+///
+/// # Errors
+///
+/// Those of `write` over the same format and context. Where the writer takes the format's text and
+/// refuses the newline, the answer is `Fmt` at place 0.
+///
+/// # Example
+///
+/// ```text
+/// iwriteln(alloc, &mut out, "Hello {name}", &context)?;
+/// // with `Ann` under `name`: Hello Ann, and a newline
+/// ```
+pub fn iwriteln<W: TextWrite, C: Context>(
+    alloc: Global,
+    out: &mut W,
+    format: &str,
+    context: &C,
+) -> Result<(), Error>
+    ensures outcome { Outcome
+        (line_means
+        (means C.Object.shows (environment (C.finds context.now)) (outermost (chars format.now))))
+        (W.written out.old) (W.written out.new) (answered result) }
+    ensures asked { let a = outermost (chars format.now) in Outcome
+        (line_means
+        (means C.Object.shows (cut (environment (C.finds context.now)) (asked_names a)) a))
+        (W.written out.old) (W.written out.new) (answered result) }
+    ensures place { PlaceWithin (length format.now) (answered result) }
+{
+    match write(alloc, out, format, context) {
+        Ok(()) => write_newline(out),
+        Err(fault) => Err(fault),
+    }
+}

@@ -1,0 +1,242 @@
+//! Formats in parts: which may stand one behind the other, and what they write.
+ghost use Rattle.std.specs.Prelude.{◌≡◌, ◌+◌, ◌^◌, ◌<◌, ◌++◌, ℕ, List, [], ◌∷◌, length};
+ghost use Rattle.std.specs.Prelude.{IfOk};
+ghost use Rattle.std.specs.Str.{chars};
+ghost use Rattle.interpolator.specs.Syntax.At.{at, strip, size, outermost};
+ghost use Rattle.interpolator.specs.Syntax.Classes.{open_brace, close_brace};
+ghost use Rattle.interpolator.specs.Syntax.Pieces.{pieces, argument_from};
+ghost use Rattle.interpolator.specs.Syntax.Tokens.{token_of, past_token};
+ghost use Rattle.interpolator.specs.Syntax.Seams.{closed_ending, piece_ending, brace_ending};
+ghost use Rattle.interpolator.specs.Syntax.Seams.{ending, seam_of, token_ending};
+ghost use Rattle.interpolator.specs.Syntax.Grammar.{from_place};
+ghost use Rattle.interpolator.specs.Faults.{answered, PlaceWithin};
+ghost use Rattle.interpolator.specs.Meaning.Environments.{environment};
+ghost use Rattle.interpolator.specs.Meaning.Meanings.{means};
+ghost use Rattle.interpolator.specs.Meaning.Outcomes.{Outcome};
+ghost use Rattle.interpolator.specs.Meaning.Parts.{joined_text, texts_of, bytes_of, parts_mean};
+ghost use Rattle.interpolator.specs.Meaning.Parts.{Clean, FrontsClose};
+ghost use Rattle.interpolator.specs.Meaning.Scopes.{environment_of};
+ghost use Rattle.interpolator.specs.Meaning.Sinks.{Writes};
+
+use crate::context::Context;
+use crate::error::Error;
+use crate::meaning::evaluate::write_text;
+use crate::meaning::scope::Scope;
+use crate::meaning::sink::Sink;
+use crate::syntax::argument::{Argument, take_argument};
+use crate::syntax::bracket::text_before;
+use crate::syntax::cursor::Cursor;
+use crate::syntax::piece::{Piece, next_piece};
+use interpolator_render::TextWrite;
+use std::alloc::Global;
+
+/// How a text ends, as far as the text behind it can change its last piece.
+#[derive(Clone, Copy)]
+pub(crate) enum Ending {
+    /// Whatever stands behind it, the last piece stays, or there is none.
+    Settled,
+    /// In a lone `}`, which a second one would double.
+    LoneClose,
+    /// In a closed argument with an empty spec, `:}`. An alignment behind it would make the `}` a
+    /// fill.
+    EmptySpec,
+    /// In an argument that is unclosed or broken, which takes all that stands behind it.
+    Open,
+}
+
+/// How a closed argument ends, whose text from behind its brace on is given, and what stands from
+/// its closing brace on.
+fn closed_ending(text: &str, rest: &str) -> Ending
+    requires { (front : List ℕ) × (chars text.now ≡ front ++ chars rest.now) }
+    ensures { (front : List ℕ) → chars text.now ≡ front ++ chars rest.now
+        → result ≡ closed_ending (open_brace ∷ (front ++ (close_brace ∷ []))) }
+{
+    match text_before(text, rest).strip_suffix(':') {
+        Some(_) => Ending::EmptySpec,
+        None => Ending::Settled,
+    }
+}
+
+/// How the argument ends that begins here, behind its brace, and what stands behind it.
+fn argument_ending(here: Cursor<'_>) -> (Ending, Cursor<'_>)
+    ensures ending { result.0
+        ≡ piece_ending (argument_from here.entry.place (at here.entry)).piece }
+    ensures rest { pieces (at result.1)
+        ≡ pieces (argument_from here.entry.place (at here.entry)).rest }
+{
+    let nothing = Cursor {
+        place: here.place,
+        rest: "",
+    };
+    let mut end = here;
+    let mut argument = Argument::unnamed();
+    match take_argument(&mut end, &mut argument) {
+        Ok(()) => match end.strip(b'}') {
+            Some(behind) => (closed_ending(here.rest, end.rest), behind),
+            None => (Ending::Open, nothing),
+        },
+        Err(_) => (Ending::Open, nothing),
+    }
+}
+
+/// How the brace ends that stands here.
+fn brace_ending(here: Cursor<'_>) -> Ending
+    ensures { result ≡ brace_ending (strip close_brace (at here.entry)) }
+{
+    match here.strip(b'}') {
+        None => Ending::Settled,
+        Some(behind) => match behind.strip(b'}') {
+            None => Ending::LoneClose,
+            Some(_) => Ending::Settled,
+        },
+    }
+}
+
+/// How the piece ends that stands here, behind which stands `rest`, and what stands behind it and
+/// its argument.
+fn past_piece<'t>(here: Cursor<'t>, piece: Piece<'t>, rest: Cursor<'t>) -> (Ending, Cursor<'t>)
+    ensures ending { result.0
+        ≡ token_ending (at here.entry) (token_of piece.entry) (at rest.entry) }
+    ensures rest { pieces (at result.1)
+        ≡ pieces (past_token (token_of piece.entry) (at rest.entry)) }
+{
+    match piece {
+        Piece::Literals(_) => (Ending::Settled, rest),
+        Piece::Brace(_) => (brace_ending(here), rest),
+        Piece::Argument => argument_ending(rest),
+    }
+}
+
+/// How a text ends.
+fn ending_of(text: Cursor<'_>) -> Ending
+    ensures { result ≡ ending (at text.entry) }
+{
+    let mut here = text;
+    let mut ending = Ending::Settled;
+    while let Some((piece, rest)) = next_piece(here) {
+        (ending, here) = past_piece(here, piece, rest);
+    }
+    ending
+}
+
+/// Tests whether one format may stand behind another, so that the pieces of `a` stay what they are
+/// by themselves.
+///
+/// It is false in two cases: `a` ends in a lone `}` and `b` begins with one, so that the two would
+/// be read as a doubled brace; or `a` ends in a closed argument whose spec is empty, `:}`, and `b`
+/// begins with `<`, `^` or `>`, so that the argument's `}` would be read as a fill. No memory is
+/// taken.
+///
+/// # Example
+///
+/// ```text
+/// seam("{x}", "}")  // true
+/// seam("}", "}")    // false: `}}` is one brace
+/// seam("{x:}", "<") // false: `{x:}<` is refused
+/// ```
+pub fn seam(a: &str, b: &str) -> bool
+    ensures { result ≡ seam_of (chars a.now) (chars b.now) }
+{
+    let first = b.chars().next();
+    match ending_of(Cursor { place: 0, rest: a }) {
+        Ending::LoneClose => first != Some('}'),
+        Ending::EmptySpec => first != Some('<') && first != Some('^') && first != Some('>'),
+        Ending::Settled => true,
+        Ending::Open => true,
+    }
+}
+
+/// Writes what a part means at its place. Returns the place behind it.
+fn write_part<'a, W: TextWrite, C: Context>(
+    alloc: Global,
+    sink: &mut Sink<'_, W>,
+    part: &str,
+    place: usize,
+    scope: &Scope<'a, C, C::Object>,
+) -> Result<usize, Error>
+    requires fits { place + length part.now < 2 ^ 64 }
+    ensures writes { Writes W.written
+        (means C.Object.shows (environment_of C.finds scope.now)
+        (from_place place (chars part.now)))
+        sink.old sink.new (answered result) }
+    ensures behind { IfOk result (λ behind. behind ≡ place + size (chars part.now)) }
+    ensures bytes { IfOk result (λ behind. behind ≡ place + length part.now) }
+    ensures place { PlaceWithin (place + length part.now) (answered result) }
+{
+    let text = Cursor { place, rest: part };
+    match write_text(alloc, sink, text, scope) {
+        Ok(()) => Ok(place + part.len()),
+        Err(fault) => Err(fault),
+    }
+}
+
+/// Writes what each part means at its place, one after the other.
+fn write_each<'a, W: TextWrite, C: Context>(
+    alloc: Global,
+    sink: &mut Sink<'_, W>,
+    parts: &[&str],
+    scope: &Scope<'a, C, C::Object>,
+) -> Result<(), Error>
+    requires fits { bytes_of parts.now < 2 ^ 64 }
+    ensures writes { Writes W.written
+        (parts_mean C.Object.shows (environment_of C.finds scope.now) 0 (texts_of parts.now))
+        sink.old sink.new (answered result) }
+    ensures place { PlaceWithin (bytes_of parts.now) (answered result) }
+{
+    let mut place = 0;
+    for part in parts {
+        match write_part(alloc, sink, part, place, scope) {
+            Ok(behind) => place = behind,
+            Err(fault) => return Err(fault),
+        }
+    }
+    Ok(())
+}
+
+/// Writes the parts one after the other, each as a format by itself, up to the first fault.
+///
+/// A brace or an argument never goes over from one part into the next. A part behind the first
+/// fault is not read. No part is copied, and memory is taken only as by `write`.
+///
+/// Where no part but the last ends in an argument that is unclosed or broken, and at each border
+/// the [`seam`] between all parts before it, joined, and the next is true, the parts write what
+/// `write` writes of the joined text.
+///
+/// The joined text has fewer than 2^64 bytes.
+///
+/// # Errors
+///
+/// Those of `write`. Every place counts bytes from the beginning of the first part, in the joined
+/// text, and is at most its length.
+///
+/// # Example
+///
+/// ```text
+/// write_parts(alloc, &mut out, &["{x} ", "{q}"], &context)?;
+/// // with 1 under `x` and nothing under `q`: `1 `, and then MissingValue("q", 5)
+/// ```
+pub fn write_parts<W: TextWrite, C: Context>(
+    alloc: Global,
+    out: &mut W,
+    parts: &[&str],
+    context: &C,
+) -> Result<(), Error>
+    requires fits { bytes_of parts.now < 2 ^ 64 }
+    ensures outcome { Outcome
+        (parts_mean C.Object.shows (environment (C.finds context.now)) 0 (texts_of parts.now))
+        (W.written out.old) (W.written out.new) (answered result) }
+    ensures composes { Clean (texts_of parts.now) → FrontsClose 0 (texts_of parts.now)
+        → parts_mean C.Object.shows (environment (C.finds context.now)) 0 (texts_of parts.now)
+        ≡ means C.Object.shows (environment (C.finds context.now))
+        (outermost (joined_text (texts_of parts.now))) }
+    ensures place { PlaceWithin (bytes_of parts.now) (answered result) }
+{
+    let mut aside = None;
+    let mut sink = Sink {
+        out,
+        aside: &mut aside,
+    };
+    let answer = write_each(alloc, &mut sink, parts, &Scope::outermost(context));
+    let Sink { out: _, aside: _ } = sink;
+    answer
+}

@@ -1,0 +1,86 @@
+//! Lists: numbers with an item format and a join, many items, and lists in lists.
+
+use crate::failure::Failure;
+use crate::formats::repeat_format;
+use interpolator::Formattable;
+use std::alloc::{AllocError, Global};
+use std::collections::HashMap;
+
+/// How deep lists are nested.
+const DEPTH: usize = 32;
+
+/// A list of the numbers below a bound, asked by this format under the name `n`.
+pub fn numbers(alloc: Global, count: u32, format: &str, repeats: u32) -> Result<String, Failure> {
+    let values = (0..count).collect::<Vec<u32>>(alloc)?;
+    let mut items = Vec::new(alloc);
+    for value in &values {
+        items.push(Formattable::integer(value))?;
+    }
+    repeat_list(alloc, Formattable::iter(&items), format, repeats)
+}
+
+// Formats a list under the name `n`.
+fn repeat_list(
+    alloc: Global,
+    list: Formattable<'_, u32>,
+    format: &str,
+    repeats: u32,
+) -> Result<String, Failure> {
+    let mut context = HashMap::new(alloc);
+    context.insert("n", list)?;
+    repeat_format(alloc, format, &context, repeats)
+}
+
+/// A number in a list of one item, in a list of one item, and so on.
+pub fn nested(alloc: Global, repeats: u32) -> Result<String, Failure> {
+    let format = nested_format(alloc)?;
+    repeat_nested(
+        alloc,
+        Formattable::integer(&7u32),
+        DEPTH,
+        format.as_str(),
+        repeats,
+    )
+}
+
+// The format of lists in lists, each with a sign less than the one around it.
+fn nested_format(alloc: Global) -> Result<String, AllocError> {
+    let mut format = String::new(alloc);
+    for passed in 0..DEPTH {
+        format.push_str("{:i")?;
+        put_signs(&mut format, DEPTH - 1 - passed)?;
+        format.push('(')?;
+    }
+    format.push_str("{}")?;
+    for signs in 0..DEPTH {
+        format.push(')')?;
+        put_signs(&mut format, signs)?;
+        format.push('}')?;
+    }
+    Ok(format)
+}
+
+// Appends so many signs.
+fn put_signs(format: &mut String, count: usize) -> Result<(), AllocError> {
+    for _ in 0..count {
+        format.push('#')?;
+    }
+    Ok(())
+}
+
+// Formats under the empty name the value, so deep in lists of one item.
+fn repeat_nested(
+    alloc: Global,
+    value: Formattable<'_, u32>,
+    depth: usize,
+    format: &str,
+    repeats: u32,
+) -> Result<String, Failure> {
+    if depth == 0 {
+        let mut context = HashMap::new(alloc);
+        context.insert("", value)?;
+        return repeat_format(alloc, format, &context, repeats);
+    }
+    let items = [value];
+    repeat_nested(alloc, Formattable::iter(&items), depth - 1, format, repeats)
+}

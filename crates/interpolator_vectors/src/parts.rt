@@ -1,0 +1,138 @@
+//! Rows of seams and of parts: by hand, from the rules of formats.
+ghost use Rattle.std.specs.Prelude.{◌<◌, ◌^◌, IsTrue};
+ghost use Rattle.interpolator.specs.Meaning.Parts.{bytes_of};
+
+use crate::formats::told::{Told, told_by};
+use interpolator::{Formattable, Interpolate, Pairs, ParseError, TextBuffer, seam, write_parts};
+use std::alloc::Global;
+use std::process::Abort;
+use std::test::Fail;
+
+/// Two texts, and whether the second may stand behind the first.
+const SEAMS: [(&str, &str, bool); 28] = [
+    ("}", "}", false),
+    ("}}}", "}", false),
+    ("}}", "}", true),
+    ("{x}", "}", true),
+    ("{x:}", "<", false),
+    ("{x:}", "a<", true),
+    ("{x:?}", ">", true),
+    ("", "}", true),
+    ("", "", true),
+    ("}", "", true),
+    ("}", "a}", true),
+    ("}", "}}", false),
+    ("}", "{", true),
+    ("}", "<", true),
+    ("a}", "}", false),
+    ("}a", "}", true),
+    ("{{}", "}", false),
+    ("{x:}}", "}", false),
+    ("{x:}}}", "<", true),
+    ("{x:}", "^", false),
+    ("{x:}", ">", false),
+    ("{x:}", "}", true),
+    ("{x:}", "", true),
+    ("{x:}a", "<", true),
+    ("{x}{é:}", "<", false),
+    ("{{x:}", "<", true),
+    ("{x", "}", true),
+    ("{x:5y}", "}", true),
+];
+
+/// Parts, with 1 under `x` and nothing under `q`; the text, and what is told.
+const PARTS: [(&[&str], &str, Told<'static>); 16] = [
+    (&[], "", Told::Done),
+    (&[""], "", Told::Done),
+    (&["{x} ", "{q}"], "1 ", Told::MissingValue("q", 5)),
+    (&["}", "}"], "}}", Told::Done),
+    (&["}", "", "}"], "}}", Told::Done),
+    (&["}}", "}"], "}}", Told::Done),
+    (&["}}}"], "}}", Told::Done),
+    (&["{x:}", "<"], "1<", Told::Done),
+    (&["{x:}<"], "", Told::Parse(ParseError::Fill(3))),
+    (&["é{x}", "{q}"], "é1", Told::MissingValue("q", 6)),
+    (&["a", "", "{x}", "", "b"], "a1b", Told::Done),
+    (
+        &["a", "{x", "b}"],
+        "a",
+        Told::Parse(ParseError::FormatSpecUnclosed(2)),
+    ),
+    (&["{q}", "{", "x"], "", Told::MissingValue("q", 1)),
+    (
+        &["{x}", "{x:5y}", "{q}"],
+        "1",
+        Told::Parse(ParseError::Expected("}", 7)),
+    ),
+    (
+        &["{", "{"],
+        "",
+        Told::Parse(ParseError::FormatSpecUnclosed(1)),
+    ),
+    (&["{{", "{x}", "}}"], "{1}", Told::Done),
+];
+
+/// Whether the parts, joined, have fewer than 2^64 bytes.
+fn parts_fit(parts: &[&str]) -> bool
+    ensures { IsTrue result → bytes_of parts.now < 2 ^ 64 }
+{
+    let mut bytes: usize = 0;
+    for part in parts {
+        match bytes.checked_add(part.len()) {
+            None => return false,
+            Some(more) => bytes = more,
+        }
+    }
+    true
+}
+
+/// The parts give the text and what is told, by the function and by the method.
+fn give(
+    rt: &impl Abort,
+    alloc: Global,
+    parts: &[&str],
+    text: &str,
+    told: Told<'_>,
+) -> Result<(), Fail> {
+    assert!(rt; parts_fit(parts));
+    if parts_fit(parts) {
+        let mut out = TextBuffer::new(alloc);
+        let context = Pairs(&[("x", Formattable::display(&1u64))]);
+        let answer = write_parts(alloc, &mut out, parts, &context);
+        assert_eq!(rt; told_by(&answer), told, "{parts:?}");
+        assert_eq!(rt; out.as_str(), text, "{parts:?}");
+        let mut out = TextBuffer::new(alloc);
+        let answer = context.write_parts_to(alloc, &mut out, parts);
+        assert_eq!(rt; told_by(&answer), told, "{parts:?}");
+        assert_eq!(rt; out.as_str(), text, "{parts:?}");
+    }
+    Ok(())
+}
+
+#[test]
+fn seams(rt: HostRuntime) -> Result<(), Fail> {
+    for (a, b, may_follow) in SEAMS {
+        assert_eq!(rt; seam(a, b), may_follow, "{a} and {b}");
+    }
+    Ok(())
+}
+
+#[test]
+fn parts_are_written(rt: HostRuntime) -> Result<(), Fail> {
+    for (parts, text, told) in PARTS {
+        give(&rt, rt.alloc(), parts, text, told)?;
+    }
+    Ok(())
+}
+
+#[test]
+fn many_parts_are_written(rt: HostRuntime) -> Result<(), Fail> {
+    let alloc = rt.alloc();
+    let mut parts: Vec<&str> = Vec::new(alloc);
+    let mut text = String::new(alloc);
+    for _ in 0..10_000 {
+        parts.push("a{x}")?;
+        text.push_str("a1")?;
+    }
+    give(&rt, alloc, parts.as_slice(), text.as_str(), Told::Done)
+}

@@ -1,0 +1,64 @@
+//! A record that is a context: its fields are found by their names.
+ghost use Rattle.std.specs.Prelude.{Some, None, if◌then◌else◌, codes};
+ghost use Rattle.std.specs.Str.{bytes_eq, encode_utf8_all};
+ghost use Rattle.interpolator.specs.Trees.{empty_tree, with_debug_display};
+
+use interpolator::{Context, Error, Formattable, Interpolate, View};
+use std::alloc::Global;
+use std::test::Fail;
+
+/// What is logged.
+#[derive(Clone, Copy)]
+struct Entry<'a> {
+    level: View<'a>,
+    line: View<'a>,
+}
+
+impl<'a> Context for Entry<'a> {
+    type Object = View<'a>;
+
+    ghost finds = { λ entry name.
+        if bytes_eq (encode_utf8_all name) (codes "level")
+        then Some (with_debug_display empty_tree entry.level)
+        else if bytes_eq (encode_utf8_all name) (codes "line")
+        then Some (with_debug_display empty_tree entry.line)
+        else None };
+
+    fn get(&self, key: &str) -> Option<Formattable<'_, View<'a>>> {
+        match key {
+            "level" => Some(Formattable::debug_display(&self.level)),
+            "line" => Some(Formattable::debug_display(&self.line)),
+            _ => None,
+        }
+    }
+}
+
+impl<'a> Interpolate for Entry<'a> {}
+
+/// A record as a layout says.
+fn logged(alloc: Global, level: &str, line: u32, layout: &str) -> Result<String, Error> {
+    let entry = Entry {
+        level: View::from(level),
+        line: View::from(line),
+    };
+    entry.format(alloc, layout)
+}
+
+// Expected texts by hand, from the layout and the fields.
+#[test]
+fn fields_by_name(rt: HostRuntime) -> Result<(), Fail> {
+    assert_eq!(rt;
+        logged(rt.alloc(), "INFO", 7, "[{level}] {line:>3}")?.as_str(),
+        "[INFO]   7"
+    );
+    for absent in ["{Level}", "{leve}", "{}", "{line }"] {
+        assert!(rt;
+            matches!(
+                logged(rt.alloc(), "INFO", 7, absent),
+                Err(Error::MissingValue(_, 1))
+            ),
+            "{absent}"
+        );
+    }
+    Ok(())
+}
