@@ -149,3 +149,19 @@ fn escape_gives_the_format_or_wants_memory(rt: HostRuntime) {
         }
     }
 }
+
+// Each `{` is doubled, and nothing else.
+#[test]
+fn a_long_text_is_doubled(rt: HostRuntime) -> Result<(), Fail> {
+    let alloc = rt.alloc();
+    let mut text = String::new(alloc);
+    let mut doubled = String::new(alloc);
+    for _ in 0..20_000 {
+        text.push_str("abc{")?;
+        doubled.push_str("abc{{")?;
+    }
+    let format = escape(alloc, text.as_str())?;
+    assert_eq!(rt; format.as_str(), doubled.as_str());
+    assert_eq!(rt; written(alloc, format.as_str())?.as_str(), text.as_str());
+    Ok(())
+}
