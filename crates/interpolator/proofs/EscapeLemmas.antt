@@ -1,8 +1,7 @@
 -- Doubled braces: as they are appended, and what a text with doubled braces means.
-use Rattle.std.proofs.Common.{◌≡◌, ℕ, zero, suc, ◌+◌, ◌≤◌, Bool, true, false, eqb, List, []}
-use Rattle.std.proofs.Common.{◌∷◌, ◌++◌, map, length, arith, refl, ap, ◌∙◌, sym, subst, Option}
-use Rattle.std.proofs.Common.{Some, append_assoc, append-nil}
-use Rattle.std.specs.Prelude.{◌||◌}
+use Rattle.std.proofs.Common.{◌≡◌, ℕ, zero, suc, ◌+◌, ◌≤◌, Bool, true, false, List, [], ◌∷◌, ◌++◌}
+use Rattle.std.proofs.Common.{map, length, arith, refl, ap, ◌∙◌, sym, Option, Some, append_assoc}
+use Rattle.std.proofs.Common.{append-nil}
 use Rattle.std.specs.Char.{len_utf8}
 use Rattle.std.specs.Str.{chars}
 use Rattle.std.proofs.lemmas.Str.{chars-nil}
@@ -11,22 +10,17 @@ use Rattle.interpolator_render.specs.declared.view.Trait.{Trait}
 use Rattle.interpolator_render.specs.declared.view.Spec.{Spec}
 use Rattle.interpolator_render.specs.Views.{Shown}
 use Rattle.interpolator.specs.Syntax.At.{At, outermost}
-use Rattle.interpolator.specs.Syntax.Classes.{front_of, behind_of, in_class, is_brace, open_brace}
-use Rattle.interpolator.specs.Syntax.Classes.{close_brace}
-use Rattle.interpolator.specs.Syntax.Pieces.{PieceKind, Piece, literal, doubled, lone_close, closed}
-use Rattle.interpolator.specs.Syntax.Pieces.{unclosed, broken, step, piece_from, past, pieces}
+use Rattle.interpolator.specs.Syntax.Classes.{front_of, behind_of, in_class, is_brace}
+use Rattle.interpolator.specs.Syntax.Pieces.{PieceKind, Piece, literal, doubled, step, piece_from}
+use Rattle.interpolator.specs.Syntax.Pieces.{past, pieces}
 use Rattle.interpolator.specs.Meaning.Environments.{Environment}
 use Rattle.interpolator.specs.Meaning.Meanings.{Meaning, text_alone, joined, means}
 use Rattle.interpolator.specs.Escaping.{braces_doubled, plain_character, ArePlain, SaysAlone}
 use Rattle.interpolator.specs.declared.syntax.class.Class.TheVariants.{Literal}
 use Rattle.interpolator.proofs.SyntaxLemmas.PieceLemmas.{piece_within, pieces_none, pieces_next}
+use Rattle.interpolator.proofs.SyntaxLemmas.PieceLemmas.{literal_step}
 use Rattle.interpolator.proofs.MeaningLemmas.MeaningLemmas.{means_none, means_next}
-
-same_head : {A : Type 0} {x y : A} {xs ys : List A} → x ∷ xs ≡ y ∷ ys → x ≡ y
-same_head e = cc
-
-same_tail : {A : Type 0} {x y : A} {xs ys : List A} → x ∷ xs ≡ y ∷ ys → xs ≡ ys
-same_tail e = cc
+use Rattle.interpolator.proofs.SyntaxLemmas.TestLemmas.{head_same, tail_same}
 
 -- ---- appended
 
@@ -34,27 +28,13 @@ doubled_front : (cs : List ℕ)
     → front_of (in_class Literal) cs ++ braces_doubled (behind_of (in_class Literal) cs)
     ≡ braces_doubled cs
 doubled_front [] = refl
-doubled_front (c ∷ cs) = by_test (is_brace c) refl (doubled_front cs)
-  where
-    by_test : (b : Bool) → is_brace c ≡ b
-        → front_of (in_class Literal) cs ++ braces_doubled (behind_of (in_class Literal) cs)
-        ≡ braces_doubled cs
-        → front_of (in_class Literal) (c ∷ cs) ++ braces_doubled (behind_of (in_class Literal)
-        (c ∷ cs)) ≡ braces_doubled (c ∷ cs)
-    by_test true e more = rw e (rw e refl)
-    by_test false e more = rw e (ap (λ xs. c ∷ xs) more)
+doubled_front (c ∷ cs) = grind (arith, doubled_front cs)
 
 -- what stands behind the front begins with a brace
 front_stops : (cs rest : List ℕ) (c : ℕ) → behind_of (in_class Literal) cs ≡ c ∷ rest
     → is_brace c ≡ true
 front_stops [] rest c e = absurd (cc)
-front_stops (d ∷ ds) rest c e = by_test (is_brace d) refl (λ k. front_stops ds rest c k)
-  where
-    by_test : (b : Bool) → is_brace d ≡ b
-        → (behind_of (in_class Literal) ds ≡ c ∷ rest → is_brace c ≡ true) → is_brace c ≡ true
-    by_test true h more =
-        let k : d ∷ ds ≡ c ∷ rest = (rw h at e) in ap is_brace (sym (same_head k)) ∙ h
-    by_test false h more = more (rw h at e)
+front_stops (d ∷ ds) rest c e = grind (arith, front_stops ds rest c)
 
 doubled_next : (c : ℕ) (cs : List ℕ) → is_brace c ≡ true
     → braces_doubled (c ∷ cs) ≡ c ∷ c ∷ braces_doubled cs
@@ -101,32 +81,10 @@ all_appended out (b ∷ bs) text n e = absurd (omega arith)
 
 -- ---- pieces
 
-no_brace : (c : ℕ) → is_brace c ≡ false → (eqb c open_brace ≡ false) × (eqb c close_brace ≡ false)
-no_brace c e = by_test (eqb c open_brace) (eqb c close_brace) e
-  where
-    by_test : (b d : Bool) → (b || d) ≡ false → (b ≡ false) × (d ≡ false)
-    by_test true d e = absurd (cc)
-    by_test false d e = (refl, e)
-
-literal_step : (p c : ℕ) (b : At) → is_brace c ≡ false
-    → piece_from p c b ≡ step p (c ∷ []) (literal c) b
-literal_step p c b h = let tests = no_brace c h in rw (tests.0, tests.1) refl
-
 doubled_step : (p c : ℕ) (cs : List ℕ) → is_brace c ≡ true
     → piece_from p c (past p c (c ∷ cs))
     ≡ step p (c ∷ c ∷ []) (doubled c) (past (p + len_utf8 c) c cs)
-doubled_step p c cs h = by_test (eqb c open_brace) (eqb c close_brace) refl refl h
-  where
-    IsDoubled : ℕ → Type 0
-    IsDoubled n =
-        piece_from p n (past p n (n ∷ cs))
-        ≡ step p (n ∷ n ∷ []) (doubled n) (past (p + len_utf8 n) n cs)
-
-    by_test : (b d : Bool) → eqb c open_brace ≡ b → eqb c close_brace ≡ d → (b || d) ≡ true
-        → IsDoubled c
-    by_test true d e k j = subst IsDoubled (sym (eqb-true c open_brace e)) refl
-    by_test false true e k j = subst IsDoubled (sym (eqb-true c close_brace k)) refl
-    by_test false false e k j = absurd (cc)
+doubled_step p c cs h = grind (arith, eqb-true)
 
 abbrev Characters : List Piece → List (Option ℕ)
 Characters xs = map (λ x. plain_character x.kind) xs
@@ -185,10 +143,7 @@ module _ {X : Type 0} (shows : X → Trait → Spec → Shown) (e : Environment 
       rw (← same_some j) (says_next p b text (rw n at (means_next {X = X} shows e p c cs)) r)
   kind_says p c d cs text (doubled b) n j r =
       rw (← same_some j) (says_next p b text (rw n at (means_next {X = X} shows e p c cs)) r)
-  kind_says p c d cs text lone_close n j r = absurd (cc)
-  kind_says p c d cs text (closed start x q) n j r = absurd (cc)
-  kind_says p c d cs text (unclosed start x q) n j r = absurd (cc)
-  kind_says p c d cs text (broken f) n j r = absurd (cc)
+  kind_says p c d cs text k n j r = absurd (cc)
 
   first_says :
       (p c : ℕ) (cs text : List ℕ)
@@ -199,8 +154,8 @@ module _ {X : Type 0} (shows : X → Trait → Spec → Shown) (e : Environment 
       → Says p (c ∷ cs) text
   first_says p c cs [] k says = absurd (cc)
   first_says p c cs (d ∷ text) k says =
-      kind_says p c d cs text (piece_from p c (past p c cs)).piece.kind refl (same_head k)
-      (says text (same_tail k))
+      kind_says p c d cs text (piece_from p c (past p c cs)).piece.kind refl (head_same k)
+      (says text (tail_same k))
 
   plain_says : (most p : ℕ) (cs text : List ℕ) → length cs ≤ most
       → ArePlain (pieces (record { place = p; text = cs })) text → Says p cs text

@@ -6,3 +6,4 @@ pub mod LineLemmas
 pub mod LoanLemmas
 pub mod SlotNameLemmas
 pub mod TreeLemmas
+pub mod UnstyledLemmas

@@ -1,6 +1,6 @@
 -- A newline behind what a format means.
-use Rattle.std.proofs.Common.{◌≡◌, refl, sym, ap, ℕ, List, [], ◌∷◌, ◌++◌, arith}
-use Rattle.std.proofs.Common.{Option, None, Some, inl, inr}
+use Rattle.std.proofs.Common.{◌≡◌, refl, sym, ap, ℕ, [], ◌∷◌, ◌++◌, arith, Option, None, Some, inl}
+use Rattle.std.proofs.Common.{inr}
 use Rattle.interpolator_render.specs.Written.{Written}
 use Rattle.interpolator.specs.Syntax.At.{Placed}
 use Rattle.interpolator.specs.Faults.{Answer, PlaceWithin}
@@ -9,6 +9,7 @@ use Rattle.interpolator.specs.Meaning.Lines.{newline, newline_means, line_means}
 use Rattle.interpolator.specs.Meaning.Outcomes.{Outcome}
 use Rattle.interpolator.proofs.MeaningLemmas.OutcomeLemmas.{finished_if_none, after_finished}
 use Rattle.interpolator.proofs.MeaningLemmas.OutcomeLemmas.{before_fault}
+use Rattle.interpolator.proofs.SyntaxLemmas.TestLemmas.{head_same}
 
 -- behind a format without fault
 pub line_done :
@@ -24,12 +25,9 @@ pub line_fault :
     → Outcome (line_means m) old new (Some q)
 line_fault m old new q h = before_fault m _ old new q m.fault refl h
 
-same_head : {A : Type 0} {x y : A} {xs ys : List A} → x ∷ xs ≡ y ∷ ys → x ≡ y
-same_head e = cc
-
 only_place : (p c q : ℕ) (d : ℕ) (front back : Placed) → (d, p) ∷ [] ≡ front ++ ((c, q) ∷ back)
     → q ≡ p
-only_place p c q d [] back e = sym (ap (λ (x : ℕ × ℕ). x.1) (same_head e))
+only_place p c q d [] back e = sym (ap (λ (x : ℕ × ℕ). x.1) (head_same e))
 only_place p c q d (x ∷ []) back e = absurd (cc)
 only_place p c q d (x ∷ y ∷ front) back e = absurd (cc)
 

@@ -3,15 +3,16 @@ use Rattle.std.proofs.Common.{◌≡◌, refl, sym, ◌∙◌, ap, ℕ, ◌+◌,
 use Rattle.std.proofs.Common.{append_assoc, append-nil, get_or, take, map, Bool, true, false}
 use Rattle.std.specs.Prelude.{filter, codes}
 use Rattle.std.specs.List.{join_by}
-use Rattle.std.specs.Fmt.{HasWritten, IsPlainFormatter}
+use Rattle.std.specs.Fmt.{HasWrittenStyled, IsFlush}
 use Rattle.std.specs.declared.fmt.Formatter.{Formatter}
-use Rattle.std.proofs.lemmas.Grind.{put_two}
+use Rattle.std.proofs.Output.{has_written_styled_append, has_written_styled_of_eq}
 use Rattle.std.proofs.lemmas.List.{take_more, map-append}
+use Rattle.std.proofs.lemmas.Bool.{false≢true}
 use Rattle.std.proofs.lemmas.List.Concat.{flat_map-append}
 use Rattle.std.proofs.lemmas.List.Elements.{filter-append}
 use Rattle.interpolator_render.specs.declared.view.Trait.{Trait}
 use Rattle.interpolator_render.specs.declared.view.Trait.TheVariants.{Binary}
-use Rattle.interpolator.specs.SlotNames.{slot_name, slot_order, name_behind}
+use Rattle.interpolator.specs.SlotNames.{slot_name, slot_order, name_behind, in_parentheses}
 
 -- the names so far, with no closing parenthesis yet
 abbrev pub opened : List (List ℕ) → List ℕ
@@ -63,17 +64,30 @@ module _ (filled : Trait → Bool) (index : ℕ) (below : index < 9) where
       rw (one_slot, filter-append filled (take index slot_order) (slot ∷ []), dropped)
       (ap (map slot_name) (append-nil _))
 
+-- the names that are all written, and the parenthesis behind them
+pub closed : (front : List ℕ) (names : List (List ℕ)) → no_name names ≡ false
+    → (front ++ opened names) ++ codes ")" ≡ front ++ in_parentheses names
+closed front [] is = absurd (false≢true (sym is))
+closed front (name ∷ names) is = simp (append_assoc)
+
 module _ {W : Type 0} (took : W → List ℕ → W → Type 0) where
+  -- a text that is written behind another
+  pub written_behind : (f g h : Formatter W) (a b all : List ℕ) → HasWrittenStyled took f a g
+      → (IsFlush g → true ≡ true → HasWrittenStyled took g b h) → a ++ b ≡ all
+      → HasWrittenStyled took f all h
+  written_behind f g h a b all before after is =
+      has_written_styled_of_eq took f (a ++ b) all h is
+      (has_written_styled_append took f a g b h before (after before.flush refl))
+
   -- a name that is written behind the names so far
   pub name_written : (f g h : Formatter W) (front : List ℕ) (names : List (List ℕ))
       (name shown : List ℕ) (is_first : Bool)
-      → is_first ≡ no_name names → shown ≡ name → HasWritten took f (front ++ opened names) g
-      → (IsPlainFormatter g → true ≡ true → HasWritten took g (name_behind is_first shown) h)
-      → HasWritten took f (front ++ opened (names ++ name ∷ [])) h
+      → is_first ≡ no_name names → shown ≡ name → HasWrittenStyled took f (front ++ opened names) g
+      → (IsFlush g → true ≡ true → HasWrittenStyled took g (name_behind is_first shown) h)
+      → HasWrittenStyled took f (front ++ opened (names ++ name ∷ [])) h
   name_written f g h front names name shown is_first e same before after =
       let joined : (front ++ opened names) ++ name_behind is_first shown
       ≡ front ++ opened (names ++ name ∷ []) =
       rw (e, same) (append_assoc front (opened names) (name_behind (no_name names) name)
       ∙ ap (λ text. front ++ text) (sym (opened-more names name))) in
-      put_two took f g h (front ++ opened names) (name_behind is_first shown) _ before
-      (after before.plain refl) joined
+      written_behind f g h _ _ _ before after joined

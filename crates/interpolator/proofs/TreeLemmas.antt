@@ -2,14 +2,12 @@
 use Rattle.std.proofs.Common.{◌≡◌, refl, ◌∙◌, ap, List, [], ◌∷◌, map, Option, None, Some}
 use Rattle.std.specs.Option.{option_map, option_copied}
 use Rattle.std.specs.Borrow.{Bor}
-use Rattle.interpolator.specs.Trees.{Tree, Slots, slots, trees}
-use Rattle.interpolator.specs.Trees.{items, forest, with_items, layer_slots, layer_tree, tree_of}
-use Rattle.interpolator.specs.Trees.{trees_behind}
+use Rattle.interpolator.specs.Trees.{Tree, Slots, slots, trees, items, forest, with_items}
+use Rattle.interpolator.specs.Trees.{layer_slots, layer_tree, tree_of, trees_behind}
 use Rattle.interpolator.specs.declared.slots.Formattable.TheShapes.{former-Formattable-iter}
 use Rattle.interpolator.specs.declared.slots.Formattable.{Formattable, Formattable-F}
-use Rattle.interpolator.specs.declared.slots.Formattable.{out-Formattable}
-use Rattle.interpolator.specs.declared.slots.Formattable.{roll-Formattable, fold-Formattable}
-use Rattle.interpolator.specs.declared.slots.Formattable.{fold_out-Formattable}
+use Rattle.interpolator.specs.declared.slots.Formattable.{out-Formattable, roll-Formattable}
+use Rattle.interpolator.specs.declared.slots.Formattable.{fold-Formattable, fold_out-Formattable}
 use Rattle.interpolator.specs.declared.slots.Formattable.{out-roll-Formattable}
 
 module _ {X : Type 0} where

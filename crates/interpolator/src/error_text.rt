@@ -1,23 +1,26 @@
-//! What `{}` writes of the faults.
+//! What `{}` writes of the faults: the same text whatever the options.
 
-ghost use Rattle.std.specs.Prelude.{◌≡◌, Some, IsOk};
-ghost use Rattle.std.specs.Fmt.{IsPlainFormatter, HasWritten};
+ghost use Rattle.std.specs.Prelude.{◌≡◌, Some};
+ghost use Rattle.std.specs.Fmt.{WritesOnOk, WritesStyledOnOk};
 ghost use Rattle.interpolator.specs.FaultTexts.{error_text, number_text, parse_error_text};
 ghost use Rattle.interpolator.specs.FaultTexts.{trait_name as trait_name_of, unsupported_text};
 
 use crate::error::{Error, NumberError, ParseError};
+use crate::unstyled::write_unstyled;
 use interpolator_render::Trait;
 use std::fmt;
 
 impl fmt::Display for NumberError {
     ghost output = { λ error. Some (number_text error) };
 
+    ghost styled_output = { λ error _. Some (number_text error) };
+
     fn fmt<W: fmt::Write>(&self, f: &mut fmt::Formatter<W>) -> fmt::Result {
         match self {
-            NumberError::Empty => write!(f, "cannot parse integer from empty string"),
-            NumberError::InvalidDigit => write!(f, "invalid digit found in string"),
-            NumberError::PosOverflow => write!(f, "number too large to fit in target type"),
-            NumberError::NegOverflow => write!(f, "number too small to fit in target type"),
+            NumberError::Empty => f.write_str("cannot parse integer from empty string"),
+            NumberError::InvalidDigit => f.write_str("invalid digit found in string"),
+            NumberError::PosOverflow => f.write_str("number too large to fit in target type"),
+            NumberError::NegOverflow => f.write_str("number too small to fit in target type"),
         }
     }
 }
@@ -25,32 +28,43 @@ impl fmt::Display for NumberError {
 impl fmt::Display for ParseError {
     ghost output = { λ error. Some (parse_error_text error) };
 
+    ghost styled_output = { λ error _. Some (parse_error_text error) };
+
     fn fmt<W: fmt::Write>(&self, f: &mut fmt::Formatter<W>) -> fmt::Result {
         match *self {
-            ParseError::FormatSpecUnclosed(place) => {
-                write!(f, "Format spec at {place} is nether closed with a `}}`")
-            }
-            ParseError::Expected(wanted, place) => write!(f, "Expected `{wanted}` at {place}"),
-            ParseError::InvalidWidth(fault, place) => {
-                write!(f, "Unable to parse width at {place} as usize: {fault}")
-            }
-            ParseError::InvalidPrecision(fault, place) => {
-                write!(f, "Unable to parse precision at {place} as usize: {fault}")
-            }
-            ParseError::Fill(place) => write!(
+            ParseError::FormatSpecUnclosed(place) => write_unstyled(
                 f,
-                "Fill is not supported due to https://github.com/rust-lang/rfcs/pull/3394 at {place}"
+                format_args!("Format spec at {place} is nether closed with a `}}`"),
             ),
-            ParseError::Iter(place) => write!(
+            ParseError::Expected(wanted, place) => write_unstyled(
                 f,
-                "Width, precision, `-`, `+` and `#` are not supported for `i` at {place}"
+                format_args!("Expected `{wanted}` at {place}"),
             ),
-            ParseError::RangeBound(fault, place) => {
-                write!(
-                    f,
-                    "Unable to parse range bound at {place} as isize: {fault}"
-                )
-            }
+            ParseError::InvalidWidth(fault, place) => write_unstyled(
+                f,
+                format_args!("Unable to parse width at {place} as usize: {fault}"),
+            ),
+            ParseError::InvalidPrecision(fault, place) => write_unstyled(
+                f,
+                format_args!("Unable to parse precision at {place} as usize: {fault}"),
+            ),
+            ParseError::Fill(place) => write_unstyled(
+                f,
+                format_args!(
+                    "Fill is not supported due to \
+                     https://github.com/rust-lang/rfcs/pull/3394 at {place}"
+                ),
+            ),
+            ParseError::Iter(place) => write_unstyled(
+                f,
+                format_args!(
+                    "Width, precision, `-`, `+` and `#` are not supported for `i` at {place}"
+                ),
+            ),
+            ParseError::RangeBound(fault, place) => write_unstyled(
+                f,
+                format_args!("Unable to parse range bound at {place} as isize: {fault}"),
+            ),
         }
     }
 }
@@ -58,27 +72,38 @@ impl fmt::Display for ParseError {
 impl fmt::Display for Error {
     ghost output = { λ error. Some (error_text error) };
 
+    ghost styled_output = { λ error _. Some (error_text error) };
+
     fn fmt<W: fmt::Write>(&self, f: &mut fmt::Formatter<W>) -> fmt::Result {
         match self {
             Error::MissingTraitImpl(t, place) => {
                 let name = trait_name(*t);
-                write!(
+                write_unstyled(
                     f,
-                    "trait `{name}` not implemented, used by format argument at {place}"
+                    format_args!(
+                        "trait `{name}` not implemented, used by format argument at {place}"
+                    ),
                 )
             }
-            Error::Fmt(_, place) => write!(
+            Error::Fmt(_, place) => write_unstyled(
                 f,
-                "error while formatting at {place}: an error occurred when formatting an argument"
+                format_args!(
+                    "error while formatting at {place}: \
+                     an error occurred when formatting an argument"
+                ),
             ),
-            Error::Parse(fault) => write!(f, "error while parsing input: {fault}"),
-            Error::MissingValue(name, place) => {
-                write!(f, "specified value not in context `{name}` at {place}")
-            }
+            Error::Parse(fault) => write_unstyled(
+                f,
+                format_args!("error while parsing input: {fault}"),
+            ),
+            Error::MissingValue(name, place) => write_unstyled(
+                f,
+                format_args!("specified value not in context `{name}` at {place}"),
+            ),
             Error::UnsupportedOption(option, feature, place) => {
                 write_unsupported(f, *option, *feature, *place)
             }
-            Error::NoMemory => write!(f, "out of memory"),
+            Error::NoMemory => f.write_str("out of memory"),
         }
     }
 }
@@ -106,12 +131,14 @@ fn write_unsupported<W: fmt::Write>(
     feature: &str,
     place: usize,
 ) -> fmt::Result
-    ensures { IsPlainFormatter f.old → IsOk result → HasWritten W.write_str_gives f.old
+    ensures writes { WritesOnOk W.write_str_gives f.old result
+        (unsupported_text option.now feature.now place) f.new }
+    ensures styled { WritesStyledOnOk W.write_str_gives f.old result
         (unsupported_text option.now feature.now place) f.new }
 {
-    write!(
+    write_unstyled(
         f,
-        "option `{option}` is not supported without feature `{feature}` at {place}"
+        format_args!("option `{option}` is not supported without feature `{feature}` at {place}"),
     )
 }
 

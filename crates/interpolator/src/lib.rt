@@ -16,6 +16,7 @@ mod parts;
 mod slot_names;
 mod slots;
 mod syntax;
+mod unstyled;
 mod writing;
 
 pub use context::Context;

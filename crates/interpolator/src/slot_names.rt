@@ -1,10 +1,11 @@
 //! The text of a `Formattable` for debugging: the names of its filled slots.
 ghost use Rattle.std.specs.Prelude.{◌≡◌, Some};
-ghost use Rattle.std.specs.Fmt.{WritesOnOk};
+ghost use Rattle.std.specs.Fmt.{WritesOnOk, WritesStyledOnOk};
 ghost use Rattle.interpolator.specs.Trees.{tree_of};
 ghost use Rattle.interpolator.specs.SlotNames.{slot_name, is_filled, name_behind, debug_text};
 
 use crate::slots::Formattable;
+use crate::unstyled::write_unstyled;
 use interpolator_render::Trait;
 use std::fmt;
 
@@ -52,19 +53,25 @@ impl<'a, V> Formattable<'a, V> {
 
 // Writes a name behind a parenthesis, or behind the name in front of it.
 fn write_name<W: fmt::Write>(f: &mut fmt::Formatter<W>, is_first: bool, name: &str) -> fmt::Result
-    ensures { WritesOnOk W.write_str_gives f.old result (name_behind is_first name.now) f.new }
+    ensures { WritesStyledOnOk W.write_str_gives f.old result
+        (name_behind is_first name.now) f.new }
 {
     if is_first {
-        write!(f, "({name}")
+        write_unstyled(f, format_args!("({name}"))
     } else {
-        write!(f, ", {name}")
+        write_unstyled(f, format_args!(", {name}"))
     }
 }
 
 impl<'a, V> fmt::Debug for Formattable<'a, V> {
     ghost debug_output = { λ formattable. Some (debug_text (tree_of formattable)) };
 
-    fn fmt<W: fmt::Write>(&self, f: &mut fmt::Formatter<W>) -> fmt::Result {
+    fn fmt<W: fmt::Write>(&self, f: &mut fmt::Formatter<W>) -> fmt::Result
+        ensures writes { WritesOnOk W.write_str_gives f.old result
+            (debug_text (tree_of self.now)) f.new }
+        ensures styled { WritesStyledOnOk W.write_str_gives f.old result
+            (debug_text (tree_of self.now)) f.new }
+    {
         f.write_str("Formattable")?;
         let mut is_first = true;
         for slot in SLOTS {
@@ -118,6 +125,8 @@ mod tests {
         for (formattable, text) in rows {
             let written = format!(in rt.alloc(); "{formattable:?}")?;
             assert_eq!(rt; written.as_str(), text);
+            let styled = format!(in rt.alloc(); "{formattable:>+#120.3?}")?;
+            assert_eq!(rt; styled.as_str(), text);
         }
         Ok(())
     }

@@ -8,6 +8,7 @@ ghost use Rattle.interpolator.specs.Meaning.Environments.{environment, cut};
 ghost use Rattle.interpolator.specs.Faults.{answered, PlaceWithin};
 ghost use Rattle.interpolator.specs.Meaning.Meanings.{means};
 ghost use Rattle.interpolator.specs.Meaning.Outcomes.{Outcome, Formats};
+ghost use Rattle.interpolator_render.specs.Written.{as_writer};
 
 use crate::context::Context;
 use crate::error::Error;
@@ -85,7 +86,7 @@ const MOST_MORE: usize = 256;
 /// An empty buffer with room for the format and, up to a bound, as many bytes again.
 #[tactic(auto, using(crate::proofs::SyntaxLemmas::CharacterLemmas::no_text))]
 fn buffer_for(alloc: Global, format: &str) -> Result<TextBuffer, AllocError>
-    ensures { IfOk result (λ buffer. buffer ≡ record { text = []; refused = false }) }
+    ensures { IfOk result (λ buffer. as_writer buffer ≡ record { text = []; refused = false }) }
 {
     let len = format.len();
     let text = String::with_capacity(alloc, len.saturating_add(len.min(MOST_MORE)))?;

@@ -1,6 +1,7 @@
 -- Texts walked character by character: where a number of characters end.
 use Rattle.std.proofs.Common.{◌≡◌, ℕ, ◌-◌, ◌+◌, List, [], ◌∷◌, Bool, true, false, ◌&&◌, ◌++◌}
-use Rattle.std.proofs.Common.{length, take, refl, sym, ◌∙◌, ap, arith, append_assoc, length-append}
+use Rattle.std.proofs.Common.{length, take, refl, sym, ◌∙◌, ap, arith, append_assoc, append-nil}
+use Rattle.std.proofs.Common.{length-append}
 use Rattle.std.specs.Prelude.{encode_utf8}
 use Rattle.std.specs.Char.{IsScalar}
 use lib.Utf8.{scalars}
@@ -80,3 +81,16 @@ walked_boundary text rest count w =
     let n : length text - length rest ≡ length w.behind = let h = ap length w.parts
     ∙ length-append w.behind rest in omega arith in
     rw n (IsCharBoundary-at_seam text w.behind rest w.parts w.rest_valid)
+
+-- all of a text was walked, and its characters counted
+pub walked_all : (text rest : List ℕ) (count : ℕ) → length rest ≡ 0 → Walked text rest count →
+    length (chars text) ≡ count
+walked_all text [] count e w =
+    let whole : text ≡ w.behind = w.parts ∙ append-nil w.behind in rw whole w.counted
+walked_all text (b ∷ bs) count e w = absurd (omega arith)
+
+-- the characters walked are as many as were counted
+pub walked_count : (text rest : List ℕ) (count : ℕ) → Walked text rest count →
+    length (chars (take (length text - length rest) text)) ≡ count
+walked_count text rest count w =
+    ap (λ (x : List ℕ). length (chars x)) (walked_take text rest count w) ∙ w.counted

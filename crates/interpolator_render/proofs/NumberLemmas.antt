@@ -3,6 +3,9 @@ use Rattle.std.proofs.Common.{◌≡◌, ℕ, ◌+◌, ◌-◌, ◌^◌, ◌<◌
 use Rattle.std.proofs.Common.{length, refl, sym, append_assoc, append-nil, replicate, arith, ◌⊎◌}
 use Rattle.std.proofs.Common.{inl, inr}
 use Rattle.std.specs.Prelude.{Option, unwrap_or}
+use Rattle.interpolator_render.specs.declared.view.Alignment.{Alignment}
+use Rattle.interpolator_render.specs.declared.view.Alignment.TheVariants.{Unset, Left, Center}
+use Rattle.interpolator_render.specs.declared.view.Alignment.TheVariants.{Right}
 use Rattle.interpolator_render.specs.declared.view.Spec.{Spec}
 use Rattle.interpolator_render.specs.Exponent.{exponent_tail, exponent_text, pointed, scientific}
 use Rattle.interpolator_render.specs.Padding.{fill_of, missing_to, padded_number, spaces_before}
@@ -64,3 +67,16 @@ pub space_padded : (spec : Spec) (front body : List ℕ) (missing before fill : 
 unfolding padded_number
 space_padded spec front body missing before fill z f e b = rw (b, f, e, z)
     (append_assoc (replicate _ 32) (front ++ body) _)
+
+no_spaces : (alignment : Alignment) → spaces_before alignment 0 0 ≡ 0
+no_spaces Left = refl
+no_spaces Right = refl
+no_spaces Center = refl
+no_spaces Unset = refl
+
+-- and a number as wide as its width, or wider
+pub nothing_padded : (spec : Spec) (front body : List ℕ) → spec.zero ≡ false →
+    0 ≡ missing_to spec (length front + length body) → front ++ body ≡ padded_number spec front body
+unfolding padded_number
+nothing_padded spec front body z m =
+    rw (z, ← m, no_spaces spec.alignment) (sym (append-nil (front ++ body)))

@@ -1,5 +1,5 @@
 -- What a writer over a `String` took or refused.
-use Rattle.std.proofs.Common.{◌≡◌, ℕ, ◌<◌, true, false, List, [], ◌∷◌, ◌++◌, length, refl, sym, ◌∙◌}
+use Rattle.std.proofs.Common.{◌≡◌, ◌⊎◌, ℕ, ◌+◌, ◌<◌, true, false, List, [], ◌∷◌, ◌++◌, length, refl, sym, ◌∙◌}
 use Rattle.std.proofs.Common.{ap, arith, append-nil}
 use Rattle.std.specs.Str.{chars, IsUtf8}
 use Rattle.std.specs.Prelude.{encode_utf8, encode_utf8_all, Bool, Result, Ok, Err, OnOk, OnErr}
@@ -8,7 +8,7 @@ use Rattle.interpolator_render.specs.declared.text_write.Refusal.{Refusal}
 use Rattle.std.specs.Char.{IsScalar}
 use Rattle.std.proofs.lemmas.Str.{chars-append, chars-nil, IsUtf8-encode, chars_past_char}
 use Rattle.std.proofs.lemmas.Str.{encodes-chars}
-use Rattle.interpolator_render.specs.Written.{Written, Appends, Refuses}
+use Rattle.interpolator_render.specs.Written.{Written, Buffered, Appends, Refuses, MayRefuse}
 
 -- an empty text changes nothing
 pub appends_nothing : (w : Written) (bytes : List ℕ) → length bytes ≡ 0 → Appends w (chars bytes) w
@@ -75,3 +75,12 @@ buffer_writes old bytes after more text refused refused_after (Ok x) u e t n ok 
     rw (← e, ← t) (buffer_appends _ _ bytes more u refl ok.1 (ap chars ok.0) ok.2)
 buffer_writes old bytes after more text refused refused_after (Err refusal) u e t n ok err none =
     rw (← e, none) (refuses_all _ _ text n (ap chars err.0) err.1)
+
+-- a buffer whose `String` has no room may refuse
+pub may_refuse : (old : Buffered) (bytes : List ℕ) (room count : ℕ) (refused : Bool)
+    (answer : Result (Unit {0}) Refusal) → IsUtf8 bytes →
+    record { text = chars bytes; refused = refused; room = room } ≡ old →
+    OnErr answer ((refused ≡ true) ⊎ (room < length bytes + count)) →
+    OnErr answer (MayRefuse old count)
+may_refuse old bytes room count refused (Ok x) u e h = tt
+may_refuse old bytes room count refused (Err r) u e h = rw (← e, encodes-chars bytes u) h

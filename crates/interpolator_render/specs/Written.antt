@@ -1,5 +1,5 @@
 -- What is known of a writer, and the outcomes of a call that writes a text.
-use Rattle.std.specs.Prelude.{◌≡◌, ℕ, ◌<◌, ◌-◌, ◌^◌, min, Bool, true, List, [], ◌++◌, length}
+use Rattle.std.specs.Prelude.{◌≡◌, ◌⊎◌, ℕ, ◌+◌, ◌<◌, ◌-◌, ◌^◌, min, Bool, true, List, [], ◌++◌, length}
 use Rattle.std.specs.Prelude.{encode_utf8_all, Result, MatchResult}
 use Rattle.interpolator_render.specs.declared.text_write.Refusal.{Refusal}
 
@@ -7,6 +7,17 @@ use Rattle.interpolator_render.specs.declared.text_write.Refusal.{Refusal}
 pub record Written : Type 0 where
   pub text : List ℕ
   pub refused : Bool
+
+-- a buffer over a `String`: what is known of it as of any writer, and how many bytes its `String` can
+-- hold without more memory
+pub record Buffered : Type 0 where
+  pub text : List ℕ
+  pub refused : Bool
+  pub room : ℕ
+
+-- a buffer as a writer
+abbrev pub as_writer : Buffered → Written
+as_writer b = record { text = b.text; refused = b.refused }
 
 -- the bytes of a text of characters
 abbrev pub byte_count : List ℕ → ℕ
@@ -37,6 +48,10 @@ pub record Refuses (old : Written) (text : List ℕ) (taken : ℕ) (new : Writte
 -- nothing was taken, and the flag alone was set
 abbrev pub RefusesWhole : Written → ℕ → Written → Type 0
 RefusesWhole old taken new = (taken ≡ 0) × (new ≡ record old { refused = true })
+
+-- a buffer may refuse a text: it has refused before, or its `String` has no room for so many bytes
+abbrev pub MayRefuse : Buffered → ℕ → Type 0
+MayRefuse b count = (b.refused ≡ true) ⊎ (b.room < byte_count b.text + count)
 
 -- the same of a text that may be longer than any `&str`: the greatest `usize` stands for a greater
 -- count

@@ -1,5 +1,5 @@
 //! The digits of a number, in a buffer of bytes.
-ghost use Rattle.std.specs.Prelude.{◌≡◌, ◌<◌, ◌≤◌, ◌+◌, ◌-◌, ◌/◌, ◌∷◌, ◌++◌, false, length};
+ghost use Rattle.std.specs.Prelude.{◌≡◌, ◌<◌, ◌≤◌, ◌+◌, ◌-◌, ◌/◌, ◌%◌, ◌∷◌, ◌++◌, false, length};
 ghost use Rattle.std.specs.Prelude.{take, drop, map};
 ghost use Rattle.std.specs.Fmt.{digit_glyph};
 ghost use Rattle.std.specs.Int.Digits.{digits_of};
@@ -8,6 +8,46 @@ ghost use Rattle.interpolator_render.specs.Digits.{digit_text};
 
 /// Room for the digits of any number in base two.
 pub(crate) const MOST_DIGITS: usize = 128;
+
+/// The two digits of each number below 100, in base ten.
+static PAIRS: [u8; 200] = *b"0001020304050607080910111213141516171819\
+    2021222324252627282930313233343536373839\
+    4041424344454647484950515253545556575859\
+    6061626364656667686970717273747576777879\
+    8081828384858687888990919293949596979899";
+
+/// The tens and the ones of a number below 100, as digits.
+#[inline(always)]
+fn pair_digits(pair: u64) -> (u8, u8)
+    requires { pair < 100 }
+    ensures tens { result.0 ≡ 48 + pair / 10 }
+    ensures ones { result.1 ≡ 48 + pair % 10 }
+{
+    let place = pair as usize * 2;
+    (PAIRS[place], PAIRS[place + 1])
+}
+
+/// The digits of base sixteen.
+static SMALL_DIGITS: [u8; 16] = *b"0123456789abcdef";
+
+static CAPITAL_DIGITS: [u8; 16] = *b"0123456789ABCDEF";
+
+/// As [`ascii_digit`], of a digit of a base that the compiler knows: where it has no letters, it
+/// takes no table.
+#[inline(always)]
+pub(crate) fn digit_in_base(digit: u64, base: u64, upper: bool) -> u8
+    requires digit { digit < base }
+    requires base { base ≤ 16 }
+    ensures { result ≡ digit_glyph upper digit }
+{
+    if base <= 10 {
+        return b'0' + digit as u8;
+    }
+    if upper {
+        return CAPITAL_DIGITS[digit as usize];
+    }
+    SMALL_DIGITS[digit as usize]
+}
 
 #[inline(always)]
 pub(crate) fn ascii_digit(digit: u8, upper: bool) -> u8
@@ -80,7 +120,7 @@ fn write_last(n: u64, base: u64, upper: bool, at: usize, out: &mut [u8; 128]) ->
         ≡ digit_text base upper n ++ drop at out.old }
     ensures front { take (at - 1) out.new ≡ take (at - 1) out.old }
 {
-    out[at - 1] = ascii_digit((n % base) as u8, upper);
+    out[at - 1] = digit_in_base(n % base, base, upper);
     n / base
 }
 
@@ -190,9 +230,9 @@ fn write_pairs(n: u64, end: usize, out: &mut [u8; 128]) -> (usize, u64)
     let mut at = end;
     let mut rest = n;
     while rest >= 100 {
-        let pair = (rest % 100) as u8;
-        out[at - 1] = b'0' + pair % 10;
-        out[at - 2] = b'0' + pair / 10;
+        let (tens, ones) = pair_digits(rest % 100);
+        out[at - 1] = ones;
+        out[at - 2] = tens;
         at -= 2;
         rest /= 100;
     }
@@ -249,7 +289,7 @@ pub(crate) fn ascii_str(bytes: &[u8]) -> &str
     requires { IsAscii bytes.now }
     ensures { result.now ≡ bytes.now }
 {
-    str::from_utf8(bytes).unwrap()
+    unsafe { str::from_utf8_unchecked(bytes) }
 }
 
 /// The digits of a number as a text, whose bytes lie in the buffer.

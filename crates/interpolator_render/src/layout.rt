@@ -1,8 +1,9 @@
 //! A text in parts, written one after the other.
-ghost use Rattle.std.specs.Prelude.{◌≡◌, ◌∷◌, [], ◌<◌, ◌≤◌, replicate};
+ghost use Rattle.std.specs.Prelude.{◌≡◌, ◌∷◌, ◌++◌, [], ◌<◌, ◌≤◌, replicate};
 ghost use Rattle.std.specs.Str.{chars, IsAscii};
 ghost use Rattle.interpolator_render.specs.Characters.{space, zero_digit};
 ghost use Rattle.interpolator_render.specs.Layout.{part_text, text_of_parts};
+ghost use Rattle.interpolator_render.specs.Padding.{between_spaces};
 ghost use Rattle.interpolator_render.specs.Written.{Puts, byte_count};
 
 use crate::text_write::{Refusal, TextWrite};
@@ -60,9 +61,10 @@ fn put_few<W: TextWrite>(out: &mut W, c: char, run: &str, count: usize) -> Resul
     out.write_str(&run[..count])
 }
 
-/// Writes so many copies of an ASCII character, of which `run` has [`RUN`].
-#[inline(always)]
-fn put_copies<W: TextWrite>(out: &mut W, c: char, run: &str, count: usize) -> Result<(), Refusal>
+/// Writes so many copies of an ASCII character, run after run.
+#[cold]
+#[inline(never)]
+fn put_runs<W: TextWrite>(out: &mut W, c: char, run: &str, count: usize) -> Result<(), Refusal>
     requires run { run.now ≡ replicate 64 c }
     requires ascii { c < 128 }
     ensures { Puts (W.written out.old) (replicate count c) result (W.written out.new) }
@@ -77,6 +79,22 @@ fn put_copies<W: TextWrite>(out: &mut W, c: char, run: &str, count: usize) -> Re
         left -= now;
     }
     Ok(())
+}
+
+/// Writes so many copies of an ASCII character, of which `run` has [`RUN`].
+#[inline(always)]
+fn put_copies<W: TextWrite>(out: &mut W, c: char, run: &str, count: usize) -> Result<(), Refusal>
+    requires run { run.now ≡ replicate 64 c }
+    requires ascii { c < 128 }
+    ensures { Puts (W.written out.old) (replicate count c) result (W.written out.new) }
+{
+    if count == 0 {
+        return Ok(());
+    }
+    if count <= RUN {
+        return put_few(out, c, run, count);
+    }
+    put_runs(out, c, run, count)
 }
 
 #[inline(always)]
@@ -137,6 +155,43 @@ pub(crate) fn put_parts<W: TextWrite>(out: &mut W, parts: &[Part<'_>]) -> Result
             return Err(Refusal { taken });
         }
         done = done.saturating_add(part.len());
+    }
+    Ok(())
+}
+
+/// Writes a text and so many spaces behind it.
+#[inline(always)]
+fn put_before_spaces<W: TextWrite>(out: &mut W, text: &str, after: usize) -> Result<(), Refusal>
+    ensures { Puts (W.written out.old) (chars text.now ++ replicate after space) result
+        (W.written out.new) }
+{
+    if let Err(refusal) = put_text(out, text) {
+        return Err(refusal);
+    }
+    if let Err(refusal) = put_spaces(out, after) {
+        let taken = byte_len(text).saturating_add(refusal.taken);
+        return Err(Refusal { taken });
+    }
+    Ok(())
+}
+
+/// Writes a text between spaces.
+#[inline(always)]
+pub(crate) fn put_between<W: TextWrite>(
+    out: &mut W,
+    text: &str,
+    before: usize,
+    after: usize,
+) -> Result<(), Refusal>
+    ensures { Puts (W.written out.old) (between_spaces before after (chars text.now)) result
+        (W.written out.new) }
+{
+    if let Err(refusal) = put_spaces(out, before) {
+        return Err(refusal);
+    }
+    if let Err(refusal) = put_before_spaces(out, text, after) {
+        let taken = before.saturating_add(refusal.taken);
+        return Err(Refusal { taken });
     }
     Ok(())
 }

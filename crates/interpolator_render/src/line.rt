@@ -6,7 +6,7 @@ ghost use Rattle.interpolator_render.specs.Characters.{zero_digit};
 ghost use Rattle.interpolator_render.specs.Digits.{digit_text};
 ghost use Rattle.interpolator_render.specs.Rows.{Row, IsRow, row_of, grown, grown_behind};
 
-use crate::digits::{ascii_digit, ascii_str, write_low, write_low_decimal};
+use crate::digits::{ascii_str, digit_in_base, write_low, write_low_decimal};
 use std::marker::Model;
 
 /// The greatest width that a line has room for, whatever its alignment.
@@ -106,7 +106,7 @@ impl Line {
         ensures { self.new ≡ grown (digit_text 10 false n) self.old }
     {
         let first = self.put_low_decimal(n);
-        self.push(ascii_digit(first as u8, false));
+        self.push(digit_in_base(first, 10, false));
     }
 
     /// Writes the digits of a number in front.
@@ -118,7 +118,7 @@ impl Line {
         ensures { self.new ≡ grown (digit_text base upper n) self.old }
     {
         let first = self.put_low_digits(n, base, upper);
-        self.push(ascii_digit(first as u8, upper));
+        self.push(digit_in_base(first, base, upper));
     }
 
     /// Writes zeros in front.

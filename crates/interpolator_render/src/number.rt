@@ -332,6 +332,9 @@ fn put_around(line: &mut Line, form: NumberForm, spec: &Spec, negative: bool)
     } else {
         put_front(line, form, spec, negative);
         let missing = width.saturating_sub(line.len());
+        if missing == 0 {
+            return;
+        }
         let before = spaces_before(spec.alignment, missing, missing);
         line.pad_before(before);
         line.pad_behind(missing - before);
@@ -374,7 +377,7 @@ fn put_short<W: TextWrite>(
 }
 
 /// Writes a number by its digits.
-#[inline(always)]
+#[inline(never)]
 fn put_digits<W: TextWrite>(
     out: &mut W,
     radix: Radix,

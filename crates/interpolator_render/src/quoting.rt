@@ -109,6 +109,7 @@ fn put_inside<W: TextWrite>(out: &mut W, quote: char, text: &str) -> Result<(), 
 }
 
 /// Writes a text between quotes, with escapes.
+#[inline(never)]
 pub(crate) fn put_quoted<W: TextWrite>(out: &mut W, quote: char, text: &str) -> Result<(), Refusal>
     requires { quote < 128 }
     ensures { Writes (W.written out.old) (quoted quote (chars text.now)) result

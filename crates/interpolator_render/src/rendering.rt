@@ -2,7 +2,7 @@
 ghost use Rattle.std.specs.Prelude.{◌≡◌, ◌∷◌, [], ◌<◌};
 ghost use Rattle.std.specs.Str.{chars};
 ghost use Rattle.interpolator_render.specs.Characters.{single_quote};
-ghost use Rattle.interpolator_render.specs.Padding.{between_spaces, displayed_text};
+ghost use Rattle.interpolator_render.specs.Padding.{displayed_text};
 ghost use Rattle.interpolator_render.specs.Quoting.{quoted};
 ghost use Rattle.interpolator_render.specs.Texts.{under, truth_text, view_text};
 ghost use Rattle.interpolator_render.specs.Texts.{render_answer, Renders};
@@ -10,29 +10,12 @@ ghost use Rattle.interpolator_render.specs.Numbers.{number_form};
 ghost use Rattle.interpolator_render.specs.Views.{IsInRange, shown_by};
 ghost use Rattle.interpolator_render.specs.Written.{Puts};
 
-use crate::characters::{cut, missing};
-use crate::layout::{Part, put_parts, put_text};
+use crate::characters::cut;
+use crate::layout::{put_between, put_text};
 use crate::number::{NumberForm, number_form, put_number, sign_and_magnitude, spaces_before};
 use crate::quoting::put_quoted;
 use crate::text_write::{Refusal, TextWrite};
 use crate::view::{RenderFault, Spec, Trait, View};
-
-/// Writes a text between spaces.
-#[inline(always)]
-fn put_between<W: TextWrite>(
-    out: &mut W,
-    text: &str,
-    before: usize,
-    after: usize,
-) -> Result<(), Refusal>
-    ensures { Puts (W.written out.old) (between_spaces before after (chars text.now)) result
-        (W.written out.new) }
-{
-    put_parts(
-        out,
-        &[Part::Spaces(before), Part::Text(text), Part::Spaces(after)],
-    )
-}
 
 /// Writes a text as display does: its first characters, as many as the precision says, and spaces
 /// up to the width, behind it unless the alignment says otherwise. Sign, `#` and the zero flag do
@@ -49,13 +32,12 @@ fn put_between<W: TextWrite>(
 /// pad(&mut out, "é", &Spec { width: Some(3), alignment: Alignment::Center, ..Spec::default() })
 /// // appends " é "
 /// ```
-#[inline(always)]
+#[inline(never)]
 pub fn pad<W: TextWrite>(out: &mut W, text: &str, spec: &Spec) -> Result<(), Refusal>
     ensures { Puts (W.written out.old) (displayed_text spec.now (chars text.now)) result
         (W.written out.new) }
 {
-    let shown = cut(text, spec.precision);
-    let missing = missing(spec.width, shown);
+    let (shown, missing) = cut(text, spec.precision, spec.width);
     let before = spaces_before(spec.alignment, missing, 0);
     put_between(out, shown, before, missing - before)
 }
@@ -95,6 +77,7 @@ fn render_text<W: TextWrite>(
 }
 
 /// Writes a character under display or debug.
+#[inline(never)]
 fn render_character<W: TextWrite>(
     out: &mut W,
     t: Trait,
@@ -109,6 +92,7 @@ fn render_character<W: TextWrite>(
 }
 
 /// Writes a truth value, under debug as under display.
+#[inline(never)]
 fn render_truth<W: TextWrite>(
     out: &mut W,
     t: Trait,

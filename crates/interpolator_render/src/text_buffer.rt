@@ -1,9 +1,10 @@
 //! A writer over a `String`.
-ghost use Rattle.std.specs.Prelude.{◌≡◌, ◌+◌, ◌<◌, ◌++◌, ◌∷◌, [], ◌⊎◌, true, false, length};
-ghost use Rattle.std.specs.Prelude.{encode_utf8, string_bytes, string_capacity, string_len};
+ghost use Rattle.std.specs.Prelude.{◌≡◌, ◌+◌, ◌<◌, ◌≤◌, ◌++◌, ◌∷◌, [], ◌⊎◌, true, false, length};
+ghost use Rattle.std.specs.Prelude.{encode_utf8, string_bytes, string_capacity};
 ghost use Rattle.std.specs.Prelude.{MatchResult, OnOk, OnErr};
 ghost use Rattle.std.specs.Str.{chars};
 ghost use Rattle.interpolator_render.specs.Written.{Appends, Refuses, RefusesWhole};
+ghost use Rattle.interpolator_render.specs.Written.{as_writer, MayRefuse};
 
 use crate::text_write::{Refusal, TextWrite};
 use std::alloc::Global;
@@ -27,22 +28,23 @@ pub struct TextBuffer {
 }
 
 impl Model for TextBuffer {
-    ghost use Rattle.std.specs.Prelude.{string_bytes};
+    ghost use Rattle.std.specs.Prelude.{string_bytes, string_capacity};
     ghost use Rattle.std.specs.Str.{chars};
-    ghost use Rattle.interpolator_render.specs.Written.{Written};
+    ghost use Rattle.interpolator_render.specs.Written.{Buffered};
 
-    ghost Value = { Written };
+    ghost Value = { Buffered };
 
     ghost view = { λ buffer. record {
       text = chars (string_bytes buffer.text);
       refused = buffer.refused;
+      room = string_capacity buffer.text;
     } };
 }
 
 impl TextBuffer {
     /// An empty buffer, which grows in `alloc`'s memory.
     pub fn new(alloc: Global) -> TextBuffer
-        ensures { result ≡ record { text = []; refused = false } }
+        ensures { as_writer result ≡ record { text = []; refused = false } }
     {
         TextBuffer {
             text: String::new(alloc),
@@ -52,7 +54,11 @@ impl TextBuffer {
 
     /// A buffer that holds this text already.
     pub fn from_string(text: String) -> TextBuffer
-        ensures { result ≡ record { text = chars (string_bytes text); refused = false } }
+        ensures { result ≡ record {
+          text = chars (string_bytes text);
+          refused = false;
+          room = string_capacity text;
+        } }
     {
         let refused = false;
         TextBuffer { text, refused }
@@ -90,7 +96,8 @@ fn append(held: &mut String, refused: &mut bool, text: &str) -> Result<(), Refus
         × (refused.new ≡ true)) }
     ensures taken { MatchResult result (λ _. Unit {0}) (λ refusal. refusal.taken ≡ 0) }
     ensures full { OnErr result ((refused.old ≡ true)
-        ⊎ (string_capacity held.old < string_len held.old + length text.now)) }
+        ⊎ (string_capacity held.old < length (string_bytes held.old) + length text.now)) }
+    ensures room { string_capacity held.old ≤ string_capacity held.new }
 {
     if *refused {
         return Err(Refusal { taken: 0 });
@@ -113,7 +120,8 @@ fn append_char(held: &mut String, refused: &mut bool, c: char) -> Result<(), Ref
         × (refused.new ≡ true)) }
     ensures taken { MatchResult result (λ _. Unit {0}) (λ refusal. refusal.taken ≡ 0) }
     ensures full { OnErr result ((refused.old ≡ true)
-        ⊎ (string_capacity held.old < string_len held.old + length (encode_utf8 c))) }
+        ⊎ (string_capacity held.old < length (string_bytes held.old) + length (encode_utf8 c))) }
+    ensures room { string_capacity held.old ≤ string_capacity held.new }
 {
     if *refused {
         return Err(Refusal { taken: 0 });
@@ -128,15 +136,18 @@ fn append_char(held: &mut String, refused: &mut bool, c: char) -> Result<(), Ref
 }
 
 impl TextWrite for TextBuffer {
-    ghost written = { λ buffer. buffer };
+    ghost written = { λ buffer. as_writer buffer };
 
     #[inline(always)]
     fn write_str(&mut self, text: &str) -> Result<(), Refusal>
         ensures written { MatchResult result
-            (λ _. Appends self.old (chars text.now) self.new)
-            (λ refusal. Refuses self.old (chars text.now) refusal.taken self.new) }
-        ensures whole { MatchResult result
-            (λ _. Unit {0}) (λ refusal. RefusesWhole self.old refusal.taken self.new) }
+            (λ _. Appends (as_writer self.old) (chars text.now) (as_writer self.new))
+            (λ refusal. Refuses (as_writer self.old) (chars text.now) refusal.taken
+            (as_writer self.new)) }
+        ensures whole { MatchResult result (λ _. Unit {0})
+            (λ refusal. RefusesWhole (as_writer self.old) refusal.taken (as_writer self.new)) }
+        ensures full { OnErr result (MayRefuse self.old (length text.now)) }
+        ensures room { self.old.room ≤ self.new.room }
     {
         if text.is_empty() {
             return Ok(());
@@ -147,10 +158,13 @@ impl TextWrite for TextBuffer {
     #[inline(always)]
     fn write_char(&mut self, c: char) -> Result<(), Refusal>
         ensures written { MatchResult result
-            (λ _. Appends self.old (c ∷ []) self.new)
-            (λ refusal. Refuses self.old (c ∷ []) refusal.taken self.new) }
-        ensures whole { MatchResult result
-            (λ _. Unit {0}) (λ refusal. RefusesWhole self.old refusal.taken self.new) }
+            (λ _. Appends (as_writer self.old) (c ∷ []) (as_writer self.new))
+            (λ refusal. Refuses (as_writer self.old) (c ∷ []) refusal.taken
+            (as_writer self.new)) }
+        ensures whole { MatchResult result (λ _. Unit {0})
+            (λ refusal. RefusesWhole (as_writer self.old) refusal.taken (as_writer self.new)) }
+        ensures full { OnErr result (MayRefuse self.old (length (encode_utf8 c))) }
+        ensures room { self.old.room ≤ self.new.room }
     {
         append_char(&mut self.text, &mut self.refused, c)
     }

@@ -1,47 +1,106 @@
-use Rattle.std.proofs.Common.{◌≡◌, ℕ, ◌<◌, ◌+◌, true, false, List, [], ◌∷◌, ◌++◌, length, take}
-use Rattle.std.proofs.Common.{drop, sym, ◌∙◌, ap, arith}
+-- A text that goes to a writer character by character.
+use Rattle.std.proofs.Common.{◌≡◌, ℕ, ◌<◌, ◌+◌, true, List, [], ◌∷◌, ◌++◌, length, refl, sym, ◌∙◌}
+use Rattle.std.proofs.Common.{ap, arith, append-nil, append_assoc, length-append}
+use Rattle.std.specs.Prelude.{encode_utf8}
 use Rattle.std.specs.Str.{chars, IsUtf8}
-use Rattle.std.proofs.lemmas.Str.{chars-append}
-use Rattle.std.proofs.lemmas.List.{take-append-drop, take_all, length-take}
-use Rattle.interpolator_render.specs.Written.{Written, byte_count, Refuses}
-use Rattle.interpolator_render.proofs.LayoutLemmas.{byte_count-append, byte_count-chars}
+use Rattle.std.proofs.lemmas.Str.{chars-append, chars-nil, IsUtf8-append, IsUtf8-encode, IsUtf8-nil}
+use Rattle.std.proofs.lemmas.Str.{IsUtf8-past_char, chars_past_char}
+use Rattle.interpolator_render.specs.Written.{Written, Appends, Refuses}
+use Rattle.interpolator_render.proofs.CharacterLemmas.{scalar_first}
+use Rattle.interpolator_render.proofs.WrittenLemmas.{chars-encode}
+use Rattle.interpolator_render.proofs.LayoutLemmas.{byte_count-chars}
 
-some_left : (rest : List ℕ) → 0 < byte_count rest → 0 < length rest
-some_left [] h = absurd (omega arith)
-some_left (c ∷ cs) h = omega arith
+-- the writer took so many bytes of the text, and `rest` is to come
+pub record Taken (old : Written) (text rest : List ℕ) (taken : ℕ) (now : Written) : Type 0 where
+  pub behind : List ℕ
+  pub parts : text ≡ behind ++ rest
+  pub behind_valid : IsUtf8 behind
+  pub rest_valid : IsUtf8 rest
+  pub counted : taken ≡ length behind
+  pub appended : now.text ≡ old.text ++ chars behind
+  pub same_flag : now.refused ≡ old.refused
+  pub only_empty : old.refused ≡ true → behind ≡ []
 
--- a buffer took the first characters of a text, and refuses the rest
-pub buffer_stops :
-    (now new : Written) (a bytes part : List ℕ) (n : ℕ) → IsUtf8 a → IsUtf8 bytes → IsUtf8 part
-    → now.text ≡ chars a → now.refused ≡ false →
-    chars part ≡ take n (chars bytes) → length part < length bytes → new.text ≡ chars (a ++ part)
-    → new.refused ≡ true → Refuses now (chars bytes) (length part) new
-buffer_stops now new a bytes part n u v w s f e h t g =
-    let split : chars bytes ≡ chars part ++ drop n (chars bytes) =
-    sym (rw e (take-append-drop n (chars bytes))) in
-    let count : length bytes ≡ length part + byte_count (drop n (chars bytes)) =
-    sym (byte_count-chars bytes v)
-    ∙ (ap byte_count split ∙ (byte_count-append (chars part) (drop n (chars bytes))
-    ∙ ap (λ (k : ℕ). k + byte_count (drop n (chars bytes))) (byte_count-chars part w))) in
+pub taken_none : (old : Written) (text : List ℕ) → IsUtf8 text → Taken old text text 0 old
+taken_none old text u = record {
+  behind = [];
+  parts = refl;
+  behind_valid = IsUtf8-nil;
+  rest_valid = u;
+  counted = refl;
+  appended = rw chars-nil (sym (append-nil old.text));
+  same_flag = refl;
+  only_empty = λ _. refl;
+}
+
+-- one more character was taken
+pub taken_more : (old now new : Written) (text rest after : List ℕ) (taken c : ℕ)
+    (size : ℕ) → size ≡ length (encode_utf8 c) → rest ≡ encode_utf8 c ++ after
+    → Taken old text rest taken now → Appends now (c ∷ []) new
+    → Taken old text after (taken + size) new
+taken_more old now new text rest after taken c size z e k a =
+    let s = scalar_first rest after c k.rest_valid e in
+    let more : chars (k.behind ++ encode_utf8 c) ≡ chars k.behind ++ (c ∷ []) =
+    chars-append k.behind (encode_utf8 c) k.behind_valid
+    ∙ ap (λ (x : List ℕ). chars k.behind ++ x) (chars-encode c s) in
     record {
-      part = record {
-        beginning = chars part;
-        rest = drop n (chars bytes);
-        parts = split;
-        not_whole = some_left (drop n (chars bytes)) (omega arith);
-        appended = t ∙ (chars-append a part u ∙ ap (λ (x : List ℕ). x ++ chars part) (sym s));
-        flag_set = g;
-        none_after_refusal = λ h. cc;
-      };
-      counted = sym (byte_count-chars part w);
+      behind = k.behind ++ encode_utf8 c;
+      parts = k.parts ∙ (ap (λ (x : List ℕ). k.behind ++ x) e
+          ∙ sym (append_assoc k.behind (encode_utf8 c) after));
+      behind_valid = IsUtf8-append k.behind (encode_utf8 c) k.behind_valid (IsUtf8-encode c s);
+      rest_valid = IsUtf8-past_char rest after c k.rest_valid e;
+      counted = let n = length-append k.behind (encode_utf8 c) in let m = k.counted in
+          omega (arith, z);
+      appended = a.appended ∙ (ap (λ (x : List ℕ). x ++ (c ∷ [])) k.appended
+          ∙ (append_assoc old.text (chars k.behind) (c ∷ [])
+          ∙ ap (λ (x : List ℕ). old.text ++ x) (sym more)));
+      same_flag = a.same_flag ∙ k.same_flag;
+      only_empty = λ h. let n = ap length (a.only_empty (k.same_flag ∙ h)) in absurd (omega arith);
     }
 
--- a front that is as long as the text is the text
-pub whole_front : (bytes part : List ℕ) → part ≡ take (length part) bytes
-    → length part ≡ length bytes → part ≡ bytes
-whole_front bytes part e h = e ∙ take_all (length part) bytes (omega arith)
+-- how far the text goes behind what was taken
+pub taken_fits : (old now : Written) (text rest after : List ℕ) (taken c : ℕ)
+    → rest ≡ encode_utf8 c ++ after → Taken old text rest taken now
+    → taken + (length (encode_utf8 c) + length after) ≡ length text
+taken_fits old now text rest after taken c e k =
+    let n = length-append k.behind rest in let m = length-append (encode_utf8 c) after in
+    let p = ap length k.parts in let q = ap length e in let t = k.counted in omega arith
 
-pub front_shorter : (bytes part : List ℕ) → part ≡ take (length part) bytes
-    → (length part ≡ length bytes → ⊥) → length part < length bytes
-front_shorter bytes part e h =
-    let n = ap length e in let k = length-take (length part) bytes in omega (arith, h)
+-- the whole text was taken
+pub taken_whole : (old now : Written) (text rest : List ℕ) (taken : ℕ) → rest ≡ []
+    → Taken old text rest taken now → Appends old (chars text) now
+taken_whole old now text rest taken e k =
+    let all : text ≡ k.behind = k.parts ∙ (ap (λ (x : List ℕ). k.behind ++ x) e
+    ∙ append-nil k.behind) in
+    record {
+      appended = rw all k.appended;
+      same_flag = k.same_flag;
+      only_empty = λ h. ap chars (all ∙ k.only_empty h) ∙ chars-nil;
+    }
+
+-- a proper beginning of one character is empty
+none_of_one : (c : ℕ) (beginning rest : List ℕ) → (c ∷ []) ≡ beginning ++ rest → 0 < length rest
+    → beginning ≡ []
+none_of_one c [] rest e h = refl
+none_of_one c (b ∷ bs) rest e h =
+    let n = ap length e in let m = length-append bs rest in absurd (omega arith)
+
+-- a character was refused, so all from it on was
+pub taken_part : (old now new : Written) (text rest after : List ℕ) (taken c k : ℕ)
+    → rest ≡ encode_utf8 c ++ after → Taken old text rest taken now → Refuses now (c ∷ []) k new
+    → Refuses old (chars text) taken new
+taken_part old now new text rest after taken c n e k r =
+    let none = none_of_one c r.part.beginning r.part.rest r.part.parts r.part.not_whole in
+    record {
+      part = record {
+        beginning = chars k.behind;
+        rest = chars rest;
+        parts = ap chars k.parts ∙ chars-append k.behind rest k.behind_valid;
+        not_whole = rw (chars_past_char rest after c k.rest_valid e) (omega arith);
+        appended = r.part.appended ∙ (ap (λ (x : List ℕ). now.text ++ x) none
+            ∙ (append-nil now.text ∙ k.appended));
+        flag_set = r.part.flag_set;
+        none_after_refusal = λ h. ap chars (k.only_empty h) ∙ chars-nil;
+      };
+      counted = k.counted ∙ sym (byte_count-chars k.behind k.behind_valid);
+    }

@@ -1,17 +1,27 @@
 //! Rows of `parse_argument`.
 
-mod rows;
+pub(crate) mod rows;
 
 use crate::formats::told::told_by;
-use interpolator::{Group, Kind, Range, parse_argument};
+use interpolator::{Argument, Group, Kind, Range, parse_argument};
 use rows::{Bounds, Inner, LISTS, Listing, READ, REFUSED, Reading, Refusal};
 use std::process::Abort;
-use std::test::Fail;
+
+/// The argument that starts at a byte of the text, and the byte behind its spec.
+fn argument_at<'a>(rt: &impl Abort, text: &'a str, start: usize) -> (Argument<'a>, usize) {
+    assert!(rt;
+        text.is_char_boundary(start),
+        "a start within a character, at {text}"
+    );
+    match parse_argument(text, start) {
+        Ok(read) => read,
+        Err(error) => panic!(rt; "{error}, at {text}"),
+    }
+}
 
 /// The row's argument is read, and its name is a slice of the text.
-fn reads(rt: &impl Abort, row: &Reading<'_>) -> Result<(), Fail> {
-    assert!(rt; row.text.is_char_boundary(row.start));
-    let (argument, end) = parse_argument(row.text, row.start)?;
+fn reads(rt: &impl Abort, row: &Reading<'_>) {
+    let (argument, end) = argument_at(rt, row.text, row.start);
     assert_eq!(rt; argument.name, row.name, "at {}", row.text);
     assert_eq!(rt; argument.name_place, row.name_place, "at {}", row.text);
     assert_eq!(rt; argument.spec, row.spec, "at {}", row.text);
@@ -20,19 +30,17 @@ fn reads(rt: &impl Abort, row: &Reading<'_>) -> Result<(), Fail> {
         Kind::List { .. } => assert!(rt; false, "a list at {}", row.text),
     }
     assert_eq!(rt; end, row.end, "at {}", row.text);
-    Ok(())
 }
 
 #[test]
-fn arguments_are_read(rt: HostRuntime) -> Result<(), Fail> {
+fn arguments_are_read(rt: HostRuntime) {
     for row in &READ {
-        reads(&rt, row)?;
+        reads(&rt, row);
     }
-    Ok(())
 }
 
 /// The bounds of a range, as a value that rows can hold.
-fn bounds_of(range: Range) -> Bounds {
+pub(crate) fn bounds_of(range: Range) -> Bounds {
     Bounds {
         lower: range.lower,
         inclusive: range.inclusive,
@@ -49,9 +57,8 @@ fn inner_of(group: Group<'_>) -> Inner<'_> {
 }
 
 /// The row's list is read.
-fn lists(rt: &impl Abort, row: &Listing<'_>) -> Result<(), Fail> {
-    assert!(rt; row.text.is_char_boundary(row.start));
-    let (argument, end) = parse_argument(row.text, row.start)?;
+fn lists(rt: &impl Abort, row: &Listing<'_>) {
+    let (argument, end) = argument_at(rt, row.text, row.start);
     assert_eq!(rt; argument.name, row.name, "at {}", row.text);
     assert_eq!(rt; argument.name_place, row.name_place, "at {}", row.text);
     assert_eq!(rt; argument.spec, row.spec, "at {}", row.text);
@@ -64,20 +71,22 @@ fn lists(rt: &impl Abort, row: &Listing<'_>) -> Result<(), Fail> {
         }
     }
     assert_eq!(rt; end, row.end, "at {}", row.text);
-    Ok(())
 }
 
 #[test]
-fn lists_are_read(rt: HostRuntime) -> Result<(), Fail> {
+fn lists_are_read(rt: HostRuntime) {
     for row in &LISTS {
-        lists(&rt, row)?;
+        lists(&rt, row);
     }
-    Ok(())
 }
 
 /// The row's fault is told.
 fn refuses(rt: &impl Abort, row: &Refusal<'_>) {
-    assert!(rt; row.text.is_char_boundary(row.start));
+    assert!(rt;
+        row.text.is_char_boundary(row.start),
+        "a start within a character, at {}",
+        row.text
+    );
     let answer = parse_argument(row.text, row.start);
     assert_eq!(rt; told_by(&answer), row.told, "at {}", row.text);
 }

@@ -1,5 +1,7 @@
 //! A writer that counts its calls.
 
+ghost use Rattle.interpolator_render.specs.Written.{as_writer};
+
 use interpolator_render::{Refusal, TextBuffer, TextWrite};
 use std::alloc::Global;
 
@@ -26,7 +28,7 @@ impl Counting {
 }
 
 impl TextWrite for Counting {
-    ghost written = { λ writer. writer.inner };
+    ghost written = { λ writer. as_writer writer.inner };
 
     fn write_str(&mut self, text: &str) -> Result<(), Refusal> {
         self.calls = self.calls.saturating_add(1);

@@ -9,6 +9,8 @@ mod choices;
 #[cfg(test)]
 mod counting;
 #[cfg(test)]
+mod fault_texts;
+#[cfg(test)]
 mod formats;
 #[cfg(test)]
 mod limited;

@@ -1,6 +1,4 @@
 //! A writer that takes a number of characters and then refuses.
-ghost use Rattle.std.specs.Prelude.{◌≡◌, ◌-◌, ◌<◌, take, length, false, string_bytes};
-ghost use Rattle.std.specs.Str.{chars};
 
 use interpolator_render::{Refusal, TextWrite};
 use std::alloc::{AllocError, Global};
@@ -29,20 +27,6 @@ impl Model for Limited {
     } };
 }
 
-/// The first characters of a text, so many or all.
-fn beginning(text: &str, count: usize) -> &str
-    ensures characters { chars result.now ≡ take count (chars text.now) }
-    ensures front { result.now ≡ take (length result.now) text.now }
-{
-    let mut rest = text.chars();
-    'walk: for _ in 0..count {
-        let Some(_) = rest.next() else {
-            return text;
-        };
-    }
-    &text[..text.len() - rest.as_str().len()]
-}
-
 impl Limited {
     /// A writer that takes so many characters.
     pub(crate) fn new(alloc: Global, room: usize) -> Result<Limited, AllocError> {
@@ -63,27 +47,14 @@ impl TextWrite for Limited {
     ghost written = { λ writer. writer };
 
     fn write_str(&mut self, text: &str) -> Result<(), Refusal> {
-        if text.is_empty() {
-            return Ok(());
-        }
-        if self.refused {
-            return Err(Refusal { taken: 0 });
-        }
-        let fits = beginning(text, self.room);
-        match self.text.push_str(fits) {
-            Ok(()) => {
-                self.room -= fits.chars().count().min(self.room);
-                if fits.len() == text.len() {
-                    return Ok(());
-                }
-                self.refused = true;
-                Err(Refusal { taken: fits.len() })
-            }
-            Err(_) => {
-                self.refused = true;
-                Err(Refusal { taken: 0 })
+        let mut taken = 0;
+        for c in text.chars() {
+            match self.write_char(c) {
+                Ok(()) => taken += c.len_utf8(),
+                Err(_) => return Err(Refusal { taken }),
             }
         }
+        Ok(())
     }
 
     fn write_char(&mut self, c: char) -> Result<(), Refusal> {

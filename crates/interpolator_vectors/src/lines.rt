@@ -1,7 +1,7 @@
 //! Rows of formats with a newline behind them, and of texts whose braces are doubled.
 
 use crate::formats::held::{Held, Slots, map_of};
-use crate::formats::told::{Told, told_by};
+use crate::formats::told::{Told, answers, told_by};
 use crate::limited::Limited;
 use interpolator::{
     Bits, Error, Formattable, Interpolate, Pairs, TextBuffer, View, escape, iwriteln, write,
@@ -25,7 +25,8 @@ struct LineTable<'a> {
     rows: &'a [LineRow<'a>],
 }
 
-// Expected values are those of the rules: the format's text, and then a newline at place 0.
+/// Worked by hand from the rules of lines and outcomes in docs/DEFINITIONS.md: the format's text,
+/// and then a newline at place 0.
 #[rattlefmt::skip]
 const LINES: [LineTable<'static>; 2] = [
     LineTable {
@@ -107,7 +108,7 @@ fn pairs_and_the_function_write_lines(rt: HostRuntime) -> Result<(), Fail> {
     Ok(())
 }
 
-/// Texts, and the same with their braces doubled.
+/// Texts, and the same with their braces doubled: by hand, each brace twice.
 #[rattlefmt::skip]
 const ESCAPED: [(&str, &str); 9] = [
     ("}{", "}}{{"),
@@ -122,19 +123,19 @@ const ESCAPED: [(&str, &str); 9] = [
 ];
 
 /// What a format gives with nothing under any name.
-fn written(alloc: Global, format: &str) -> Result<TextBuffer, Error> {
+fn written(alloc: Global, format: &str) -> Result<String, Error> {
     let pairs: [(&str, Formattable<'_, u64>); 0] = [];
     let mut out = TextBuffer::new(alloc);
     write(alloc, &mut out, format, &Pairs(&pairs))?;
-    Ok(out)
+    Ok(out.into_string())
 }
 
 #[test]
 fn doubled_braces_give_the_text_back(rt: HostRuntime) -> Result<(), Fail> {
     for (text, doubled) in ESCAPED {
         let format = escape(rt.alloc(), text)?;
-        assert_eq!(rt; format.as_str(), doubled);
-        assert_eq!(rt; written(rt.alloc(), doubled)?.as_str(), text);
+        assert_eq!(rt; format.as_str(), doubled, "at {text}");
+        answers(&rt, written(rt.alloc(), doubled), Told::Done, text, doubled);
     }
     Ok(())
 }
@@ -144,8 +145,8 @@ fn doubled_braces_give_the_text_back(rt: HostRuntime) -> Result<(), Fail> {
 fn escape_gives_the_format_or_wants_memory(rt: HostRuntime) {
     for (text, doubled) in ESCAPED {
         match escape(rt.alloc(), text) {
-            Ok(format) => assert_eq!(rt; format.as_str(), doubled),
-            Err(error) => assert!(rt; error == Error::NoMemory),
+            Ok(format) => assert_eq!(rt; format.as_str(), doubled, "at {text}"),
+            Err(error) => assert!(rt; error == Error::NoMemory, "at {text}"),
         }
     }
 }

@@ -47,7 +47,7 @@ fn give(rt: &impl Abort, alloc: Global, table: &ListTable<'_>) -> Result<(), Fai
         map.insert(*name, Formattable::iter(items))?;
     }
     for row in table.rows {
-        gives(rt, alloc, row, &map)?;
+        gives(rt, alloc, row, &map);
     }
     Ok(())
 }
@@ -102,7 +102,7 @@ fn give_list(rt: &impl Abort, alloc: Global, list: Formattable<'_, View<'_>>) ->
     let mut map = HashMap::new(alloc);
     map.insert("o", list)?;
     for row in &NESTED {
-        gives(rt, alloc, row, &map)?;
+        gives(rt, alloc, row, &map);
     }
     Ok(())
 }

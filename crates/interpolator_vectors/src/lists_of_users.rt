@@ -16,6 +16,7 @@ fn guests(alloc: Global, names: &[&str]) -> Result<String, Error> {
     )
 }
 
+// Expected texts by hand, from the format and the names.
 #[test]
 fn users_write_lists(rt: HostRuntime) -> Result<(), Fail> {
     let alloc = rt.alloc();
@@ -31,6 +32,7 @@ fn table<'a>(alloc: Global, rows: &'a [Formattable<'a, u64>]) -> Result<String, 
     Pairs(&[("rows", Formattable::iter(rows))]).format(alloc, "{rows:i#({:i({:>4})})#(\n)}")
 }
 
+// Expected texts by hand, from the format and the cells.
 #[test]
 fn users_write_tables(rt: HostRuntime) -> Result<(), Fail> {
     let cells = [[1, 20], [300, 4]];

@@ -1,10 +1,11 @@
 //! Rows of pairs as a context.
 
-use interpolator::{Context, Error, Formattable, Interpolate, Pairs};
-use std::alloc::Global;
-use std::test::Fail;
+use crate::formats::told::{Told, answers, told_by};
+use interpolator::{Context, Formattable, Interpolate, Pairs};
 
 /// Formats over the pairs `n` 1, `nn` 2, the empty name 3, `é` 4 and `n` 5, and what they print.
+/// Worked by hand from the rules of contexts and of arguments in docs/DEFINITIONS.md.
+#[rattlefmt::skip]
 const FOUND: [(&str, &str); 7] = [
     ("{n}", "5"),
     ("{nn}", "2"),
@@ -15,7 +16,9 @@ const FOUND: [(&str, &str); 7] = [
     ("none", "none"),
 ];
 
-/// Formats over the same pairs, and the name that is missing.
+/// Formats over the same pairs, and the name that is missing. Worked by hand, as the rows above;
+/// the argument starts behind its brace, at 1.
+#[rattlefmt::skip]
 const ABSENT: [(&str, &str); 6] = [
     ("{nnn}", "nnn"),
     ("{N}", "N"),
@@ -25,16 +28,8 @@ const ABSENT: [(&str, &str); 6] = [
     ("{\u{301}}", "\u{301}"),
 ];
 
-/// The name that the format misses, or an empty text. An absent argument stands at 1.
-fn missing(alloc: Global, pairs: Pairs<'_, u64>, format: &str) -> Result<String, Fail> {
-    match pairs.format(alloc, format) {
-        Err(Error::MissingValue(name, 1)) => Ok(name),
-        _ => Ok(String::new(alloc)),
-    }
-}
-
 #[test]
-fn the_last_pair_of_a_name_stands(rt: HostRuntime) -> Result<(), Fail> {
+fn the_last_pair_of_a_name_stands(rt: HostRuntime) {
     let values = [1u64, 2, 3, 4, 5];
     let pairs = [
         ("n", Formattable::display(&values[0])),
@@ -44,21 +39,21 @@ fn the_last_pair_of_a_name_stands(rt: HostRuntime) -> Result<(), Fail> {
         ("n", Formattable::display(&values[4])),
     ];
     for (format, text) in FOUND {
-        assert_eq!(rt; Pairs(&pairs).format(rt.alloc(), format)?.as_str(), text);
+        let made = Pairs(&pairs).format(rt.alloc(), format);
+        answers(&rt, made, Told::Done, text, format);
     }
     for (format, name) in ABSENT {
-        assert_eq!(rt; missing(rt.alloc(), Pairs(&pairs), format)?.as_str(), name);
+        let made = Pairs(&pairs).format(rt.alloc(), format);
+        assert_eq!(rt; told_by(&made), Told::MissingValue(name, 1), "at {format}");
     }
-    Ok(())
 }
 
 #[test]
-fn no_pairs_have_no_name(rt: HostRuntime) -> Result<(), Fail> {
+fn no_pairs_have_no_name(rt: HostRuntime) {
     let pairs: [(&str, Formattable<'_, u64>); 0] = [];
-    let empty = Pairs(&pairs);
-    assert_eq!(rt; empty.format(rt.alloc(), "{{none}}")?.as_str(), "{none}");
+    let made = Pairs(&pairs).format(rt.alloc(), "{{none}}");
+    answers(&rt, made, Told::Done, "{none}", "{{none}}");
     for name in ["", "n"] {
-        assert!(rt; Context::get(&empty, name).is_none());
+        assert!(rt; Context::get(&Pairs(&pairs), name).is_none(), "at `{name}`");
     }
-    Ok(())
 }

@@ -1,4 +1,4 @@
-//! Rows of seams and of parts: by hand, from the rules of formats.
+//! Rows of seams and of parts.
 ghost use Rattle.std.specs.Prelude.{◌<◌, ◌^◌, IsTrue};
 ghost use Rattle.interpolator.specs.Meaning.Parts.{bytes_of};
 
@@ -8,8 +8,10 @@ use std::alloc::Global;
 use std::process::Abort;
 use std::test::Fail;
 
-/// Two texts, and whether the second may stand behind the first.
-const SEAMS: [(&str, &str, bool); 28] = [
+/// Two texts, and whether the second may stand behind the first. Worked by hand from the rules of
+/// seams in docs/DEFINITIONS.md.
+#[rattlefmt::skip]
+const SEAMS: [(&str, &str, bool); 31] = [
     ("}", "}", false),
     ("}}}", "}", false),
     ("}}", "}", true),
@@ -38,10 +40,15 @@ const SEAMS: [(&str, &str, bool); 28] = [
     ("{{x:}", "<", true),
     ("{x", "}", true),
     ("{x:5y}", "}", true),
+    ("{x:i({:})}", "<", true),
+    ("{ :}", "^", false),
+    ("{x:i(}", "}", true),
 ];
 
-/// Parts, with 1 under `x` and nothing under `q`; the text, and what is told.
-const PARTS: [(&[&str], &str, Told<'static>); 16] = [
+/// Parts, with 1 under `x` and nothing under `q`; the text, and what is told. Worked by hand from
+/// the rules of parts in docs/DEFINITIONS.md.
+#[rattlefmt::skip]
+const PARTS: [(&[&str], &str, Told<'static>); 17] = [
     (&[], "", Told::Done),
     (&[""], "", Told::Done),
     (&["{x} ", "{q}"], "1 ", Told::MissingValue("q", 5)),
@@ -53,23 +60,12 @@ const PARTS: [(&[&str], &str, Told<'static>); 16] = [
     (&["{x:}<"], "", Told::Parse(ParseError::Fill(3))),
     (&["é{x}", "{q}"], "é1", Told::MissingValue("q", 6)),
     (&["a", "", "{x}", "", "b"], "a1b", Told::Done),
-    (
-        &["a", "{x", "b}"],
-        "a",
-        Told::Parse(ParseError::FormatSpecUnclosed(2)),
-    ),
+    (&["a", "{x", "b}"], "a", Told::Parse(ParseError::FormatSpecUnclosed(2))),
     (&["{q}", "{", "x"], "", Told::MissingValue("q", 1)),
-    (
-        &["{x}", "{x:5y}", "{q}"],
-        "1",
-        Told::Parse(ParseError::Expected("}", 7)),
-    ),
-    (
-        &["{", "{"],
-        "",
-        Told::Parse(ParseError::FormatSpecUnclosed(1)),
-    ),
+    (&["{x}", "{x:5y}", "{q}"], "1", Told::Parse(ParseError::Expected("}", 7))),
+    (&["{", "{"], "", Told::Parse(ParseError::FormatSpecUnclosed(1))),
     (&["{{", "{x}", "}}"], "{1}", Told::Done),
+    (&["{x:i(", "a)}"], "", Told::Parse(ParseError::FormatSpecUnclosed(1))),
 ];
 
 /// Whether the parts, joined, have fewer than 2^64 bytes.
@@ -94,7 +90,7 @@ fn give(
     text: &str,
     told: Told<'_>,
 ) -> Result<(), Fail> {
-    assert!(rt; parts_fit(parts));
+    assert!(rt; parts_fit(parts), "{parts:?}");
     if parts_fit(parts) {
         let mut out = TextBuffer::new(alloc);
         let context = Pairs(&[("x", Formattable::display(&1u64))]);

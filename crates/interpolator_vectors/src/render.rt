@@ -36,9 +36,9 @@ fn first(alloc: Global, text: &str, count: usize) -> Result<String, Fail> {
 fn gives(rt: &impl Abort, alloc: Global, row: &Row<'_>) {
     let mut out = TextBuffer::new(alloc);
     let answer = render(&mut out, row.view.view(row.t, &row.spec), row.t, &row.spec);
-    assert_eq!(rt; answer, Ok(()), "at {}", row.text);
-    assert_eq!(rt; out.as_str(), row.text);
-    assert!(rt; !out.refused());
+    assert_eq!(rt; answer, Ok(()), "at {row:?}");
+    assert_eq!(rt; out.as_str(), row.text, "at {row:?}");
+    assert!(rt; !out.refused(), "at {row:?}");
 }
 
 /// A writer that takes `room` characters gets so many of the row's text.
@@ -51,9 +51,13 @@ fn gives_beginning(
 ) -> Result<(), Fail> {
     let mut out = Limited::new(alloc, room)?;
     let given = render(&mut out, row.view.view(row.t, &row.spec), row.t, &row.spec);
-    assert_eq!(rt; given, answer, "at {} in {room}", row.text);
-    assert_eq!(rt; out.as_str(), first(alloc, row.text, room)?.as_str());
-    assert_eq!(rt; out.refused(), answer.is_err());
+    assert_eq!(rt; given, answer, "at {row:?} in {room}");
+    assert_eq!(rt;
+        out.as_str(),
+        first(alloc, row.text, room)?.as_str(),
+        "at {row:?} in {room}"
+    );
+    assert_eq!(rt; out.refused(), answer.is_err(), "at {row:?} in {room}");
     Ok(())
 }
 
@@ -100,9 +104,9 @@ fn faults_write_nothing(rt: HostRuntime) {
     for (view, t, fault) in &FAULTS {
         let mut out = TextBuffer::new(rt.alloc());
         let answer = render(&mut out, view.view(*t, &PLAIN), *t, &PLAIN);
-        assert_eq!(rt; answer, Err(*fault));
-        assert_eq!(rt; out.as_str(), "");
-        assert!(rt; !out.refused());
+        assert_eq!(rt; answer, Err(*fault), "at {view:?} under {t:?}");
+        assert_eq!(rt; out.as_str(), "", "at {view:?} under {t:?}");
+        assert!(rt; !out.refused(), "at {view:?} under {t:?}");
     }
 }
 
@@ -116,7 +120,8 @@ fn greatest_width_and_precision(rt: HostRuntime) -> Result<(), Fail> {
     Ok(())
 }
 
-/// A view of each type that is a value, all in one list.
+/// A view of each type that is a value, all in one list: the greatest or the least number of each
+/// type, as std's documentation has it.
 #[test]
 fn views_of_values(rt: HostRuntime) -> Result<(), Fail> {
     let owned = String::from_str(rt.alloc(), "é")?;
@@ -152,7 +157,7 @@ fn views_of_values(rt: HostRuntime) -> Result<(), Fail> {
             Trait::Display,
             &PLAIN,
         );
-        assert_eq!(rt; answer, Ok(()));
+        assert_eq!(rt; answer, Ok(()), "at {text}");
         assert_eq!(rt; out.as_str(), *text);
     }
     Ok(())
@@ -174,12 +179,13 @@ fn pads(rt: &impl Abort, alloc: Global, row: &PadRow<'_>, room: usize) -> Result
     let mut out = Limited::new(alloc, room)?;
     let front = first(alloc, row.padded, room)?;
     let answer = pad(&mut out, row.text, &row.spec);
-    if front.len() < row.padded.len() {
-        assert_eq!(rt; answer, Err(Refusal { taken: front.len() }));
+    let wanted = if front.len() < row.padded.len() {
+        Err(Refusal { taken: front.len() })
     } else {
-        assert_eq!(rt; answer, Ok(()));
-    }
-    assert_eq!(rt; out.as_str(), front.as_str());
+        Ok(())
+    };
+    assert_eq!(rt; answer, wanted, "at {row:?} in {room}");
+    assert_eq!(rt; out.as_str(), front.as_str(), "at {row:?} in {room}");
     Ok(())
 }
 
@@ -198,10 +204,10 @@ fn padded_rows(rt: HostRuntime) -> Result<(), Fail> {
 fn calls(rt: &impl Abort, alloc: Global, row: &Row<'_>, most: usize) {
     let mut out = Counting::new(alloc);
     let answer = render(&mut out, row.view.view(row.t, &row.spec), row.t, &row.spec);
-    assert_eq!(rt; answer, Ok(()));
-    assert!(rt; out.calls <= most, "{} calls", out.calls);
-    assert_eq!(rt; out.empty_calls, 0);
-    assert!(rt; out.as_str().ends_with(row.text));
+    assert_eq!(rt; answer, Ok(()), "at {row:?}");
+    assert!(rt; out.calls <= most, "{} calls at {row:?}", out.calls);
+    assert_eq!(rt; out.empty_calls, 0, "at {row:?}");
+    assert!(rt; out.as_str().ends_with(row.text), "at {row:?}");
 }
 
 /// Digits, padding and the runs of a quoted text are handed over as slices.

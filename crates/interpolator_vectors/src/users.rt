@@ -187,6 +187,7 @@ fn range(alloc: Global, low: i32, high: Option<i32>) -> Result<String, Error> {
     Pairs(&pairs).format(alloc, "{low} to {high}")
 }
 
+// Expected texts by hand, from the formats and the values.
 #[test]
 fn users_write_pairs(rt: HostRuntime) -> Result<(), Fail> {
     let alloc = rt.alloc();
@@ -234,6 +235,7 @@ fn users_write_pairs(rt: HostRuntime) -> Result<(), Fail> {
     Ok(())
 }
 
+// Expected texts by hand, from the formats and the values.
 #[test]
 fn users_write_formats(rt: HostRuntime) -> Result<(), Fail> {
     let alloc = rt.alloc();
@@ -255,6 +257,7 @@ fn users_write_formats(rt: HostRuntime) -> Result<(), Fail> {
     Ok(())
 }
 
+// Expected texts by hand, from the formats and the values.
 #[test]
 fn users_write_to_writers(rt: HostRuntime) -> Result<(), Fail> {
     let mut out = TextBuffer::new(rt.alloc());

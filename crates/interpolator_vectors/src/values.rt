@@ -1,4 +1,5 @@
-//! The view of each type that has one, and the buffer that texts go to.
+//! The view of each type that has one, and the buffer that texts go to. The greatest and the least
+//! numbers are those of std's documentation, and the bits of -1 are all set in two's complement.
 
 use interpolator_render::{
     Alignment, Bits, HexDebug, RenderFault, Sign, Spec, TextBuffer, TextWrite, Trait, Value, View,
@@ -19,7 +20,8 @@ fn shows<V: Value>(rt: &impl Abort, alloc: Global, value: &V, text: &str) {
             Trait::Display,
             &spec
         ),
-        Ok(())
+        Ok(()),
+        "at {text}"
     );
     assert_eq!(rt; out.as_str(), text);
 }
@@ -35,7 +37,8 @@ fn shows_bits<V: Value>(rt: &impl Abort, alloc: Global, value: &V, hex: &str) {
             Trait::LowerHex,
             &spec
         ),
-        Ok(())
+        Ok(()),
+        "at {hex}"
     );
     assert_eq!(rt; out.as_str(), hex);
 }
@@ -94,7 +97,10 @@ fn texts_and_views(rt: HostRuntime) -> Result<(), Fail> {
         (9223372036854775808, Bits::B64),
     ] {
         let view = View::Signed(number, bits);
-        assert!(rt; matches!(view.view(Trait::Display, &spec), View::Failed));
+        assert!(rt;
+            matches!(view.view(Trait::Display, &spec), View::Failed),
+            "at {number} of {bits:?}"
+        );
     }
     Ok(())
 }

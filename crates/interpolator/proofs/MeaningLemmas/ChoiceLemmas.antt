@@ -1,7 +1,7 @@
 -- The items of a list that a range chooses.
-use Rattle.std.proofs.Common.{◌≡◌, ◌↔◌, refl, sym, ◌∙◌, ap, subst, arith, rules, append_assoc}
-use Rattle.std.proofs.Common.{ℕ, ◌+◌, ◌-◌, ◌<◌, ◌≤◌, nat_lt, min, Bool, true, false}
-use Rattle.std.proofs.Common.{List, ◌++◌, map, take, drop, length, Option, None, Some}
+use Rattle.std.proofs.Common.{◌≡◌, ◌↔◌, refl, sym, ◌∙◌, ap, subst, arith, append_assoc, ℕ, ◌+◌, ◌-◌}
+use Rattle.std.proofs.Common.{◌<◌, ◌≤◌, min, List, ◌++◌, map, take, drop, length, Option, None}
+use Rattle.std.proofs.Common.{Some}
 use Rattle.std.proofs.lemmas.List.{drop-take, drop-map, take-map, length-map, take-append-drop}
 use Rattle.std.proofs.lemmas.List.{length-take-le, length-drop}
 use Rattle.interpolator.specs.declared.syntax.range.Range.{Range}
@@ -33,18 +33,8 @@ between_cut n k lower upper h = (
 -- where there is no such index, the places are one
 pub none_between : (n lower upper : ℕ) → ((k : ℕ) → k < n → lower ≤ k → k < upper → ⊥)
     → ◌≡◌ {A = ℕ × ℕ} (min lower (min upper n), min upper n) (min upper n, min upper n)
-none_between n lower upper h = ap Places same
-  where
-    Places : ℕ → ℕ × ℕ
-    Places first = (first, min upper n)
-
-    by_test : (t : Bool) → nat_lt lower (min upper n) ≡ t → min lower (min upper n) ≡ min upper n
-    by_test true e = let less : lower < min upper n = search rules in
-        absurd (h lower (omega (arith, less)) (omega arith) (omega (arith, less)))
-    by_test false e = let more : min upper n ≤ lower = search rules in omega (arith, more)
-
-    same : min lower (min upper n) ≡ min upper n
-    same = by_test (nat_lt lower (min upper n)) refl
+none_between n lower upper h =
+    let same : min lower (min upper n) ≡ min upper n = grind (arith, h lower) in rw same refl
 
 -- the items from one index up to another, counted from the first
 pub between : {A : Type 0} (i j : ℕ) (xs : List A) → i ≤ j

@@ -1,7 +1,7 @@
 -- What a list argument means, in the words of the laws: its padding, its width, its faults.
-use Rattle.std.proofs.Common.{◌≡◌, ◌∙◌, ℕ, ◌+◌, ◌-◌, ◌≤◌, Bool, true, false, cond, List, [], ◌∷◌}
-use Rattle.std.proofs.Common.{◌++◌, length, flat_map, append_assoc, arith, refl, ap, sym, ◌⊎◌, inl}
-use Rattle.std.proofs.Common.{inr, Option, Some, None}
+use Rattle.std.proofs.Common.{◌≡◌, ◌∙◌, ℕ, ◌+◌, ◌-◌, ◌≤◌, Bool, false, cond, List, [], ◌∷◌, ◌++◌}
+use Rattle.std.proofs.Common.{length, flat_map, append_assoc, arith, refl, ap, sym, ◌⊎◌, inl, inr}
+use Rattle.std.proofs.Common.{Option, Some, None}
 use Rattle.std.specs.Prelude.{is_some, max, replicate, unwrap_or}
 use Rattle.std.proofs.lemmas.List.{append-nil, length-append, length-map, length-replicate}
 use Rattle.std.proofs.lemmas.List.{replicate-append-replicate}
@@ -22,11 +22,11 @@ use Rattle.interpolator.specs.Meaning.Choices.{chosen_items}
 use Rattle.interpolator.specs.Meaning.Environments.{Environment}
 use Rattle.interpolator.specs.Meaning.ListArguments.{FindsList, AllFinish, joined_texts, FirstFault}
 use Rattle.interpolator.specs.Meaning.ListArguments.{in_item, in_join, written, unpadded}
-use Rattle.interpolator.specs.Meaning.Meanings.{Meaning, nothing, fault_alone, or_fault, joined}
-use Rattle.interpolator.specs.Meaning.Meanings.{items_behind, forbids_list, made_whole}
-use Rattle.interpolator.specs.Meaning.Meanings.{padded_list, items_mean, item_means, join_means}
-use Rattle.interpolator.specs.Meaning.Meanings.{list_means, kind_means, found_means, means}
-use Rattle.interpolator.proofs.SyntaxLemmas.TestLemmas.{none_some, in_both}
+use Rattle.interpolator.specs.Meaning.Meanings.{Meaning, nothing, fault_alone, joined, items_behind}
+use Rattle.interpolator.specs.Meaning.Meanings.{forbids_list, made_whole, padded_list, items_mean}
+use Rattle.interpolator.specs.Meaning.Meanings.{item_means, join_means, list_means, kind_means}
+use Rattle.interpolator.specs.Meaning.Meanings.{found_means, means}
+use Rattle.interpolator.proofs.SyntaxLemmas.TestLemmas.{none_some}
 
 -- ---- padding
 
@@ -70,15 +70,13 @@ nothing_padded :
     (spec : Spec) (q : ℕ)
     → (padded_list spec q nothing).text
     ≡ placed_at q (replicate (unwrap_or spec.width 0) space)
-nothing_padded spec q = by_width spec.width refl
-  where
-    by_width : (o : Option ℕ) → spec.width ≡ o
-        → (cond (is_some o) (made_whole spec q None []) nothing).text
-        ≡ placed_at q (replicate (unwrap_or o 0) space)
-    by_width None e = refl
-    by_width (Some width) e =
-        ap (placed_at q)
-        (padded_nothing spec ∙ ap (λ (o : Option ℕ). replicate (unwrap_or o 0) space) e)
+nothing_padded spec q =
+    elim spec.width as (λ o. spec.width ≡ o
+    → (cond (is_some o) (made_whole spec q None []) nothing).text
+    ≡ placed_at q (replicate (unwrap_or o 0) space)) [
+      | None ↦ λ e. refl
+      | Some width ↦ λ e. ap (placed_at q) (padded_nothing spec ∙ rw e refl)
+    ] refl
 
 -- ---- one meaning behind another
 
@@ -86,12 +84,7 @@ nothing_padded spec q = by_width spec.width refl
 joined_finishes :
     (m k : Meaning) → (joined m k).fault ≡ None
     → (m.fault ≡ None) × (k.fault ≡ None) × ((joined m k).text ≡ m.text ++ k.text)
-joined_finishes m k h = by_fault m.fault refl h
-  where
-    by_fault : (o : Option Fault) → m.fault ≡ o → (or_fault o m k).fault ≡ None
-        → (o ≡ None) × (k.fault ≡ None) × ((or_fault o m k).text ≡ m.text ++ k.text)
-    by_fault (Some f) e none = absurd (none_some (sym none ∙ e))
-    by_fault None e none = (refl, none, refl)
+joined_finishes m k h = grind arith
 
 -- a fault is that of the first, or that of the second behind the first
 abbrev FailsFirst : Meaning → Placed → Fault → Type 0
@@ -103,12 +96,7 @@ FailsSecond m k text f = (m.fault ≡ None) × (k.fault ≡ Some f) × (text ≡
 joined_fails :
     (m k : Meaning) (f : Fault) → (joined m k).fault ≡ Some f
     → FailsFirst m (joined m k).text f ⊎ FailsSecond m k (joined m k).text f
-joined_fails m k f h = by_fault m.fault refl h
-  where
-    by_fault : (o : Option Fault) → m.fault ≡ o → (or_fault o m k).fault ≡ Some f
-        → FailsFirst m (or_fault o m k).text f ⊎ FailsSecond m k (or_fault o m k).text f
-    by_fault (Some d) e fails = inl (fails, refl)
-    by_fault None e fails = inr (e, fails, refl)
+joined_fails m k f h = grind arith
 
 -- ---- the items in order
 
@@ -244,16 +232,7 @@ module _ {X : Type 0} (shows : X → Trait → Spec → Shown) (e : Environment 
   -- a list without a fault is one that its spec allows
   allowed : (b : Bool) (m : Meaning) → (cond b (fault_alone (parse (iter q))) m).fault ≡ None
       → b ≡ false
-  allowed true m h = absurd (none_some (sym h))
-  allowed false m h = refl
-
-  by_spec : (b : Bool) → forbids_list x.spec ≡ b
-      → written shows e start x q
-      ≡ cond b (fault_alone (parse (iter q))) (padded_list x.spec q (unpadded shows e l q ts))
-  by_spec b h =
-      list_is
-      ∙ ap (λ t. cond t (fault_alone (parse (iter q)))
-      (padded_list x.spec q (unpadded shows e l q ts))) h
+  allowed b m h = grind arith
 
   succeeds : (written shows e start x q).fault ≡ None → forbids_list x.spec ≡ false
   succeeds h =
@@ -262,7 +241,7 @@ module _ {X : Type 0} (shows : X → Trait → Spec → Shown) (e : Environment 
 
   is_padded : forbids_list x.spec ≡ false
       → written shows e start x q ≡ padded_list x.spec q (unpadded shows e l q ts)
-  is_padded = by_spec false
+  is_padded h = list_is ∙ rw h refl
 
   -- ---- no item
 
@@ -289,9 +268,7 @@ module _ {X : Type 0} (shows : X → Trait → Spec → Shown) (e : Environment 
         by_test : (b : Bool)
             → (cond b (fault_alone (parse (iter q))) (padded_list x.spec q nothing)).fault
             ≡ cond b (Some (parse (iter q))) None
-        by_test true = refl
-        by_test false =
-            in_both (λ (m : Meaning). m.fault ≡ None) (is_some x.spec.width) _ _ refl refl
+        by_test b = grind arith
 
   -- ---- a width
 
@@ -300,16 +277,11 @@ module _ {X : Type 0} (shows : X → Trait → Spec → Shown) (e : Environment 
         → written shows e start x q
         ≡ made_whole x.spec q (unpadded shows e l q ts).fault
         (text_of (unpadded shows e l q ts).text)
-    whole_is h =
-        is_padded h
-        ∙ ap (λ (o : Option ℕ). cond (is_some o)
-        (made_whole x.spec q (unpadded shows e l q ts).fault
-        (text_of (unpadded shows e l q ts).text)) (unpadded shows e l q ts)) wide
+    whole_is h = is_padded h ∙ rw wide refl
 
     whole_text : (o : Option Fault) (cs : List ℕ) → (made_whole x.spec q o cs).fault ≡ None
         → (made_whole x.spec q o cs).text ≡ placed_at q (padded_text x.spec cs)
-    whole_text None cs h = refl
-    whole_text (Some d) cs h = absurd (none_some (sym h))
+    whole_text o cs h = grind arith
 
     pub wide_text : (written shows e start x q).fault ≡ None
         → (written shows e start x q).text
@@ -343,8 +315,4 @@ module _ {X : Type 0} (shows : X → Trait → Spec → Shown) (e : Environment 
 
   pub narrow : forbids_list x.spec ≡ false → x.spec.width ≡ None
       → written shows e start x q ≡ unpadded shows e l q ts
-  narrow h k =
-      is_padded h
-      ∙ ap (λ (o : Option ℕ). cond (is_some o)
-      (made_whole x.spec q (unpadded shows e l q ts).fault
-      (text_of (unpadded shows e l q ts).text)) (unpadded shows e l q ts)) k
+  narrow h k = is_padded h ∙ rw k refl

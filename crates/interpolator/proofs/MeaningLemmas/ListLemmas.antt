@@ -1,8 +1,7 @@
 -- Lists: how long their groups are, and what writing the items one behind the other leaves.
-use Rattle.std.proofs.Common.{◌≡◌, refl, sym, ◌∙◌, ap, arith, ℕ, ◌+◌, ◌<◌, ◌≤◌, max, true, false}
-use Rattle.std.proofs.Common.{List, ◌∷◌, map, drop, length, get_or, Option, None, Some, is_some, Ok}
+use Rattle.std.proofs.Common.{◌≡◌, sym, ◌∙◌, ap, arith, ℕ, ◌+◌, ◌<◌, ◌≤◌, max, true, false, List}
+use Rattle.std.proofs.Common.{◌∷◌, map, drop, length, get_or, Option, None, Some, is_some, Ok}
 use Rattle.std.proofs.lemmas.List.{drop_more, drop_all}
-use Rattle.std.specs.Prelude.{◌||◌}
 use Rattle.interpolator_render.specs.declared.view.Spec.{Spec}
 use Rattle.interpolator_render.specs.declared.view.Trait.{Trait}
 use Rattle.interpolator_render.specs.Views.{Shown}
@@ -16,13 +15,15 @@ use Rattle.interpolator.specs.Trees.{Tree}
 use Rattle.interpolator.specs.Meaning.Choices.{chosen_items}
 use Rattle.interpolator.specs.Meaning.Environments.{Environment}
 use Rattle.interpolator.specs.Meaning.Lists.{whole_means}
-use Rattle.interpolator.specs.Meaning.Meanings.{Meaning, joined, items_behind, items_mean}
-use Rattle.interpolator.specs.Meaning.Meanings.{forbids_list, has_sign, chosen_means, list_means}
-use Rattle.interpolator.specs.Meaning.Sinks.{SinkState, Evaluates}
+use Rattle.interpolator.specs.Meaning.Meanings.{Meaning, items_behind, forbids_list, chosen_means}
+use Rattle.interpolator.specs.Meaning.Meanings.{list_means, item_means, join_means, means}
+use Rattle.interpolator.specs.Meaning.Sinks.{SinkState, Evaluates, Writes, seen}
+use Rattle.interpolator.specs.declared.meaning.sink.Sink as code_sink
 use Rattle.interpolator.proofs.MeaningLemmas.ChoiceLemmas.{map-chosen}
-use Rattle.interpolator.proofs.MeaningLemmas.MeaningLemmas.{joined_assoc}
 use Rattle.interpolator.proofs.MeaningLemmas.SinkLemmas.{and_then, fault_first, nothing_done}
+use Rattle.interpolator.proofs.MeaningLemmas.SinkLemmas.{same_sink, same_then}
 use Rattle.interpolator.proofs.SyntaxLemmas.SizeLemmas.{GroupIfIn, KindIn, argument_in}
+use Rattle.interpolator_render.specs.Written.{Written}
 
 -- ---- how many characters a list's groups have
 
@@ -56,79 +57,90 @@ groups_within a x q h = kind_within x.kind a (argument_in a x q h)
 
 -- ---- what is written
 
--- the items behind the first, one by one
-module _ {F A : Type 0} (tree : F → A) (join : Meaning) (m : A → Meaning) (xs : List F) where
-  abbrev From : ℕ → Meaning
-  From i = items_behind join m (map tree (drop i xs))
+-- the items of a list, one by one
+module _ {F X W : Type 0} (shows : X → Trait → Spec → Shown) (written : W → Written)
+    (e : Environment X) (asked : ListAsked) (place : ℕ) (tree : F → Tree X) (xs : List F) where
+  abbrev Join : Meaning
+  Join = join_means shows (means shows) e asked.join
 
-  next_item : (i : ℕ) (x : F) → i < length xs → x ≡ get_or xs i x
-      → map tree (drop i xs) ≡ tree x ∷ map tree (drop (i + 1) xs)
-  next_item i x h e =
-      ap (map tree) (drop_more xs i x h)
-      ∙ ap (λ y. tree y ∷ map tree (drop (i + 1) xs)) (sym e)
+  abbrev One : F → Meaning
+  One x = item_means shows (means shows) e place asked.item (tree x)
 
-  -- an item is done, and the items behind it follow
-  pub item_runs :
-      (i : ℕ) (x : F) (s t u : SinkState) (r : Option Answer) → i < length xs → x ≡ get_or xs i x
-      → Evaluates (joined join (m (tree x))) s t None → Evaluates (From (i + 1)) t u r
-      → Evaluates (From i) s u r
-  item_runs i x s t u r h e o k =
-      rw (next_item i x h e, ← joined_assoc join (m (tree x)) (From (i + 1)))
-      (and_then _ _ s t u r o k)
+  abbrev Behind : List F → Meaning
+  Behind ys = items_behind Join (item_means shows (means shows) e place asked.item) (map tree ys)
 
-  -- an item ends the run
-  pub item_fault :
-      (i : ℕ) (x : F) (s t : SinkState) (q : Answer) → i < length xs → x ≡ get_or xs i x
-      → Evaluates (joined join (m (tree x))) s t (Some q) → Evaluates (From i) s t (Some q)
-  item_fault i x s t q h e o =
-      rw (next_item i x h e, ← joined_assoc join (m (tree x)) (From (i + 1)))
-      (fault_first _ _ s t q o)
+  abbrev All : Meaning
+  All = chosen_means shows (means shows) e asked place (map tree xs)
+
+  module _ (i : ℕ) (x : F) (h : i < length xs) (is : x ≡ get_or xs i x)
+      (s t : code_sink.Sink W) where
+    next_item : map tree (drop i xs) ≡ tree x ∷ map tree (drop (i + 1) xs)
+    next_item =
+        ap (map tree) (drop_more xs i x h)
+        ∙ ap (λ y. tree y ∷ map tree (drop (i + 1) xs)) (sym is)
+
+    -- the join in front of an item ends the run
+    pub join_fault : (q : Answer) → Writes written Join s t (Some q)
+        → Writes written (Behind (drop i xs)) s t (Some q)
+    join_fault q o =
+        record { evaluates = rw next_item (fault_first _ _ _ _ q o.evaluates); same = o.same }
+
+    -- an item ends the run
+    pub item_fault : (u : code_sink.Sink W) (q : Answer) → Writes written Join s t None
+        → Writes written (One x) t u (Some q) → Writes written (Behind (drop i xs)) s u (Some q)
+    item_fault u q j o = record {
+      evaluates =
+          rw next_item (and_then _ _ _ _ _ _ j.evaluates (fault_first _ _ _ _ q o.evaluates));
+      same = same_then s t u j.same o.same;
+    }
+
+    -- an item is done, and the items behind it follow
+    pub item_runs : (u : code_sink.Sink W) (new : SinkState) (r : Option Answer)
+        → Writes written Join s t None → Writes written (One x) t u None
+        → Evaluates (Behind (drop (i + 1) xs)) (seen written u) new r
+        → Evaluates (Behind (drop i xs)) (seen written s) new r
+    item_runs u new r j o k =
+        rw next_item (and_then _ _ _ _ _ _ j.evaluates (and_then _ _ _ _ _ _ o.evaluates k))
 
   -- no item is left
-  pub items_end : (i : ℕ) (s : SinkState) → length xs ≤ i → Evaluates (From i) s s None
-  items_end i s h = rw (drop_all i xs h) (nothing_done s)
+  pub items_end : (i : ℕ) (s : code_sink.Sink W) → length xs ≤ i
+      → Writes written (Behind (drop i xs)) s s None
+  items_end i s h =
+      record { evaluates = rw (drop_all i xs h) (nothing_done _); same = same_sink s }
 
-  -- the first item is done, and the items behind it follow
-  pub first_runs :
-      (x : F) (rest : List F) (s t u : SinkState) (r : Option Answer) → xs ≡ x ∷ rest
-      → Evaluates (m (tree x)) s t None
-      → Evaluates (items_behind join m (map tree (drop 0 rest))) t u r
-      → Evaluates (items_mean join m (map tree xs)) s u r
-  first_runs x rest s t u r e o k = rw e (and_then _ _ s t u r o k)
+  module _ (x : F) (rest : List F) (s t : code_sink.Sink W) (split : xs ≡ x ∷ rest) where
+    -- the first item is done, and the items behind it follow
+    pub first_runs :
+        (u : SinkState) (r : Option Answer) → Writes written (One x) s t None
+        → Evaluates (Behind (drop 0 rest)) (seen written t) u r
+        → Evaluates All (seen written s) u r
+    first_runs u r o k = rw split (and_then _ _ _ _ u r o.evaluates k)
 
-  -- the first item ends the run
-  pub first_fault :
-      (x : F) (rest : List F) (s t : SinkState) (q : Answer) → xs ≡ x ∷ rest
-      → Evaluates (m (tree x)) s t (Some q)
-      → Evaluates (items_mean join m (map tree xs)) s t (Some q)
-  first_fault x rest s t q e o = rw e (fault_first _ _ s t q o)
-
--- a spec that a list may have sets no precision
-pub no_precision : (spec : Spec) → forbids_list spec ≡ false → spec.precision ≡ None
-no_precision spec h = by_precision spec.precision h
-  where
-    by_precision : (o : Option ℕ)
-        → (is_some o || (has_sign spec.sign || (spec.alternate || spec.zero))) ≡ false → o ≡ None
-    by_precision None e = refl
-    by_precision (Some n) e = absurd (cc)
+    -- the first item ends the run
+    pub first_fault : (q : Answer) → Writes written (One x) s t (Some q)
+        → Writes written All s t (Some q)
+    first_fault q o =
+        record { evaluates = rw split (fault_first _ _ _ _ q o.evaluates); same = o.same }
 
 -- a list under a spec that it may have, by what its chosen items come to
 module _ {X : Type 0} (shows : X → Trait → Spec → Shown)
     (run : Environment X → At → Meaning) (e : Environment X) where
-  module _ {F : Type 0} (tree : F → Tree X) (l : ListAsked) (spec : Spec) (q : ℕ)
-      (xs ys : List F) (s u : SinkState) (r : Option Answer)
+  module _ {F W : Type 0} (written : W → Written) (tree : F → Tree X) (l : ListAsked)
+      (spec : Spec) (q : ℕ) (xs ys : List F) (s u : code_sink.Sink W) (r : Option Answer)
       (may : forbids_list spec ≡ false) (chosen : ys ≡ chosen_items l.range xs) where
     same_items : map tree ys ≡ chosen_items l.range (map tree xs)
     same_items = ap (map tree) chosen ∙ map-chosen tree l.range xs
 
     -- a list whose text is made whole
     pub list_whole : is_some spec.width ≡ true
-        → Evaluates (whole_means spec q (chosen_means shows run e l q (map tree ys))) s u r
-        → Evaluates (list_means shows run e l spec q (Some (map tree xs))) s u r
-    list_whole w o = rw (may, w, ← same_items) o
+        → Writes written (whole_means spec q (chosen_means shows run e l q (map tree ys))) s u r
+        → Writes written (list_means shows run e l spec q (Some (map tree xs))) s u r
+    list_whole w o =
+        record { evaluates = rw (may, w, ← same_items) o.evaluates; same = o.same }
 
     -- a list that is written item by item
     pub list_plain : is_some spec.width ≡ false
-        → Evaluates (chosen_means shows run e l q (map tree ys)) s u r
-        → Evaluates (list_means shows run e l spec q (Some (map tree xs))) s u r
-    list_plain w o = rw (may, w, ← same_items) o
+        → Writes written (chosen_means shows run e l q (map tree ys)) s u r
+        → Writes written (list_means shows run e l spec q (Some (map tree xs))) s u r
+    list_plain w o =
+        record { evaluates = rw (may, w, ← same_items) o.evaluates; same = o.same }

@@ -1,8 +1,7 @@
 -- What a text means: what the scan hands on first, and then the rest.
-use Rattle.std.proofs.Common.{◌≡◌, ℕ, ◌+◌, ◌<◌, Bool, true, false, cond, eqb, subst, List, [], ◌∷◌}
-use Rattle.std.proofs.Common.{map, length, arith, refl, ap, ◌∙◌, sym, Option, Some, None, Result}
-use Rattle.std.proofs.Common.{Ok, Err, append_assoc, length-append}
-use Rattle.std.specs.Prelude.{◌||◌}
+use Rattle.std.proofs.Common.{◌≡◌, ℕ, ◌+◌, ◌<◌, Bool, true, false, eqb, subst, List, [], ◌∷◌, map}
+use Rattle.std.proofs.Common.{length, arith, refl, ap, ◌∙◌, sym, Option, Some, None, append_assoc}
+use Rattle.std.proofs.Common.{length-append}
 use Rattle.std.proofs.lemmas.List.{map-append}
 use Rattle.std.specs.Char.{len_utf8}
 use Rattle.interpolator_render.specs.declared.view.Trait.{Trait}
@@ -13,19 +12,18 @@ use Rattle.interpolator.specs.Syntax.Classes.{front_of, behind_of, in_class, is_
 use Rattle.interpolator.specs.Syntax.Classes.{close_brace}
 use Rattle.interpolator.specs.Meaning.Environments.{Environment}
 use Rattle.interpolator.specs.Faults.{Fault}
-use Rattle.interpolator.specs.Syntax.Pieces.{Step, piece_from, past, pieces, literal, open_step}
-use Rattle.interpolator.specs.Syntax.Pieces.{close_step, step, argument_step, argument_or_broken}
+use Rattle.interpolator.specs.Syntax.Pieces.{Step, piece_from, past, pieces, open_step, close_step}
 use Rattle.interpolator.specs.Syntax.Pieces.{argument_from}
 use Rattle.interpolator.specs.Syntax.Tokens.{Token, first_token, past_token, open_scan, close_scan}
 use Rattle.interpolator.specs.Syntax.Tokens.{no_open_scan, scan_by}
-use Rattle.interpolator.specs.Syntax.Arguments.{Argument, argument_at}
 use Rattle.interpolator.specs.Meaning.Meanings.{Meaning, nothing, text_alone, or_fault, joined}
 use Rattle.interpolator.specs.Meaning.Meanings.{piece_means, pieces_mean, token_means, means}
 use Rattle.interpolator.specs.declared.syntax.class.Class.TheVariants.{Literal}
 use Rattle.interpolator.proofs.MeaningLemmas.DepthLemmas.{means_pieces}
 use Rattle.interpolator.proofs.SyntaxLemmas.PieceLemmas.{behind_shorter, piece_begins, pieces_none}
 use Rattle.interpolator.proofs.SyntaxLemmas.PieceLemmas.{pieces_next, OptionWithin, strip_within}
-use Rattle.interpolator.proofs.SyntaxLemmas.PieceLemmas.{argument_from_within}
+use Rattle.interpolator.proofs.SyntaxLemmas.PieceLemmas.{argument_from_within, literal_step}
+use Rattle.std.proofs.lemmas.Bool.{cond_both}
 
 shift_twice : (a b : ℕ) (ns : List ℕ)
     → map (λ n. a + b + n) ns ≡ map (λ n. a + n) (map (λ n. b + n) ns)
@@ -61,15 +59,8 @@ unmoved [] = refl
 unmoved (n ∷ ns) = let e : 0 + n ≡ n = omega arith in rw (e, unmoved ns) refl
 
 -- an empty text before it changes nothing
-joined_none : (m : Meaning) → joined (text_alone []) m ≡ m
+pub joined_none : (m : Meaning) → joined (text_alone []) m ≡ m
 joined_none m = rw (unmoved m.memory_points) refl
-
-no_brace : (c : ℕ) → is_brace c ≡ false → (eqb c open_brace ≡ false) × (eqb c close_brace ≡ false)
-no_brace c e = by_test (eqb c open_brace) (eqb c close_brace) e
-  where
-    by_test : (b d : Bool) → (b || d) ≡ false → (b ≡ false) × (d ≡ false)
-    by_test true d e = absurd (cc)
-    by_test false d e = (refl, e)
 
 module _ {X : Type 0} (shows : X → Trait → Spec → Shown) (e : Environment X) where
   pub means_none : (p : ℕ) → means shows e (record { place = p; text = [] }) ≡ nothing
@@ -95,14 +86,9 @@ module _ {X : Type 0} (shows : X → Trait → Spec → Shown) (e : Environment 
       → means shows e (record { place = p; text = c ∷ cs })
       ≡ joined (text_alone ((c, p) ∷ [])) (means shows e (past p c cs))
   literal_next p c cs h =
-      let tests = no_brace c h in
-      let b = past p c cs in
       means_next p c cs
       ∙ ap (λ s. joined (piece_means shows (means shows) e p s.piece.kind) (means shows e s.rest))
-      (ap (λ t. cond t (open_step p b (strip open_brace b)) (cond (eqb c close_brace)
-      (close_step p b (strip close_brace b)) (step p (c ∷ []) (literal c) b))) tests.0
-      ∙ ap (λ t. cond t (close_step p b (strip close_brace b)) (step p (c ∷ []) (literal c) b))
-      tests.1)
+      (literal_step p c (past p c cs) h)
 
   abbrev IsRun : ℕ → List ℕ → Type 0
   IsRun p cs =
@@ -137,21 +123,9 @@ module _ {X : Type 0} (shows : X → Trait → Spec → Shown) (e : Environment 
       (piece_means shows (means shows) e q s.piece.kind
       ≡ piece_means shows (means shows) e p t.piece.kind) × (s.rest ≡ t.rest)
 
-  any_place_step :
-      (q p : ℕ) (b : At) (x : Argument) (r : At) (o : Option At)
-      → AnyPlace q p (argument_step q b x r o) (argument_step p b x r o)
-  any_place_step q p b x r None = (refl, refl)
-  any_place_step q p b x r (Some rest) = (refl, refl)
-
-  any_place_read :
-      (q p : ℕ) (b : At) (r : Result (Argument × At) Fault)
-      → AnyPlace q p (argument_or_broken q b r) (argument_or_broken p b r)
-  any_place_read q p b (Ok x) = any_place_step q p b x.0 x.1 (strip close_brace x.1)
-  any_place_read q p b (Err f) = (refl, refl)
-
   any_place : (q p : ℕ) (b : At) → AnyPlace q p (argument_from q b) (argument_from p b)
   unfolding argument_from
-  any_place q p b = any_place_read q p b (argument_at b)
+  any_place q p b = grind arith
 
   abbrev Then : ℕ → Step → Meaning
   Then p s = joined (piece_means shows (means shows) e p s.piece.kind) (means shows e s.rest)
@@ -178,34 +152,14 @@ module _ {X : Type 0} (shows : X → Trait → Spec → Shown) (e : Environment 
       → Leads (record { place = p; text = cs }) (first_token (record { place = p; text = cs }))
   unfolding first_token
   leads_at p [] = means_none p
-  leads_at p (c ∷ cs) = by_open (eqb c open_brace) refl
-    where
-      by_close : (t : Bool) → eqb c open_brace ≡ false → eqb c close_brace ≡ t
-          → Leads (record { place = p; text = c ∷ cs })
-          (no_open_scan (record { place = p; text = c ∷ cs })
-          (cond t (Some (past p c cs)) None))
-      by_close true n d =
-          means_next p c cs
-          ∙ ap (λ t. Then p (cond t (open_step p (past p c cs) (strip open_brace (past p c cs)))
-          (cond (eqb c close_brace) (close_step p (past p c cs)
-          (strip close_brace (past p c cs))) (step p (c ∷ []) (literal c) (past p c cs)))))
-          n
-          ∙ ap (λ t. Then p (cond t (close_step p (past p c cs) (strip close_brace (past p c cs)))
-          (step p (c ∷ []) (literal c) (past p c cs)))) d
-          ∙ closed_by p (past p c cs) (strip close_brace (past p c cs))
-      by_close false n d = means_literals p (c ∷ cs)
-
-      by_open : (t : Bool) → eqb c open_brace ≡ t
-          → Leads (record { place = p; text = c ∷ cs })
-          (scan_by (record { place = p; text = c ∷ cs }) (cond t (Some (past p c cs)) None))
-      by_open true n =
-          means_next p c cs
-          ∙ ap (λ t. Then p (cond t (open_step p (past p c cs) (strip open_brace (past p c cs)))
-          (cond (eqb c close_brace) (close_step p (past p c cs)
-          (strip close_brace (past p c cs))) (step p (c ∷ []) (literal c) (past p c cs)))))
-          n
-          ∙ opened p (past p c cs) (strip open_brace (past p c cs))
-      by_open false n = by_close (eqb c close_brace) n refl
+  leads_at p (c ∷ cs) =
+      let a : At = record { place = p; text = c ∷ cs } in
+      let b = past p c cs in
+      cond_both (eqb c open_brace) _ _ (λ o. Leads a (scan_by a o))
+      (λ n. (rw n at (means_next p c cs)) ∙ opened p b (strip open_brace b))
+      (λ n. cond_both (eqb c close_brace) _ _ (λ o. Leads a (no_open_scan a o))
+      (λ d. (rw (n, d) at (means_next p c cs)) ∙ closed_by p b (strip close_brace b))
+      (λ d. means_literals p (c ∷ cs)))
 
   pub means_first : (a : At) (x : Token × At) → first_token a ≡ Some x
       → means shows e a ≡ joined (token_means shows e a.place x.0 x.1)
@@ -239,23 +193,16 @@ scan_shorter_at : (p : ℕ) (cs : List ℕ)
     → ScanShorter (length cs) (first_token (record { place = p; text = cs }))
 unfolding first_token
 scan_shorter_at p [] = tt
-scan_shorter_at p (c ∷ cs) = by_open (eqb c open_brace) refl
-  where
-    by_close : (t : Bool) → eqb c open_brace ≡ false → eqb c close_brace ≡ t
-        → ScanShorter (length (c ∷ cs)) (no_open_scan (record { place = p; text = c ∷ cs })
-        (cond t (Some (past p c cs)) None))
-    by_close true n d =
-        close_shorter (length (c ∷ cs)) (past p c cs) _ (omega arith) (strip_within close_brace
-        (p + len_utf8 c) cs (length cs) (omega arith))
-    by_close false n d = let s = literal_shorter c cs (rw (n, d) refl) in (s, s)
-
-    by_open : (t : Bool) → eqb c open_brace ≡ t
-        → ScanShorter (length (c ∷ cs)) (scan_by (record { place = p; text = c ∷ cs })
-        (cond t (Some (past p c cs)) None))
-    by_open true n =
-        open_shorter (length (c ∷ cs)) (past p c cs) _ (omega arith)
-        (strip_within open_brace (p + len_utf8 c) cs (length cs) (omega arith))
-    by_open false n = by_close (eqb c close_brace) n refl
+scan_shorter_at p (c ∷ cs) =
+    let a : At = record { place = p; text = c ∷ cs } in
+    let n = length (c ∷ cs) in
+    let b = past p c cs in
+    let behind = λ (d : ℕ). strip_within d (p + len_utf8 c) cs (length cs) (omega arith) in
+    cond_both (eqb c open_brace) _ _ (λ o. ScanShorter n (scan_by a o))
+    (λ e. open_shorter n b _ (omega arith) (behind open_brace))
+    (λ e. cond_both (eqb c close_brace) _ _ (λ o. ScanShorter n (no_open_scan a o))
+    (λ d. close_shorter n b _ (omega arith) (behind close_brace))
+    (λ d. let s = literal_shorter c cs (rw (e, d) refl) in (s, s)))
 
 pub scan_shorter : (a rest : At) (x : Token × At) → first_token a ≡ Some x
     → rest ≡ past_token x.0 x.1 → length rest.text < length a.text

@@ -1,5 +1,5 @@
 -- What parts mean, one after the other, and what their joined text means.
-use Rattle.std.proofs.Common.{◌≡◌, ◌≢◌, ℕ, ◌+◌, Bool, true, false, cond, List, [], ◌∷◌, ◌++◌, map}
+use Rattle.std.proofs.Common.{◌≡◌, ◌≢◌, ℕ, ◌+◌, Bool, true, false, cond, List, [], ◌∷◌, ◌++◌}
 use Rattle.std.proofs.Common.{length, arith, refl, ap, ◌∙◌, sym, subst, Option, Some, None}
 use Rattle.std.proofs.Common.{append_assoc, append-nil, codes, ◌<◌, suc, drop, get_or}
 use Rattle.std.proofs.Math.Seq.{drop-cons}
@@ -9,33 +9,28 @@ use Rattle.interpolator_render.specs.declared.view.Trait.{Trait}
 use Rattle.interpolator_render.specs.declared.view.Spec.{Spec}
 use Rattle.interpolator_render.specs.Views.{Shown}
 use Rattle.interpolator.specs.Syntax.At.{At, Placed, size, outermost}
-use Rattle.interpolator.specs.Syntax.Pieces.{PieceKind, Piece, literal, doubled, lone_close, closed}
-use Rattle.interpolator.specs.Syntax.Pieces.{unclosed, broken, pieces}
+use Rattle.interpolator.specs.Syntax.Pieces.{PieceKind, Piece, closed, unclosed, broken, pieces}
 use Rattle.interpolator.specs.Syntax.Seams.{ends_empty_spec, kind_ending, piece_ending, last_ending}
 use Rattle.interpolator.specs.Syntax.Seams.{ending}
 use Rattle.interpolator.specs.Faults.{Fault, Answer, parse, expected}
 use Rattle.interpolator.specs.Meaning.Environments.{Environment}
 use Rattle.interpolator.specs.Meaning.Meanings.{Meaning, nothing, fault_alone, or_fault, joined}
 use Rattle.interpolator.specs.Meaning.Meanings.{argument_means, piece_means, pieces_mean, means}
-use Rattle.interpolator.specs.Meaning.Parts.{joined_text, texts_of, parts_mean}
-use Rattle.interpolator.specs.Meaning.Parts.{CleanBehind, Clean, FrontsClose}
-use Rattle.interpolator.specs.Meaning.Sinks.{SinkState, Evaluates}
+use Rattle.interpolator.specs.Meaning.Parts.{joined_text, texts_of, parts_mean, CleanBehind, Clean}
+use Rattle.interpolator.specs.Meaning.Parts.{FrontsClose}
+use Rattle.interpolator.specs.Meaning.Sinks.{SinkState, Evaluates, Writes, seen}
 use Rattle.interpolator.specs.declared.parts.Ending.{Ending}
 use Rattle.interpolator.specs.declared.parts.Ending.TheVariants.{Settled, EmptySpec, Open}
+use Rattle.interpolator.specs.declared.meaning.sink.Sink as code_sink
 use Rattle.interpolator.proofs.SyntaxLemmas.LocalityLemmas.{stands, size-append}
 use Rattle.interpolator.proofs.SyntaxLemmas.TestLemmas.{none_some}
 use Rattle.interpolator.proofs.SyntaxLemmas.PieceLemmas.{pieces_none}
 use Rattle.interpolator.proofs.SyntaxLemmas.SeamLemmas.{Leaves, pieces_append, both_close}
 use Rattle.interpolator.proofs.MeaningLemmas.DepthLemmas.{means_pieces}
-use Rattle.interpolator.proofs.MeaningLemmas.MeaningLemmas.{joined_assoc, means_none}
+use Rattle.interpolator.proofs.MeaningLemmas.MeaningLemmas.{joined_assoc, means_none, joined_none}
 use Rattle.interpolator.proofs.MeaningLemmas.SinkLemmas.{and_then, fault_first, nothing_done}
-
-unmoved : (ns : List ℕ) → map (λ n. 0 + n) ns ≡ ns
-unmoved [] = refl
-unmoved (n ∷ ns) = let e : 0 + n ≡ n = omega arith in rw (e, unmoved ns) refl
-
-nothing_first : (m : Meaning) → joined nothing m ≡ m
-nothing_first m = rw (unmoved m.memory_points) refl
+use Rattle.interpolator.proofs.MeaningLemmas.SinkLemmas.{same_sink}
+use Rattle.interpolator_render.specs.Written.{Written}
 
 -- a meaning by its parts
 abbrev whole : Placed → List ℕ → Option Fault → Meaning
@@ -58,7 +53,7 @@ module _ {X : Type 0} (shows : X → Trait → Spec → Shown) (e : Environment 
   pieces_mean_append : (xs ys : List Piece)
       → pieces_mean shows (means shows) e (xs ++ ys) ≡ joined (pieces_mean shows (means shows) e xs)
       (pieces_mean shows (means shows) e ys)
-  pieces_mean_append [] ys = sym (nothing_first (pieces_mean shows (means shows) e ys))
+  pieces_mean_append [] ys = sym (joined_none (pieces_mean shows (means shows) e ys))
   pieces_mean_append (x ∷ xs) ys =
       ap (joined (piece_means shows (means shows) e x.place x.kind)) (pieces_mean_append xs ys)
       ∙ sym (joined_assoc (piece_means shows (means shows) e x.place x.kind)
@@ -122,19 +117,14 @@ module _ {X : Type 0} (shows : X → Trait → Spec → Shown) (e : Environment 
       let settled : ending (outermost []) ≢ Open =
       subst (λ (d : Ending). d ≢ Open) (sym (ap (last_ending Settled) (pieces_none 0)))
       (λ d. cc) in
-      sym (nothing_first (parts_mean shows e 0 (part ∷ parts)))
+      sym (joined_none (parts_mean shows e 0 (part ∷ parts)))
       ∙ ap (λ m. joined m (parts_mean shows e 0 (part ∷ parts))) (sym (means_none shows e 0))
       ∙ compose_behind [] part parts settled clean close
 
   -- ---- a text without fault
 
   no_fault_first : (m k : Meaning) → (joined m k).fault ≡ None → (m.fault ≡ None) × (k.fault ≡ None)
-  no_fault_first m k h = by_fault m.fault refl h
-    where
-      by_fault : (o : Option Fault) → m.fault ≡ o → (or_fault o m k).fault ≡ None
-          → (m.fault ≡ None) × (k.fault ≡ None)
-      by_fault (Some f) d g = absurd (none_some (sym (sym d ∙ g)))
-      by_fault None d g = (d, g)
+  no_fault_first m k h = grind arith
 
   closed_stays : (b : Bool) → cond b EmptySpec Settled ≢ Open
   closed_stays true d = cc
@@ -143,9 +133,6 @@ module _ {X : Type 0} (shows : X → Trait → Spec → Shown) (e : Environment 
   piece_closes : (p : ℕ) (k : PieceKind) (text : List ℕ)
       → (piece_means shows (means shows) e p k).fault ≡ None
       → kind_ending k text ≢ Open
-  piece_closes p (literal c) text h = λ d. cc
-  piece_closes p (doubled c) text h = λ d. cc
-  piece_closes p lone_close text h = λ d. cc
   piece_closes p (closed start x q) text h = closed_stays (ends_empty_spec text)
   piece_closes p (unclosed start x q) text h =
       let parts =
@@ -153,6 +140,7 @@ module _ {X : Type 0} (shows : X → Trait → Spec → Shown) (e : Environment 
       (fault_alone (parse (expected (codes "}") q))) h in
       absurd (none_some (sym parts.1))
   piece_closes p (broken f) text h = absurd (none_some (sym h))
+  piece_closes p kind text h = λ d. cc
 
   pieces_close : (d : Ending) (xs : List Piece) → d ≢ Open
       → (pieces_mean shows (means shows) e xs).fault ≡ None
@@ -172,26 +160,29 @@ module _ {X : Type 0} (shows : X → Trait → Spec → Shown) (e : Environment 
 
   -- ---- runs
 
-  module _ (p : ℕ) (part : Bor (List ℕ)) (parts behind : List (Bor (List ℕ))) (split : parts
-      ≡ part ∷ behind) where
-    pub part_runs :
-        (q : ℕ) (s t u : SinkState) (answer : Option Answer) → q ≡ p + size (chars part.now)
-        → Evaluates (means shows e (stands p (chars part.now))) s t None
-        → Evaluates (parts_mean shows e q (texts_of behind)) t u answer
-        → Evaluates (parts_mean shows e p (texts_of parts)) s u answer
-    part_runs q s t u answer h o k =
-        rw split (and_then _ _ s t u answer o
-        (subst (λ n. Evaluates (parts_mean shows e n (texts_of behind)) t u answer) h k))
+  module _ {W : Type 0} (written : W → Written) (p : ℕ) (parts : List (Bor (List ℕ))) where
+    module _ (part : Bor (List ℕ)) (behind : List (Bor (List ℕ))) (split : parts ≡ part ∷ behind)
+        (s t : code_sink.Sink W) where
+      abbrev Here : Option Answer → Type 0
+      Here r = Writes written (means shows e (stands p (chars part.now))) s t r
 
-    pub part_faults :
-        (s t : SinkState) (w : Answer)
-        → Evaluates (means shows e (stands p (chars part.now))) s t (Some w)
-        → Evaluates (parts_mean shows e p (texts_of parts)) s t (Some w)
-    part_faults s t w o = rw split (fault_first _ _ s t w o)
+      pub part_runs :
+          (q : ℕ) (u : SinkState) (answer : Option Answer) → q ≡ p + size (chars part.now)
+          → Here None → Evaluates (parts_mean shows e q (texts_of behind)) (seen written t) u answer
+          → Evaluates (parts_mean shows e p (texts_of parts)) (seen written s) u answer
+      part_runs q u answer h o k =
+          rw split (and_then _ _ _ _ u answer o.evaluates
+          (subst (λ n. Evaluates (parts_mean shows e n (texts_of behind)) (seen written t) u answer)
+          h k))
 
-  pub no_parts_run : (p : ℕ) (parts : List (Bor (List ℕ))) (s : SinkState) → parts ≡ []
-      → Evaluates (parts_mean shows e p (texts_of parts)) s s None
-  no_parts_run p parts s none = rw none (nothing_done s)
+      pub part_faults : (w : Answer) → Here (Some w)
+          → Writes written (parts_mean shows e p (texts_of parts)) s t (Some w)
+      part_faults w o =
+          record { evaluates = rw split (fault_first _ _ _ _ w o.evaluates); same = o.same }
+
+    pub no_parts_run : (s : code_sink.Sink W) → parts ≡ []
+        → Writes written (parts_mean shows e p (texts_of parts)) s s None
+    no_parts_run s none = record { evaluates = rw none (nothing_done _); same = same_sink s }
 
 -- the part at an index, as a loop takes it; there is none at an index past the last
 abbrev pub part_at : List (Bor (List ℕ)) → ℕ → Bor (List ℕ)

@@ -59,12 +59,14 @@ stands-at n p [] h = tt
 stands-at n p (c ∷ cs) h = (h, stands-at n p cs h)
 
 within_joined : (n : ℕ) (m k : Meaning) → Within n m → Within n k → Within n (joined m k)
-within_joined n m k h j = by_fault m.fault refl
-  where
-    by_fault : (o : Option Fault) → m.fault ≡ o → Within n (or_fault o m k)
-    by_fault (Some f) e = h
-    by_fault None e =
-        record { stands = stands-append n m.text k.text h.stands j.stands; faults = j.faults }
+within_joined n m k h j =
+    elim m.fault as (λ o. Within n (or_fault o m k)) [
+      | Some f ↦ h
+      | None ↦ record {
+        stands = stands-append n m.text k.text h.stands j.stands;
+        faults = j.faults;
+      }
+    ]
 
 nothing_within : (n : ℕ) → Within n nothing
 nothing_within n = record { stands = tt; faults = tt }
@@ -305,18 +307,7 @@ outcome_within n m old new answer h (inr (inl k)) =
     rw k.told (stands_in n k.front k.c k.place k.back there)
 outcome_within n m old new answer h (inr (inr k)) = rw k.told tt
 
--- an answered fault lies in the text
-pub outcome_lies :
-    {X : Type 0} (shows : X → Trait → Spec → Shown) (e : Environment X) (cs : List ℕ) (n : ℕ)
-    (old new : Written) (answer : Option Answer) → size cs ≡ n
-    → Outcome (means shows e (record { place = 0; text = cs })) old new answer
-    → PlaceWithin n answer
-outcome_lies shows e cs n old new answer h o =
-    let a : At = record { place = 0; text = cs } in
-    outcome_within n (means shows e a) old new answer
-    (within_more (0 + size cs) n (means shows e a) (omega (arith, h)) (means_lies shows e a)) o
-
--- the same of a text that stands behind others
+-- an answered fault lies in the text, wherever that stands
 pub outcome_lies_from :
     {X : Type 0} (shows : X → Trait → Spec → Shown) (e : Environment X) (p : ℕ) (cs : List ℕ)
     (n : ℕ) (old new : Written) (answer : Option Answer) → p + size cs ≡ n
@@ -326,6 +317,15 @@ outcome_lies_from shows e p cs n old new answer h o =
     let a : At = record { place = p; text = cs } in
     outcome_within n (means shows e a) old new answer
     (within_more (p + size cs) n (means shows e a) (omega (arith, h)) (means_lies shows e a)) o
+
+-- the same of a whole text
+pub outcome_lies :
+    {X : Type 0} (shows : X → Trait → Spec → Shown) (e : Environment X) (cs : List ℕ) (n : ℕ)
+    (old new : Written) (answer : Option Answer) → size cs ≡ n
+    → Outcome (means shows e (record { place = 0; text = cs })) old new answer
+    → PlaceWithin n answer
+outcome_lies shows e cs n old new answer h o =
+    outcome_lies_from shows e 0 cs n old new answer (omega (arith, h)) o
 
 pub lies_in_more : (m n : ℕ) (answer : Option Answer) → m ≤ n → PlaceWithin m answer
     → PlaceWithin n answer

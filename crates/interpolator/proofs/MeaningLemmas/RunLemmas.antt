@@ -13,33 +13,43 @@ use Rattle.interpolator.specs.Meaning.Meanings.{argument_means, argument_from_me
 use Rattle.interpolator.specs.Meaning.Meanings.{token_means, means}
 use Rattle.interpolator.specs.Syntax.Pieces.{argument_from, argument_step}
 use Rattle.interpolator.specs.Syntax.Tokens.{Token, first_token, past_token}
-use Rattle.interpolator.specs.Meaning.Sinks.{SinkState, Evaluates}
+use Rattle.interpolator.specs.Meaning.Sinks.{SinkState, Evaluates, Writes, seen}
+use Rattle.interpolator.specs.declared.meaning.sink.Sink as code_sink
 use Rattle.interpolator.proofs.MeaningLemmas.SinkLemmas.{and_then, fault_first, nothing_done, ended}
+use Rattle.interpolator.proofs.MeaningLemmas.SinkLemmas.{same_sink}
 use Rattle.interpolator.proofs.MeaningLemmas.MeaningLemmas.{means_first, means_end}
+use Rattle.interpolator_render.specs.Written.{Written}
 
-module _ {X : Type 0} (shows : X → Trait → Spec → Shown) (e : Environment X) (a : At) where
-  pub end_runs : (s : SinkState) → first_token a ≡ None → Evaluates (means shows e a) s s None
-  end_runs s h = rw (means_end shows e a h) (nothing_done s)
+module _ {X W : Type 0} (shows : X → Trait → Spec → Shown) (written : W → Written)
+    (e : Environment X) (a : At) where
+  pub end_writes : (s : code_sink.Sink W) → first_token a ≡ None
+      → Writes written (means shows e a) s s None
+  end_writes s h =
+      record { evaluates = rw (means_end shows e a h) (nothing_done _); same = same_sink s }
 
   pub step_runs :
-      (x : Token × At) (rest : At) (s t u : SinkState) (answer : Option Answer)
-      → first_token a ≡ Some x → rest ≡ past_token x.0 x.1
-      → Evaluates (token_means shows e a.place x.0 x.1) s t None
-      → Evaluates (means shows e rest) t u answer → Evaluates (means shows e a) s u answer
+      (x : Token × At) (rest : At) (s t : code_sink.Sink W) (u : SinkState)
+      (answer : Option Answer) → first_token a ≡ Some x → rest ≡ past_token x.0 x.1
+      → Writes written (token_means shows e a.place x.0 x.1) s t None
+      → Evaluates (means shows e rest) (seen written t) u answer
+      → Evaluates (means shows e a) (seen written s) u answer
   step_runs x rest s t u answer h r o k =
-      rw (means_first shows e a x h, sym r) (and_then _ _ s t u answer o k)
+      rw (means_first shows e a x h, sym r) (and_then _ _ _ _ u answer o.evaluates k)
 
-  pub fault_runs :
-      (x : Token × At) (s t : SinkState) (q : Answer) → first_token a ≡ Some x
-      → Evaluates (token_means shows e a.place x.0 x.1) s t (Some q)
-      → Evaluates (means shows e a) s t (Some q)
-  fault_runs x s t q h o = rw (means_first shows e a x h) (fault_first _ _ s t q o)
+  pub fault_writes :
+      (x : Token × At) (s t : code_sink.Sink W) (q : Answer) → first_token a ≡ Some x
+      → Writes written (token_means shows e a.place x.0 x.1) s t (Some q)
+      → Writes written (means shows e a) s t (Some q)
+  fault_writes x s t q h o = record {
+    evaluates = rw (means_first shows e a x h) (fault_first _ _ _ _ q o.evaluates);
+    same = o.same;
+  }
 
   -- an argument that is broken
-  pub broken_runs : (s : SinkState) (f : Fault) → argument_at a ≡ Err f
-      → Evaluates (argument_from_means shows e a) s s (Some (fault f))
+  pub broken_writes : (s : code_sink.Sink W) (f : Fault) → argument_at a ≡ Err f
+      → Writes written (argument_from_means shows e a) s s (Some (fault f))
   unfolding argument_from
-  broken_runs s f h = rw h (ended f s)
+  broken_writes s f h = record { evaluates = rw h (ended f _); same = same_sink s }
 
   value_fault_step :
       (x : Argument) (q : At) (r : Option At) (s t : SinkState) (w : Answer)
@@ -49,28 +59,34 @@ module _ {X : Type 0} (shows : X → Trait → Spec → Shown) (e : Environment 
   value_fault_step x q None s t w o = fault_first _ _ s t w o
   value_fault_step x q (Some rest) s t w o = o
 
-  module _ (x : Argument) (q : At) (h : argument_at a ≡ Ok (x, q)) (s t : SinkState) where
+  module _ (x : Argument) (q : At) (h : argument_at a ≡ Ok (x, q)) (s t : code_sink.Sink W) where
+    abbrev Value : Option Answer → Type 0
+    Value r = Writes written (argument_means shows (means shows) e a.place x q.place) s t r
+
     -- one whose value ends the run
-    pub value_fault_runs : (w : Answer)
-        → Evaluates (argument_means shows (means shows) e a.place x q.place) s t (Some w)
-        → Evaluates (argument_from_means shows e a) s t (Some w)
+    pub value_fault_writes : (w : Answer) → Value (Some w)
+        → Writes written (argument_from_means shows e a) s t (Some w)
     unfolding argument_from
-    value_fault_runs w o = rw h (value_fault_step x q (strip close_brace q) s t w o)
+    value_fault_writes w o = record {
+      evaluates = rw h (value_fault_step x q (strip close_brace q) _ _ w o.evaluates);
+      same = o.same;
+    }
 
     -- one that is closed
-    pub closed_runs : (rest : At) → strip close_brace q ≡ Some rest
-        → Evaluates (argument_means shows (means shows) e a.place x q.place) s t None
-        → Evaluates (argument_from_means shows e a) s t None
+    pub closed_writes : (rest : At) → strip close_brace q ≡ Some rest → Value None
+        → Writes written (argument_from_means shows e a) s t None
     unfolding argument_from
-    closed_runs rest d o = rw (h, d) o
+    closed_writes rest d o = record { evaluates = rw (h, d) o.evaluates; same = o.same }
 
     -- one that is not
-    pub unclosed_runs : strip close_brace q ≡ None
-        → Evaluates (argument_means shows (means shows) e a.place x q.place) s t None
-        → Evaluates (argument_from_means shows e a) s t
+    pub unclosed_writes : strip close_brace q ≡ None → Value None
+        → Writes written (argument_from_means shows e a) s t
         (Some (fault (parse (expected (codes "}") q.place))))
     unfolding argument_from
-    unclosed_runs d o = rw (h, d) (and_then _ _ s t t _ o (ended _ t))
+    unclosed_writes d o = record {
+      evaluates = rw (h, d) (and_then _ _ _ _ _ _ o.evaluates (ended _ _));
+      same = o.same;
+    }
 
 -- and what stands behind it
 pub closed_rest : (a : At) (x : Argument) (q rest : At) → argument_at a ≡ Ok (x, q)

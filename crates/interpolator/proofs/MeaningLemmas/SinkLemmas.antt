@@ -1,21 +1,19 @@
 -- What is written to a sink, one behind another.
-use Rattle.std.proofs.Common.{◌≡◌, refl, ap, ◌∙◌, ℕ, List, [], ◌++◌, Option, None, Some}
-use Rattle.std.proofs.Common.{option_map, false, inl, inr, arith}
+use Rattle.std.proofs.Common.{◌≡◌, refl, ◌∙◌, ℕ, List, [], Option, None, Some, option_map, false}
+use Rattle.std.proofs.Common.{inl, inr, arith}
 use Rattle.interpolator_render.specs.declared.view.Spec.{Spec}
-use Rattle.interpolator_render.specs.Padding.{padded_text}
 use Rattle.interpolator_render.proofs.LayoutLemmas.{appends_none}
 use Rattle.interpolator_render.specs.Written.{Written}
-use Rattle.interpolator.specs.Syntax.At.{placed_at, text_of}
+use Rattle.interpolator.specs.Syntax.At.{text_of}
 use Rattle.interpolator.specs.Faults.{Fault, Answer, fault, no_memory}
-use Rattle.interpolator.specs.Meaning.Meanings.{Meaning, nothing, text_alone, fault_alone}
-use Rattle.interpolator.specs.Meaning.Meanings.{made_whole, joined}
+use Rattle.interpolator.specs.Meaning.Meanings.{Meaning, nothing, fault_alone, made_whole, joined}
 use Rattle.interpolator.specs.Meaning.Outcomes.{Outcome}
 use Rattle.interpolator.specs.Meaning.Sinks.{SameSink, SinkState, sink_state, target, StaysBy}
-use Rattle.interpolator.specs.Meaning.Sinks.{Evaluates}
+use Rattle.interpolator.specs.Meaning.Sinks.{Evaluates, Writes, seen}
 use Rattle.interpolator.specs.declared.meaning.sink.Sink as code_sink
-use Rattle.interpolator.proofs.MeaningLemmas.OutcomeLemmas.{no_fault}
 use Rattle.interpolator.proofs.MeaningLemmas.OutcomeLemmas.{finished_if_none, after_finished}
 use Rattle.interpolator.proofs.MeaningLemmas.OutcomeLemmas.{before_fault}
+use Rattle.std.specs.List.{Contains}
 
 stays : (a b c : Option Written) (x y z : Written) → StaysBy a b x y → StaysBy b c y z
     → StaysBy a c x z
@@ -49,19 +47,19 @@ fault_first m k s t q h =
       other = h.other;
     }
 
+-- where no text is meant, nothing is written
+stops : (m : Meaning) (s : SinkState) (answer : Option Answer) → m.text ≡ []
+    → answer ≡ option_map fault m.fault → Evaluates m s s answer
+stops m s answer none told = record {
+  outcome = inl (record { all = rw none (appends_none (target s)); told = told });
+  other = stays_same s.aside s.out;
+}
+
 pub nothing_done : (s : SinkState) → Evaluates nothing s s None
-nothing_done s =
-    record {
-      outcome = inl (record { all = appends_none (target s); told = refl });
-      other = stays_same s.aside s.out;
-    }
+nothing_done s = stops nothing s None refl refl
 
 pub ended : (f : Fault) (s : SinkState) → Evaluates (fault_alone f) s s (Some (fault f))
-ended f s =
-    record {
-      outcome = inl (record { all = appends_none (target s); told = refl });
-      other = stays_same s.aside s.out;
-    }
+ended f s = stops (fault_alone f) s (Some (fault f)) refl refl
 
 -- with no buffer the writer took it
 pub at_out :
@@ -76,67 +74,43 @@ same_sink s = record { out = refl; aside = refl }
 pub same_then : {W : Type 0} (s t u : code_sink.Sink W) → SameSink s t → SameSink t u → SameSink s u
 same_then s t u h k = record { out = k.out ∙ h.out; aside = k.aside ∙ h.aside }
 
+-- behind what was written so far, with which the whole goes on
+pub goes_on :
+    {W : Type 0} (written : W → Written) (m k : Meaning) (s t u : code_sink.Sink W)
+    (answer : Option Answer)
+    → ((new : SinkState) (r : Option Answer) → Evaluates k (seen written t) new r
+    → Evaluates m (seen written s) new r)
+    → SameSink s t → Writes written k t u answer → Writes written m s u answer
+goes_on written m k s t u answer so_far same o =
+    record { evaluates = so_far _ _ o.evaluates; same = same_then s t u same o.same }
+
 -- ---- a text that is made whole in a buffer, and then written
 
 module _ (spec : Spec) (q : ℕ) where
   -- memory for it was refused: nothing of it was written
   wants_memory : (o : Option Fault) (cs : List ℕ) (s : SinkState)
       → Evaluates (made_whole spec q o cs) s s (Some no_memory)
-  wants_memory None cs s = record {
+  wants_memory o cs s = record {
     outcome =
         inr (inr (record {
           front = [];
-          back = placed_at q (padded_text spec cs);
+          back = (made_whole spec q o cs).text;
           split = refl;
-          point = (0, omega arith, refl);
+          point = first_point o;
           begun = appends_none (target s);
           told = refl;
         }));
     other = stays_same s.aside s.out;
   }
-  wants_memory (Some f) cs s = record {
-    outcome =
-        inr (inr (record {
-          front = [];
-          back = [];
-          split = refl;
-          point = (0, omega arith, refl);
-          begun = appends_none (target s);
-          told = refl;
-        }));
-    other = stays_same s.aside s.out;
-  }
+    where
+      first_point : (o : Option Fault) → Contains (made_whole spec q o cs).memory_points 0
+      first_point None = (0, omega arith, refl)
+      first_point (Some f) = (0, omega arith, refl)
 
   -- a fault was found inside: nothing of it was written
   fault_inside : (f : Fault) (cs : List ℕ) (s : SinkState)
       → Evaluates (made_whole spec q (Some f) cs) s s (Some (fault f))
-  fault_inside f cs s =
-      record {
-        outcome = inl (record { all = appends_none (target s); told = refl });
-        other = stays_same s.aside s.out;
-      }
-
-  -- it was made, and is written
-  made : (cs : List ℕ) (s u : SinkState) (r : Option Answer)
-      → Evaluates (text_alone (placed_at q (padded_text spec cs))) s u r
-      → Evaluates (made_whole spec q None cs) s u r
-  made cs s u r h = record { outcome = by_outcome h.outcome; other = h.other }
-    where
-      by_outcome : Outcome (text_alone (placed_at q (padded_text spec cs))) (target s) (target u) r
-          → Outcome (made_whole spec q None cs) (target s) (target u) r
-      by_outcome (inl k) = inl (record { all = k.all; told = k.told })
-      by_outcome (inr (inl k)) = inr (inl (record {
-        front = k.front;
-        c = k.c;
-        place = k.place;
-        back = k.back;
-        split = k.split;
-        appended = k.appended;
-        flag = k.flag;
-        none_after_refusal = k.none_after_refusal;
-        told = k.told;
-      }))
-      by_outcome (inr (inr k)) = absurd (let none = k.point.1 in omega arith)
+  fault_inside f cs s = stops (made_whole spec q (Some f) cs) s (Some (fault f)) refl refl
 
   -- what was made goes to the buffer `now`, which was `empty`, and the writer stays
   module _ (m : Meaning) (out out' : Written) (empty now : Written) (aside : Option Written) where
@@ -165,15 +139,3 @@ module _ (spec : Spec) (q : ℕ) where
         by_outcome (inr (inl k)) = absurd (let d = k.flag in cc)
         by_outcome (inr (inr k)) =
             rw k.told (wants_memory m.fault (text_of m.text) (sink_state out aside))
-
-    pub whole_done : (u : SinkState) (r : Option Answer) → empty.text ≡ []
-        → Evaluates m (sink_state out (Some empty)) (sink_state out' (Some now)) None
-        → Evaluates (text_alone (placed_at q (padded_text spec now.text)))
-        (sink_state out' aside) u r
-        → Evaluates Whole (sink_state out aside) u r
-    whole_done u r e h k =
-        let f = finished_if_none m empty now h.outcome in
-        let text : now.text ≡ text_of m.text =
-        f.all.appended ∙ ap (λ (x : List ℕ). x ++ text_of m.text) e in
-        rw (no_fault m.fault f.told, ← h.other, ← text)
-        (made now.text (sink_state out' aside) u r k)

@@ -1,11 +1,10 @@
 -- The characters of a text, and its bytes.
 use Rattle.std.proofs.Common.{◌≡◌, ℕ, ◌+◌, List, [], ◌∷◌, ◌++◌, length, arith, refl, ◌<◌, ap, ◌∙◌}
 use Rattle.std.proofs.Common.{sym}
-use Rattle.std.specs.Str.{chars, IsUtf8}
+use Rattle.std.specs.Str.{chars, IsUtf8, encode_utf8_all}
 use Rattle.std.specs.Char.{encode_utf8, len_utf8}
 use Rattle.std.proofs.lemmas.Str.{chars_past_char, chars-nil, length-encode, len_utf8_bounds}
 use Rattle.std.proofs.lemmas.Str.{encodes-chars}
-use Rattle.std.specs.Str.{encode_utf8_all}
 use Rattle.interpolator.specs.Syntax.At.{size}
 use Rattle.std.proofs.lemmas.List.{length-append, nil_from_length}
 

@@ -1,20 +1,18 @@
 -- How a text ends, as the scan finds it.
-use Rattle.std.proofs.Common.{◌≡◌, ◌≢◌, ℕ, ◌+◌, ◌<◌, Bool, true, false, cond, eqb, List, [], ◌∷◌}
-use Rattle.std.proofs.Common.{◌++◌, length, take, ◌-◌, arith, refl, ap, ◌∙◌, sym, subst, Result, Ok}
-use Rattle.std.proofs.Common.{Err, Option, Some, None, append_assoc, length-append}
-use Rattle.std.proofs.Common.{eqb-true}
-use Rattle.std.specs.Prelude.{◌&&◌, ◌||◌, ◌==◌}
+use Rattle.std.proofs.Common.{◌≡◌, ◌≢◌, ℕ, ◌+◌, ◌<◌, true, false, eqb, List, [], ◌∷◌, ◌++◌, length}
+use Rattle.std.proofs.Common.{take, ◌-◌, arith, refl, ap, ◌∙◌, sym, subst, Ok, Err, Option, Some}
+use Rattle.std.proofs.Common.{None, append_assoc, length-append, eqb-true}
+use Rattle.std.specs.Prelude.{◌&&◌, ◌==◌}
 use Rattle.std.specs.Char.{len_utf8}
 use Rattle.std.specs.Str.{chars, IsUtf8, encode_utf8_all}
 use Rattle.std.proofs.lemmas.List.{append_cancel_right}
 use Rattle.std.proofs.lemmas.Str.{encode_ascii, encodes-chars, encodes-append, chars-nil}
-use Rattle.interpolator.specs.Syntax.At.{At, size, behind, strip, strip_of}
+use Rattle.interpolator.specs.Syntax.At.{At, size, behind, strip}
 use Rattle.interpolator.specs.Syntax.Classes.{front_of, behind_of, in_class, is_brace, open_brace}
 use Rattle.interpolator.specs.Syntax.Classes.{close_brace, colon}
 use Rattle.interpolator.specs.Syntax.Arguments.{Argument, argument_at}
 use Rattle.interpolator.specs.Faults.{Fault}
-use Rattle.interpolator.specs.Syntax.Pieces.{Piece, literal, step, Step, argument_step}
-use Rattle.interpolator.specs.Syntax.Pieces.{argument_or_broken, argument_from, open_step}
+use Rattle.interpolator.specs.Syntax.Pieces.{Piece, literal, step, Step, argument_from, open_step}
 use Rattle.interpolator.specs.Syntax.Pieces.{close_step, past, pieces, text_up_to}
 use Rattle.interpolator.specs.Syntax.Tokens.{Token, first_token, past_token, open_scan, close_scan}
 use Rattle.interpolator.specs.Syntax.Tokens.{no_open_scan, scan_by}
@@ -26,10 +24,12 @@ use Rattle.interpolator.specs.declared.parts.Ending.TheVariants.{Settled, EmptyS
 use Rattle.interpolator.proofs.SyntaxLemmas.CharacterLemmas.{chars_of_next}
 use Rattle.interpolator.proofs.SyntaxLemmas.FrontLemmas.{cut_at_rest}
 use Rattle.interpolator.proofs.SyntaxLemmas.GroupLemmas.{chars_of_cut}
-use Rattle.interpolator.proofs.SyntaxLemmas.TestLemmas.{none_some, passed}
 use Rattle.interpolator.proofs.SyntaxLemmas.LocalityLemmas.{stands}
 use Rattle.interpolator.proofs.SyntaxLemmas.ReaderLemmas.{argument_takes}
-use Rattle.interpolator.proofs.SyntaxLemmas.PieceLemmas.{pieces_none, pieces_next}
+use Rattle.interpolator.proofs.SyntaxLemmas.PieceLemmas.{pieces_none, pieces_next, strip_behind}
+use Rattle.interpolator.proofs.SyntaxLemmas.PieceLemmas.{literal_step}
+use Rattle.std.proofs.lemmas.Bool.{cond_both}
+use Rattle.interpolator.proofs.SyntaxLemmas.TestLemmas.{head_same, tail_same}
 
 -- ---- `:}` at the end of a text
 
@@ -45,19 +45,9 @@ ends_append (x ∷ y ∷ z ∷ zs) c d = ends_append (y ∷ z ∷ zs) c d
 no_colon :
     (x : ℕ) (cs : List ℕ) → ((front : List ℕ) → x ∷ cs ≢ front ++ (colon ∷ []))
     → ends_empty_spec (x ∷ (cs ++ (close_brace ∷ []))) ≡ false
-no_colon x [] h = by_test (eqb x colon) refl
-  where
-    by_test : (t : Bool) → eqb x colon ≡ t → (t && true) ≡ false
-    by_test true e = absurd (h [] (ap (λ n. n ∷ []) (eqb-true x colon e)))
-    by_test false e = refl
+no_colon x [] h = grind (arith, eqb-true, h [])
 no_colon x (y ∷ []) h = no_colon y [] (λ front e. h (x ∷ front) (ap (λ cs. x ∷ cs) e))
 no_colon x (y ∷ z ∷ zs) h = no_colon y (z ∷ zs) (λ front e. h (x ∷ front) (ap (λ cs. x ∷ cs) e))
-
-head_same : {c d : ℕ} {cs ds : List ℕ} → c ∷ cs ≡ d ∷ ds → c ≡ d
-head_same e = cc
-
-pub tail_same : {c d : ℕ} {cs ds : List ℕ} → c ∷ cs ≡ d ∷ ds → cs ≡ ds
-tail_same e = cc
 
 no_colon_in_braces :
     (cs : List ℕ) → ((front : List ℕ) → cs ≢ front ++ (colon ∷ []))
@@ -116,17 +106,7 @@ AnyPlace s t = (piece_ending s.piece ≡ piece_ending t.piece) × (s.rest ≡ t.
 
 any_place : (q p : ℕ) (b : At) → AnyPlace (argument_from q b) (argument_from p b)
 unfolding argument_from
-any_place q p b = by_result (argument_at b)
-  where
-    by_step : (x : Argument) (r : At) (o : Option At)
-        → AnyPlace (argument_step q b x r o) (argument_step p b x r o)
-    by_step x r None = (refl, refl)
-    by_step x r (Some rest) = (refl, refl)
-
-    by_result : (o : Result (Argument × At) Fault)
-        → AnyPlace (argument_or_broken q b o) (argument_or_broken p b o)
-    by_result (Ok w) = by_step w.0 w.1 (strip close_brace w.1)
-    by_result (Err f) = (refl, refl)
+any_place q p b = grind arith
 
 -- what the scan hands on first, by what stands behind it
 abbrev ScansTo : At → Option (Token × At) → Type 0
@@ -160,23 +140,13 @@ scans_close p cs None d e = record { front = []; last = _; split = e; ends = rw 
 abbrev ScansRun : At → Type 0
 ScansRun a = Scanned a Settled (behind (in_class Literal) a)
 
-neither : (b d : Bool) → (b || d) ≡ false → (b ≡ false) × (d ≡ false)
-neither true d e = absurd (cc)
-neither false d e = (refl, e)
-
 literal_next :
     (p c : ℕ) (cs : List ℕ) → is_brace c ≡ false
     → pieces (stands p (c ∷ cs))
     ≡ (step p (c ∷ []) (literal c) (past p c cs)).piece ∷ pieces (past p c cs)
 literal_next p c cs h =
-    let tests = neither (eqb c open_brace) (eqb c close_brace) h in
-    let b = past p c cs in
     pieces_next p c cs
-    ∙ ap (λ (s : Step). s.piece ∷ pieces s.rest)
-    (ap (λ t. cond t (open_step p b (strip open_brace b)) (cond (eqb c close_brace)
-    (close_step p b (strip close_brace b)) (step p (c ∷ []) (literal c) b))) tests.0
-    ∙ ap (λ t. cond t (close_step p b (strip close_brace b)) (step p (c ∷ []) (literal c) b))
-    tests.1)
+    ∙ ap (λ (s : Step). s.piece ∷ pieces s.rest) (literal_step p c (past p c cs) h)
 
 -- what stands behind a run that begins with a literal
 behind_literal :
@@ -203,57 +173,44 @@ scans_run p c [] h = record {
       ∙ behind_literal p c [] h);
   ends = refl;
 }
-scans_run p c (d ∷ ds) h = by_test (is_brace d) refl (λ k. scans_run (p + len_utf8 c) d ds k)
-  where
-    by_test :
-        (t : Bool) → is_brace d ≡ t
-        → (is_brace d ≡ false → ScansRun (stands (p + len_utf8 c) (d ∷ ds)))
-        → ScansRun (stands p (c ∷ d ∷ ds))
-    by_test true k run = record {
-      front = [];
-      last = literal_piece p c;
-      split = literal_next p c (d ∷ ds) h
-          ∙ ap (λ (r : At). literal_piece p c ∷ pieces r)
-          (sym (no_run (p + len_utf8 c) (d ∷ ds) (rw k refl) (rw k refl))
-          ∙ behind_literal p c (d ∷ ds) h);
-      ends = refl;
-    }
-    by_test false k run =
-        let more = run k in
-        record {
-          front = literal_piece p c ∷ more.front;
-          last = more.last;
-          split = literal_next p c (d ∷ ds) h
-              ∙ ap (λ (xs : List Piece). literal_piece p c ∷ xs) more.split
-              ∙ ap (λ (r : At). literal_piece p c ∷ (more.front ++ (more.last ∷ pieces r)))
-              (behind_literal p c (d ∷ ds) h);
-          ends = more.ends;
-        }
+scans_run p c (d ∷ ds) h =
+    let b = stands (p + len_utf8 c) (d ∷ ds) in
+    elim (is_brace d) as (λ t. is_brace d ≡ t → ScansRun (stands p (c ∷ d ∷ ds))) [
+      | true ↦ λ k. record {
+        front = [];
+        last = literal_piece p c;
+        split = literal_next p c (d ∷ ds) h
+            ∙ ap (λ (r : At). literal_piece p c ∷ pieces r)
+            (sym (no_run b.place b.text (rw k refl) (rw k refl)) ∙ behind_literal p c (d ∷ ds) h);
+        ends = refl;
+      }
+      | false ↦ λ k.
+          let more = scans_run b.place d ds k in
+          record {
+            front = literal_piece p c ∷ more.front;
+            last = more.last;
+            split = literal_next p c (d ∷ ds) h
+                ∙ ap (λ (xs : List Piece). literal_piece p c ∷ xs) more.split
+                ∙ ap (λ (r : At). literal_piece p c ∷ (more.front ++ (more.last ∷ pieces r)))
+                (behind_literal p c (d ∷ ds) h);
+            ends = more.ends;
+          }
+    ] refl
 
 scans_at : (p : ℕ) (cs : List ℕ) → ScansTo (stands p cs) (first_token (stands p cs))
 unfolding first_token
 scans_at p [] = pieces_none p
-scans_at p (c ∷ cs) = by_open (eqb c open_brace) refl
-  where
-    by_close : (t : Bool) → eqb c open_brace ≡ false → eqb c close_brace ≡ t
-        → ScansTo (stands p (c ∷ cs)) (no_open_scan (stands p (c ∷ cs))
-        (cond t (Some (past p c cs)) None))
-    by_close true n d =
-        subst (λ k. ScansTo (stands p (k ∷ cs)) (no_open_scan (stands p (k ∷ cs))
-        (Some (past p k cs)))) (sym (eqb-true c close_brace d))
-        (scans_close p cs (strip close_brace (past p close_brace cs)) refl
-        (pieces_next p close_brace cs))
-    by_close false n d = scans_run p c cs (rw (n, d) refl)
-
-    by_open : (t : Bool) → eqb c open_brace ≡ t
-        → ScansTo (stands p (c ∷ cs)) (scan_by (stands p (c ∷ cs))
-        (cond t (Some (past p c cs)) None))
-    by_open true n =
-        subst (λ k. ScansTo (stands p (k ∷ cs)) (scan_by (stands p (k ∷ cs)) (Some (past p k cs))))
-        (sym (eqb-true c open_brace n))
-        (scans_open p cs (past p open_brace cs) (strip open_brace (past p open_brace cs))
-        (pieces_next p open_brace cs))
-    by_open false n = by_close (eqb c close_brace) n refl
+scans_at p (c ∷ cs) =
+    let a = stands p (c ∷ cs) in
+    cond_both (eqb c open_brace) _ _ (λ o. ScansTo a (scan_by a o))
+    (λ e. subst (λ k. ScansTo (stands p (k ∷ cs)) (scan_by (stands p (k ∷ cs))
+    (Some (past p k cs)))) (sym (eqb-true c open_brace e))
+    (scans_open p cs (past p open_brace cs) _ (pieces_next p open_brace cs)))
+    (λ n. cond_both (eqb c close_brace) _ _ (λ o. ScansTo a (no_open_scan a o))
+    (λ e. subst (λ k. ScansTo (stands p (k ∷ cs)) (no_open_scan (stands p (k ∷ cs))
+    (Some (past p k cs)))) (sym (eqb-true c close_brace e))
+    (scans_close p cs _ refl (pieces_next p close_brace cs)))
+    (λ d. scans_run p c cs (rw (n, d) refl)))
 
 pub scanned : (a : At) (x : Token × At) → first_token a ≡ Some x
     → Scanned a (token_ending a x.0 x.1) (past_token x.0 x.1)
@@ -295,13 +252,6 @@ pub ending_done : (a : At) (e whole : Ending) → first_token a ≡ None
 ending_done a e whole h k = sym (ap (last_ending e) (scanned_end a h)) ∙ k
 
 -- ---- how an argument ends
-
--- what stands behind a character that stands there
-pub strip_text : (c p : ℕ) (cs : List ℕ) (r : At) → strip_of c p cs ≡ Some r → cs ≡ c ∷ r.text
-strip_text c p [] r e = absurd (none_some e)
-strip_text c p (d ∷ ds) r e =
-    let t = passed (eqb d c) _ r e in
-    ap (λ n. n ∷ ds) (eqb-true d c t.0) ∙ ap (λ (a : At). c ∷ a.text) t.1
 
 module _ (text rest bs front : List ℕ) (u : IsUtf8 bs) (whole : chars bs ++ chars rest ≡ chars text)
     (e : chars text ≡ front ++ chars rest) where
@@ -348,7 +298,7 @@ module _ (a : At) (x : Argument) (q : At) (h : argument_at a ≡ Ok (x, q)) wher
   closed_ends rest e d ends =
       let front = argument_takes a x q h in
       let whole =
-      front.split ∙ ap (λ cs. front.front ++ cs) (strip_text close_brace q.place q.text rest d)
+      front.split ∙ ap (λ cs. front.front ++ cs) (strip_behind close_brace q.place q.text rest d).0
       in
       rw (h, d) (ends front.front front.split
       ∙ ap closed_ending (sym (closed_text a rest front.front whole)))

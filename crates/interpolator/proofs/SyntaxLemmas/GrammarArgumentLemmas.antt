@@ -17,10 +17,10 @@ use Rattle.interpolator.specs.declared.syntax.class.Class.TheVariants.{WhiteSpac
 use Rattle.interpolator.proofs.SyntaxLemmas.FrontLemmas.{front_behind}
 use Rattle.interpolator.proofs.SyntaxLemmas.LongestLemmas.{at_same, front_longest, longest_front}
 use Rattle.interpolator.proofs.SyntaxLemmas.LongestLemmas.{behind_longest}
-use Rattle.interpolator.proofs.SyntaxLemmas.GrammarPartLemmas.{ok_same, err_same, ok_pair, Says}
-use Rattle.interpolator.proofs.SyntaxLemmas.GrammarPartLemmas.{Stripped, stripped, strip_lies}
-use Rattle.interpolator.proofs.SyntaxLemmas.GrammarPartLemmas.{strip_not}
+use Rattle.interpolator.proofs.SyntaxLemmas.GrammarPartLemmas.{ok_pair, Says, Stripped, stripped}
+use Rattle.interpolator.proofs.SyntaxLemmas.GrammarPartLemmas.{strip_lies, strip_not}
 use Rattle.interpolator.proofs.SyntaxLemmas.GrammarSpecLemmas.{agrees_spec, only_spec, only_no_spec}
+use Rattle.interpolator.proofs.SyntaxLemmas.TestLemmas.{ok_same, err_same}
 
 -- ---- the name
 

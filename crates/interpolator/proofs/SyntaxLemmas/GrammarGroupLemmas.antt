@@ -1,9 +1,9 @@
 -- A group is what opens it, its text and what closes it, and only such a text is a group.
-use Rattle.std.proofs.Common.{◌≡◌, ◌≢◌, ℕ, zero, suc, ◌+◌, Bool, true, false, cond, eqb, List, []}
-use Rattle.std.proofs.Common.{◌∷◌, ◌++◌, length, arith, refl, ap, ◌∙◌, sym, subst, Result, Ok, Err}
-use Rattle.std.proofs.Common.{Option, Some, None, append_assoc, ne_eqb}
+use Rattle.std.proofs.Common.{◌≡◌, ◌≢◌, ℕ, zero, suc, ◌+◌, cond, eqb, List, [], ◌∷◌, ◌++◌, length}
+use Rattle.std.proofs.Common.{arith, refl, ap, ◌∙◌, sym, subst, Result, Ok, Err, Option, Some, None}
+use Rattle.std.proofs.Common.{append_assoc, ne_eqb, ◌⊎◌, inl, inr}
 use Rattle.std.proofs.lemmas.List.{append-nil}
-use Rattle.std.proofs.lemmas.Bool.{eqb-true, eqb-false}
+use Rattle.std.proofs.lemmas.Bool.{eqb-true, eqb-false, cond_both}
 use Rattle.std.specs.Prelude.{codes}
 use Rattle.std.specs.Char.{len_utf8}
 use Rattle.interpolator.specs.Syntax.At.{At, size, first_of}
@@ -17,7 +17,7 @@ use Rattle.interpolator.specs.Faults.{Fault, parse, unclosed, expected}
 use Rattle.interpolator.specs.declared.syntax.class.Class.TheVariants.{Sign}
 use Rattle.interpolator.proofs.SyntaxLemmas.FrontLemmas.{front_behind}
 use Rattle.interpolator.proofs.SyntaxLemmas.LocalityLemmas.{size-append, stands}
-use Rattle.interpolator.proofs.SyntaxLemmas.TestLemmas.{none_some, some_same, err_ok, ok_same}
+use Rattle.interpolator.proofs.SyntaxLemmas.TestLemmas.{none_some, some_same, err_ok}
 
 -- ---- signs
 
@@ -32,43 +32,25 @@ sign_length (suc k) = omega (arith, sign_length k)
 -- signs that stand are read
 pub signs_split : (k p : ℕ) (cs : List ℕ) (q : At) → behind_signs k p cs ≡ Some q
     → (cs ≡ sign_text k ++ q.text) × (q.place ≡ p + k)
-signs_split zero p cs q e =
-    let same : stands p cs ≡ q =
-    some_same e in (ap (λ (b : At). b.text) same, omega (arith, ap (λ (b : At). b.place) same))
+signs_split zero p cs q e = grind arith
 signs_split (suc k) p [] q e = absurd (none_some e)
 signs_split (suc k) p (c ∷ cs) q e =
-    by_test (eqb c hash) (eqb-true c hash) e (signs_split k (p + len_utf8 c) cs q)
-  where
-    by_test :
-        (b : Bool) → (b ≡ true → c ≡ hash) → cond b (behind_signs k (p + len_utf8 c) cs) None
-        ≡ Some q
-        → (behind_signs k (p + len_utf8 c) cs ≡ Some q → (cs ≡ sign_text k ++ q.text) × (q.place
-        ≡ p + len_utf8 c + k))
-        → (c ∷ cs ≡ hash ∷ (sign_text k ++ q.text)) × (q.place ≡ p + suc k)
-    by_test true s h further =
-        let more = further h in
-        let one : len_utf8 c ≡ 1 = ap len_utf8 (s refl) in
-        (ap (λ n. n ∷ cs) (s refl) ∙ ap (λ xs. hash ∷ xs) more.0, omega (arith, more.1, one))
-    by_test false s h further = absurd (none_some h)
+    grind (arith, eqb-true, signs_split k (p + len_utf8 c) cs q)
 
 -- and only those
 pub only_signs : (k p : ℕ) (rest : List ℕ) → behind_signs k p (sign_text k ++ rest)
     ≡ Some (stands (p + k) rest)
 only_signs zero p rest = let same : p ≡ p + 0 = omega arith in ap (λ n. Some (stands n rest)) same
-only_signs (suc k) p rest =
-    let same : p + 1 + k ≡ p + suc k =
-    omega arith in only_signs k (p + 1) rest ∙ ap (λ n. Some (stands n rest)) same
+only_signs (suc k) p rest = grind (arith, only_signs k (p + 1) rest)
 
 signs_absent : (k p : ℕ) (cs rest : List ℕ) → behind_signs k p cs ≡ None → cs ≢ sign_text k ++ rest
 signs_absent k p cs rest e h = none_some (sym e ∙ ap (behind_signs k p) h ∙ only_signs k p rest)
 
 absent_signs : (k p : ℕ) (cs : List ℕ) → ((rest : List ℕ) → cs ≢ sign_text k ++ rest)
     → behind_signs k p cs ≡ None
-absent_signs k p cs h = by_signs (behind_signs k p cs) refl
-  where
-    by_signs : (o : Option At) → behind_signs k p cs ≡ o → o ≡ None
-    by_signs None e = refl
-    by_signs (Some q) e = absurd (h q.text (signs_split k p cs q e).0)
+absent_signs k p cs h =
+    elim (behind_signs k p cs) as (λ o. behind_signs k p cs ≡ o → o ≡ None)
+    [ None ↦ λ e. refl | Some q ↦ λ e. absurd (h q.text (signs_split k p cs q e).0) ] refl
 
 -- ---- the end
 
@@ -76,13 +58,8 @@ absent_signs k p cs h = by_signs (behind_signs k p cs) refl
 none_closes : (k c : ℕ) (inner after : List ℕ) → ((rest : List ℕ) → c ≡ close_bracket
     → inner ++ after ≢ sign_text k ++ rest) → NoneCloses k inner after
     → NoneCloses k (c ∷ inner) after
-none_closes k c inner after here later [] more rest e h =
-    let same : c ≡ close_bracket = cc in
-    let behind : inner ≡ more = cc in
-    here rest same (ap (λ xs. xs ++ after) behind ∙ h)
-none_closes k c inner after here later (d ∷ front) more rest e h =
-    let behind : inner ≡ front ++ (close_bracket ∷ more) = cc in
-    later front more rest behind h
+none_closes k c inner after here later [] more rest e h = grind (arith, here rest)
+none_closes k c inner after here later (d ∷ front) more rest e h = later front more rest (cc) h
 
 later_closes : (k c : ℕ) (inner after : List ℕ) → NoneCloses k (c ∷ inner) after
     → NoneCloses k inner after
@@ -98,35 +75,17 @@ signs_at k p c cs = cond (eqb c close_bracket) (behind_signs k (p + len_utf8 c) 
 
 not_here : (k p c : ℕ) (cs rest : List ℕ) → signs_at k p c cs ≡ None → c ≡ close_bracket
     → cs ≢ sign_text k ++ rest
-not_here k p c cs rest e same =
-    let there : signs_at k p close_bracket cs ≡ None =
-    subst (λ n. signs_at k p n cs ≡ None) same e in
-    signs_absent k (p + 1) cs rest there
+not_here k p c cs rest e same = grind (arith, signs_absent)
 
 none_here : (k p c : ℕ) (cs : List ℕ) → ((rest : List ℕ) → c ≡ close_bracket
     → cs ≢ sign_text k ++ rest) → signs_at k p c cs ≡ None
-none_here k p c cs h = by_test (eqb c close_bracket) (eqb-true c close_bracket)
-  where
-    by_test : (b : Bool) → (b ≡ true → c ≡ close_bracket)
-        → cond b (behind_signs k (p + len_utf8 c) cs) None ≡ None
-    by_test true s = absent_signs k (p + len_utf8 c) cs (λ rest. h rest (s refl))
-    by_test false s = refl
+none_here k p c cs h =
+    cond_both (eqb c close_bracket) _ _ (λ o. o ≡ None)
+    (λ e. absent_signs k _ cs (λ rest. h rest (eqb-true c close_bracket e))) (λ e. refl)
 
 signs_here : (k p c : ℕ) (cs : List ℕ) (q : At) → signs_at k p c cs ≡ Some q
     → (c ∷ cs ≡ close_text k ++ q.text) × (q.place ≡ p + 1 + k)
-signs_here k p c cs q e = by_test (eqb c close_bracket) (eqb-true c close_bracket) e
-  where
-    by_test : (b : Bool) → (b ≡ true → c ≡ close_bracket)
-        → cond b (behind_signs k (p + len_utf8 c) cs) None ≡ Some q
-        → (c ∷ cs ≡ close_text k ++ q.text) × (q.place ≡ p + 1 + k)
-    by_test true s h =
-        let same = signs_split k (p + len_utf8 c) cs q h in
-        let one : len_utf8 c ≡ 1 = ap len_utf8 (s refl) in (
-          ap (λ n. n ∷ cs) (s refl) ∙ ap (λ xs. close_bracket ∷ xs) same.0,
-          omega
-              (arith, same.1, one),
-        )
-    by_test false s h = absurd (none_some h)
+signs_here k p c cs q e = grind (arith, eqb-true, signs_split k (p + len_utf8 c) cs q)
 
 -- the text at p ends in front of q, at the first place at which it closes
 pub record IsClose (k p : ℕ) (cs inner : List ℕ) (q : At) : Type 0 where
@@ -134,85 +93,71 @@ pub record IsClose (k p : ℕ) (cs inner : List ℕ) (q : At) : Type 0 where
   pub place : q.place ≡ p + size inner + 1 + k
   pub first : NoneCloses k inner (close_text k ++ q.text)
 
-pub later_some : (c : ℕ) (o : Option (List ℕ × At)) (w : List ℕ × At) → here_or_later c None o
-    ≡ Some w → (v : List ℕ × At) × (o ≡ Some v) × ((c ∷ v.0, v.1) ≡ w)
+later_some : (c : ℕ) (o : Option (List ℕ × At)) (w : List ℕ × At) → here_or_later c None o ≡ Some w
+    → (v : List ℕ × At) × (o ≡ Some v) × ((c ∷ v.0, v.1) ≡ w)
 later_some c None w e = absurd (none_some e)
 later_some c (Some v) w e = (v, refl, some_same e)
-
-pub later_none : (c : ℕ) (o : Option (List ℕ × At)) → here_or_later c None o ≡ None → o ≡ None
-later_none c None e = refl
-later_none c (Some v) e = absurd (none_some (sym e))
 
 pub close_is : (k p : ℕ) (cs : List ℕ) (w : List ℕ × At) → close_from k p cs ≡ Some w
     → IsClose k p cs w.0 w.1
 close_is k p [] w e = absurd (none_some e)
-close_is k p (c ∷ cs) w e = by_signs (signs_at k p c cs) refl e (close_is k (p + len_utf8 c) cs)
-  where
-    by_signs :
-        (o : Option At) → signs_at k p c cs
-        ≡ o → here_or_later c o (close_from k (p + len_utf8 c) cs) ≡ Some w
-        → ((v : List ℕ × At) → close_from k (p + len_utf8 c) cs ≡ Some v
-        → IsClose k (p + len_utf8 c) cs v.0 v.1)
-        → IsClose k p (c ∷ cs) w.0 w.1
-    by_signs (Some q) s h later =
-        let same : ([], q) ≡ w = some_same h in
-        let here = signs_here k p c cs q s in
-        subst (λ (v : List ℕ × At). IsClose k p (c ∷ cs) v.0 v.1) same (record {
-          split = here.0;
-          place = omega (arith, here.1);
-          first = nothing_closes k (close_text k ++ q.text);
-        })
-    by_signs None s h later =
-        let l = later_some c (close_from k (p + len_utf8 c) cs) w h in
-        let v = l.0 in
-        let there = later v l.1 in
-        subst (λ (u : List ℕ × At). IsClose k p (c ∷ cs) u.0 u.1) l.2 (record {
-          split = ap (λ xs. c ∷ xs) there.split;
-          place = omega (arith, there.place);
-          first =
-              none_closes k c v.0 (close_text k ++ v.1.text)
-              (λ rest same f. not_here k p c cs rest s same (there.split ∙ f)) there.first;
-        })
+close_is k p (c ∷ cs) w e =
+    let later = close_from k (p + len_utf8 c) cs in
+    let P = λ (v : List ℕ × At). IsClose k p (c ∷ cs) v.0 v.1 in
+    elim (signs_at k p c cs) as (λ o. signs_at k p c cs ≡ o → here_or_later c o later ≡ Some w
+    → P w) [
+      | Some q ↦ λ s h.
+          let here = signs_here k p c cs q s in
+          subst P (some_same h) (record {
+            split = here.0;
+            place = omega (arith, here.1);
+            first = nothing_closes k (close_text k ++ q.text);
+          })
+      | None ↦ λ s h.
+          let l = later_some c later w h in
+          let there = close_is k (p + len_utf8 c) cs l.0 l.1 in
+          subst P l.2 (record {
+            split = ap (λ xs. c ∷ xs) there.split;
+            place = omega (arith, there.place);
+            first =
+                none_closes k c l.0.0 (close_text k ++ l.0.1.text)
+                (λ rest same f. not_here k p c cs rest s same (there.split ∙ f)) there.first;
+          })
+    ] refl e
+
+neither_closes : (c : ℕ) (o : Option At) (l : Option (List ℕ × At)) → here_or_later c o l ≡ None
+    → (o ≡ None) × (l ≡ None)
+neither_closes c o l e = grind arith
 
 -- a text of which no end is found has none
 pub no_close_is : (k p : ℕ) (cs : List ℕ) → close_from k p cs ≡ None → NoneCloses k cs []
 no_close_is k p [] e = nothing_closes k []
-no_close_is k p (c ∷ cs) e = by_signs (signs_at k p c cs) refl e (no_close_is k (p + len_utf8 c) cs)
-  where
-    by_signs :
-        (o : Option At) → signs_at k p c cs
-        ≡ o → here_or_later c o (close_from k (p + len_utf8 c) cs) ≡ None
-        → (close_from k (p + len_utf8 c) cs ≡ None → NoneCloses k cs []) → NoneCloses k (c ∷ cs) []
-    by_signs (Some q) s h later = absurd (none_some (sym h))
-    by_signs None s h later =
-        none_closes k c cs [] (λ rest same f. not_here k p c cs rest s same (sym (append-nil cs)
-        ∙ f))
-        (later (later_none c (close_from k (p + len_utf8 c) cs) h))
+no_close_is k p (c ∷ cs) e =
+    let none = neither_closes c (signs_at k p c cs) (close_from k (p + len_utf8 c) cs) e in
+    none_closes k c cs []
+    (λ rest same f. not_here k p c cs rest none.0 same (sym (append-nil cs) ∙ f))
+    (no_close_is k (p + len_utf8 c) cs none.1)
 
 pub only_close :
     (k p : ℕ) (inner rest : List ℕ) → NoneCloses k inner (close_text k ++ rest)
     → close_from k p (inner ++ (close_text k ++ rest))
     ≡ Some (inner, stands (p + size inner + 1 + k) rest)
-only_close k p [] rest h =
-    let same : p + 1 + k ≡ p + 0 + 1 + k = omega arith in
-    ap (λ o. here_or_later close_bracket o (close_from k (p + 1) (sign_text k ++ rest)))
-    (only_signs k (p + 1) rest)
-    ∙ ap (λ n. Some ([], stands n rest)) same
+only_close k p [] rest h = grind (arith, only_signs k (p + 1) rest)
 only_close k p (c ∷ inner) rest h =
-    let whole = inner ++ (close_text k ++ rest) in
-    let same : p + len_utf8 c + size inner + 1 + k ≡ p + size (c ∷ inner) + 1 + k = omega arith in
-    ap (λ o. here_or_later c o (close_from k (p + len_utf8 c) whole))
-    (none_here k p c whole (λ more d. h [] inner more (ap (λ n. n ∷ inner) d)))
-    ∙ ap (here_or_later c None) (only_close k (p + len_utf8 c) inner rest
-    (later_closes k c inner (close_text k ++ rest) h))
-    ∙ ap (λ n. Some (c ∷ inner, stands n rest)) same
+    let more = inner ++ (close_text k ++ rest) in
+    grind (
+      arith,
+      none_here k p c more (λ behind d. h [] inner behind (ap (λ n. n ∷ inner) d)),
+      only_close k (p + len_utf8 c) inner rest (later_closes k c inner (close_text k ++ rest) h),
+    )
 
 pub only_no_close : (k p : ℕ) (cs : List ℕ) → NoneCloses k cs [] → close_from k p cs ≡ None
 only_no_close k p [] h = refl
 only_no_close k p (c ∷ cs) h =
-    ap (λ o. here_or_later c o (close_from k (p + len_utf8 c) cs))
-    (none_here k p c cs (λ more d e. h [] cs more (ap (λ n. n ∷ cs) d) (append-nil cs ∙ e)))
-    ∙ ap (here_or_later c None) (only_no_close k (p + len_utf8 c) cs (later_closes k c cs [] h))
+    rw (
+      none_here k p c cs (λ more d e. h [] cs more (ap (λ n. n ∷ cs) d) (append-nil cs ∙ e)),
+      only_no_close k (p + len_utf8 c) cs (later_closes k c cs [] h),
+    ) refl
 
 -- ---- groups
 
@@ -220,15 +165,7 @@ only_no_close k p (c ∷ cs) h =
 all_signs : (cs : List ℕ) → front_of (in_class Sign) cs
     ≡ sign_text (length (front_of (in_class Sign) cs))
 all_signs [] = refl
-all_signs (c ∷ cs) = by_test (eqb c hash) (eqb-true c hash) (all_signs cs)
-  where
-    by_test :
-        (b : Bool) → (b ≡ true → c ≡ hash) → front_of (in_class Sign) cs
-        ≡ sign_text (length (front_of (in_class Sign) cs))
-        → cond b (c ∷ front_of (in_class Sign) cs) []
-        ≡ sign_text (length (cond b (c ∷ front_of (in_class Sign) cs) []))
-    by_test true s h = ap (λ n. n ∷ front_of (in_class Sign) cs) (s refl) ∙ ap (λ xs. hash ∷ xs) h
-    by_test false s h = refl
+all_signs (c ∷ cs) = grind (arith, eqb-true, all_signs cs)
 
 -- a text that begins with no sign
 abbrev pub NoSign : List ℕ → Type 0
@@ -239,24 +176,14 @@ pub signs_front : (k : ℕ) (rest : List ℕ) → NoSign rest
     → (front_of (in_class Sign) (sign_text k ++ rest) ≡ sign_text k) × (behind_of (in_class Sign)
     (sign_text k ++ rest) ≡ rest)
 signs_front zero [] h = (refl, refl)
-signs_front zero (c ∷ cs) h =
-    let no = ne_eqb c hash h in (
-      ap (λ b. cond b (c ∷ front_of (in_class Sign) cs) []) no,
-      ap
-          (λ b. cond b (behind_of (in_class Sign) cs) (c ∷ cs)) no,
-    )
-signs_front (suc k) rest h =
-    let more = signs_front k rest h in (ap (λ xs. hash ∷ xs) more.0, more.1)
+signs_front zero (c ∷ cs) h = rw (ne_eqb c hash h) (refl, refl)
+signs_front (suc k) rest h = grind (arith, signs_front k rest h)
 
 -- what stands behind all the signs begins with none
 behind_no_sign : (cs : List ℕ) → NoSign (behind_of (in_class Sign) cs)
 behind_no_sign [] = tt
-behind_no_sign (c ∷ cs) = by_test (eqb c hash) (eqb-false c hash) (behind_no_sign cs)
-  where
-    by_test : (b : Bool) → (b ≡ false → c ≢ hash) → NoSign (behind_of (in_class Sign) cs)
-        → NoSign (cond b (behind_of (in_class Sign) cs) (c ∷ cs))
-    by_test true s h = h
-    by_test false s h = s refl
+behind_no_sign (c ∷ cs) =
+    cond_both (eqb c hash) _ _ NoSign (λ e. behind_no_sign cs) (λ e. eqb-false c hash e)
 
 -- a group by the signs in front and what stands behind them
 abbrev by_signs : (start p : ℕ) → List ℕ → List ℕ → Result (Group × At) Fault
@@ -274,15 +201,7 @@ pub group_of_signs : (start k : ℕ) (a : At) (rest : List ℕ) → a.text ≡ s
     (first_of (a.place + k) rest)
 group_of_signs start k a rest e h =
     let front = signs_front k rest h in
-    group_by start a
-    ∙ ap (λ cs. by_signs start a.place (front_of (in_class Sign) cs) (behind_of (in_class Sign) cs))
-    e
-    ∙ ap (λ cs. by_signs start a.place cs (behind_of (in_class Sign) (sign_text k ++ rest))) front.0
-    ∙ ap (by_signs start a.place (sign_text k)) front.1
-    ∙ ap (λ n. bracket_first start n (stands (a.place + size (sign_text k)) rest)
-    (first_of (a.place + size (sign_text k)) rest)) (sign_length k)
-    ∙ ap (λ n. bracket_first start k (stands (a.place + n) rest) (first_of (a.place + n) rest))
-    (sign_size k)
+    group_by start a ∙ rw (e, front.0, front.1, sign_length k, sign_size k) refl
 
 -- each text is signs and a rest that begins with none
 pub record Signed (a : At) : Type 0 where
@@ -310,42 +229,27 @@ open_size k = omega (arith, size-append (sign_text k) (open_bracket ∷ []), sig
 pub close_size : (inner : List ℕ) (k : ℕ) → size (inner ++ close_text k) ≡ size inner + 1 + k
 close_size inner k = omega (arith, size-append inner (close_text k), sign_size k)
 
+-- a bracket that opens a group, and where that closes
+opens : (start k p c : ℕ) (cs : List ℕ) (g : Group) (q : At)
+    → bracket_first start k (stands p (c ∷ cs)) (first_of p (c ∷ cs)) ≡ Ok (g, q)
+    → (c ≡ open_bracket) × (g.place ≡ p + 1) × (close_from k (p + 1) cs ≡ Some (g.text, q))
+opens start k p c cs g q h = grind (arith, eqb-true)
+
 -- what a group is, behind its signs
 bracket_is : (start k : ℕ) (a : At) (rest : List ℕ) (g : Group) (q : At) → a.text
     ≡ sign_text k ++ rest → bracket_first start k (stands (a.place + k) rest)
     (first_of (a.place + k) rest) ≡ Ok (g, q) → IsGroup a g q
 bracket_is start k a [] g q e h = absurd (err_ok h)
-bracket_is start k a (c ∷ cs) g q e h = by_test (eqb c open_bracket) (eqb-true c open_bracket) h
-  where
-    by_close :
-        c ≡ open_bracket → (o : Option (List ℕ × At)) → close_from k (a.place + k + len_utf8 c) cs
-        ≡ o
-        → closed_group start (a.place + k + len_utf8 c) o ≡ Ok (g, q) → IsGroup a g q
-    by_close s None f n = absurd (err_ok n)
-    by_close s (Some w) f n =
-        let is = close_is k (a.place + k + len_utf8 c) cs w f in
-        let pair : (record { text = w.0; place = a.place + k + len_utf8 c }, w.1) ≡ (g, q) =
-        ok_same n in
-        let one : len_utf8 c ≡ 1 = ap len_utf8 s in
-        subst (λ (u : Group × At). IsGroup a u.0 u.1) pair (record {
-          k = k;
-          split =
-              e ∙ ap (λ n. sign_text k ++ (n ∷ cs)) s
-              ∙ ap (λ xs. sign_text k ++ (open_bracket ∷ xs)) is.split
-              ∙ sym (opened k (w.0 ++ (close_text k ++ w.1.text)));
-          first = is.first;
-          place = omega (arith, one, open_size k);
-          end_place = omega (arith, is.place, close_size w.0 k);
-        })
-
-    by_test :
-        (b : Bool) → (b ≡ true → c ≡ open_bracket)
-        → cond b (closed_group start (a.place + k + len_utf8 c)
-        (close_from k (a.place + k + len_utf8 c) cs))
-        (Err (parse (expected (codes "(") (a.place + k)))) ≡ Ok (g, q)
-        → IsGroup a g q
-    by_test true s n = by_close (s refl) (close_from k (a.place + k + len_utf8 c) cs) refl n
-    by_test false s n = absurd (err_ok n)
+bracket_is start k a (c ∷ cs) g q e h =
+    let o = opens start k (a.place + k) c cs g q h in
+    let is = close_is k (a.place + k + 1) cs (g.text, q) o.2 in
+    record {
+      k = k;
+      split = e ∙ rw (o.0, is.split) (sym (opened k _));
+      first = is.first;
+      place = omega (arith, o.1, open_size k);
+      end_place = omega (arith, o.1, is.place, close_size g.text k);
+    }
 
 pub group_is : (start : ℕ) (a : At) (g : Group) (q : At) → group_at start a ≡ Ok (g, q)
     → IsGroup a g q
@@ -367,9 +271,14 @@ only_group start a g q h =
     omega (arith, h.end_place, close_size g.text h.k, here) in
     group_of_signs start h.k a (open_bracket ∷ tail) (h.split ∙ opened h.k tail) open_no_hash
     ∙ ap (closed_group start p) (only_close h.k p g.text q.text h.first)
-    ∙ ap (λ n. Ok (record { text = g.text; place = n }, stands (p + size g.text + 1 + h.k) q.text))
-    here
-    ∙ ap (λ n. Ok (g, stands n q.text)) there
+    ∙ rw (there, here) refl
+
+-- no bracket stands there, or one whose group does not close
+not_opened : (start k p c : ℕ) (cs : List ℕ) (f : Fault)
+    → bracket_first start k (stands p (c ∷ cs)) (first_of p (c ∷ cs)) ≡ Err f
+    → ((c ≢ open_bracket) × (f ≡ parse (expected (codes "(") p)))
+    ⊎ ((c ≡ open_bracket) × (close_from k (p + 1) cs ≡ None) × (f ≡ parse (unclosed start)))
+not_opened start k p c cs f h = grind (arith, eqb-true, eqb-false)
 
 -- why there is none, behind the signs
 no_bracket_is : (start k : ℕ) (a : At) (rest : List ℕ) (f : Fault) → a.text ≡ sign_text k ++ rest
@@ -378,29 +287,11 @@ no_bracket_is : (start k : ℕ) (a : At) (rest : List ℕ) (f : Fault) → a.tex
 no_bracket_is start k a [] f e bare h =
     let same : parse (unclosed start) ≡ f = cc in ends k (e ∙ append-nil (sign_text k)) (sym same)
 no_bracket_is start k a (c ∷ cs) f e bare h =
-    by_test (eqb c open_bracket) (eqb-true c open_bracket) (eqb-false c open_bracket) h
-  where
-    by_close :
-        c ≡ open_bracket → (o : Option (List ℕ × At)) → close_from k (a.place + k + len_utf8 c) cs
-        ≡ o
-        → closed_group start (a.place + k + len_utf8 c) o ≡ Err f → IsNoGroup start a f
-    by_close s None d n =
-        let same : parse (unclosed start) ≡ f = cc in
-        no_end k cs (e ∙ ap (λ n. sign_text k ++ (n ∷ cs)) s ∙ sym (opened k cs))
-        (no_close_is k (a.place + k + len_utf8 c) cs d) (sym same)
-    by_close s (Some w) d n = absurd (err_ok (sym n))
-
-    by_test :
-        (b : Bool) → (b ≡ true → c ≡ open_bracket) → (b ≡ false → c ≢ open_bracket)
-        → cond b (closed_group start (a.place + k + len_utf8 c)
-        (close_from k (a.place + k + len_utf8 c) cs))
-        (Err (parse (expected (codes "(") (a.place + k)))) ≡ Err f
-        → IsNoGroup start a f
-    by_test true s t n = by_close (s refl) (close_from k (a.place + k + len_utf8 c) cs) refl n
-    by_test false s t n =
-        let same : parse (expected (codes "(") (a.place + k)) ≡ f = cc in
-        no_bracket k c cs e bare (t refl) (sym same
-        ∙ ap (λ n. parse (expected (codes "(") (a.place + n))) (sym (sign_size k)))
+    elim (not_opened start k (a.place + k) c cs f h) [
+      | inl n ↦ no_bracket k c cs e bare n.0 (rw (sign_size k) n.1)
+      | inr n ↦
+          no_end k cs (e ∙ rw n.0 (sym (opened k cs))) (no_close_is k (a.place + k + 1) cs n.1) n.2
+    ]
 
 pub no_group_is : (start : ℕ) (a : At) (f : Fault) → group_at start a ≡ Err f → IsNoGroup start a f
 no_group_is start a f e =
@@ -414,11 +305,7 @@ only_no_group start a f (ends k e d) =
     group_of_signs start k a [] (e ∙ sym (append-nil (sign_text k))) tt ∙ ap Err (sym d)
 only_no_group start a f (no_bracket k c rest e bare other d) =
     group_of_signs start k a (c ∷ rest) e bare
-    ∙ ap (λ b. cond b (closed_group start (a.place + k + len_utf8 c)
-    (close_from k (a.place + k + len_utf8 c) rest))
-    (Err (parse (expected (codes "(") (a.place + k))))) (ne_eqb c open_bracket other)
-    ∙ ap (λ n. Err (parse (expected (codes "(") (a.place + n)))) (sym (sign_size k))
-    ∙ ap Err (sym d)
+    ∙ rw (ne_eqb c open_bracket other, d, sign_size k) refl
 only_no_group start a f (no_end k inner e none d) =
     group_of_signs start k a (open_bracket ∷ inner) (e ∙ opened k inner) open_no_hash
     ∙ ap (closed_group start (a.place + k + 1)) (only_no_close k (a.place + k + 1) inner none)
@@ -427,6 +314,5 @@ only_no_group start a f (no_end k inner e none d) =
 -- no two groups begin at one place
 pub one_group : (a q r : At) (g h : Group) → IsGroup a g q → IsGroup a h r → (g ≡ h) × (q ≡ r)
 one_group a q r g h is other =
-    let both : (g, q) ≡ (h, r) =
-    ok_same {B = Fault} (sym (only_group 0 a g q is) ∙ only_group 0 a h r other) in
+    let both : (g, q) ≡ (h, r) = cc (only_group 0 a g q is, only_group 0 a h r other) in
     (ap (λ (w : Group × At). w.0) both, ap (λ (w : Group × At). w.1) both)

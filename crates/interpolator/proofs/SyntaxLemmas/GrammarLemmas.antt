@@ -11,6 +11,7 @@ use Rattle.interpolator.specs.Syntax.Pieces.{PieceKind, Piece, literal, doubled,
 use Rattle.interpolator.specs.Syntax.Pieces.{unclosed, broken}
 use Rattle.interpolator.specs.Syntax.Grammar.{rank, from_place, NotFirst, Fits, Stands, StandsFirst}
 use Rattle.interpolator.specs.Syntax.Grammar.{IsPieces}
+use Rattle.interpolator.proofs.SyntaxLemmas.TestLemmas.{tail_same}
 
 -- what a piece of this kind in front of this rest shows of a text that begins with c at p
 abbrev pub Shows : (p c : ℕ) (cs : List ℕ) → PieceKind → (rest : List ℕ) → Type 0
@@ -33,48 +34,18 @@ same_reading :
 same_reading p start cs ds e h = ap (λ n. argument_at (from_place n cs)) (sym e)
     ∙ ap (λ xs. argument_at (from_place start xs)) h
 
-head_same : {c d : ℕ} {cs ds : List ℕ} → c ∷ cs ≡ d ∷ ds → c ≡ d
-head_same e = cc
-
-tail_same : {c d : ℕ} {cs ds : List ℕ} → c ∷ cs ≡ d ∷ ds → cs ≡ ds
-tail_same e = cc
-
 shown :
     (p c : ℕ) (cs : List ℕ) (k : PieceKind) (text rest : List ℕ) → c ∷ cs ≡ text ++ rest
     → Fits p k text rest → Shows p c cs k rest
-shown p c cs (doubled brace) text rest e h =
-    let whole = e ∙ ap (λ t. t ++ rest) h.1 in
-    let same = head_same whole in (
-      subst (λ n. IsTrue (is_brace n)) (sym same) h.0,
-      sym same,
-      tail_same whole
-          ∙ ap (λ n. n ∷ rest) (sym same),
-    )
-shown p c cs (closed start x end) text rest e h =
-    let whole = e ∙ ap (λ t. t ++ rest) h.in_braces in
-    let inner = tail_same whole ∙ append_assoc h.inner (close_brace ∷ []) rest in
-    (head_same whole, h.begins, same_reading p start cs _ h.begins inner ∙ h.reads)
+shown p c cs (doubled brace) text rest e h = grind arith
+shown p c cs (closed start x end) text rest e h = grind (arith, append_assoc)
 shown p c cs (unclosed start x end) text rest e h =
-    let whole : c ∷ cs ≡ open_brace ∷ (h.inner ++ rest) = e ∙ ap (λ t. t ++ rest) h.in_front in
-    let inner : cs ≡ h.inner =
-    tail_same whole ∙ ap (λ xs. h.inner ++ xs) h.takes_all ∙ append-nil h.inner in (
-      h.left,
-      head_same whole,
-      h.begins,
-      same_reading p start cs h.inner h.begins inner
-          ∙ h.reads,
-      h.takes_all,
-      h.not_closed,
-    )
-shown p c cs (broken f) text rest e h =
-    let whole : c ∷ cs ≡ open_brace ∷ (h.inner ++ rest) = e ∙ ap (λ t. t ++ rest) h.in_front in
-    let inner : cs ≡ h.inner =
-    tail_same whole ∙ ap (λ xs. h.inner ++ xs) h.takes_all ∙ append-nil h.inner in
-    (head_same whole, same_reading p (p + 1) cs h.inner refl inner ∙ h.reads, h.takes_all)
-shown p c cs lone_close text rest e h =
-    let whole = e ∙ ap (λ t. t ++ rest) h in (head_same whole, sym (tail_same whole))
-shown p c cs (literal d) text rest e h =
-    let whole = e ∙ ap (λ t. t ++ rest) h in (sym (head_same whole), sym (tail_same whole))
+    let inner : cs ≡ h.inner = grind (arith, append-nil) in
+    let reads = same_reading p start cs _ h.begins inner ∙ h.reads in
+    (h.left, cc, h.begins, reads, h.takes_all, h.not_closed)
+shown p c cs (broken f) text rest e h = grind (arith, append-nil)
+shown p c cs lone_close text rest e h = grind arith
+shown p c cs (literal d) text rest e h = grind arith
 
 pub stands_shown :
     (p c : ℕ) (cs : List ℕ) (x : Piece) (rest : List ℕ) → Stands (from_place p (c ∷ cs)) x rest
@@ -104,17 +75,8 @@ same_kind :
     → rank k ≡ rank l → (k ≡ l) × (r ≡ s)
 same_kind p c cs (doubled b) (doubled d) r s h k e =
     (ap doubled (h.1 ∙ sym k.1), tail_same (sym h.2 ∙ k.2))
-same_kind p c cs (closed n x i) (closed m y j) r s h k e =
-    let same = same_ok (sym h.2 ∙ k.2) in
-    let rest : r ≡ s = tail_same (ap (λ (a : At). a.text) same.1) in
-    let ends : i ≡ j = ap (λ (a : At). a.place) same.1 in
-    let starts : n ≡ m = h.1 ∙ sym k.1 in
-    let named = same.0 in (cc, rest)
-same_kind p c cs (unclosed n x i) (unclosed m y j) r s h k e =
-    let same = same_ok (sym h.3 ∙ k.3) in
-    let ends : i ≡ j = ap (λ (a : At). a.place) same.1 in
-    let starts : n ≡ m = h.2 ∙ sym k.2 in
-    let named = same.0 in (cc, h.4 ∙ sym k.4)
+same_kind p c cs (closed n x i) (closed m y j) r s h k e = grind arith
+same_kind p c cs (unclosed n x i) (unclosed m y j) r s h k e = grind arith
 same_kind p c cs (unclosed n x i) (broken f) r s h k e = let both = sym h.3 ∙ k.1 in cc
 same_kind p c cs (broken f) (unclosed n x i) r s h k e = let both = sym h.1 ∙ k.3 in cc
 same_kind p c cs (broken f) (broken g) r s h k e = let both = sym h.1 ∙ k.1 in (cc, h.2 ∙ sym k.2)

@@ -3,12 +3,12 @@ use Rattle.std.proofs.Common.{◌≡◌, ℕ, ◌+◌, Bool, List, [], ◌∷◌
 use Rattle.std.proofs.Common.{Result, Ok, Err, Option, Some, None, inl, inr}
 use Rattle.std.specs.Prelude.{codes}
 use Rattle.std.specs.Char.{len_utf8}
-use Rattle.interpolator.specs.Syntax.At.{At, first, strip}
+use Rattle.interpolator.specs.Syntax.At.{At, strip}
 use Rattle.interpolator.specs.Syntax.Classes.{point, equals}
-use Rattle.interpolator.specs.Syntax.Readers.{on, ◌>>=◌, give, was_there}
+use Rattle.interpolator.specs.Syntax.Readers.{on, give, was_there}
 use Rattle.interpolator.specs.Syntax.Ranges.{second_point, first_point, points as read_points}
 use Rattle.interpolator.specs.Syntax.Ranges.{upper_at, range_at}
-use Rattle.interpolator.specs.Syntax.Groups.{Group, group_at, if_bracket, group_if}
+use Rattle.interpolator.specs.Syntax.Groups.{Group, group_at, group_if}
 use Rattle.interpolator.specs.Syntax.Lists.{ListAsked, list_at}
 use Rattle.interpolator.specs.Syntax.Grammar.{from_place}
 use Rattle.interpolator.specs.Syntax.GrammarParts.{Lies}
@@ -23,8 +23,9 @@ use Rattle.interpolator.proofs.SyntaxLemmas.GrammarPartLemmas.{ok_pair, Says, Ag
 use Rattle.interpolator.proofs.SyntaxLemmas.GrammarPartLemmas.{agrees_is_not, agrees_then}
 use Rattle.interpolator.proofs.SyntaxLemmas.GrammarPartLemmas.{agrees_ends, Stripped, stripped}
 use Rattle.interpolator.proofs.SyntaxLemmas.GrammarPartLemmas.{strip_lies, strip_not}
-use Rattle.interpolator.proofs.SyntaxLemmas.GrammarOptionLemmas.{agrees_same, if_passes}
-use Rattle.interpolator.proofs.SyntaxLemmas.GrammarOptionLemmas.{agrees_where_first, agrees_bound}
+use Rattle.interpolator.proofs.SyntaxLemmas.GrammarOptionLemmas.{agrees_same, agrees_where_first}
+use Rattle.interpolator.proofs.SyntaxLemmas.GrammarOptionLemmas.{agrees_bound}
+use Rattle.interpolator.proofs.SyntaxLemmas.TestLemmas.{tail_same}
 
 -- ---- points
 
@@ -45,9 +46,6 @@ lies_past a q c cs h = (
   record { split = h.split; place = omega arith },
   record { split = refl; place = omega (arith, h.place) },
 )
-
-tail_same : {c d : ℕ} {cs ds : List ℕ} → c ∷ cs ≡ d ∷ ds → cs ≡ ds
-tail_same e = cc
 
 -- what is answered behind two points, in front of which a stands
 abbrev by_equals : (d : At) → Option At → Result (Option Bool × At) Fault
@@ -154,15 +152,8 @@ module _ (start : ℕ) where
 
   agrees_group_there : Agrees (group_if start) (group_there start)
   agrees_group_there =
-      let read = group_at start >>= λ g. give (Some g) in
       let some = agrees_then _ _ _ _ agrees_group (λ g. agrees_ends (Some g)) in
-      agrees_same (λ a. same a (first a)) (agrees_where_first opens_group read _ some)
-    where
-      same : (a : At) (o : Option (ℕ × At))
-          → if_bracket (group_at start) a o
-          ≡ if_passes opens_group (group_at start >>= λ g. give (Some g)) a o
-      same a None = refl
-      same a (Some w) = refl
+      agrees_same (λ a. grind arith) (agrees_where_first opens_group _ _ some)
 
   -- ---- the whole
 

@@ -1,16 +1,14 @@
 -- Parts that may be absent, and numbers: readers that agree with them.
 use Rattle.std.proofs.Common.{◌≡◌, ℕ, Bool, cond, IsTrue, List, [], ◌∷◌, refl, ap, ◌∙◌, sym, subst}
-use Rattle.std.proofs.Common.{Result, Ok, Err, Option, Some, None, inl, inr}
-use Rattle.std.specs.Prelude.{ℤ}
+use Rattle.std.proofs.Common.{Result, Ok, Err, Option, Some, None, inl, inr, arith}
 use Rattle.std.specs.Char.{is_ascii_digit}
 use Rattle.std.proofs.lemmas.Bool.{cond_both, cond-true, cond-false}
 use Rattle.interpolator.specs.Syntax.At.{At, first, first_of, strip}
 use Rattle.interpolator.specs.Syntax.Numbers.{natural, integer}
 use Rattle.interpolator.specs.Syntax.Readers.{Reader}
 use Rattle.interpolator.specs.Syntax.Classes.{in_class, point}
-use Rattle.interpolator.specs.Syntax.SpecTexts.{number_or, number_at, if_digit, width_at, if_point}
-use Rattle.interpolator.specs.Syntax.SpecTexts.{precision_at}
-use Rattle.interpolator.specs.Syntax.Ranges.{bound_or, bound_at, if_number, bound_if}
+use Rattle.interpolator.specs.Syntax.SpecTexts.{number_at, width_at, if_point, precision_at}
+use Rattle.interpolator.specs.Syntax.Ranges.{bound_at, bound_if}
 use Rattle.interpolator.specs.Syntax.Grammar.{from_place}
 use Rattle.interpolator.specs.Syntax.NumberGrammar.{Spelling, naturals, integers}
 use Rattle.interpolator.specs.Syntax.GrammarParts.{Part, FirstPasses, NonePasses, where_first}
@@ -25,10 +23,10 @@ use Rattle.interpolator.proofs.SyntaxLemmas.GrammarNumberLemmas.{natural_is, onl
 use Rattle.interpolator.proofs.SyntaxLemmas.GrammarNumberLemmas.{no_natural_is, only_no_natural}
 use Rattle.interpolator.proofs.SyntaxLemmas.GrammarNumberLemmas.{integer_is, only_integer}
 use Rattle.interpolator.proofs.SyntaxLemmas.GrammarNumberLemmas.{no_integer_is, only_no_integer}
-use Rattle.interpolator.proofs.SyntaxLemmas.GrammarPartLemmas.{ok_pair, head_same, Says, Agrees}
-use Rattle.interpolator.proofs.SyntaxLemmas.GrammarPartLemmas.{agrees_then, agrees_placed}
-use Rattle.interpolator.proofs.SyntaxLemmas.GrammarPartLemmas.{agrees_run, Stripped, stripped}
-use Rattle.interpolator.proofs.SyntaxLemmas.GrammarPartLemmas.{strip_lies, strip_not}
+use Rattle.interpolator.proofs.SyntaxLemmas.GrammarPartLemmas.{ok_pair, Says, Agrees, agrees_then}
+use Rattle.interpolator.proofs.SyntaxLemmas.GrammarPartLemmas.{agrees_placed, agrees_run, Stripped}
+use Rattle.interpolator.proofs.SyntaxLemmas.GrammarPartLemmas.{stripped, strip_lies, strip_not}
+use Rattle.interpolator.proofs.SyntaxLemmas.TestLemmas.{head_same}
 
 -- a reader that answers as one that agrees
 pub agrees_same :
@@ -175,47 +173,26 @@ agrees_number :
 agrees_number wrong start =
     agrees_placed _ _ (λ p.
     agrees_then _ _ _ _ (agrees_run Number start) (λ cs.
-    agrees_same (λ a. same p a (natural cs))
-    (agrees_spelled wrong natural naturals naturals_decide p cs)))
-  where
-    same : (p : ℕ) (a : At) (o : Result ℕ NumberError) → number_or wrong p o a ≡ told_or wrong p o a
-    same p a (Ok n) = refl
-    same p a (Err kind) = refl
+    agrees_same (λ a. grind arith) (agrees_spelled wrong natural naturals naturals_decide p cs)))
 
 agrees_bound_at : (start : ℕ) → Agrees (bound_at start) (number integers range_bound start)
 agrees_bound_at start =
     agrees_placed _ _ (λ p.
     agrees_then _ _ _ _ (agrees_run Number start) (λ cs.
-    agrees_same (λ a. same p a (integer cs))
+    agrees_same (λ a. grind arith)
     (agrees_spelled range_bound integer integers integers_decide p cs)))
-  where
-    same : (p : ℕ) (a : At) (o : Result ℤ NumberError) → bound_or p o a ≡ told_or range_bound p o a
-    same p a (Ok n) = refl
-    same p a (Err kind) = refl
 
 -- ---- widths, precisions and bounds
 
 pub agrees_width : (start : ℕ) → Agrees (width_at start) (width start)
 agrees_width start =
-    let read = number_at invalid_width start in
-    agrees_same (λ a. same read a (first a))
-    (agrees_where_first is_ascii_digit read _ (agrees_number invalid_width start))
-  where
-    same : (read : Reader (Option ℕ)) (a : At) (o : Option (ℕ × At))
-        → if_digit read a o ≡ if_passes is_ascii_digit read a o
-    same read a None = refl
-    same read a (Some w) = refl
+    agrees_same (λ a. grind arith)
+    (agrees_where_first is_ascii_digit _ _ (agrees_number invalid_width start))
 
 pub agrees_precision : (start : ℕ) → Agrees (precision_at start) (precision start)
 agrees_precision start = agrees_if_point _ _ (agrees_number invalid_precision start)
 
 pub agrees_bound : (start : ℕ) → Agrees (bound_if start) (bound start)
 agrees_bound start =
-    let read = bound_at start in
-    agrees_same (λ a. same read a (first a))
-    (agrees_where_first (in_class Number) read _ (agrees_bound_at start))
-  where
-    same : (read : Reader (Option ℤ)) (a : At) (o : Option (ℕ × At))
-        → if_number read a o ≡ if_passes (in_class Number) read a o
-    same read a None = refl
-    same read a (Some w) = refl
+    agrees_same (λ a. grind arith)
+    (agrees_where_first (in_class Number) _ _ (agrees_bound_at start))

@@ -1,9 +1,9 @@
 -- Readers that agree with parts of a text, and how they are chained.
-use Rattle.std.proofs.Common.{◌≡◌, ◌≢◌, ℕ, ◌+◌, Bool, true, false, cond, eqb, List, [], ◌∷◌, arith}
-use Rattle.std.proofs.Common.{rules, refl, ap, ◌∙◌, sym, subst, Result, Ok, Err, Option, Some, None}
-use Rattle.std.proofs.Common.{inl, inr, eqb-true}
+use Rattle.std.proofs.Common.{◌≡◌, ◌≢◌, ℕ, ◌+◌, true, cond, eqb, List, [], ◌∷◌, arith, rules, refl}
+use Rattle.std.proofs.Common.{ap, ◌∙◌, sym, subst, Result, Ok, Err, Option, Some, None, inl, inr}
+use Rattle.std.proofs.Common.{eqb-true}
 use Rattle.std.specs.Char.{len_utf8}
-use Rattle.std.proofs.lemmas.Bool.{eqb-false, ne_eqb}
+use Rattle.std.proofs.lemmas.Bool.{eqb-false, ne_eqb, cond_both}
 use Rattle.interpolator.specs.Syntax.At.{At, size, first, first_of, strip, strip_of, behind}
 use Rattle.interpolator.specs.Syntax.Classes.{front_of, in_class}
 use Rattle.interpolator.specs.Syntax.Readers.{Reader, on, ◌>>=◌ as ◌>>>◌, give, read_or_stay}
@@ -16,21 +16,7 @@ use Rattle.interpolator.specs.Faults.{Fault}
 use Rattle.interpolator.specs.declared.syntax.class.Class.{Class}
 use Rattle.interpolator.proofs.SyntaxLemmas.LongestLemmas.{at_same, front_longest, longest_front}
 use Rattle.interpolator.proofs.SyntaxLemmas.LongestLemmas.{behind_longest}
-
-pub err_ok : {A B : Type 0} {d : B} {x : A} → ◌≡◌ {A = Result A B} (Err d) (Ok x) → ⊥
-err_ok e = cc
-
-pub ok_same : {A B : Type 0} {x y : A} → ◌≡◌ {A = Result A B} (Ok x) (Ok y) → x ≡ y
-ok_same e = cc
-
-pub err_same : {A B : Type 0} {x y : B} → ◌≡◌ {A = Result A B} (Err x) (Err y) → x ≡ y
-err_same e = cc
-
-pub none_some : {A : Type 0} {x : A} → ◌≡◌ {A = Option A} None (Some x) → ⊥
-none_some e = cc
-
-pub some_same : {A : Type 0} {x y : A} → ◌≡◌ {A = Option A} (Some x) (Some y) → x ≡ y
-some_same e = cc
+use Rattle.interpolator.proofs.SyntaxLemmas.TestLemmas.{head_same}
 
 pub ok_pair :
     {A : Type 0} {x y : A} {q r : At} → x ≡ y → q ≡ r
@@ -121,9 +107,6 @@ past_end a c q h = at_same (omega (arith, h.place)) refl
 pub first_lies : (a : At) (c : ℕ) (q : At) → Lies a (c ∷ []) q → first a ≡ Some (c, q)
 first_lies a c q h = ap (first_of a.place) h.split ∙ ap (λ (b : At). Some (c, b)) (past_end a c q h)
 
-pub head_same : {c d : ℕ} {cs ds : List ℕ} → c ∷ cs ≡ d ∷ ds → c ≡ d
-head_same e = cc
-
 -- what `strip` tells
 abbrev pub Stripped : (c : ℕ) (a : At) → Option At → Type 0
 Stripped c a (Some q) = Lies a (c ∷ []) q
@@ -131,16 +114,12 @@ Stripped c a None = NotFirst c a.text
 
 stripped_at : (c p : ℕ) (cs : List ℕ) → Stripped c (from_place p cs) (strip_of c p cs)
 stripped_at c p [] = λ more e. cc
-stripped_at c p (d ∷ ds) = by_test (eqb d c) refl
-  where
-    by_test :
-        (b : Bool) → eqb d c ≡ b
-        → Stripped c (from_place p (d ∷ ds)) (cond b (Some (from_place (p + len_utf8 d) ds)) None)
-    by_test true e =
-        let same = eqb-true d c e in
-        let past = from_place (p + len_utf8 d) ds in
-        subst (λ n. Lies (from_place p (d ∷ ds)) (n ∷ []) past) same (lies_here p d ds)
-    by_test false e = λ more k. eqb-false d c e (head_same k)
+stripped_at c p (d ∷ ds) =
+    let a = from_place p (d ∷ ds) in
+    cond_both (eqb d c) _ _ (Stripped c a)
+    (λ e. subst (λ n. Lies a (n ∷ []) (from_place (p + len_utf8 d) ds)) (eqb-true d c e)
+    (lies_here p d ds))
+    (λ e more k. eqb-false d c e (head_same k))
 
 pub stripped : (c : ℕ) (a : At) → Stripped c a (strip c a)
 stripped c a = stripped_at c a.place a.text
@@ -170,14 +149,13 @@ module _ {A : Type 0} (table : ℕ → Option A) (absent : A) where
       (p : ℕ) (cs : List ℕ)
       → Says (letter table absent) (from_place p cs) (read_letter table absent (from_place p cs))
   letter_says_at p [] = inr (λ c k. let e = k.1 in cc, refl, refl)
-  letter_says_at p (c ∷ cs) = by_table (table c) refl
-    where
-      by_table :
-          (o : Option A) → table c ≡ o
-          → Says (letter table absent) (from_place p (c ∷ cs))
-          (read_or_stay absent (from_place p (c ∷ cs)) (from_place (p + len_utf8 c) cs) o)
-      by_table (Some x) e = inl (c, e, lies_here p c cs)
-      by_table None e = inr (λ d k. ap table (sym (head_same k.1)) ∙ e, refl, refl)
+  letter_says_at p (c ∷ cs) =
+      let a = from_place p (c ∷ cs) in
+      elim (table c) as (λ o. table c ≡ o → Says (letter table absent) a
+      (read_or_stay absent a (from_place (p + len_utf8 c) cs) o)) [
+        | Some x ↦ λ e. inl (c, e, lies_here p c cs)
+        | None ↦ λ e. inr (λ d k. ap table (sym (head_same k.1)) ∙ e, refl, refl)
+      ] refl
 
   no_letter : (p : ℕ) (cs : List ℕ) → NoLetter table cs
       → read_letter table absent (from_place p cs) ≡ Ok (absent, from_place p cs)

@@ -1,11 +1,9 @@
 -- The pieces that the reader finds are each of the first kind that its place allows.
-use Rattle.std.proofs.Common.{◌≡◌, ◌≢◌, ◌⊎◌, inl, inr, ℕ, zero, suc, ◌+◌, ◌-◌, ◌≤◌, IsTrue, Bool}
-use Rattle.std.proofs.Common.{true, false, cond, eqb, List, [], ◌∷◌, ◌++◌, length, take, arith}
-use Rattle.std.proofs.Common.{refl, ap, ◌∙◌, sym, subst, Result, Ok, Err, Option, Some, None}
-use Rattle.std.proofs.Common.{append_assoc, append-nil, length-append, eqb-true}
-use Rattle.std.specs.Prelude.{◌||◌}
-use Rattle.std.specs.Char.{len_utf8}
-use Rattle.std.proofs.lemmas.Bool.{eqb-false}
+use Rattle.std.proofs.Common.{◌≡◌, ◌≢◌, ◌⊎◌, inl, inr, ℕ, zero, suc, ◌+◌, ◌-◌, ◌≤◌, IsTrue, eqb}
+use Rattle.std.proofs.Common.{List, [], ◌∷◌, ◌++◌, length, take, arith, refl, ap, ◌∙◌, sym, subst}
+use Rattle.std.proofs.Common.{Result, Ok, Err, Option, Some, None, append_assoc, append-nil}
+use Rattle.std.proofs.Common.{length-append, eqb-true}
+use Rattle.std.proofs.lemmas.Bool.{eqb-false, cond_both}
 use Rattle.std.proofs.Math.Seq.{take-append_seam}
 use Rattle.interpolator.specs.Syntax.At.{At, size, strip, strip_of}
 use Rattle.interpolator.specs.Syntax.Classes.{open_brace, close_brace, is_brace}
@@ -18,32 +16,16 @@ use Rattle.interpolator.specs.Syntax.Pieces.{close_step, piece_from, past, piece
 use Rattle.interpolator.specs.Syntax.Grammar.{rank, from_place, NotFirst, Fits, StandsFirst}
 use Rattle.interpolator.specs.Syntax.Grammar.{IsPieces}
 use Rattle.interpolator.proofs.SyntaxLemmas.PieceLemmas.{piece_within, pieces_none, pieces_next}
-use Rattle.interpolator.proofs.SyntaxLemmas.TestLemmas.{none_some, passed, err_ok}
+use Rattle.interpolator.proofs.SyntaxLemmas.PieceLemmas.{strip_behind}
+use Rattle.interpolator.proofs.SyntaxLemmas.TestLemmas.{err_ok}
 use Rattle.interpolator.proofs.SyntaxLemmas.GrammarLemmas.{Shows, stands_shown, same_ok}
 use Rattle.interpolator.proofs.SyntaxLemmas.LocalityLemmas.{size-append}
 use Rattle.interpolator.proofs.SyntaxLemmas.ReaderLemmas.{argument_takes}
 
--- what stands behind a character
-strip_behind :
-    (c p : ℕ) (cs : List ℕ) (r : At) → strip_of c p cs ≡ Some r
-    → (cs ≡ c ∷ r.text) × (r.place ≡ p + len_utf8 c)
-strip_behind c p [] r e = absurd (none_some e)
-strip_behind c p (d ∷ ds) r e =
-    let t = passed (eqb d c) _ r e in
-    let same = eqb-true d c t.0 in (
-      ap (λ n. n ∷ ds) same ∙ ap (λ (a : At). c ∷ a.text) t.1,
-      sym (ap (λ (a : At). a.place) t.1) ∙ ap (λ n. p + len_utf8 n) same,
-    )
-
-failed : {A : Type 0} (b : Bool) (x : A) → cond b (Some x) None ≡ None → b ≡ false
-failed true x e = absurd (none_some (sym e))
-failed false x e = refl
-
 -- a text that begins with the character c is stripped of it
 strip_none : (c p : ℕ) (cs : List ℕ) → strip_of c p cs ≡ None → NotFirst c cs
 strip_none c p [] e ds h = cc
-strip_none c p (d ∷ more) e ds h =
-    let same : d ≡ c = cc in eqb-false d c (failed (eqb d c) _ e) same
+strip_none c p (d ∷ more) e ds h = grind (arith, eqb-false)
 
 -- a step hands out the first piece, and goes on behind it
 record IsFirstStep (p c : ℕ) (cs : List ℕ) (s : Step) : Type 0 where
@@ -63,16 +45,8 @@ stands_first p c cs s h = record {
 
 -- ---- what comes after what
 
-one_of : (b d : Bool) → IsTrue (b || d) → (b ≡ true) ⊎ (d ≡ true)
-one_of true d h = inl refl
-one_of false true h = inr refl
-one_of false false h = absurd (cc)
-
 brace_is : (c : ℕ) → IsTrue (is_brace c) → (c ≡ open_brace) ⊎ (c ≡ close_brace)
-brace_is c h = elim (one_of (eqb c open_brace) (eqb c close_brace) h) [
-  | inl e ↦ inl (eqb-true c open_brace e)
-  | inr e ↦ inr (eqb-true c close_brace e)
-]
+brace_is c h = grind (arith, eqb-true)
 
 -- a character that is no brace is a literal
 literal_first :
@@ -97,19 +71,14 @@ lone_first p cs no_more (doubled brace) r h = absurd (no_more r h.2)
 lone_first p cs no_more (closed start x end) r h = absurd (closes_opens h.0)
 lone_first p cs no_more (unclosed start x end) r h = absurd (closes_opens h.1)
 lone_first p cs no_more (broken f) r h = absurd (closes_opens h.0)
-lone_first p cs no_more lone_close r h = omega arith
-lone_first p cs no_more (literal d) r h = omega arith
+lone_first p cs no_more k r h = omega arith
 
 -- an opening brace with no second one behind it begins an argument
 closed_first :
     (p : ℕ) (cs : List ℕ) → NotFirst open_brace cs → (k : PieceKind) (r : List ℕ)
     → Shows p open_brace cs k r → 1 ≤ rank k
 closed_first p cs no_more (doubled brace) r h = absurd (no_more r h.2)
-closed_first p cs no_more (closed start x end) r h = omega arith
-closed_first p cs no_more (unclosed start x end) r h = omega arith
-closed_first p cs no_more (broken f) r h = omega arith
-closed_first p cs no_more lone_close r h = omega arith
-closed_first p cs no_more (literal d) r h = omega arith
+closed_first p cs no_more k r h = omega arith
 
 -- no argument stands there that ends in front of a closing brace
 abbrev NotClosed : At → Type 0
@@ -129,10 +98,7 @@ unclosed_first :
     → (k : PieceKind) (r : List ℕ) → Shows p open_brace cs k r → 2 ≤ rank k
 unclosed_first p cs no_more not_closed (doubled brace) r h = absurd (no_more r h.2)
 unclosed_first p cs no_more not_closed (closed start x end) r h = absurd (not_closed x end r h.2)
-unclosed_first p cs no_more not_closed (unclosed start x end) r h = omega arith
-unclosed_first p cs no_more not_closed (broken f) r h = omega arith
-unclosed_first p cs no_more not_closed lone_close r h = omega arith
-unclosed_first p cs no_more not_closed (literal d) r h = omega arith
+unclosed_first p cs no_more not_closed k r h = omega arith
 
 -- ---- the steps
 
@@ -257,21 +223,14 @@ open_first p cs (Some rest) e =
       goes_on = omega (arith, behind.1);
     }
 
--- what holds in each case, where the test is known
-in_each :
-    {A : Type 0} (P : A → Type 0) (b : Bool) (x y : A) → (b ≡ true → P x) → (b ≡ false → P y)
-    → P (cond b x y)
-in_each P true x y h k = h refl
-in_each P false x y h k = k refl
-
 step_first : (p c : ℕ) (cs : List ℕ) → IsFirstStep p c cs (piece_from p c (past p c cs))
 step_first p c cs =
     let opens = λ (n : ℕ). open_step p (past p n cs) (strip open_brace (past p n cs)) in
     let closes = λ (n : ℕ). close_step p (past p n cs) (strip close_brace (past p n cs)) in
-    in_each (IsFirstStep p c cs) (eqb c open_brace) _ _
+    cond_both (eqb c open_brace) _ _ (IsFirstStep p c cs)
     (λ e. subst (λ n. IsFirstStep p n cs (opens n)) (sym (eqb-true c open_brace e))
     (open_first p cs _ refl))
-    (λ no_open. in_each (IsFirstStep p c cs) (eqb c close_brace) _ _
+    (λ no_open. cond_both (eqb c close_brace) _ _ (IsFirstStep p c cs)
     (λ e. subst (λ n. IsFirstStep p n cs (closes n)) (sym (eqb-true c close_brace e))
     (close_first p cs _ refl))
     (λ no_close. literal_step p c cs (eqb-false c open_brace no_open)

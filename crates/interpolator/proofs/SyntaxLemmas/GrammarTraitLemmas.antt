@@ -19,10 +19,10 @@ use Rattle.interpolator.specs.Syntax.Grammar.{from_place}
 use Rattle.interpolator.specs.Syntax.GrammarParts.{Lies}
 use Rattle.interpolator.specs.Syntax.SpecGrammar.{trait_text, MayEnd, AsksDisplay, shown}
 use Rattle.interpolator.specs.Faults.{Fault, parse, expected}
-use Rattle.interpolator.proofs.SyntaxLemmas.GrammarPartLemmas.{none_some, some_same, ok_pair, Says}
-use Rattle.interpolator.proofs.SyntaxLemmas.GrammarPartLemmas.{Agrees, lies_here, lies_cons}
-use Rattle.interpolator.proofs.SyntaxLemmas.GrammarPartLemmas.{lies_end, Stripped, stripped}
-use Rattle.interpolator.proofs.SyntaxLemmas.GrammarPartLemmas.{strip_not}
+use Rattle.interpolator.proofs.SyntaxLemmas.GrammarPartLemmas.{ok_pair, Says, Agrees, lies_here}
+use Rattle.interpolator.proofs.SyntaxLemmas.GrammarPartLemmas.{lies_cons, lies_end, Stripped}
+use Rattle.interpolator.proofs.SyntaxLemmas.GrammarPartLemmas.{stripped, strip_not}
+use Rattle.interpolator.proofs.SyntaxLemmas.TestLemmas.{none_some, some_same}
 
 place_behind : (p : ℕ) → p + 1 + 1 ≡ p + 2
 place_behind p = omega arith
@@ -131,18 +131,18 @@ module _ (start : ℕ) (flagged : Bool) where
         let (h8, not_E) = all_apart 69 (codes "ip") h7 in
         let (h9, not_i) = all_apart 105 (codes "p") h8 in
         let (h10, not_p) = all_apart 112 [] h9 in
-        cond-false (eqb c close_brace) _ _ not_brace
-        ∙ cond-false (eqb c lower_x) _ _ not_x
-        ∙ cond-false (eqb c upper_x) _ _ not_X
-        ∙ ap (lettered c p past) (
-        cond-false (eqb c question_mark) _ _ not_mark
-        ∙ cond-false (eqb c lower_o) _ _ not_o
-        ∙ cond-false (eqb c lower_b) _ _ not_b
-        ∙ cond-false (eqb c lower_e) _ _ not_e
-        ∙ cond-false (eqb c upper_e) _ _ not_E
-        ∙ cond-false (eqb c lower_i) _ _ not_i
-        )
-        ∙ ap Err (cond-false (eqb c lower_p) _ _ not_p)
+        rw (
+          not_brace,
+          not_x,
+          not_X,
+          not_mark,
+          not_o,
+          not_b,
+          not_e,
+          not_E,
+          not_i,
+          not_p,
+        ) refl
       where
         all_apart : (d : ℕ) (ds : List ℕ) → None_of (d ∷ ds) → None_of ds × (eqb c d ≡ false)
         all_apart d ds k = (All-tail (λ n. c ≢ n) d ds k, ne_eqb c d (All-head (λ n. c ≢ n) d ds k))

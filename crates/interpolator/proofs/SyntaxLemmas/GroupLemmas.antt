@@ -1,7 +1,6 @@
 -- Where a group closes.
-use Rattle.std.proofs.Common.{◌≡◌, ℕ, suc, ◌+◌, ◌-◌, ◌<◌, ◌≤◌, Bool, true, false, cond, eqb}
-use Rattle.std.proofs.Common.{not, ◌||◌, IsFalse, List, [], ◌∷◌, ◌++◌, length, take, arith, refl}
-use Rattle.std.proofs.Common.{ap, ◌∙◌, sym, subst, Option, Some, None, append_assoc}
+use Rattle.std.proofs.Common.{◌≡◌, ℕ, suc, ◌+◌, ◌-◌, ◌<◌, ◌≤◌, List, [], ◌∷◌, ◌++◌, length, take}
+use Rattle.std.proofs.Common.{arith, refl, ap, ◌∙◌, sym, subst, Option, Some, None, append_assoc}
 use Rattle.std.proofs.lemmas.List.{append-nil, append_cancel_right, length-append}
 use Rattle.std.proofs.lemmas.Bool.{eqb-true}
 use Rattle.std.proofs.lemmas.Str.{encodes-chars, encodes-append, IsUtf8-take, chars-append}
@@ -18,7 +17,7 @@ use Rattle.interpolator.proofs.SyntaxLemmas.FrontLemmas.{IsRest, front_behind, r
 use Rattle.interpolator.proofs.SyntaxLemmas.FrontLemmas.{cut_at_rest}
 use Rattle.interpolator.specs.Syntax.Grammar.{IsLongest}
 use Rattle.interpolator.proofs.SyntaxLemmas.LongestLemmas.{front_longest}
-use Rattle.interpolator.proofs.SyntaxLemmas.TestLemmas.{none_some, some_same, passed}
+use Rattle.interpolator.proofs.SyntaxLemmas.TestLemmas.{none_some, some_same}
 
 -- ---- signs
 
@@ -26,22 +25,7 @@ use Rattle.interpolator.proofs.SyntaxLemmas.TestLemmas.{none_some, some_same, pa
 pub signs_next : (k p : ℕ) (cs : List ℕ) (q : At) → strip_of hash p cs ≡ Some q
     → behind_signs (suc k) p cs ≡ behind_signs k q.place q.text
 signs_next k p [] q e = absurd (none_some e)
-signs_next k p (c ∷ cs) q e =
-    let t = passed (eqb c hash) _ q e in
-    ap (λ b. cond b (behind_signs k (p + len_utf8 c) cs) None) t.0
-    ∙ ap (λ (a : At). behind_signs k a.place a.text) t.1
-
--- where no sign stands, none is left to skip
-pub signs_none : (k p : ℕ) (cs : List ℕ) → strip_of hash p cs ≡ None → behind_signs (suc k) p cs
-    ≡ None
-signs_none k p [] e = refl
-signs_none k p (c ∷ cs) e = by_test (eqb c hash) e
-  where
-    by_test : (b : Bool)
-        → cond {A = Option At} b (Some (record { place = p + len_utf8 c; text = cs })) None ≡ None
-        → cond b (behind_signs k (p + len_utf8 c) cs) None ≡ None
-    by_test true e = absurd (none_some (sym e))
-    by_test false e = refl
+signs_next k p (c ∷ cs) q e = grind arith
 
 pub one_less : (n i : ℕ) → i < n → n - i ≡ suc (n - (i + 1))
 one_less n i h = omega arith
@@ -50,15 +34,7 @@ one_less n i h = omega arith
 pub signs_size : (cs : List ℕ) → size (front_of (in_class Sign) cs)
     ≡ length (front_of (in_class Sign) cs)
 signs_size [] = refl
-signs_size (c ∷ cs) = by_test (eqb c hash) (eqb-true c hash) (signs_size cs)
-  where
-    by_test : (b : Bool) → (b ≡ true → c ≡ hash) → size (front_of (in_class Sign) cs)
-        ≡ length (front_of (in_class Sign) cs)
-        → size (cond b (c ∷ front_of (in_class Sign) cs) [])
-        ≡ length (cond b (c ∷ front_of (in_class Sign) cs) [])
-    by_test true e h =
-        ap (λ n. len_utf8 n + size (front_of (in_class Sign) cs)) (e refl) ∙ omega arith
-    by_test false e h = refl
+signs_size (c ∷ cs) = grind (arith, eqb-true, signs_size cs)
 
 -- so the bytes of the signs are their count
 pub signs_bytes : (bs cs : List ℕ) → IsUtf8 bs → chars bs ≡ front_of (in_class Sign) cs → length bs
@@ -70,10 +46,6 @@ signs_bytes bs cs u e = sym (size-chars bs u) ∙ ap size e ∙ signs_size cs
 -- a text that closes, behind a front of it
 abbrev pub behind_front : List ℕ → Option (List ℕ × At) → Option (List ℕ × At)
 behind_front front o = option_map (λ w. (front ++ w.0, w.1)) o
-
-front_none : (o : Option (List ℕ × At)) → behind_front [] o ≡ o
-front_none None = refl
-front_none (Some w) = refl
 
 one_more : (front : List ℕ) (c : ℕ) (o : Option (List ℕ × At))
     → behind_front front (here_or_later c None o) ≡ behind_front (front ++ (c ∷ [])) o
@@ -93,58 +65,24 @@ pub close_past : (k p : ℕ) (cs : List ℕ) → close_from k p cs
     ≡ behind_front (enclosed cs) (close_from k (p + size (enclosed cs))
     (behind_of (in_class Enclosed) cs))
 close_past k p [] = refl
-close_past k p (c ∷ cs) = by_test (eqb c close_bracket) refl (close_past k (p + len_utf8 c) cs)
-  where
-    by_test :
-        (b : Bool) → eqb c close_bracket ≡ b
-        → close_from k (p + len_utf8 c) cs
-        ≡ behind_front (enclosed cs) (close_from k (p + len_utf8 c + size (enclosed cs))
-        (behind_of (in_class Enclosed) cs))
-        → close_from k p (c ∷ cs)
-        ≡ behind_front (cond (not (b || b)) (c ∷ enclosed cs) [])
-        (close_from k (p + size (cond (not (b || b)) (c ∷ enclosed cs) []))
-        (cond (not (b || b)) (behind_of (in_class Enclosed) cs) (c ∷ cs)))
-    by_test true e h =
-        let same : p ≡ p + 0 = omega arith in
-        sym (front_none (close_from k p (c ∷ cs)))
-        ∙ ap (λ n. behind_front [] (close_from k n (c ∷ cs))) same
-    by_test false e h =
-        let same : p + len_utf8 c + size (enclosed cs) ≡ p + (len_utf8 c + size (enclosed cs)) =
-        omega arith in
-        ap (λ t. here_or_later c (cond t (behind_signs k (p + len_utf8 c) cs) None)
-        (close_from k (p + len_utf8 c) cs)) e
-        ∙ ap (behind_front (c ∷ [])) h
-        ∙ front_then (c ∷ []) (enclosed cs) (close_from k (p + len_utf8 c + size (enclosed cs))
-        (behind_of (in_class Enclosed) cs))
-        ∙ ap (λ n. behind_front (c ∷ enclosed cs)
-        (close_from k n (behind_of (in_class Enclosed) cs))) same
+close_past k p (c ∷ cs) = grind (arith, append_assoc, close_past k (p + len_utf8 c) cs)
 
 -- where no bracket stands, nothing closes
 none_behind : (k p q : ℕ) (cs rest : List ℕ) → IsLongest (in_class Enclosed) cs (enclosed cs) rest
     → strip_of close_bracket q rest ≡ None → close_from k p rest ≡ None
 none_behind k p q cs [] h e = refl
-none_behind k p q cs (d ∷ ds) h e = by_test (eqb d close_bracket) (h.stops d ds refl) e
-  where
-    by_test :
-        (b : Bool) → IsFalse (not (b || b))
-        → cond {A = Option At} b (Some (record { place = q + len_utf8 d; text = ds })) None
-        ≡ None
-        → close_from k p (d ∷ ds) ≡ None
-    by_test true f n = absurd (none_some (sym n))
-    by_test false f n = let bad : true ≡ false = f in cc
+none_behind k p q cs (d ∷ ds) h e = grind (arith, h.stops d ds refl)
 
 pub close_none : (k : ℕ) (a : At) → next_close a ≡ None → close_from k a.place a.text ≡ None
 close_none k a e =
     close_past k a.place a.text
     ∙ ap (behind_front (enclosed a.text))
     (none_behind k (a.place + size (enclosed a.text)) (a.place + size (enclosed a.text)) a.text
-    (behind_of (in_class Enclosed) a.text)
-    (front_longest (in_class Enclosed) a.text) (no_pair (behind (in_class Enclosed) a)
-    (strip close_bracket (behind (in_class Enclosed) a)) e))
+    (behind_of (in_class Enclosed) a.text) (front_longest (in_class Enclosed) a.text)
+    (no_pair (behind (in_class Enclosed) a) (strip close_bracket (behind (in_class Enclosed) a)) e))
   where
     no_pair : (b : At) (o : Option At) → with_behind b o ≡ None → o ≡ None
-    no_pair b None h = refl
-    no_pair b (Some q) h = absurd (none_some (sym h))
+    no_pair b o h = grind arith
 
 -- a bracket at b, behind which r stands
 pub record Bracket (b r : At) : Type 0 where
@@ -156,17 +94,7 @@ bracket_here : (p : ℕ) (cs : List ℕ) (r : At) → strip_of close_bracket p c
     → Bracket (record { place = p; text = cs }) r
 bracket_here p [] r e = absurd (none_some e)
 bracket_here p (c ∷ cs) r e =
-    let t = passed (eqb c close_bracket) (record { place = p + len_utf8 c; text = cs }) r e in
-    let same = eqb-true c close_bracket t.0 in record {
-      text = ap (λ n. n ∷ cs) same ∙ ap (λ (a : At). close_bracket ∷ a.text) t.1;
-      closes = λ k.
-          ap (λ b. here_or_later c (cond b (behind_signs k (p + len_utf8 c) cs) None)
-          (close_from k (p + len_utf8 c) cs)) t.0
-          ∙ ap (λ (a : At). here_or_later c (behind_signs k a.place a.text)
-          (close_from k a.place a.text)) t.1
-          ∙ ap (λ n. here_or_later n (behind_signs k r.place r.text) (close_from k r.place r.text))
-          same;
-    }
+    record { text = grind (arith, eqb-true); closes = λ k. grind (arith, eqb-true) }
 
 -- the next bracket in the text at h
 pub record Next (h b r : At) : Type 0 where
@@ -174,23 +102,16 @@ pub record Next (h b r : At) : Type 0 where
   pub bracket : Bracket b r
 
 pub next_is : (h b r : At) → next_close h ≡ Some (b, r) → Next h b r
-next_is h b r e = by_strip (strip close_bracket (behind (in_class Enclosed) h)) refl e
-  where
-    by_strip : (o : Option At) → strip close_bracket (behind (in_class Enclosed) h)
-        ≡ o → with_behind (behind (in_class Enclosed) h) o ≡ Some (b, r) → Next h b r
-    by_strip None k g = absurd (none_some g)
-    by_strip (Some q) k g =
-        let pair : (behind (in_class Enclosed) h, q) ≡ (b, r) = some_same g in
-        let first : behind (in_class Enclosed) h ≡ b = ap (λ (w : At × At). w.0) pair in
-        let second : q ≡ r = ap (λ (w : At × At). w.1) pair in
-        let here =
-        bracket_here (behind (in_class Enclosed) h).place (behind (in_class Enclosed) h).text q
-        k in record {
-          is = sym first;
-          bracket =
-              subst (λ x. Bracket x r) first (subst (Bracket (behind (in_class Enclosed) h)) second
-              here);
-        }
+next_is h b r e =
+    let past = behind (in_class Enclosed) h in
+    elim (strip close_bracket past) as (λ o. strip close_bracket past ≡ o
+    → with_behind past o ≡ Some (b, r) → Next h b r) [
+      | None ↦ λ k g. absurd (none_some g)
+      | Some q ↦ λ k g.
+          let here = bracket_here past.place past.text q k in
+          subst (λ (w : At × At). Next h w.0 w.1) (some_same g)
+          (record { is = refl; bracket = here })
+    ] refl e
 
 -- what stands behind it is shorter
 pub next_shorter : (h b r : At) → next_close h ≡ Some (b, r) → length r.text < length h.text
@@ -214,10 +135,6 @@ pub record Reached (k : ℕ) (a h : At) : Type 0 where
   pub front : List ℕ
   pub split : a.text ≡ front ++ h.text
   pub closes : behind_front front (close_from k h.place h.text) ≡ close_from k a.place a.text
-
-pub reached_here : (k : ℕ) (a : At) → Reached k a a
-reached_here k a =
-    record { front = []; split = refl; closes = front_none (close_from k a.place a.text) }
 
 -- nothing closes where no bracket is left
 pub reached_end : (k : ℕ) (a h : At) → Reached k a h → next_close h ≡ None → None

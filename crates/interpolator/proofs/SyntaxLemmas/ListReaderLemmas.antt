@@ -1,7 +1,7 @@
 -- What the readers of a list take, where their faults lie, and how far they look.
-use Rattle.std.proofs.Common.{◌≡◌, ◌≢◌, ℕ, zero, suc, ◌≤◌, Bool, eqb, List, [], ◌∷◌, ◌++◌}
-use Rattle.std.proofs.Common.{length, arith, refl, ap, ◌∙◌, sym, subst, Result, Ok, Err, Option}
-use Rattle.std.proofs.Common.{Some, None, inl, inr, ◌||◌, append_assoc}
+use Rattle.std.proofs.Common.{◌≡◌, ◌≢◌, ℕ, zero, suc, ◌≤◌, Bool, eqb, List, [], ◌∷◌, ◌++◌, length}
+use Rattle.std.proofs.Common.{arith, refl, ap, ◌∙◌, sym, subst, Result, Ok, Err, Option, Some, None}
+use Rattle.std.proofs.Common.{inl, inr, ◌||◌, append_assoc}
 use Rattle.std.specs.Prelude.{ℤ, codes}
 use Rattle.interpolator_render.specs.declared.view.Trait.{Trait}
 use Rattle.interpolator_render.specs.declared.view.Trait.TheVariants as traits
@@ -63,11 +63,8 @@ module _ (start : ℕ) where
 
   -- no closing brace is lost with a point
   point_guards : (cs ds : List ℕ) → cs ≡ point ∷ ds → Guarded cs → Guarded ds
-  point_guards cs ds e guard = by_guard (subst Guarded e guard)
-    where
-      by_guard : Guarded (point ∷ ds) → Guarded ds
-      by_guard (inl same) = absurd (omega (arith, same))
-      by_guard (inr more) = more
+  point_guards cs ds e guard =
+      elim (subst Guarded e guard) [ inl same ↦ absurd (omega (arith, same)) | inr more ↦ more ]
 
   -- behind a point one character more is looked at
   reads_points : Reads start points
@@ -158,18 +155,17 @@ module _ (start : ℕ) where
       (k : ℕ) (a : At) (more : List ℕ)
       → Keeps start a more (closed_group start a.place (close_from k a.place a.text))
       (closed_group start a.place (close_from k a.place (a.text ++ more)))
-  keeps_close k a more = by_close (close_from k a.place a.text) refl
-    where
-      by_close :
-          (o : Option (List ℕ × At)) → close_from k a.place a.text ≡ o
-          → Keeps start a more (closed_group start a.place o)
-          (closed_group start a.place (close_from k a.place (a.text ++ more)))
-      by_close None e = λ from. omega arith
-      by_close (Some w) e =
-          let is = close_is k a.place a.text w e in (
-            close_takes k a w.0 w.1 is,
-            λ guard. ap (closed_group start a.place) (close_with k a.place a.text more w is),
-          )
+  keeps_close k a more =
+      elim (close_from k a.place a.text) as (λ o. close_from k a.place a.text ≡ o
+      → Keeps start a more (closed_group start a.place o)
+      (closed_group start a.place (close_from k a.place (a.text ++ more)))) [
+        | None ↦ λ e from. omega arith
+        | Some w ↦ λ e.
+            let is = close_is k a.place a.text w e in (
+              close_takes k a w.0 w.1 is,
+              λ guard. ap (closed_group start a.place) (close_with k a.place a.text more w is),
+            )
+      ] refl
 
   reads_bracket : (k : ℕ) → Reads start (bracket_at start k)
   reads_bracket k =

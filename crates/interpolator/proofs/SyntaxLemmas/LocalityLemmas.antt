@@ -131,11 +131,11 @@ module _ {A : Type 0} (start : ℕ) (f : Reader A) where
 
   -- what a reader keeps at a
   pub keeps_by : Reads start f → (a : At) (more : List ℕ) → KeepsAt start f a more
-  keeps_by h a more = by_answer (f a) refl
-    where
-      by_answer : (o : Result (A × At) Fault) → f a ≡ o → behind_it a more o
-      by_answer (Ok w) e = (h.takes a w.0 w.1 e, h.same a more w.0 w.1 e)
-      by_answer (Err d) e = λ from. h.refuses a d from e
+  keeps_by h a more =
+      elim (f a) as (λ o. f a ≡ o → behind_it a more o) [
+        | Ok w ↦ λ e. (h.takes a w.0 w.1 e, h.same a more w.0 w.1 e)
+        | Err d ↦ λ e from. h.refuses a d from e
+      ] refl
 
 module _ {A : Type 0} (start : ℕ) (a : At) (more : List ℕ) where
   -- nothing is taken

@@ -193,25 +193,6 @@ keeps_spec :
 unfolding spec_behind
 keeps_spec start a more h = keeps_spec_of start a.place a.text more h
 
--- what a spec takes is a front of the text
-pub spec_takes :
-    (start : ℕ) (a : At) (x : Asked) (q : At) → spec_behind start a ≡ Ok (x, q) → Takes a q
-spec_takes start a = kept_takes start (spec_behind start) a (keeps_spec start a [] (λ e. refl))
-
--- why none can be read is a fault in the text
-pub spec_refuses :
-    (start : ℕ) (a : At) (d : Fault) → start ≤ a.place → spec_behind start a ≡ Err d
-    → fault_place d ≤ a.place + size a.text
-spec_refuses start a = kept_refuses start (spec_behind start) a (keeps_spec start a [] (λ e. refl))
-
--- a spec is the same whatever comes behind the text, but for an alignment behind a `}` alone
-pub spec_same :
-    (start : ℕ) (a : At) (more : List ℕ) (x : Asked) (q : At) → spec_behind start a ≡ Ok (x, q)
-    → Guarded q.text → NoFill a.text more
-    → spec_behind start (with_more a more) ≡ Ok (x, with_more q more)
-spec_same start a more x q e guard h =
-    kept_same start (spec_behind start) a more (keeps_spec start a more h) x q e guard
-
 -- ---- arguments
 
 -- what stands behind the name of the argument at a

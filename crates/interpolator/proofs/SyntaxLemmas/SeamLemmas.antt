@@ -1,8 +1,7 @@
 -- The pieces of a text that has another behind it.
-use Rattle.std.proofs.Common.{◌≡◌, ◌≢◌, ℕ, zero, suc, ◌+◌, ◌-◌, ◌≤◌, Bool, true, false, cond, eqb}
-use Rattle.std.proofs.Common.{List, [], ◌∷◌, ◌++◌, length, take, arith, refl, ap, ◌∙◌, sym, subst}
-use Rattle.std.proofs.Common.{Result, Ok, Err, Option, Some, None, inl, append_assoc, append-nil}
-use Rattle.std.proofs.Common.{length-append}
+use Rattle.std.proofs.Common.{◌≡◌, ◌≢◌, ℕ, zero, suc, ◌+◌, ◌-◌, ◌≤◌, Bool, true, false, List, []}
+use Rattle.std.proofs.Common.{◌∷◌, ◌++◌, length, take, arith, refl, ap, ◌∙◌, sym, subst, Result, Ok}
+use Rattle.std.proofs.Common.{Err, Option, Some, None, inl, append_assoc, append-nil, length-append}
 use Rattle.std.specs.Prelude.{not}
 use Rattle.std.specs.Char.{len_utf8}
 use Rattle.std.proofs.lemmas.List.{take-append-le}
@@ -12,17 +11,16 @@ use Rattle.interpolator.specs.Syntax.Readers.{on, give}
 use Rattle.interpolator.specs.Syntax.SpecTexts.{begins_alignment, plain_display, spec_behind}
 use Rattle.interpolator.specs.Syntax.Arguments.{Argument, argument, asked_at, argument_at}
 use Rattle.interpolator.specs.Faults.{Fault}
-use Rattle.interpolator.specs.Syntax.Pieces.{Piece, Step, closed, literal, step, text_up_to}
-use Rattle.interpolator.specs.Syntax.Pieces.{argument_step, argument_or_broken, argument_from}
-use Rattle.interpolator.specs.Syntax.Pieces.{open_step, close_step, piece_from, past, pieces}
+use Rattle.interpolator.specs.Syntax.Pieces.{Piece, Step, closed, step, text_up_to, argument_step}
+use Rattle.interpolator.specs.Syntax.Pieces.{argument_or_broken, argument_from, open_step}
+use Rattle.interpolator.specs.Syntax.Pieces.{close_step, piece_from, past, pieces}
 use Rattle.interpolator.specs.Syntax.Seams.{ends_empty_spec, closed_ending, piece_ending}
 use Rattle.interpolator.specs.Syntax.Seams.{last_ending, ending, begins_close, may_follow}
 use Rattle.interpolator.specs.declared.syntax.class.Class.TheVariants.{WhiteSpace, Name}
 use Rattle.interpolator.specs.declared.parts.Ending.{Ending}
-use Rattle.interpolator.specs.declared.parts.Ending.TheVariants.{Settled, EmptySpec}
-use Rattle.interpolator.specs.declared.parts.Ending.TheVariants.{Open}
+use Rattle.interpolator.specs.declared.parts.Ending.TheVariants.{Settled, EmptySpec, Open}
 use Rattle.interpolator.proofs.SyntaxLemmas.FrontLemmas.{IsRest, cut_at_rest}
-use Rattle.interpolator.proofs.SyntaxLemmas.TestLemmas.{none_some, passed}
+use Rattle.interpolator.proofs.SyntaxLemmas.TestLemmas.{none_some, tail_same}
 use Rattle.interpolator.proofs.SyntaxLemmas.LocalityLemmas.{stands, with_more, Takes, takes_then}
 use Rattle.interpolator.proofs.SyntaxLemmas.LocalityLemmas.{takes_behind, Guarded}
 use Rattle.interpolator.proofs.SyntaxLemmas.ReaderLemmas.{name_end, NoFillBehind, argument_takes}
@@ -30,7 +28,8 @@ use Rattle.interpolator.proofs.SyntaxLemmas.ReaderLemmas.{argument_same}
 use Rattle.interpolator.proofs.SyntaxLemmas.GrammarLemmas.{same_ok}
 use Rattle.interpolator.proofs.SyntaxLemmas.GrammarPieceLemmas.{step_reaches}
 use Rattle.interpolator.proofs.SyntaxLemmas.PieceLemmas.{piece_within, pieces_none, pieces_next}
-use Rattle.interpolator.proofs.SyntaxLemmas.EndingLemmas.{tail_same, ends_append, strip_text}
+use Rattle.interpolator.proofs.SyntaxLemmas.PieceLemmas.{strip_behind}
+use Rattle.interpolator.proofs.SyntaxLemmas.EndingLemmas.{ends_append}
 
 -- a text behind one that ends so leaves its pieces as they are
 abbrev pub Leaves : Ending → List ℕ → Type 0
@@ -42,23 +41,16 @@ strip_more :
     (c p : ℕ) (cs more : List ℕ) (r : At) → strip_of c p cs ≡ Some r
     → strip_of c p (cs ++ more) ≡ Some (with_more r more)
 strip_more c p [] more r e = absurd (none_some e)
-strip_more c p (d ∷ ds) more r e =
-    let t = passed (eqb d c) _ r e in
-    rw t.0 (ap (λ (x : At). Some (with_more x more)) t.1)
-
-not_passed : {A : Type 0} (b : Bool) (x : A) → cond b (Some x) None ≡ None → b ≡ false
-not_passed true x e = absurd (none_some (sym e))
-not_passed false x e = refl
+strip_more c p (d ∷ ds) more r e = grind arith
 
 strip_none_more :
     (c p : ℕ) (cs more : List ℕ) → strip_of c p cs ≡ None → cs ≢ []
     → strip_of c p (cs ++ more) ≡ None
 strip_none_more c p [] more e h = absurd (h refl)
-strip_none_more c p (d ∷ ds) more e h = rw (not_passed (eqb d c) _ e) refl
+strip_none_more c p (d ∷ ds) more e h = grind arith
 
 not_true : (b : Bool) → not b ≡ true → b ≡ false
-not_true true e = absurd (cc)
-not_true false e = refl
+not_true b e = grind arith
 
 no_close : (p : ℕ) (more : List ℕ) → begins_close more ≡ false → strip_of close_brace p more ≡ None
 no_close p [] h = refl
@@ -155,7 +147,7 @@ module _ (p : ℕ) (b : At) (more : List ℕ) where
       ≡ step_more (argument_step p b x q (Some r)) more
   closed_more x q r e d g =
       let front = argument_takes b x q e in
-      let closes = strip_text close_brace q.place q.text r d in
+      let closes = (strip_behind close_brace q.place q.text r d).0 in
       let whole = front.split ∙ ap (λ cs. front.front ++ cs) closes in
       let same = closed_same b more x q r.text e closes (λ none ends.
       empty_leaves (open_brace ∷ b.text) more (ends_behind open_brace b.text ends)
@@ -224,21 +216,12 @@ module _ (p : ℕ) (more : List ℕ) where
   piece_more :
       (c q : ℕ) (cs : List ℕ) → Goes (piece_from p c (stands q cs)) more
       → piece_from p c (stands q (cs ++ more)) ≡ step_more (piece_from p c (stands q cs)) more
-  piece_more c q cs g = by_tests (eqb c open_brace) (eqb c close_brace) g
-    where
-      by_tests : (t u : Bool)
-          → Goes (cond t (open_step p (stands q cs) (strip_of open_brace q cs))
-          (cond u (close_step p (stands q cs) (strip_of close_brace q cs))
-          (step p (c ∷ []) (literal c) (stands q cs)))) more
-          → cond t (open_step p (stands q (cs ++ more)) (strip_of open_brace q (cs ++ more)))
-          (cond u (close_step p (stands q (cs ++ more)) (strip_of close_brace q (cs ++ more)))
-          (step p (c ∷ []) (literal c) (stands q (cs ++ more))))
-          ≡ step_more (cond t (open_step p (stands q cs) (strip_of open_brace q cs))
-          (cond u (close_step p (stands q cs) (strip_of close_brace q cs))
-          (step p (c ∷ []) (literal c) (stands q cs)))) more
-      by_tests true u k = open_more q cs (strip_of open_brace q cs) refl k
-      by_tests false true k = close_more q cs (strip_of close_brace q cs) refl k
-      by_tests false false k = refl
+  piece_more c q cs g =
+      grind (
+        arith,
+        open_more q cs (strip_of open_brace q cs) refl,
+        close_more q cs (strip_of close_brace q cs) refl,
+      )
 
 -- ---- whole texts
 

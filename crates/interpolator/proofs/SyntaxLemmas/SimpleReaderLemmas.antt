@@ -1,9 +1,9 @@
 -- What the readers keep that the parts of an argument are made of.
-use Rattle.std.proofs.Common.{◌≡◌, ℕ, ◌+◌, Bool, true, false, cond, List, [], ◌∷◌, ◌++◌, arith}
-use Rattle.std.proofs.Common.{refl, ap, ◌∙◌, sym, Result, Ok, Option, Some, None}
+use Rattle.std.proofs.Common.{◌≡◌, ℕ, ◌+◌, Bool, false, List, [], ◌∷◌, ◌++◌, arith, refl, ap, ◌∙◌}
+use Rattle.std.proofs.Common.{sym, Result, Ok, Option, Some, None}
 use Rattle.interpolator.specs.Syntax.At.{At, size, behind}
 use Rattle.interpolator.specs.Syntax.Classes.{front_of, behind_of, in_class}
-use Rattle.interpolator.specs.Syntax.Readers.{give, here, span, read_or_stay, letter_first, letter}
+use Rattle.interpolator.specs.Syntax.Readers.{give, span, read_or_stay, letter_first, letter}
 use Rattle.interpolator.specs.Syntax.Readers.{was_there, flag, run_before, run}
 use Rattle.interpolator.specs.Faults.{Fault}
 use Rattle.interpolator.specs.declared.syntax.class.Class.{Class}
@@ -24,24 +24,12 @@ module _ (passes : ℕ → Bool) where
   -- where a closing brace is left, it is the same whatever comes behind the text
   pub same_front : (cs more : List ℕ) → Guarded (behind_of passes cs) → SameFront cs more
   same_front [] more guard = absurd guard
-  same_front (c ∷ cs) more guard = by_test (passes c) guard (same_front cs more)
-    where
-      by_test :
-          (t : Bool) → Guarded (cond t (behind_of passes cs) (c ∷ cs))
-          → (Guarded (behind_of passes cs) → SameFront cs more)
-          → (cond t (c ∷ front_of passes (cs ++ more)) [] ≡ cond t (c ∷ front_of passes cs) [])
-          × (cond t (behind_of passes (cs ++ more)) (c ∷ (cs ++ more))
-          ≡ cond t (behind_of passes cs) (c ∷ cs) ++ more)
-      by_test true h further = let k = further h in (ap (λ xs. c ∷ xs) k.0, k.1)
-      by_test false h further = (refl, refl)
+  same_front (c ∷ cs) more guard = grind (arith, same_front cs more)
 
 -- ---- the readers
 
 pub reads_give : {A : Type 0} (start : ℕ) (x : A) → Reads start (give x)
 reads_give start x = reads_by start (give x) (λ a more. keeps_stay start a more x)
-
-pub reads_here : (start : ℕ) → Reads start here
-reads_here start = reads_by start here (λ a more. keeps_stay start a more a.place)
 
 module _ (start : ℕ) (passes : ℕ → Bool) (a : At) (more : List ℕ) where
   abbrev past_front : List ℕ → List ℕ → At

@@ -123,16 +123,20 @@ module _ (a : At) where
   behind_any Q f g h k = then_holds Any Q f g h (λ x u. k x)
 
   any_by : {A : Type 0} (start : ℕ) (f : Reader A) → Reads start f → Holds Any f
-  any_by {A = A} start f reads b t = by_answer (f b) refl
-    where
-      by_answer : (o : Result (A × At) Fault) → f b ≡ o → Held Any o
-      by_answer (Ok w) e = (takes_then a b w.1 t (reads.takes b w.0 w.1 e), tt)
-      by_answer (Err d) e = tt
+  any_by start f reads b t =
+      elim (f b) as (λ o. f b ≡ o → Held Any o)
+      [ Ok w ↦ λ e. (takes_then a b w.1 t (reads.takes b w.0 w.1 e), tt) | Err d ↦ λ e. tt ] refl
 
   -- ---- groups
 
   group_holds : (start : ℕ) → Holds (λ g. GroupIn g a) (group_at start)
-  group_holds start b t = by_answer (group_at start b) refl
+  group_holds start b t =
+      elim (group_at start b) as (λ o. group_at start b ≡ o → Held (λ g. GroupIn g a) o) [
+        | Ok w ↦ λ e.
+            let h = by_parts w.0 w.1 (group_is start b w.0 w.1 e) in
+            (takes_then a b w.1 t h.0, group_grows w.0 a b t h.1)
+        | Err d ↦ λ e. tt
+      ] refl
     where
       by_parts : (g : Group) (q : At) → IsGroup b g q → Takes b q × GroupIn g b
       by_parts g q h =
@@ -166,13 +170,6 @@ module _ (a : At) where
                   );
             },
           )
-
-      by_answer : (o : Result (Group × At) Fault) → group_at start b ≡ o
-          → Held (λ g. GroupIn g a) o
-      by_answer (Ok w) e =
-          let h = by_parts w.0 w.1 (group_is start b w.0 w.1 e) in
-          (takes_then a b w.1 t h.0, group_grows w.0 a b t h.1)
-      by_answer (Err d) e = tt
 
   group_if_holds : (start : ℕ) → Holds (λ o. GroupIfIn o a) (group_if start)
   group_if_holds start b t = by_first (first b)

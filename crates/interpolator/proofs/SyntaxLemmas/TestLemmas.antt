@@ -1,6 +1,5 @@
--- Options, results, and values that a test chooses.
-use Rattle.std.proofs.Common.{◌≡◌, Bool, true, false, cond, refl, None, Some, Result, Ok}
-use Rattle.std.proofs.Common.{Err}
+-- Options, results, lists by their first item, and values that a test chooses.
+use Rattle.std.proofs.Common.{◌≡◌, Bool, true, false, cond, None, Some, Result, Ok, Err, List, ◌∷◌}
 
 pub none_some : {A : Type 0} {x : A} → None ≡ Some x → ⊥
 none_some e = cc
@@ -14,11 +13,14 @@ err_ok e = cc
 pub ok_same : {A B : Type 0} {x y : A} → ◌≡◌ {A = Result A B} (Ok x) (Ok y) → x ≡ y
 ok_same e = cc
 
--- a test that gave something passed
-pub passed :
-    {A : Type 0} (b : Bool) (x y : A) → cond b (Some x) None ≡ Some y → (b ≡ true) × (x ≡ y)
-passed true x y e = (refl, some_same e)
-passed false x y e = absurd (none_some e)
+pub err_same : {A B : Type 0} {x y : B} → ◌≡◌ {A = Result A B} (Err x) (Err y) → x ≡ y
+err_same e = cc
+
+pub head_same : {A : Type 0} {x y : A} {xs ys : List A} → x ∷ xs ≡ y ∷ ys → x ≡ y
+head_same e = cc
+
+pub tail_same : {A : Type 0} {x y : A} {xs ys : List A} → x ∷ xs ≡ y ∷ ys → xs ≡ ys
+tail_same e = cc
 
 -- what holds in both cases
 pub in_both : {A : Type 0} (P : A → Type 0) (b : Bool) (x y : A) → P x → P y → P (cond b x y)

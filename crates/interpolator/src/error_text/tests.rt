@@ -49,6 +49,7 @@ fn errors_print_their_texts(rt: HostRuntime) -> Result<(), Fail> {
     ];
     for (error, text, debug) in rows {
         assert_eq!(rt; error.to_string(alloc)?.as_str(), text);
+        assert_eq!(rt; format!(in alloc; "{error:>+#120.3}")?.as_str(), text);
         assert_eq!(rt; format!(in alloc; "{error:?}")?.as_str(), debug);
         let copy = error.try_clone(alloc)?;
         assert!(rt; copy == error, "the copy of {error}");
@@ -98,6 +99,7 @@ fn parse_errors_print_their_texts(rt: HostRuntime) -> Result<(), Fail> {
     ];
     for (fault, text, debug) in rows {
         assert_eq!(rt; fault.to_string(alloc)?.as_str(), text);
+        assert_eq!(rt; format!(in alloc; "{fault:>+#120.3}")?.as_str(), text);
         assert_eq!(rt; format!(in alloc; "{fault:?}")?.as_str(), debug);
         let parsed = Error::from(fault).to_string(alloc)?;
         let whole = format!(in alloc; "error while parsing input: {fault}")?;
@@ -133,6 +135,7 @@ fn numbers_and_traits_print_their_names(rt: HostRuntime) -> Result<(), Fail> {
     ];
     for (fault, text, debug) in numbers {
         assert_eq!(rt; fault.to_string(alloc)?.as_str(), text);
+        assert_eq!(rt; format!(in alloc; "{fault:>+#120.3}")?.as_str(), text);
         assert_eq!(rt; format!(in alloc; "{fault:?}")?.as_str(), debug);
     }
     let traits = [

@@ -1,43 +1,94 @@
-//! Whole numbers in a format.
-ghost use Rattle.std.specs.Prelude.{◌≡◌, ◌+◌, ◌^◌, ◌≤◌, IfOk};
-ghost use Rattle.std.specs.Str.{chars};
-ghost use Rattle.interpolator.specs.Syntax.Numbers.{digits_behind, natural, negated, integer};
+//! Whole numbers in a format. A number is the longest run of ASCII digits and `-`.
+ghost use Rattle.std.specs.Prelude.{◌≡◌, ◌+◌, ◌^◌, ◌<◌, ◌≤◌, length, true, [], ◌∷◌};
+ghost use Rattle.std.specs.Prelude.{IfOk, IfSome, MatchOption};
+ghost use Rattle.interpolator.specs.Syntax.At.{at, behind};
+ghost use Rattle.interpolator.specs.Syntax.Classes.{in_class, front_of};
+ghost use Rattle.interpolator.specs.Syntax.Numbers.{digits_behind, natural, negated, negative};
+ghost use Rattle.interpolator.specs.Syntax.Numbers.{integer};
+ghost use Rattle.interpolator.specs.declared.syntax.class.Class.TheVariants.{Number};
 
 use crate::error::NumberError;
-use crate::syntax::class::split_first;
+use crate::syntax::class::{Class, split_first};
+use crate::syntax::cursor::Cursor;
 
-/// The number of these digits, which is at most `most`.
+/// The first character of the run here, and what stands behind it.
 #[inline(always)]
-fn parse_digits(text: &str, most: usize, overflow: NumberError) -> Result<usize, NumberError>
+fn next_of_run(here: Cursor<'_>) -> Option<(char, Cursor<'_>)>
+    ensures member { IfSome result (λ r. in_class Number r.0 ≡ true) }
+    ensures run { MatchOption result (front_of (in_class Number) (at here.entry).text ≡ [])
+        (λ r. front_of (in_class Number) (at here.entry).text
+        ≡ r.0 ∷ front_of (in_class Number) (at r.1).text) }
+    ensures behind { MatchOption result (behind (in_class Number) (at here.entry) ≡ at here.entry)
+        (λ r. behind (in_class Number) (at here.entry) ≡ behind (in_class Number) (at r.1)) }
+    ensures shorter { IfSome result (λ r. length r.1.rest.now < length here.entry.rest.now) }
+{
+    let (c, rest) = split_first(here.rest)?;
+    if c != '-' && !c.is_ascii_digit() {
+        return None;
+    }
+    let behind = Cursor {
+        place: here.place + 1,
+        rest,
+    };
+    Some((c, behind))
+}
+
+/// The number of the digits of the run here, which is at most `most`. Goes behind the run, or
+/// behind the character that makes it none.
+#[inline(always)]
+fn read_digits(
+    here: Cursor<'_>,
+    most: usize,
+    overflow: NumberError,
+) -> (Result<usize, NumberError>, Cursor<'_>)
     requires room { 9 ≤ most }
-    ensures number { result ≡ digits_behind (most + 1) overflow 0 (chars text.now) }
-    ensures in_range { IfOk result (λ n. n ≤ most) }
+    ensures number { result.0
+        ≡ digits_behind (most + 1) overflow 0 (front_of (in_class Number) (at here.entry).text) }
+    ensures in_range { IfOk result.0 (λ n. n ≤ most) }
+    ensures ends { IfOk result.0 (λ n. at result.1 ≡ behind (in_class Number) (at here.entry)) }
+    ensures behind { behind (in_class Number) (at result.1)
+        ≡ behind (in_class Number) (at here.entry) }
 {
     let mut n: usize = 0;
-    let mut rest = text;
-    while let Some((c, after)) = split_first(rest) {
-        if !c.is_ascii_digit() {
-            return Err(NumberError::InvalidDigit);
+    let mut rest = here;
+    while let Some((c, after)) = next_of_run(rest) {
+        if c == '-' {
+            return (Err(NumberError::InvalidDigit), after);
         }
         let digit = c as usize - 48;
         if n > (most - digit) / 10 {
-            return Err(overflow);
+            return (Err(overflow), after);
         }
         n = n * 10 + digit;
         rest = after;
     }
-    Ok(n)
+    (Ok(n), rest)
 }
 
-/// The number that a text spells.
+/// What stands behind the run here.
 #[inline(always)]
-pub(crate) fn parse_natural(text: &str) -> Result<usize, NumberError>
-    ensures { result ≡ natural (chars text.now) }
+fn skip_run(here: Cursor<'_>) -> Cursor<'_>
+    ensures { at result ≡ behind (in_class Number) (at here.entry) }
 {
-    if split_first(text).is_none() {
-        return Err(NumberError::Empty);
+    let (_, rest) = here.take_class(Class::Number);
+    rest
+}
+
+/// The number that the run here spells, and what stands behind the run.
+#[inline(always)]
+pub(crate) fn take_natural(here: Cursor<'_>) -> (Result<usize, NumberError>, Cursor<'_>)
+    ensures number { result.0 ≡ natural (front_of (in_class Number) (at here.entry).text) }
+    ensures behind { at result.1 ≡ behind (in_class Number) (at here.entry) }
+{
+    match read_digits(here, usize::MAX, NumberError::PosOverflow) {
+        (Ok(n), rest) => {
+            if rest.place == here.place {
+                return (Err(NumberError::Empty), rest);
+            }
+            (Ok(n), rest)
+        }
+        (Err(kind), stop) => (Err(kind), skip_run(stop)),
     }
-    parse_digits(text, usize::MAX, NumberError::PosOverflow)
 }
 
 /// A number taken from zero, as far as an `isize` goes.
@@ -52,25 +103,58 @@ fn negate(n: usize) -> isize
     -1 - (n - 1) as isize
 }
 
-/// The number that a text spells, which may have a `-` in front.
+/// The number that a run spells behind its `-`. Goes behind the run, or behind the character that
+/// makes it none.
 #[inline(always)]
-pub(crate) fn parse_integer(text: &str) -> Result<isize, NumberError>
-    ensures { result ≡ integer (chars text.now) }
+fn read_negative(here: Cursor<'_>) -> (Result<isize, NumberError>, Cursor<'_>)
+    ensures number { result.0 ≡ negative (front_of (in_class Number) (at here.entry).text) }
+    ensures ends { IfOk result.0 (λ n. at result.1 ≡ behind (in_class Number) (at here.entry)) }
+    ensures behind { behind (in_class Number) (at result.1)
+        ≡ behind (in_class Number) (at here.entry) }
 {
-    match split_first(text) {
-        None => Err(NumberError::Empty),
-        Some(('-', digits)) => {
-            if split_first(digits).is_none() {
-                return Err(NumberError::InvalidDigit);
+    match read_digits(here, 1 << 63, NumberError::NegOverflow) {
+        (Ok(n), rest) => {
+            if rest.place == here.place {
+                return (Err(NumberError::InvalidDigit), rest);
             }
-            match parse_digits(digits, 1 << 63, NumberError::NegOverflow) {
-                Ok(n) => Ok(negate(n)),
-                Err(kind) => Err(kind),
-            }
+            (Ok(negate(n)), rest)
         }
-        Some(_) => match parse_digits(text, isize::MAX as usize, NumberError::PosOverflow) {
-            Ok(n) => Ok(n as isize),
-            Err(kind) => Err(kind),
-        },
+        (Err(kind), stop) => (Err(kind), stop),
+    }
+}
+
+/// The number that the run here spells, which may have a `-` in front. Goes behind the run, or
+/// behind the character that makes it none.
+#[inline(always)]
+fn read_integer(here: Cursor<'_>) -> (Result<isize, NumberError>, Cursor<'_>)
+    ensures number { result.0 ≡ integer (front_of (in_class Number) (at here.entry).text) }
+    ensures ends { IfOk result.0 (λ n. at result.1 ≡ behind (in_class Number) (at here.entry)) }
+    ensures behind { behind (in_class Number) (at result.1)
+        ≡ behind (in_class Number) (at here.entry) }
+{
+    if let Some(digits) = here.strip(b'-') {
+        return read_negative(digits);
+    }
+    match read_digits(here, isize::MAX as usize, NumberError::PosOverflow) {
+        (Ok(n), rest) => {
+            if rest.place == here.place {
+                return (Err(NumberError::Empty), rest);
+            }
+            (Ok(n as isize), rest)
+        }
+        (Err(kind), stop) => (Err(kind), stop),
+    }
+}
+
+/// The number that the run here spells, which may have a `-` in front, and what stands behind the
+/// run.
+#[inline(always)]
+pub(crate) fn take_integer(here: Cursor<'_>) -> (Result<isize, NumberError>, Cursor<'_>)
+    ensures number { result.0 ≡ integer (front_of (in_class Number) (at here.entry).text) }
+    ensures behind { at result.1 ≡ behind (in_class Number) (at here.entry) }
+{
+    match read_integer(here) {
+        (Ok(n), rest) => (Ok(n), rest),
+        (Err(kind), stop) => (Err(kind), skip_run(stop)),
     }
 }

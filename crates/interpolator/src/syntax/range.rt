@@ -6,9 +6,8 @@ ghost use Rattle.interpolator.specs.Syntax.SpecReads.{part_read};
 
 use crate::error::ParseError;
 use crate::syntax::broken::Broken;
-use crate::syntax::class::Class;
 use crate::syntax::cursor::Cursor;
-use crate::syntax::number::parse_integer;
+use crate::syntax::number::take_integer;
 
 /// Which items of a list are written, by their indexes.
 ///
@@ -39,10 +38,10 @@ fn take_bound(here: Cursor<'_>, start: usize) -> Result<(Option<isize>, Cursor<'
             if !c.is_ascii_digit() && c != '-' {
                 return Ok((None, here));
             }
-            let (text, rest) = here.take_class(Class::Number);
+            let (number, rest) = take_integer(here);
             match rest.next() {
                 None => Err(Broken::Text(ParseError::FormatSpecUnclosed(start))),
-                Some(_) => match parse_integer(text) {
+                Some(_) => match number {
                     Ok(n) => Ok((Some(n), rest)),
                     Err(kind) => Err(Broken::Text(ParseError::RangeBound(kind, here.place))),
                 },

@@ -12,10 +12,9 @@ ghost use Rattle.interpolator_render.specs.declared.view.Sign.TheVariants as sig
 use crate::error::ParseError;
 use crate::syntax::argument::{Argument, Kind};
 use crate::syntax::broken::Broken;
-use crate::syntax::class::Class;
 use crate::syntax::cursor::Cursor;
 use crate::syntax::list::take_list;
-use crate::syntax::number::parse_natural;
+use crate::syntax::number::take_natural;
 use interpolator_render::{Alignment, HexDebug, Sign, Spec, Trait};
 
 /// The alignment that stands here.
@@ -68,10 +67,10 @@ fn take_width(here: Cursor<'_>, start: usize) -> Result<(Option<usize>, Cursor<'
             if !c.is_ascii_digit() {
                 return Ok((None, here));
             }
-            let (text, rest) = here.take_class(Class::Number);
+            let (number, rest) = take_natural(here);
             match rest.next() {
                 None => Err(Broken::Text(ParseError::FormatSpecUnclosed(start))),
-                Some(_) => match parse_natural(text) {
+                Some(_) => match number {
                     Ok(n) => Ok((Some(n), rest)),
                     Err(kind) => Err(Broken::Text(ParseError::InvalidWidth(kind, here.place))),
                 },
@@ -87,14 +86,14 @@ fn take_precision(here: Cursor<'_>, start: usize) -> Result<(Option<usize>, Curs
 {
     match here.strip(b'.') {
         None => Ok((None, here)),
-        Some(number) => {
-            let (text, rest) = number.take_class(Class::Number);
+        Some(digits) => {
+            let (number, rest) = take_natural(digits);
             match rest.next() {
                 None => Err(Broken::Text(ParseError::FormatSpecUnclosed(start))),
-                Some(_) => match parse_natural(text) {
+                Some(_) => match number {
                     Ok(n) => Ok((Some(n), rest)),
                     Err(kind) => {
-                        Err(Broken::Text(ParseError::InvalidPrecision(kind, number.place)))
+                        Err(Broken::Text(ParseError::InvalidPrecision(kind, digits.place)))
                     }
                 },
             }

@@ -77,7 +77,7 @@ const FULL: Spec = Spec {
 /// Worked by hand from the rules of arguments and specs in docs/DEFINITIONS.md; the places count
 /// bytes from the beginning of the text.
 #[rattlefmt::skip]
-pub(crate) const READ: [Reading<'static>; 19] = [
+pub(crate) const READ: [Reading<'static>; 20] = [
     Reading { text: "{x}", start: 1, name: "x", name_place: 1, spec: PLAIN, t: Trait::Display, end: 2 },
     Reading { text: "{ x }", start: 1, name: "x ", name_place: 2, spec: PLAIN, t: Trait::Display, end: 4 },
     Reading { text: "{}", start: 1, name: "", name_place: 1, spec: PLAIN, t: Trait::Display, end: 1 },
@@ -97,6 +97,7 @@ pub(crate) const READ: [Reading<'static>; 19] = [
     Reading { text: "{日本:-007?}", start: 1, name: "日本", name_place: 1, spec: Spec { sign: Sign::Minus, zero: true, width: Some(7), ..PLAIN }, t: Trait::Debug, end: 13 },
     Reading { text: "{a}{b:o}", start: 4, name: "b", name_place: 4, spec: PLAIN, t: Trait::Octal, end: 7 },
     Reading { text: "{a}{b:o}", start: 5, name: "", name_place: 5, spec: PLAIN, t: Trait::Octal, end: 7 },
+    Reading { text: "{\u{3000}\u{a0}x}", start: 1, name: "x", name_place: 6, spec: PLAIN, t: Trait::Display, end: 7 },
 ];
 
 /// A list of which nothing more is asked.
@@ -114,7 +115,7 @@ const LIST: Listing<'static> = Listing {
 
 /// Worked by hand, as the rows above.
 #[rattlefmt::skip]
-pub(crate) const LISTS: [Listing<'static>; 27] = [
+pub(crate) const LISTS: [Listing<'static>; 28] = [
     Listing { text: "{h:i}", end: 4, ..LIST },
     Listing { text: "{h:i.}", end: 4, ..LIST },
     Listing { text: "{h:i.1}", end: 4, ..LIST },
@@ -139,6 +140,7 @@ pub(crate) const LISTS: [Listing<'static>; 27] = [
     Listing { text: "{h:i(`{:+05}`)#() )#}", item: Some(Inner { text: "`{:+05}`", place: 5 }), join: Some(Inner { text: ") ", place: 16 }), end: 20, ..LIST },
     Listing { text: "{h:i(a)(b)(c)}", item: Some(Inner { text: "a", place: 5 }), join: Some(Inner { text: "b", place: 8 }), end: 10, ..LIST },
     Listing { text: "{h:i(a)#(b)##}", item: Some(Inner { text: "a", place: 5 }), join: Some(Inner { text: "b", place: 9 }), end: 12, ..LIST },
+    Listing { text: "{h:i####(a)#####(b)####}", item: Some(Inner { text: "a", place: 9 }), join: Some(Inner { text: "b", place: 17 }), end: 20, ..LIST },
     Listing { text: "{h:>6i1..=-1({})(,)}", spec: Spec { alignment: Alignment::Right, width: Some(6), ..PLAIN }, range: Some(Bounds { lower: Some(1), inclusive: true, upper: Some(-1) }), item: Some(Inner { text: "{}", place: 13 }), join: Some(Inner { text: ",", place: 17 }), end: 19, ..LIST },
     Listing { text: "{h:+#0.3i", spec: Spec { sign: Sign::Plus, alternate: true, zero: true, precision: Some(3), ..PLAIN }, end: 9, ..LIST },
     Listing { text: "é{ü:+i#(é)é)#(日)}", start: 3, name: "ü", name_place: 3, spec: Spec { sign: Sign::Plus, ..PLAIN }, item: Some(Inner { text: "é)é", place: 10 }), join: Some(Inner { text: "日", place: 18 }), end: 22, ..LIST },
@@ -146,7 +148,7 @@ pub(crate) const LISTS: [Listing<'static>; 27] = [
 
 /// Worked by hand, as the rows above.
 #[rattlefmt::skip]
-pub(crate) const REFUSED: [Refusal<'static>; 36] = [
+pub(crate) const REFUSED: [Refusal<'static>; 37] = [
     Refusal { text: "{x", start: 1, told: Told::Parse(ParseError::FormatSpecUnclosed(1)) },
     Refusal { text: "{x:<#", start: 1, told: Told::Parse(ParseError::FormatSpecUnclosed(1)) },
     Refusal { text: "{x:+0", start: 1, told: Told::Parse(ParseError::FormatSpecUnclosed(1)) },
@@ -172,6 +174,7 @@ pub(crate) const REFUSED: [Refusal<'static>; 36] = [
     Refusal { text: "{h:i9223372036854775808}", start: 1, told: Told::Parse(ParseError::RangeBound(NumberError::PosOverflow, 4)) },
     Refusal { text: "{h:i1..=9223372036854775808}", start: 1, told: Told::Parse(ParseError::RangeBound(NumberError::PosOverflow, 8)) },
     Refusal { text: "{h:i1..--5}", start: 1, told: Told::Parse(ParseError::RangeBound(NumberError::InvalidDigit, 7)) },
+    Refusal { text: "{h:i-9223372036854775808..=-9223372036854775809}", start: 1, told: Told::Parse(ParseError::RangeBound(NumberError::NegOverflow, 27)) },
     Refusal { text: "{h:i1", start: 1, told: Told::Parse(ParseError::FormatSpecUnclosed(1)) },
     Refusal { text: "{h:i--", start: 1, told: Told::Parse(ParseError::FormatSpecUnclosed(1)) },
     Refusal { text: "{h:i..1", start: 1, told: Told::Parse(ParseError::FormatSpecUnclosed(1)) },

@@ -76,6 +76,14 @@ pub(crate) const PLAIN: Table<'static> = Table {
         Row { format: "é{none}", text: "é", told: Told::MissingTraitImpl(Trait::Display, 7) },
         Row { format: "{\u{200b}x}", text: "", told: Told::MissingValue("\u{200b}x", 1) },
         Row { format: "abc 日本 {{", text: "abc 日本 {", told: Told::Done },
+        // All white space in front of a name is skipped, and what only looks like it is not.
+        Row { format: "{\u{a0}\u{3000}x}", text: "1", told: Told::Done },
+        Row { format: "{\t\n\u{b}\u{c}\r \u{85}\u{a0}\u{1680}\u{2000}\u{2001}\u{2002}\u{2003}\u{2004}\u{2005}\u{2006}\u{2007}\u{2008}\u{2009}\u{200a}\u{2028}\u{2029}\u{202f}\u{205f}\u{3000}x}", text: "1", told: Told::Done },
+        Row { format: "a{\u{3000}q}", text: "a", told: Told::MissingValue("q", 2) },
+        Row { format: "{\u{feff}x}", text: "", told: Told::MissingValue("\u{feff}x", 1) },
+        Row { format: "{\u{3000}none}", text: "", told: Told::MissingTraitImpl(Trait::Display, 8) },
+        Row { format: "{a{b}}", text: "1}", told: Told::Done },
+        Row { format: "{ {x}}", text: "", told: Told::MissingValue("{x", 1) },
     ],
 };
 

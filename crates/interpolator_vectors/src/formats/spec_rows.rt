@@ -8,7 +8,7 @@ use interpolator::{Bits, NumberError, ParseError, Trait, View};
 /// Texts and numbers by their specs. Worked by hand from the rules of specs and of rendering in
 /// docs/DEFINITIONS.md.
 #[rattlefmt::skip]
-pub(crate) const WRITTEN: [Table<'static>; 9] = [
+pub(crate) const WRITTEN: [Table<'static>; 10] = [
     Table {
         values: &[
             ("value", &[Slots::Display], View::Unsigned(12)),
@@ -113,6 +113,29 @@ pub(crate) const WRITTEN: [Table<'static>; 9] = [
             Row { format: "{d} {e:?}", text: "display \"debug\"", told: Told::Done },
         ],
     },
+    // A width of 0, flags that do nothing, precisions in characters, braces in names and behind.
+    Table {
+        values: &[
+            ("x", &[Slots::Display], View::Unsigned(1)),
+            ("a{b", &[Slots::Display], View::Unsigned(1)),
+            ("t", &[Slots::DebugDisplay], View::Text("é\"a")),
+            ("j", &[Slots::DebugDisplay], View::Text("日本語")),
+            ("v", &[Slots::Integer], View::Unsigned(255)),
+            ("i", &[Slots::Integer], View::Signed(-1, Bits::B8)),
+            ("n", &[Slots::Integer], View::Signed(-1234, Bits::B16)),
+        ],
+        rows: &[
+            Row { format: "{x:0}{x:00}{x:<00}{x:-0}", text: "1111", told: Told::Done },
+            Row { format: "{x:}}", text: "1}", told: Told::Done },
+            Row { format: "{x:}}}", text: "1}", told: Told::Done },
+            Row { format: "{a{b:>3}{a{b:+}", text: "  1+1", told: Told::Done },
+            Row { format: "{t:05}|{t:^06}|", text: "é\"a  | é\"a  |", told: Told::Done },
+            Row { format: "{t:#?}{t:+09.1?}", text: "\"é\\\"a\"\"é\\\"a\"", told: Told::Done },
+            Row { format: "{j:.0}|{j:.1}|{j:>4.2}|{j:^5.9}|", text: "|日|  日本| 日本語 |", told: Told::Done },
+            Row { format: "{v:#06x?};{i:x?};{i:#X?};", text: "0x00ff;ff;0xFF;", told: Told::Done },
+            Row { format: "{n:+#09.2e}|{n:<+9.0E}|", text: "-001.23e3|-1E3     |", told: Told::Done },
+        ],
+    },
 ];
 
 /// Faults of specs and behind them. Worked by hand from the rules of specs, meaning and faults in
@@ -147,6 +170,8 @@ pub(crate) const BROKEN: [Table<'static>; 3] = [
         rows: &[
             Row { format: "{x:b", text: "10", told: Told::Parse(ParseError::Expected("}", 3)) },
             Row { format: "{x:+x", text: "+a", told: Told::Parse(ParseError::Expected("}", 5)) },
+            Row { format: "{x:x }", text: "a", told: Told::Parse(ParseError::Expected("}", 4)) },
+            Row { format: "{x:x{x}", text: "a", told: Told::Parse(ParseError::Expected("}", 4)) },
         ],
     },
     Table {
@@ -206,8 +231,8 @@ pub(crate) const ROOM: [RoomTable<'static>; 3] = [
     },
 ];
 
-/// The slot of each trait letter, by the rules of traits in docs/DEFINITIONS.md; the digits of 42 by
-/// hand. Under each name the slot that is asked of it stands alone.
+/// The slot of each trait letter, by the rules of traits in docs/DEFINITIONS.md; the digits of 42
+/// by hand. Under each name the slot that is asked of it stands alone.
 #[rattlefmt::skip]
 pub(crate) const ASKED: Table<'static> = Table {
     values: &[
@@ -235,7 +260,8 @@ pub(crate) const ASKED: Table<'static> = Table {
     ],
 };
 
-/// The same formats, where under each name all slots are filled but the one that is asked.
+/// The same formats, where under each name all slots are filled but the one that is asked. Worked
+/// by hand from the rules of traits and of meaning in docs/DEFINITIONS.md.
 #[rattlefmt::skip]
 pub(crate) const ASKED_IN_VAIN: Table<'static> = Table {
     values: &[

@@ -17,9 +17,9 @@ struct Deep<'a> {
 /// How deep the lists of the rows are nested.
 const DEPTH: usize = 32;
 
-/// The group at depth n, from 0 innermost up to 31, has n signs. So what stands before the
-/// innermost text is of 32 * 4 + 31 * 16 = 624 characters, or with a width of 32 * 5 + 31 * 16 =
-/// 656.
+/// Worked by hand from the rules of lists and places in docs/DEFINITIONS.md. The group at depth n,
+/// from 0 innermost up to 31, has n signs. So what stands before the innermost text is of 32 * 4 +
+/// 31 * 16 = 624 characters, or with a width of 32 * 5 + 31 * 16 = 656.
 #[rattlefmt::skip]
 const ROWS: [Deep<'static>; 6] = [
     Deep { open: "{:i", innermost: "{}", text: "7", told: Told::Done },

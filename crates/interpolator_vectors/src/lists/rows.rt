@@ -87,6 +87,9 @@ pub(crate) const WRITTEN: [ListTable<'static>; 11] = [
             Row { format: "{h:i()}{h:i()(,)}{h:i()()}", text: ",", told: Told::Done },
             Row { format: "{h:i}{h:i}", text: "1515", told: Told::Done },
             Row { format: "<{h:i}>{{{h:i({{{}}})(}})}}}", text: "<15>{{1}}{5}}", told: Told::Done },
+            Row { format: "{h:i(,)}{h:i-1(;)}", text: ",,;", told: Told::Done },
+            Row { format: "{h:i####({})####(,)}", text: "1,5", told: Told::Done },
+            Row { format: "{h:i..-0}{h:i-0..}{h:i-01}", text: "155", told: Told::Done },
         ],
     },
     ListTable {
@@ -102,6 +105,7 @@ pub(crate) const WRITTEN: [ListTable<'static>; 11] = [
             Row { format: "{h:2i}{h:1i}{h:3i..0}", text: "1515   ", told: Told::Done },
             Row { format: "{h:>5i2..({z})({z})}|", text: "     |", told: Told::Done },
             Row { format: "{h:i({:>4})}{h:>8i({:4})}", text: "   1   5   1   5", told: Told::Done },
+            Row { format: "{h:^9i(é{}é)(…)}|", text: " é1é…é5é |", told: Told::Done },
         ],
     },
     ListTable {
@@ -191,6 +195,7 @@ pub(crate) const BROKEN: [ListTable<'static>; 6] = [
             Row { format: "{h:-i}", text: "", told: Told::Parse(ParseError::Iter(5)) },
             Row { format: "{h:#i}", text: "", told: Told::Parse(ParseError::Iter(5)) },
             Row { format: "{h:0i}", text: "", told: Told::Parse(ParseError::Iter(5)) },
+            Row { format: "{h:00i}", text: "", told: Told::Parse(ParseError::Iter(6)) },
             Row { format: "{h:.0i}", text: "", told: Told::Parse(ParseError::Iter(6)) },
             Row { format: "é{h:>+5i1..({})(,)}", text: "é", told: Told::Parse(ParseError::Iter(19)) },
             Row { format: "{none:+i}", text: "", told: Told::Parse(ParseError::Iter(8)) },
@@ -217,6 +222,7 @@ pub(crate) const BROKEN: [ListTable<'static>; 6] = [
             Row { format: "{h:i<}", text: "", told: Told::Parse(ParseError::Fill(3)) },
             Row { format: "{h:i###((a:)#>))##))###)###}", text: "(a:)#>))##)(a:)#>))##)", told: Told::Parse(ParseError::Expected("}", 23)) },
             Row { format: "{h:i({})(,)(;)}", text: "1,5", told: Told::Parse(ParseError::Expected("}", 11)) },
+            Row { format: "{h:i#({})##(,)##}", text: "1,5", told: Told::Parse(ParseError::Expected("}", 15)) },
             Row { format: "{h:5i({})!}", text: "15   ", told: Told::Parse(ParseError::Expected("}", 9)) },
         ],
     },
@@ -238,6 +244,9 @@ pub(crate) const BROKEN: [ListTable<'static>; 6] = [
             Row { format: "{h:i({})({:b)}", text: "1", told: Told::MissingValue("", 10) },
             Row { format: "{h:i({)}", text: "", told: Told::Parse(ParseError::FormatSpecUnclosed(6)) },
             Row { format: "{h:i({:)}", text: "1", told: Told::Parse(ParseError::Expected("}", 7)) },
+            Row { format: "{h:i({:5)}", text: "1", told: Told::Parse(ParseError::Expected("}", 7)) },
+            Row { format: "{h:i({:>5)}", text: "", told: Told::Parse(ParseError::FormatSpecUnclosed(6)) },
+            Row { format: "{h:i({:>)}", text: "1", told: Told::Parse(ParseError::Expected("}", 7)) },
             Row { format: "{h:i({:5})({:?<})}", text: "    1", told: Told::Parse(ParseError::Fill(13)) },
             Row { format: "{h:i({:b})}", text: "", told: Told::MissingTraitImpl(Trait::Binary, 8) },
             Row { format: "{h:i({:i})}", text: "", told: Told::MissingTraitImpl(Trait::Iter, 8) },
@@ -319,6 +328,7 @@ pub(crate) const ROOM: [ListRoomTable<'static>; 1] = [ListRoomTable {
         RoomRow { format: "{h:4i({})}", room: 3, text: "15 ", told: Told::Fmt(9) },
         RoomRow { format: "{h:4i({})}", room: 4, text: "15  ", told: Told::Done },
         RoomRow { format: "é{h:>6i({})(,)}", room: 2, text: "é ", told: Told::Fmt(15) },
+        RoomRow { format: "é{h:^7i({:>2})(…)}", room: 4, text: "é  1", told: Told::Fmt(20) },
         RoomRow { format: "{h:i({})(,)}", room: 0, text: "", told: Told::Fmt(6) },
         RoomRow { format: "{h:i({})(,)}", room: 1, text: "1", told: Told::Fmt(9) },
         RoomRow { format: "{h:i({})(,)}", room: 2, text: "1,", told: Told::Fmt(6) },
@@ -336,7 +346,7 @@ pub(crate) const ROOM: [ListRoomTable<'static>; 1] = [ListRoomTable {
 /// A name `o` whose list has one item, which is displayed as `A` and has the list of 1 and 2.
 /// Worked by hand, as the rows above.
 #[rattlefmt::skip]
-pub(crate) const NESTED: [Row<'static>; 14] = [
+pub(crate) const NESTED: [Row<'static>; 23] = [
     Row { format: "{o:i#({:i({})({})})#}", text: "1A2", told: Told::Done },
     Row { format: "{o:i#({:>4i({})})#}", text: "  12", told: Told::Done },
     Row { format: "{o:i#({:i({z})})#}", text: "", told: Told::MissingValue("z", 11) },
@@ -351,4 +361,13 @@ pub(crate) const NESTED: [Row<'static>; 14] = [
     Row { format: "{o:i({:i({})})}", text: "", told: Told::Parse(ParseError::FormatSpecUnclosed(6)) },
     Row { format: "{o:i#({:i({}{o:i})})#}", text: "1A2A", told: Told::Done },
     Row { format: "{o:i##({:i#({}{o:i({})})#({})})##}", text: "1AA2A", told: Told::Done },
+    Row { format: "{o:i-9223372036854775808..9223372036854775807#({:i-9223372036854775808..=9223372036854775807})#}", text: "12", told: Told::Done },
+    Row { format: "{o:i..=-9223372036854775808({:i..=-9223372036854775808})}", text: "1", told: Told::Done },
+    Row { format: "{o:i..=-1#({:i1..=-1({})(,)}{:i..=-1({})(,)})#}", text: "21,2", told: Told::Done },
+    Row { format: "{o:>8i#(é{:^4i({})(…)}ü)#}", text: "  é1…2 ü", told: Told::Done },
+    Row { format: "{o:i##(a{:i#(b{:i(c)#})#}", text: "", told: Told::Parse(ParseError::FormatSpecUnclosed(1)) },
+    Row { format: "{o:i##(a{:i#(b{:i(c))##}", text: "a", told: Told::Parse(ParseError::FormatSpecUnclosed(9)) },
+    Row { format: "{o:i##(a{:i#(b{:i(c)#})##}", text: "ab", told: Told::Parse(ParseError::FormatSpecUnclosed(15)) },
+    Row { format: "{o:i#({:i)#}", text: "A", told: Told::Parse(ParseError::Expected("}", 8)) },
+    Row { format: "{o:i#({:>i)#}", text: "12", told: Told::Parse(ParseError::Expected("}", 10)) },
 ];

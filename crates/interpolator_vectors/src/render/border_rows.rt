@@ -1,5 +1,5 @@
-//! Rows of `render` at the borders between its two ways to write a number: the one in a buffer takes
-//! a number below 2^64, a width up to 40 and in exponent form a precision up to 40.
+//! Rows of `render` at the borders between its two ways to write a number: the one in a buffer
+//! takes a number below 2^64, a width up to 40 and in exponent form a precision up to 40.
 //!
 //! The texts are what std's `format!` of rustc 1.95 makes of the number as an `i128`, as
 //! `format!("{:+#041b}", n)` for the flags `+#0` and the width 41.
@@ -31,7 +31,7 @@ pub(crate) type DigitBorder = (i128, Trait, &'static str, usize, &'static str);
 /// A number in exponent form: the same, and the precision before the text.
 pub(crate) type ExponentBorder = (i128, Trait, &'static str, usize, usize, &'static str);
 
-/// Numbers by their digits.
+/// Numbers by their digits, as std writes them.
 #[rattlefmt::skip]
 pub(crate) const DIGIT_BORDERS: [DigitBorder; 40] = [
     (TOP, DEC, "+0", 40, "+000000000000000000018446744073709551615"),
@@ -76,7 +76,7 @@ pub(crate) const DIGIT_BORDERS: [DigitBorder; 40] = [
     (OVER, UPP_HEX, "<", 41, "10000000000000000                        "),
 ];
 
-/// Numbers in exponent form.
+/// Numbers in exponent form, as std writes them.
 #[rattlefmt::skip]
 pub(crate) const EXPONENT_BORDERS: [ExponentBorder; 29] = [
     (TOP, LOW_EXP, "+", 40, 40, "+1.8446744073709551615000000000000000000000e19"),

@@ -3,7 +3,7 @@
 use interpolator_render::{Alignment, HexDebug, Sign, Spec, Trait, View};
 
 /// A view and how it is written, and the text that has to come.
-#[derive(Clone, Copy)]
+#[derive(Clone, Copy, Debug)]
 pub(crate) struct Row<'a> {
     pub(crate) view: View<'a>,
     pub(crate) t: Trait,

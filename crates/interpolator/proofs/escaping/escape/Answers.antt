@@ -1,13 +1,13 @@
 use Rattle.std.proofs.Common.{◌≡◌, ◌∙◌, length, ap, rules}
 use Rattle.std.specs.Str.{chars}
-use Rattle.interpolator_render.specs.Written.{Written}
+use Rattle.interpolator_render.specs.Written.{Buffered}
 use Rattle.interpolator.proofs.EscapeLemmas.{nothing_appended, all_appended, escaped_plain}
 use Rattle.interpolator.proofs.escaping.escape.Goals as goal
 
 pub loop-rest-init : goal.loop-rest-init
 loop-rest-init c = (
   c.utf8.text,
-  nothing_appended _ _ _ (ap (λ (w : Written). w.text) c.from_string-out.ensures)
+  nothing_appended _ _ _ (ap (λ (w : Buffered). w.text) c.from_string-out.ensures)
       c.in_ok-with_capacity.ensures.bytes,
 )
 

@@ -1,9 +1,9 @@
-use Rattle.std.proofs.Common.{◌+◌, length, drop, ap, arith, None, Some}
+use Rattle.std.proofs.Common.{◌+◌, length, drop, ap, arith, Some}
 use Rattle.std.proofs.lemmas.List.{drop_all}
 use Rattle.interpolator.specs.Faults.{answer_of}
 use Rattle.interpolator.specs.Meaning.Parts.{bytes_of}
 use Rattle.interpolator.specs.Meaning.Scopes.{environment_of}
-use Rattle.interpolator.proofs.MeaningLemmas.SinkLemmas.{same_then}
+use Rattle.interpolator.proofs.MeaningLemmas.SinkLemmas.{same_then, goes_on}
 use Rattle.interpolator.proofs.MeaningLemmas.PlaceLemmas.{lies_in_more}
 use Rattle.interpolator.proofs.MeaningLemmas.PartLemmas.{part_runs, part_faults, no_parts_run}
 use Rattle.interpolator.proofs.MeaningLemmas.PartLemmas.{part_at, rest_at}
@@ -20,14 +20,11 @@ returns-in-Err g c =
     let i = c.loop-part.part-index in
     let split = rest_at parts i c.loop-part-test.true in
     record {
-      writes = record {
-        evaluates =
-            c.loop-part.invariant.so_far _ _ (part_faults g.C.Object.Value.shows
-            (environment_of g.C.Context.finds c.args.scope.now) c.loop-part.place
-            (part_at parts i) (drop i parts) (drop (i + 1) parts) split _ _ _
-            c.in-Err.ensures.writes.evaluates);
-        same = same_then _ _ _ c.loop-part.invariant.same c.in-Err.ensures.writes.same;
-      };
+      writes =
+          goes_on _ _ _ _ _ _ _ c.loop-part.invariant.so_far c.loop-part.invariant.same
+          (part_faults g.C.Object.Value.shows (environment_of g.C.Context.finds c.args.scope.now) _
+          c.loop-part.place (drop i parts) (part_at parts i) (drop (i + 1) parts) split _ _ _
+          c.in-Err.ensures.writes);
       place =
           lies_in_more (c.loop-part.place + length (part_at parts i).now) (bytes_of parts)
           (Some (answer_of c.in-Err.fault))
@@ -42,22 +39,19 @@ loop-part-preserved g c =
     record {
       so_far =
           λ new answer o. c.loop-part.invariant.so_far new answer (part_runs
-          g.C.Object.Value.shows (environment_of g.C.Context.finds c.args.scope.now)
-          c.loop-part.place (part_at parts i) (drop i parts) (drop (i + 1) parts) split _ _ _ _ _
-          c.in-Ok.ensures.behind c.in-Ok.ensures.writes.evaluates o);
+          g.C.Object.Value.shows (environment_of g.C.Context.finds c.args.scope.now) _
+          c.loop-part.place (drop i parts) (part_at parts i) (drop (i + 1) parts) split _ _ _ _ _
+          c.in-Ok.ensures.behind c.in-Ok.ensures.writes o);
       same = same_then _ _ _ c.loop-part.invariant.same c.in-Ok.ensures.writes.same;
       fits = omega (arith, ap bytes_of split, c.loop-part.invariant.fits, c.in-Ok.ensures.bytes);
     }
 
 pub returns : goal.returns
 returns g c = record {
-  writes = record {
-    evaluates =
-        c.loop-part.invariant.so_far _ None (no_parts_run g.C.Object.Value.shows
-        (environment_of g.C.Context.finds c.args.scope.now) c.loop-part.place
-        (drop c.loop-part.part-index c.args.parts.now) _
-        (drop_all c.loop-part.part-index c.args.parts.now c.loop-part-test.false));
-    same = c.loop-part.invariant.same;
-  };
+  writes =
+      goes_on _ _ _ _ _ _ _ c.loop-part.invariant.so_far c.loop-part.invariant.same
+      (no_parts_run g.C.Object.Value.shows (environment_of g.C.Context.finds c.args.scope.now) _
+      c.loop-part.place (drop c.loop-part.part-index c.args.parts.now) _
+      (drop_all c.loop-part.part-index c.args.parts.now c.loop-part-test.false));
   place = tt;
 }

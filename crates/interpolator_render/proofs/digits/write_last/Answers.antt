@@ -4,7 +4,7 @@ use Rattle.interpolator_render.proofs.DigitLemmas.{low_step}
 use Rattle.interpolator_render.proofs.digits.write_last.Goals as goal
 
 pub returns-clause-written : goal.returns-clause-written
-returns-clause-written c = rw c.ascii_digit.ensures
+returns-clause-written c = rw c.digit_in_base.ensures
     (low_step c.args.base c.args.n c.args.at c.args.upper c.args.out.now _ c.requires.lowest
     c.requires.several (omega arith) (omega arith) refl)
 

@@ -1,7 +1,7 @@
 use Rattle.std.proofs.Common.{◌∙◌, ◌-◌, ap, replicate, length, length-append, arith}
 use Rattle.interpolator_render.specs.Numbers.{front_text}
 use Rattle.interpolator_render.specs.Rows.{Row, grown, grown_behind}
-use Rattle.interpolator_render.proofs.NumberLemmas.{zero_padded, space_padded}
+use Rattle.interpolator_render.proofs.NumberLemmas.{zero_padded, space_padded, nothing_padded}
 use Rattle.interpolator_render.proofs.number.put_around.Goals as goal
 
 pub returns-then-spec : goal.returns-then-spec
@@ -11,8 +11,16 @@ returns-then-spec c =
     ∙ zero_padded c.args.spec.now front c.args.line.now.text c.saturating_sub.result
     c.args.line.now.fill c.if-spec.true c.requires.fill (omega arith)
 
-pub returns-else-spec : goal.returns-else-spec
-returns-else-spec c =
+pub returns-then-missing-eq0 : goal.returns-then-missing-eq0
+returns-then-missing-eq0 c =
+    let front = front_text c.args.form c.args.spec.now c.args.negative in
+    let size = length-append front c.args.line.now.text in
+    let text = ap (λ (r : Row). length r.text) c.put_front-else-spec.ensures in
+    ap (λ (r : Row). r.text) c.put_front-else-spec.ensures
+    ∙ nothing_padded c.args.spec.now front c.args.line.now.text c.if-spec.false (omega arith)
+
+pub returns-else-missing-eq0 : goal.returns-else-missing-eq0
+returns-else-missing-eq0 c =
     let front = front_text c.args.form c.args.spec.now c.args.negative in
     let before = c.spaces_before-before.result in
     let missing = c.saturating_sub-missing.result in

@@ -5,6 +5,6 @@ pub returns : goal.returns
 unfolding padded_text
 returns g c = rw (
   c.spaces_before-before.ensures.before,
-  c.missing-missing.ensures,
-  c.cut-shown.ensures,
+  c.cut-missing.ensures.missing,
+  c.cut-missing.ensures.text,
 ) at c.put_between.ensures

@@ -2,8 +2,10 @@
 use Rattle.std.proofs.lemmas.Str.{encodes-chars, IsUtf8-string_bytes}
 use Rattle.interpolator.proofs.error_text.ErrorDisplay.fmt.Goals as goal
 
-pub returns-in-MissingValue-clause-writes : goal.returns-in-MissingValue-clause-writes
-returns-in-MissingValue-clause-writes g c =
+pub returns-in-MissingValue : goal.returns-in-MissingValue
+returns-in-MissingValue g c =
     let name = c.in-MissingValue.name in
-    rw (c.in-MissingValue.is, encodes-chars _ (IsUtf8-string_bytes name))
-    c.write-in-MissingValue.ensures.writes
+    rw (c.in-MissingValue.is, encodes-chars _ (IsUtf8-string_bytes name)) record {
+      writes = c.write_unstyled-in-MissingValue.ensures.writes;
+      styled = c.write_unstyled-in-MissingValue.ensures.styled;
+    }

@@ -1,4 +1,5 @@
-use Rattle.interpolator.proofs.MeaningLemmas.AskedLemmas.{means_same, asked_alone}
+use Rattle.interpolator.proofs.MeaningLemmas.AskedLemmas.{asked_alone}
+use Rattle.interpolator.proofs.MeaningLemmas.DepthLemmas.{means_same}
 use Rattle.interpolator.proofs.laws.names.asked_names_alone_matter.Goals as goal
 
 pub returns-clause-two : goal.returns-clause-two

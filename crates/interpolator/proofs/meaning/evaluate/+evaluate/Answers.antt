@@ -1,33 +1,32 @@
-use Rattle.std.proofs.Common.{◌≡◌, ◌≤◌, ◌<◌, refl, sym, arith, rules, length, map, None, Some}
+use Rattle.std.proofs.Common.{◌≡◌, ◌≤◌, ◌<◌, refl, sym, arith, rules, length, map, Some}
 use Rattle.std.specs.Str.{chars}
 use Rattle.std.proofs.lemmas.Result.{err_from_is_err_and}
+use Rattle.interpolator_render.specs.Written.{as_writer}
 use Rattle.interpolator.specs.Syntax.At.{at}
 use Rattle.interpolator.specs.Syntax.Tokens.{token_read}
 use Rattle.interpolator.specs.Syntax.Arguments.{argument_of, kind_of}
 use Rattle.interpolator.specs.Trees.{tree_of}
 use Rattle.interpolator.specs.Meaning.Lists.{list_asked, all_asked}
-use Rattle.interpolator.specs.Meaning.Meanings.{means, item_means, join_means, chosen_means}
+use Rattle.interpolator.specs.Meaning.Meanings.{means, chosen_means}
 use Rattle.interpolator.specs.Meaning.Scopes.{environment_of}
-use Rattle.interpolator.proofs.MeaningLemmas.SinkLemmas.{same_sink, same_then, and_then}
-use Rattle.interpolator.proofs.MeaningLemmas.SinkLemmas.{fault_first, whole_refused, whole_fault}
+use Rattle.interpolator.proofs.MeaningLemmas.SinkLemmas.{same_then, goes_on, whole_refused}
+use Rattle.interpolator.proofs.MeaningLemmas.SinkLemmas.{whole_fault}
 use Rattle.interpolator.proofs.MeaningLemmas.MeaningLemmas.{scan_shorter, token_shorter}
 use Rattle.interpolator.proofs.MeaningLemmas.ListLemmas.{kind_size, groups_within, list_whole}
 use Rattle.interpolator.proofs.MeaningLemmas.ListLemmas.{list_plain, first_runs, first_fault}
-use Rattle.interpolator.proofs.MeaningLemmas.ListLemmas.{item_runs, item_fault, items_end}
-use Rattle.interpolator.proofs.MeaningLemmas.RunLemmas.{end_runs, step_runs, fault_runs}
-use Rattle.interpolator.proofs.MeaningLemmas.RunLemmas.{broken_runs, value_fault_runs, closed_runs}
-use Rattle.interpolator.proofs.MeaningLemmas.RunLemmas.{closed_rest, unclosed_runs}
+use Rattle.interpolator.proofs.MeaningLemmas.ListLemmas.{item_runs, join_fault, item_fault}
+use Rattle.interpolator.proofs.MeaningLemmas.ListLemmas.{items_end}
+use Rattle.interpolator.proofs.MeaningLemmas.RunLemmas.{end_writes, step_runs, fault_writes}
+use Rattle.interpolator.proofs.MeaningLemmas.RunLemmas.{broken_writes, value_fault_writes}
+use Rattle.interpolator.proofs.MeaningLemmas.RunLemmas.{closed_writes, closed_rest, unclosed_writes}
 use Rattle.interpolator.proofs.meaning.evaluate.+evaluate.Goals as goal
 
 pub write_argument-returns-in-Err-clause-writes : goal.write_argument-returns-in-Err-clause-writes
 write_argument-returns-in-Err-clause-writes g t c =
     let shows = g.C.Object.Value.shows in
     let e = environment_of g.C.Context.finds c.args.scope.now in
-    record {
-      evaluates = rw c.error_of.ensures
-          (broken_runs shows e (at c.args.here) _ _ (sym c.in-Err.ensures.read));
-      same = same_sink c.args.sink.now;
-    }
+    rw c.error_of.ensures
+    (broken_writes shows _ e (at c.args.here) _ _ (sym c.in-Err.ensures.read))
 
 pub write_argument-write_value-requires : goal.write_argument-write_value-requires
 write_argument-write_value-requires g t c =
@@ -43,29 +42,16 @@ pub write_argument-returns-in_err-write_value-clause-writes :
 write_argument-returns-in_err-write_value-clause-writes g t c =
     let shows = g.C.Object.Value.shows in
     let e = environment_of g.C.Context.finds c.args.scope.now in
-    let x = argument_of c.take_argument.new.argument in
-    let q = at c.take_argument.new.here in
-    let residual = c.from_residual in
-    let err = err_from_is_err_and residual.result residual.ensures.1 in
-    let o = c.in_err-write_value.ensures.writes in
-    rw (err.1, err.2) (record {
-      evaluates = value_fault_runs shows e (at c.args.here) x q (sym c.in-Ok.ensures.read) _ _ _
-          o.evaluates;
-      same = o.same;
-    })
+    let err = err_from_is_err_and c.from_residual.result c.from_residual.ensures.1 in
+    rw (err.1, err.2) (value_fault_writes shows _ e (at c.args.here) _ _
+    (sym c.in-Ok.ensures.read) _ _ _ c.in_err-write_value.ensures.writes)
 
 pub write_argument-returns-in-Some-clause-writes : goal.write_argument-returns-in-Some-clause-writes
 write_argument-returns-in-Some-clause-writes g t c =
     let shows = g.C.Object.Value.shows in
     let e = environment_of g.C.Context.finds c.args.scope.now in
-    let x = argument_of c.take_argument.new.argument in
-    let q = at c.take_argument.new.here in
-    let o = c.in_ok-write_value.ensures.writes in
-    record {
-      evaluates = closed_runs shows e (at c.args.here) x q (sym c.in-Ok.ensures.read) _ _ _
-          (sym c.in-Some.ensures) o.evaluates;
-      same = o.same;
-    }
+    closed_writes shows _ e (at c.args.here) _ _ (sym c.in-Ok.ensures.read) _ _ _
+    (sym c.in-Some.ensures) c.in_ok-write_value.ensures.writes
 
 pub write_argument-returns-in-Some-clause-rest : goal.write_argument-returns-in-Some-clause-rest
 write_argument-returns-in-Some-clause-rest g t c =
@@ -77,14 +63,8 @@ pub write_argument-returns-in-None-clause-writes : goal.write_argument-returns-i
 write_argument-returns-in-None-clause-writes g t c =
     let shows = g.C.Object.Value.shows in
     let e = environment_of g.C.Context.finds c.args.scope.now in
-    let x = argument_of c.take_argument.new.argument in
-    let q = at c.take_argument.new.here in
-    let o = c.in_ok-write_value.ensures.writes in
-    record {
-      evaluates = unclosed_runs shows e (at c.args.here) x q (sym c.in-Ok.ensures.read) _ _
-          (sym c.in-None.ensures) o.evaluates;
-      same = o.same;
-    }
+    unclosed_writes shows _ e (at c.args.here) _ _ (sym c.in-Ok.ensures.read) _ _
+    (sym c.in-None.ensures) c.in_ok-write_value.ensures.writes
 
 pub write_text-write_piece-requires : goal.write_text-write_piece-requires
 write_text-write_piece-requires g t c =
@@ -99,17 +79,13 @@ pub write_text-returns-in_err-here : goal.write_text-returns-in_err-here
 write_text-returns-in_err-here g t c =
     let shows = g.C.Object.Value.shows in
     let e = environment_of g.C.Context.finds c.args.scope.now in
-    let token = token_read (c.in-Some.piece, c.in-Some.rest) in
-    let residual = c.from_residual in
-    let err = err_from_is_err_and residual.result residual.ensures.1 in
-    let so_far = c.loop-piece.invariant.so_far in
-    let o = c.in_err-here.ensures.writes in
+    let err = err_from_is_err_and c.from_residual.result c.from_residual.ensures.1 in
     rw (err.1, err.2) (record {
-      writes = record {
-        evaluates = so_far _ _ (fault_runs shows e (at c.loop-piece.here) token _ _ _
-            (sym c.in-Some.ensures.token) o.evaluates);
-        same = same_then _ _ _ c.loop-piece.invariant.same o.same;
-      };
+      writes =
+          goes_on _ _ _ _ _ _ _ c.loop-piece.invariant.so_far c.loop-piece.invariant.same
+          (fault_writes shows _ e
+          (at c.loop-piece.here) _ _ _ _ (sym c.in-Some.ensures.token)
+          c.in_err-here.ensures.writes);
     })
 
 pub write_text-loop-piece-smaller : goal.write_text-loop-piece-smaller
@@ -129,8 +105,8 @@ write_text-loop-piece-preserved g t c =
     record {
       shorter = omega (arith, shorter, c.loop-piece.invariant.shorter);
       so_far = λ new answer k. c.loop-piece.invariant.so_far new answer
-          (step_runs shows e (at c.loop-piece.here) token (at c.in_ok-here.here) _ _ _ _
-          (sym c.in-Some.ensures.token) c.in_ok-here.ensures.rest o.evaluates k);
+          (step_runs shows _ e (at c.loop-piece.here) token (at c.in_ok-here.here) _ _ _ _
+          (sym c.in-Some.ensures.token) c.in_ok-here.ensures.rest o k);
       same = same_then _ _ _ c.loop-piece.invariant.same o.same;
     }
 
@@ -138,13 +114,11 @@ pub write_text-returns : goal.write_text-returns
 write_text-returns g t c =
     let shows = g.C.Object.Value.shows in
     let e = environment_of g.C.Context.finds c.args.scope.now in
-    let so_far = c.loop-piece.invariant.so_far in
     record {
-      writes = record {
-        evaluates = so_far _ None
-            (end_runs shows e (at c.loop-piece.here) _ (sym c.in_default.ensures.token));
-        same = c.loop-piece.invariant.same;
-      };
+      writes =
+          goes_on _ _ _ _ _ _ _ c.loop-piece.invariant.so_far c.loop-piece.invariant.same
+          (end_writes shows _ e
+          (at c.loop-piece.here) _ (sym c.in_default.ensures.token));
     }
 
 pub write_found-returns-in-Some : goal.write_found-returns-in-Some
@@ -157,14 +131,11 @@ write_list-returns-then-is_some g t c =
     let shows = g.C.Object.Value.shows in
     let e = environment_of g.C.Context.finds c.args.scope.now in
     let asked = list_asked c.args.range c.args.groups.now in
-    let o = c.write_whole.ensures.writes in
     record {
-      writes = record {
-        evaluates = list_whole shows (means shows) e tree_of asked c.args.spec.now c.args.place
-            c.args.items.now c.choose-items.result.now _ _ _ (search rules) c.choose-items.ensures
-            (search rules) o.evaluates;
-        same = o.same;
-      };
+      writes =
+          list_whole shows (means shows) e _ tree_of asked c.args.spec.now c.args.place
+          c.args.items.now c.choose-items.result.now _ _ _ (search rules) c.choose-items.ensures
+          (search rules) c.write_whole.ensures.writes;
     }
 
 pub write_list-returns-else-is_some : goal.write_list-returns-else-is_some
@@ -172,14 +143,11 @@ write_list-returns-else-is_some g t c =
     let shows = g.C.Object.Value.shows in
     let e = environment_of g.C.Context.finds c.args.scope.now in
     let asked = list_asked c.args.range c.args.groups.now in
-    let o = c.write_items.ensures.writes in
     record {
-      writes = record {
-        evaluates = list_plain shows (means shows) e tree_of asked c.args.spec.now c.args.place
-            c.args.items.now c.choose-items.result.now _ _ _ (search rules) c.choose-items.ensures
-            (search rules) o.evaluates;
-        same = o.same;
-      };
+      writes =
+          list_plain shows (means shows) e _ tree_of asked c.args.spec.now c.args.place
+          c.args.items.now c.choose-items.result.now _ _ _ (search rules) c.choose-items.ensures
+          (search rules) c.write_items.ensures.writes;
     }
 
 pub write_whole-returns-then-refused : goal.write_whole-returns-then-refused
@@ -192,16 +160,15 @@ write_whole-returns-then-refused g t c =
     let made : c.write_items-answer.new.sink.aside.now ≡ Some c.in-Some.buffer = search rules in
     record {
       writes = record {
-        evaluates = whole_refused c.args.spec.now c.args.place items _ _ c.new.result
-            c.in-Some.buffer _ _ (rw made at c.write_items-answer.ensures.writes.evaluates);
+        evaluates = whole_refused c.args.spec.now c.args.place items _ _ (as_writer c.new.result)
+            (as_writer c.in-Some.buffer) _ _ (rw made at c.write_items-answer.ensures.writes.evaluates);
         same = record { out = refl; aside = refl };
       };
     }
 
 pub write_whole-returns-in_err-answer-in-Some : goal.write_whole-returns-in_err-answer-in-Some
 write_whole-returns-in_err-answer-in-Some g t c =
-    let residual = c.from_residual in
-    let err = err_from_is_err_and residual.result residual.ensures.1 in
+    let err = err_from_is_err_and c.from_residual.result c.from_residual.ensures.1 in
     let shows = g.C.Object.Value.shows in
     let e = environment_of g.C.Context.finds c.args.scope.now in
     let asked = all_asked c.args.groups.now in
@@ -210,8 +177,8 @@ write_whole-returns-in_err-answer-in-Some g t c =
     let made : c.write_items-answer.new.sink.aside.now ≡ Some c.in-Some.buffer = search rules in
     rw (err.1, err.2) (record {
       writes = record {
-        evaluates = whole_fault c.args.spec.now c.args.place items _ _ c.new.result
-            c.in-Some.buffer _ _ (search rules)
+        evaluates = whole_fault c.args.spec.now c.args.place items _ _ (as_writer c.new.result)
+            (as_writer c.in-Some.buffer) _ _ (search rules)
             (rw made at c.in_err-answer-in-Some.ensures.writes.evaluates);
         same = record { out = refl; aside = refl };
       };
@@ -219,20 +186,15 @@ write_whole-returns-in_err-answer-in-Some g t c =
 
 pub write_items-returns-in_err-write_item : goal.write_items-returns-in_err-write_item
 write_items-returns-in_err-write_item g t c =
-    let residual = c.from_residual in
-    let err = err_from_is_err_and residual.result residual.ensures.1 in
+    let err = err_from_is_err_and c.from_residual.result c.from_residual.ensures.1 in
     let shows = g.C.Object.Value.shows in
     let e = environment_of g.C.Context.finds c.args.scope.now in
     let asked = all_asked c.args.groups.now in
-    let join = join_means shows (means shows) e asked.join in
-    let one = item_means shows (means shows) e c.args.place asked.item in
-    let o = c.in_err-write_item.ensures.writes in
     rw (err.1, err.2) (record {
-      writes = record {
-        evaluates = first_fault tree_of join one c.args.items.now c.in-Some.first.now
-            c.in-Some.rest.now _ _ _ (search rules) o.evaluates;
-        same = o.same;
-      };
+      writes =
+          first_fault shows _ e asked c.args.place tree_of c.args.items.now
+          c.in-Some.first.now c.in-Some.rest.now _ _ (search rules) _
+          c.in_err-write_item.ensures.writes;
     })
 
 pub write_items-loop-item-init : goal.write_items-loop-item-init
@@ -240,12 +202,10 @@ write_items-loop-item-init g t c =
     let shows = g.C.Object.Value.shows in
     let e = environment_of g.C.Context.finds c.args.scope.now in
     let asked = all_asked c.args.groups.now in
-    let join = join_means shows (means shows) e asked.join in
-    let one = item_means shows (means shows) e c.args.place asked.item in
     let o = c.in_ok-write_item.ensures.writes in
     record {
-      so_far = λ new answer k. first_runs tree_of join one c.args.items.now c.in-Some.first.now
-          c.in-Some.rest.now _ _ _ _ (search rules) o.evaluates k;
+      so_far = λ new answer k. first_runs shows _ e asked c.args.place tree_of
+          c.args.items.now c.in-Some.first.now c.in-Some.rest.now _ _ (search rules) _ _ o k;
       same = o.same;
     }
 
@@ -256,17 +216,12 @@ write_items-returns-in_err-write_join g t c =
     let shows = g.C.Object.Value.shows in
     let e = environment_of g.C.Context.finds c.args.scope.now in
     let asked = all_asked c.args.groups.now in
-    let join = join_means shows (means shows) e asked.join in
-    let one = item_means shows (means shows) e c.args.place asked.item in
-    let so_far = c.loop-item.invariant.so_far in
-    let o = c.in_err-write_join.ensures.writes in
     rw (err.1, err.2) (record {
-      writes = record {
-        evaluates = so_far _ _ (item_fault tree_of join one c.in-Some.rest.now
-            c.loop-item.item-index c.item-item.result _ _ _ c.loop-item-test.true c.item-item.is
-            (fault_first _ _ _ _ _ o.evaluates));
-        same = same_then _ _ _ c.loop-item.invariant.same o.same;
-      };
+      writes =
+          goes_on _ _ _ _ _ _ _ c.loop-item.invariant.so_far c.loop-item.invariant.same
+          (join_fault shows _ e asked c.args.place tree_of c.in-Some.rest.now
+          c.loop-item.item-index c.item-item.result c.loop-item-test.true c.item-item.is _ _ _
+          c.in_err-write_join.ensures.writes);
     })
 
 pub write_items-returns-in_err-write_item-2 : goal.write_items-returns-in_err-write_item-2
@@ -276,18 +231,12 @@ write_items-returns-in_err-write_item-2 g t c =
     let shows = g.C.Object.Value.shows in
     let e = environment_of g.C.Context.finds c.args.scope.now in
     let asked = all_asked c.args.groups.now in
-    let join = join_means shows (means shows) e asked.join in
-    let one = item_means shows (means shows) e c.args.place asked.item in
-    let so_far = c.loop-item.invariant.so_far in
-    let before = c.in_ok-write_join.ensures.writes in
-    let o = c.in_err-write_item-2.ensures.writes in
     rw (err.1, err.2) (record {
-      writes = record {
-        evaluates = so_far _ _ (item_fault tree_of join one c.in-Some.rest.now
-            c.loop-item.item-index c.item-item.result _ _ _ c.loop-item-test.true c.item-item.is
-            (and_then _ _ _ _ _ _ before.evaluates o.evaluates));
-        same = same_then _ _ _ c.loop-item.invariant.same (same_then _ _ _ before.same o.same);
-      };
+      writes =
+          goes_on _ _ _ _ _ _ _ c.loop-item.invariant.so_far c.loop-item.invariant.same
+          (item_fault shows _ e asked c.args.place tree_of c.in-Some.rest.now
+          c.loop-item.item-index c.item-item.result c.loop-item-test.true c.item-item.is _ _ _ _
+          c.in_ok-write_join.ensures.writes c.in_err-write_item-2.ensures.writes);
     })
 
 pub write_items-loop-item-preserved : goal.write_items-loop-item-preserved
@@ -295,15 +244,13 @@ write_items-loop-item-preserved g t c =
     let shows = g.C.Object.Value.shows in
     let e = environment_of g.C.Context.finds c.args.scope.now in
     let asked = all_asked c.args.groups.now in
-    let join = join_means shows (means shows) e asked.join in
-    let one = item_means shows (means shows) e c.args.place asked.item in
     let before = c.in_ok-write_join.ensures.writes in
     let o = c.in_ok-write_item-2.ensures.writes in
     record {
       so_far = λ new answer k. c.loop-item.invariant.so_far new answer
-          (item_runs tree_of join one c.in-Some.rest.now c.loop-item.item-index c.item-item.result
-          _ _ _ _ c.loop-item-test.true c.item-item.is
-          (and_then _ _ _ _ _ _ before.evaluates o.evaluates) k);
+          (item_runs shows _ e asked c.args.place tree_of c.in-Some.rest.now
+          c.loop-item.item-index c.item-item.result c.loop-item-test.true c.item-item.is _ _ _ _ _
+          before o k);
       same = same_then _ _ _ c.loop-item.invariant.same (same_then _ _ _ before.same o.same);
     }
 
@@ -312,13 +259,9 @@ write_items-returns g t c =
     let shows = g.C.Object.Value.shows in
     let e = environment_of g.C.Context.finds c.args.scope.now in
     let asked = all_asked c.args.groups.now in
-    let join = join_means shows (means shows) e asked.join in
-    let one = item_means shows (means shows) e c.args.place asked.item in
-    let so_far = c.loop-item.invariant.so_far in
     record {
-      writes = record {
-        evaluates = so_far _ None (items_end tree_of join one c.in-Some.rest.now
-            c.loop-item.item-index _ c.loop-item-test.false);
-        same = c.loop-item.invariant.same;
-      };
+      writes =
+          goes_on _ _ _ _ _ _ _ c.loop-item.invariant.so_far c.loop-item.invariant.same
+          (items_end shows _ e asked c.args.place tree_of
+          c.in-Some.rest.now c.loop-item.item-index _ c.loop-item-test.false);
     }

@@ -1,7 +1,7 @@
 -- The names so far are those of the filled slots that were passed.
 use Rattle.std.proofs.Common.{◌≡◌, ◌++◌, take}
 use Rattle.std.specs.Prelude.{codes}
-use Rattle.std.specs.Fmt.{HasWritten, IsPlainFormatter}
+use Rattle.std.specs.Fmt.{HasWrittenStyled, IsFlush}
 use Rattle.interpolator.specs.Trees.{tree_of}
 use Rattle.interpolator.specs.SlotNames.{is_filled, slot_order}
 use Rattle.interpolator.proofs.SlotNameLemmas.{names_of, no_name, opened}
@@ -11,5 +11,5 @@ abbrev pub invariant-loop-slot : goal.invariant-loop-slot
 invariant-loop-slot g l =
     let names = names_of (is_filled (tree_of l.self)) (take l.slot-index slot_order) in
     (l.is_first ≡ no_name names)
-    × (IsPlainFormatter l.fn.f
-    → HasWritten g.W.Write.write_str_gives l.fn.f (codes "Formattable" ++ opened names) l.f)
+    × (IsFlush l.fn.f
+    → HasWrittenStyled g.W.Write.write_str_gives l.fn.f (codes "Formattable" ++ opened names) l.f)

@@ -1,6 +1,6 @@
 use Rattle.std.proofs.Common.{◌≤◌, ◌-◌, replicate}
 use Rattle.interpolator_render.specs.Written.{Appends}
-use Rattle.interpolator_render.proofs.layout.put_copies.Given as goal
+use Rattle.interpolator_render.proofs.layout.put_runs.Given as goal
 
 abbrev pub invariant-loop-left : goal.invariant-loop-left
 invariant-loop-left g l = (l.left ≤ l.count)

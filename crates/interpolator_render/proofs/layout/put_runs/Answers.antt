@@ -1,6 +1,6 @@
 use Rattle.std.proofs.Common.{rules, arith}
 use Rattle.interpolator_render.proofs.LayoutLemmas.{copies_more, copies_stop}
-use Rattle.interpolator_render.proofs.layout.put_copies.Goals as goal
+use Rattle.interpolator_render.proofs.layout.put_runs.Goals as goal
 
 pub returns-in-Err : goal.returns-in-Err
 returns-in-Err g c = copies_stop _ _ _ c.args.count c.loop-left.left c.min-now.result c.args.c

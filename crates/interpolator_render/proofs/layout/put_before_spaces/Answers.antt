@@ -1,0 +1,18 @@
+use Rattle.std.proofs.Common.{◌≡◌, ◌-◌, ◌^◌, min, arith, replicate}
+use Rattle.std.specs.Str.{chars}
+use Rattle.interpolator_render.specs.Written.{byte_count}
+use Rattle.interpolator_render.proofs.LayoutLemmas.{refuses_in_first}
+use Rattle.interpolator_render.proofs.LayoutLemmas.{refuses_in_second}
+use Rattle.interpolator_render.proofs.layout.put_before_spaces.Goals as goal
+
+pub returns-in-Err : goal.returns-in-Err
+returns-in-Err g c = refuses_in_first _ _ (chars c.args.text.now) (replicate c.args.after 32) _
+    c.in-Err.ensures
+
+pub returns-in-Err-put_spaces : goal.returns-in-Err-put_spaces
+returns-in-Err-put_spaces g c =
+    let done : c.byte_len.result ≡ min (byte_count (chars c.args.text.now)) (2 ^ 64 - 1)
+    = omega (arith, c.byte_len.ensures) in
+    refuses_in_second _ _ _ (chars c.args.text.now) (replicate c.args.after 32) c.byte_len.result
+    c.in-Err-put_spaces.refusal.taken _ done c.saturating_add-taken.ensures c.in_default.ensures
+    c.in-Err-put_spaces.ensures

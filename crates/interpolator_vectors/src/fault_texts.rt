@@ -1,0 +1,153 @@
+//! Rows of the faults' texts, which are the same under every option of the braces that ask them.
+
+use interpolator::{Error, Formattable, NumberError, ParseError, Trait};
+use std::alloc::Global;
+use std::fmt;
+use std::process::Abort;
+use std::test::Fail;
+
+/// Faults of numbers, and their texts: those of the table of faults in docs/DEFINITIONS.md.
+#[rattlefmt::skip]
+const NUMBERS: [(NumberError, &str); 4] = [
+    (NumberError::Empty, "cannot parse integer from empty string"),
+    (NumberError::InvalidDigit, "invalid digit found in string"),
+    (NumberError::PosOverflow, "number too large to fit in target type"),
+    (NumberError::NegOverflow, "number too small to fit in target type"),
+];
+
+/// Faults of formats, and their texts: those of the same table.
+#[rattlefmt::skip]
+const PARSES: [(ParseError, &str); 9] = [
+    (ParseError::FormatSpecUnclosed(0), "Format spec at 0 is nether closed with a `}`"),
+    (ParseError::Expected("}", 23), "Expected `}` at 23"),
+    (ParseError::Expected("(", 1), "Expected `(` at 1"),
+    (ParseError::InvalidWidth(NumberError::PosOverflow, 3), "Unable to parse width at 3 as usize: number too large to fit in target type"),
+    (ParseError::InvalidPrecision(NumberError::Empty, 4), "Unable to parse precision at 4 as usize: cannot parse integer from empty string"),
+    (ParseError::Fill(3), "Fill is not supported due to https://github.com/rust-lang/rfcs/pull/3394 at 3"),
+    (ParseError::Iter(5), "Width, precision, `-`, `+` and `#` are not supported for `i` at 5"),
+    (ParseError::RangeBound(NumberError::NegOverflow, 12), "Unable to parse range bound at 12 as isize: number too small to fit in target type"),
+    (ParseError::RangeBound(NumberError::InvalidDigit, usize::MAX), "Unable to parse range bound at 18446744073709551615 as isize: invalid digit found in string"),
+];
+
+/// Names that are missing and their places, and the texts: those of the same table.
+#[rattlefmt::skip]
+const MISSING: [(&str, usize, &str); 3] = [
+    ("y ", 2, "specified value not in context `y ` at 2"),
+    ("é{", 18446744073709551615, "specified value not in context `é{` at 18446744073709551615"),
+    ("", 1, "specified value not in context `` at 1"),
+];
+
+/// The other faults, and their texts: those of the same table.
+#[rattlefmt::skip]
+fn others() -> [(Error, &'static str); 13] {
+    [
+        (Error::MissingTraitImpl(Trait::Binary, 4), "trait `Binary` not implemented, used by format argument at 4"),
+        (Error::MissingTraitImpl(Trait::Debug, 0), "trait `Debug` not implemented, used by format argument at 0"),
+        (Error::MissingTraitImpl(Trait::Display, 10), "trait `Display` not implemented, used by format argument at 10"),
+        (Error::MissingTraitImpl(Trait::LowerExp, 4), "trait `LowerExp` not implemented, used by format argument at 4"),
+        (Error::MissingTraitImpl(Trait::LowerHex, 4), "trait `LowerHex` not implemented, used by format argument at 4"),
+        (Error::MissingTraitImpl(Trait::Octal, 4), "trait `Octal` not implemented, used by format argument at 4"),
+        (Error::MissingTraitImpl(Trait::UpperExp, 4), "trait `UpperExp` not implemented, used by format argument at 4"),
+        (Error::MissingTraitImpl(Trait::UpperHex, 4), "trait `UpperHex` not implemented, used by format argument at 4"),
+        (Error::MissingTraitImpl(Trait::Iter, 4), "trait `Iter` not implemented, used by format argument at 4"),
+        (Error::Fmt(fmt::Error, 3), "error while formatting at 3: an error occurred when formatting an argument"),
+        (Error::Parse(ParseError::Iter(5)), "error while parsing input: Width, precision, `-`, `+` and `#` are not supported for `i` at 5"),
+        (Error::UnsupportedOption("p", "pointer", 3), "option `p` is not supported without feature `pointer` at 3"),
+        (Error::NoMemory, "out of memory"),
+    ]
+}
+
+/// The fault is displayed as this text, whatever is asked of it.
+fn prints<E: fmt::Display>(
+    rt: &impl Abort,
+    alloc: Global,
+    fault: &E,
+    text: &str,
+) -> Result<(), Fail> {
+    assert_eq!(rt;
+        format!(in alloc; "{fault}")?.as_str(),
+        text,
+        "under nothing"
+    );
+    assert_eq!(rt;
+        format!(in alloc; "{fault:>+#120.3}")?.as_str(),
+        text,
+        "under `>+#120.3`"
+    );
+    assert_eq!(rt;
+        format!(in alloc; "{fault:10}")?.as_str(),
+        text,
+        "under `10`"
+    );
+    assert_eq!(rt;
+        format!(in alloc; "{fault:<5.1}")?.as_str(),
+        text,
+        "under `<5.1`"
+    );
+    Ok(())
+}
+
+#[test]
+fn faults_print_their_texts_under_options(rt: HostRuntime) -> Result<(), Fail> {
+    let alloc = rt.alloc();
+    for (fault, text) in NUMBERS {
+        prints(&rt, alloc, &fault, text)?;
+    }
+    for (fault, text) in PARSES {
+        prints(&rt, alloc, &fault, text)?;
+        let parsed = Error::Parse(fault);
+        let whole = format!(in alloc; "error while parsing input: {text}")?;
+        prints(&rt, alloc, &parsed, whole.as_str())?;
+    }
+    for (name, place, text) in MISSING {
+        let fault = Error::MissingValue(String::from_str(alloc, name)?, place);
+        prints(&rt, alloc, &fault, text)?;
+    }
+    for (fault, text) in others() {
+        prints(&rt, alloc, &fault, text)?;
+    }
+    Ok(())
+}
+
+/// The slots are named in this text, whatever is asked of it.
+fn names(
+    rt: &impl Abort,
+    alloc: Global,
+    held: &Formattable<'_, u64>,
+    text: &str,
+) -> Result<(), Fail> {
+    assert_eq!(rt; format!(in alloc; "{held:?}")?.as_str(), text, "under `?`");
+    assert_eq!(rt;
+        format!(in alloc; "{held:#?}")?.as_str(),
+        text,
+        "under `#?`"
+    );
+    assert_eq!(rt;
+        format!(in alloc; "{held:10?}")?.as_str(),
+        text,
+        "under `10?`"
+    );
+    Ok(())
+}
+
+// The names of the filled slots, in the order of the rules of slots in docs/DEFINITIONS.md.
+#[test]
+fn slots_are_named_under_options(rt: HostRuntime) -> Result<(), Fail> {
+    let alloc = rt.alloc();
+    let items: [Formattable<'_, u64>; 0] = [];
+    for (held, text) in [
+        (Formattable::default(), "Formattable"),
+        (Formattable::upper_exp(&1), "Formattable(upper_exp)"),
+        (
+            Formattable::debug_display(&1),
+            "Formattable(debug, display)",
+        ),
+        (
+            Formattable::iter(&items).and_integer(&1),
+            "Formattable(debug, display, binary, lower_exp, lower_hex, octal, upper_exp, upper_hex, iter)",
+        ),
+    ] {
+        names(&rt, alloc, &held, text)?;
+    }
+    Ok(())
+}
