@@ -1,6 +1,6 @@
 //! Formats: text and values in, the formatted text or one located fault out.
 
-ghost use Rattle.std.specs.Prelude.{◌≡◌, [], false, length, IfOk};
+ghost use Rattle.std.specs.Prelude.{◌≡◌, ◌≤◌, [], false, length, IfOk};
 ghost use Rattle.std.specs.Str.{chars};
 ghost use Rattle.interpolator.specs.Syntax.At.{outermost};
 ghost use Rattle.interpolator.specs.Meaning.AskedNames.{asked_names};
@@ -86,7 +86,9 @@ const MOST_MORE: usize = 256;
 /// An empty buffer with room for the format and, up to a bound, as many bytes again.
 #[tactic(auto, using(crate::proofs::SyntaxLemmas::CharacterLemmas::no_text))]
 fn buffer_for(alloc: Global, format: &str) -> Result<TextBuffer, AllocError>
-    ensures { IfOk result (λ buffer. as_writer buffer ≡ record { text = []; refused = false }) }
+    ensures empty { IfOk result
+        (λ buffer. as_writer buffer ≡ record { text = []; refused = false }) }
+    ensures room { IfOk result (λ buffer. length format.now ≤ buffer.room) }
 {
     let len = format.len();
     let text = String::with_capacity(alloc, len.saturating_add(len.min(MOST_MORE)))?;

@@ -1,9 +1,9 @@
 -- Exponent form in a buffer: powers of ten, zeros at the end, the point.
-use Rattle.std.proofs.Common.{◌≡◌, ◌≢◌, ℕ, zero, suc, ◌<◌, ◌≤◌, ◌-◌, ◌+◌, ◌*◌, ◌/◌, ◌^◌, Bool, true}
+use Rattle.std.proofs.Common.{◌≡◌, ◌≢◌, ℕ, zero, suc, ◌<◌, ◌≤◌, ◌-◌, ◌+◌, ◌*◌, ◌/◌, ◌^◌, true}
 use Rattle.std.proofs.Common.{false, List, [], ◌∷◌, ◌++◌, length, take, drop, map, get_or, set}
 use Rattle.std.proofs.Common.{replicate, slice_range, refl, sym, ◌∙◌, ap, arith, rules}
 use Rattle.std.proofs.Common.{append_assoc, append-nil, length-append, length-drop, length-set}
-use Rattle.std.proofs.Common.{◌==◌, ◌&&◌, inl, inr}
+use Rattle.std.proofs.Common.{◌==◌, inl, inr}
 use Rattle.std.specs.Fmt.{digit_glyph}
 use Rattle.std.specs.Int.Digits.{digits_of}
 use Rattle.std.specs.Prelude.{Some, nat_lt}
@@ -16,6 +16,7 @@ use Rattle.std.proofs.lemmas.Str.Ascii.{IsAscii-cons}
 use Rattle.std.proofs.Math.Nat.{pow-suc, mul-div_cancel, mul-mod_left, mul_assoc, one-le-pow}
 use Rattle.std.proofs.Math.Nat.{mul-le-mul_left, pow-le-pow_right, div-mul-le_self}
 use Rattle.std.proofs.Math.Seq.{drop-cons}
+use Rattle.std.proofs.Math.Bool.{and-false}
 use Rattle.interpolator_render.specs.Digits.{digit_text}
 use Rattle.interpolator_render.specs.Exponent.{exponent_of, less_zeros, trimmed, zero_extended}
 use Rattle.interpolator_render.specs.Exponent.{scientific, rounded, pointed}
@@ -40,10 +41,6 @@ quotient_fits n unit h u = let part = div-mul-le_self n unit in
 
 -- ---- the zeros at the end
 
-pub and_false : (b : Bool) → (b && false) ≡ false
-and_false true = refl
-and_false false = refl
-
 less_zeros_zero : (digits : List ℕ) → less_zeros (digits ++ 48 ∷ []) ≡ less_zeros digits
 less_zeros_zero [] = refl
 less_zeros_zero (digit ∷ digits) = rw (less_zeros_zero digits) refl
@@ -55,7 +52,7 @@ less_zeros_other (digit ∷ digits) last h =
     let some : (length (digits ++ last ∷ []) == 0) ≡ false =
     let n = length-append digits (last ∷ []) in
     let k : length (digits ++ last ∷ []) ≢ 0 = omega arith in search rules in
-    rw (less_zeros_other digits last h, some, and_false (digit == 48)) refl
+    rw (less_zeros_other digits last h, some, and-false (digit == 48)) refl
 
 pub trimmed_zero : (digits : List ℕ) → 0 < length digits → trimmed (digits ++ 48 ∷ [])
     ≡ trimmed digits

@@ -17,6 +17,7 @@ use Rattle.std.proofs.lemmas.Int.Digits.{all_below_base_digits_of, first_digits_
 use Rattle.std.proofs.lemmas.List.{length-map, length-replicate}
 use Rattle.std.proofs.Math.Nat.{mul-le-mul_right}
 use Rattle.std.proofs.lemmas.Nat.{pow_pos}
+use Rattle.std.proofs.Math.Bool.{and-false}
 use Rattle.interpolator_render.specs.declared.view.Alignment.{Alignment}
 use Rattle.interpolator_render.specs.declared.view.Alignment.TheVariants.{Unset, Left, Center}
 use Rattle.interpolator_render.specs.declared.view.Alignment.TheVariants.{Right}
@@ -31,7 +32,6 @@ use Rattle.interpolator_render.specs.Padding.{padded_number, padded_text, displa
 use Rattle.interpolator_render.specs.Views.{bit_count}
 use Rattle.interpolator_render.specs.Written.{Written, Appends}
 use Rattle.interpolator_render.proofs.DigitLemmas.{zero_or_more, digit_text_zero, digit_text_map}
-use Rattle.interpolator_render.proofs.ExponentLemmas.{and_false}
 use Rattle.interpolator_render.proofs.NumberLemmas.{bool_cases}
 
 -- ---- digits
@@ -190,7 +190,7 @@ tail_step digit digits [] count e = elim (cases_eq digit 48) [
 tail_step digit digits (second ∷ rest) count e =
     let some : (length (second ∷ rest) == 0)
     ≡ false = let n : length (second ∷ rest) ≢ 0 = omega arith in search rules in
-    (count, rw (some, and_false (digit == 48), e) refl)
+    (count, rw (some, and-false (digit == 48), e) refl)
 
 less_zeros_tail : (digits : List ℕ) →
     (count : ℕ) × (digits ≡ less_zeros digits ++ replicate count 48)
@@ -217,7 +217,7 @@ last_step digit (second ∷ rest) last some =
     let more : (length (second ∷ rest) == 0) ≡ false =
     let n : length (second ∷ rest) ≢ 0 = omega arith in search rules in
     let place : suc (suc (length rest)) - 1 ≡ suc (suc (length rest) - 1) = omega arith in
-    rw (more, and_false (digit == 48), place) (last (omega arith))
+    rw (more, and-false (digit == 48), place) (last (omega arith))
 
 less_zeros_last : (digits : List ℕ) → 0 < length (less_zeros digits) →
     get_or (less_zeros digits) (length (less_zeros digits) - 1) 0 ≢ 48
