@@ -1,3 +1,4 @@
+-- The lemmas of the formats.
 pub mod SyntaxLemmas
 pub mod MeaningLemmas
 pub mod ErrorLemmas
