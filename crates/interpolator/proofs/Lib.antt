@@ -1,4 +1,3 @@
--- The lemmas of the formats.
 pub mod SyntaxLemmas
 pub mod MeaningLemmas
 pub mod ErrorLemmas

@@ -1,4 +1,3 @@
--- The definitions that the contracts cite.
 pub use Rattle.interpolator_render.specs.Texts
 pub use Rattle.interpolator_render.specs.Views
 pub use Rattle.interpolator_render.specs.Written

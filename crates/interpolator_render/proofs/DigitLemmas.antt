@@ -1,17 +1,18 @@
 -- The digits of a number in a buffer, written from its end: one, two or four more.
-use Rattle.std.proofs.Common.{◌≡◌, ◌≢◌, ℕ, ◌<◌, ◌≤◌, ◌+◌, ◌-◌, ◌/◌, ◌%◌, ◌^◌, Bool, false, List, []}
-use Rattle.std.proofs.Common.{◌∷◌, ◌++◌, length, take, drop, map, set, get_or, refl, sym, ◌∙◌, ap}
-use Rattle.std.proofs.Common.{arith, rules, append_assoc, length-append, length-drop, length-set}
-use Rattle.std.proofs.Common.{◌==◌, inl, inr, take-take, IsAscii, mod-eq_of_lt, div-le_self}
-use Rattle.std.proofs.Common.{eq-zero-or-pos, le-div_iff_mul-le}
+use Rattle.std.proofs.Common.{◌≡◌, ◌≢◌, ℕ, zero, suc, ◌<◌, ◌≤◌, ◌+◌, ◌-◌, ◌*◌, ◌/◌, ◌%◌, ◌^◌, Bool}
+use Rattle.std.proofs.Common.{true, false, List, [], ◌∷◌, ◌++◌, length, take, drop, map, set}
+use Rattle.std.proofs.Common.{get_or, refl, sym, ◌∙◌, ap, arith, rules, append_assoc, length-append}
+use Rattle.std.proofs.Common.{length-drop, length-set, if◌then◌else◌, ◌==◌, ◌⊎◌, inl, inr}
 use Rattle.std.specs.Fmt.{digit_glyph}
+use Rattle.std.specs.Str.{IsAscii}
 use Rattle.std.specs.Int.Digits.{digits_of, AllBelowBase}
 use Rattle.std.proofs.lemmas.Int.Digits.{length-digits_of-le, digits_of_step, length-digits_of_step}
 use Rattle.std.proofs.lemmas.Int.Digits.{all_below_base_digits_of}
-use Rattle.std.proofs.lemmas.List.{map-append, drop-set, length-map, take-set-le}
+use Rattle.std.proofs.lemmas.List.{map-append, drop-set, length-map, take-set, take-take}
 use Rattle.std.proofs.lemmas.Bool.Decides.{nat_tests}
 use Rattle.std.proofs.lemmas.Str.Ascii.{IsAscii-cons}
-use Rattle.std.proofs.Math.Nat.{pow-le-pow_left, div-eq_of_lt}
+use Rattle.std.proofs.Math.Nat.{pow-le-pow_left, lt-div-mul-add, div-eq_of_lt, mod-eq_of_lt}
+use Rattle.std.proofs.Math.Nat.{div-le_self}
 use Rattle.std.proofs.Math.Seq.{drop-length}
 use Rattle.interpolator_render.specs.Digits.{digit_text}
 
@@ -27,10 +28,26 @@ pub one_digit_more : (base rest at : ℕ) (upper : Bool) (out : List ℕ) → 2 
     ++ drop at (set out at (digit_glyph upper (rest % base)))
     ≡ map (digit_glyph upper) (digits_of base rest) ++ drop (at + 1) out
 one_digit_more base rest at upper out b r l =
-    rw (drop-set out at (digit_glyph upper (rest % base)) l, digits_of_step base rest b r)
-    (rw (map-append, append_assoc) refl)
+    rw (
+      drop-set out at (digit_glyph upper (rest % base)) l,
+      digits_of_step base rest b r,
+      map-append,
+      append_assoc,
+    ) refl
+
+-- what stands in front of a place is as before, once the byte there is written
+pub fewer_in_front : (out old : List ℕ) (at byte : ℕ) → 0 < at → take at out ≡ take at old →
+    take (at - 1) (set out (at - 1) byte) ≡ take (at - 1) old
+fewer_in_front out old at byte h e =
+    take-set out (at - 1) byte ∙ (sym (take-take (at - 1) at out (omega arith))
+    ∙ (ap (take (at - 1)) e ∙ take-take (at - 1) at old (omega arith)))
 
 -- ---- the text of a number
+
+-- a number is zero or above it
+pub zero_or_more : (n : ℕ) → (n ≡ 0) ⊎ (0 < n)
+zero_or_more zero = inl refl
+zero_or_more (suc n) = inr (omega arith)
 
 pub digit_text_zero : (base : ℕ) (upper : Bool) (n : ℕ) → n ≡ 0 → digit_text base upper n ≡ 48 ∷ []
 unfolding digit_text
@@ -44,19 +61,24 @@ digit_text_map base n upper h = let f : (n == 0) ≡ false = let k : n ≢ 0 = o
 
 -- a number has a digit at least
 pub digit_text_some : (base n : ℕ) (upper : Bool) → 2 ≤ base → 0 < length (digit_text base upper n)
-digit_text_some base n upper b = elim (eq-zero-or-pos n) [
+digit_text_some base n upper b = elim (zero_or_more n) [
   | inl e ↦ rw (digit_text_zero base upper n e) (omega arith)
-  | inr h ↦ rw (digit_text_map base n upper h, length-map)
-      (omega (arith, length-digits_of_step base n b h))
+  | inr h ↦ rw (digit_text_map base n upper h)
+      (let l = length-map (digits_of base n) (digit_glyph upper) in
+      omega (arith, length-digits_of_step base n b h))
 ]
 
 -- a number below a power of the base has at most so many digits
 pub length-digit_text-le : (base k n : ℕ) (upper : Bool) → 2 ≤ base → 0 < k → n < base ^ k →
     length (digit_text base upper n) ≤ k
-length-digit_text-le base k n upper b p h = elim (eq-zero-or-pos n) [
-  | inl e ↦ rw (digit_text_zero base upper n e) (omega arith)
-  | inr m ↦ rw (digit_text_map base n upper m, length-map) (length-digits_of-le base k n b h)
-]
+unfolding digit_text
+length-digit_text-le base k n upper b p h =
+    elim (n == 0) as (λ z. length (if z then 48 ∷ [] else map (digit_glyph upper)
+    (digits_of base n)) ≤ k) [
+      | true ↦ omega arith
+      | false ↦ let l = length-map (digits_of base n) (digit_glyph upper) in
+          omega (arith, length-digits_of-le base k n b h)
+    ]
 
 -- ---- the buffer
 
@@ -68,8 +90,9 @@ nothing_behind out size e = rw (← e) (drop-length out)
 pub zero_written : (out : List ℕ) (base : ℕ) (upper : Bool) (n : ℕ) → length out ≡ 128 → n ≡ 0 →
     drop 127 (set out 127 48) ≡ digit_text base upper n
 zero_written out base upper n e z =
-    rw (digit_text_zero base upper n z, drop-set out 127 48 (omega arith), nothing_behind out 128 e)
-    refl
+    let one : drop 127 (set out 127 48) ≡ 48 ∷ drop 128 out = drop-set out 127 48 (omega arith) in
+    one ∙ (ap (λ (x : List ℕ). 48 ∷ x) (nothing_behind out 128 e)
+    ∙ sym (digit_text_zero base upper n z))
 
 -- where the digits begin, the whole text of the number lies behind
 pub text_start : (base n start : ℕ) (upper : Bool) (out : List ℕ) → 2 ≤ base → length out ≡ 128 →
@@ -81,7 +104,8 @@ text_start base n start upper out b e w =
 -- ---- ASCII
 
 IsAscii-glyph : (d : ℕ) (upper : Bool) → d < 16 → digit_glyph upper d < 128
-IsAscii-glyph d upper h = grind (arith, nat_tests)
+IsAscii-glyph d true h = grind (arith, nat_tests)
+IsAscii-glyph d false h = grind (arith, nat_tests)
 
 IsAscii-glyphs : (base : ℕ) (upper : Bool) (ds : List ℕ) → base ≤ 16 → AllBelowBase base ds →
     IsAscii (map (digit_glyph upper) ds)
@@ -91,22 +115,35 @@ IsAscii-glyphs base upper (d ∷ ds) h a = IsAscii-cons _ _
 
 pub IsAscii-digit_text : (base : ℕ) (upper : Bool) (n : ℕ) → 2 ≤ base → base ≤ 16 →
     IsAscii (digit_text base upper n)
-IsAscii-digit_text base upper n l h = elim (eq-zero-or-pos n) [
-  | inl e ↦ rw (digit_text_zero base upper n e)
-      (IsAscii-cons 48 [] (omega arith) (λ i. omega arith))
-  | inr m ↦ rw (digit_text_map base n upper m)
-      (IsAscii-glyphs base upper _ h (all_below_base_digits_of base n l))
-]
+unfolding digit_text
+IsAscii-digit_text base upper n l h =
+    elim (n == 0) as (λ b. IsAscii (if b then 48 ∷ [] else map (digit_glyph upper)
+    (digits_of base n))) [
+      | true ↦ IsAscii-cons 48 [] (omega arith) (λ i. omega arith)
+      | false ↦ IsAscii-glyphs base upper
+          (digits_of base n) h (all_below_base_digits_of base n l)
+    ]
 
 -- ---- the text of a number in front of a place
+
+some_quotient : (base n : ℕ) → 2 ≤ base → base ≤ n → 0 < n / base
+some_quotient base n b h = elim (zero_or_more (n / base)) [
+  | inl e ↦ let l : n < n / base * base + base = lt-div-mul-add (omega arith) in
+      let k : n < 0 * base + base = rw e at l in absurd (omega arith)
+  | inr m ↦ m
+]
 
 -- more than one digit: those of the quotient, and the remainder
 pub digit_text_step : (base n : ℕ) (upper : Bool) → 2 ≤ base → base ≤ n →
     digit_text base upper n ≡ digit_text base upper (n / base) ++ digit_glyph upper (n % base) ∷ []
 digit_text_step base n upper b h =
-    let some = (le-div_iff_mul-le {k = base} {x = 1} {y = n} (omega arith)).1 (omega arith) in
-    rw (digit_text_map base n upper (omega arith), digits_of_step base n b (omega arith))
-    (rw (map-append, ← digit_text_map base (n / base) upper some) refl)
+    let some = some_quotient base n b h in
+    rw (
+      digit_text_map base n upper (omega arith),
+      digits_of_step base n b (omega arith),
+      map-append,
+      ← digit_text_map base (n / base) upper some,
+    ) refl
 
 pub digit_count_step : (base n : ℕ) (upper : Bool) → 2 ≤ base → base ≤ n →
     length (digit_text base upper n) ≡ length (digit_text base upper (n / base)) + 1
@@ -116,10 +153,14 @@ digit_count_step base n upper b h = ap length (digit_text_step base n upper b h)
 -- one digit
 pub digit_text_one : (base n : ℕ) (upper : Bool) → 2 ≤ base → n < base →
     digit_text base upper n ≡ digit_glyph upper n ∷ []
-digit_text_one base n upper b h = elim (eq-zero-or-pos n) [
+digit_text_one base n upper b h = elim (zero_or_more n) [
   | inl e ↦ rw (digit_text_zero base upper n e, e) refl
-  | inr m ↦ rw (digit_text_map base n upper m, digits_of_step base n b m)
-      (rw (div-eq_of_lt h, mod-eq_of_lt h) refl)
+  | inr m ↦ rw (
+    digit_text_map base n upper m,
+    digits_of_step base n b m,
+    div-eq_of_lt h,
+    mod-eq_of_lt h,
+  ) refl
 ]
 
 -- one digit more stands in front
@@ -151,8 +192,11 @@ four_count base n upper b h =
 pub led : (text behind there : List ℕ) (first : ℕ) → 0 < length text →
     first ∷ there ≡ text ++ behind → (text ≡ first ∷ drop 1 text) × (there ≡ drop 1 text ++ behind)
 led [] behind there first h e = absurd (omega arith)
-led (x ∷ xs) behind there first h e =
-    (ap (λ (l : List ℕ). get_or l 0 0 ∷ xs) (sym e), ap (drop 1) e)
+led (x ∷ xs) behind there first h e = (
+  ap (λ (y : ℕ). y ∷ xs)
+      (sym (ap (λ (l : List ℕ). get_or l 0 0) e)),
+  ap (drop 1) e,
+)
 
 -- digits left of a number, written behind its first: the whole but for that
 pub low_written : (base n rest first at end : ℕ) (upper : Bool) (new mid old : List ℕ) → 2 ≤ base →
@@ -210,13 +254,14 @@ pair_count n h =
     let rest : n / 10 / 10 ≡ n / 100 = omega arith in
     let count = rw rest at twice in omega arith
 
-pub take_less : (k at : ℕ) (new old : List ℕ) → k ≤ at → take at new ≡ take at old →
-    take k new ≡ take k old
-take_less k at new old h e = sym (take-take k at new h) ∙ (ap (take k) e ∙ take-take k at old h)
-
 pub pair_in_front : (out old : List ℕ) (at first second : ℕ) → 2 ≤ at → take at out ≡ take at old →
     take (at - 2) (set (set out (at - 1) first) (at - 2) second) ≡ take (at - 2) old
 pair_in_front out old at first second h e =
-    take-set-le (at - 2) (set out (at - 1) first) (at - 2) second (omega arith)
-    ∙ (take-set-le (at - 2) out (at - 1) first (omega arith)
-    ∙ take_less (at - 2) at out old (omega arith) e)
+    let place : at - 1 - 1 ≡ at - 2 = omega arith in
+    let step = fewer_in_front (set out (at - 1) first) old (at - 1) second (omega arith)
+    (fewer_in_front out old at first (omega arith) e) in
+    rw place at step
+
+pub take_less : (k at : ℕ) (new old : List ℕ) → k ≤ at → take at new ≡ take at old →
+    take k new ≡ take k old
+take_less k at new old h e = sym (take-take k at new h) ∙ (ap (take k) e ∙ take-take k at old h)

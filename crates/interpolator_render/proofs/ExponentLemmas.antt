@@ -3,22 +3,25 @@ use Rattle.std.proofs.Common.{◌≡◌, ◌≢◌, ℕ, zero, suc, ◌<◌, ◌
 use Rattle.std.proofs.Common.{false, List, [], ◌∷◌, ◌++◌, length, take, drop, map, get_or, set}
 use Rattle.std.proofs.Common.{replicate, slice_range, refl, sym, ◌∙◌, ap, arith, rules}
 use Rattle.std.proofs.Common.{append_assoc, append-nil, length-append, length-drop, length-set}
-use Rattle.std.proofs.Common.{◌==◌, inl, inr, Some, nat_lt, length-take-le, take_all, IsAscii}
-use Rattle.std.proofs.Common.{pow-suc, mul_assoc, mul-le-mul_left, div-mul-le_self, drop-cons}
-use Rattle.std.proofs.Common.{eq-zero-or-pos, ◌%◌}
+use Rattle.std.proofs.Common.{◌==◌, inl, inr}
 use Rattle.std.specs.Fmt.{digit_glyph}
 use Rattle.std.specs.Int.Digits.{digits_of}
+use Rattle.std.specs.Prelude.{Some, nat_lt}
+use Rattle.std.specs.Str.{IsAscii}
 use Rattle.std.proofs.lemmas.Int.Digits.{digits_of_step}
 use Rattle.std.proofs.lemmas.List.{map-append, take_more, replicate-append-replicate}
-use Rattle.std.proofs.lemmas.List.{length-replicate, drop-set, set_comm}
+use Rattle.std.proofs.lemmas.List.{length-replicate, length-take-le, drop-set, set_comm, take_all}
 use Rattle.std.proofs.lemmas.Str.{IsAscii-take}
 use Rattle.std.proofs.lemmas.Str.Ascii.{IsAscii-cons}
-use Rattle.std.proofs.Math.Nat.{one-le-pow, pow-le-pow_right}
+use Rattle.std.proofs.Math.Nat.{pow-suc, mul-div_cancel, mul-mod_left, mul_assoc, one-le-pow}
+use Rattle.std.proofs.Math.Nat.{mul-le-mul_left, pow-le-pow_right, div-mul-le_self}
+use Rattle.std.proofs.Math.Seq.{drop-cons}
 use Rattle.std.proofs.Math.Bool.{and-false}
 use Rattle.interpolator_render.specs.Digits.{digit_text}
 use Rattle.interpolator_render.specs.Exponent.{exponent_of, less_zeros, trimmed, zero_extended}
 use Rattle.interpolator_render.specs.Exponent.{scientific, rounded, pointed}
-use Rattle.interpolator_render.proofs.DigitLemmas.{digit_text_zero, digit_text_map, digit_text_some}
+use Rattle.interpolator_render.proofs.DigitLemmas.{zero_or_more, digit_text_zero, digit_text_map}
+use Rattle.interpolator_render.proofs.DigitLemmas.{digit_text_some}
 
 -- ---- powers of ten that fit
 
@@ -89,13 +92,18 @@ digits_scaled n (suc k) h =
     in
     let some : 0 < n * 10 ^ k * 10 = let more = mul-le-mul_left n (one-le-pow k 10 (omega arith)) in
     omega arith in
-    let step = digits_of_step 10 (n * 10 ^ k * 10) (omega arith) some in
-    let quotient : n * 10 ^ k * 10 / 10 ≡ n * 10 ^ k = omega arith in
-    let last : n * 10 ^ k * 10 % 10 ≡ 0 = omega arith in
-    let e : k + 1 ≡ suc k = omega arith in
-    rw (wide, step, quotient, last, digits_scaled n k h, append_assoc)
+    rw (
+      wide,
+      digits_of_step 10 (n * 10 ^ k * 10) (omega arith) some,
+      mul-div_cancel (n * 10 ^ k)
+          {n = 10} (omega arith),
+      mul-mod_left (n * 10 ^ k) 10,
+      digits_scaled n k h,
+      append_assoc,
+    )
     (ap (λ (x : List ℕ). digits_of 10 n ++ x)
-    (replicate-append-replicate k 1 0 ∙ ap (λ (m : ℕ). replicate m 0) e))
+    (let e : k + 1 ≡ suc k = omega arith in replicate-append-replicate k 1 0
+    ∙ ap (λ (m : ℕ). replicate m 0) e))
 
 glyphs_of_zeros : (k : ℕ) → map (digit_glyph false) (replicate k 0) ≡ replicate k 48
 glyphs_of_zeros zero = refl
@@ -106,8 +114,14 @@ digit_text_scaled : (n k : ℕ) → 0 < n → digit_text 10 false (n * 10 ^ k) �
 digit_text_scaled n k h =
     let some : 0 < n * 10 ^ k = let more = mul-le-mul_left n (one-le-pow k 10 (omega arith)) in
     omega arith in
-    rw (digit_text_map 10 (n * 10 ^ k) false some, digits_scaled n k h, map-append)
-    (rw (glyphs_of_zeros k, ← digit_text_map 10 n false h) refl)
+    rw (
+      digit_text_map 10 (n * 10 ^ k) false some,
+      digits_scaled n k h,
+      map-append,
+      glyphs_of_zeros
+          k,
+      ← digit_text_map 10 n false h,
+    ) refl
 
 extended_whole : (count : ℕ) (digits : List ℕ) → length digits ≡ count →
     digits ≡ zero_extended count digits
@@ -128,7 +142,7 @@ zero_placed n places e =
 pub digits_placed : (n places : ℕ) → exponent_of n ≤ places →
     digit_text 10 false n ++ replicate (places - exponent_of n) 48
     ≡ zero_extended (places + 1) (digit_text 10 false (n * 10 ^ (places - exponent_of n)))
-digits_placed n places h = elim (eq-zero-or-pos n) [
+digits_placed n places h = elim (zero_or_more n) [
   | inl e ↦ zero_placed n places e
   | inr m ↦ rw (digit_text_scaled n (places - exponent_of n) m)
       (extended_whole (places + 1) _ (let l = length-append (digit_text 10 false n)
@@ -137,30 +151,21 @@ digits_placed n places h = elim (eq-zero-or-pos n) [
       let s = digit_text_some 10 n false (omega arith) in omega arith))
 ]
 
-pub scientific_short : (places n exponent : ℕ) → exponent ≡ exponent_of n → exponent ≤ places →
+pub scientific_short : (places n : ℕ) → exponent_of n ≤ places →
     scientific (Some places) n ≡ record {
-      digits = zero_extended (places + 1) (digit_text 10 false (n * 10 ^ (places - exponent)));
-      exponent = exponent;
+      digits = zero_extended (places + 1)
+          (digit_text 10 false (n * 10 ^ (places - exponent_of n)));
+      exponent = exponent_of n;
     }
 unfolding scientific
-scientific_short places n exponent e h = let f : nat_lt places exponent ≡ false = search rules in
-    rw (← e, f) refl
+scientific_short places n h = let f : nat_lt places (exponent_of n) ≡ false = search rules in
+    rw f refl
 
--- the same, with the zeros behind the digits
-pub scientific_placed : (places n exponent : ℕ) → exponent ≡ exponent_of n → exponent ≤ places →
-    scientific (Some places) n
-    ≡ record {
-      digits = digit_text 10 false n ++ replicate (places - exponent) 48;
-      exponent = exponent;
-    }
-scientific_placed places n exponent e h = let short : exponent_of n ≤ places = rw e at h in
-    rw (e, scientific_short places n _ refl short, ← digits_placed n places short) refl
-
-pub scientific_long : (places n exponent : ℕ) → exponent ≡ exponent_of n → places < exponent →
-    scientific (Some places) n ≡ rounded places n exponent
+pub scientific_long : (places n : ℕ) → places < exponent_of n → scientific (Some places) n
+    ≡ rounded places n (exponent_of n)
 unfolding scientific
-scientific_long places n exponent e h = let f : nat_lt places exponent ≡ true = search rules in
-    rw (← e, f) refl
+scientific_long places n h = let f : nat_lt places (exponent_of n) ≡ true = search rules in
+    rw f refl
 
 -- ---- the point
 
@@ -176,16 +181,16 @@ pub point_written : (buffer : List ℕ) (start : ℕ) → 0 < start → start < 
 point_written buffer start h l =
     let first = get_or buffer start 0 in
     let place : start - 1 + 1 ≡ start = omega arith in
+    let size = length-set buffer (start - 1) first in
     let swapped = set_comm buffer (start - 1) start first 46 (λ e. omega arith) in
     let sizes = length-set buffer start 46 in
-    rw (swapped, drop-set (set buffer start 46) (start - 1) first (omega arith), place)
-    (rw (drop-set buffer start 46 l) refl)
-
-opened : (buffer : List ℕ) (start : ℕ) → start < length buffer →
-    drop start buffer ≡ get_or buffer start 0 ∷ drop (start + 1) buffer
-opened buffer start l = drop-cons buffer start 0 l
-    ∙ (let next : suc start ≡ start + 1 = omega arith in
-    rw next refl)
+    rw (
+      swapped,
+      drop-set (set buffer start 46) (start - 1) first (omega arith),
+      place,
+      drop-set
+          buffer start 46 l,
+    ) refl
 
 -- what then stands from the first digit to the end is the text with its point
 pub point_text : (buffer : List ℕ) (start end zeros : ℕ) → 0 < start → start < end →
@@ -199,6 +204,9 @@ point_text buffer start end zeros h s l more =
     let first = get_or buffer start 0 in
     let long : end - (start - 1) ≡ suc (suc count) = omega arith in
     let short : end - start ≡ suc count = omega arith in
+    let after : suc start ≡ start + 1 = omega arith in
+    let opened : drop start buffer ≡ first ∷ behind = drop-cons buffer start 0 (omega arith)
+    ∙ ap (λ (n : ℕ). first ∷ drop n buffer) after in
     let some : 0 < length (take count behind ++ replicate zeros 48) =
     let a = length-append (take count behind) (replicate zeros 48) in
     let b = length-replicate {A = ℕ} zeros 48 in
@@ -206,7 +214,7 @@ point_text buffer start end zeros h s l more =
     omega arith in
     let old : slice_range buffer start end
     ≡ first ∷ take count behind = ap (λ (n : ℕ). take n (drop start buffer)) short
-    ∙ ap (λ (x : List ℕ). take (suc count) x) (opened buffer start (omega arith)) in
+    ∙ ap (λ (x : List ℕ). take (suc count) x) opened in
     rw (point_written buffer start h (omega arith), long, old)
     (sym (pointed_more first (take count behind ++ replicate zeros 48) some))
 
@@ -216,7 +224,10 @@ pub IsAscii-point : (buffer : List ℕ) (start end : ℕ) → 0 < start → star
     (set (set buffer (start - 1) (get_or buffer start 0)) start 46)))
 IsAscii-point buffer start end h l a =
     let behind = drop (start + 1) buffer in
-    let whole : IsAscii (get_or buffer start 0 ∷ behind) = rw (opened buffer start l) at a in
+    let after : suc start ≡ start + 1 = omega arith in
+    let opened : drop start buffer ≡ get_or buffer start 0 ∷ behind = drop-cons buffer start 0 l
+    ∙ ap (λ (n : ℕ). get_or buffer start 0 ∷ drop n buffer) after in
+    let whole : IsAscii (get_or buffer start 0 ∷ behind) = rw opened at a in
     let tail : IsAscii (46 ∷ behind) = IsAscii-cons 46 behind (omega arith) (λ i. whole (suc i)) in
     rw (point_written buffer start h l) (IsAscii-take (get_or buffer start 0 ∷ 46 ∷ behind)
     (end - (start - 1)) (IsAscii-cons (get_or buffer start 0) (46 ∷ behind) (whole 0) tail))

@@ -1,5 +1,6 @@
 -- What `render` answers for what a writer answered.
-use Rattle.std.proofs.Common.{◌≡◌, ℕ, List, refl, Result, Ok, Err, Some, ℤ, false}
+use Rattle.std.proofs.Common.{◌≡◌, ℕ, List, refl}
+use Rattle.std.specs.Prelude.{Result, Ok, Err, Some, ℤ, false}
 use Rattle.interpolator_render.specs.declared.number.NumberForm.{NumberForm}
 use Rattle.interpolator_render.specs.declared.text_write.Refusal.{Refusal}
 use Rattle.interpolator_render.specs.declared.view.Bits.{Bits}

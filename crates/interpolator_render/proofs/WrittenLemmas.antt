@@ -1,7 +1,9 @@
 -- What a writer over a `String` took or refused.
-use Rattle.std.proofs.Common.{◌≡◌, ◌⊎◌, ℕ, ◌+◌, ◌<◌, true, false, List, [], ◌∷◌, ◌++◌, length, refl}
-use Rattle.std.proofs.Common.{sym, ◌∙◌, ap, arith, append-nil, encode_utf8, encode_utf8_all, Bool}
-use Rattle.std.proofs.Common.{Result, Ok, Err, OnOk, OnErr, MatchResult, chars, IsUtf8}
+use Rattle.std.proofs.Common.{◌≡◌, ◌⊎◌, ℕ, ◌+◌, ◌<◌, true, false, List, [], ◌∷◌, ◌++◌, length, refl, sym, ◌∙◌}
+use Rattle.std.proofs.Common.{ap, arith, append-nil}
+use Rattle.std.specs.Str.{chars, IsUtf8}
+use Rattle.std.specs.Prelude.{encode_utf8, encode_utf8_all, Bool, Result, Ok, Err, OnOk, OnErr}
+use Rattle.std.specs.Prelude.{MatchResult}
 use Rattle.interpolator_render.specs.declared.text_write.Refusal.{Refusal}
 use Rattle.std.specs.Char.{IsScalar}
 use Rattle.std.proofs.lemmas.Str.{chars-append, chars-nil, IsUtf8-encode, chars_past_char}

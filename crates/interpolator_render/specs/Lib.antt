@@ -1,4 +1,3 @@
--- The definitions that the contracts cite.
 pub mod Written
 pub mod Views
 pub mod Characters

@@ -1,2 +1,1 @@
--- The lemmas of the tests.
 pub mod LimitLemmas

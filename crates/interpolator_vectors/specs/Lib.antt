@@ -1,2 +1,1 @@
--- What the values of the tests show.
 pub mod Cells

@@ -49,13 +49,13 @@ module _ (a : At) (run other : At → List (List ℕ))
   kind_alike (of_list l) h = rw (group_alike l.item h.item, group_alike l.join h.join) refl
 
   piece_alike : (kind : PieceKind) → PieceIn kind a → piece_asks run kind ≡ piece_asks other kind
-  piece_alike (closed start x q) h = ap (λ names. x.name ∷ names) (kind_alike x.kind h.kind)
-  piece_alike (unclosed start x q) h = ap (λ names. x.name ∷ names) (kind_alike x.kind h.kind)
+  piece_alike (closed start x q) h = ap (λ names. x.name ∷ names) (kind_alike x.kind h)
+  piece_alike (unclosed start x q) h = ap (λ names. x.name ∷ names) (kind_alike x.kind h)
   piece_alike kind h = refl
 
   pieces_alike : (xs : List Piece) → PiecesIn xs a → pieces_ask run xs ≡ pieces_ask other xs
   pieces_alike [] h = refl
-  pieces_alike (x ∷ xs) h = rw (piece_alike x.kind h.0, pieces_alike xs h.2) refl
+  pieces_alike (x ∷ xs) h = rw (piece_alike x.kind h.0, pieces_alike xs h.1) refl
 
 deep_names : (n m : ℕ) (a : At) → length a.text < n → length a.text < m
     → asked_within n a ≡ asked_within m a
@@ -160,10 +160,10 @@ module _ {X : Type 0} (shows : X → Trait → Spec → Shown) (a : At)
   piece_agrees : (p : ℕ) (kind : PieceKind) → PieceIn kind a
       → AgreeOn e d (piece_asks asked_names kind)
       → piece_means shows run e p kind ≡ piece_means shows other d p kind
-  piece_agrees p (closed start x q) h k = argument_agrees start x q h.kind k
+  piece_agrees p (closed start x q) h k = argument_agrees start x q h k
   piece_agrees p (unclosed start x q) h k =
       ap (λ m. joined m (fault_alone (parse (expected (codes "}") q))))
-      (argument_agrees start x q h.kind k)
+      (argument_agrees start x q h k)
   piece_agrees p kind h k = refl
 
   pieces_agree : (xs : List Piece) → PiecesIn xs a → AgreeOn e d (pieces_ask asked_names xs)
@@ -174,7 +174,7 @@ module _ {X : Type 0} (shows : X → Trait → Spec → Shown) (a : At)
       let others = pieces_ask asked_names xs in
       rw (
         piece_agrees x.place x.kind h.0 (agree_left e d first others k),
-        pieces_agree xs h.2 (agree_right e d first others k),
+        pieces_agree xs h.1 (agree_right e d first others k),
       ) refl
 
 -- ---- any depth that is deep enough

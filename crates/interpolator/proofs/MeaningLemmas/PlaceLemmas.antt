@@ -1,6 +1,7 @@
 -- Every place of a meaning lies in the text.
-use Rattle.std.proofs.Common.{◌≡◌, ℕ, zero, suc, ◌+◌, ◌≤◌, List, [], ◌∷◌, ◌++◌, length, arith}
-use Rattle.std.proofs.Common.{subst, Option, Some, None, option_map, inl, inr}
+use Rattle.std.proofs.Common.{◌≡◌, ℕ, zero, suc, ◌+◌, ◌≤◌, eqb, List, [], ◌∷◌, ◌++◌, length, arith}
+use Rattle.std.proofs.Common.{refl, subst, Result, Ok, Err, Option, Some, None, option_map, inl}
+use Rattle.std.proofs.Common.{inr}
 use Rattle.std.specs.Prelude.{⊤, is_some}
 use Rattle.interpolator_render.specs.declared.view.Trait.{Trait}
 use Rattle.interpolator_render.specs.declared.view.Trait.TheVariants as traits
@@ -9,26 +10,31 @@ use Rattle.interpolator_render.specs.Padding.{padded_text}
 use Rattle.interpolator_render.specs.Views.{Shown}
 use Rattle.interpolator_render.specs.Texts.{ViewText, has_text, has_no_text, has_failed, view_text}
 use Rattle.interpolator_render.specs.Written.{Written}
-use Rattle.interpolator.specs.Syntax.At.{At, Placed, placed_at, text_of, size}
+use Rattle.interpolator.specs.Syntax.At.{At, Placed, placed_at, text_of, size, strip, strip_of}
+use Rattle.interpolator.specs.Syntax.Classes.{open_brace, close_brace}
 use Rattle.interpolator.specs.Syntax.Groups.{Group}
 use Rattle.interpolator.specs.Syntax.Lists.{ListAsked}
 use Rattle.interpolator.specs.Syntax.SpecTexts.{Kind, of_value, of_list, plain_spec}
-use Rattle.interpolator.specs.Syntax.Arguments.{Argument}
+use Rattle.interpolator.specs.Syntax.Arguments.{Argument, argument_at}
 use Rattle.interpolator.specs.Meaning.Choices.{chosen_items}
 use Rattle.interpolator.specs.Meaning.Environments.{Environment, given, bind}
 use Rattle.interpolator.specs.Faults.{Fault, Answer, fault, fault_place, PlaceWithin, no_memory}
-use Rattle.interpolator.specs.Meaning.Meanings.{Meaning, nothing, or_fault, joined, view_means}
-use Rattle.interpolator.specs.Meaning.Meanings.{value_means, forbids_list, made_whole, padded_list}
-use Rattle.interpolator.specs.Meaning.Meanings.{inside, items_behind, items_mean, item_means}
-use Rattle.interpolator.specs.Meaning.Meanings.{join_means, list_means, kind_means, found_means}
-use Rattle.interpolator.specs.Meaning.Meanings.{argument_means, piece_means, pieces_mean}
-use Rattle.interpolator.specs.Meaning.Meanings.{means_within, means}
+use Rattle.interpolator.specs.Meaning.Meanings.{Meaning, nothing, text_alone, or_fault, joined}
+use Rattle.interpolator.specs.Meaning.Meanings.{view_means, value_means, forbids_list, made_whole}
+use Rattle.interpolator.specs.Meaning.Meanings.{padded_list, inside, items_behind, items_mean}
+use Rattle.interpolator.specs.Meaning.Meanings.{item_means, join_means, list_means, kind_means}
+use Rattle.interpolator.specs.Meaning.Meanings.{found_means, argument_means, piece_means}
+use Rattle.interpolator.specs.Meaning.Meanings.{pieces_mean, means_within, means}
 use Rattle.interpolator.specs.Meaning.Outcomes.{Outcome}
-use Rattle.interpolator.specs.Syntax.Pieces.{pieces, Piece, PieceKind, closed, unclosed, broken}
+use Rattle.interpolator.specs.Syntax.Pieces.{Step, argument_step, argument_or_broken, argument_from}
+use Rattle.interpolator.specs.Syntax.Pieces.{open_step, close_step, piece_from, past, pieces_within}
+use Rattle.interpolator.specs.Syntax.Pieces.{pieces}
 use Rattle.interpolator.specs.Trees.{Tree, slots, items, slot_at}
 use Rattle.interpolator.proofs.SyntaxLemmas.TestLemmas.{in_both}
+use Rattle.interpolator.proofs.SyntaxLemmas.LocalityLemmas.{takes_reaches}
 use Rattle.interpolator.proofs.SyntaxLemmas.SizeLemmas.{GroupIn, GroupIfIn, ListIn, KindIn}
-use Rattle.interpolator.proofs.SyntaxLemmas.SizeLemmas.{ArgumentIn, PieceIn, PiecesIn, pieces_in}
+use Rattle.interpolator.proofs.SyntaxLemmas.SizeLemmas.{argument_in}
+use Rattle.interpolator.proofs.SyntaxLemmas.ReaderLemmas.{argument_takes, argument_refuses}
 
 -- each character stands at one of the first places
 abbrev StandsWithin : ℕ → Placed → Type 0
@@ -89,6 +95,19 @@ within_more n k m l h = record {
   faults = fault_more n k m.fault l h.faults;
 }
 
+-- ---- what stands behind ends where the text ends
+
+abbrev pub ReachesTo : ℕ → At → Type 0
+ReachesTo n a = a.place + size a.text ≡ n
+
+abbrev OptionReaches : ℕ → Option At → Type 0
+OptionReaches n None = ⊤
+OptionReaches n (Some rest) = ReachesTo n rest
+
+strip_ends : (n c p : ℕ) (cs : List ℕ) → p + size cs ≡ n → OptionReaches n (strip_of c p cs)
+strip_ends n c p [] h = tt
+strip_ends n c p (d ∷ ds) h = in_both (OptionReaches n) (eqb d c) _ _ (omega arith) tt
+
 -- ---- arguments
 
 module _ {X : Type 0} (shows : X → Trait → Spec → Shown) where
@@ -133,15 +152,12 @@ AllWithin {X = X} run = (e : Environment X) (b : At) → Within (b.place + size 
 
 module _
     {X : Type 0} (shows : X → Trait → Spec → Shown) (run : Environment X → At → Meaning)
-    (inner : AllWithin run) (a : At) where
-  -- where the text ends
-  abbrev n : ℕ
-  n = a.place + size a.text
-
+    (inner : AllWithin run) (a : At) (n : ℕ) (ends : a.place + size a.text ≡ n) where
   -- what a group of the text means
   group_within : (e : Environment X) (g : Group) → GroupIn g a → Within n (run e (inside g))
   group_within e g h =
-      within_more (g.place + size g.text) n (run e (inside g)) h.lies (inner e (inside g))
+      within_more (g.place + size g.text) n (run e (inside g)) (omega (arith, h.lies, ends))
+      (inner e (inside g))
 
   item_within :
       (e : Environment X) (q : ℕ) (o : Option Group) (item : Tree X) → q ≤ n → GroupIfIn o a
@@ -179,34 +195,92 @@ module _
   found_within e start x q None h k within = ends_within n _ _ h
   found_within e start x q (Some found) h k within = kind_within e x.kind x.spec q found k within
 
-  -- ---- pieces
+-- ---- pieces
 
-  argument_within : (e : Environment X) (start : ℕ) (x : Argument) (q : ℕ) → ArgumentIn start x q a
-      → Within n (argument_means shows run e start x q)
-  argument_within e start x q h =
-      found_within e start x q (given e x.name) h.starts h.ends h.kind
+module _
+    {X : Type 0} (shows : X → Trait → Spec → Shown) (run : Environment X → At → Meaning)
+    (inner : AllWithin run) (e : Environment X) where
+  -- a piece means what lies in the text, and what stands behind it ends with the text
+  record StepWithin (n : ℕ) (s : Step) : Type 0 where
+    meaning : Within n (piece_means shows run e s.piece.place s.piece.kind)
+    behind_it : ReachesTo n s.rest
 
-  piece_within :
-      (e : Environment X) (p : ℕ) (kind : PieceKind) → p ≤ n → PieceIn kind a
-      → Within n (piece_means shows run e p kind)
-  piece_within e p (closed start x q) h k = argument_within e start x q k
-  piece_within e p (unclosed start x q) h k =
-      within_joined n _ _ (argument_within e start x q k) (ends_within n _ [] k.ends)
-  piece_within e p (broken f) h k = ends_within n f [] k
-  piece_within e p kind h k = record { stands = (h, tt); faults = tt }
+  one_character : (n p c : ℕ) → p ≤ n → Within n (text_alone ((c, p) ∷ []))
+  one_character n p c h = record { stands = (h, tt); faults = tt }
 
-  pieces_lie : (e : Environment X) (xs : List Piece) → PiecesIn xs a
-      → Within n (pieces_mean shows run e xs)
-  pieces_lie e [] h = nothing_within n
-  pieces_lie e (x ∷ xs) h =
-      within_joined n _ (pieces_mean shows run e xs) (piece_within e x.place x.kind h.1 h.0)
-      (pieces_lie e xs h.2)
+  module _ (n p : ℕ) (b : At) (starts : p ≤ n) (behind_brace : ReachesTo n b) where
+    argument_within :
+        (x : Argument) (q : At) → KindIn x.kind b → ReachesTo n q
+        → Within n (argument_means shows run e b.place x q.place)
+    argument_within x q within h =
+        found_within shows run inner b n behind_brace e b.place x q.place (given e x.name)
+        (omega arith) (omega arith) within
+
+    argument_step_within :
+        (x : Argument) (q : At) (o : Option At) → KindIn x.kind b → ReachesTo n q
+        → OptionReaches n o → StepWithin n (argument_step p b x q o)
+    argument_step_within x q None within h k = record {
+      meaning =
+          within_joined n _ _ (argument_within x q within h) (ends_within n _ [] (omega arith));
+      behind_it = omega arith;
+    }
+    argument_step_within x q (Some rest) within h k =
+        record { meaning = argument_within x q within h; behind_it = k }
+
+    argument_or_broken_within :
+        (r : Result (Argument × At) Fault) → argument_at b ≡ r
+        → StepWithin n (argument_or_broken p b r)
+    argument_or_broken_within (Ok x) e =
+        let q = x.1 in
+        let h = takes_reaches n b q (argument_takes b x.0 q e) behind_brace in
+        argument_step_within x.0 q (strip close_brace q) (argument_in b x.0 q e) h
+        (strip_ends n close_brace q.place q.text h)
+    argument_or_broken_within (Err f) e = record {
+      meaning = ends_within n f [] (omega (arith, argument_refuses b f e));
+      behind_it = omega arith;
+    }
+
+    open_within : (o : Option At) → OptionReaches n o → StepWithin n (open_step p b o)
+    unfolding argument_from
+    open_within None h = argument_or_broken_within (argument_at b) refl
+    open_within (Some rest) h =
+        record { meaning = one_character n p open_brace starts; behind_it = h }
+
+    close_within : (o : Option At) → OptionReaches n o → StepWithin n (close_step p b o)
+    close_within None h =
+        record { meaning = one_character n p close_brace starts; behind_it = behind_brace }
+    close_within (Some rest) h =
+        record { meaning = one_character n p close_brace starts; behind_it = h }
+
+    step_within : (c : ℕ) → StepWithin n (piece_from p c b)
+    step_within c =
+        let P = StepWithin n in
+        in_both P (eqb c open_brace) _ _
+        (open_within (strip open_brace b) (strip_ends n open_brace b.place b.text behind_brace))
+        (in_both P (eqb c close_brace) _ _
+        (close_within (strip close_brace b)
+        (strip_ends n close_brace b.place b.text behind_brace))
+        (record { meaning = one_character n p c starts; behind_it = behind_brace }))
+
+  pieces_lie :
+      (most n p : ℕ) (cs : List ℕ) → p + size cs ≡ n
+      → Within n (pieces_mean shows run e (pieces_within most p cs))
+  pieces_lie most n p [] h = nothing_within n
+  pieces_lie zero n p (c ∷ cs) h = nothing_within n
+  pieces_lie (suc most) n p (c ∷ cs) h =
+      let b = past p c cs in
+      let s = piece_from p c b in
+      let w = step_within n p b (omega arith) (omega arith) c in
+      within_joined n _ (pieces_mean shows run e (pieces_within most s.rest.place s.rest.text))
+      w.meaning (pieces_lie most n s.rest.place s.rest.text w.behind_it)
 
 module _ {X : Type 0} (shows : X → Trait → Spec → Shown) where
   depth_lies : (depth : ℕ) → AllWithin (means_within shows depth)
+  unfolding pieces
   depth_lies zero e a = nothing_within _
   depth_lies (suc depth) e a =
-      pieces_lie shows (means_within shows depth) (depth_lies depth) a e (pieces a) (pieces_in a)
+      pieces_lie shows (means_within shows depth) (depth_lies depth) e (length a.text) _ a.place
+      a.text refl
 
   -- every place of what a text means lies in the text
   means_lies : AllWithin (means shows)

@@ -20,6 +20,7 @@ use Rattle.interpolator.proofs.SyntaxLemmas.LongestLemmas.{behind_longest}
 use Rattle.interpolator.proofs.SyntaxLemmas.GrammarPartLemmas.{ok_pair, Says, Stripped, stripped}
 use Rattle.interpolator.proofs.SyntaxLemmas.GrammarPartLemmas.{strip_lies, strip_not}
 use Rattle.interpolator.proofs.SyntaxLemmas.GrammarSpecLemmas.{agrees_spec, only_spec, only_no_spec}
+use Rattle.interpolator.proofs.SyntaxLemmas.TestLemmas.{ok_same, err_same}
 
 -- ---- the name
 
@@ -147,30 +148,33 @@ module _ (a : At) where
       asked_told a.place n (named_is a).named.stops (strip close_brace n) (strip colon n)
       (stripped close_brace n) (stripped colon n)
 
-  -- what is answered at a is an argument there, or why there is none
-  abbrev ArgumentSays : Result (Argument × At) Fault → Type 0
-  ArgumentSays (Ok w) = IsArgument a w.0 w.1
-  ArgumentSays (Err f) = IsNoArgument a f
+  told_is :
+      (x : Argument) (q : At) (o : Result (Asked × At) Fault) → Told a.place (name_end a) o
+      → on o (λ y. give (argument (name_read a) (name_from a).place y)) ≡ Ok (x, q)
+      → IsArgument a x q
+  told_is x q (Ok w) t e =
+      subst (λ (z : Argument × At). IsArgument a z.0 z.1) (ok_same e)
+      (record { behind = name_end a; named = named_is a; asks = t })
+  told_is x q (Err f) t e = let no_way = e in cc
 
-  told_says : (o : Result (Asked × At) Fault) → Told a.place (name_end a) o
-      → ArgumentSays (on o (λ y. give (argument (name_read a) (name_from a).place y)))
-  told_says (Ok w) t = record { behind = name_end a; named = named_is a; asks = t }
-  told_says (Err f) t = record {
-    name = name_read a;
-    name_place = (name_from a).place;
-    behind = name_end a;
-    named = named_is a;
-    refused = t;
-  }
-
-  argument_says : ArgumentSays (argument_at a)
-  argument_says =
-      subst ArgumentSays
-      (sym (name_found a (name_read a) (name_from a).place (name_end a) (named_is a)))
-      (told_says (asked_at a.place (name_end a)) what_is_told)
+  told_is_not :
+      (f : Fault) (o : Result (Asked × At) Fault) → Told a.place (name_end a) o
+      → on o (λ y. give (argument (name_read a) (name_from a).place y)) ≡ Err f → IsNoArgument a f
+  told_is_not f (Ok w) t e = let no_way = e in cc
+  told_is_not f (Err d) t e =
+      subst (IsNoArgument a) (err_same e)
+      (record {
+        name = name_read a;
+        name_place = (name_from a).place;
+        behind = name_end a;
+        named = named_is a;
+        refused = t;
+      })
 
 pub argument_is : (a q : At) (x : Argument) → argument_at a ≡ Ok (x, q) → IsArgument a x q
-argument_is a q x e = subst (ArgumentSays a) e (argument_says a)
+argument_is a q x e =
+    told_is a x q (asked_at a.place (name_end a)) (what_is_told a)
+    (sym (name_found a (name_read a) (name_from a).place (name_end a) (named_is a)) ∙ e)
 
 pub only_argument : (a q : At) (x : Argument) → IsArgument a x q → argument_at a ≡ Ok (x, q)
 only_argument a q x h =
@@ -179,7 +183,9 @@ only_argument a q x h =
     (only_asked a.place h.behind (asked x) q h.asks)
 
 pub broken_is : (a : At) (f : Fault) → argument_at a ≡ Err f → IsNoArgument a f
-broken_is a f e = subst (ArgumentSays a) e (argument_says a)
+broken_is a f e =
+    told_is_not a f (asked_at a.place (name_end a)) (what_is_told a)
+    (sym (name_found a (name_read a) (name_from a).place (name_end a) (named_is a)) ∙ e)
 
 pub only_broken : (a : At) (f : Fault) → IsNoArgument a f → argument_at a ≡ Err f
 only_broken a f h =

@@ -1,11 +1,11 @@
 -- A trait is its text, both ways, and why a text begins none.
 use Rattle.std.proofs.Common.{◌≡◌, ◌≢◌, ℕ, ◌+◌, Bool, true, false, eqb, All, List, [], ◌∷◌, ◌++◌}
 use Rattle.std.proofs.Common.{arith, refl, ap, ◌∙◌, sym, subst, Result, Ok, Err, Option, Some, None}
-use Rattle.std.proofs.Common.{inl, inr, eqb-true, ◌<◌, get_or}
+use Rattle.std.proofs.Common.{inl, inr, eqb-true}
 use Rattle.std.specs.Prelude.{codes}
 use Rattle.std.specs.Char.{len_utf8}
 use Rattle.std.proofs.lemmas.Bool.{eqb-false, ne_eqb, cond_both, cond-true, cond-false}
-use Rattle.std.proofs.lemmas.List.Elements.{All-nil, All-cons, All-get_or}
+use Rattle.std.proofs.lemmas.List.Elements.{All-nil, All-cons, All-head, All-tail}
 use Rattle.interpolator_render.specs.declared.view.Trait.{Trait}
 use Rattle.interpolator_render.specs.declared.view.Trait.TheVariants as traits
 use Rattle.interpolator_render.specs.declared.view.HexDebug.{HexDebug}
@@ -120,22 +120,32 @@ module _ (start : ℕ) (flagged : Bool) where
     -- a character that begins no trait
     no_trait_begins :
         None_of (codes "}?oxXbeEip") → trait_from here c past ≡ Err (parse (expected (codes "}") p))
-    no_trait_begins h = rw (
-      apart 0 (omega arith),
-      apart 3 (omega arith),
-      apart 4 (omega arith),
-      apart 1 (omega arith),
-      apart 2 (omega arith),
-      apart 5 (omega arith),
-      apart 6 (omega arith),
-      apart 7 (omega arith),
-      apart 8 (omega arith),
-      apart 9 (omega arith),
-    ) refl
+    no_trait_begins h =
+        let (h1, not_brace) = all_apart 125 (codes "?oxXbeEip") h in
+        let (h2, not_mark) = all_apart 63 (codes "oxXbeEip") h1 in
+        let (h3, not_o) = all_apart 111 (codes "xXbeEip") h2 in
+        let (h4, not_x) = all_apart 120 (codes "XbeEip") h3 in
+        let (h5, not_X) = all_apart 88 (codes "beEip") h4 in
+        let (h6, not_b) = all_apart 98 (codes "eEip") h5 in
+        let (h7, not_e) = all_apart 101 (codes "Eip") h6 in
+        let (h8, not_E) = all_apart 69 (codes "ip") h7 in
+        let (h9, not_i) = all_apart 105 (codes "p") h8 in
+        let (h10, not_p) = all_apart 112 [] h9 in
+        rw (
+          not_brace,
+          not_x,
+          not_X,
+          not_mark,
+          not_o,
+          not_b,
+          not_e,
+          not_E,
+          not_i,
+          not_p,
+        ) refl
       where
-        apart : (i : ℕ) → i < 10 → eqb c (get_or (codes "}?oxXbeEip") i 0) ≡ false
-        apart i k =
-            ne_eqb c _ (All-get_or (λ n. c ≢ n) (codes "}?oxXbeEip") i 0 (omega (arith, k)) h)
+        all_apart : (d : ℕ) (ds : List ℕ) → None_of (d ∷ ds) → None_of ds × (eqb c d ≡ false)
+        all_apart d ds k = (All-tail (λ n. c ≢ n) d ds k, ne_eqb c d (All-head (λ n. c ≢ n) d ds k))
 
   end_shows : (p : ℕ) → Shows (from_place p []) (trait_at start flagged (from_place p []))
   end_shows p =
@@ -170,26 +180,45 @@ module _ (start : ℕ) (flagged : Bool) where
   abbrev Reads : Trait → HexDebug → ℕ → List ℕ → List ℕ → Type 0
   Reads t hex p rest cs = reads p (cs ++ rest) ≡ Ok (both t hex, from_place (p + size cs) rest)
 
+  -- `x?` and `X?`
+  lower_read : (p : ℕ) (rest : List ℕ) → Reads traits.Debug hex_debugs.Lower p rest (codes "x?")
+  lower_read p rest =
+      ap (λ n. Ok (both traits.Debug hex_debugs.Lower, from_place n rest)) (place_behind p)
+
+  upper_read : (p : ℕ) (rest : List ℕ) → Reads traits.Debug hex_debugs.Upper p rest (codes "X?")
+  upper_read p rest =
+      ap (λ n. Ok (both traits.Debug hex_debugs.Upper, from_place n rest)) (place_behind p)
+
+  -- a trait's text that is read so
+  this_text :
+      (t : Trait) (hex : HexDebug) (p : ℕ) (rest cs ds : List ℕ) → Reads t hex p rest cs
+      → ◌≡◌ {A = Option (List ℕ)} (Some cs) (Some ds) → Reads t hex p rest ds
+  this_text t hex p rest cs ds h e = subst (Reads t hex p rest) (some_same e) h
+
   text_read :
       (t : Trait) (hex : HexDebug) (cs : List ℕ) (p : ℕ) (rest : List ℕ)
       → trait_text t hex ≡ Some cs
       → MayEnd t rest → Reads t hex p rest cs
-  text_read traits.Debug hex_debugs.No cs p rest e h = rw (← some_same e) refl
-  text_read traits.Debug hex_debugs.Lower cs p rest e h = rw (← some_same e)
-      (ap (λ n. Ok (both traits.Debug hex_debugs.Lower, from_place n rest)) (place_behind p))
-  text_read traits.Debug hex_debugs.Upper cs p rest e h = rw (← some_same e)
-      (ap (λ n. Ok (both traits.Debug hex_debugs.Upper, from_place n rest)) (place_behind p))
-  text_read traits.Octal hex_debugs.No cs p rest e h = rw (← some_same e) refl
-  text_read traits.LowerHex hex_debugs.No cs p rest e h = rw (← some_same e)
-      (ap (hexadecimal traits.LowerHex hex_debugs.Lower (from_place (p + 1) rest))
-      (strip_not question_mark (from_place (p + 1) rest) h))
-  text_read traits.UpperHex hex_debugs.No cs p rest e h = rw (← some_same e)
-      (ap (hexadecimal traits.UpperHex hex_debugs.Upper (from_place (p + 1) rest))
-      (strip_not question_mark (from_place (p + 1) rest) h))
-  text_read traits.Binary hex_debugs.No cs p rest e h = rw (← some_same e) refl
-  text_read traits.LowerExp hex_debugs.No cs p rest e h = rw (← some_same e) refl
-  text_read traits.UpperExp hex_debugs.No cs p rest e h = rw (← some_same e) refl
-  text_read traits.Iter hex_debugs.No cs p rest e h = rw (← some_same e) refl
+  text_read traits.Debug hex_debugs.No cs p rest e h = this_text _ _ p rest (codes "?") cs refl e
+  text_read traits.Debug hex_debugs.Lower cs p rest e h =
+      this_text _ _ p rest (codes "x?") cs (lower_read p rest) e
+  text_read traits.Debug hex_debugs.Upper cs p rest e h =
+      this_text _ _ p rest (codes "X?") cs (upper_read p rest) e
+  text_read traits.Octal hex_debugs.No cs p rest e h = this_text _ _ p rest (codes "o") cs refl e
+  text_read traits.LowerHex hex_debugs.No cs p rest e h =
+      let past = from_place (p + 1) rest in
+      let none = strip_not question_mark past h in
+      let alone = ap (hexadecimal traits.LowerHex hex_debugs.Lower past) none in
+      this_text _ _ p rest (codes "x") cs alone e
+  text_read traits.UpperHex hex_debugs.No cs p rest e h =
+      let past = from_place (p + 1) rest in
+      let none = strip_not question_mark past h in
+      let alone = ap (hexadecimal traits.UpperHex hex_debugs.Upper past) none in
+      this_text _ _ p rest (codes "X") cs alone e
+  text_read traits.Binary hex_debugs.No cs p rest e h = this_text _ _ p rest (codes "b") cs refl e
+  text_read traits.LowerExp hex_debugs.No cs p rest e h = this_text _ _ p rest (codes "e") cs refl e
+  text_read traits.UpperExp hex_debugs.No cs p rest e h = this_text _ _ p rest (codes "E") cs refl e
+  text_read traits.Iter hex_debugs.No cs p rest e h = this_text _ _ p rest (codes "i") cs refl e
   text_read t hex cs p rest e h = absurd (none_some e)
 
   named_read :

@@ -179,7 +179,7 @@ module _ (start : ℕ) where
       (keeps_past start a more rest _ _ _ t (λ guard. refl) (keeps_close k rest more))
       (λ from. omega arith)))
 
-  pub reads_group : Reads start (group_at start)
+  reads_group : Reads start (group_at start)
   unfolding group_at
   reads_group = reads_then (reads_span start Sign) (λ signs. reads_bracket (length signs))
 

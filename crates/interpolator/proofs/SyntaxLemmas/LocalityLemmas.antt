@@ -211,14 +211,16 @@ module _ {A : Type 0} (start : ℕ) (more : List ℕ) where
       → Keeps start a more (f (strip_of c p cs)) (g (strip_of c p (cs ++ more)))
   keeps_strip_at a c p [] f g guards none some =
       keeps_unguarded start a more (f None) (g None) _ (λ guard. guards guard) none
-  keeps_strip_at a c p (d ∷ ds) f g guards none some =
-      let rest = stands (p + len_utf8 d) in
-      elim (eqb d c) as (λ t. (t ≡ true → d ≡ c)
-      → Keeps start a more (f (cond t (Some (rest ds)) None))
-      (g (cond t (Some (rest (ds ++ more))) None))) [
-        | true ↦ λ e. some (rest ds) (ap (λ n. n ∷ ds) (e refl)) (takes_one p d ds)
-        | false ↦ λ e. none
-      ] (eqb-true d c)
+  keeps_strip_at a c p (d ∷ ds) f g guards none some = by_test (eqb d c) (eqb-true d c)
+    where
+      by_test :
+          (t : Bool) → (t ≡ true → d ≡ c)
+          → Keeps start a more
+          (f (cond t (Some (stands (p + len_utf8 d) ds)) None))
+          (g (cond t (Some (stands (p + len_utf8 d) (ds ++ more))) None))
+      by_test true e =
+          some (stands (p + len_utf8 d) ds) (ap (λ n. n ∷ ds) (e refl)) (takes_one p d ds)
+      by_test false e = none
 
   -- an answer by whether the first character is c
   pub keeps_strip :

@@ -1,17 +1,17 @@
--- The pieces of a text, and the groups of its arguments, lie in it; the groups are shorter.
-use Rattle.std.proofs.Common.{◌≡◌, ℕ, ◌+◌, ◌<◌, ◌≤◌, eqb, List, [], ◌∷◌, ◌++◌, length, arith}
-use Rattle.std.proofs.Common.{refl, ap, append_assoc, Result, Ok, Err, Option, Some, None, ◌||◌}
-use Rattle.std.proofs.Common.{subst}
+-- The groups that an argument hands on lie in the text that it is read from, and are shorter.
+use Rattle.std.proofs.Common.{◌≡◌, ℕ, zero, suc, ◌+◌, ◌<◌, ◌≤◌, eqb, List, [], ◌∷◌, ◌++◌, length}
+use Rattle.std.proofs.Common.{arith, refl, ap, ◌∙◌, sym, append_assoc, Result, Ok, Err, Option}
+use Rattle.std.proofs.Common.{Some, None, ◌||◌}
 use Rattle.std.specs.Prelude.{⊤}
 use Rattle.std.proofs.lemmas.List.{append-nil, length-append}
 use Rattle.interpolator_render.specs.declared.view.Trait.{Trait}
 use Rattle.interpolator_render.specs.declared.view.Trait.TheVariants as traits
 use Rattle.interpolator_render.specs.declared.view.Alignment.TheVariants as alignments
 use Rattle.interpolator_render.specs.declared.view.Sign.TheVariants as signs
-use Rattle.interpolator.specs.Syntax.At.{At, size, first, strip, strip_of}
+use Rattle.interpolator.specs.Syntax.At.{At, size, first, strip, strip_of, all_behind}
 use Rattle.interpolator.specs.Syntax.Classes.{is_alignment, close_brace, open_brace, colon, hash}
 use Rattle.interpolator.specs.Syntax.Classes.{open_bracket, zero_digit}
-use Rattle.interpolator.specs.Syntax.Readers.{span, Reader, on, ◌>>=◌, give, here}
+use Rattle.interpolator.specs.Syntax.Readers.{Reader, on, ◌>>=◌, give, here, span}
 use Rattle.interpolator.specs.Syntax.Groups.{Group, group_at, if_bracket, group_if}
 use Rattle.interpolator.specs.Syntax.GroupGrammar.{IsGroup, open_text, close_text}
 use Rattle.interpolator.specs.Syntax.Lists.{ListAsked, list_at}
@@ -20,19 +20,19 @@ use Rattle.interpolator.specs.Syntax.SpecTexts.{sign_letter, list_kind_at, kind_
 use Rattle.interpolator.specs.Syntax.SpecTexts.{spec_of, spec_behind}
 use Rattle.interpolator.specs.Syntax.Arguments.{Argument, argument, asked_by, asked_at}
 use Rattle.interpolator.specs.Syntax.Arguments.{argument_parts, argument_at}
-use Rattle.interpolator.specs.Syntax.Pieces.{Piece, PieceKind, closed, unclosed, pieces, broken}
-use Rattle.interpolator.specs.Faults.{Fault, fault_place}
-use Rattle.interpolator.specs.Syntax.Grammar.{Fits, Stands, IsPieces}
-use Rattle.interpolator.proofs.SyntaxLemmas.GrammarPieceLemmas.{pieces_are}
-use Rattle.interpolator.proofs.SyntaxLemmas.ReaderLemmas.{argument_refuses, reads_width}
-use Rattle.interpolator.proofs.SyntaxLemmas.ReaderLemmas.{reads_precision, reads_trait}
-use Rattle.interpolator.proofs.SyntaxLemmas.ReaderLemmas.{argument_takes}
+use Rattle.interpolator.specs.Syntax.Pieces.{Piece, PieceKind, closed, unclosed, Step}
+use Rattle.interpolator.specs.Syntax.Pieces.{argument_step, argument_or_broken, argument_from}
+use Rattle.interpolator.specs.Syntax.Pieces.{open_step, close_step, piece_from, past, pieces_within}
+use Rattle.interpolator.specs.Syntax.Pieces.{pieces}
+use Rattle.interpolator.specs.Faults.{Fault}
 use Rattle.interpolator.specs.declared.syntax.class.Class.TheVariants.{WhiteSpace, Name}
 use Rattle.interpolator.proofs.SyntaxLemmas.GrammarGroupLemmas.{group_is}
-use Rattle.interpolator.proofs.SyntaxLemmas.ListReaderLemmas.{reads_range, reads_group}
+use Rattle.interpolator.proofs.SyntaxLemmas.ListReaderLemmas.{reads_range}
 use Rattle.interpolator.proofs.SyntaxLemmas.LocalityLemmas.{size-append, Takes, stands, takes_none}
 use Rattle.interpolator.proofs.SyntaxLemmas.LocalityLemmas.{takes_one, takes_then, takes_shorter}
 use Rattle.interpolator.proofs.SyntaxLemmas.LocalityLemmas.{takes_reaches, Reads}
+use Rattle.interpolator.proofs.SyntaxLemmas.ReaderLemmas.{reads_width, reads_precision, reads_trait}
+use Rattle.interpolator.proofs.SyntaxLemmas.ReaderLemmas.{argument_takes}
 use Rattle.interpolator.proofs.SyntaxLemmas.SimpleReaderLemmas.{reads_span, reads_letter}
 use Rattle.interpolator.proofs.SyntaxLemmas.SimpleReaderLemmas.{reads_flag}
 use Rattle.interpolator.proofs.SyntaxLemmas.TestLemmas.{in_both}
@@ -76,26 +76,6 @@ kind_grows (of_list l) a b t h = record {
   item = group_if_grows l.item a b t h.item;
   join = group_if_grows l.join a b t h.join;
 }
-
-group_in : (b : At) (g : Group) (q : At) → IsGroup b g q → GroupIn g b
-group_in b g q h =
-    let opens = open_text h.k in
-    let closes = close_text h.k ++ q.text in
-    record {
-      shorter = omega (
-        arith,
-        ap length h.split,
-        length-append opens (g.text ++ closes),
-        length-append g.text closes,
-      );
-      lies = omega (
-        arith,
-        h.place,
-        ap size h.split,
-        size-append opens (g.text ++ closes),
-        size-append g.text closes,
-      );
-    }
 
 -- ---- what stands behind a character, if it stands there
 
@@ -142,24 +122,54 @@ module _ (a : At) where
       → Holds Any f → ((x : A) → Holds Q (g x)) → Holds Q (f >>= g)
   behind_any Q f g h k = then_holds Any Q f g h (λ x u. k x)
 
-  held_by :
-      {A : Type 0} (P : A → Type 0) (f : Reader A) (b : At)
-      → ((x : A) (q : At) → f b ≡ Ok (x, q) → Takes a q × P x) → Held P (f b)
-  held_by P f b h =
-      elim (f b) as (λ o. f b ≡ o → Held P o) [ Ok w ↦ λ e. h w.0 w.1 e | Err d ↦ λ e. tt ] refl
-
   any_by : {A : Type 0} (start : ℕ) (f : Reader A) → Reads start f → Holds Any f
   any_by start f reads b t =
-      held_by Any f b (λ x q e. (takes_then a b q t (reads.takes b x q e), tt))
+      elim (f b) as (λ o. f b ≡ o → Held Any o)
+      [ Ok w ↦ λ e. (takes_then a b w.1 t (reads.takes b w.0 w.1 e), tt) | Err d ↦ λ e. tt ] refl
 
   -- ---- groups
 
   group_holds : (start : ℕ) → Holds (λ g. GroupIn g a) (group_at start)
   group_holds start b t =
-      held_by (λ g. GroupIn g a) (group_at start) b (λ g q e. (
-        takes_then a b q t ((reads_group start).takes b g q e),
-        group_grows g a b t (group_in b g q (group_is start b g q e)),
-      ))
+      elim (group_at start b) as (λ o. group_at start b ≡ o → Held (λ g. GroupIn g a) o) [
+        | Ok w ↦ λ e.
+            let h = by_parts w.0 w.1 (group_is start b w.0 w.1 e) in
+            (takes_then a b w.1 t h.0, group_grows w.0 a b t h.1)
+        | Err d ↦ λ e. tt
+      ] refl
+    where
+      by_parts : (g : Group) (q : At) → IsGroup b g q → Takes b q × GroupIn g b
+      by_parts g q h =
+          let opens = open_text h.k in
+          let closes = close_text h.k in
+          let inner = g.text ++ closes in
+          let behind_open = g.text ++ (closes ++ q.text) in (
+            record {
+              front = opens ++ inner;
+              split =
+                  h.split ∙ ap (λ xs. opens ++ xs) (sym (append_assoc g.text closes q.text))
+                  ∙ sym (append_assoc opens inner q.text);
+              place = omega (arith, h.end_place, h.place, size-append opens inner);
+            },
+            record {
+              shorter =
+                  omega (
+                    arith,
+                    ap length h.split,
+                    length-append opens behind_open,
+                    length-append g.text (closes ++ q.text),
+                    length-append closes q.text,
+                  );
+              lies =
+                  omega (
+                    arith,
+                    ap size h.split,
+                    h.place,
+                    size-append opens behind_open,
+                    size-append g.text (closes ++ q.text),
+                  );
+            },
+          )
 
   group_if_holds : (start : ℕ) → Holds (λ o. GroupIfIn o a) (group_if start)
   group_if_holds start b t = by_first (first b)
@@ -253,80 +263,89 @@ module _ (a : At) where
   unfolding argument_at
   argument_holds = parts_of_argument_hold a.place a (takes_none a)
 
+  argument_held : (o : Result (Argument × At) Fault) → argument_at a ≡ o
+      → Held (λ (x : Argument). KindIn x.kind a) o
+  argument_held o e = rw (sym e) argument_holds
+
 -- the groups of an argument lie in its text
 pub argument_in : (a : At) (x : Argument) (q : At) → argument_at a ≡ Ok (x, q) → KindIn x.kind a
-argument_in a x q e = (subst (Held a (λ x. KindIn x.kind a)) e (argument_holds a)).1
+argument_in a x q e = (argument_held a (Ok (x, q)) e).1
 
 -- ---- pieces
 
--- an argument between these places lies in the text, as its groups do
-pub record ArgumentIn (start : ℕ) (x : Argument) (end : ℕ) (a : At) : Type 0 where
-  pub starts : start ≤ a.place + size a.text
-  pub ends : end ≤ a.place + size a.text
-  pub kind : KindIn x.kind a
-
--- so does what a piece is
+-- the groups of a piece lie in the text, and are shorter
 abbrev pub PieceIn : PieceKind → At → Type 0
-PieceIn (closed start x end) a = ArgumentIn start x end a
-PieceIn (unclosed start x end) a = ArgumentIn start x end a
-PieceIn (broken f) a = fault_place f ≤ a.place + size a.text
+PieceIn (closed start x end) a = KindIn x.kind a
+PieceIn (unclosed start x end) a = KindIn x.kind a
 PieceIn _ a = ⊤
 
--- so does each piece
+-- so do those of each
 abbrev pub PiecesIn : List Piece → At → Type 0
 PiecesIn [] a = ⊤
-PiecesIn (x ∷ xs) a = PieceIn x.kind a × (x.place ≤ a.place + size a.text) × PiecesIn xs a
+PiecesIn (x ∷ xs) a = PieceIn x.kind a × PiecesIn xs a
 
-argument_lies : (a b : At) (x : Argument) (q : At) → Takes a b → argument_at b ≡ Ok (x, q)
-    → ArgumentIn b.place x q.place a
-argument_lies a b x q t e =
-    let there = takes_reaches _ a b t refl in
-    record {
-      starts = omega (arith, there);
-      ends = omega (arith, there, takes_reaches _ b q (argument_takes b x q e) refl);
-      kind = kind_grows x.kind a b t (argument_in b x q e);
-    }
+-- the groups of a piece lie in the text at a, and behind the piece stands a rest of that text
+record StepIn (s : Step) (a : At) : Type 0 where
+  piece : PieceIn s.piece.kind a
+  rest : Takes a s.rest
 
-module _ (a b : At) (t : Takes a b) where
-  -- what stands behind a brace
-  behind_brace : (start : ℕ) (inner : List ℕ) → b.text ≡ open_brace ∷ inner → start ≡ b.place + 1
-      → Takes a (stands start inner)
-  behind_brace start inner e k =
-      takes_then a b (stands start inner) t
-      (record { front = open_brace ∷ []; split = e; place = omega (arith, k) })
+takes_all_behind : (a : At) → Takes a (all_behind a)
+takes_all_behind a = record { front = a.text; split = sym (append-nil a.text); place = refl }
 
-  piece_in : (x : Piece) (rest : List ℕ) → Stands b x rest → PieceIn x.kind a
-  piece_in x rest s = by_kind x.kind s.fits
-    where
-      to_end : (inner : List ℕ) → x.text ≡ open_brace ∷ inner → rest ≡ []
-          → b.text ≡ open_brace ∷ inner
-      to_end inner e k = grind (arith, append-nil, s.split)
+module _ (a : At) (p : ℕ) (b : At) (t : Takes a b) where
+  to_end : Takes a (all_behind b)
+  to_end = takes_then a b (all_behind b) t (takes_all_behind b)
 
-      by_kind : (k : PieceKind) → Fits b.place k x.text rest → PieceIn k a
-      by_kind (closed start y end) f =
-          let inner = f.inner ++ (close_brace ∷ rest) in
-          let split : b.text ≡ open_brace ∷ inner =
-          grind (arith, append_assoc, s.split, f.in_braces) in
-          argument_lies a (stands start inner) y _ (behind_brace start inner split f.begins) f.reads
-      by_kind (unclosed start y end) f =
-          argument_lies a (stands start f.inner) y _
-          (behind_brace start f.inner (to_end f.inner f.in_front f.takes_all) f.begins) f.reads
-      by_kind (broken g) f =
-          let c = stands (b.place + 1) f.inner in
-          let split = to_end f.inner f.in_front f.takes_all in
-          let there = takes_reaches _ a c (behind_brace c.place f.inner split refl) refl in
-          omega (arith, there, argument_refuses c g f.reads)
-      by_kind k f = tt
+  argument_step_in :
+      (x : Argument) (q : At) (o : Option At) → KindIn x.kind b → Takes b q → StripTakes q o
+      → StepIn (argument_step p b x q o) a
+  argument_step_in x q None h k s = record { piece = kind_grows x.kind a b t h; rest = to_end }
+  argument_step_in x q (Some rest) h k s = record {
+    piece = kind_grows x.kind a b t h;
+    rest = takes_then a b rest t (takes_then b q rest k s);
+  }
 
-these_in : (xs : List Piece) (a b : At) → Takes a b → IsPieces b xs → PiecesIn xs a
-these_in [] a b t h = tt
-these_in (x ∷ xs) a b t h =
-    let s = h.1.stands in
-    let rest = stands (b.place + size x.text) h.0 in
-    let behind = takes_then a b rest t (record { front = x.text; split = s.split; place = refl }) in
-    let there = takes_reaches _ a b t refl in
-    (piece_in a b t x h.0 s, omega (arith, s.place, there), these_in xs a rest behind h.2)
+  argument_or_broken_in :
+      (r : Result (Argument × At) Fault) → argument_at b ≡ r → StepIn (argument_or_broken p b r) a
+  argument_or_broken_in (Ok x) e =
+      let q = x.1 in
+      argument_step_in x.0 q (strip close_brace q) (argument_in b x.0 q e)
+      (argument_takes b x.0 q e) (strip_takes close_brace q.place q.text)
+  argument_or_broken_in (Err f) e = record { piece = tt; rest = to_end }
 
--- the pieces of a text lie in it, and their groups are shorter
+  argument_from_in : StepIn (argument_from p b) a
+  unfolding argument_from
+  argument_from_in = argument_or_broken_in (argument_at b) refl
+
+  open_in : (o : Option At) → StripTakes b o → StepIn (open_step p b o) a
+  open_in None h = argument_from_in
+  open_in (Some rest) h = record { piece = tt; rest = takes_then a b rest t h }
+
+  close_in : (o : Option At) → StripTakes b o → StepIn (close_step p b o) a
+  close_in None h = record { piece = tt; rest = t }
+  close_in (Some rest) h = record { piece = tt; rest = takes_then a b rest t h }
+
+  piece_from_in : (c : ℕ) → StepIn (piece_from p c b) a
+  piece_from_in c =
+      let P = λ (s : Step). StepIn s a in
+      in_both P (eqb c open_brace) _ _
+      (open_in (strip open_brace b) (strip_takes open_brace b.place b.text))
+      (in_both P (eqb c close_brace) _ _
+      (close_in (strip close_brace b) (strip_takes close_brace b.place b.text))
+      (record { piece = tt; rest = t }))
+
+pieces_within_in :
+    (a : At) (most p : ℕ) (cs : List ℕ) → Takes a (stands p cs)
+    → PiecesIn (pieces_within most p cs) a
+pieces_within_in a most p [] t = tt
+pieces_within_in a zero p (c ∷ cs) t = tt
+pieces_within_in a (suc most) p (c ∷ cs) t =
+    let b = past p c cs in
+    let s = piece_from p c b in
+    let h = piece_from_in a p b (takes_then a (stands p (c ∷ cs)) b t (takes_one p c cs)) c in
+    (h.piece, pieces_within_in a most s.rest.place s.rest.text h.rest)
+
+-- the groups of the pieces of a text lie in it, and are shorter
 pub pieces_in : (a : At) → PiecesIn (pieces a) a
-pieces_in a = these_in (pieces a) a a (takes_none a) (pieces_are a)
+unfolding pieces
+pieces_in a = pieces_within_in a (length a.text) a.place a.text (takes_none a)

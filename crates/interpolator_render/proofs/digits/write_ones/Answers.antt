@@ -8,17 +8,17 @@ use Rattle.interpolator_render.proofs.digits.write_ones.Goals as goal
 
 pub write_last-rest-requires-clause-room : goal.write_last-rest-requires-clause-room
 write_last-rest-requires-clause-room c =
-    let l = c.loop-rest in let begins = l.invariant.begins in
-    let step = digit_count_step c.args.base l.rest c.args.upper c.requires.lowest
-    c.loop-rest-test.true
-    in omega arith
+    let begins = c.loop-rest.invariant.begins in
+    let step = digit_count_step c.args.base c.loop-rest.rest c.args.upper c.requires.lowest
+    c.loop-rest-test.true in
+    omega arith
 
 pub overflow_sub-at : goal.overflow_sub-at
 overflow_sub-at c =
-    let l = c.loop-rest in let begins = l.invariant.begins in
-    let step = digit_count_step c.args.base l.rest c.args.upper c.requires.lowest
-    c.loop-rest-test.true
-    in omega arith
+    let begins = c.loop-rest.invariant.begins in
+    let step = digit_count_step c.args.base c.loop-rest.rest c.args.upper c.requires.lowest
+    c.loop-rest-test.true in
+    omega arith
 
 pub loop-rest-preserved : goal.loop-rest-preserved
 loop-rest-preserved c =

@@ -16,9 +16,11 @@ loop-rest-init c = record {
 }
 
 pub overflow_sub-at : goal.overflow_sub-at
-overflow_sub-at c =
-    let step = length-digits_of_step c.args.base c.loop-rest.rest c.requires.lowest (omega arith) in
-    omega arith
+overflow_sub-at c = omega (
+  arith,
+  length-digits_of_step c.args.base c.loop-rest.rest
+      c.requires.lowest (omega arith),
+)
 
 pub loop-rest-preserved : goal.loop-rest-preserved
 loop-rest-preserved c =

@@ -1,4 +1,5 @@
-use Rattle.std.proofs.Common.{rules, refl, sym, ◌∙◌, FitsSigned}
+use Rattle.std.proofs.Common.{rules, refl, sym, ◌∙◌}
+use Rattle.std.specs.Prelude.{FitsSigned}
 use Rattle.std.specs.Int.{w128}
 use Rattle.std.proofs.lemmas.Int.{to_z-of_z}
 use Rattle.interpolator_render.specs.Texts.{view_text}
@@ -16,12 +17,20 @@ returns-in-Some g c =
     rw c.in-Signed.is (renders_puts _ _ _ c.put_number.result _ _
     (signed_text c.in-Signed.number c.in-Signed.bits c.args.t c.args.spec.now c.in-Some.form
     (sym c.number_form.ensures ∙ c.in-Some.is)) c.refused.ensures
-    (rw (parts.negative, parts.number, to_z-of_z w128 _ fits) at c.put_number.ensures))
+    (rw (
+      parts.negative,
+      parts.number,
+      to_z-of_z w128 c.in-Signed.number
+          fits,
+    ) at c.put_number.ensures))
 
 pub returns-in-None-number_form : goal.returns-in-None-number_form
 unfolding view_text
-returns-in-None-number_form g c =
-    rw (c.in-Unsigned.is, sym c.number_form-in-Unsigned.ensures, c.in-None-number_form.is) refl
+returns-in-None-number_form g c = rw (
+  c.in-Unsigned.is,
+  sym c.number_form-in-Unsigned.ensures,
+  c.in-None-number_form.is,
+) refl
 
 pub returns-in-Some-number_form : goal.returns-in-Some-number_form
 returns-in-Some-number_form g c = rw c.in-Unsigned.is

@@ -161,8 +161,7 @@ write_whole-returns-then-refused g t c =
     record {
       writes = record {
         evaluates = whole_refused c.args.spec.now c.args.place items _ _ (as_writer c.new.result)
-            (as_writer c.in-Some.buffer) _ _
-            (rw made at c.write_items-answer.ensures.writes.evaluates);
+            (as_writer c.in-Some.buffer) _ _ (rw made at c.write_items-answer.ensures.writes.evaluates);
         same = record { out = refl; aside = refl };
       };
     }

@@ -1,6 +1,7 @@
-use Rattle.std.proofs.Common.{false, arith}
+use Rattle.std.proofs.Common.{false, arith, ◌∙◌, ap, drop}
 use Rattle.std.proofs.lemmas.Str.{IsAscii-drop}
 use Rattle.interpolator_render.specs.Digits.{digit_text}
+use Rattle.interpolator_render.specs.Rows.{Row, grown}
 use Rattle.interpolator_render.proofs.DigitLemmas.{IsAscii-digit_text}
 use Rattle.interpolator_render.proofs.LineLemmas.{row_grows, IsRow-grows}
 use Rattle.interpolator_render.proofs.line.Line.put_low_decimal.Goals as goal
@@ -14,5 +15,6 @@ invariant_of-self c = let digits_at = c.write_low_decimal-start in
 
 pub returns-clause-grown : goal.returns-clause-grown
 returns-clause-grown c = let digits_at = c.write_low_decimal-start in
-    row_grows c.self.inside.bytes digits_at.new.out _ c.self.inside.fill _ _ c.self.inside.end _
-    c.self.invariant.ordered digits_at.ensures.begins digits_at.ensures.written c.self.view_is
+    row_grows c.self.inside.bytes digits_at.new.out _ c.self.inside.fill _ _ c.self.inside.end
+    c.self.invariant.ordered digits_at.ensures.begins digits_at.ensures.written
+    ∙ ap (λ (r : Row). grown (drop 1 (digit_text 10 false c.args.n)) r) c.self.view_is
