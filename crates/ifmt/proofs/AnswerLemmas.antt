@@ -3,8 +3,8 @@ use Rattle.std.proofs.Common.{◌≡◌, ℕ, List, [], ◌∷◌, length, Optio
 use Rattle.std.proofs.Common.{refl, arith}
 use Rattle.std.specs.Io.KnownBytes.{Keeps}
 use Rattle.std.specs.declared.string.String.{String}
-use Rattle.interpolator.specs.declared.error.Error.{Error}
-use Rattle.interpolator.specs.declared.error.Error.TheVariants.{NoMemory}
+use Rattle.interpolator.specs.declared.Error.{Error}
+use Rattle.interpolator.specs.declared.Error.TheVariants.{NoMemory}
 use Rattle.interpolator.specs.Faults.{answer_of}
 use Rattle.ifmt.specs.Run.{Puts, Tells, complaint, usage_line}
 use Rattle.ifmt.specs.Command.{AllGood, IsFirstBad, no_format, bad_word}

@@ -4,8 +4,8 @@ use Rattle.std.proofs.Common.{MatchResult, string_bytes, encode_utf8_all, inl, i
 use Rattle.std.proofs.Common.{sym, ap, ◌∙◌}
 use Rattle.std.specs.declared.string.String.{String}
 use Rattle.std.proofs.lemmas.Str.{encodes-chars, IsUtf8-string_bytes}
-use Rattle.interpolator.specs.declared.error.Error.{Error}
-use Rattle.interpolator.specs.Syntax.At.{text_of}
+use Rattle.interpolator.specs.declared.Error.{Error}
+use Rattle.interpolator.specs.At.{text_of}
 use Rattle.interpolator.specs.Faults.{Answer, Fault, fault, answer_of}
 use Rattle.interpolator.specs.Meaning.Meanings.{Meaning}
 use Rattle.interpolator.specs.Meaning.Outcomes.{Formats}

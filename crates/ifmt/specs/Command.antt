@@ -4,7 +4,7 @@ use Rattle.std.specs.Str.{chars}
 use Rattle.std.specs.Io.KnownBytes.{Keeps}
 use Rattle.std.specs.declared.string.String.{String}
 use Rattle.interpolator.specs.declared.View.{View}
-use Rattle.interpolator.specs.Syntax.At.{outermost}
+use Rattle.interpolator.specs.At.{outermost}
 use Rattle.interpolator.specs.Meaning.Environments.{environment}
 use Rattle.interpolator.specs.Faults.{no_memory}
 use Rattle.interpolator.specs.Meaning.Meanings.{means}

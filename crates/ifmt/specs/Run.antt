@@ -2,7 +2,7 @@
 use Rattle.std.specs.Prelude.{◌≡◌, ℕ, List, [], ◌∷◌, ◌++◌, codes, encode_utf8_all, Option, None}
 use Rattle.std.specs.Prelude.{Some, ◌⊎◌}
 use Rattle.std.specs.Io.KnownBytes.{Appends, Keeps}
-use Rattle.interpolator.specs.Syntax.At.{text_of}
+use Rattle.interpolator.specs.At.{text_of}
 use Rattle.interpolator.specs.Faults.{Answer, Fault, fault, no_memory}
 use Rattle.interpolator.specs.FaultTexts.{answer_text}
 use Rattle.interpolator.specs.Meaning.Meanings.{Meaning}

@@ -5,7 +5,7 @@ ghost use Rattle.std.specs.List.{AllZip};
 ghost use Rattle.interpolator.specs.Views.{shown_as_value};
 ghost use Rattle.interpolator.specs.Trees.{tree_of};
 ghost use Rattle.interpolator.specs.NameMaps.{found};
-ghost use Rattle.interpolator.specs.declared.error.Error.TheVariants.{NoMemory};
+ghost use Rattle.interpolator.specs.declared.Error.TheVariants.{NoMemory};
 ghost use Rattle.ifmt.specs.Items.{texts_of};
 ghost use Rattle.ifmt.specs.Binding.{Fills, HasObject, Lends, item_trees, items_show};
 ghost use Rattle.ifmt.specs.Binding.{object_shows, texts_show};

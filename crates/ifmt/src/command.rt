@@ -1,7 +1,7 @@
 //! A command line, answered.
 
 ghost use Rattle.std.specs.Prelude.{◌≡◌, IfErr, IfOk, MatchBool, MatchOption, OnErr};
-ghost use Rattle.interpolator.specs.declared.error.Error.TheVariants.{NoMemory};
+ghost use Rattle.interpolator.specs.declared.Error.TheVariants.{NoMemory};
 ghost use Rattle.ifmt.specs.Words.{IsGood};
 ghost use Rattle.ifmt.specs.Command.{AllGood, Answers, IsFirstBad, RunsOver};
 

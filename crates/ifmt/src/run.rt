@@ -3,7 +3,7 @@
 ghost use Rattle.std.specs.Prelude.{◌≡◌, MatchResult, OnOk, string_bytes};
 ghost use Rattle.std.specs.Str.{chars};
 ghost use Rattle.std.specs.Io.KnownBytes.{Appends};
-ghost use Rattle.interpolator.specs.Syntax.At.{outermost};
+ghost use Rattle.interpolator.specs.At.{outermost};
 ghost use Rattle.interpolator.specs.Meaning.Environments.{environment};
 ghost use Rattle.interpolator.specs.Faults.{answer_of};
 ghost use Rattle.interpolator.specs.FaultTexts.{error_text};

@@ -1,7 +1,7 @@
 //! The words of the command line.
 
 ghost use Rattle.std.specs.Prelude.{◌≡◌, ◌↔◌, ℕ, ℤ, IfErr, IfOk, List, Some};
-ghost use Rattle.interpolator.specs.declared.error.Error.TheVariants.{NoMemory};
+ghost use Rattle.interpolator.specs.declared.Error.TheVariants.{NoMemory};
 ghost use Rattle.ifmt.specs.Items.{AreItems, items_of, texts_of};
 ghost use Rattle.ifmt.specs.Words.{Assignment, Classifies, PartsMean, Spells, assignment_of};
 

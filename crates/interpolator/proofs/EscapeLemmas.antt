@@ -9,18 +9,18 @@ use Rattle.std.proofs.lemmas.Bool.{eqb-true}
 use Rattle.interpolator_render.specs.declared.view.Trait.{Trait}
 use Rattle.interpolator_render.specs.declared.view.Spec.{Spec}
 use Rattle.interpolator_render.specs.Views.{Shown}
-use Rattle.interpolator.specs.Syntax.At.{At, outermost}
-use Rattle.interpolator.specs.Syntax.Classes.{front_of, behind_of, in_class, is_brace}
-use Rattle.interpolator.specs.Syntax.Pieces.{PieceKind, Piece, literal, doubled, step, piece_from}
-use Rattle.interpolator.specs.Syntax.Pieces.{past, pieces}
+use Rattle.interpolator_syntax.specs.At.{At, outermost}
+use Rattle.interpolator_syntax.specs.Classes.{front_of, behind_of, in_class, is_brace}
+use Rattle.interpolator_syntax.specs.Pieces.{PieceKind, Piece, literal, doubled, step, piece_from}
+use Rattle.interpolator_syntax.specs.Pieces.{past, pieces}
 use Rattle.interpolator.specs.Meaning.Environments.{Environment}
 use Rattle.interpolator.specs.Meaning.Meanings.{Meaning, text_alone, joined, means}
 use Rattle.interpolator.specs.Escaping.{braces_doubled, plain_character, ArePlain, SaysAlone}
-use Rattle.interpolator.specs.declared.syntax.class.Class.TheVariants.{Literal}
-use Rattle.interpolator.proofs.SyntaxLemmas.PieceLemmas.{piece_within, pieces_none, pieces_next}
-use Rattle.interpolator.proofs.SyntaxLemmas.PieceLemmas.{literal_step}
+use Rattle.interpolator_syntax.specs.declared.class.Class.TheVariants.{Literal}
+use Rattle.interpolator_syntax.proofs.PieceLemmas.{piece_within, pieces_none, pieces_next}
+use Rattle.interpolator_syntax.proofs.PieceLemmas.{literal_step}
 use Rattle.interpolator.proofs.MeaningLemmas.MeaningLemmas.{means_none, means_next}
-use Rattle.interpolator.proofs.SyntaxLemmas.TestLemmas.{head_same, tail_same}
+use Rattle.interpolator_syntax.proofs.TestLemmas.{head_same, tail_same, some_same}
 
 -- ---- appended
 
@@ -36,24 +36,13 @@ front_stops : (cs rest : List ℕ) (c : ℕ) → behind_of (in_class Literal) cs
 front_stops [] rest c e = absurd (cc)
 front_stops (d ∷ ds) rest c e = grind (arith, front_stops ds rest c)
 
-doubled_next : (c : ℕ) (cs : List ℕ) → is_brace c ≡ true
-    → braces_doubled (c ∷ cs) ≡ c ∷ c ∷ braces_doubled cs
-doubled_next c cs h = rw h refl
-
 -- a front was appended
 pub front_appended :
     (old new run rest text : List ℕ) → new ≡ old ++ run → run ≡ front_of (in_class Literal) text
     → rest ≡ behind_of (in_class Literal) text
     → new ++ braces_doubled rest ≡ old ++ braces_doubled text
 front_appended old new run rest text a f b =
-    rw (
-      a,
-      f,
-      b,
-      append_assoc old (front_of (in_class Literal) text)
-          (braces_doubled (behind_of (in_class Literal) text)),
-      doubled_front text,
-    ) refl
+    rw (a, f, b, append_assoc, doubled_front text) refl
 
 -- and behind it a brace, twice
 pub brace_appended :
@@ -62,11 +51,8 @@ pub brace_appended :
     → new ≡ mid ++ (c ∷ c ∷ []) → rest ≡ c ∷ behind
     → new ++ braces_doubled behind ≡ old ++ braces_doubled text
 brace_appended old mid new run rest behind text c a f b n e =
-    ap (λ xs. xs ++ braces_doubled behind) n
-    ∙ append_assoc mid (c ∷ c ∷ []) (braces_doubled behind)
-    ∙ ap (λ xs. mid ++ xs) (sym (doubled_next c behind (front_stops text behind c (sym b ∙ e))))
-    ∙ ap (λ xs. mid ++ braces_doubled xs) (sym e)
-    ∙ front_appended old mid run rest text a f b
+    let brace : is_brace c ≡ true = front_stops text behind c (sym b ∙ e) in
+    rw (n, append_assoc) (rw (e, brace) at (front_appended old mid run rest text a f b))
 
 -- nothing was appended yet
 pub nothing_appended : (old text : List ℕ) (bytes : List ℕ) → old ≡ chars bytes → bytes ≡ []
@@ -94,15 +80,14 @@ IsDoubledPlain cs = (p : ℕ) → ArePlain (pieces (record { place = p; text = b
 
 one_more_plain : (c : ℕ) (cs : List ℕ) → IsDoubledPlain cs → (b : Bool) → is_brace c ≡ b
     → IsDoubledPlain (c ∷ cs)
-one_more_plain c cs more true h p = rw h
-    (ap Characters (pieces_next p c (c ∷ braces_doubled cs))
-    ∙ ap (λ s. Characters (s.piece ∷ pieces s.rest)) (doubled_step p c (braces_doubled cs) h)
-    ∙ ap (λ xs. Some c ∷ xs) (more (p + len_utf8 c + len_utf8 c)))
-one_more_plain c cs more false h p = rw h
-    (ap Characters (pieces_next p c (braces_doubled cs))
-    ∙ ap (λ s. Characters (s.piece ∷ pieces s.rest))
-    (literal_step p c (past p c (braces_doubled cs)) h)
-    ∙ ap (λ xs. Some c ∷ xs) (more (p + len_utf8 c)))
+one_more_plain c cs more true h p =
+    let step = doubled_step p c (braces_doubled cs) h in
+    rw (h, pieces_next p c (c ∷ braces_doubled cs), step)
+    (ap (λ xs. Some c ∷ xs) (more (p + len_utf8 c + len_utf8 c)))
+one_more_plain c cs more false h p =
+    let step = literal_step p c (past p c (braces_doubled cs)) h in
+    rw (h, pieces_next p c (braces_doubled cs), step)
+    (ap (λ xs. Some c ∷ xs) (more (p + len_utf8 c)))
 
 -- a text with doubled braces has plain pieces alone
 doubled_plain : (cs : List ℕ) → IsDoubledPlain cs
@@ -115,9 +100,6 @@ escaped_plain text cs e = rw e (doubled_plain cs 0)
 
 -- ---- meanings
 
-says_nothing : {m : Meaning} (text : List ℕ) → m ≡ text_alone [] → [] ≡ text → SaysAlone text m
-says_nothing text e t = rw (e, ← t) (record { says = refl; no_fault = refl; no_memory = refl })
-
 says_next :
     {m k : Meaning} (p c : ℕ) (text : List ℕ) → m ≡ joined (text_alone ((c, p) ∷ [])) k
     → SaysAlone text k → SaysAlone (c ∷ text) m
@@ -126,9 +108,6 @@ says_next p c text e h = rw e (record {
   no_fault = h.no_fault;
   no_memory = ap (λ ns. map (λ n. 1 + n) ns) h.no_memory;
 })
-
-same_some : {a b : ℕ} → ◌≡◌ {A = Option ℕ} (Some a) (Some b) → a ≡ b
-same_some e = cc
 
 module _ {X : Type 0} (shows : X → Trait → Spec → Shown) (e : Environment X) where
   abbrev Says : (p : ℕ) → (cs text : List ℕ) → Type 0
@@ -140,34 +119,26 @@ module _ {X : Type 0} (shows : X → Trait → Spec → Shown) (e : Environment 
       → SaysAlone text (means shows e (piece_from p c (past p c cs)).rest)
       → Says p (c ∷ cs) (d ∷ text)
   kind_says p c d cs text (literal b) n j r =
-      rw (← same_some j) (says_next p b text (rw n at (means_next {X = X} shows e p c cs)) r)
+      rw (← some_same j) (says_next p b text (rw n at (means_next {X = X} shows e p c cs)) r)
   kind_says p c d cs text (doubled b) n j r =
-      rw (← same_some j) (says_next p b text (rw n at (means_next {X = X} shows e p c cs)) r)
+      rw (← some_same j) (says_next p b text (rw n at (means_next {X = X} shows e p c cs)) r)
   kind_says p c d cs text k n j r = absurd (cc)
-
-  first_says :
-      (p c : ℕ) (cs text : List ℕ)
-      → Characters ((piece_from p c (past p c cs)).piece ∷ pieces
-      (piece_from p c (past p c cs)).rest) ≡ map Some text
-      → ((more : List ℕ) → ArePlain (pieces (piece_from p c (past p c cs)).rest) more
-      → SaysAlone more (means shows e (piece_from p c (past p c cs)).rest))
-      → Says p (c ∷ cs) text
-  first_says p c cs [] k says = absurd (cc)
-  first_says p c cs (d ∷ text) k says =
-      kind_says p c d cs text (piece_from p c (past p c cs)).piece.kind refl (head_same k)
-      (says text (tail_same k))
 
   plain_says : (most p : ℕ) (cs text : List ℕ) → length cs ≤ most
       → ArePlain (pieces (record { place = p; text = cs })) text → Says p cs text
-  plain_says most p [] [] l h = says_nothing [] (means_none shows e p) refl
+  plain_says most p [] [] l h =
+      rw (means_none shows e p) (record { says = refl; no_fault = refl; no_memory = refl })
   plain_says most p [] (d ∷ text) l h =
       absurd (let k = sym (ap Characters (pieces_none p)) ∙ h in cc)
   plain_says zero p (c ∷ cs) text l h = absurd (omega arith)
-  plain_says (suc most) p (c ∷ cs) text l h =
+  plain_says (suc most) p (c ∷ cs) [] l h =
+      absurd (let k = sym (ap Characters (pieces_next p c cs)) ∙ h in cc)
+  plain_says (suc most) p (c ∷ cs) (d ∷ text) l h =
       let rest = (piece_from p c (past p c cs)).rest in
       let shorter = piece_within p c (past p c cs) in
-      first_says p c cs text (sym (ap Characters (pieces_next p c cs)) ∙ h)
-      (λ more k. plain_says most rest.place rest.text more (omega arith) k)
+      let k = sym (ap Characters (pieces_next p c cs)) ∙ h in
+      kind_says p c d cs text (piece_from p c (past p c cs)).piece.kind refl (head_same k)
+      (plain_says most rest.place rest.text text (omega arith) (tail_same k))
 
   -- where all pieces are plain, the text says their characters alone
   pub plain_means : (a : At) (text : List ℕ) → ArePlain (pieces a) text

@@ -1,9 +1,9 @@
-pub mod SyntaxLemmas
+-- The lemmas of the formats.
 pub mod MeaningLemmas
-pub mod ErrorLemmas
+pub mod EndingLemmas
 pub mod EscapeLemmas
 pub mod LineLemmas
 pub mod LoanLemmas
+pub mod SeamLemmas
 pub mod SlotNameLemmas
 pub mod TreeLemmas
-pub mod UnstyledLemmas

@@ -9,6 +9,7 @@ pub mod OutcomeLemmas
 pub mod PartLemmas
 pub mod PlaceLemmas
 pub mod PlacedLemmas
+pub mod RelatedLemmas
 pub mod RunLemmas
 pub mod ScopeLemmas
 pub mod SinkLemmas

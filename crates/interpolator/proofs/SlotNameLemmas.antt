@@ -40,29 +40,26 @@ no_name-more [] name = refl
 no_name-more (first ∷ names) name = refl
 
 module _ (filled : Trait → Bool) (index : ℕ) (below : index < 9) where
-  one_slot : take (index + 1) slot_order ≡ take index slot_order ++ get_or slot_order index Binary ∷
-      []
-  one_slot = take_more slot_order index Binary below
+  next_names : names_of filled (take (index + 1) slot_order)
+      ≡ names_of filled (take index slot_order)
+      ++ names_of filled (get_or slot_order index Binary ∷ [])
+  next_names =
+      let passed = take index slot_order in
+      let slot = get_or slot_order index Binary in
+      rw (take_more slot_order index Binary below, filter-append filled passed (slot ∷ []))
+      (map-append slot_name _ _)
 
   -- the name of a slot that is filled comes behind the names so far
   pub one_more : filled (get_or slot_order index Binary) ≡ true
       → names_of filled (take (index + 1) slot_order)
       ≡ names_of filled (take index slot_order) ++ slot_name (get_or slot_order index Binary) ∷
       []
-  one_more passes =
-      let slot = get_or slot_order index Binary in
-      let kept : filter filled (slot ∷ []) ≡ slot ∷ [] = rw passes refl in
-      rw (one_slot, filter-append filled (take index slot_order) (slot ∷ []), kept)
-      (map-append slot_name _ _)
+  one_more passes = rw passes at next_names
 
   -- one that is not changes no name
   pub none_more : filled (get_or slot_order index Binary) ≡ false
       → names_of filled (take (index + 1) slot_order) ≡ names_of filled (take index slot_order)
-  none_more fails =
-      let slot = get_or slot_order index Binary in
-      let dropped : filter filled (slot ∷ []) ≡ [] = rw fails refl in
-      rw (one_slot, filter-append filled (take index slot_order) (slot ∷ []), dropped)
-      (ap (map slot_name) (append-nil _))
+  none_more fails = (rw fails at next_names) ∙ append-nil _
 
 -- the names that are all written, and the parenthesis behind them
 pub closed : (front : List ℕ) (names : List (List ℕ)) → no_name names ≡ false

@@ -1,8 +1,8 @@
 -- Texts whose braces are doubled, and meanings that are a text alone.
 use Rattle.std.specs.Prelude.{◌≡◌, ℕ, if◌then◌else◌, List, [], ◌∷◌, map, Option, Some, None}
-use Rattle.interpolator.specs.Syntax.At.{text_of}
-use Rattle.interpolator.specs.Syntax.Classes.{is_brace}
-use Rattle.interpolator.specs.Syntax.Pieces.{PieceKind, Piece, literal, doubled}
+use Rattle.interpolator_syntax.specs.At.{text_of}
+use Rattle.interpolator_syntax.specs.Classes.{is_brace}
+use Rattle.interpolator_syntax.specs.Pieces.{PieceKind, Piece, literal, doubled}
 use Rattle.interpolator.specs.Meaning.Meanings.{Meaning}
 
 -- every brace twice, and every other character once

@@ -8,9 +8,9 @@ ghost use Rattle.interpolator.specs.NameMaps.{under, name_count, found, HasPut, 
 ghost use Rattle.interpolator.specs.NameMaps.{HasAdded, IsEntry, LendsUnder, LendsEntry};
 
 use crate::context::{Context, copied};
-use crate::error::Error;
 use crate::slots::Formattable;
 use interpolator_render::Value;
+use interpolator_syntax::Error;
 use std::alloc::{AllocError, Global};
 use std::collections::HashMap;
 use std::marker::PhantomData;

@@ -1,14 +1,13 @@
 //! Texts made into formats that mean them.
 ghost use Rattle.std.specs.Prelude.{◌≡◌, ◌<◌, ◌++◌, ◌∷◌, [], length, IfOk, IfErr, string_bytes};
 ghost use Rattle.std.specs.Str.{chars, IsUtf8};
-ghost use Rattle.interpolator.specs.Syntax.At.{outermost};
-ghost use Rattle.interpolator.specs.Syntax.Pieces.{pieces};
+ghost use Rattle.interpolator_syntax.specs.At.{outermost};
+ghost use Rattle.interpolator_syntax.specs.Pieces.{pieces};
 ghost use Rattle.interpolator.specs.Escaping.{braces_doubled, ArePlain};
-ghost use Rattle.interpolator.specs.declared.error.Error.TheVariants.{NoMemory};
+ghost use Rattle.interpolator_syntax.specs.declared.error.Error.TheVariants.{NoMemory};
 
-use crate::error::Error;
-use crate::syntax::class::{Class, split_class, split_first};
 use interpolator_render::{TextBuffer, TextWrite};
+use interpolator_syntax::{Class, Error, split_class, split_first};
 use std::alloc::Global;
 
 /// Appends a text, for which memory may be refused.

@@ -1,10 +1,10 @@
 //! Formats as methods of a context.
 ghost use Rattle.std.specs.Prelude.{◌≡◌, length, ◌<◌, ◌^◌};
 ghost use Rattle.std.specs.Str.{chars};
-ghost use Rattle.interpolator.specs.Syntax.At.{outermost};
+ghost use Rattle.interpolator_syntax.specs.At.{outermost};
 ghost use Rattle.interpolator.specs.Meaning.AskedNames.{asked_names};
 ghost use Rattle.interpolator.specs.Meaning.Environments.{environment, cut};
-ghost use Rattle.interpolator.specs.Faults.{answered, PlaceWithin};
+ghost use Rattle.interpolator_syntax.specs.Faults.{answered, PlaceWithin};
 ghost use Rattle.interpolator.specs.Meaning.Lines.{line_means};
 ghost use Rattle.interpolator.specs.Meaning.Meanings.{means};
 ghost use Rattle.interpolator.specs.Meaning.Outcomes.{Outcome, Formats};
@@ -13,13 +13,13 @@ ghost use Rattle.interpolator.specs.Meaning.Parts.{Clean, FrontsClose};
 
 use crate::context::{ByNames, Context};
 use crate::context_map::NameMap;
-use crate::error::Error;
 use crate::line::iwriteln;
 use crate::pairs::Pairs;
 use crate::parts::write_parts;
 use crate::slots::Formattable;
 use crate::writing::{format, write};
 use interpolator_render::{TextWrite, Value};
+use interpolator_syntax::Error;
 use std::alloc::Global;
 use std::collections::HashMap;
 use std::marker::PhantomData;

@@ -1,11 +1,28 @@
 //! Format strings at run time, proved.
+//!
+//! A format text and named values go in, and the formatted text or one located fault comes out. A
+//! [`Formattable`] is a value with a slot for each trait under which a format may ask it, or a list
+//! of such values. A [`Context`] says what stands under a name: a [`ContextMap`], a `HashMap`, or
+//! [`Pairs`], which takes no memory. [`write`] appends to any [`TextWrite`], and [`format`] makes a
+//! new text; the methods of [`Interpolate`] do the same for a context.
+//!
+//! ```text
+//! let values = [View::Text("Ann"), View::from(-7i32)];
+//! let context = [
+//!     ("name", Formattable::display(&values[0])),
+//!     ("n", Formattable::integer(&values[1])),
+//! ];
+//! Pairs(&context).format(alloc, "Hello {name}, n is {n:>5}")?    // "Hello Ann, n is    -7"
+//! ```
+//!
+//! What a format means is defined in `specs/`, and `write` is proved to do that and nothing else,
+//! for every format, context and writer. Read on at [`write`], at the laws of [`laws`], and at
+//! `Meaning/Meanings` in `specs/`.
 #![tactic(auto)]
 
 mod constructors;
 mod context;
 mod context_map;
-mod error;
-mod error_text;
 mod escaping;
 mod interpolate;
 pub mod laws;
@@ -15,25 +32,22 @@ mod pairs;
 mod parts;
 mod slot_names;
 mod slots;
-mod syntax;
-mod unstyled;
 mod writing;
 
 pub use context::Context;
 pub use context_map::{ContextMap, NameMap};
-pub use error::{Error, NumberError, ParseError};
 pub use escaping::escape;
 pub use interpolate::Interpolate;
 pub use interpolator_render::{
     Alignment, Bits, HexDebug, Refusal, RenderFault, Sign, Spec, TextBuffer, TextWrite, Trait,
     Value, View, pad, render,
 };
+pub use interpolator_syntax::{
+    Argument, Error, Group, Kind, NumberError, ParseError, Range, parse_argument,
+};
 pub use line::iwriteln;
 pub use meaning::list::chosen;
 pub use pairs::Pairs;
 pub use parts::{seam, write_parts};
 pub use slots::Formattable;
-pub use syntax::argument::{Argument, Kind, parse_argument};
-pub use syntax::group::Group;
-pub use syntax::range::Range;
 pub use writing::{format, write};

@@ -1,19 +1,19 @@
 //! Formats with a newline behind them.
 ghost use Rattle.std.specs.Prelude.{length};
 ghost use Rattle.std.specs.Str.{chars};
-ghost use Rattle.interpolator.specs.Syntax.At.{outermost};
+ghost use Rattle.interpolator_syntax.specs.At.{outermost};
 ghost use Rattle.interpolator.specs.Meaning.AskedNames.{asked_names};
 ghost use Rattle.interpolator.specs.Meaning.Environments.{environment, cut};
-ghost use Rattle.interpolator.specs.Faults.{answered, PlaceWithin};
+ghost use Rattle.interpolator_syntax.specs.Faults.{answered, PlaceWithin};
 ghost use Rattle.interpolator.specs.Meaning.Meanings.{means};
 ghost use Rattle.interpolator.specs.Meaning.Lines.{newline_means, line_means};
 ghost use Rattle.interpolator.specs.Meaning.Outcomes.{Outcome};
 
 use crate::context::Context;
-use crate::error::Error;
 use crate::meaning::sink::write_char;
 use crate::writing::write;
 use interpolator_render::TextWrite;
+use interpolator_syntax::Error;
 use std::alloc::Global;
 
 /// Writes a newline, which has place 0.

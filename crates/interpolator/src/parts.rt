@@ -2,14 +2,14 @@
 ghost use Rattle.std.specs.Prelude.{◌≡◌, ◌+◌, ◌^◌, ◌<◌, ◌++◌, ℕ, List, [], ◌∷◌, length};
 ghost use Rattle.std.specs.Prelude.{IfOk};
 ghost use Rattle.std.specs.Str.{chars};
-ghost use Rattle.interpolator.specs.Syntax.At.{at, strip, size, outermost};
-ghost use Rattle.interpolator.specs.Syntax.Classes.{open_brace, close_brace};
-ghost use Rattle.interpolator.specs.Syntax.Pieces.{pieces, argument_from};
-ghost use Rattle.interpolator.specs.Syntax.Tokens.{token_of, past_token};
-ghost use Rattle.interpolator.specs.Syntax.Seams.{closed_ending, piece_ending, brace_ending};
-ghost use Rattle.interpolator.specs.Syntax.Seams.{ending, seam_of, token_ending};
-ghost use Rattle.interpolator.specs.Syntax.Grammar.{from_place};
-ghost use Rattle.interpolator.specs.Faults.{answered, PlaceWithin};
+ghost use Rattle.interpolator_syntax.specs.At.{at, strip, size, outermost};
+ghost use Rattle.interpolator_syntax.specs.Classes.{open_brace, close_brace};
+ghost use Rattle.interpolator_syntax.specs.Pieces.{pieces, argument_from};
+ghost use Rattle.interpolator_syntax.specs.Tokens.{token_of, past_token};
+ghost use Rattle.interpolator.specs.Seams.{closed_ending, piece_ending, brace_ending};
+ghost use Rattle.interpolator.specs.Seams.{ending, seam_of, token_ending};
+ghost use Rattle.interpolator_syntax.specs.Grammar.{from_place};
+ghost use Rattle.interpolator_syntax.specs.Faults.{answered, PlaceWithin};
 ghost use Rattle.interpolator.specs.Meaning.Environments.{environment};
 ghost use Rattle.interpolator.specs.Meaning.Meanings.{means};
 ghost use Rattle.interpolator.specs.Meaning.Outcomes.{Outcome};
@@ -19,15 +19,13 @@ ghost use Rattle.interpolator.specs.Meaning.Scopes.{environment_of};
 ghost use Rattle.interpolator.specs.Meaning.Sinks.{Writes};
 
 use crate::context::Context;
-use crate::error::Error;
 use crate::meaning::evaluate::write_text;
 use crate::meaning::scope::Scope;
 use crate::meaning::sink::Sink;
-use crate::syntax::argument::{Argument, take_argument};
-use crate::syntax::bracket::text_before;
-use crate::syntax::cursor::Cursor;
-use crate::syntax::piece::{Piece, next_piece};
 use interpolator_render::TextWrite;
+use interpolator_syntax::{
+    Cursor, Error, Piece, next_piece, plain, take_asked, take_name, text_before,
+};
 use std::alloc::Global;
 
 /// How a text ends, as far as the text behind it can change its last piece.
@@ -68,9 +66,10 @@ fn argument_ending(here: Cursor<'_>) -> (Ending, Cursor<'_>)
         place: here.place,
         rest: "",
     };
+    let named = take_name(here);
     let mut end = here;
-    let mut argument = Argument::unnamed();
-    match take_argument(&mut end, &mut argument) {
+    let mut argument = plain(named);
+    match take_asked(here, named, &mut end, &mut argument) {
         Ok(()) => match end.strip(b'}') {
             Some(behind) => (closed_ending(here.rest, end.rest), behind),
             None => (Ending::Open, nothing),

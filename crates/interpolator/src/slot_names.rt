@@ -5,8 +5,8 @@ ghost use Rattle.interpolator.specs.Trees.{tree_of};
 ghost use Rattle.interpolator.specs.SlotNames.{slot_name, is_filled, name_behind, debug_text};
 
 use crate::slots::Formattable;
-use crate::unstyled::write_unstyled;
 use interpolator_render::Trait;
+use interpolator_syntax::write_unstyled;
 use std::fmt;
 
 // The traits whose slots are named, in this order.

@@ -2,21 +2,20 @@
 
 ghost use Rattle.std.specs.Prelude.{◌≡◌, ◌≤◌, [], false, length, IfOk};
 ghost use Rattle.std.specs.Str.{chars};
-ghost use Rattle.interpolator.specs.Syntax.At.{outermost};
+ghost use Rattle.interpolator_syntax.specs.At.{outermost};
 ghost use Rattle.interpolator.specs.Meaning.AskedNames.{asked_names};
 ghost use Rattle.interpolator.specs.Meaning.Environments.{environment, cut};
-ghost use Rattle.interpolator.specs.Faults.{answered, PlaceWithin};
+ghost use Rattle.interpolator_syntax.specs.Faults.{answered, PlaceWithin};
 ghost use Rattle.interpolator.specs.Meaning.Meanings.{means};
 ghost use Rattle.interpolator.specs.Meaning.Outcomes.{Outcome, Formats};
 ghost use Rattle.interpolator_render.specs.Written.{as_writer};
 
 use crate::context::Context;
-use crate::error::Error;
 use crate::meaning::evaluate::write_text;
 use crate::meaning::scope::Scope;
 use crate::meaning::sink::Sink;
-use crate::syntax::cursor::Cursor;
 use interpolator_render::{TextBuffer, TextWrite};
+use interpolator_syntax::{Cursor, Error};
 use std::alloc::{AllocError, Global};
 
 /// Writes what the format means in the context, up to its first fault.
@@ -84,7 +83,7 @@ pub fn write<W: TextWrite, C: Context>(
 const MOST_MORE: usize = 256;
 
 /// An empty buffer with room for the format and, up to a bound, as many bytes again.
-#[tactic(auto, using(crate::proofs::SyntaxLemmas::CharacterLemmas::no_text))]
+#[tactic(auto, using(interpolator_syntax::proofs::CharacterLemmas::no_text))]
 fn buffer_for(alloc: Global, format: &str) -> Result<TextBuffer, AllocError>
     ensures empty { IfOk result
         (λ buffer. as_writer buffer ≡ record { text = []; refused = false }) }

@@ -1,11 +1,9 @@
 -- Texts walked character by character: where a number of characters end.
-use Rattle.std.proofs.Common.{◌≡◌, ℕ, ◌-◌, ◌+◌, List, [], ◌∷◌, Bool, true, false, ◌&&◌, ◌++◌}
-use Rattle.std.proofs.Common.{length, take, refl, sym, ◌∙◌, ap, arith, append_assoc, append-nil}
-use Rattle.std.proofs.Common.{length-append}
-use Rattle.std.specs.Prelude.{encode_utf8}
+use Rattle.std.proofs.Common.{◌≡◌, ℕ, ◌-◌, ◌+◌, List, [], ◌∷◌, Bool, true, ◌&&◌, ◌++◌, length, take}
+use Rattle.std.proofs.Common.{refl, sym, ◌∙◌, ap, arith, append_assoc, append-nil, length-append}
+use Rattle.std.proofs.Common.{encode_utf8, chars, IsUtf8, IsCharBoundary}
 use Rattle.std.specs.Char.{IsScalar}
 use lib.Utf8.{scalars}
-use Rattle.std.specs.Str.{chars, IsUtf8, IsCharBoundary}
 use Rattle.std.proofs.lemmas.Str.{chars-append, chars-nil, IsUtf8-append, IsUtf8-encode, IsUtf8-nil}
 use Rattle.std.proofs.lemmas.Str.{IsCharBoundary-at_seam, cons_from_encodes, IsUtf8-past_char}
 use Rattle.std.proofs.Math.Seq.{take-append_seam}
@@ -18,8 +16,7 @@ scalar_first rest after c u e = let p = cons_from_encodes u.0 after c (u.1.1 ∙
     and_true_left _ _ all
   where
     and_true_left : (a b : Bool) → (a && b) ≡ true → a ≡ true
-    and_true_left true b h = refl
-    and_true_left false b h = h
+    and_true_left a b h = grind arith
 
 -- so many characters of the text are behind, and `rest` is to come
 pub record Walked (text rest : List ℕ) (count : ℕ) : Type 0 where
@@ -45,12 +42,8 @@ walked_more text rest after count c e w = let s = scalar_first rest after c w.re
       behind = w.behind ++ encode_utf8 c;
       parts = w.parts ∙ (ap (λ (x : List ℕ). w.behind ++ x) e
           ∙ sym (append_assoc w.behind (encode_utf8 c) after));
-      counted = rw (
-        chars-append w.behind (encode_utf8 c) w.behind_valid,
-        chars-encode c s,
-        length-append,
-        w.counted,
-      ) refl;
+      counted = rw (chars-append w.behind (encode_utf8 c) w.behind_valid, chars-encode c s)
+          (rw (length-append, w.counted) refl);
       behind_valid = IsUtf8-append w.behind (encode_utf8 c) w.behind_valid (IsUtf8-encode c s);
       rest_valid = u;
     }
@@ -63,12 +56,15 @@ walked_chars text rest count w =
     ∙ chars-append w.behind rest w.behind_valid in
     rw (split, ← w.counted) (sym (take-append_seam (chars w.behind) (chars rest)))
 
+walked_length : (text rest : List ℕ) (count : ℕ) → (w : Walked text rest count) →
+    length text - length rest ≡ length w.behind
+walked_length text rest count w =
+    let n = ap length w.parts ∙ length-append w.behind rest in omega arith
+
 pub walked_take : (text rest : List ℕ) (count : ℕ) → (w : Walked text rest count) →
     take (length text - length rest) text ≡ w.behind
 walked_take text rest count w =
-    let n : length text - length rest ≡ length w.behind = let h = ap length w.parts
-    ∙ length-append w.behind rest in omega arith in
-    rw (n, w.parts) (take-append_seam w.behind rest)
+    rw (walked_length text rest count w, w.parts) (take-append_seam w.behind rest)
 
 pub walked_end : (text rest : List ℕ) (count : ℕ) → Walked text rest count →
     chars (take (length text - length rest) text) ≡ take count (chars text)
@@ -77,10 +73,8 @@ walked_end text rest count w = ap chars (walked_take text rest count w)
 
 pub walked_boundary : (text rest : List ℕ) (count : ℕ) → Walked text rest count →
     IsCharBoundary text (length text - length rest)
-walked_boundary text rest count w =
-    let n : length text - length rest ≡ length w.behind = let h = ap length w.parts
-    ∙ length-append w.behind rest in omega arith in
-    rw n (IsCharBoundary-at_seam text w.behind rest w.parts w.rest_valid)
+walked_boundary text rest count w = rw (walked_length text rest count w)
+    (IsCharBoundary-at_seam text w.behind rest w.parts w.rest_valid)
 
 -- all of a text was walked, and its characters counted
 pub walked_all : (text rest : List ℕ) (count : ℕ) → length rest ≡ 0 → Walked text rest count →

@@ -1,21 +1,20 @@
 -- How many digits a number has in exponent form, and between which powers it lies.
 use Rattle.std.proofs.Common.{◌≡◌, ℕ, ◌<◌, ◌≤◌, ◌-◌, ◌+◌, ◌*◌, ◌^◌, true, false, List, length}
 use Rattle.std.proofs.Common.{replicate, ◌++◌, zero, refl, sym, ◌∙◌, ap, arith, rules}
-use Rattle.std.proofs.Common.{length-append, ◌==◌, ◌⊎◌, suc, inl, inr}
-use Rattle.std.specs.Prelude.{Some}
+use Rattle.std.proofs.Common.{length-append, ◌==◌, suc, inl, inr, Some, pow-add, pow-suc}
+use Rattle.std.proofs.Common.{eq-zero-or-pos, lt_of_mul-lt-mul_right}
 use Rattle.std.proofs.lemmas.Bool.{cases_eq, cases_lt}
 use Rattle.std.proofs.lemmas.List.{length-replicate}
-use Rattle.std.proofs.lemmas.Nat.{pow-add}
-use Rattle.std.proofs.Math.Nat.{mul-le-mul_right, pow-le-pow_right, pow-suc}
+use Rattle.std.proofs.Math.Nat.{pow-le-pow_right}
 use Rattle.interpolator_render.specs.Digits.{digit_text}
-use Rattle.interpolator_render.specs.Exponent.{exponent_of, zero_extended, nearest, rounded}
-use Rattle.interpolator_render.specs.Exponent.{scientific, IsNearest}
-use Rattle.interpolator_render.proofs.DigitLemmas.{zero_or_more, digit_text_some, digit_text_zero}
+use Rattle.interpolator_render.specs.Exponent.{exponent_of, nearest, rounded, scientific, IsNearest}
+use Rattle.interpolator_render.proofs.DigitLemmas.{digit_text_some, digit_text_zero}
 use Rattle.interpolator_render.proofs.DigitLemmas.{length-digit_text-le}
 use Rattle.interpolator_render.proofs.ExponentLemmas.{pow_some, scientific_short, scientific_long}
+use Rattle.interpolator_render.proofs.ExponentLemmas.{scientific_placed}
 use Rattle.std.specs.Str.Parse.{digits_value}
-use Rattle.interpolator_render.proofs.LawLemmas.{exponent_bounds_of, IsNearest-nearest}
-use Rattle.interpolator_render.proofs.LawLemmas.{digits_value-digit_text}
+use Rattle.interpolator_render.proofs.LawLemmas.{exponent_bounds_of, nearest_is_nearest}
+use Rattle.interpolator_render.proofs.LawLemmas.{digits_read}
 
 -- a number between two powers of ten has one digit more than the lower says
 pub digits_between : (n places : ℕ) → 10 ^ places ≤ n → n < 10 ^ (places + 1) →
@@ -31,48 +30,14 @@ digits_between n places low high =
       | inr enough ↦ omega arith
     ]
 
-length-zero_extended : (count : ℕ) (digits : List ℕ) → length digits ≤ count →
-    length (zero_extended count digits) ≡ count
-length-zero_extended count digits h =
-    let a = length-append (replicate (count - length digits) 48) digits in
-    let b = length-replicate {A = ℕ} (count - length digits) 48 in omega arith
-
-below_next : (n : ℕ) → n < 10 ^ (exponent_of n + 1)
-below_next n = elim (zero_or_more n) [
-  | inl e ↦ let some = pow_some (exponent_of n + 1) in omega arith
-  | inr h ↦ (exponent_bounds_of n h).1
-]
-
-scaled_below : (n bound unit : ℕ) → 0 < unit → n < bound → n * unit < bound * unit
-scaled_below n bound unit u h = let product : (n + 1) * unit ≤ bound * unit = mul-le-mul_right unit
-    (omega arith) in omega arith
-
-short_fits : (n places : ℕ) → exponent_of n ≤ places →
-    length (digit_text 10 false (n * 10 ^ (places - exponent_of n))) ≤ places + 1
-short_fits n places h =
-    let scaled = scaled_below n (10 ^ (exponent_of n + 1)) (10 ^ (places - exponent_of n))
-    (pow_some (places - exponent_of n)) (below_next n) in
-    let whole : exponent_of n + 1 + (places - exponent_of n) ≡ places + 1 = omega arith in
-    let power = pow-add 10 (exponent_of n + 1) (places - exponent_of n) in
-    let top = ap (λ (k : ℕ). 10 ^ k) whole in
-    length-digit_text-le 10 (places + 1) (n * 10 ^ (places - exponent_of n)) false (omega arith)
-    (omega arith) (omega arith)
-
 -- the nearest number of units lies between the powers that the quotient lies between
 nearest_within : (n unit low high count : ℕ) → 0 < unit → low * unit ≤ n → n < high * unit →
     IsNearest n unit count → (low ≤ count) × (count ≤ high)
 nearest_within n unit low high count u l h p =
-    (at_least (cases_lt count low), at_most (cases_lt high count))
-  where
-    at_least : (count < low) ⊎ (low ≤ count) → low ≤ count
-    at_least (inr enough) = enough
-    at_least (inl below) = let product : (count + 1) * unit ≤ low * unit = mul-le-mul_right unit
-        (omega arith) in let near = p.near in absurd (omega arith)
-
-    at_most : (high < count) ⊎ (count ≤ high) → count ≤ high
-    at_most (inr enough) = enough
-    at_most (inl above) = let product : (high + 1) * unit ≤ count * unit = mul-le-mul_right unit
-        (omega arith) in let near = p.near in absurd (omega arith)
+    let near = p.near in
+    let least : low < count + 1 = lt_of_mul-lt-mul_right unit (omega arith) in
+    let most : count < high + 1 = lt_of_mul-lt-mul_right unit (omega arith) in
+    (omega arith, omega arith)
 
 -- what the exponent says of a number, split at the places that are kept
 split_bounds : (n places rest exponent : ℕ) → places + rest ≡ exponent → 10 ^ exponent ≤ n →
@@ -90,7 +55,7 @@ next_power places =
     rw (next, pow-suc 10 places) (omega arith)
 
 some_exponent : (n : ℕ) → 0 < exponent_of n → 0 < n
-some_exponent n h = elim (zero_or_more n) [
+some_exponent n h = elim (eq-zero-or-pos n) [
   | inl e ↦ let one = ap length (digit_text_zero 10 false n e) in absurd (omega arith)
   | inr some ↦ some
 ]
@@ -104,7 +69,7 @@ rounded_count places n h =
     bounds.0 bounds.1 in
     let some = pow_some (exponent_of n - places) in
     let within = nearest_within n unit (10 ^ places) (10 ^ (places + 1)) (nearest n unit) some
-    split.0 split.1 (IsNearest-nearest n unit some) in
+    split.0 split.1 (nearest_is_nearest n unit some) in
     elim (cases_eq (nearest n unit) (10 ^ (places + 1))) [
       | inl carry ↦ let t : (nearest n unit == 10 ^ (places + 1)) ≡ true = search rules in
           rw t (digits_between (10 ^ places) places (omega arith) (next_power places))
@@ -116,8 +81,8 @@ rounded_count places n h =
 pub scientific_count : (places n : ℕ) → length (scientific (Some places) n).digits ≡ places + 1
 scientific_count places n = elim (cases_lt places (exponent_of n)) [
   | inl fewer ↦ rw (scientific_long places n fewer) (rounded_count places n fewer)
-  | inr enough ↦ rw (scientific_short places n enough)
-      (length-zero_extended (places + 1) _ (short_fits n places enough))
+  | inr enough ↦ rw (scientific_placed places n enough, length-append, length-replicate)
+      (let some = digit_text_some 10 n false (omega arith) in omega arith)
 ]
 
 -- ---- what the digits make
@@ -133,12 +98,9 @@ pub scientific_whole : (places n : ℕ) → exponent_of n ≤ places →
     × (digits_value 10 (scientific (Some places) n).digits ≡ n * 10 ^ (places - exponent_of n))
 scientific_whole places n h =
     let scaled = n * 10 ^ (places - exponent_of n) in
-    rw (scientific_short places n h) (
-      refl,
-      value_of_zeros
-          (places + 1 - length (digit_text 10 false scaled)) (digit_text 10 false scaled)
-          ∙ digits_value-digit_text 10 scaled false (omega arith) (omega arith),
-    )
+    let value = value_of_zeros (places + 1 - length (digit_text 10 false scaled)) _
+    ∙ digits_read 10 scaled false (omega arith) (omega arith) in
+    rw (scientific_short places n h) (refl, value)
 
 -- a carry raises the exponent by one
 carry_value : (places exponent : ℕ) → places < exponent → 10 ^ places * 10 ^ (exponent + 1 - places)
@@ -158,10 +120,10 @@ rounded_value places n exponent h =
     let mantissa = nearest n (10 ^ (exponent - places)) in
     elim (cases_eq mantissa (10 ^ (places + 1))) [
       | inl carry ↦ let t : (mantissa == 10 ^ (places + 1)) ≡ true = search rules in
-          rw (t, carry, digits_value-digit_text 10 (10 ^ places) false (omega arith) (omega arith))
+          rw (t, carry, digits_read 10 (10 ^ places) false (omega arith) (omega arith))
           (omega arith, carry_value places exponent h)
       | inr none ↦ let f : (mantissa == 10 ^ (places + 1)) ≡ false = search rules in
-          rw (f, digits_value-digit_text 10 mantissa false (omega arith) (omega arith))
+          rw (f, digits_read 10 mantissa false (omega arith) (omega arith))
           (omega arith, refl)
     ]
 
@@ -173,3 +135,5 @@ pub scientific_rounded : (places n : ℕ) → places < exponent_of n →
     ≡ nearest n (10 ^ (exponent_of n - places)) * 10 ^ (exponent_of n - places))
 scientific_rounded places n h = rw (scientific_long places n h)
     (rounded_value places n (exponent_of n) h)
+
+pub ruleset scientific_laws = (scientific_count, scientific_whole, scientific_rounded)

@@ -1,18 +1,18 @@
 -- The digits of a number in a buffer, written from its end: one, two or four more.
-use Rattle.std.proofs.Common.{◌≡◌, ◌≢◌, ℕ, zero, suc, ◌<◌, ◌≤◌, ◌+◌, ◌-◌, ◌*◌, ◌/◌, ◌%◌, ◌^◌, Bool}
-use Rattle.std.proofs.Common.{true, false, List, [], ◌∷◌, ◌++◌, length, take, drop, map, set}
-use Rattle.std.proofs.Common.{get_or, refl, sym, ◌∙◌, ap, arith, rules, append_assoc, length-append}
-use Rattle.std.proofs.Common.{length-drop, length-set, if◌then◌else◌, ◌==◌, ◌⊎◌, inl, inr}
+use Rattle.std.proofs.Common.{◌≡◌, ◌≢◌, ℕ, ◌<◌, ◌≤◌, ◌+◌, ◌-◌, ◌/◌, ◌%◌, ◌^◌, Bool, false, List, []}
+use Rattle.std.proofs.Common.{◌∷◌, ◌++◌, length, take, drop, map, set, get_or, refl, sym, ◌∙◌, ap}
+use Rattle.std.proofs.Common.{arith, rules, append_assoc, length-append, length-drop, length-set}
+use Rattle.std.proofs.Common.{◌==◌, inl, inr, take-take, IsAscii, mod-eq_of_lt, div-le_self}
+use Rattle.std.proofs.Common.{eq-zero-or-pos, le-div_iff_mul-le}
 use Rattle.std.specs.Fmt.{digit_glyph}
-use Rattle.std.specs.Str.{IsAscii}
 use Rattle.std.specs.Int.Digits.{digits_of, AllBelowBase}
 use Rattle.std.proofs.lemmas.Int.Digits.{length-digits_of-le, digits_of_step, length-digits_of_step}
 use Rattle.std.proofs.lemmas.Int.Digits.{all_below_base_digits_of}
-use Rattle.std.proofs.lemmas.List.{map-append, drop-set, length-map, take-set, take-take}
+use Rattle.std.proofs.lemmas.List.{map-append, drop-set, length-map, take-set, take-set-le}
 use Rattle.std.proofs.lemmas.Bool.Decides.{nat_tests}
+use Rattle.std.proofs.lemmas.Str.{IsUtf8-from_ascii}
 use Rattle.std.proofs.lemmas.Str.Ascii.{IsAscii-cons}
-use Rattle.std.proofs.Math.Nat.{pow-le-pow_left, lt-div-mul-add, div-eq_of_lt, mod-eq_of_lt}
-use Rattle.std.proofs.Math.Nat.{div-le_self}
+use Rattle.std.proofs.Math.Nat.{pow-le-pow_left, div-eq_of_lt}
 use Rattle.std.proofs.Math.Seq.{drop-length}
 use Rattle.interpolator_render.specs.Digits.{digit_text}
 
@@ -28,26 +28,13 @@ pub one_digit_more : (base rest at : ℕ) (upper : Bool) (out : List ℕ) → 2 
     ++ drop at (set out at (digit_glyph upper (rest % base)))
     ≡ map (digit_glyph upper) (digits_of base rest) ++ drop (at + 1) out
 one_digit_more base rest at upper out b r l =
-    rw (
-      drop-set out at (digit_glyph upper (rest % base)) l,
-      digits_of_step base rest b r,
-      map-append,
-      append_assoc,
-    ) refl
+    rw (drop-set out at (digit_glyph upper (rest % base)) l, digits_of_step base rest b r)
+    (rw (map-append, append_assoc) refl)
 
--- what stands in front of a place is as before, once the byte there is written
-pub fewer_in_front : (out old : List ℕ) (at byte : ℕ) → 0 < at → take at out ≡ take at old →
-    take (at - 1) (set out (at - 1) byte) ≡ take (at - 1) old
-fewer_in_front out old at byte h e =
-    take-set out (at - 1) byte ∙ (sym (take-take (at - 1) at out (omega arith))
-    ∙ (ap (take (at - 1)) e ∙ take-take (at - 1) at old (omega arith)))
+-- one digit more than the quotient has
+pub ruleset digit_steps = length-digits_of_step
 
 -- ---- the text of a number
-
--- a number is zero or above it
-pub zero_or_more : (n : ℕ) → (n ≡ 0) ⊎ (0 < n)
-zero_or_more zero = inl refl
-zero_or_more (suc n) = inr (omega arith)
 
 pub digit_text_zero : (base : ℕ) (upper : Bool) (n : ℕ) → n ≡ 0 → digit_text base upper n ≡ 48 ∷ []
 unfolding digit_text
@@ -61,24 +48,19 @@ digit_text_map base n upper h = let f : (n == 0) ≡ false = let k : n ≢ 0 = o
 
 -- a number has a digit at least
 pub digit_text_some : (base n : ℕ) (upper : Bool) → 2 ≤ base → 0 < length (digit_text base upper n)
-digit_text_some base n upper b = elim (zero_or_more n) [
+digit_text_some base n upper b = elim (eq-zero-or-pos n) [
   | inl e ↦ rw (digit_text_zero base upper n e) (omega arith)
-  | inr h ↦ rw (digit_text_map base n upper h)
-      (let l = length-map (digits_of base n) (digit_glyph upper) in
-      omega (arith, length-digits_of_step base n b h))
+  | inr h ↦ rw (digit_text_map base n upper h, length-map)
+      (omega (arith, length-digits_of_step base n b h))
 ]
 
 -- a number below a power of the base has at most so many digits
 pub length-digit_text-le : (base k n : ℕ) (upper : Bool) → 2 ≤ base → 0 < k → n < base ^ k →
     length (digit_text base upper n) ≤ k
-unfolding digit_text
-length-digit_text-le base k n upper b p h =
-    elim (n == 0) as (λ z. length (if z then 48 ∷ [] else map (digit_glyph upper)
-    (digits_of base n)) ≤ k) [
-      | true ↦ omega arith
-      | false ↦ let l = length-map (digits_of base n) (digit_glyph upper) in
-          omega (arith, length-digits_of-le base k n b h)
-    ]
+length-digit_text-le base k n upper b p h = elim (eq-zero-or-pos n) [
+  | inl e ↦ rw (digit_text_zero base upper n e) (omega arith)
+  | inr m ↦ rw (digit_text_map base n upper m, length-map) (length-digits_of-le base k n b h)
+]
 
 -- ---- the buffer
 
@@ -90,9 +72,8 @@ nothing_behind out size e = rw (← e) (drop-length out)
 pub zero_written : (out : List ℕ) (base : ℕ) (upper : Bool) (n : ℕ) → length out ≡ 128 → n ≡ 0 →
     drop 127 (set out 127 48) ≡ digit_text base upper n
 zero_written out base upper n e z =
-    let one : drop 127 (set out 127 48) ≡ 48 ∷ drop 128 out = drop-set out 127 48 (omega arith) in
-    one ∙ (ap (λ (x : List ℕ). 48 ∷ x) (nothing_behind out 128 e)
-    ∙ sym (digit_text_zero base upper n z))
+    rw (digit_text_zero base upper n z, drop-set out 127 48 (omega arith), nothing_behind out 128 e)
+    refl
 
 -- where the digits begin, the whole text of the number lies behind
 pub text_start : (base n start : ℕ) (upper : Bool) (out : List ℕ) → 2 ≤ base → length out ≡ 128 →
@@ -101,11 +82,13 @@ text_start base n start upper out b e w =
     let some = digit_text_some base n upper b in let count = ap length w in
     let k = length-drop start out in omega arith
 
+-- for the digits at the end of the buffer
+pub ruleset text_places = (zero_written, text_start, digit_text_map)
+
 -- ---- ASCII
 
 IsAscii-glyph : (d : ℕ) (upper : Bool) → d < 16 → digit_glyph upper d < 128
-IsAscii-glyph d true h = grind (arith, nat_tests)
-IsAscii-glyph d false h = grind (arith, nat_tests)
+IsAscii-glyph d upper h = grind (arith, nat_tests)
 
 IsAscii-glyphs : (base : ℕ) (upper : Bool) (ds : List ℕ) → base ≤ 16 → AllBelowBase base ds →
     IsAscii (map (digit_glyph upper) ds)
@@ -113,37 +96,26 @@ IsAscii-glyphs base upper [] h a = λ i. omega arith
 IsAscii-glyphs base upper (d ∷ ds) h a = IsAscii-cons _ _
     (IsAscii-glyph d upper (omega (arith, a.0))) (IsAscii-glyphs base upper ds h a.1)
 
-pub IsAscii-digit_text : (base : ℕ) (upper : Bool) (n : ℕ) → 2 ≤ base → base ≤ 16 →
+pub digits_ascii : (base : ℕ) (upper : Bool) (n : ℕ) → 2 ≤ base → base ≤ 16 →
     IsAscii (digit_text base upper n)
-unfolding digit_text
-IsAscii-digit_text base upper n l h =
-    elim (n == 0) as (λ b. IsAscii (if b then 48 ∷ [] else map (digit_glyph upper)
-    (digits_of base n))) [
-      | true ↦ IsAscii-cons 48 [] (omega arith) (λ i. omega arith)
-      | false ↦ IsAscii-glyphs base upper
-          (digits_of base n) h (all_below_base_digits_of base n l)
-    ]
+digits_ascii base upper n l h = elim (eq-zero-or-pos n) [
+  | inl e ↦ rw (digit_text_zero base upper n e)
+      (IsAscii-cons 48 [] (omega arith) (λ i. omega arith))
+  | inr m ↦ rw (digit_text_map base n upper m)
+      (IsAscii-glyphs base upper _ h (all_below_base_digits_of base n l))
+]
+
+pub ruleset ascii_texts = IsUtf8-from_ascii
 
 -- ---- the text of a number in front of a place
-
-some_quotient : (base n : ℕ) → 2 ≤ base → base ≤ n → 0 < n / base
-some_quotient base n b h = elim (zero_or_more (n / base)) [
-  | inl e ↦ let l : n < n / base * base + base = lt-div-mul-add (omega arith) in
-      let k : n < 0 * base + base = rw e at l in absurd (omega arith)
-  | inr m ↦ m
-]
 
 -- more than one digit: those of the quotient, and the remainder
 pub digit_text_step : (base n : ℕ) (upper : Bool) → 2 ≤ base → base ≤ n →
     digit_text base upper n ≡ digit_text base upper (n / base) ++ digit_glyph upper (n % base) ∷ []
 digit_text_step base n upper b h =
-    let some = some_quotient base n b h in
-    rw (
-      digit_text_map base n upper (omega arith),
-      digits_of_step base n b (omega arith),
-      map-append,
-      ← digit_text_map base (n / base) upper some,
-    ) refl
+    let some = (le-div_iff_mul-le {k = base} {x = 1} {y = n} (omega arith)).1 (omega arith) in
+    rw (digit_text_map base n upper (omega arith), digits_of_step base n b (omega arith))
+    (rw (map-append, ← digit_text_map base (n / base) upper some) refl)
 
 pub digit_count_step : (base n : ℕ) (upper : Bool) → 2 ≤ base → base ≤ n →
     length (digit_text base upper n) ≡ length (digit_text base upper (n / base)) + 1
@@ -153,28 +125,27 @@ digit_count_step base n upper b h = ap length (digit_text_step base n upper b h)
 -- one digit
 pub digit_text_one : (base n : ℕ) (upper : Bool) → 2 ≤ base → n < base →
     digit_text base upper n ≡ digit_glyph upper n ∷ []
-digit_text_one base n upper b h = elim (zero_or_more n) [
+digit_text_one base n upper b h = elim (eq-zero-or-pos n) [
   | inl e ↦ rw (digit_text_zero base upper n e, e) refl
-  | inr m ↦ rw (
-    digit_text_map base n upper m,
-    digits_of_step base n b m,
-    div-eq_of_lt h,
-    mod-eq_of_lt h,
-  ) refl
+  | inr m ↦ rw (digit_text_map base n upper m, digits_of_step base n b m)
+      (rw (div-eq_of_lt h, mod-eq_of_lt h) refl)
 ]
 
+pub one_count : (base n : ℕ) (upper : Bool) → 2 ≤ base → n < base →
+    length (digit_text base upper n) ≡ 1
+one_count base n upper b h = ap length (digit_text_one base n upper b h)
+
 -- one digit more stands in front
-pub low_step : (base n at : ℕ) (upper : Bool) (out behind : List ℕ) → 2 ≤ base → base ≤ n → 0 < at →
+pub low_step : (base n at : ℕ) (upper : Bool) (out : List ℕ) → 2 ≤ base → base ≤ n → 0 < at →
     at ≤ length out →
-    digit_text base upper n ++ drop at out ≡ behind →
     digit_text base upper (n / base) ++ drop (at - 1)
-    (set out (at - 1) (digit_glyph upper (n % base))) ≡ behind
-low_step base n at upper out behind b h p l e =
+    (set out (at - 1) (digit_glyph upper (n % base))) ≡ digit_text base upper n ++ drop at out
+low_step base n at upper out b h p l =
     let place : at - 1 + 1 ≡ at = omega arith in
     rw (drop-set out (at - 1) (digit_glyph upper (n % base)) (omega arith), place)
-    (sym (append_assoc (digit_text base upper (n / base)) (digit_glyph upper (n % base) ∷ [])
-    (drop at out))
-    ∙ (ap (λ (x : List ℕ). x ++ drop at out) (sym (digit_text_step base n upper b h)) ∙ e))
+    (rw (digit_text_step base n upper b h, append_assoc) refl)
+
+pub ruleset last_steps = (low_step, take-set)
 
 -- four digits more
 pub four_count : (base n : ℕ) (upper : Bool) → 2 ≤ base → base ≤ n / base / base / base →
@@ -192,11 +163,8 @@ four_count base n upper b h =
 pub led : (text behind there : List ℕ) (first : ℕ) → 0 < length text →
     first ∷ there ≡ text ++ behind → (text ≡ first ∷ drop 1 text) × (there ≡ drop 1 text ++ behind)
 led [] behind there first h e = absurd (omega arith)
-led (x ∷ xs) behind there first h e = (
-  ap (λ (y : ℕ). y ∷ xs)
-      (sym (ap (λ (l : List ℕ). get_or l 0 0) e)),
-  ap (drop 1) e,
-)
+led (x ∷ xs) behind there first h e =
+    (ap (λ (l : List ℕ). get_or l 0 0 ∷ xs) (sym e), ap (drop 1) e)
 
 -- digits left of a number, written behind its first: the whole but for that
 pub low_written : (base n rest first at end : ℕ) (upper : Bool) (new mid old : List ℕ) → 2 ≤ base →
@@ -211,17 +179,14 @@ low_written base n rest first at end upper new mid old b leads written all =
     (ap (λ (x : List ℕ). digit_glyph upper first ∷ x) written
     ∙ (ap (λ (x : List ℕ). x ++ drop at mid) (sym leads) ∙ all))
 
--- and where it begins
-pub low_begins : (base n rest from at end : ℕ) (upper : Bool) → 2 ≤ base →
-    from + length (drop 1 (digit_text base upper rest)) ≡ at →
-    at + length (digit_text base upper n) ≡ end + length (digit_text base upper rest) →
-    from + length (drop 1 (digit_text base upper n)) ≡ end
-low_begins base n rest from at end upper b low begins =
-    let some = digit_text_some base n upper b in
-    let left = digit_text_some base rest upper b in
-    let all = length-drop 1 (digit_text base upper n) in
-    let few = length-drop 1 (digit_text base upper rest) in
-    omega arith
+-- all digits but the first
+pub low_count : (base n : ℕ) (upper : Bool) → 2 ≤ base →
+    length (drop 1 (digit_text base upper n)) + 1 ≡ length (digit_text base upper n)
+low_count base n upper b = let some = digit_text_some base n upper b in
+    let less = length-drop 1 (digit_text base upper n) in omega arith
+
+-- for digits written one at a time
+pub ruleset one_steps = (digit_count_step, one_count, low_count)
 
 -- ---- two digits at a time
 
@@ -233,15 +198,15 @@ high_of_pair : (n : ℕ) → digit_glyph false (n / 10 % 10) ≡ 48 + n % 100 / 
 high_of_pair n = grind (arith, nat_tests)
 
 -- two digits more stand in front
-pub pair_step : (n at : ℕ) (out behind : List ℕ) → 100 ≤ n → 2 ≤ at → at ≤ length out →
-    digit_text 10 false n ++ drop at out ≡ behind →
+pub pair_step : (n at : ℕ) (out : List ℕ) → 100 ≤ n → 2 ≤ at → at ≤ length out →
     digit_text 10 false (n / 100) ++ drop (at - 2)
-    (set (set out (at - 1) (48 + n % 100 % 10)) (at - 2) (48 + n % 100 / 10)) ≡ behind
-pair_step n at out behind h p l e =
-    let once = low_step 10 n at false out behind (omega arith) (omega arith) (omega arith) l e in
+    (set (set out (at - 1) (48 + n % 100 % 10)) (at - 2) (48 + n % 100 / 10))
+    ≡ digit_text 10 false n ++ drop at out
+pair_step n at out h p l =
+    let once = low_step 10 n at false out (omega arith) (omega arith) (omega arith) l in
     let size = length-set out (at - 1) (digit_glyph false (n % 10)) in
     let twice = low_step 10 (n / 10) (at - 1) false (set out (at - 1) (digit_glyph false (n % 10)))
-    behind (omega arith) (omega arith) (omega arith) (omega arith) once in
+    (omega arith) (omega arith) (omega arith) (omega arith) ∙ once in
     let place : at - 1 - 1 ≡ at - 2 = omega arith in
     let rest : n / 10 / 10 ≡ n / 100 = omega arith in
     rw (place, rest, low_of_pair n, high_of_pair n) at twice
@@ -254,14 +219,13 @@ pair_count n h =
     let rest : n / 10 / 10 ≡ n / 100 = omega arith in
     let count = rw rest at twice in omega arith
 
-pub pair_in_front : (out old : List ℕ) (at first second : ℕ) → 2 ≤ at → take at out ≡ take at old →
-    take (at - 2) (set (set out (at - 1) first) (at - 2) second) ≡ take (at - 2) old
-pair_in_front out old at first second h e =
-    let place : at - 1 - 1 ≡ at - 2 = omega arith in
-    let step = fewer_in_front (set out (at - 1) first) old (at - 1) second (omega arith)
-    (fewer_in_front out old at first (omega arith) e) in
-    rw place at step
-
 pub take_less : (k at : ℕ) (new old : List ℕ) → k ≤ at → take at new ≡ take at old →
     take k new ≡ take k old
 take_less k at new old h e = sym (take-take k at new h) ∙ (ap (take k) e ∙ take-take k at old h)
+
+pub pair_in_front : (out old : List ℕ) (at first second : ℕ) → 2 ≤ at → take at out ≡ take at old →
+    take (at - 2) (set (set out (at - 1) first) (at - 2) second) ≡ take (at - 2) old
+pair_in_front out old at first second h e =
+    take-set-le (at - 2) (set out (at - 1) first) (at - 2) second (omega arith)
+    ∙ (take-set-le (at - 2) out (at - 1) first (omega arith)
+    ∙ take_less (at - 2) at out old (omega arith) e)

@@ -3,25 +3,23 @@ use Rattle.std.proofs.Common.{◌≡◌, ◌≢◌, ℕ, zero, suc, ◌<◌, ◌
 use Rattle.std.proofs.Common.{false, List, [], ◌∷◌, ◌++◌, length, take, drop, map, get_or, set}
 use Rattle.std.proofs.Common.{replicate, slice_range, refl, sym, ◌∙◌, ap, arith, rules}
 use Rattle.std.proofs.Common.{append_assoc, append-nil, length-append, length-drop, length-set}
-use Rattle.std.proofs.Common.{◌==◌, inl, inr}
+use Rattle.std.proofs.Common.{◌==◌, inl, inr, None, Some, nat_lt, length-take-le, take_all, IsAscii}
+use Rattle.std.proofs.Common.{pow-suc, mul_assoc, mul-le-mul_left, div-mul-le_self, drop-cons}
+use Rattle.std.proofs.Common.{eq-zero-or-pos, ◌%◌}
 use Rattle.std.specs.Fmt.{digit_glyph}
 use Rattle.std.specs.Int.Digits.{digits_of}
-use Rattle.std.specs.Prelude.{Some, nat_lt}
-use Rattle.std.specs.Str.{IsAscii}
 use Rattle.std.proofs.lemmas.Int.Digits.{digits_of_step}
 use Rattle.std.proofs.lemmas.List.{map-append, take_more, replicate-append-replicate}
-use Rattle.std.proofs.lemmas.List.{length-replicate, length-take-le, drop-set, set_comm, take_all}
+use Rattle.std.proofs.lemmas.List.{length-replicate, drop-set, set_comm}
+use Rattle.std.proofs.lemmas.Slice.{between_from_start}
 use Rattle.std.proofs.lemmas.Str.{IsAscii-take}
 use Rattle.std.proofs.lemmas.Str.Ascii.{IsAscii-cons}
-use Rattle.std.proofs.Math.Nat.{pow-suc, mul-div_cancel, mul-mod_left, mul_assoc, one-le-pow}
-use Rattle.std.proofs.Math.Nat.{mul-le-mul_left, pow-le-pow_right, div-mul-le_self}
-use Rattle.std.proofs.Math.Seq.{drop-cons}
+use Rattle.std.proofs.Math.Nat.{one-le-pow, pow-le-pow_right}
 use Rattle.std.proofs.Math.Bool.{and-false}
 use Rattle.interpolator_render.specs.Digits.{digit_text}
 use Rattle.interpolator_render.specs.Exponent.{exponent_of, less_zeros, trimmed, zero_extended}
 use Rattle.interpolator_render.specs.Exponent.{scientific, rounded, pointed}
-use Rattle.interpolator_render.proofs.DigitLemmas.{zero_or_more, digit_text_zero, digit_text_map}
-use Rattle.interpolator_render.proofs.DigitLemmas.{digit_text_some}
+use Rattle.interpolator_render.proofs.DigitLemmas.{digit_text_zero, digit_text_map, digit_text_some}
 
 -- ---- powers of ten that fit
 
@@ -38,6 +36,8 @@ pow_more (suc k) h = let one = one-le-pow k 10 (omega arith) in rw (pow-suc 10 k
 pub quotient_fits : (n unit : ℕ) → n < 2 ^ 128 → 10 ≤ unit → n / unit < 10 ^ 38
 quotient_fits n unit h u = let part = div-mul-le_self n unit in
     let ten = mul-le-mul_left (n / unit) u in omega arith
+
+pub ruleset fitting_powers = (pow_fits, pow_more, quotient_fits)
 
 -- ---- the zeros at the end
 
@@ -82,6 +82,8 @@ pub trim_stop : (bytes : List ℕ) (end : ℕ) → 1 ≤ end → end ≤ length 
 trim_stop bytes end h l e = rw (one_more bytes end h l)
     (trimmed_other (take (end - 1) bytes) (get_or bytes (end - 1) 0) e)
 
+pub ruleset trim_steps = (trim_step, trim_stop, between_from_start)
+
 -- ---- zeros behind
 
 digits_scaled : (n k : ℕ) → 0 < n → digits_of 10 (n * 10 ^ k) ≡ digits_of 10 n ++ replicate k 0
@@ -92,18 +94,13 @@ digits_scaled n (suc k) h =
     in
     let some : 0 < n * 10 ^ k * 10 = let more = mul-le-mul_left n (one-le-pow k 10 (omega arith)) in
     omega arith in
-    rw (
-      wide,
-      digits_of_step 10 (n * 10 ^ k * 10) (omega arith) some,
-      mul-div_cancel (n * 10 ^ k)
-          {n = 10} (omega arith),
-      mul-mod_left (n * 10 ^ k) 10,
-      digits_scaled n k h,
-      append_assoc,
-    )
+    let step = digits_of_step 10 (n * 10 ^ k * 10) (omega arith) some in
+    let quotient : n * 10 ^ k * 10 / 10 ≡ n * 10 ^ k = omega arith in
+    let last : n * 10 ^ k * 10 % 10 ≡ 0 = omega arith in
+    let e : k + 1 ≡ suc k = omega arith in
+    rw (wide, step, quotient, last, digits_scaled n k h, append_assoc)
     (ap (λ (x : List ℕ). digits_of 10 n ++ x)
-    (let e : k + 1 ≡ suc k = omega arith in replicate-append-replicate k 1 0
-    ∙ ap (λ (m : ℕ). replicate m 0) e))
+    (replicate-append-replicate k 1 0 ∙ ap (λ (m : ℕ). replicate m 0) e))
 
 glyphs_of_zeros : (k : ℕ) → map (digit_glyph false) (replicate k 0) ≡ replicate k 48
 glyphs_of_zeros zero = refl
@@ -114,14 +111,8 @@ digit_text_scaled : (n k : ℕ) → 0 < n → digit_text 10 false (n * 10 ^ k) �
 digit_text_scaled n k h =
     let some : 0 < n * 10 ^ k = let more = mul-le-mul_left n (one-le-pow k 10 (omega arith)) in
     omega arith in
-    rw (
-      digit_text_map 10 (n * 10 ^ k) false some,
-      digits_scaled n k h,
-      map-append,
-      glyphs_of_zeros
-          k,
-      ← digit_text_map 10 n false h,
-    ) refl
+    rw (digit_text_map 10 (n * 10 ^ k) false some, digits_scaled n k h, map-append)
+    (rw (glyphs_of_zeros k, ← digit_text_map 10 n false h) refl)
 
 extended_whole : (count : ℕ) (digits : List ℕ) → length digits ≡ count →
     digits ≡ zero_extended count digits
@@ -142,7 +133,7 @@ zero_placed n places e =
 pub digits_placed : (n places : ℕ) → exponent_of n ≤ places →
     digit_text 10 false n ++ replicate (places - exponent_of n) 48
     ≡ zero_extended (places + 1) (digit_text 10 false (n * 10 ^ (places - exponent_of n)))
-digits_placed n places h = elim (zero_or_more n) [
+digits_placed n places h = elim (eq-zero-or-pos n) [
   | inl e ↦ zero_placed n places e
   | inr m ↦ rw (digit_text_scaled n (places - exponent_of n) m)
       (extended_whole (places + 1) _ (let l = length-append (digit_text 10 false n)
@@ -151,21 +142,36 @@ digits_placed n places h = elim (zero_or_more n) [
       let s = digit_text_some 10 n false (omega arith) in omega arith))
 ]
 
-pub scientific_short : (places n : ℕ) → exponent_of n ≤ places →
-    scientific (Some places) n ≡ record {
-      digits = zero_extended (places + 1)
-          (digit_text 10 false (n * 10 ^ (places - exponent_of n)));
+pub scientific_plain : (n : ℕ) → scientific None n
+    ≡ record { digits = trimmed (digit_text 10 false n); exponent = exponent_of n }
+unfolding scientific
+scientific_plain n = refl
+
+pub scientific_short : (places n : ℕ) → exponent_of n ≤ places → scientific (Some places) n
+    ≡ record {
+      digits = zero_extended (places + 1) (digit_text 10 false (n * 10 ^ (places - exponent_of n)));
       exponent = exponent_of n;
     }
 unfolding scientific
 scientific_short places n h = let f : nat_lt places (exponent_of n) ≡ false = search rules in
     rw f refl
 
-pub scientific_long : (places n : ℕ) → places < exponent_of n → scientific (Some places) n
-    ≡ rounded places n (exponent_of n)
+-- the same, with the zeros behind the digits
+pub scientific_placed : (places n : ℕ) → exponent_of n ≤ places → scientific (Some places) n
+    ≡ record {
+      digits = digit_text 10 false n ++ replicate (places - exponent_of n) 48;
+      exponent = exponent_of n;
+    }
+scientific_placed places n h = rw (scientific_short places n h, ← digits_placed n places h) refl
+
+pub scientific_long : (places n : ℕ) → places < exponent_of n →
+    scientific (Some places) n ≡ rounded places n (exponent_of n)
 unfolding scientific
 scientific_long places n h = let f : nat_lt places (exponent_of n) ≡ true = search rules in
     rw f refl
+
+-- for digits and exponent at a precision
+pub ruleset scientific_steps = (scientific_plain, scientific_long, scientific_placed, append-nil)
 
 -- ---- the point
 
@@ -181,16 +187,16 @@ pub point_written : (buffer : List ℕ) (start : ℕ) → 0 < start → start < 
 point_written buffer start h l =
     let first = get_or buffer start 0 in
     let place : start - 1 + 1 ≡ start = omega arith in
-    let size = length-set buffer (start - 1) first in
     let swapped = set_comm buffer (start - 1) start first 46 (λ e. omega arith) in
     let sizes = length-set buffer start 46 in
-    rw (
-      swapped,
-      drop-set (set buffer start 46) (start - 1) first (omega arith),
-      place,
-      drop-set
-          buffer start 46 l,
-    ) refl
+    rw (swapped, drop-set (set buffer start 46) (start - 1) first (omega arith), place)
+    (rw (drop-set buffer start 46 l) refl)
+
+opened : (buffer : List ℕ) (start : ℕ) → start < length buffer →
+    drop start buffer ≡ get_or buffer start 0 ∷ drop (start + 1) buffer
+opened buffer start l = drop-cons buffer start 0 l
+    ∙ (let next : suc start ≡ start + 1 = omega arith in
+    rw next refl)
 
 -- what then stands from the first digit to the end is the text with its point
 pub point_text : (buffer : List ℕ) (start end zeros : ℕ) → 0 < start → start < end →
@@ -204,9 +210,6 @@ point_text buffer start end zeros h s l more =
     let first = get_or buffer start 0 in
     let long : end - (start - 1) ≡ suc (suc count) = omega arith in
     let short : end - start ≡ suc count = omega arith in
-    let after : suc start ≡ start + 1 = omega arith in
-    let opened : drop start buffer ≡ first ∷ behind = drop-cons buffer start 0 (omega arith)
-    ∙ ap (λ (n : ℕ). first ∷ drop n buffer) after in
     let some : 0 < length (take count behind ++ replicate zeros 48) =
     let a = length-append (take count behind) (replicate zeros 48) in
     let b = length-replicate {A = ℕ} zeros 48 in
@@ -214,20 +217,17 @@ point_text buffer start end zeros h s l more =
     omega arith in
     let old : slice_range buffer start end
     ≡ first ∷ take count behind = ap (λ (n : ℕ). take n (drop start buffer)) short
-    ∙ ap (λ (x : List ℕ). take (suc count) x) opened in
+    ∙ ap (λ (x : List ℕ). take (suc count) x) (opened buffer start (omega arith)) in
     rw (point_written buffer start h (omega arith), long, old)
     (sym (pointed_more first (take count behind ++ replicate zeros 48) some))
 
-pub IsAscii-point : (buffer : List ℕ) (start end : ℕ) → 0 < start → start < length buffer →
+pub point_ascii : (buffer : List ℕ) (start end : ℕ) → 0 < start → start < length buffer →
     IsAscii (drop start buffer) →
     IsAscii (take (end - (start - 1)) (drop (start - 1)
     (set (set buffer (start - 1) (get_or buffer start 0)) start 46)))
-IsAscii-point buffer start end h l a =
+point_ascii buffer start end h l a =
     let behind = drop (start + 1) buffer in
-    let after : suc start ≡ start + 1 = omega arith in
-    let opened : drop start buffer ≡ get_or buffer start 0 ∷ behind = drop-cons buffer start 0 l
-    ∙ ap (λ (n : ℕ). get_or buffer start 0 ∷ drop n buffer) after in
-    let whole : IsAscii (get_or buffer start 0 ∷ behind) = rw opened at a in
+    let whole : IsAscii (get_or buffer start 0 ∷ behind) = rw (opened buffer start l) at a in
     let tail : IsAscii (46 ∷ behind) = IsAscii-cons 46 behind (omega arith) (λ i. whole (suc i)) in
     rw (point_written buffer start h l) (IsAscii-take (get_or buffer start 0 ∷ 46 ∷ behind)
     (end - (start - 1)) (IsAscii-cons (get_or buffer start 0) (46 ∷ behind) (whole 0) tail))
@@ -261,7 +261,6 @@ digits_trimmed n start count buffer size e t =
     (sym plain) ∙ rw whole at t in
     ap (λ (k : ℕ). take k (drop start buffer)) few ∙ (ap (take count) e ∙ cut)
 
--- digits with no zeros behind them
-pub pointed_digits : (text part digits : List ℕ) → text ≡ pointed (part ++ []) → part ≡ digits →
-    text ≡ pointed digits
-pointed_digits text part digits e d = e ∙ ap pointed (append-nil part ∙ d)
+-- for the digits of a mantissa in the buffer
+pub ruleset mantissa_steps =
+    (scientific_steps, exponent_from_start, digits_to_end, digits_trimmed)

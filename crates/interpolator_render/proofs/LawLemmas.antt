@@ -1,26 +1,21 @@
 -- The laws.
 use Rattle.std.proofs.Common.{◌≡◌, ◌≢◌, ℕ, suc, ◌<◌, ◌≤◌, ◌-◌, ◌+◌, ◌*◌, ◌/◌, ◌%◌, ◌^◌, max, ℤ, pos}
-use Rattle.std.proofs.Common.{negsuc, ◌+ℤ◌, ◌*ℤ◌, neg_ℤ, Bool, true, false, List, [], ◌∷◌, ◌++◌}
-use Rattle.std.proofs.Common.{length, map, get_or, replicate, refl, ◌∙◌, ap, arith, rules}
-use Rattle.std.proofs.Common.{length-append, if◌then◌else◌, ◌==◌, ◌&&◌, inl, inr}
+use Rattle.std.proofs.Common.{negsuc, ◌+ℤ◌, ◌*ℤ◌, neg_ℤ, Bool, false, List, [], ◌∷◌, ◌++◌, length}
+use Rattle.std.proofs.Common.{map, get_or, replicate, refl, ◌∙◌, ap, arith, rules, length-append}
+use Rattle.std.proofs.Common.{if◌then◌else◌, ◌==◌, ◌&&◌, inl, inr, unwrap_or, None, pow_pos}
+use Rattle.std.proofs.Common.{mul-le-mul_right, eq-zero-or-pos}
 use Rattle.std.specs.Fmt.{digit_glyph}
 use Rattle.std.specs.Int.Digits.{digits_of, AllBelowBase}
-use Rattle.std.specs.Prelude.{nat_lt, unwrap_or, None}
 use Rattle.std.specs.Char.{digit_value}
 use Rattle.std.specs.Str.Parse.{digits_value}
-use Rattle.std.proofs.lemmas.Bool.{cases_eq, cases_lt, cases_order}
+use Rattle.std.proofs.lemmas.Bool.{cases_eq, cases_lt, cases_order, cases_Bool}
 use Rattle.std.proofs.lemmas.Bool.Decides.{nat_tests}
 use Rattle.std.proofs.lemmas.Int.{ints}
 use Rattle.std.proofs.lemmas.Int.Digits.{digits_value_is, number_digits_of, number_lt}
 use Rattle.std.proofs.lemmas.Int.Digits.{length-digits_of-le, length-digits_of_step}
 use Rattle.std.proofs.lemmas.Int.Digits.{all_below_base_digits_of, first_digits_of}
 use Rattle.std.proofs.lemmas.List.{length-map, length-replicate}
-use Rattle.std.proofs.Math.Nat.{mul-le-mul_right}
-use Rattle.std.proofs.lemmas.Nat.{pow_pos}
 use Rattle.std.proofs.Math.Bool.{and-false}
-use Rattle.interpolator_render.specs.declared.view.Alignment.{Alignment}
-use Rattle.interpolator_render.specs.declared.view.Alignment.TheVariants.{Unset, Left, Center}
-use Rattle.interpolator_render.specs.declared.view.Alignment.TheVariants.{Right}
 use Rattle.interpolator_render.specs.declared.view.Bits.{Bits}
 use Rattle.interpolator_render.specs.declared.view.Spec.{Spec}
 use Rattle.interpolator_render.specs.Digits.{digit_text}
@@ -31,14 +26,13 @@ use Rattle.interpolator_render.specs.Padding.{missing_to, spaces_before, between
 use Rattle.interpolator_render.specs.Padding.{padded_number, padded_text, displayed_text}
 use Rattle.interpolator_render.specs.Views.{bit_count}
 use Rattle.interpolator_render.specs.Written.{Written, Appends}
-use Rattle.interpolator_render.proofs.DigitLemmas.{zero_or_more, digit_text_zero, digit_text_map}
-use Rattle.interpolator_render.proofs.NumberLemmas.{bool_cases}
+use Rattle.interpolator_render.proofs.DigitLemmas.{digit_text_zero, digit_text_map}
+use Rattle.interpolator_render.proofs.NumberLemmas.{before_within}
 
 -- ---- digits
 
 digit_value-glyph : (d : ℕ) (upper : Bool) → d < 16 → digit_value (digit_glyph upper d) ≡ d
-digit_value-glyph d true h = grind (arith, nat_tests)
-digit_value-glyph d false h = grind (arith, nat_tests)
+digit_value-glyph d upper h = grind (arith, nat_tests)
 
 values_of_glyphs : (base : ℕ) (upper : Bool) (ds : List ℕ) → base ≤ 16 → AllBelowBase base ds →
     map digit_value (map (digit_glyph upper) ds) ≡ ds
@@ -47,21 +41,17 @@ values_of_glyphs base upper (d ∷ ds) h a =
     rw (digit_value-glyph d upper (omega (arith, a.0)), values_of_glyphs base upper ds h a.1)
     refl
 
-pub digits_value-digit_text : (base n : ℕ) (upper : Bool) → 2 ≤ base → base ≤ 16 →
+pub digits_read : (base n : ℕ) (upper : Bool) → 2 ≤ base → base ≤ 16 →
     digits_value base (digit_text base upper n) ≡ n
-digits_value-digit_text base n upper l h = elim (zero_or_more n) [
+digits_read base n upper l h = elim (eq-zero-or-pos n) [
   | inl e ↦ rw (digit_text_zero base upper n e) (omega arith)
-  | inr m ↦ rw (
-    digit_text_map base n upper m,
-    digits_value_is,
-    values_of_glyphs base upper
-        (digits_of base n) h (all_below_base_digits_of base n l),
-  ) (number_digits_of base n l)
+  | inr m ↦ let low = all_below_base_digits_of base n l in
+      rw (digit_text_map base n upper m, digits_value_is, values_of_glyphs base upper _ h low)
+      (number_digits_of base n l)
 ]
 
-glyph_some : (d : ℕ) (upper : Bool) → 0 < d → digit_glyph upper d ≢ 48
-glyph_some d true h = λ e. grind (arith, nat_tests)
-glyph_some d false h = λ e. grind (arith, nat_tests)
+pub glyph_some : (d : ℕ) (upper : Bool) → 0 < d → digit_glyph upper d ≢ 48
+glyph_some d upper h = λ e. grind (arith, nat_tests)
 
 first_glyph : (upper : Bool) (ds : List ℕ) → 0 < get_or ds 0 0 →
     get_or (map (digit_glyph upper) ds) 0 0 ≢ 48
@@ -72,6 +62,8 @@ pub first_digit : (base n : ℕ) (upper : Bool) → 2 ≤ base → 0 < n →
     get_or (digit_text base upper n) 0 0 ≢ 48
 first_digit base n upper l h = rw (digit_text_map base n upper h)
     (first_glyph upper (digits_of base n) (first_digits_of base n l h))
+
+pub ruleset digit_laws = (digits_read, first_digit)
 
 -- ---- exponents
 
@@ -101,58 +93,26 @@ exponent_of_zero = rw (digit_text_zero 10 false 0 refl) refl
 
 -- ---- rounding
 
-nearest_below : (n unit : ℕ) → 2 * (n % unit) < unit → nearest n unit ≡ n / unit
-nearest_below n unit h = let t : nat_lt (2 * (n % unit)) unit ≡ true = search rules in rw t refl
-
-nearest_above : (n unit : ℕ) → unit < 2 * (n % unit) → nearest n unit ≡ n / unit + 1
-nearest_above n unit h =
-    let k : unit ≤ 2 * (n % unit) = omega arith in let f : nat_lt (2 * (n % unit)) unit
-    ≡ false = search rules in
-    let t : nat_lt unit (2 * (n % unit)) ≡ true = search rules in rw (f, t) refl
-
-nearest_tie : (n unit : ℕ) → 2 * (n % unit) ≡ unit → nearest n unit ≡ n / unit + n / unit % 2
-nearest_tie n unit h =
-    let k : unit ≤ 2 * (n % unit) = omega arith in let l : 2 * (n % unit) ≤ unit = omega arith in
-    let f : nat_lt (2 * (n % unit)) unit ≡ false = search rules in
-    let g : nat_lt unit (2 * (n % unit)) ≡ false = search rules in rw (f, g) refl
-
--- the number of units and the rest
-parts_of : (n unit : ℕ) → 0 < unit → (n ≡ n / unit * unit + n % unit) × (n % unit < unit)
-parts_of n unit h = (omega arith, omega arith)
-
-near_low : (n unit low rest : ℕ) → n ≡ low * unit + rest → 2 * rest < unit → IsNearest n unit low
-near_low n unit low rest e h = record { near = omega arith; even = λ t. absurd (omega arith) }
-
-near_high : (n unit low rest : ℕ) → n ≡ low * unit + rest → rest < unit → unit < 2 * rest →
-    IsNearest n unit (low + 1)
-near_high n unit low rest e b h = record { near = omega arith; even = λ t. absurd (omega arith) }
-
 near_tie : (n unit low rest : ℕ) → n ≡ low * unit + rest → 2 * rest ≡ unit →
     IsNearest n unit (low + low % 2)
-near_tie n unit low rest e h = elim (zero_or_more (low % 2)) [
+near_tie n unit low rest e h = elim (eq-zero-or-pos (low % 2)) [
   | inl z ↦ rw z (record { near = omega arith; even = λ t. omega arith })
   | inr m ↦ let o : low % 2 ≡ 1 = omega arith in
       rw o (record { near = omega arith; even = λ t. omega arith })
 ]
 
-pub IsNearest-nearest : (n unit : ℕ) → 0 < unit → IsNearest n unit (nearest n unit)
-IsNearest-nearest n unit h =
-    let parts = parts_of n unit h in
+pub nearest_is_nearest : (n unit : ℕ) → 0 < unit → IsNearest n unit (nearest n unit)
+nearest_is_nearest n unit h =
+    let parts : n ≡ n / unit * unit + n % unit = omega arith in
+    let below_unit : n % unit < unit = omega arith in
     elim (cases_order (2 * (n % unit)) unit) [
-      | inl same ↦ rw (nearest_tie n unit same) (near_tie n unit (n / unit) (n % unit) parts.0 same)
-      | inr (inl below) ↦ rw (nearest_below n unit below)
-          (near_low n unit (n / unit) (n % unit) parts.0 below)
-      | inr (inr above) ↦ rw (nearest_above n unit above)
-          (near_high n unit (n / unit) (n % unit) parts.0 parts.1 above)
+      | inl same ↦ let e : nearest n unit ≡ n / unit + n / unit % 2 = grind (arith, nat_tests) in
+          rw e (near_tie n unit (n / unit) (n % unit) parts same)
+      | inr (inl below) ↦ let e : nearest n unit ≡ n / unit = grind (arith, nat_tests) in
+          rw e (record { near = omega arith; even = λ t. absurd (omega arith) })
+      | inr (inr above) ↦ let e : nearest n unit ≡ n / unit + 1 = grind (arith, nat_tests) in
+          rw e (record { near = omega arith; even = λ t. absurd (omega arith) })
     ]
-
-halves : (n unit low : ℕ) → 2 * distance n low ≤ unit → 2 * distance n (low + unit) ≤ unit →
-    (2 * distance n low ≡ unit) × (2 * distance n (low + unit) ≡ unit)
-halves n unit low p q = (omega arith, omega arith)
-
-too_far : (n unit low high : ℕ) → 0 < unit → low + 2 * unit ≤ high → 2 * distance n low ≤ unit →
-    2 * distance n high ≤ unit → ⊥
-too_far n unit low high h f p q = omega arith
 
 -- of two counts only one lies nearest
 nearest_one : (n unit less more : ℕ) → 0 < unit → less < more → IsNearest n unit less →
@@ -160,22 +120,25 @@ nearest_one : (n unit less more : ℕ) → 0 < unit → less < more → IsNeares
 nearest_one n unit less more h b p q = elim (cases_lt (less + 1) more) [
   | inl apart ↦
       let product : (less + 2) * unit ≤ more * unit = mul-le-mul_right unit (omega arith) in
-      too_far n unit (less * unit) (more * unit) h (omega arith) p.near q.near
+      let near = p.near in let far = q.near in omega arith
   | inr close ↦
       let next : more ≡ less + 1 = omega arith in
       let product : more * unit ≡ less * unit + unit = rw next (omega arith) in
-      let far = halves n unit (less * unit) p.near (rw product at q.near) in
-      let one = p.even far.0 in let other = q.even (rw product far.1) in omega arith
+      let near = p.near in
+      let far : 2 * distance n (less * unit + unit) ≤ unit = rw product at q.near in
+      let one = p.even (omega arith) in let other = q.even (rw product (omega arith)) in omega arith
 ]
 
 pub nearest_only : (n unit count : ℕ) → 0 < unit → IsNearest n unit count → count ≡ nearest n unit
 nearest_only n unit count h p = elim (cases_order count (nearest n unit)) [
   | inl same ↦ same
   | inr (inl below) ↦ absurd (nearest_one n unit count (nearest n unit) h below p
-      (IsNearest-nearest n unit h))
+      (nearest_is_nearest n unit h))
   | inr (inr above) ↦ absurd (nearest_one n unit (nearest n unit) count h above
-      (IsNearest-nearest n unit h) p)
+      (nearest_is_nearest n unit h) p)
 ]
+
+pub ruleset nearest_laws = (nearest_is_nearest, nearest_only)
 
 -- ---- the zeros at the end
 
@@ -184,12 +147,11 @@ tail_step : (digit : ℕ) (digits rest : List ℕ) (count : ℕ) → digits ≡ 
     ≡ (if (digit == 48) && (length rest == 0) then [] else digit ∷ rest)
     ++ replicate zeros_behind 48)
 tail_step digit digits [] count e = elim (cases_eq digit 48) [
-  | inl same ↦ let t : (digit == 48) ≡ true = search rules in (suc count, rw (t, e, same) refl)
+  | inl same ↦ (suc count, rw (e, same) refl)
   | inr other ↦ let f : (digit == 48) ≡ false = search rules in (count, rw (f, e) refl)
 ]
 tail_step digit digits (second ∷ rest) count e =
-    let some : (length (second ∷ rest) == 0)
-    ≡ false = let n : length (second ∷ rest) ≢ 0 = omega arith in search rules in
+    let some : (length (second ∷ rest) == 0) ≡ false = grind (arith, nat_tests) in
     (count, rw (some, and-false (digit == 48), e) refl)
 
 less_zeros_tail : (digits : List ℕ) →
@@ -203,21 +165,27 @@ trimmed_tail [] = (0, refl)
 trimmed_tail (digit ∷ digits) = let behind = less_zeros_tail digits in
     (behind.0, ap (λ (x : List ℕ). digit ∷ x) behind.1)
 
+last_behind : (digit : ℕ) (rest : List ℕ) → 0 < length rest →
+    get_or rest (length rest - 1) 0 ≢ 48 →
+    get_or (digit ∷ rest) (length (digit ∷ rest) - 1) 0 ≢ 48
+last_behind digit [] some last = absurd (omega arith)
+last_behind digit (second ∷ rest) some last =
+    let place : suc (suc (length rest)) - 1 ≡ suc (suc (length rest) - 1) = omega arith in
+    rw place last
+
 last_step : (digit : ℕ) (rest : List ℕ) →
     (0 < length rest → get_or rest (length rest - 1) 0 ≢ 48) →
     0 < length (if (digit == 48) && (length rest == 0) then [] else digit ∷ rest) →
     get_or (if (digit == 48) && (length rest == 0) then [] else digit ∷ rest)
     (length (if (digit == 48) && (length rest == 0) then [] else digit ∷ rest) - 1) 0 ≢ 48
 last_step digit [] last some = elim (cases_eq digit 48) [
-  | inl same ↦ let t : (digit == 48) ≡ true = search rules in
-      absurd (let none = rw t at some in omega arith)
+  | inl same ↦ absurd (let none = rw same at some in omega arith)
   | inr other ↦ let f : (digit == 48) ≡ false = search rules in rw f other
 ]
 last_step digit (second ∷ rest) last some =
-    let more : (length (second ∷ rest) == 0) ≡ false =
-    let n : length (second ∷ rest) ≢ 0 = omega arith in search rules in
-    let place : suc (suc (length rest)) - 1 ≡ suc (suc (length rest) - 1) = omega arith in
-    rw (more, and-false (digit == 48), place) (last (omega arith))
+    let more : (length (second ∷ rest) == 0) ≡ false = grind (arith, nat_tests) in
+    rw (more, and-false (digit == 48))
+    (last_behind digit (second ∷ rest) (omega arith) (last (omega arith)))
 
 less_zeros_last : (digits : List ℕ) → 0 < length (less_zeros digits) →
     get_or (less_zeros digits) (length (less_zeros digits) - 1) 0 ≢ 48
@@ -228,37 +196,23 @@ less_zeros_last (digit ∷ digits) some =
 pub trimmed_last : (digits : List ℕ) → 1 < length (trimmed digits) →
     get_or (trimmed digits) (length (trimmed digits) - 1) 0 ≢ 48
 trimmed_last [] more = absurd (omega arith)
-trimmed_last (digit ∷ digits) more =
-    behind (less_zeros digits) (omega arith) (less_zeros_last digits (omega arith))
-  where
-    behind : (rest : List ℕ) → 0 < length rest → get_or rest (length rest - 1) 0 ≢ 48 →
-        get_or (digit ∷ rest) (length (digit ∷ rest) - 1) 0 ≢ 48
-    behind [] some last = absurd (omega arith)
-    behind (second ∷ rest) some last =
-        let place : suc (suc (length rest)) - 1 ≡ suc (suc (length rest) - 1) = omega arith in
-        rw place last
+trimmed_last (digit ∷ digits) more = last_behind digit (less_zeros digits) (omega arith)
+    (less_zeros_last digits (omega arith))
+
+pub ruleset trimmed_laws = (trimmed_tail, trimmed_last)
 
 -- ---- padding
-
-before_within : (alignment : Alignment) (missing unset : ℕ) → unset ≤ missing →
-    spaces_before alignment missing unset ≤ missing
-before_within Left missing unset h = omega arith
-before_within Right missing unset h = omega arith
-before_within Center missing unset h = omega arith
-before_within Unset missing unset h = h
 
 length-between : (before after : ℕ) (text : List ℕ) → length (between_spaces before after text)
     ≡ before + length text + after
 length-between before after text =
-    let a = length-append (replicate before 32) (text ++ replicate after 32) in
-    let b = length-append text (replicate after 32) in
-    let c = length-replicate {A = ℕ} before 32 in let d = length-replicate {A = ℕ} after 32 in
-    omega arith
+    rw (length-append, length-append, length-replicate {A = ℕ} before 32)
+    (let n = length-replicate {A = ℕ} after 32 in omega arith)
 
-pub length-padded_text : (spec : Spec) (text : List ℕ) → length (padded_text spec text)
+pub padded_text_count : (spec : Spec) (text : List ℕ) → length (padded_text spec text)
     ≡ max (unwrap_or spec.width 0) (length text)
 unfolding padded_text
-length-padded_text spec text =
+padded_text_count spec text =
     let missing = missing_to spec (length text) in
     let before = spaces_before spec.alignment missing 0 in
     let within = before_within spec.alignment missing 0 (omega arith) in
@@ -267,30 +221,30 @@ length-padded_text spec text =
 length-zeros_between : (front body : List ℕ) (missing : ℕ) →
     length (front ++ (replicate missing 48 ++ body)) ≡ length front + length body + missing
 length-zeros_between front body missing =
-    let a = length-append front (replicate missing 48 ++ body) in
-    let b = length-append (replicate missing 48) body in
-    let c = length-replicate {A = ℕ} missing 48 in omega arith
+    rw (length-append, length-append, length-replicate) (omega arith)
 
-pub length-padded_number : (spec : Spec) (front body : List ℕ) →
+pub padded_number_count : (spec : Spec) (front body : List ℕ) →
     length (padded_number spec front body)
     ≡ max (unwrap_or spec.width 0) (length front + length body)
 unfolding padded_number
-length-padded_number spec front body =
+padded_number_count spec front body =
     let missing = missing_to spec (length front + length body) in
     let before = spaces_before spec.alignment missing missing in
     let within = before_within spec.alignment missing missing (omega arith) in
-    elim (bool_cases spec.zero) [
+    elim (cases_Bool spec.zero) [
       | inl z ↦ rw z (let size = length-zeros_between front body missing in omega arith)
       | inr z ↦ rw z (let size = length-between before (missing - before) (front ++ body) in
           let whole = length-append front body in omega arith)
     ]
 
-pub length-padded : (spec : Spec) (text : List ℕ) (old new : Written) → spec.precision ≡ None →
+pub ruleset padded_laws = (padded_text_count, padded_number_count)
+
+pub pad_count : (spec : Spec) (text : List ℕ) (old new : Written) → spec.precision ≡ None →
     Appends old (displayed_text spec text) new →
     length new.text ≡ length old.text + max (unwrap_or spec.width 0) (length text)
-length-padded spec text old new none p =
+pad_count spec text old new none p =
     let whole : displayed_text spec text ≡ padded_text spec text = rw none refl in
-    let size = length-padded_text spec text in
+    let size = padded_text_count spec text in
     let sum = ap length p.appended ∙ length-append old.text (displayed_text spec text) in
     let same = ap length whole in omega arith
 
@@ -309,13 +263,12 @@ minus_plus turned rest n e = omega (arith, ints)
 pub remainder_congruent : (z : ℤ) (m : ℕ) → 0 < m →
     (turns : ℤ) × (z ≡ (turns *ℤ pos m) +ℤ pos (remainder z m))
 remainder_congruent (pos n) m h = (pos (n / m), ap pos (omega arith))
-remainder_congruent (negsuc n) m h = (
-  negsuc (n / m),
-  minus_plus (suc (n / m) * m) (m - 1 - n % m) n
-      (omega arith),
-)
+remainder_congruent (negsuc n) m h =
+    (negsuc (n / m), minus_plus (suc (n / m) * m) (m - 1 - n % m) n (omega arith))
 
 pub twos_complement_congruent : (z : ℤ) (bits : Bits) →
     (turns : ℤ) × (z ≡ (turns *ℤ pos (2 ^ bit_count bits)) +ℤ pos (twos_complement z bits))
 twos_complement_congruent z bits = remainder_congruent z (2 ^ bit_count bits)
     (pow_pos (bit_count bits))
+
+pub ruleset twos_complement_laws = (twos_complement_below, twos_complement_congruent)

@@ -1,16 +1,14 @@
 -- Texts written part after part, up to a refusal.
 use Rattle.std.proofs.Common.{◌≡◌, ℕ, zero, suc, ◌<◌, ◌≤◌, ◌-◌, ◌+◌, ◌^◌, min, List, [], ◌∷◌, ◌++◌}
 use Rattle.std.proofs.Common.{length, refl, sym, ◌∙◌, ap, arith, append_assoc, append-nil}
-use Rattle.std.proofs.Common.{length-append, replicate, take, drop, get_or}
-use Rattle.std.specs.Prelude.{Result, Ok, Err, MatchResult, encode_utf8}
-use Rattle.std.specs.Str.{chars, IsAscii, IsUtf8}
+use Rattle.std.proofs.Common.{length-append, replicate, take, drop, get_or, Result, Ok, Err}
+use Rattle.std.proofs.Common.{MatchResult, encode_utf8, take-append-drop, chars, IsAscii, IsUtf8}
+use Rattle.std.proofs.Common.{flat_map}
 use Rattle.std.proofs.lemmas.Str.{chars-IsAscii, encodes-chars, encodes-append, encodes-IsAscii}
 use Rattle.std.proofs.lemmas.Str.{length-encode, len_utf8_bounds}
 use Rattle.std.proofs.lemmas.Str.Ascii.{IsAscii-cons}
 use Rattle.std.proofs.lemmas.List.{replicate-append-replicate, length-replicate, take_more}
-use Rattle.std.proofs.lemmas.List.{take-append-drop}
 use Rattle.std.proofs.lemmas.Grind.{flat_map-append}
-use Rattle.std.specs.List.{flat_map}
 use Rattle.interpolator_render.specs.declared.text_write.Refusal.{Refusal}
 use Rattle.interpolator_render.specs.Written.{Written, byte_count, Appends, AppendsBeginning}
 use Rattle.interpolator_render.specs.Written.{Refuses, RefusesLong, Puts, Writes}
@@ -29,8 +27,7 @@ pub appends_both : (a b c : Written) (t u : List ℕ) → Appends a t b → Appe
 appends_both a b c t u p q = record {
   appended = q.appended ∙ (ap (λ (x : List ℕ). x ++ u) p.appended ∙ append_assoc a.text t u);
   same_flag = q.same_flag ∙ p.same_flag;
-  only_empty = λ h. let e : t ≡ [] = p.only_empty h in
-      let d : u ≡ [] = q.only_empty (p.same_flag ∙ h) in rw (e, d) refl;
+  only_empty = λ h. rw (p.only_empty h, q.only_empty (p.same_flag ∙ h)) refl;
 }
 
 -- the second of two texts was refused
@@ -44,8 +41,7 @@ stops_in_second a b c t u p q = record {
   appended = q.appended ∙ (ap (λ (x : List ℕ). x ++ q.beginning) p.appended
       ∙ append_assoc a.text t q.beginning);
   flag_set = q.flag_set;
-  none_after_refusal = λ h. let e : t ≡ [] = p.only_empty h in
-      let d : q.beginning ≡ [] = q.none_after_refusal (p.same_flag ∙ h) in rw (e, d) refl;
+  none_after_refusal = λ h. rw (p.only_empty h, q.none_after_refusal (p.same_flag ∙ h)) refl;
 }
 
 -- the first of two texts was refused
@@ -93,20 +89,16 @@ refuses_in_first a b t u taken p = record
     { part = stops_in_first a b t u p.part; counted = p.counted }
 
 -- a writer's own answer, for a text that a `&str` holds
-pub long_from_refuses : (a b : Written) (t : List ℕ) (taken : ℕ) → byte_count t < 2 ^ 64 →
-    Refuses a t taken b → RefusesLong a t taken b
-long_from_refuses a b t taken h p = record {
+pub puts_from_write : (a b : Written) (t : List ℕ) (r : Result (Unit {0}) Refusal) →
+    byte_count t < 2 ^ 64 →
+    MatchResult r (λ _. Appends a t b) (λ x. Refuses a t x.taken b) → Puts a t r b
+puts_from_write a b t (Ok x) f p = p
+puts_from_write a b t (Err x) f p = record {
   part = p.part;
   counted =
       let e = p.counted in let n = byte_count-append p.part.beginning p.part.rest in
       let d = ap byte_count p.part.parts in omega arith;
 }
-
-pub puts_from_write : (a b : Written) (t : List ℕ) (r : Result (Unit {0}) Refusal) →
-    byte_count t < 2 ^ 64 →
-    MatchResult r (λ _. Appends a t b) (λ x. Refuses a t x.taken b) → Puts a t r b
-puts_from_write a b t (Ok x) f p = p
-puts_from_write a b t (Err x) f p = long_from_refuses a b t x.taken f p
 
 pub IsAscii-replicate : (n c : ℕ) → c < 128 → IsAscii (replicate n c)
 IsAscii-replicate zero c h = λ i. omega arith
@@ -115,8 +107,8 @@ IsAscii-replicate (suc n) c h = IsAscii-cons c (replicate n c) h (IsAscii-replic
 pub chars-replicate : (n c : ℕ) → c < 128 → chars (replicate n c) ≡ replicate n c
 chars-replicate n c h = chars-IsAscii (replicate n c) (IsAscii-replicate n c h)
 
-pub byte_count-replicate : (n c : ℕ) → c < 128 → byte_count (replicate n c) ≡ n
-byte_count-replicate n c h = ap length (encodes-IsAscii (replicate n c) (IsAscii-replicate n c h))
+pub bytes_of_copies : (n c : ℕ) → c < 128 → byte_count (replicate n c) ≡ n
+bytes_of_copies n c h = ap length (encodes-IsAscii (replicate n c) (IsAscii-replicate n c h))
     ∙ length-replicate n c
 
 -- so many copies that are done, and so many that come
@@ -141,7 +133,7 @@ copies_stop a b d count left k c taken all h m l s e p q =
     let whole : replicate (count - (left - k)) c ++ replicate (left - k) c ≡ replicate count c =
     replicate-append-replicate (count - (left - k)) (left - k) c
     ∙ ap (λ (n : ℕ). replicate n c) (omega arith) in
-    let n = byte_count-replicate (count - left) c h in
+    let n = bytes_of_copies (count - left) c h in
     rw (← whole, ← copies_split count left k c m l)
     (refuses_in_first a d _ _ all (refuses_in_second a b d _ _ (count - left) taken all
     (omega arith) e p q))
@@ -152,12 +144,9 @@ byte_count-chars bytes u = ap length (encodes-chars bytes u)
 -- the pieces up to one, and that one
 pub parts_more : {X : Type 0} (f : X → List ℕ) (parts : List X) (i : ℕ) (d : X) → i < length parts →
     flat_map f (take i parts) ++ f (get_or parts i d) ≡ flat_map f (take (i + 1) parts)
-parts_more f parts i d h = rw (
-  take_more parts i d h,
-  flat_map-append f (take i parts)
-      (get_or parts i d ∷ []),
-  append-nil (f (get_or parts i d)),
-) refl
+parts_more f parts i d h =
+    rw (take_more parts i d h, flat_map-append f (take i parts) (get_or parts i d ∷ []), append-nil)
+    refl
 
 pub parts_all : {X : Type 0} (f : X → List ℕ) (parts : List X) (i : ℕ) → flat_map f (take i parts)
     ++ flat_map f (drop i parts) ≡ flat_map f parts
@@ -189,6 +178,9 @@ pub parts_append : {X : Type 0} (f : X → List ℕ) (a b c : Written) (parts : 
 parts_append f a b c parts i d h p q = rw (← parts_more f parts i d h) (appends_both a b c _ _ p q)
 
 -- a character's bytes are at most four
-pub byte_count-char : (c : ℕ) → byte_count (c ∷ []) ≤ 4
-byte_count-char c = let n = length-append (encode_utf8 c) [] in let k = length-encode c in
+pub bytes_of_character : (c : ℕ) → byte_count (c ∷ []) ≤ 4
+bytes_of_character c = let n = length-append (encode_utf8 c) [] in let k = length-encode c in
     let m = len_utf8_bounds c in omega arith
+
+-- for one call of a writer
+pub ruleset one_write = (puts_from_write, byte_count-chars, bytes_of_character, chars-IsAscii)

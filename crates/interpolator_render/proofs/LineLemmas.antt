@@ -1,18 +1,15 @@
 -- A row that grows at its front or at its end.
 use Rattle.std.proofs.Common.{append_assoc, ◌≡◌, ℕ, Bool, ◌<◌, ◌≤◌, ◌-◌, ◌+◌, ◌^◌, List, [], ◌∷◌}
 use Rattle.std.proofs.Common.{◌++◌, length, take, drop, set, replicate, slice_range, refl, sym, ◌∙◌}
-use Rattle.std.proofs.Common.{ap, arith, length-append}
-use Rattle.std.specs.Str.{IsAscii}
-use Rattle.std.proofs.lemmas.List.{length-replicate, drop-drop, take-take, take-append-drop}
-use Rattle.std.proofs.lemmas.List.{take-replicate, drop-replicate, drop-append-le, length-take-le}
+use Rattle.std.proofs.Common.{ap, arith, length-append, drop-drop, take-take, take-append-drop}
+use Rattle.std.proofs.Common.{length-take-le, unwrap_or, IsAscii, take-add}
+use Rattle.std.proofs.lemmas.List.{length-replicate, take-replicate, drop-replicate, drop-append-le}
 use Rattle.std.proofs.lemmas.List.{drop-set}
 use Rattle.std.proofs.lemmas.Str.{IsAscii-take, IsAscii-drop, IsAscii-append}
-use Rattle.std.proofs.Math.Seq.{take-add, take-append-add, drop-append-add}
+use Rattle.std.proofs.Math.Seq.{take-append-add, drop-append-add}
 use Rattle.std.proofs.Math.Nat.{pow-le-pow_left}
-use Rattle.std.specs.Prelude.{unwrap_or}
 use Rattle.interpolator_render.specs.declared.number.Radix.{Radix}
-use Rattle.interpolator_render.specs.declared.number.Radix.TheVariants.{Decimal}
-use Rattle.interpolator_render.specs.declared.number.Radix.TheVariants.{Binary as InBinary}
+use Rattle.interpolator_render.specs.declared.number.Radix.TheVariants.{Decimal, Binary as InBinary}
 use Rattle.interpolator_render.specs.declared.number.Radix.TheVariants.{Octal as InOctal}
 use Rattle.interpolator_render.specs.declared.number.Radix.TheVariants.{LowerHex as InLowerHex}
 use Rattle.interpolator_render.specs.declared.number.Radix.TheVariants.{UpperHex as InUpperHex}
@@ -25,17 +22,17 @@ use Rattle.interpolator_render.specs.Rows.{Row, IsRow, row_of, grown, grown_behi
 use Rattle.interpolator_render.proofs.LayoutLemmas.{IsAscii-replicate}
 
 -- a piece stands in front of the text, and nothing else has changed
-pub row_grows : (old new piece : List ℕ) (fill from start end : ℕ) → start ≤ end →
+pub row_grows : (old new piece : List ℕ) (fill from start end : ℕ) (row : Row) → start ≤ end →
     from + length piece ≡ start → drop from new ≡ piece ++ drop start old →
-    row_of new fill from end ≡ grown piece (row_of old fill start end)
-row_grows old new piece fill from start end h s e =
+    row_of old fill start end ≡ row → row_of new fill from end ≡ grown piece row
+row_grows old new piece fill from start end row h s e v =
     let place : from ≡ start - length piece = omega arith in
     let long : end - from ≡ length piece + (end - start) = omega arith in
     let text : slice_range new from end ≡ piece ++ slice_range old start end =
     ap (λ (x : List ℕ). take (end - from) x) e
     ∙ (ap (λ (k : ℕ). take k (piece ++ drop start old)) long
     ∙ take-append-add piece (drop start old) (end - start)) in
-    rw (text, ← place) refl
+    rw (← v, text, ← place) refl
 
 pub IsRow-grows : (old new piece : List ℕ) (fill from start end : ℕ) → IsAscii piece →
     from + length piece ≡ start → take from new ≡ take from old →
@@ -122,8 +119,8 @@ IsRow-grows_behind old fill count start end h row = record {
 }
 
 -- an empty row
-pub IsRow-new : (fill : ℕ) → fill < 128 → IsRow (replicate 128 fill) fill 88 88
-IsRow-new fill a = record {
+pub new_row : (fill : ℕ) → fill < 128 → IsRow (replicate 128 fill) fill 88 88
+new_row fill a = record {
   ordered = omega arith;
   within = omega arith;
   fill_ascii = a;
@@ -139,6 +136,12 @@ base_from_2 InOctal = omega arith
 base_from_2 InLowerHex = omega arith
 base_from_2 InUpperHex = omega arith
 
+-- a number below 2 ^ 64 has at most 64 digits
+pub short_digits : (base n : ℕ) (upper : Bool) → 2 ≤ base → n < 2 ^ 64 →
+    length (digit_text base upper n) ≤ 64
+short_digits base n upper b s = let wide : 2 ^ 64 ≤ base ^ 64 = pow-le-pow_left b 64 in
+    length-digit_text-le base 64 n upper b (omega arith) (omega arith)
+
 -- the digits of 64 bits alone in a row
 pub number_row : (spec : Spec) (radix : Radix) (n : ℕ) (empty row : Row) (fill : ℕ) →
     unwrap_or spec.width 0 ≤ 40 → n < 2 ^ 64 → fill ≡ fill_of spec →
@@ -146,8 +149,7 @@ pub number_row : (spec : Spec) (radix : Radix) (n : ℕ) (empty row : Row) (fill
     row ≡ grown (digit_text (base_of radix) (is_upper radix) n) empty → IsNumberRow spec row
 number_row spec radix n empty row fill w s f e r =
     let base = base_of radix in
-    let few = length-digit_text-le base 64 n (is_upper radix) (base_from_2 radix) (omega arith)
-    (let wide : 2 ^ 64 ≤ base ^ 64 = pow-le-pow_left (base_from_2 radix) 64 in omega arith) in
+    let few = short_digits base n (is_upper radix) (base_from_2 radix) s in
     let size = length-append (digit_text base (is_upper radix) n) [] in
     rw (r, e) (record {
       narrow = w;
@@ -165,9 +167,3 @@ grown_twice first second row =
     let room : row.before - length second - length first
     ≡ row.before - length (first ++ second) = omega arith in
     rw (room, append_assoc first second row.text) refl
-
--- digits below 2 ^ 64 have room
-pub short_room : (base n room : ℕ) (upper : Bool) → 2 ≤ base → n < 2 ^ 64 → 64 ≤ room →
-    length (digit_text base upper n) ≤ room
-short_room base n room upper b s r = let wide : 2 ^ 64 ≤ base ^ 64 = pow-le-pow_left b 64 in
-    let few = length-digit_text-le base 64 n upper b (omega arith) (omega arith) in omega arith

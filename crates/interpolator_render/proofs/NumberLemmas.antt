@@ -1,8 +1,7 @@
 -- The parts of a number are its padded text.
 use Rattle.std.proofs.Common.{◌≡◌, ℕ, ◌+◌, ◌-◌, ◌^◌, ◌<◌, min, Bool, true, false, List, [], ◌++◌}
-use Rattle.std.proofs.Common.{length, refl, sym, append_assoc, append-nil, replicate, arith, ◌⊎◌}
-use Rattle.std.proofs.Common.{inl, inr}
-use Rattle.std.specs.Prelude.{Option, unwrap_or}
+use Rattle.std.proofs.Common.{length, refl, sym, append_assoc, append-nil, replicate, arith, inl}
+use Rattle.std.proofs.Common.{inr, Option, unwrap_or, ◌≤◌}
 use Rattle.interpolator_render.specs.declared.view.Alignment.{Alignment}
 use Rattle.interpolator_render.specs.declared.view.Alignment.TheVariants.{Unset, Left, Center}
 use Rattle.interpolator_render.specs.declared.view.Alignment.TheVariants.{Right}
@@ -10,10 +9,15 @@ use Rattle.interpolator_render.specs.declared.view.Spec.{Spec}
 use Rattle.interpolator_render.specs.Exponent.{exponent_tail, exponent_text, pointed, scientific}
 use Rattle.interpolator_render.specs.Padding.{fill_of, missing_to, padded_number, spaces_before}
 use Rattle.interpolator_render.specs.Padding.{IsNumberLayout}
+use Rattle.std.proofs.lemmas.Bool.{cases_Bool}
 
-pub bool_cases : (b : Bool) → (b ≡ true) ⊎ (b ≡ false)
-bool_cases true = inl refl
-bool_cases false = inr refl
+-- what stands before a text is a part of what is missing
+pub before_within : (alignment : Alignment) (missing unset : ℕ) → unset ≤ missing →
+    spaces_before alignment missing unset ≤ missing
+before_within Left missing unset h = omega arith
+before_within Right missing unset h = omega arith
+before_within Center missing unset h = omega arith
+before_within Unset missing unset h = h
 
 -- a width is a `usize`, so a count of characters may stop at the greatest
 missing_capped : (spec : Spec) (count total : ℕ) → unwrap_or spec.width 0 < 2 ^ 64 →
@@ -33,7 +37,7 @@ pub number_parts : (spec : Spec) (sign prefix head tail : List ℕ)
 unfolding padded_number
 number_parts spec sign prefix head tail count before padding behind after n l =
     let same = missing_capped spec count _ l.width_fits n in
-    elim (bool_cases spec.zero) [
+    elim (cases_Bool spec.zero) [
       | inl z ↦ let f = l.zeroed z in rw (z, f.0, f.1, f.2, ← same)
           (simp (append-nil, append_assoc))
       | inr z ↦ let f = l.spaced z in rw (z, f.2, f.0, f.1, ← same)
@@ -68,15 +72,11 @@ unfolding padded_number
 space_padded spec front body missing before fill z f e b = rw (b, f, e, z)
     (append_assoc (replicate _ 32) (front ++ body) _)
 
-no_spaces : (alignment : Alignment) → spaces_before alignment 0 0 ≡ 0
-no_spaces Left = refl
-no_spaces Right = refl
-no_spaces Center = refl
-no_spaces Unset = refl
-
 -- and a number as wide as its width, or wider
 pub nothing_padded : (spec : Spec) (front body : List ℕ) → spec.zero ≡ false →
     0 ≡ missing_to spec (length front + length body) → front ++ body ≡ padded_number spec front body
 unfolding padded_number
 nothing_padded spec front body z m =
-    rw (z, ← m, no_spaces spec.alignment) (sym (append-nil (front ++ body)))
+    let none = before_within spec.alignment 0 0 (omega arith) in
+    let all : spaces_before spec.alignment 0 0 ≡ 0 = omega arith in
+    rw (z, ← m, all) (sym (append-nil (front ++ body)))

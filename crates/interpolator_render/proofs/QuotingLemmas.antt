@@ -1,15 +1,13 @@
 -- Quoted texts, written run by run.
-use Rattle.std.proofs.Common.{◌≡◌, ℕ, ◌<◌, ◌≤◌, ◌+◌, ◌-◌, false, List, [], ◌∷◌, ◌++◌, length, take}
-use Rattle.std.proofs.Common.{drop, get_or, slice_range, refl, sym, ◌∙◌, ap, arith, rules}
-use Rattle.std.proofs.Common.{append_assoc, append-nil, length-append, length-take, length-drop}
-use Rattle.std.proofs.Common.{below_more, inl, inr, ◌==◌, ◌≢◌}
-use Rattle.std.specs.List.{flat_map}
-use Rattle.std.specs.Prelude.{Result, encode_utf8, encode_utf8_all, nat_lt}
-use Rattle.std.specs.Str.{chars, IsUtf8, IsCharBoundary}
+use Rattle.std.proofs.Common.{◌≡◌, ℕ, ◌<◌, ◌≤◌, ◌+◌, ◌-◌, List, [], ◌∷◌, ◌++◌, length, take, drop}
+use Rattle.std.proofs.Common.{get_or, slice_range, refl, sym, ◌∙◌, ap, arith, append_assoc}
+use Rattle.std.proofs.Common.{append-nil, length-append, length-take, length-drop, below_more, inl}
+use Rattle.std.proofs.Common.{inr, Result, encode_utf8, encode_utf8_all, take-append-drop}
+use Rattle.std.proofs.Common.{take-take, get_or-append-add, get_or-drop, get_or-take, flat_map}
+use Rattle.std.proofs.Common.{chars, IsUtf8, IsCharBoundary}
 use Rattle.std.proofs.lemmas.Bool.{cases_lt}
 use Rattle.std.proofs.lemmas.Grind.{flat_map-append}
-use Rattle.std.proofs.lemmas.List.{take-append-drop, take-take, drop-take, take_more}
-use Rattle.std.proofs.lemmas.List.{get_or-append-add, get_or-drop, get_or-take}
+use Rattle.std.proofs.lemmas.List.{drop-take, take_more}
 use Rattle.std.proofs.lemmas.Str.{chars-append, chars-IsAscii, encode_ascii, encodes-chars}
 use Rattle.std.proofs.lemmas.Str.{IsUtf8-take, IsUtf8-drop, IsUtf8-between}
 use Rattle.std.proofs.lemmas.Str.{IsCharBoundary-before_ascii, IsCharBoundary-after_ascii}
@@ -21,21 +19,13 @@ use Rattle.interpolator_render.specs.Written.{Written, Appends, AppendsBeginning
 use Rattle.interpolator_render.proofs.LayoutLemmas.{appends_none, appends_both, stops_in_first}
 use Rattle.interpolator_render.proofs.LayoutLemmas.{stops_in_second, writes_second}
 use Rattle.interpolator_render.proofs.LayoutLemmas.{writes_from_puts}
+use Rattle.std.proofs.lemmas.Bool.Decides.{nat_tests}
 
 -- ---- characters that stand as they are
 
 -- past ASCII every character does, where the quote is ASCII
 pub escaped_wide : (quote c : ℕ) → quote < 128 → 128 ≤ c → escaped quote c ≡ c ∷ []
-escaped_wide quote c q w =
-    let other : (c == quote) ≡ false = let n : c ≢ quote = omega arith in search rules in
-    let slash : (c == 92) ≡ false = let n : c ≢ 92 = omega arith in search rules in
-    let nul : (c == 0) ≡ false = let n : c ≢ 0 = omega arith in search rules in
-    let tab : (c == 9) ≡ false = let n : c ≢ 9 = omega arith in search rules in
-    let back : (c == 13) ≡ false = let n : c ≢ 13 = omega arith in search rules in
-    let line : (c == 10) ≡ false = let n : c ≢ 10 = omega arith in search rules in
-    let control : nat_lt c 32 ≡ false = let n : 32 ≤ c = omega arith in search rules in
-    let delete : (c == 127) ≡ false = let n : c ≢ 127 = omega arith in search rules in
-    rw (other, slash, nul, tab, back, line, control, delete) refl
+escaped_wide quote c q w = grind (arith, nat_tests)
 
 -- a text whose bytes below 128 stand as they are stands as it is
 plain_chars : (f : ℕ → List ℕ) (cs : List ℕ) → ((c : ℕ) → 128 ≤ c → f c ≡ c ∷ []) →
@@ -114,16 +104,9 @@ run_more f text start index wide u b s l ascii plain =
     let parts : take (index + 1) text ≡ take start text ++ (run ++ c ∷ []) =
     take_more text index 0 l ∙ (ap (λ (x : List ℕ). x ++ c ∷ []) (part_behind text start index s)
     ∙ append_assoc (take start text) run (c ∷ [])) in
-    rw (
-      parts,
-      chars-append (take start text) (run ++ c ∷ []) (IsUtf8-take text start u b),
-      chars-append run (c ∷ []) valid_run,
-      alone,
-      flat_map-append f (chars (take start text)) (chars run ++ c ∷ []),
-      flat_map-append f (chars run) (c ∷ []),
-      as_is,
-      append-nil (f c),
-    ) refl
+    rw (parts, chars-append (take start text) (run ++ c ∷ []) (IsUtf8-take text start u b))
+    (rw (chars-append run (c ∷ []) valid_run, alone, flat_map-append f (chars (take start text)) _)
+    (rw (flat_map-append f (chars run) (c ∷ []), as_is, append-nil (f c)) refl))
 
 -- the same up to the end of the text
 pub run_to_end : (f : ℕ → List ℕ) (text : List ℕ) (start : ℕ) → ((c : ℕ) → 128 ≤ c → f c ≡ c ∷ []) →
@@ -190,11 +173,9 @@ pub runs_stop : (f : ℕ → List ℕ) (text : List ℕ) (start index : ℕ) (be
     AppendsBeginning now (chars (slice_range text start index) ++ f (get_or text index 0)) after →
     AppendsBeginning before (flat_map f (chars text)) after
 runs_stop f text start index before now after wide u l ascii runs p =
-    rw (
-      split_at f text (index + 1) u (IsCharBoundary-after_ascii text index u l ascii),
-      ← run_more f text start index wide u runs.boundary runs.below l ascii runs.plain,
-    )
-    (stops_in_first before after _ _ (stops_in_second before now after _ _ runs.written p))
+    rw (split_at f text (index + 1) u (IsCharBoundary-after_ascii text index u l ascii))
+    (rw (← run_more f text start index wide u runs.boundary runs.below l ascii runs.plain)
+    (stops_in_first before after _ _ (stops_in_second before now after _ _ runs.written p)))
 
 -- the last run
 pub runs_last : (f : ℕ → List ℕ) (text : List ℕ) (start : ℕ) (before now after : Written)

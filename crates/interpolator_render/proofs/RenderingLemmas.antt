@@ -1,6 +1,6 @@
--- What `render` answers for what a writer answered.
-use Rattle.std.proofs.Common.{◌≡◌, ℕ, List, refl}
-use Rattle.std.specs.Prelude.{Result, Ok, Err, Some, ℤ, false}
+-- What a text is without options, and what `render` answers for what a writer answered.
+use Rattle.std.proofs.Common.{◌≡◌, ℕ, ◌-◌, List, length, refl, Result, Ok, Err, None, Some, ℤ}
+use Rattle.std.proofs.Common.{append-nil, arith, false}
 use Rattle.interpolator_render.specs.declared.number.NumberForm.{NumberForm}
 use Rattle.interpolator_render.specs.declared.text_write.Refusal.{Refusal}
 use Rattle.interpolator_render.specs.declared.view.Bits.{Bits}
@@ -8,25 +8,29 @@ use Rattle.interpolator_render.specs.declared.view.RenderFault.{RenderFault}
 use Rattle.interpolator_render.specs.declared.view.Spec.{Spec}
 use Rattle.interpolator_render.specs.declared.view.Trait.{Trait}
 use Rattle.interpolator_render.specs.Numbers.{number_form, number_text, has_minus, magnitude}
+use Rattle.interpolator_render.specs.Padding.{displayed_text, padded_text, spaces_before}
 use Rattle.interpolator_render.specs.Texts.{ViewText, has_text, Renders, render_answer, view_text}
 use Rattle.interpolator_render.specs.Views.{signed_number, unsigned_number}
-use Rattle.interpolator_render.specs.Written.{Written, Puts, Writes}
-use Rattle.interpolator_render.proofs.LayoutLemmas.{writes_from_puts}
+use Rattle.interpolator_render.specs.Written.{Written, Puts}
+use Rattle.interpolator_render.proofs.NumberLemmas.{before_within}
+
+-- with neither precision nor width, a text is displayed as it is
+pub displayed_as_it_is : (spec : Spec) (text : List ℕ) → spec.precision ≡ None →
+    spec.width ≡ None → displayed_text spec text ≡ text
+unfolding padded_text
+displayed_as_it_is spec text p w =
+    let none = before_within spec.alignment 0 0 (omega arith) in
+    let all : spaces_before spec.alignment 0 0 ≡ 0 = omega arith in
+    let missing : 0 - length text ≡ 0 = omega arith in
+    rw (p, w, missing, all) (append-nil text)
 
 -- what a writer answered is what `render` answers
-pub renders_writes : (old new : Written) (text : List ℕ) (answer : Result (Unit {0}) Refusal)
-    (meaning : ViewText) (result : Result (Unit {0}) RenderFault) →
-    meaning ≡ has_text text → result ≡ render_answer answer → Writes old text answer new →
-    Renders meaning old result new
-renders_writes old new text (Ok x) meaning result e f p = rw (e, f) p
-renders_writes old new text (Err refusal) meaning result e f p = rw (e, f) p
-
 pub renders_puts : (old new : Written) (text : List ℕ) (answer : Result (Unit {0}) Refusal)
     (meaning : ViewText) (result : Result (Unit {0}) RenderFault) →
     meaning ≡ has_text text → result ≡ render_answer answer → Puts old text answer new →
     Renders meaning old result new
-renders_puts old new text answer meaning result e f p = renders_writes old new text answer meaning
-    result e f (writes_from_puts old new text answer p)
+renders_puts old new text (Ok x) meaning result e f p = rw (e, f) p
+renders_puts old new text (Err refusal) meaning result e f p = rw (e, f) p.part
 
 pub signed_text : (z : ℤ) (bits : Bits) (t : Trait) (spec : Spec) (form : NumberForm) →
     number_form t spec.hex_debug ≡ Some form →

@@ -1,14 +1,12 @@
 -- Exponent form of a number of 64 bits, in a row.
 use Rattle.std.proofs.Common.{◌≡◌, ◌≢◌, ℕ, zero, suc, ◌<◌, ◌≤◌, ◌+◌, ◌*◌, ◌/◌, ◌%◌, ◌^◌, false}
-use Rattle.std.proofs.Common.{Bool}
-use Rattle.std.proofs.Common.{List, [], ◌∷◌, ◌++◌, length, drop, get_or, replicate, refl, sym, ◌∙◌}
-use Rattle.std.proofs.Common.{ap, arith, append-nil, length-append, length-drop, inl, inr}
+use Rattle.std.proofs.Common.{Bool, List, [], ◌∷◌, ◌++◌, length, drop, get_or, replicate, refl, sym}
+use Rattle.std.proofs.Common.{◌∙◌, ap, arith, append-nil, length-append, inl, inr}
+use Rattle.std.proofs.Common.{Option, unwrap_or, mul_assoc, pow-suc, eq-zero-or-pos}
 use Rattle.std.specs.Fmt.{digit_glyph}
 use Rattle.std.proofs.lemmas.Bool.Decides.{nat_tests}
 use Rattle.std.proofs.lemmas.List.{length-replicate}
-use Rattle.std.proofs.Math.Nat.{mul_assoc, pow-suc}
 use Rattle.interpolator_render.specs.Digits.{digit_text}
-use Rattle.std.specs.Prelude.{Option, unwrap_or}
 use Rattle.interpolator_render.specs.declared.view.Spec.{Spec}
 use Rattle.interpolator_render.specs.Padding.{fill_of, IsNumberRow}
 use Rattle.interpolator_render.specs.Exponent.{exponent_of, exponent_tail, exponent_text, pointed}
@@ -16,11 +14,11 @@ use Rattle.interpolator_render.specs.Exponent.{scientific, trimmed}
 use Rattle.interpolator_render.specs.Rows.{Row, grown}
 use Rattle.interpolator_render.proofs.CountLemmas.{digits_between}
 use Rattle.interpolator_render.proofs.DigitLemmas.{digit_count_step, length-digit_text-le}
-use Rattle.interpolator_render.proofs.DigitLemmas.{zero_or_more, digit_text_zero, digit_text_some}
-use Rattle.interpolator_render.proofs.DigitLemmas.{digit_text_step, digit_text_one}
-use Rattle.interpolator_render.proofs.ExponentLemmas.{pow_some, pointed_more, trimmed_zero}
-use Rattle.interpolator_render.proofs.ExponentLemmas.{trimmed_other}
+use Rattle.interpolator_render.proofs.DigitLemmas.{digit_text_some, digit_text_step, digit_text_one}
+use Rattle.interpolator_render.proofs.DigitLemmas.{low_count, one_count}
+use Rattle.interpolator_render.proofs.ExponentLemmas.{pointed_more, trimmed_zero, trimmed_other}
 use Rattle.interpolator_render.proofs.LineLemmas.{grown_twice}
+use Rattle.interpolator_render.proofs.LawLemmas.{glyph_some}
 
 -- so many powers of ten, from one on
 abbrev powers_from : ℕ → ℕ → List ℕ
@@ -46,15 +44,10 @@ power_at i h =
 
 -- the exponent between two powers
 pub exponent_found : (n e : ℕ) → (0 < e → 10 ^ e ≤ n) → n < 10 ^ (e + 1) → e ≡ exponent_of n
-exponent_found n e low high = elim (zero_or_more n) [
-  | inl z ↦ elim (zero_or_more e) [
-    | inl none ↦ let one = ap length (digit_text_zero 10 false n z) in omega arith
-    | inr some ↦ let power = pow_some e in let l = low some in absurd (omega arith)
-  ]
-  | inr m ↦ elim (zero_or_more e) [
-    | inl none ↦ let count = digits_between n e (rw none (omega arith)) high in omega arith
-    | inr some ↦ let count = digits_between n e (low some) high in omega arith
-  ]
+exponent_found n e low high = elim (eq-zero-or-pos e) [
+  | inl none ↦ let few : n < 10 = rw none at high in
+      let one = one_count 10 n false (omega arith) few in omega arith
+  | inr some ↦ let count = digits_between n e (low some) high in omega arith
 ]
 
 -- ---- the zeros at the end
@@ -65,23 +58,24 @@ trim_zero n h z = rw (digit_text_step 10 n false (omega arith) h, z)
     (sym (trimmed_zero (digit_text 10 false (n / 10))
     (digit_text_some 10 (n / 10) false (omega arith))))
 
-glyph_some : (d : ℕ) → 0 < d → digit_glyph false d ≢ 48
-glyph_some d h = λ e. grind (arith, nat_tests)
-
 pub trim_done : (n : ℕ) → 10 ≤ n → n % 10 ≢ 0 →
     digit_text 10 false n ≡ trimmed (digit_text 10 false n)
 trim_done n h z = let some : 0 < n % 10 = omega (arith, z) in
     rw (digit_text_step 10 n false (omega arith) h)
     (sym (trimmed_other (digit_text 10 false (n / 10)) (digit_glyph false (n % 10))
-    (glyph_some (n % 10) some)))
+    (glyph_some (n % 10) false some)))
 
 pub trim_short : (n : ℕ) → n < 10 → digit_text 10 false n ≡ trimmed (digit_text 10 false n)
 trim_short n h = rw (digit_text_one 10 n false (omega arith) h) refl
+
+pub ruleset trims = (trim_zero, trim_done, trim_short)
 
 -- ---- room
 
 pub two_digits : (n : ℕ) → n ≤ 20 → length (digit_text 10 false n) ≤ 2
 two_digits n h = length-digit_text-le 10 2 n false (omega arith) (omega arith) (omega arith)
+
+pub ruleset tail_steps = (two_digits, grown_twice)
 
 pub twenty_digits : (n : ℕ) → n < 2 ^ 64 → length (digit_text 10 false n) ≤ 20
 twenty_digits n h = length-digit_text-le 10 20 n false (omega arith) (omega arith) (omega arith)
@@ -109,9 +103,6 @@ point_alone digits behind first e h = one (digits ++ behind) (first ∷ (drop 1 
     one (x ∷ y ∷ more) same h e = absurd (omega arith)
 
 -- how many digits a number has
-pub one_digit : (n : ℕ) → n < 10 → length (digit_text 10 false n) ≡ 1
-one_digit n h = ap length (digit_text_one 10 n false (omega arith) h)
-
 pub more_digits : (n : ℕ) → 10 ≤ n → 1 < length (digit_text 10 false n)
 more_digits n h = let step = digit_count_step 10 n false (omega arith) h in
     let some = digit_text_some 10 (n / 10) false (omega arith) in omega arith
@@ -122,38 +113,32 @@ small_glyph d h = grind (arith, nat_tests)
 -- ---- the pieces, in the order in which they are written
 
 pub pointed_pieces : (digits behind : List ℕ) (first : ℕ) (row zeros low point all : Row) →
-    digits ≡ first ∷ drop 1 digits → 1 < length (digits ++ behind) →
+    first < 10 → digits ≡ digit_glyph false first ∷ drop 1 digits → 1 < length (digits ++ behind) →
     zeros ≡ grown behind row → low ≡ grown (drop 1 digits) zeros → point ≡ grown (46 ∷ []) low →
-    all ≡ grown (first ∷ []) point →
+    all ≡ grown ((48 + first) ∷ []) point →
     all ≡ grown (pointed (digits ++ behind)) row
-pointed_pieces digits behind first row zeros low point all e more a b c d =
+pointed_pieces digits behind first row zeros low point all h e more a b c d =
+    let leads : digits ≡ (48 + first) ∷ drop 1 digits = rw (small_glyph first h) at e in
     let others = drop 1 digits ++ behind in
-    let one : low ≡ grown others row = b
-    ∙ (ap (λ (r : Row). grown (drop 1 digits) r) a ∙ grown_twice (drop 1 digits) behind row) in
-    let two : point ≡ grown (46 ∷ others) row = c
-    ∙ (ap (λ (r : Row). grown (46 ∷ []) r) one ∙ grown_twice (46 ∷ []) others row) in
-    d ∙ (ap (λ (r : Row). grown (first ∷ []) r) two
-    ∙ (grown_twice (first ∷ []) (46 ∷ others) row
-    ∙ ap (λ (x : List ℕ). grown x row) (point_more digits behind first e more)))
+    let one : low ≡ grown others row = rw (b, a) (grown_twice (drop 1 digits) behind row) in
+    let two : point ≡ grown (46 ∷ others) row = rw (c, one) (grown_twice (46 ∷ []) others row) in
+    rw (← point_more digits behind (48 + first) leads more, d, two)
+    (grown_twice ((48 + first) ∷ []) (46 ∷ others) row)
 
-pub alone_pieces : (digits behind : List ℕ) (first : ℕ) (row zeros low all : Row) →
-    digits ≡ first ∷ drop 1 digits → length (digits ++ behind) ≡ 1 →
-    zeros ≡ grown behind row → low ≡ grown (drop 1 digits) zeros → all ≡ grown (first ∷ []) low →
-    all ≡ grown (pointed (digits ++ behind)) row
-alone_pieces digits behind first row zeros low all e single a b d =
+pub alone_pieces : (digits behind : List ℕ) (first : ℕ) (row zeros low all : Row) → first < 10 →
+    digits ≡ digit_glyph false first ∷ drop 1 digits → length (digits ++ behind) ≡ 1 →
+    zeros ≡ grown behind row → low ≡ grown (drop 1 digits) zeros →
+    all ≡ grown ((48 + first) ∷ []) low → all ≡ grown (pointed (digits ++ behind)) row
+alone_pieces digits behind first row zeros low all h e single a b d =
+    let leads : digits ≡ (48 + first) ∷ drop 1 digits = rw (small_glyph first h) at e in
     let others = drop 1 digits ++ behind in
-    let one : low ≡ grown others row = b
-    ∙ (ap (λ (r : Row). grown (drop 1 digits) r) a ∙ grown_twice (drop 1 digits) behind row) in
-    d ∙ (ap (λ (r : Row). grown (first ∷ []) r) one
-    ∙ (grown_twice (first ∷ []) others row
-    ∙ ap (λ (x : List ℕ). grown x row) (point_alone digits behind first e single)))
+    let one : low ≡ grown others row = rw (b, a) (grown_twice (drop 1 digits) behind row) in
+    rw (← point_alone digits behind (48 + first) leads single, d, one)
+    (grown_twice ((48 + first) ∷ []) others row)
 
 -- room for point and first digit
-pub room_left : (digits behind : List ℕ) (row zeros low : Row) → 0 < length digits →
-    length digits ≤ 20 → length behind ≤ 40 → 61 ≤ row.before →
-    zeros ≡ grown behind row → low ≡ grown (drop 1 digits) zeros → 2 ≤ low.before
-room_left digits behind row zeros low s d b r a e = rw (e, a)
-    (let n = length-drop 1 digits in omega arith)
+pub ruleset short_counts =
+    (twenty_digits, low_count, one_count, more_digits, length-replicate)
 
 -- ---- the whole
 

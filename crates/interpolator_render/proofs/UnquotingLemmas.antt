@@ -1,22 +1,20 @@
 -- A quoted text, read back, is the text.
-use Rattle.std.proofs.Common.{◌≡◌, ◌≢◌, ℕ, ◌<◌, ◌+◌, ◌*◌, inl, inr, true, false}
-use Rattle.std.proofs.Common.{List, [], ◌∷◌, ◌++◌, ◌==◌, ◌||◌, if◌then◌else◌, map, refl, sym, ◌∙◌}
-use Rattle.std.proofs.Common.{ap, arith, rules, append_assoc}
+use Rattle.std.proofs.Common.{◌≡◌, ◌≢◌, ℕ, ◌<◌, ◌+◌, ◌*◌, inl, inr, true, false, List, [], ◌∷◌}
+use Rattle.std.proofs.Common.{◌++◌, ◌==◌, ◌||◌, if◌then◌else◌, map, refl, ◌∙◌, ap, arith, rules}
+use Rattle.std.proofs.Common.{append_assoc, Some, None, nat_lt, codes, flat_map, eq-zero-or-pos}
+use Rattle.std.proofs.Common.{Option}
 use Rattle.std.specs.Char.{digit_value}
 use Rattle.std.specs.Fmt.{digit_glyph}
 use Rattle.std.specs.Int.Digits.{digits_of, AllBelowBase}
-use Rattle.std.specs.List.{flat_map}
-use Rattle.std.specs.Prelude.{Some, None, nat_lt, codes}
 use Rattle.std.specs.Str.Parse.{digits_value, digits_value_after}
-use Rattle.std.proofs.lemmas.Bool.{cases_eq}
 use Rattle.std.proofs.lemmas.Bool.Decides.{nat_tests}
 use Rattle.std.proofs.lemmas.Int.Digits.{all_below_base_digits_of}
 use Rattle.interpolator_render.specs.Digits.{digit_text}
 use Rattle.interpolator_render.specs.Quoting.{escape_letter, escaped, quoted}
-use Rattle.interpolator_render.specs.Unquoting.{IsQuote, preceded_by, escape_meaning}
-use Rattle.interpolator_render.specs.Unquoting.{unquoted_from, unquoted, at_character, in_number}
-use Rattle.interpolator_render.proofs.DigitLemmas.{zero_or_more, digit_text_zero, digit_text_map}
-use Rattle.interpolator_render.proofs.LawLemmas.{digits_value-digit_text}
+use Rattle.interpolator_render.specs.Unquoting.{IsQuote, preceded_by, escape_meaning, unquoted_from}
+use Rattle.interpolator_render.specs.Unquoting.{unquoted, at_character, in_number}
+use Rattle.interpolator_render.proofs.DigitLemmas.{digit_text_zero, digit_text_map}
+use Rattle.interpolator_render.proofs.LawLemmas.{digits_read}
 
 -- what is asked of a quote: it is no backslash and no `u`, and stands for itself
 record StandsForItself (quote : ℕ) : Type 0 where
@@ -27,13 +25,6 @@ record StandsForItself (quote : ℕ) : Type 0 where
 quotes_stand : (quote : ℕ) → IsQuote quote → StandsForItself quote
 quotes_stand quote (inl e) = rw e (record { slash = refl; letter = refl; own = refl })
 quotes_stand quote (inr e) = rw e (record { slash = refl; letter = refl; own = refl })
-
--- a character that stands behind a backslash as a letter
-letter_read : (quote c letter : ℕ) (rest : List ℕ) → StandsForItself quote →
-    escape_letter quote c ≡ Some letter → (letter == 117) ≡ false → escape_meaning letter ≡ c →
-    unquoted_from quote at_character (escaped quote c ++ rest)
-    ≡ preceded_by c (unquoted_from quote at_character rest)
-letter_read quote c letter rest p e u m = rw (e, p.slash, u, m) refl
 
 -- ---- numbers
 
@@ -52,7 +43,7 @@ number_read quote n (d ∷ ds) rest a =
 text_read : (quote n : ℕ) (rest : List ℕ) →
     unquoted_from quote (in_number 0) (digit_text 16 false n ++ 125 ∷ rest)
     ≡ preceded_by (digits_value 16 (digit_text 16 false n)) (unquoted_from quote at_character rest)
-text_read quote n rest = elim (zero_or_more n) [
+text_read quote n rest = elim (eq-zero-or-pos n) [
   | inl e ↦ rw (digit_text_zero 16 false n e) refl
   | inr h ↦ rw (digit_text_map 16 n false h)
       (number_read quote 0 (digits_of 16 n) rest (all_below_base_digits_of 16 n (omega arith)))
@@ -67,7 +58,7 @@ code_read quote c rest p =
     rw (p.slash, append_assoc (digit_text 16 false c) (125 ∷ []) rest)
     (text_read quote c rest
     ∙ ap (λ (n : ℕ). preceded_by n (unquoted_from quote at_character rest))
-    (digits_value-digit_text 16 c false (omega arith) (omega arith)))
+    (digits_read 16 c false (omega arith) (omega arith)))
 
 -- ---- characters
 
@@ -85,35 +76,20 @@ none_read quote c rest p q s e =
       | false ↦ rw (other, slash) refl
     ])
 
-escaped_read : (quote c : ℕ) (rest : List ℕ) → StandsForItself quote →
-    unquoted_from quote at_character (escaped quote c ++ rest)
+-- a letter behind a backslash stands for its character
+letter_meaning : (quote c letter : ℕ) → StandsForItself quote
+    → escape_letter quote c ≡ Some letter →
+    ((letter == 117) ≡ false) × (escape_meaning letter ≡ c)
+letter_meaning quote c letter p e = let l = p.letter in let o = p.own in
+    (grind (arith, nat_tests), grind (arith, nat_tests))
+
+escaped_read : (quote c : ℕ) (rest : List ℕ) (letter : Option ℕ) → StandsForItself quote →
+    escape_letter quote c ≡ letter → unquoted_from quote at_character (escaped quote c ++ rest)
     ≡ preceded_by c (unquoted_from quote at_character rest)
-escaped_read quote c rest p = elim (cases_eq c quote) [
-  | inl same ↦ let t : (c == quote) ≡ true = search rules in
-      letter_read quote c quote rest p (rw t refl) p.letter (p.own ∙ sym same)
-  | inr q ↦ let f : (c == quote) ≡ false = search rules in elim (cases_eq c 92) [
-    | inl same ↦ let t : (c == 92) ≡ true = search rules in
-        letter_read quote c 92 rest p (rw (f, t) refl) refl (sym same)
-    | inr s ↦ let g : (c == 92) ≡ false = search rules in elim (cases_eq c 0) [
-      | inl same ↦ let t : (c == 0) ≡ true = search rules in
-          letter_read quote c 48 rest p (rw (f, g, t) refl) refl (sym same)
-      | inr a ↦ let h : (c == 0) ≡ false = search rules in elim (cases_eq c 9) [
-        | inl same ↦ let t : (c == 9) ≡ true = search rules in
-            letter_read quote c 116 rest p (rw (f, g, h, t) refl) refl (sym same)
-        | inr b ↦ let i : (c == 9) ≡ false = search rules in elim (cases_eq c 13) [
-          | inl same ↦ let t : (c == 13) ≡ true = search rules in
-              letter_read quote c 114 rest p (rw (f, g, h, i, t) refl) refl (sym same)
-          | inr d ↦ let j : (c == 13) ≡ false = search rules in elim (cases_eq c 10) [
-            | inl same ↦ let t : (c == 10) ≡ true = search rules in
-                letter_read quote c 110 rest p (rw (f, g, h, i, j, t) refl) refl (sym same)
-            | inr k ↦ let l : (c == 10) ≡ false = search rules in
-                none_read quote c rest p q s (rw (f, g, h, i, j, l) refl)
-          ]
-        ]
-      ]
-    ]
-  ]
-]
+escaped_read quote c rest None p e =
+    none_read quote c rest p (λ s. grind (arith, nat_tests)) (λ s. grind (arith, nat_tests)) e
+escaped_read quote c rest (Some letter) p e = let m = letter_meaning quote c letter p e in
+    rw (e, p.slash, m.0, m.1) refl
 
 -- ---- texts
 
@@ -122,7 +98,7 @@ inside_read : (quote : ℕ) (text behind : List ℕ) → StandsForItself quote �
     ≡ record { text = text; behind = behind }
 inside_read quote [] behind p = let t : (quote == quote) ≡ true = search rules in rw t refl
 inside_read quote (c ∷ cs) behind p =
-    rw append_assoc (escaped_read quote c (flat_map (escaped quote) cs ++ quote ∷ behind) p
+    rw append_assoc (escaped_read quote c (flat_map (escaped quote) cs ++ quote ∷ behind) _ p refl
     ∙ ap (preceded_by c) (inside_read quote cs behind p))
 
 pub quoted_read : (quote : ℕ) (text behind : List ℕ) → IsQuote quote →

@@ -1,9 +1,7 @@
 -- What a writer over a `String` took or refused.
-use Rattle.std.proofs.Common.{◌≡◌, ◌⊎◌, ℕ, ◌+◌, ◌<◌, true, false, List, [], ◌∷◌, ◌++◌, length, refl, sym, ◌∙◌}
-use Rattle.std.proofs.Common.{ap, arith, append-nil}
-use Rattle.std.specs.Str.{chars, IsUtf8}
-use Rattle.std.specs.Prelude.{encode_utf8, encode_utf8_all, Bool, Result, Ok, Err, OnOk, OnErr}
-use Rattle.std.specs.Prelude.{MatchResult}
+use Rattle.std.proofs.Common.{◌≡◌, ◌⊎◌, ℕ, ◌+◌, ◌<◌, true, false, List, [], ◌∷◌, ◌++◌, length, refl}
+use Rattle.std.proofs.Common.{sym, ◌∙◌, ap, arith, append-nil, encode_utf8, encode_utf8_all, Bool}
+use Rattle.std.proofs.Common.{Result, Ok, Err, OnOk, OnErr, MatchResult, chars, IsUtf8}
 use Rattle.interpolator_render.specs.declared.text_write.Refusal.{Refusal}
 use Rattle.std.specs.Char.{IsScalar}
 use Rattle.std.proofs.lemmas.Str.{chars-append, chars-nil, IsUtf8-encode, chars_past_char}
@@ -18,6 +16,8 @@ appends_nothing w [] e = record {
   only_empty = λ _. chars-nil;
 }
 appends_nothing w (b ∷ bs) e = cc
+
+pub ruleset empty_text = chars-nil
 
 -- a buffer whose bytes grew by the text's, with no refusal before
 pub buffer_appends : (now new : Written) (a b : List ℕ) → IsUtf8 a → now.text ≡ chars a →
@@ -34,6 +34,8 @@ chars-encode c s = let nil : encode_utf8 c ≡ encode_utf8 c
     ++ [] = sym (append-nil (encode_utf8 c)) in
     chars_past_char (encode_utf8 c) [] c (IsUtf8-encode c s) nil
     ∙ ap (λ (x : List ℕ). c ∷ x) chars-nil
+
+pub ruleset one_character = chars-encode
 
 -- nothing was taken of a text that is not empty
 pub refuses_all : (now new : Written) (text : List ℕ) → 0 < length text → new.text ≡ now.text →

@@ -1,3 +1,4 @@
+-- The definitions that the contracts cite.
 pub mod Written
 pub mod Views
 pub mod Characters

@@ -17,6 +17,7 @@ static PAIRS: [u8; 200] = *b"0001020304050607080910111213141516171819\
     8081828384858687888990919293949596979899";
 
 /// The tens and the ones of a number below 100, as digits.
+#[tactic(auto, using(crate::proofs::DigitTableLemmas::pair_at))]
 #[inline(always)]
 fn pair_digits(pair: u64) -> (u8, u8)
     requires { pair < 100 }
@@ -34,6 +35,7 @@ static CAPITAL_DIGITS: [u8; 16] = *b"0123456789ABCDEF";
 
 /// As [`ascii_digit`], of a digit of a base that the compiler knows: where it has no letters, it
 /// takes no table.
+#[tactic(auto, using(crate::proofs::DigitTableLemmas::sixteen_digits))]
 #[inline(always)]
 pub(crate) fn digit_in_base(digit: u64, base: u64, upper: bool) -> u8
     requires digit { digit < base }
@@ -65,6 +67,7 @@ pub(crate) fn ascii_digit(digit: u8, upper: bool) -> u8
 
 /// Writes the last digits of a number at the end of the buffer, as many as leave a rest of at most
 /// 64 bits. Returns where they begin, and the rest.
+#[tactic(auto, using(crate::proofs::DigitLemmas::digit_steps))]
 #[inline(never)]
 fn write_wide(n: u128, base: u64, upper: bool, out: &mut [u8; 128]) -> (usize, u64)
     requires lowest { 2 ≤ base }
@@ -86,6 +89,7 @@ fn write_wide(n: u128, base: u64, upper: bool, out: &mut [u8; 128]) -> (usize, u
 }
 
 /// Writes the digits of a number before the place `end`. Returns where they begin.
+#[tactic(auto, using(crate::proofs::DigitLemmas::digit_steps))]
 #[inline(always)]
 fn write_narrow(n: u64, base: u64, upper: bool, end: usize, out: &mut [u8; 128]) -> usize
     requires lowest { 2 ≤ base }
@@ -108,6 +112,7 @@ fn write_narrow(n: u64, base: u64, upper: bool, end: usize, out: &mut [u8; 128])
 
 /// Writes the last digit of a number of several before the place `at`. Returns the number that the
 /// others make.
+#[tactic(auto, using(crate::proofs::DigitLemmas::last_steps))]
 #[inline(always)]
 fn write_last(n: u64, base: u64, upper: bool, at: usize, out: &mut [u8; 128]) -> u64
     requires lowest { 2 ≤ base }
@@ -146,6 +151,7 @@ fn write_last_four(n: u64, base: u64, upper: bool, at: usize, out: &mut [u8; 128
 
 /// Writes the last digits of a number before the place `end`, four at a time, until one to four
 /// are left. Returns where they begin, and the rest.
+#[tactic(auto, using(crate::proofs::DigitLemmas::four_count))]
 #[inline(always)]
 fn write_fours(n: u64, base: u64, upper: bool, end: usize, out: &mut [u8; 128]) -> (usize, u64)
     requires lowest { 2 ≤ base }
@@ -169,6 +175,7 @@ fn write_fours(n: u64, base: u64, upper: bool, end: usize, out: &mut [u8; 128]) 
 
 /// Writes the text of a number but for its first digit before the place `end`. Returns where it
 /// begins, and the first digit.
+#[tactic(auto, using(crate::proofs::DigitLemmas::one_steps))]
 #[inline(always)]
 fn write_ones(n: u64, base: u64, upper: bool, end: usize, out: &mut [u8; 128]) -> (usize, u64)
     requires lowest { 2 ≤ base }
@@ -192,6 +199,7 @@ fn write_ones(n: u64, base: u64, upper: bool, end: usize, out: &mut [u8; 128]) -
 }
 
 /// As [`write_ones`], four digits at a time while there are more.
+#[tactic(auto, using(crate::proofs::DigitLemmas::low_count))]
 #[inline(always)]
 pub(crate) fn write_low(
     n: u64,
@@ -217,6 +225,7 @@ pub(crate) fn write_low(
 
 /// Writes the last digits of a number in base ten before the place `end`, two by each division,
 /// until one or two are left. Returns where they begin, and the rest.
+#[tactic(auto, using(crate::proofs::DigitLemmas::pair_count))]
 #[inline(always)]
 fn write_pairs(n: u64, end: usize, out: &mut [u8; 128]) -> (usize, u64)
     requires place { end ≤ 128 }
@@ -240,6 +249,7 @@ fn write_pairs(n: u64, end: usize, out: &mut [u8; 128]) -> (usize, u64)
 }
 
 /// As [`write_ones`], in base ten, two digits at a time while there are more.
+#[tactic(auto, using(crate::proofs::DigitLemmas::low_count))]
 #[inline(always)]
 pub(crate) fn write_low_decimal(n: u64, end: usize, out: &mut [u8; 128]) -> (usize, u64)
     requires place { end ≤ 128 }
@@ -258,6 +268,7 @@ pub(crate) fn write_low_decimal(n: u64, end: usize, out: &mut [u8; 128]) -> (usi
 /// Writes the digits of a number at the end of the buffer. Returns where they begin.
 ///
 /// Only what stands above 64 bits is divided as a `u128`, which costs several times as much.
+#[tactic(auto, using(crate::proofs::DigitLemmas::text_places))]
 pub(crate) fn write_digits(n: u128, base: u64, upper: bool, out: &mut [u8; 128]) -> usize
     requires lowest { 2 ≤ base }
     requires highest { base ≤ 16 }
@@ -284,6 +295,7 @@ pub(crate) fn write_decimal(n: u128, out: &mut [u8; 128]) -> usize
 }
 
 /// Bytes below 128 as a text.
+#[tactic(auto, using(crate::proofs::DigitLemmas::ascii_texts))]
 #[inline(always)]
 pub(crate) fn ascii_str(bytes: &[u8]) -> &str
     requires { IsAscii bytes.now }

@@ -40,6 +40,7 @@ fn nearest(n: u128, unit: u128) -> u128
 
 /// A number with more than `places` digits behind the first, rounded to so many: the number that
 /// its digits make, and its exponent, one more after a carry to ten.
+#[tactic(auto, using(crate::proofs::ExponentLemmas::fitting_powers))]
 fn rounded(n: u128, places: usize, exponent: usize) -> (u128, usize)
     requires exponent { exponent ≡ exponent_of n }
     requires low { exponent ≤ 38 }
@@ -56,6 +57,7 @@ fn rounded(n: u128, places: usize, exponent: usize) -> (u128, usize)
 }
 
 /// Where digits end less the zeros at their end, one digit at least.
+#[tactic(auto, using(crate::proofs::ExponentLemmas::trim_steps))]
 fn trimmed_len(digits: &[u8]) -> usize
     requires some { 0 < length digits.now }
     ensures value { slice_range digits.now 0 result ≡ trimmed digits.now }
@@ -70,6 +72,7 @@ fn trimmed_len(digits: &[u8]) -> usize
 }
 
 /// The digits from `start` up to `end`, with a point behind the first if more or zeros follow.
+#[tactic(auto, using(crate::proofs::ExponentLemmas::point_ascii))]
 fn with_point(buffer: &mut [u8; 128], start: usize, end: usize, zeros: usize) -> &str
     requires room { 0 < start }
     requires some { start < end }
@@ -89,6 +92,7 @@ fn with_point(buffer: &mut [u8; 128], start: usize, end: usize, zeros: usize) ->
 }
 
 /// The digits of a number in exponent form at a precision, with their point.
+#[tactic(auto, using(crate::proofs::ExponentLemmas::mantissa_steps))]
 pub(crate) fn mantissa_of(n: u128, precision: Option<usize>, buffer: &mut [u8; 128]) -> Mantissa<'_>
     ensures text { result.head.now ++ replicate result.zeros zero_digit
         ≡ pointed (scientific precision n).digits }

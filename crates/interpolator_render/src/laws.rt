@@ -20,6 +20,7 @@ use crate::view::{Alignment, Bits, HexDebug, RenderFault, Sign, Spec, Trait};
 
 /// The digits of a number, read back in their base, are the number, and the first is no zero but
 /// for zero itself.
+#[tactic(auto, using(crate::proofs::LawLemmas::digit_laws))]
 pub fn digits_read_back()
     ensures value { (base n : ℕ) (upper : Bool) → 2 ≤ base → base ≤ 16
         → digits_value base (digit_text base upper n) ≡ n }
@@ -29,6 +30,7 @@ pub fn digits_read_back()
 
 /// The exponent of a number above zero is the greatest whose power of ten is at most the number,
 /// and that of zero is 0.
+#[tactic(auto, using(crate::proofs::LawLemmas::exponent_of_zero))]
 pub fn exponent_bounds()
     ensures some { (n : ℕ) → 0 < n → (10 ^ exponent_of n ≤ n) × (n < 10 ^ (exponent_of n + 1)) }
     ensures zero { exponent_of 0 ≡ 0 }
@@ -36,6 +38,7 @@ pub fn exponent_bounds()
 
 /// A rounded number of units lies within half a unit, and is even where it lies just so far; no
 /// other does and is.
+#[tactic(auto, using(crate::proofs::LawLemmas::nearest_laws))]
 pub fn rounding_is_to_nearest()
     ensures nearest { (n unit : ℕ) → 0 < unit → IsNearest n unit (nearest n unit) }
     ensures only { (n unit count : ℕ) → 0 < unit → IsNearest n unit count
@@ -44,6 +47,7 @@ pub fn rounding_is_to_nearest()
 
 /// Digits are those that remain of them without the zeros at their end, and those zeros; where more
 /// than one remains, the last of them is no zero.
+#[tactic(auto, using(crate::proofs::LawLemmas::trimmed_laws))]
 pub fn trimmed_digits()
     ensures zeros { (digits : List ℕ)
         → (count : ℕ) × (digits ≡ trimmed digits ++ replicate count zero_digit) }
@@ -54,6 +58,7 @@ pub fn trimmed_digits()
 /// With a precision there are exactly so many digits behind the first. Where the number has no
 /// more, they are the number's own and zeros; where it has more, they and the exponent make the
 /// nearest number of units of the last place.
+#[tactic(auto, using(crate::proofs::CountLemmas::scientific_laws))]
 pub fn precise_digits()
     ensures count { (places n : ℕ) → length (scientific (Some places) n).digits ≡ places + 1 }
     ensures whole { (places n : ℕ) → exponent_of n ≤ places
@@ -69,6 +74,7 @@ pub fn precise_digits()
 
 /// A quoted text, read with its escapes up to the first quote that is not escaped, is the text, and
 /// nothing stands between that quote and the end.
+#[tactic(auto, using(crate::proofs::UnquotingLemmas::quoted_read))]
 pub fn quoted_reads_back()
     ensures { (quote : ℕ) (text behind : List ℕ) → IsQuote quote
         → unquoted quote (quoted quote text ++ behind)
@@ -76,6 +82,7 @@ pub fn quoted_reads_back()
 {}
 
 /// A padded text has as many characters as the width says, or all its own where they are more.
+#[tactic(auto, using(crate::proofs::LawLemmas::padded_laws))]
 pub fn padded_counts()
     ensures texts { (spec : Spec) (text : List ℕ)
         → length (padded_text spec text) ≡ max (unwrap_or spec.width 0) (length text) }
@@ -86,6 +93,7 @@ pub fn padded_counts()
 
 /// Without precision, a text that `pad` wrote whole has added as many characters as the width says,
 /// or all its own where they are more.
+#[tactic(auto, using(crate::proofs::LawLemmas::pad_count))]
 pub fn pad_adds()
     ensures { (spec : Spec) (text : List ℕ) (old new : Written) → spec.precision ≡ None
         → Appends old (displayed_text spec text) new
@@ -94,6 +102,7 @@ pub fn pad_adds()
 
 /// Two's complement at a width is the one number below 2 to the width that differs from the number
 /// by a multiple of it.
+#[tactic(auto, using(crate::proofs::LawLemmas::twos_complement_laws))]
 pub fn twos_complement_is_congruent()
     ensures below { (z : ℤ) (bits : Bits) → twos_complement z bits < 2 ^ bit_count bits }
     ensures congruent { (z : ℤ) (bits : Bits) → (turns : ℤ)

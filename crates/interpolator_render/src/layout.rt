@@ -24,6 +24,7 @@ pub(crate) enum Part<'a> {
 }
 
 /// Writes one character.
+#[tactic(auto, using(crate::proofs::LayoutLemmas::one_write))]
 pub(crate) fn put_char<W: TextWrite>(out: &mut W, c: char) -> Result<(), Refusal>
     ensures { Puts (W.written out.old) (c ∷ []) result (W.written out.new) }
 {
@@ -31,6 +32,7 @@ pub(crate) fn put_char<W: TextWrite>(out: &mut W, c: char) -> Result<(), Refusal
 }
 
 /// Writes a text by one call, or by none where it is empty.
+#[tactic(auto, using(crate::proofs::LayoutLemmas::one_write))]
 #[inline(always)]
 pub(crate) fn put_text<W: TextWrite>(out: &mut W, text: &str) -> Result<(), Refusal>
     ensures { Puts (W.written out.old) (chars text.now) result (W.written out.new) }
@@ -42,6 +44,7 @@ pub(crate) fn put_text<W: TextWrite>(out: &mut W, text: &str) -> Result<(), Refu
 }
 
 /// Writes an ASCII text, whose bytes are its characters, by one call.
+#[tactic(auto, using(crate::proofs::LayoutLemmas::one_write))]
 #[inline(always)]
 pub(crate) fn put_ascii<W: TextWrite>(out: &mut W, text: &str) -> Result<(), Refusal>
     requires { IsAscii text.now }
@@ -111,6 +114,7 @@ fn put_zeros<W: TextWrite>(out: &mut W, count: usize) -> Result<(), Refusal>
     put_copies(out, '0', ZEROS, count)
 }
 
+#[tactic(auto, using(crate::proofs::LayoutLemmas::one_write))]
 #[inline(always)]
 fn byte_len(text: &str) -> usize
     ensures { result ≡ byte_count (chars text.now) }
@@ -131,6 +135,7 @@ impl Part<'_> {
     }
 
     /// The bytes of the part.
+    #[tactic(auto, using(crate::proofs::LayoutLemmas::bytes_of_copies))]
     #[inline(always)]
     fn len(self) -> usize
         ensures { result ≡ byte_count (part_text self.entry) }

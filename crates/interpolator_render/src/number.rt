@@ -342,6 +342,7 @@ fn put_around(line: &mut Line, form: NumberForm, spec: &Spec, negative: bool)
 }
 
 /// Writes the digits of a number, each radix's by a base that the compiler knows.
+#[tactic(auto, using(crate::proofs::LineLemmas::short_digits))]
 #[inline(always)]
 fn put_in_radix(line: &mut Line, radix: Radix, n: u64)
     requires { 64 ≤ line.old.before }
@@ -357,6 +358,7 @@ fn put_in_radix(line: &mut Line, radix: Radix, n: u64)
 }
 
 /// Writes a number by its digits, in one buffer and by one call.
+#[tactic(auto, using(crate::proofs::LineLemmas::number_row))]
 #[inline(always)]
 fn put_short<W: TextWrite>(
     out: &mut W,
@@ -422,6 +424,7 @@ fn put_long_exponent<W: TextWrite>(
 }
 
 /// Writes a number in exponent form, in one buffer and by one call.
+#[tactic(auto, using(crate::proofs::ShortExponentLemmas::exponent_row))]
 #[inline(always)]
 fn put_short_exponent<W: TextWrite>(
     out: &mut W,

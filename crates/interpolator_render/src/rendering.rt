@@ -32,8 +32,21 @@ use crate::view::{RenderFault, Spec, Trait, View};
 /// pad(&mut out, "é", &Spec { width: Some(3), alignment: Alignment::Center, ..Spec::default() })
 /// // appends " é "
 /// ```
-#[inline(never)]
+#[inline(always)]
 pub fn pad<W: TextWrite>(out: &mut W, text: &str, spec: &Spec) -> Result<(), Refusal>
+    ensures { Puts (W.written out.old) (displayed_text spec.now (chars text.now)) result
+        (W.written out.new) }
+{
+    match (spec.width, spec.precision) {
+        (None, None) => put_text(out, text),
+        _ => put_cut(out, text, spec),
+    }
+}
+
+/// The same, under a precision or a width.
+#[tactic(auto, unfolding(crate::specs::Padding::padded_text))]
+#[inline(never)]
+fn put_cut<W: TextWrite>(out: &mut W, text: &str, spec: &Spec) -> Result<(), Refusal>
     ensures { Puts (W.written out.old) (displayed_text spec.now (chars text.now)) result
         (W.written out.new) }
 {
@@ -77,6 +90,7 @@ fn render_text<W: TextWrite>(
 }
 
 /// Writes a character under display or debug.
+#[tactic(auto, using(crate::proofs::WrittenLemmas::one_character))]
 #[inline(never)]
 fn render_character<W: TextWrite>(
     out: &mut W,
@@ -127,6 +141,7 @@ fn render_truth<W: TextWrite>(
 /// let spec = Spec { alternate: true, zero: true, width: Some(10), ..Spec::default() };
 /// render(&mut out, View::Signed(-1, Bits::B8), Trait::LowerHex, &spec)   // appends "0x000000ff"
 /// ```
+#[tactic(auto, unfolding(crate::specs::Texts::view_text))]
 pub fn render<W: TextWrite>(
     out: &mut W,
     view: View<'_>,

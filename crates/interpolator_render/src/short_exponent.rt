@@ -42,6 +42,7 @@ pub(crate) struct Shown {
     pub(crate) exponent: usize,
 }
 
+#[tactic(auto, using(crate::proofs::ShortExponentLemmas::power_at))]
 #[inline(always)]
 fn power(exponent: usize) -> u64
     requires { exponent ≤ 19 }
@@ -51,6 +52,7 @@ fn power(exponent: usize) -> u64
 }
 
 /// The exponent of the first digit.
+#[tactic(auto, using(crate::proofs::ShortExponentLemmas::exponent_found))]
 #[inline(always)]
 fn exponent_of(n: u64) -> usize
     ensures value { result ≡ exponent_of n }
@@ -82,6 +84,7 @@ fn nearest(n: u64, unit: u64) -> u64
 }
 
 /// A number without the zeros at its end.
+#[tactic(auto, using(crate::proofs::ShortExponentLemmas::trims))]
 #[inline(always)]
 fn trimmed(n: u64) -> u64
     ensures { digit_text 10 false result ≡ trimmed (digit_text 10 false n) }
@@ -94,6 +97,7 @@ fn trimmed(n: u64) -> u64
 }
 
 /// A number with more than `places` digits behind the first, rounded to so many.
+#[tactic(auto, using(crate::proofs::ExponentLemmas::pow_more))]
 #[inline(always)]
 fn rounded(n: u64, places: usize, exponent: usize) -> Shown
     requires exponent { exponent ≡ exponent_of n }
@@ -120,6 +124,7 @@ fn rounded(n: u64, places: usize, exponent: usize) -> Shown
 }
 
 /// What exponent form shows of a number at a precision.
+#[tactic(auto, using(crate::proofs::ExponentLemmas::scientific_steps))]
 #[inline(always)]
 pub(crate) fn shown_of(n: u64, precision: Option<usize>) -> Shown
     ensures digits { digit_text 10 false result.digits ++ replicate result.zeros zero_digit
@@ -153,6 +158,7 @@ fn mark(upper: bool) -> u8
 }
 
 /// Writes the exponent behind its mark.
+#[tactic(auto, using(crate::proofs::ShortExponentLemmas::tail_steps))]
 #[inline(always)]
 fn put_tail(line: &mut Line, upper: bool, exponent: usize)
     requires small { exponent ≤ 20 }
@@ -165,6 +171,7 @@ fn put_tail(line: &mut Line, upper: bool, exponent: usize)
 
 /// Writes the digits of a number and zeros behind them, with a point behind the first if more
 /// follow.
+#[tactic(auto, using(crate::proofs::ShortExponentLemmas::short_counts))]
 #[inline(always)]
 fn put_pointed(line: &mut Line, digits: u64, zeros: usize)
     requires few { zeros ≤ 40 }
@@ -184,6 +191,7 @@ fn put_pointed(line: &mut Line, digits: u64, zeros: usize)
 }
 
 /// Writes what exponent form shows of a number.
+#[tactic(auto, using(crate::proofs::ShortExponentLemmas::tail_steps))]
 #[inline(always)]
 pub(crate) fn put_shown(line: &mut Line, upper: bool, shown: Shown)
     requires small { shown.exponent ≤ 20 }

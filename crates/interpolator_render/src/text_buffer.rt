@@ -43,6 +43,7 @@ impl Model for TextBuffer {
 
 impl TextBuffer {
     /// An empty buffer, which grows in `alloc`'s memory.
+    #[tactic(auto, using(crate::proofs::WrittenLemmas::empty_text))]
     pub fn new(alloc: Global) -> TextBuffer
         ensures { as_writer result ≡ record { text = []; refused = false } }
     {

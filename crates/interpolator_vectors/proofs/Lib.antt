@@ -1,1 +1,2 @@
+-- The lemmas of the tests.
 pub mod LimitLemmas

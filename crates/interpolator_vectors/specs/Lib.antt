@@ -1,1 +1,2 @@
+-- What the values of the tests show.
 pub mod Cells

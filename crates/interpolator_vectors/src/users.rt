@@ -3,7 +3,6 @@
 mod catalogue;
 mod cell;
 mod log;
-mod merge;
 mod record;
 
 use interpolator::{

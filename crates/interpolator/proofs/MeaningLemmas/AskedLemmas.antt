@@ -8,8 +8,8 @@ use Rattle.interpolator_render.specs.declared.view.Trait.{Trait}
 use Rattle.interpolator_render.specs.declared.view.Spec.{Spec}
 use Rattle.interpolator_render.specs.Views.{Shown}
 use Rattle.interpolator_render.specs.Written.{Written}
-use Rattle.interpolator.specs.Syntax.At.{At}
-use Rattle.interpolator.specs.Faults.{Answer}
+use Rattle.interpolator_syntax.specs.At.{At}
+use Rattle.interpolator_syntax.specs.Faults.{Answer}
 use Rattle.interpolator.specs.Trees.{Tree}
 use Rattle.interpolator.specs.Meaning.AskedNames.{asked_names, AgreeOn}
 use Rattle.interpolator.specs.Meaning.Environments.{Environment, is_among, within, inner_or, kept}

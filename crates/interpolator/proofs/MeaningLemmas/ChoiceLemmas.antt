@@ -1,33 +1,29 @@
 -- The items of a list that a range chooses.
-use Rattle.std.proofs.Common.{◌≡◌, ◌↔◌, refl, sym, ◌∙◌, ap, subst, arith, append_assoc, ℕ, ◌+◌, ◌-◌}
+use Rattle.std.proofs.Common.{◌≡◌, ◌↔◌, refl, sym, ◌∙◌, ap, arith, append_assoc, ℕ, ◌+◌, ◌-◌}
 use Rattle.std.proofs.Common.{◌<◌, ◌≤◌, min, List, ◌++◌, map, take, drop, length, Option, None}
 use Rattle.std.proofs.Common.{Some}
 use Rattle.std.proofs.lemmas.List.{drop-take, drop-map, take-map, length-map, take-append-drop}
 use Rattle.std.proofs.lemmas.List.{length-take-le, length-drop}
-use Rattle.interpolator.specs.declared.syntax.range.Range.{Range}
-use Rattle.interpolator.specs.Meaning.Choices.{chosen_places, items_between, chosen_items}
+use Rattle.interpolator_syntax.specs.declared.range.Range.{Range}
+use Rattle.interpolator.specs.Meaning.Choices.{chosen_places, chosen_items}
 
 -- the chosen places are in order, and lie in the list
-pub places_ordered : (n : ℕ) (range : Option Range)
-    → (chosen_places n range).0 ≤ (chosen_places n range).1
-places_ordered n None = omega arith
-places_ordered n (Some range) = omega arith
-
-places_inside : (n : ℕ) (range : Option Range) → (chosen_places n range).1 ≤ n
-places_inside n None = omega arith
-places_inside n (Some range) = omega arith
-
 pub in_order_and_inside : (n : ℕ) (range : Option Range)
     → ((chosen_places n range).0 ≤ (chosen_places n range).1) × ((chosen_places n range).1 ≤ n)
-in_order_and_inside n range = (places_ordered n range, places_inside n range)
+in_order_and_inside n None = (omega arith, omega arith)
+in_order_and_inside n (Some range) = (omega arith, omega arith)
+
+pub places_ordered : (n : ℕ) (range : Option Range)
+    → (chosen_places n range).0 ≤ (chosen_places n range).1
+places_ordered n range = (in_order_and_inside n range).0
 
 -- an index in a list of n items lies between places that are cut exactly where it lies between
 -- those that are not
 pub between_cut : (n k lower upper : ℕ) → k < n
     → ((min lower (min upper n) ≤ k) × (k < min upper n)) ↔ ((lower ≤ k) × (k < upper))
 between_cut n k lower upper h = (
-  λ both. let first = both.0 in let second = both.1 in (omega arith, omega arith),
-  λ both. let first = both.0 in let second = both.1 in (omega arith, omega arith),
+  λ both. (omega (arith, both.0, both.1), omega (arith, both.0, both.1)),
+  λ both. (omega (arith, both.0, both.1), omega (arith, both.0, both.1)),
 )
 
 -- where there is no such index, the places are one
@@ -41,16 +37,15 @@ pub between : {A : Type 0} (i j : ℕ) (xs : List A) → i ≤ j
     → take (j - i) (drop i xs) ≡ drop i (take j xs)
 between i j xs h =
     let e : i + (j - i) ≡ j = omega (arith, h) in
-    sym (subst (λ k. drop i (take k xs) ≡ take (j - i) (drop i xs)) e (drop-take i (j - i) xs))
+    rw e at (sym (drop-take i (j - i) xs))
 
 -- what the chosen items are mapped to are the chosen ones of what all are mapped to
 pub map-chosen : {A B : Type 0} (f : A → B) (range : Option Range) (xs : List A)
     → map f (chosen_items range xs) ≡ chosen_items range (map f xs)
 map-chosen f range xs =
     let places = chosen_places (length xs) range in
-    sym (drop-map f places.0 (take places.1 xs))
-    ∙ ap (drop places.0) (sym (take-map f places.1 xs))
-    ∙ ap (λ n. items_between (chosen_places n range) (map f xs)) (sym (length-map xs f))
+    let taken = take places.1 xs in
+    rw (length-map xs f, take-map f places.1 xs, drop-map f places.0 taken) refl
 
 -- a list is what stands before two places in it, between them and behind them
 split_at : {A : Type 0} (i j : ℕ) (xs : List A) → i ≤ j → j ≤ length xs
@@ -71,6 +66,6 @@ pub chosen_stand : {A : Type 0} (range : Option Range) (xs : List A)
     × (length front ≡ (chosen_places (length xs) range).0)
     × (length front + length (chosen_items range xs) ≡ (chosen_places (length xs) range).1)
 chosen_stand range xs =
-    let n = length xs in
-    let places = chosen_places n range in
-    split_at places.0 places.1 xs (places_ordered n range) (places_inside n range)
+    let places = chosen_places (length xs) range in
+    let lie = in_order_and_inside (length xs) range in
+    split_at places.0 places.1 xs lie.0 lie.1

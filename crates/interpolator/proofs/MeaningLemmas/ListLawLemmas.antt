@@ -1,22 +1,20 @@
 -- What a list argument means, in the words of the laws: its padding, its width, its faults.
-use Rattle.std.proofs.Common.{◌≡◌, ◌∙◌, ℕ, ◌+◌, ◌-◌, ◌≤◌, Bool, false, cond, List, [], ◌∷◌, ◌++◌}
+use Rattle.std.proofs.Common.{◌≡◌, ◌∙◌, ℕ, ◌+◌, ◌-◌, Bool, false, cond, List, [], ◌∷◌, ◌++◌}
 use Rattle.std.proofs.Common.{length, flat_map, append_assoc, arith, refl, ap, sym, ◌⊎◌, inl, inr}
 use Rattle.std.proofs.Common.{Option, Some, None}
 use Rattle.std.specs.Prelude.{is_some, max, replicate, unwrap_or}
-use Rattle.std.proofs.lemmas.List.{append-nil, length-append, length-map, length-replicate}
-use Rattle.std.proofs.lemmas.List.{replicate-append-replicate}
+use Rattle.std.proofs.lemmas.List.{append-nil, length-map, replicate-append-replicate}
+use Rattle.interpolator_render.proofs.LawLemmas.{padded_text_count}
+use Rattle.interpolator_render.proofs.NumberLemmas.{before_within}
 use Rattle.interpolator_render.specs.declared.view.Trait.{Trait}
 use Rattle.interpolator_render.specs.declared.view.Spec.{Spec}
-use Rattle.interpolator_render.specs.declared.view.Alignment.{Alignment}
-use Rattle.interpolator_render.specs.declared.view.Alignment.TheVariants.{Unset, Left, Center}
-use Rattle.interpolator_render.specs.declared.view.Alignment.TheVariants.{Right}
 use Rattle.interpolator_render.specs.Characters.{space}
 use Rattle.interpolator_render.specs.Padding.{missing_to, spaces_before, padded_text}
 use Rattle.interpolator_render.specs.Views.{Shown}
-use Rattle.interpolator.specs.Syntax.At.{Placed, placed_at, text_of}
-use Rattle.interpolator.specs.Syntax.Arguments.{Argument}
-use Rattle.interpolator.specs.Syntax.Lists.{ListAsked}
-use Rattle.interpolator.specs.Faults.{Fault, parse, iter}
+use Rattle.interpolator_syntax.specs.At.{Placed, placed_at, text_of}
+use Rattle.interpolator_syntax.specs.Arguments.{Argument}
+use Rattle.interpolator_syntax.specs.Lists.{ListAsked}
+use Rattle.interpolator_syntax.specs.Faults.{Fault, parse, iter}
 use Rattle.interpolator.specs.Trees.{Tree}
 use Rattle.interpolator.specs.Meaning.Choices.{chosen_items}
 use Rattle.interpolator.specs.Meaning.Environments.{Environment}
@@ -24,18 +22,9 @@ use Rattle.interpolator.specs.Meaning.ListArguments.{FindsList, AllFinish, joine
 use Rattle.interpolator.specs.Meaning.ListArguments.{in_item, in_join, written, unpadded}
 use Rattle.interpolator.specs.Meaning.Meanings.{Meaning, nothing, fault_alone, joined, items_behind}
 use Rattle.interpolator.specs.Meaning.Meanings.{forbids_list, made_whole, padded_list, items_mean}
-use Rattle.interpolator.specs.Meaning.Meanings.{item_means, join_means, list_means, kind_means}
-use Rattle.interpolator.specs.Meaning.Meanings.{found_means, means}
-use Rattle.interpolator.proofs.SyntaxLemmas.TestLemmas.{none_some}
+use Rattle.interpolator_syntax.proofs.TestLemmas.{none_some}
 
 -- ---- padding
-
--- the spaces before a text are some of those that it lacks
-before_within : (alignment : Alignment) (missing : ℕ) → spaces_before alignment missing 0 ≤ missing
-before_within Unset missing = omega arith
-before_within Left missing = omega arith
-before_within Center missing = omega arith
-before_within Right missing = omega arith
 
 -- an empty text, padded, is spaces alone
 padded_nothing : (spec : Spec) → padded_text spec [] ≡ replicate (unwrap_or spec.width 0) space
@@ -43,27 +32,9 @@ unfolding padded_text
 padded_nothing spec =
     let missing = missing_to spec 0 in
     let before = spaces_before spec.alignment missing 0 in
-    let within = before_within spec.alignment missing in
+    let within = before_within spec.alignment missing 0 (omega arith) in
     let all : before + (missing - before) ≡ unwrap_or spec.width 0 = omega (arith, within) in
     replicate-append-replicate before (missing - before) space ∙ ap (λ n. replicate n space) all
-
-length-padded :
-    (spec : Spec) (text : List ℕ)
-    → length (padded_text spec text) ≡ max (unwrap_or spec.width 0) (length text)
-unfolding padded_text
-length-padded spec text =
-    let missing = missing_to spec (length text) in
-    let before = spaces_before spec.alignment missing 0 in
-    let within = before_within spec.alignment missing in
-    let behind = replicate (missing - before) space in
-    omega (
-      arith,
-      within,
-      length-append (replicate before space) (text ++ behind),
-      length-append text behind,
-      length-replicate before space,
-      length-replicate (missing - before) space,
-    )
 
 -- no text, made whole or not, is the spaces of the width
 nothing_padded :
@@ -104,114 +75,85 @@ module _ {A : Type 0} (join : Meaning) (item : A → Meaning) where
   abbrev after_join : A → Placed
   after_join y = join.text ++ (item y).text
 
-  behind_finishes :
-      (xs : List A) → (items_behind join item xs).fault ≡ None
-      → AllFinish join item xs × ((items_behind join item xs).text ≡ flat_map after_join xs)
-  behind_finishes [] h = (tt, refl)
-  behind_finishes (y ∷ ys) h =
-      let rest = items_behind join item ys in
-      let first = joined_finishes join (joined (item y) rest) h in
-      let second = joined_finishes (item y) rest first.1 in
-      let further = behind_finishes ys second.1 in (
-        (second.0, further.0),
-        first.2
-            ∙ ap (λ xs. join.text ++ xs) (second.2 ∙ ap (λ xs. (item y).text ++ xs) further.1)
-            ∙ sym (append_assoc join.text (item y).text (flat_map after_join ys)),
+  -- the join and the texts of a list that is not empty
+  texts_behind :
+      (front : List A) (z : A)
+      → join.text ++ joined_texts join item (front ++ (z ∷ []))
+      ≡ flat_map after_join (front ++ (z ∷ []))
+  texts_behind [] z = sym (append_assoc join.text (item z).text [])
+  texts_behind (w ∷ front) z =
+      sym (append_assoc join.text (item w).text (flat_map after_join (front ++ (z ∷ []))))
+
+  abbrev Finishes : List A → Type 0
+  Finishes xs =
+      (items_mean join item xs).fault ≡ None
+      → AllFinish join item xs × ((items_mean join item xs).text ≡ joined_texts join item xs)
+
+  finish_behind : (x : A) (xs : List A) → Finishes xs → Finishes (x ∷ xs)
+  finish_behind x [] further h = let first = joined_finishes (item x) nothing h in
+      ((first.0, tt), first.2)
+  finish_behind x (y ∷ ys) further h =
+      let first = joined_finishes (item x) (items_behind join item (y ∷ ys)) h in
+      let second = joined_finishes join (items_mean join item (y ∷ ys)) first.1 in
+      let rest = further second.1 in (
+        (first.0, rest.0),
+        first.2 ∙ ap (λ text. (item x).text ++ text)
+            (second.2 ∙ ap (λ text. join.text ++ text) rest.1
+            ∙ sym (append_assoc join.text (item y).text (flat_map after_join ys))),
       )
 
   pub items_finish :
       (xs : List A) → (items_mean join item xs).fault ≡ None
       → AllFinish join item xs × ((items_mean join item xs).text ≡ joined_texts join item xs)
   items_finish [] h = (tt, refl)
-  items_finish (x ∷ xs) h =
-      let first = joined_finishes (item x) (items_behind join item xs) h in
-      let further = behind_finishes xs first.1 in (
-        (first.0, further.0),
-        first.2 ∙ ap (λ ys. (item x).text ++ ys) further.1,
-      )
+  items_finish (x ∷ xs) h = finish_behind x xs (items_finish xs) h
 
-  -- the first fault behind an item
-  data BehindFails (xs : List A) (f : Fault) (text : Placed) : Type 0 where
-    of_item :
-        (front : List A) (x : A) (back : List A) → xs ≡ front ++ (x ∷ back)
-        → AllFinish join item front → join.fault ≡ None → (item x).fault ≡ Some f
-        → text ≡ flat_map after_join (front ++ (x ∷ [])) → BehindFails xs f text
-    of_join :
-        (x : A) (back : List A) → xs ≡ x ∷ back → join.fault ≡ Some f → text ≡ join.text
-        → BehindFails xs f text
+  -- the first fault of some items
+  abbrev Fails : List A → Fault → Type 0
+  Fails xs f =
+      (items_mean join item xs).fault ≡ Some f
+      → FirstFault join item xs f (items_mean join item xs).text
 
-  alone : (y : A) → flat_map after_join (y ∷ []) ≡ join.text ++ (item y).text
-  alone y = append-nil (join.text ++ (item y).text)
+  module _ (x : A) (f : Fault) where
+    by_rest :
+        (xs : List A) (text : Placed) → (item x).fault ≡ None → join.fault ≡ None
+        → FirstFault join item xs f text
+        → FirstFault join item (x ∷ xs) f ((item x).text ++ (join.text ++ text))
+    by_rest xs text i j (in_item front z back split finish none fails is) =
+        in_item (x ∷ front) z back (ap (λ ys. x ∷ ys) split) (i, finish) (inr j) fails
+        (ap (λ ys. (item x).text ++ ys)
+        (ap (λ ys. join.text ++ ys) is ∙ texts_behind front z))
+    by_rest xs text i j (in_join z y back split none fails is) =
+        absurd (none_some (sym j ∙ fails))
 
-  -- the same of the items further on, where one of them has a fault
-  abbrev Further : List A → Fault → Type 0
-  Further xs f =
-      (items_behind join item xs).fault ≡ Some f → BehindFails xs f (items_behind join item xs).text
+    by_join :
+        (y : A) (ys : List A) (text rest : Placed) → (item x).fault ≡ None
+        → text ≡ (item x).text ++ rest → Fails (y ∷ ys) f
+        → FailsFirst join rest f ⊎ FailsSecond join (items_mean join item (y ∷ ys)) rest f
+        → FirstFault join item (x ∷ y ∷ ys) f text
+    by_join y ys text rest i t further (inl k) =
+        in_join x y ys refl i k.0 (t ∙ ap (λ xs. (item x).text ++ xs) k.1)
+    by_join y ys text rest i t further (inr k) =
+        rw (t, k.2) (by_rest (y ∷ ys) _ i k.0 (further k.1))
 
-  behind_fails :
-      (xs : List A) (f : Fault) → (items_behind join item xs).fault ≡ Some f
-      → BehindFails xs f (items_behind join item xs).text
-  behind_fails [] f h = absurd (none_some h)
-  behind_fails (y ∷ ys) f h =
-      by_join (behind_fails ys f) (joined_fails join (joined (item y) rest) f h)
-    where
-      rest : Meaning
-      rest = items_behind join item ys
-
-      text : Placed
-      text = (joined join (joined (item y) rest)).text
-
-      by_further : join.fault ≡ None → (item y).fault ≡ None
-          → text ≡ join.text ++ ((item y).text ++ rest.text)
-          → BehindFails ys f rest.text → BehindFails (y ∷ ys) f text
-      by_further j i t (of_item front x back split finish none fails is) =
-          of_item (y ∷ front) x back (ap (λ xs. y ∷ xs) split) (i, finish) none fails
-          (t ∙ ap (λ xs. join.text ++ ((item y).text ++ xs)) is
-          ∙ sym (append_assoc join.text (item y).text
-          (flat_map after_join (front ++ (x ∷ [])))))
-      by_further j i t (of_join x back split fails is) = absurd (none_some (sym j ∙ fails))
-
-      by_item : Further ys f → join.fault ≡ None → text ≡ join.text ++ (joined (item y) rest).text
-          → FailsFirst (item y) (joined (item y) rest).text f
-          ⊎ FailsSecond (item y) rest (joined (item y) rest).text f
-          → BehindFails (y ∷ ys) f text
-      by_item further j t (inl k) =
-          of_item [] y ys refl tt j k.0 (t ∙ ap (λ xs. join.text ++ xs) k.1 ∙ sym (alone y))
-      by_item further j t (inr k) =
-          by_further j k.0 (t ∙ ap (λ xs. join.text ++ xs) k.2) (further k.1)
-
-      by_join : Further ys f
-          → FailsFirst join text f ⊎ FailsSecond join (joined (item y) rest) text f
-          → BehindFails (y ∷ ys) f text
-      by_join further (inl k) = of_join y ys refl k.0 k.1
-      by_join further (inr k) = by_item further k.0 k.2 (joined_fails (item y) rest f k.1)
+    fail_behind :
+        (xs : List A) (text : Placed) → Fails xs f
+        → FailsFirst (item x) text f ⊎ FailsSecond (item x) (items_behind join item xs) text f
+        → FirstFault join item (x ∷ xs) f text
+    fail_behind xs text further (inl k) =
+        in_item [] x xs refl tt (inl refl) k.0 (k.1 ∙ sym (append-nil (item x).text))
+    fail_behind [] text further (inr k) = absurd (none_some k.1)
+    fail_behind (y ∷ ys) text further (inr k) =
+        by_join y ys text _ k.0 k.2 further
+        (joined_fails join (items_mean join item (y ∷ ys)) f k.1)
 
   pub items_fail :
       (xs : List A) (f : Fault) → (items_mean join item xs).fault ≡ Some f
       → FirstFault join item xs f (items_mean join item xs).text
   items_fail [] f h = absurd (none_some h)
-  items_fail (x ∷ xs) f h = by_first (joined_fails (item x) rest f h)
-    where
-      rest : Meaning
-      rest = items_behind join item xs
-
-      text : Placed
-      text = (joined (item x) rest).text
-
-      by_rest : (item x).fault ≡ None → text ≡ (item x).text ++ rest.text
-          → BehindFails xs f rest.text → FirstFault join item (x ∷ xs) f text
-      by_rest i t (of_item front y back split finish none fails is) =
-          in_item (x ∷ front) y back (ap (λ ys. x ∷ ys) split) (i, finish) (inr none) fails
-          (t ∙ ap (λ ys. (item x).text ++ ys) is)
-      by_rest i t (of_join y back split fails is) =
-          in_join x y back (ap (λ ys. x ∷ ys) split) i fails
-          (t ∙ ap (λ ys. (item x).text ++ ys) is)
-
-      by_first : FailsFirst (item x) text f ⊎ FailsSecond (item x) rest text f
-          → FirstFault join item (x ∷ xs) f text
-      by_first (inl k) =
-          in_item [] x xs refl tt (inl refl) k.0 (k.1 ∙ sym (append-nil (item x).text))
-      by_first (inr k) = by_rest k.0 k.2 (behind_fails xs f k.1)
+  items_fail (x ∷ xs) f h =
+      fail_behind x f xs _ (items_fail xs f)
+      (joined_fails (item x) (items_behind join item xs) f h)
 
 -- ---- list arguments
 
@@ -223,16 +165,17 @@ of_list_means spec q m =
 module _ {X : Type 0} (shows : X → Trait → Spec → Shown) (e : Environment X) (start q : ℕ)
     (x : Argument) (l : ListAsked) (ts : List (Tree X)) (f : FindsList e x l ts) where
   list_is : written shows e start x q ≡ of_list_means x.spec q (unpadded shows e l q ts)
-  list_is =
-      let run = means shows in
-      ap (found_means shows run e start x q) f.gives
-      ∙ ap (λ kind. kind_means shows run e kind x.spec q f.found) f.asked
-      ∙ ap (list_means shows run e l x.spec q) f.listed
+  list_is = rw (f.gives, f.asked, f.listed) refl
 
   -- a list without a fault is one that its spec allows
   allowed : (b : Bool) (m : Meaning) → (cond b (fault_alone (parse (iter q))) m).fault ≡ None
       → b ≡ false
   allowed b m h = grind arith
+
+  by_test : (b : Bool)
+      → (cond b (fault_alone (parse (iter q))) (padded_list x.spec q nothing)).fault
+      ≡ cond b (Some (parse (iter q))) None
+  by_test b = grind arith
 
   succeeds : (written shows e start x q).fault ≡ None → forbids_list x.spec ≡ false
   succeeds h =
@@ -247,9 +190,7 @@ module _ {X : Type 0} (shows : X → Trait → Spec → Shown) (e : Environment 
 
   module _ (none : chosen_items l.range ts ≡ []) where
     unpadded_is : unpadded shows e l q ts ≡ nothing
-    unpadded_is =
-        ap (items_mean (join_means shows (means shows) e l.join)
-        (item_means shows (means shows) e q l.item)) none
+    unpadded_is = rw none refl
 
     pub empty_text : (written shows e start x q).fault ≡ None
         → (written shows e start x q).text
@@ -264,11 +205,6 @@ module _ {X : Type 0} (shows : X → Trait → Spec → Shown) (e : Environment 
     empty_fault =
         ap (λ (m : Meaning). m.fault) (list_is ∙ ap (of_list_means x.spec q) unpadded_is)
         ∙ by_test (forbids_list x.spec)
-      where
-        by_test : (b : Bool)
-            → (cond b (fault_alone (parse (iter q))) (padded_list x.spec q nothing)).fault
-            ≡ cond b (Some (parse (iter q))) None
-        by_test b = grind arith
 
   -- ---- a width
 
@@ -299,9 +235,8 @@ module _ {X : Type 0} (shows : X → Trait → Spec → Shown) (e : Environment 
         let m = unpadded shows e l q ts in
         let cs = text_of m.text in
         ap length (wide_text h) ∙ length-map (padded_text x.spec cs) (λ c. (c, q))
-        ∙ length-padded x.spec cs
-        ∙ ap (λ (o : Option ℕ). max (unwrap_or o 0) (length cs)) wide
-        ∙ ap (max width) (length-map m.text (λ (w : ℕ × ℕ). w.0))
+        ∙ padded_text_count x.spec cs
+        ∙ rw (wide, length-map m.text (λ (w : ℕ × ℕ). w.0)) refl
 
     pub wide_fault : (d : Fault) → forbids_list x.spec ≡ false
         → (unpadded shows e l q ts).fault ≡ Some d

@@ -1,16 +1,16 @@
 -- Lists: how long their groups are, and what writing the items one behind the other leaves.
-use Rattle.std.proofs.Common.{◌≡◌, sym, ◌∙◌, ap, arith, ℕ, ◌+◌, ◌<◌, ◌≤◌, max, true, false, List}
-use Rattle.std.proofs.Common.{◌∷◌, map, drop, length, get_or, Option, None, Some, is_some, Ok}
+use Rattle.std.proofs.Common.{◌≡◌, refl, ◌∙◌, ap, arith, ℕ, ◌+◌, ◌<◌, ◌≤◌, max, Bool, false, cond}
+use Rattle.std.proofs.Common.{List, ◌∷◌, map, drop, length, get_or, Option, None, Some, is_some, Ok}
 use Rattle.std.proofs.lemmas.List.{drop_more, drop_all}
 use Rattle.interpolator_render.specs.declared.view.Spec.{Spec}
 use Rattle.interpolator_render.specs.declared.view.Trait.{Trait}
 use Rattle.interpolator_render.specs.Views.{Shown}
-use Rattle.interpolator.specs.Syntax.At.{At}
-use Rattle.interpolator.specs.Syntax.Groups.{Group}
-use Rattle.interpolator.specs.Syntax.Lists.{ListAsked}
-use Rattle.interpolator.specs.Syntax.SpecTexts.{Kind, of_value, of_list}
-use Rattle.interpolator.specs.Syntax.Arguments.{Argument, argument_at}
-use Rattle.interpolator.specs.Faults.{Answer}
+use Rattle.interpolator_syntax.specs.At.{At}
+use Rattle.interpolator_syntax.specs.Groups.{Group}
+use Rattle.interpolator_syntax.specs.Lists.{ListAsked}
+use Rattle.interpolator_syntax.specs.SpecTexts.{Kind, of_value, of_list}
+use Rattle.interpolator_syntax.specs.Arguments.{Argument, argument_at}
+use Rattle.interpolator_syntax.specs.Faults.{Answer}
 use Rattle.interpolator.specs.Trees.{Tree}
 use Rattle.interpolator.specs.Meaning.Choices.{chosen_items}
 use Rattle.interpolator.specs.Meaning.Environments.{Environment}
@@ -22,7 +22,7 @@ use Rattle.interpolator.specs.declared.meaning.sink.Sink as code_sink
 use Rattle.interpolator.proofs.MeaningLemmas.ChoiceLemmas.{map-chosen}
 use Rattle.interpolator.proofs.MeaningLemmas.SinkLemmas.{and_then, fault_first, nothing_done}
 use Rattle.interpolator.proofs.MeaningLemmas.SinkLemmas.{same_sink, same_then}
-use Rattle.interpolator.proofs.SyntaxLemmas.SizeLemmas.{GroupIfIn, KindIn, argument_in}
+use Rattle.interpolator_syntax.proofs.SizeLemmas.{GroupIfIn, KindIn, argument_in}
 use Rattle.interpolator_render.specs.Written.{Written}
 
 -- ---- how many characters a list's groups have
@@ -75,9 +75,7 @@ module _ {F X W : Type 0} (shows : X → Trait → Spec → Shown) (written : W 
   module _ (i : ℕ) (x : F) (h : i < length xs) (is : x ≡ get_or xs i x)
       (s t : code_sink.Sink W) where
     next_item : map tree (drop i xs) ≡ tree x ∷ map tree (drop (i + 1) xs)
-    next_item =
-        ap (map tree) (drop_more xs i x h)
-        ∙ ap (λ y. tree y ∷ map tree (drop (i + 1) xs)) (sym is)
+    next_item = rw (drop_more xs i x h, ← is) refl
 
     -- the join in front of an item ends the run
     pub join_fault : (q : Answer) → Writes written Join s t (Some q)
@@ -131,16 +129,10 @@ module _ {X : Type 0} (shows : X → Trait → Spec → Shown)
     same_items : map tree ys ≡ chosen_items l.range (map tree xs)
     same_items = ap (map tree) chosen ∙ map-chosen tree l.range xs
 
-    -- a list whose text is made whole
-    pub list_whole : is_some spec.width ≡ true
-        → Writes written (whole_means spec q (chosen_means shows run e l q (map tree ys))) s u r
+    -- under a width its text is made whole, and else written item by item
+    pub list_writes : (wide : Bool) → is_some spec.width ≡ wide
+        → (let all = chosen_means shows run e l q (map tree ys) in
+        Writes written (cond wide (whole_means spec q all) all) s u r)
         → Writes written (list_means shows run e l spec q (Some (map tree xs))) s u r
-    list_whole w o =
-        record { evaluates = rw (may, w, ← same_items) o.evaluates; same = o.same }
-
-    -- a list that is written item by item
-    pub list_plain : is_some spec.width ≡ false
-        → Writes written (chosen_means shows run e l q (map tree ys)) s u r
-        → Writes written (list_means shows run e l spec q (Some (map tree xs))) s u r
-    list_plain w o =
+    list_writes wide w o =
         record { evaluates = rw (may, w, ← same_items) o.evaluates; same = o.same }

@@ -1,5 +1,6 @@
 -- What a text means: what the scan hands on first, and then the rest.
-use Rattle.std.proofs.Common.{◌≡◌, ℕ, ◌+◌, ◌<◌, Bool, true, false, eqb, subst, List, [], ◌∷◌, map}
+use Rattle.std.proofs.Common.{◌≡◌, ℕ, ◌+◌, ◌<◌, ◌≤◌, Bool, true, false, eqb, subst, List, [], ◌∷◌}
+use Rattle.std.proofs.Common.{map}
 use Rattle.std.proofs.Common.{length, arith, refl, ap, ◌∙◌, sym, Option, Some, None, append_assoc}
 use Rattle.std.proofs.Common.{length-append}
 use Rattle.std.proofs.lemmas.List.{map-append}
@@ -7,22 +8,22 @@ use Rattle.std.specs.Char.{len_utf8}
 use Rattle.interpolator_render.specs.declared.view.Trait.{Trait}
 use Rattle.interpolator_render.specs.declared.view.Spec.{Spec}
 use Rattle.interpolator_render.specs.Views.{Shown}
-use Rattle.interpolator.specs.Syntax.At.{At, placed_from, size, strip}
-use Rattle.interpolator.specs.Syntax.Classes.{front_of, behind_of, in_class, is_brace, open_brace}
-use Rattle.interpolator.specs.Syntax.Classes.{close_brace}
+use Rattle.interpolator_syntax.specs.At.{At, placed_from, size, strip}
+use Rattle.interpolator_syntax.specs.Classes.{front_of, behind_of, in_class, is_brace, open_brace}
+use Rattle.interpolator_syntax.specs.Classes.{close_brace}
 use Rattle.interpolator.specs.Meaning.Environments.{Environment}
-use Rattle.interpolator.specs.Faults.{Fault}
-use Rattle.interpolator.specs.Syntax.Pieces.{Step, piece_from, past, pieces, open_step, close_step}
-use Rattle.interpolator.specs.Syntax.Pieces.{argument_from}
-use Rattle.interpolator.specs.Syntax.Tokens.{Token, first_token, past_token, open_scan, close_scan}
-use Rattle.interpolator.specs.Syntax.Tokens.{no_open_scan, scan_by}
+use Rattle.interpolator_syntax.specs.Faults.{Fault}
+use Rattle.interpolator_syntax.specs.Pieces.{Step, piece_from, past, open_step, close_step}
+use Rattle.interpolator_syntax.specs.Pieces.{argument_from}
+use Rattle.interpolator_syntax.specs.Tokens.{Token, first_token, past_token, open_scan, close_scan}
+use Rattle.interpolator_syntax.specs.Tokens.{no_open_scan, scan_by, argument}
 use Rattle.interpolator.specs.Meaning.Meanings.{Meaning, nothing, text_alone, or_fault, joined}
 use Rattle.interpolator.specs.Meaning.Meanings.{piece_means, pieces_mean, token_means, means}
-use Rattle.interpolator.specs.declared.syntax.class.Class.TheVariants.{Literal}
+use Rattle.interpolator_syntax.specs.declared.class.Class.TheVariants.{Literal}
 use Rattle.interpolator.proofs.MeaningLemmas.DepthLemmas.{means_pieces}
-use Rattle.interpolator.proofs.SyntaxLemmas.PieceLemmas.{behind_shorter, piece_begins, pieces_none}
-use Rattle.interpolator.proofs.SyntaxLemmas.PieceLemmas.{pieces_next, OptionWithin, strip_within}
-use Rattle.interpolator.proofs.SyntaxLemmas.PieceLemmas.{argument_from_within, literal_step}
+use Rattle.interpolator_syntax.proofs.PieceLemmas.{behind_shorter, piece_begins, pieces_none}
+use Rattle.interpolator_syntax.proofs.PieceLemmas.{pieces_next, OptionWithin, strip_within}
+use Rattle.interpolator_syntax.proofs.PieceLemmas.{argument_from_within, literal_step}
 use Rattle.std.proofs.lemmas.Bool.{cond_both}
 
 shift_twice : (a b : ℕ) (ns : List ℕ)
@@ -40,19 +41,8 @@ joined_assoc m k l = by_faults m.fault refl k.fault refl
     by_faults (Some f) e p d = rw e refl
     by_faults None e (Some f) d = rw d refl
     by_faults None e None d =
-        rw (
-          d,
-          append_assoc m.text k.text l.text,
-          length-append m.text k.text,
-          shift_twice
-              (length m.text) (length k.text) l.memory_points,
-          map-append
-              (λ n. length m.text + n) k.memory_points
-              (map (λ n. length k.text + n) l.memory_points),
-          append_assoc m.memory_points
-              (map (λ n. length m.text + n) k.memory_points) (map (λ n. length m.text + n)
-              (map (λ n. length k.text + n) l.memory_points)),
-        ) refl
+        let shift = shift_twice (length m.text) (length k.text) l.memory_points in
+        rw (d, append_assoc, append_assoc, length-append, shift, map-append) refl
 
 unmoved : (ns : List ℕ) → map (λ n. 0 + n) ns ≡ ns
 unmoved [] = refl
@@ -75,20 +65,15 @@ module _ {X : Type 0} (shows : X → Trait → Spec → Shown) (e : Environment 
       (means shows e (piece_from p c (past p c cs)).rest)
   means_next p c cs =
       let s = piece_from p c (past p c cs) in
-      let first = λ (q : ℕ). piece_means shows (means shows) e q s.piece.kind in
-      means_pieces shows e (record { place = p; text = c ∷ cs })
-      ∙ ap (pieces_mean shows (means shows) e) (pieces_next p c cs)
-      ∙ ap (λ q. joined (first q) (pieces_mean shows (means shows) e (pieces s.rest)))
-      (piece_begins p c (past p c cs))
-      ∙ ap (joined (first p)) (sym (means_pieces shows e s.rest))
+      let whole = means_pieces shows e (record { place = p; text = c ∷ cs }) in
+      let begins = piece_begins p c (past p c cs) in
+      rw (whole, pieces_next p c cs, begins, means_pieces shows e s.rest) refl
 
   literal_next : (p c : ℕ) (cs : List ℕ) → is_brace c ≡ false
       → means shows e (record { place = p; text = c ∷ cs })
       ≡ joined (text_alone ((c, p) ∷ [])) (means shows e (past p c cs))
   literal_next p c cs h =
-      means_next p c cs
-      ∙ ap (λ s. joined (piece_means shows (means shows) e p s.piece.kind) (means shows e s.rest))
-      (literal_step p c (past p c cs) h)
+      rw (literal_step p c (past p c cs) h) at (means_next p c cs)
 
   abbrev IsRun : ℕ → List ℕ → Type 0
   IsRun p cs =
@@ -117,26 +102,21 @@ module _ {X : Type 0} (shows : X → Trait → Spec → Shown) (e : Environment 
   means_literals p [] = let none : p + 0 ≡ p = omega arith in rw none (sym (joined_none _))
   means_literals p (c ∷ cs) = one_more p c cs (is_brace c) refl (means_literals (p + len_utf8 c) cs)
 
-  -- the argument behind a brace means the same wherever the brace stands
-  abbrev AnyPlace : (q p : ℕ) → Step → Step → Type 0
-  AnyPlace q p s t =
-      (piece_means shows (means shows) e q s.piece.kind
-      ≡ piece_means shows (means shows) e p t.piece.kind) × (s.rest ≡ t.rest)
-
-  any_place : (q p : ℕ) (b : At) → AnyPlace q p (argument_from q b) (argument_from p b)
-  unfolding argument_from
-  any_place q p b = grind arith
-
   abbrev Then : ℕ → Step → Meaning
   Then p s = joined (piece_means shows (means shows) e p s.piece.kind) (means shows e s.rest)
 
   abbrev ThenScanned : ℕ → Token × At → Meaning
   ThenScanned p x = joined (token_means shows e p x.0 x.1) (means shows e (past_token x.0 x.1))
 
+  -- the argument behind a brace means the same wherever the brace stands
+  argument_first : (p : ℕ) (b : At) → Then p (argument_from p b) ≡ ThenScanned p (argument, b)
+  unfolding argument_from
+  argument_first p b = grind arith
+
   opened : (p : ℕ) (b : At) (o : Option At)
       → Then p (open_step p b o) ≡ ThenScanned p (open_scan b o)
   opened p b (Some rest) = refl
-  opened p b None = let same = any_place p b.place b in rw (same.0, same.1) refl
+  opened p b None = argument_first p b
 
   closed_by : (p : ℕ) (b : At) (o : Option At)
       → Then p (close_step p b o) ≡ ThenScanned p (close_scan b o)
@@ -169,25 +149,20 @@ module _ {X : Type 0} (shows : X → Trait → Spec → Shown) (e : Environment 
   pub means_end : (a : At) → first_token a ≡ None → means shows e a ≡ nothing
   means_end a h = subst (Leads a) h (leads_at a.place a.text)
 
-literal_shorter : (c : ℕ) (cs : List ℕ) → is_brace c ≡ false
-    → length (behind_of (in_class Literal) (c ∷ cs)) < length (c ∷ cs)
-literal_shorter c cs h = rw h (omega (arith, behind_shorter (in_class Literal) cs))
-
--- what stands behind what the scan hands on, and what stands behind its argument too, has fewer
--- characters
+-- what stands behind what the scan hands on has fewer characters
 abbrev ScanShorter : ℕ → Option (Token × At) → Type 0
 ScanShorter n None = Unit {0}
-ScanShorter n (Some x) = (length x.1.text < n) × (length (past_token x.0 x.1).text < n)
+ScanShorter n (Some x) = length x.1.text < n
 
 open_shorter : (n : ℕ) (b : At) (o : Option At) → length b.text < n → OptionWithin (length b.text) o
     → ScanShorter n (Some (open_scan b o))
-open_shorter n b (Some rest) h k = let s : length rest.text < n = omega (arith, h, k) in (s, s)
-open_shorter n b None h k = (h, omega (arith, h, argument_from_within b.place b))
+open_shorter n b (Some rest) h k = omega (arith, h, k)
+open_shorter n b None h k = h
 
 close_shorter : (n : ℕ) (b : At) (o : Option At) → length b.text < n
     → OptionWithin (length b.text) o → ScanShorter n (Some (close_scan b o))
-close_shorter n b (Some rest) h k = let s : length rest.text < n = omega (arith, h, k) in (s, s)
-close_shorter n b None h k = (h, h)
+close_shorter n b (Some rest) h k = omega (arith, h, k)
+close_shorter n b None h k = h
 
 scan_shorter_at : (p : ℕ) (cs : List ℕ)
     → ScanShorter (length cs) (first_token (record { place = p; text = cs }))
@@ -202,14 +177,17 @@ scan_shorter_at p (c ∷ cs) =
     (λ e. open_shorter n b _ (omega arith) (behind open_brace))
     (λ e. cond_both (eqb c close_brace) _ _ (λ o. ScanShorter n (no_open_scan a o))
     (λ d. close_shorter n b _ (omega arith) (behind close_brace))
-    (λ d. let s = literal_shorter c cs (rw (e, d) refl) in (s, s)))
+    (λ d. rw (e, d) (omega (arith, behind_shorter (in_class Literal) cs))))
+
+pub token_shorter : (a : At) (x : Token × At) → first_token a ≡ Some x
+    → length x.1.text < length a.text
+token_shorter a x h = subst (ScanShorter (length a.text)) h (scan_shorter_at a.place a.text)
+
+-- what stands behind its argument has no more
+past_within : (x : Token) (b : At) → length (past_token x b).text ≤ length b.text
+past_within argument b = argument_from_within b.place b
+past_within x b = omega arith
 
 pub scan_shorter : (a rest : At) (x : Token × At) → first_token a ≡ Some x
     → rest ≡ past_token x.0 x.1 → length rest.text < length a.text
-scan_shorter a rest x h r =
-    rw r (subst (ScanShorter (length a.text)) h (scan_shorter_at a.place a.text)).1
-
--- what stands behind what the scan hands on has fewer characters
-pub token_shorter : (a : At) (x : Token × At) → first_token a ≡ Some x
-    → length x.1.text < length a.text
-token_shorter a x h = (subst (ScanShorter (length a.text)) h (scan_shorter_at a.place a.text)).0
+scan_shorter a rest x h r = rw r (omega (arith, token_shorter a x h, past_within x.0 x.1))

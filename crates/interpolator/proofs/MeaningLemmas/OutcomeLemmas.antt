@@ -1,5 +1,5 @@
 -- One outcome behind another.
-use Rattle.std.proofs.Common.{◌≡◌, refl, sym, ◌∙◌, ap, subst, ℕ, ◌+◌, List, [], ◌++◌, map, length}
+use Rattle.std.proofs.Common.{◌≡◌, refl, sym, ◌∙◌, ap, ◌+◌, List, ◌++◌, map, length}
 use Rattle.std.proofs.Common.{Option, None, Some, option_map, inl, inr, append_assoc, length-append}
 use Rattle.std.proofs.lemmas.List.{map-append, length-map}
 use Rattle.std.proofs.Math.ListN.{get_or-map}
@@ -7,8 +7,8 @@ use Rattle.std.proofs.lemmas.List.Elements.{Contains-append_left, Contains-appen
 use Rattle.std.specs.List.{Contains}
 use Rattle.interpolator_render.proofs.LayoutLemmas.{appends_both}
 use Rattle.interpolator_render.specs.Written.{Written}
-use Rattle.interpolator.specs.Syntax.At.{Placed, text_of}
-use Rattle.interpolator.specs.Faults.{Fault, Answer, fault}
+use Rattle.interpolator_syntax.specs.At.{Placed, text_of}
+use Rattle.interpolator_syntax.specs.Faults.{Fault, Answer, fault}
 use Rattle.interpolator.specs.Meaning.Meanings.{Meaning, or_fault, joined}
 use Rattle.interpolator.specs.Meaning.Outcomes.{Finished, Outcome}
 
@@ -47,15 +47,12 @@ after_finished m k old mid new answer h (inr (inl o)) = rw (no_fault m.fault h.t
       place = o.place;
       back = o.back;
       split = ap (λ l. m.text ++ l) o.split ∙ sym (append_assoc m.text o.front _);
-      appended = o.appended
-          ∙ (ap (λ (x : List ℕ). x ++ text_of o.front) h.all.appended
-          ∙ append_assoc old.text (text_of m.text) (text_of o.front))
-          ∙ ap (λ (x : List ℕ). old.text ++ x) (sym (text_of-append m.text o.front));
+      appended = rw (text_of-append m.text o.front, o.appended, h.all.appended)
+          (append_assoc old.text (text_of m.text) (text_of o.front));
       flag = o.flag;
-      none_after_refusal = λ r. let e : text_of m.text ≡ [] = h.all.only_empty r in
-          let d : text_of o.front ≡ [] =
-          o.none_after_refusal (h.all.same_flag ∙ r) in text_of-append m.text o.front
-          ∙ rw (e, d) refl;
+      none_after_refusal = λ r.
+          let none = o.none_after_refusal (h.all.same_flag ∙ r) in
+          rw (text_of-append m.text o.front, h.all.only_empty r) none;
       told = o.told;
     })))
 after_finished m k old mid new answer h (inr (inr o)) = rw (no_fault m.fault h.told)
@@ -63,9 +60,7 @@ after_finished m k old mid new answer h (inr (inr o)) = rw (no_fault m.fault h.t
       front = m.text ++ o.front;
       back = o.back;
       split = ap (λ l. m.text ++ l) o.split ∙ sym (append_assoc m.text o.front _);
-      point =
-          subst (λ n. Contains (m.memory_points ++ map (λ n. length m.text + n) k.memory_points) n)
-          (sym (length-append m.text o.front)) (Contains-append_right m.memory_points _ _
+      point = rw (length-append m.text o.front) (Contains-append_right m.memory_points _ _
           (Contains-map (λ n. length m.text + n) k.memory_points _ o.point));
       begun = rw (text_of-append m.text o.front) (appends_both old mid new _ _ h.all o.begun);
       told = o.told;

@@ -1,18 +1,18 @@
 -- What parts mean, one after the other, and what their joined text means.
-use Rattle.std.proofs.Common.{◌≡◌, ◌≢◌, ℕ, ◌+◌, Bool, true, false, cond, List, [], ◌∷◌, ◌++◌}
-use Rattle.std.proofs.Common.{length, arith, refl, ap, ◌∙◌, sym, subst, Option, Some, None}
-use Rattle.std.proofs.Common.{append_assoc, append-nil, codes, ◌<◌, suc, drop, get_or}
-use Rattle.std.proofs.Math.Seq.{drop-cons}
+use Rattle.std.proofs.Common.{◌≡◌, ◌≢◌, ℕ, ◌+◌, List, [], ◌∷◌, ◌++◌}
+use Rattle.std.proofs.Common.{length, arith, refl, ap, ◌∙◌, sym, Option, Some, None}
+use Rattle.std.proofs.Common.{append_assoc, append-nil, codes, ◌<◌, drop, get_or}
+use Rattle.std.proofs.lemmas.List.{drop_more}
 use Rattle.std.specs.Borrow.{Bor}
 use Rattle.std.specs.Str.{chars}
 use Rattle.interpolator_render.specs.declared.view.Trait.{Trait}
 use Rattle.interpolator_render.specs.declared.view.Spec.{Spec}
 use Rattle.interpolator_render.specs.Views.{Shown}
-use Rattle.interpolator.specs.Syntax.At.{At, Placed, size, outermost}
-use Rattle.interpolator.specs.Syntax.Pieces.{PieceKind, Piece, closed, unclosed, broken, pieces}
-use Rattle.interpolator.specs.Syntax.Seams.{ends_empty_spec, kind_ending, piece_ending, last_ending}
-use Rattle.interpolator.specs.Syntax.Seams.{ending}
-use Rattle.interpolator.specs.Faults.{Fault, Answer, parse, expected}
+use Rattle.interpolator_syntax.specs.At.{At, size, outermost}
+use Rattle.interpolator_syntax.specs.Pieces.{PieceKind, Piece, closed, unclosed, broken, pieces}
+use Rattle.interpolator.specs.Seams.{ends_empty_spec, kind_ending, piece_ending, last_ending}
+use Rattle.interpolator.specs.Seams.{ending}
+use Rattle.interpolator_syntax.specs.Faults.{Fault, Answer, parse, expected}
 use Rattle.interpolator.specs.Meaning.Environments.{Environment}
 use Rattle.interpolator.specs.Meaning.Meanings.{Meaning, nothing, fault_alone, or_fault, joined}
 use Rattle.interpolator.specs.Meaning.Meanings.{argument_means, piece_means, pieces_mean, means}
@@ -22,29 +22,22 @@ use Rattle.interpolator.specs.Meaning.Sinks.{SinkState, Evaluates, Writes, seen}
 use Rattle.interpolator.specs.declared.parts.Ending.{Ending}
 use Rattle.interpolator.specs.declared.parts.Ending.TheVariants.{Settled, EmptySpec, Open}
 use Rattle.interpolator.specs.declared.meaning.sink.Sink as code_sink
-use Rattle.interpolator.proofs.SyntaxLemmas.LocalityLemmas.{stands, size-append}
-use Rattle.interpolator.proofs.SyntaxLemmas.TestLemmas.{none_some}
-use Rattle.interpolator.proofs.SyntaxLemmas.PieceLemmas.{pieces_none}
-use Rattle.interpolator.proofs.SyntaxLemmas.SeamLemmas.{Leaves, pieces_append, both_close}
+use Rattle.interpolator_syntax.proofs.LocalityLemmas.{stands, size-append}
+use Rattle.interpolator_syntax.proofs.TestLemmas.{none_some, in_both}
+use Rattle.interpolator_syntax.proofs.PieceLemmas.{pieces_none}
+use Rattle.interpolator.proofs.SeamLemmas.{Leaves, pieces_append, both_close}
 use Rattle.interpolator.proofs.MeaningLemmas.DepthLemmas.{means_pieces}
 use Rattle.interpolator.proofs.MeaningLemmas.MeaningLemmas.{joined_assoc, means_none, joined_none}
 use Rattle.interpolator.proofs.MeaningLemmas.SinkLemmas.{and_then, fault_first, nothing_done}
 use Rattle.interpolator.proofs.MeaningLemmas.SinkLemmas.{same_sink}
 use Rattle.interpolator_render.specs.Written.{Written}
 
--- a meaning by its parts
-abbrev whole : Placed → List ℕ → Option Fault → Meaning
-whole text points o = record { text = text; fault = o; memory_points = points }
-
 nothing_last : (m : Meaning) → joined m nothing ≡ m
 nothing_last m = by_fault m.fault refl
   where
     by_fault : (o : Option Fault) → m.fault ≡ o → or_fault o m nothing ≡ m
     by_fault (Some f) e = refl
-    by_fault None e =
-        ap (λ (text : Placed). whole text (m.memory_points ++ []) None) (append-nil m.text)
-        ∙ ap (λ (points : List ℕ). whole m.text points None) (append-nil m.memory_points)
-        ∙ ap (λ (o : Option Fault). whole m.text m.memory_points o) (sym e)
+    by_fault None e = rw (append-nil m.text, append-nil m.memory_points, ← e) refl
 
 zero_and : (n : ℕ) → 0 + n ≡ n
 zero_and n = omega arith
@@ -55,9 +48,8 @@ module _ {X : Type 0} (shows : X → Trait → Spec → Shown) (e : Environment 
       (pieces_mean shows (means shows) e ys)
   pieces_mean_append [] ys = sym (joined_none (pieces_mean shows (means shows) e ys))
   pieces_mean_append (x ∷ xs) ys =
-      ap (joined (piece_means shows (means shows) e x.place x.kind)) (pieces_mean_append xs ys)
-      ∙ sym (joined_assoc (piece_means shows (means shows) e x.place x.kind)
-      (pieces_mean shows (means shows) e xs) (pieces_mean shows (means shows) e ys))
+      let first = piece_means shows (means shows) e x.place x.kind in
+      ap (joined first) (pieces_mean_append xs ys) ∙ sym (joined_assoc first _ _)
 
   -- what two texts mean, one behind the other
   means_both :
@@ -65,22 +57,17 @@ module _ {X : Type 0} (shows : X → Trait → Spec → Shown) (e : Environment 
       → means shows e (stands p (cs ++ more))
       ≡ joined (means shows e (stands p cs)) (means shows e (stands (p + size cs) more))
   means_both p cs more h =
-      let run = pieces_mean shows (means shows) e in
+      let at = means_pieces shows e in
       let a = stands p cs in
       let b = stands (p + size cs) more in
-      means_pieces shows e (stands p (cs ++ more))
-      ∙ ap run (pieces_append (length cs) p cs more (omega arith) h)
-      ∙ pieces_mean_append (pieces a) (pieces b)
-      ∙ ap (λ m. joined m (run (pieces b))) (sym (means_pieces shows e a))
-      ∙ ap (joined (means shows e a)) (sym (means_pieces shows e b))
+      let split = pieces_append (length cs) p cs more (omega arith) h in
+      rw (at (stands p (cs ++ more)), split, at a, at b) (pieces_mean_append (pieces a) (pieces b))
 
   means_next : (before part : List ℕ) → Leaves (ending (outermost before)) part
       → joined (means shows e (outermost before)) (means shows e (stands (size before) part))
       ≡ means shows e (outermost (before ++ part))
   means_next before part h =
-      ap (λ n. joined (means shows e (outermost before)) (means shows e (stands n part)))
-      (sym (zero_and (size before)))
-      ∙ sym (means_both 0 before part h)
+      rw zero_and at (sym (means_both 0 before part h))
 
   compose_behind :
       (before part : List ℕ) (parts : List (List ℕ)) → ending (outermost before) ≢ Open
@@ -88,37 +75,27 @@ module _ {X : Type 0} (shows : X → Trait → Spec → Shown) (e : Environment 
       → joined (means shows e (outermost before)) (parts_mean shows e (size before) (part ∷ parts))
       ≡ means shows e (outermost (before ++ joined_text (part ∷ parts)))
   compose_behind before part [] h clean close =
-      ap (joined (means shows e (outermost before)))
-      (nothing_last (means shows e (stands (size before) part)))
-      ∙ means_next before part (h, clean.0)
-      ∙ ap (λ cs. means shows e (outermost (before ++ cs))) (sym (append-nil part))
+      rw (nothing_last (means shows e (stands (size before) part)), append-nil part)
+      (means_next before part (h, clean.0))
   compose_behind before part (next ∷ parts) h clean close =
       let here = means shows e (stands (size before) part) in
       let there = size-append before part in
       let rest = λ (n : ℕ). parts_mean shows e n (next ∷ parts) in
-      let ends =
-      subst (λ n. ending (stands n part) ≢ Open) (sym (zero_and (size before))) close.0 in
-      let closes = both_close 0 before part (h, clean.0) ends in
+      let closes = both_close 0 before part (h, clean.0) (rw zero_and close.0) in
       let more =
-      compose_behind (before ++ part) next parts closes clean.1
-      (subst (λ n. FrontsClose n (next ∷ parts)) (sym there) close.1) in
+      compose_behind (before ++ part) next parts closes clean.1 (rw there close.1) in
       sym (joined_assoc (means shows e (outermost before)) here (rest (size before + size part)))
       ∙ ap (λ m. joined m (rest (size before + size part))) (means_next before part (h, clean.0))
-      ∙ ap (λ n. joined (means shows e (outermost (before ++ part))) (rest n)) (sym there)
-      ∙ more
-      ∙ ap (λ cs. means shows e (outermost cs)) (append_assoc before part
-      (joined_text (next ∷ parts)))
+      ∙ (rw (there, append_assoc) at more)
 
   -- clean parts mean what their joined text means
   pub parts_are_one : (parts : List (List ℕ)) → Clean parts → FrontsClose 0 parts
       → parts_mean shows e 0 parts ≡ means shows e (outermost (joined_text parts))
   parts_are_one [] clean close = sym (means_none shows e 0)
   parts_are_one (part ∷ parts) clean close =
-      let settled : ending (outermost []) ≢ Open =
-      subst (λ (d : Ending). d ≢ Open) (sym (ap (last_ending Settled) (pieces_none 0)))
-      (λ d. cc) in
-      sym (joined_none (parts_mean shows e 0 (part ∷ parts)))
-      ∙ ap (λ m. joined m (parts_mean shows e 0 (part ∷ parts))) (sym (means_none shows e 0))
+      let settled : ending (outermost []) ≢ Open = rw (pieces_none 0) (λ d. cc) in
+      let all = parts_mean shows e 0 (part ∷ parts) in
+      sym (joined_none all) ∙ ap (λ m. joined m all) (sym (means_none shows e 0))
       ∙ compose_behind [] part parts settled clean close
 
   -- ---- a text without fault
@@ -126,14 +103,11 @@ module _ {X : Type 0} (shows : X → Trait → Spec → Shown) (e : Environment 
   no_fault_first : (m k : Meaning) → (joined m k).fault ≡ None → (m.fault ≡ None) × (k.fault ≡ None)
   no_fault_first m k h = grind arith
 
-  closed_stays : (b : Bool) → cond b EmptySpec Settled ≢ Open
-  closed_stays true d = cc
-  closed_stays false d = cc
-
   piece_closes : (p : ℕ) (k : PieceKind) (text : List ℕ)
       → (piece_means shows (means shows) e p k).fault ≡ None
       → kind_ending k text ≢ Open
-  piece_closes p (closed start x q) text h = closed_stays (ends_empty_spec text)
+  piece_closes p (closed start x q) text h =
+      in_both (λ d. d ≢ Open) (ends_empty_spec text) EmptySpec Settled (λ d. cc) (λ d. cc)
   piece_closes p (unclosed start x q) text h =
       let parts =
       no_fault_first (argument_means shows (means shows) e start x q)
@@ -171,9 +145,7 @@ module _ {X : Type 0} (shows : X → Trait → Spec → Shown) (e : Environment 
           → Here None → Evaluates (parts_mean shows e q (texts_of behind)) (seen written t) u answer
           → Evaluates (parts_mean shows e p (texts_of parts)) (seen written s) u answer
       part_runs q u answer h o k =
-          rw split (and_then _ _ _ _ u answer o.evaluates
-          (subst (λ n. Evaluates (parts_mean shows e n (texts_of behind)) (seen written t) u answer)
-          h k))
+          rw (split, ← h) (and_then _ _ _ _ u answer o.evaluates k)
 
       pub part_faults : (w : Answer) → Here (Some w)
           → Writes written (parts_mean shows e p (texts_of parts)) s t (Some w)
@@ -191,7 +163,4 @@ part_at parts i = get_or parts i (record { ref_ptr = (0, 0); now = [] })
 -- the parts from an index on
 pub rest_at : (parts : List (Bor (List ℕ))) (i : ℕ) → i < length parts
     → drop i parts ≡ part_at parts i ∷ drop (i + 1) parts
-rest_at parts i within =
-    let next : suc i ≡ i + 1 = omega arith in
-    drop-cons parts i (record { ref_ptr = (0, 0); now = [] }) within
-    ∙ ap (λ (n : ℕ). part_at parts i ∷ drop n parts) next
+rest_at parts i within = drop_more parts i (record { ref_ptr = (0, 0); now = [] }) within

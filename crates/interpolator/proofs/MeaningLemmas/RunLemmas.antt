@@ -4,15 +4,15 @@ use Rattle.std.proofs.Common.{◌≡◌, refl, sym, Option, None, Some, Ok, Err,
 use Rattle.interpolator_render.specs.declared.view.Trait.{Trait}
 use Rattle.interpolator_render.specs.declared.view.Spec.{Spec}
 use Rattle.interpolator_render.specs.Views.{Shown}
-use Rattle.interpolator.specs.Syntax.Arguments.{Argument, argument_at}
-use Rattle.interpolator.specs.Syntax.At.{At, strip}
-use Rattle.interpolator.specs.Syntax.Classes.{close_brace}
+use Rattle.interpolator_syntax.specs.Arguments.{Argument, argument_at}
+use Rattle.interpolator_syntax.specs.At.{At, strip}
+use Rattle.interpolator_syntax.specs.Classes.{close_brace}
 use Rattle.interpolator.specs.Meaning.Environments.{Environment}
-use Rattle.interpolator.specs.Faults.{Fault, Answer, fault, parse, expected}
+use Rattle.interpolator_syntax.specs.Faults.{Fault, Answer, fault, parse, expected}
 use Rattle.interpolator.specs.Meaning.Meanings.{argument_means, argument_from_means, piece_means}
 use Rattle.interpolator.specs.Meaning.Meanings.{token_means, means}
-use Rattle.interpolator.specs.Syntax.Pieces.{argument_from, argument_step}
-use Rattle.interpolator.specs.Syntax.Tokens.{Token, first_token, past_token}
+use Rattle.interpolator_syntax.specs.Pieces.{argument_from, argument_step}
+use Rattle.interpolator_syntax.specs.Tokens.{Token, first_token, past_token}
 use Rattle.interpolator.specs.Meaning.Sinks.{SinkState, Evaluates, Writes, seen}
 use Rattle.interpolator.specs.declared.meaning.sink.Sink as code_sink
 use Rattle.interpolator.proofs.MeaningLemmas.SinkLemmas.{and_then, fault_first, nothing_done, ended}

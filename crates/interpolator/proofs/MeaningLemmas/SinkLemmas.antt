@@ -4,8 +4,8 @@ use Rattle.std.proofs.Common.{inl, inr, arith}
 use Rattle.interpolator_render.specs.declared.view.Spec.{Spec}
 use Rattle.interpolator_render.proofs.LayoutLemmas.{appends_none}
 use Rattle.interpolator_render.specs.Written.{Written}
-use Rattle.interpolator.specs.Syntax.At.{text_of}
-use Rattle.interpolator.specs.Faults.{Fault, Answer, fault, no_memory}
+use Rattle.interpolator_syntax.specs.At.{text_of}
+use Rattle.interpolator_syntax.specs.Faults.{Fault, Answer, fault, no_memory}
 use Rattle.interpolator.specs.Meaning.Meanings.{Meaning, nothing, fault_alone, made_whole, joined}
 use Rattle.interpolator.specs.Meaning.Outcomes.{Outcome}
 use Rattle.interpolator.specs.Meaning.Sinks.{SameSink, SinkState, sink_state, target, StaysBy}
@@ -33,8 +33,7 @@ pub and_then :
     → Evaluates k t u answer → Evaluates (joined m k) s u answer
 and_then m k s t u answer h o = record {
   outcome =
-      after_finished m k (target s) (target t) (target u) answer (finished_if_none m (target s)
-      (target t) h.outcome) o.outcome;
+      after_finished m k _ _ _ answer (finished_if_none m _ _ h.outcome) o.outcome;
   other = stays s.aside t.aside u.aside s.out t.out u.out h.other o.other;
 }
 
@@ -107,11 +106,6 @@ module _ (spec : Spec) (q : ℕ) where
       first_point None = (0, omega arith, refl)
       first_point (Some f) = (0, omega arith, refl)
 
-  -- a fault was found inside: nothing of it was written
-  fault_inside : (f : Fault) (cs : List ℕ) (s : SinkState)
-      → Evaluates (made_whole spec q (Some f) cs) s s (Some (fault f))
-  fault_inside f cs s = stops (made_whole spec q (Some f) cs) s (Some (fault f)) refl refl
-
   -- what was made goes to the buffer `now`, which was `empty`, and the writer stays
   module _ (m : Meaning) (out out' : Written) (empty now : Written) (aside : Option Written) where
     abbrev Whole : Meaning
@@ -131,7 +125,7 @@ module _ (spec : Spec) (q : ℕ) where
             → Evaluates (made_whole spec q o (text_of m.text)) (sink_state out aside)
             (sink_state out aside) (Some f)
         by_fault None d = absurd (cc)
-        by_fault (Some g) d = rw d (fault_inside g (text_of m.text) (sink_state out aside))
+        by_fault (Some g) d = stops _ _ _ refl d
 
         by_outcome : Outcome m empty now (Some f)
             → Evaluates Whole (sink_state out aside) (sink_state out aside) (Some f)

@@ -1,10 +1,10 @@
 -- The names that a text asks of its environment.
 use Rattle.std.specs.Prelude.{ℕ, zero, suc, ⊤, ◌≡◌, List, [], ◌∷◌, ◌++◌, length, Option, None, Some}
-use Rattle.interpolator.specs.Syntax.At.{At}
-use Rattle.interpolator.specs.Syntax.Groups.{Group}
-use Rattle.interpolator.specs.Syntax.SpecTexts.{Kind, of_value, of_list}
-use Rattle.interpolator.specs.Syntax.Arguments.{Argument}
-use Rattle.interpolator.specs.Syntax.Pieces.{Piece, PieceKind, closed, unclosed, pieces}
+use Rattle.interpolator_syntax.specs.At.{At}
+use Rattle.interpolator_syntax.specs.Groups.{Group}
+use Rattle.interpolator_syntax.specs.SpecTexts.{Kind, of_value, of_list}
+use Rattle.interpolator_syntax.specs.Arguments.{Argument}
+use Rattle.interpolator_syntax.specs.Pieces.{Piece, PieceKind, closed, unclosed, pieces}
 use Rattle.interpolator.specs.Meaning.Environments.{Environment, given}
 use Rattle.interpolator.specs.Meaning.Meanings.{inside}
 

@@ -1,7 +1,7 @@
 -- Which items of a list a range chooses.
 use Rattle.std.specs.Prelude.{ℕ, ℤ, pos, negsuc, suc, ◌+◌, ◌-◌, min, if◌then◌else◌}
 use Rattle.std.specs.Prelude.{List, length, take, drop, Option, None, Some}
-use Rattle.interpolator.specs.declared.syntax.range.Range.{Range}
+use Rattle.interpolator_syntax.specs.declared.range.Range.{Range}
 
 -- where a bound stands in a list of n items: below zero it counts from the list's end, and lies at
 -- its beginning where the list is too short

@@ -4,11 +4,11 @@ use Rattle.std.specs.Prelude.{◌≡◌, ℕ, ⊤, ◌⊎◌, List, [], ◌∷�
 use Rattle.interpolator_render.specs.declared.view.Trait.{Trait}
 use Rattle.interpolator_render.specs.declared.view.Spec.{Spec}
 use Rattle.interpolator_render.specs.Views.{Shown}
-use Rattle.interpolator.specs.Syntax.At.{Placed}
-use Rattle.interpolator.specs.Syntax.Lists.{ListAsked}
-use Rattle.interpolator.specs.Syntax.SpecTexts.{of_list}
-use Rattle.interpolator.specs.Syntax.Arguments.{Argument}
-use Rattle.interpolator.specs.Faults.{Fault}
+use Rattle.interpolator_syntax.specs.At.{Placed}
+use Rattle.interpolator_syntax.specs.Lists.{ListAsked}
+use Rattle.interpolator_syntax.specs.SpecTexts.{of_list}
+use Rattle.interpolator_syntax.specs.Arguments.{Argument}
+use Rattle.interpolator_syntax.specs.Faults.{Fault}
 use Rattle.interpolator.specs.Trees.{Tree, items}
 use Rattle.interpolator.specs.Meaning.Choices.{chosen_items}
 use Rattle.interpolator.specs.Meaning.Environments.{Environment, given}

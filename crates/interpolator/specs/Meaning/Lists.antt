@@ -1,12 +1,12 @@
 -- How a list is written, as the code has it.
 use Rattle.std.specs.Prelude.{ℕ, Option, None, option_map}
 use Rattle.interpolator_render.specs.declared.view.Spec.{Spec}
-use Rattle.interpolator.specs.Syntax.At.{text_of}
-use Rattle.interpolator.specs.Syntax.Groups.{group_of}
-use Rattle.interpolator.specs.Syntax.Lists.{ListAsked}
+use Rattle.interpolator_syntax.specs.At.{text_of}
+use Rattle.interpolator_syntax.specs.Groups.{group_of}
+use Rattle.interpolator_syntax.specs.Lists.{ListAsked}
 use Rattle.interpolator.specs.Meaning.Meanings.{Meaning, made_whole}
 use Rattle.interpolator.specs.declared.meaning.list.Groups.{Groups}
-use Rattle.interpolator.specs.declared.syntax.range.Range.{Range}
+use Rattle.interpolator_syntax.specs.declared.range.Range.{Range}
 
 -- a range and these texts, as an argument asks for them
 abbrev pub list_asked : Option Range → Groups → ListAsked

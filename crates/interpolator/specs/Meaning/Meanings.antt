@@ -9,17 +9,17 @@ use Rattle.interpolator_render.specs.declared.view.Spec.{Spec}
 use Rattle.interpolator_render.specs.Padding.{padded_text}
 use Rattle.interpolator_render.specs.Views.{Shown}
 use Rattle.interpolator_render.specs.Texts.{ViewText, has_text, has_no_text, has_failed, view_text}
-use Rattle.interpolator.specs.Syntax.At.{At, Placed, placed_at, placed_from, text_of}
-use Rattle.interpolator.specs.Syntax.Classes.{close_brace}
-use Rattle.interpolator.specs.Syntax.Groups.{Group}
-use Rattle.interpolator.specs.Syntax.Lists.{ListAsked}
-use Rattle.interpolator.specs.Syntax.SpecTexts.{Kind, of_value, of_list, plain_spec}
-use Rattle.interpolator.specs.Syntax.Arguments.{Argument}
-use Rattle.interpolator.specs.Syntax.Pieces.{Piece, PieceKind, literal, doubled, lone_close, closed}
-use Rattle.interpolator.specs.Syntax.Pieces.{unclosed, broken, argument_from, pieces}
-use Rattle.interpolator.specs.Syntax.Tokens.{Token, literals, brace, argument}
-use Rattle.interpolator.specs.Faults.{Fault, missing_value, missing_trait_impl, fmt, parse}
-use Rattle.interpolator.specs.Faults.{expected, iter}
+use Rattle.interpolator_syntax.specs.At.{At, Placed, placed_at, placed_from, text_of}
+use Rattle.interpolator_syntax.specs.Classes.{close_brace}
+use Rattle.interpolator_syntax.specs.Groups.{Group}
+use Rattle.interpolator_syntax.specs.Lists.{ListAsked}
+use Rattle.interpolator_syntax.specs.SpecTexts.{Kind, of_value, of_list, plain_spec}
+use Rattle.interpolator_syntax.specs.Arguments.{Argument}
+use Rattle.interpolator_syntax.specs.Pieces.{Piece, PieceKind, literal, doubled, lone_close, closed}
+use Rattle.interpolator_syntax.specs.Pieces.{unclosed, broken, argument_from, pieces}
+use Rattle.interpolator_syntax.specs.Tokens.{Token, literals, brace, argument}
+use Rattle.interpolator_syntax.specs.Faults.{Fault, missing_value, missing_trait_impl, fmt, parse}
+use Rattle.interpolator_syntax.specs.Faults.{expected, iter}
 use Rattle.interpolator.specs.Trees.{Tree, slots, items, slot_at}
 use Rattle.interpolator.specs.Meaning.Choices.{chosen_items}
 use Rattle.interpolator.specs.Meaning.Environments.{Environment, given, bind}

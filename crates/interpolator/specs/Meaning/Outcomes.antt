@@ -5,9 +5,9 @@ use Rattle.std.specs.Prelude.{string_bytes}
 use Rattle.std.specs.Str.{chars}
 use Rattle.std.specs.declared.string.String.{String}
 use Rattle.interpolator_render.specs.Written.{Written, Appends}
-use Rattle.interpolator.specs.declared.error.Error.{Error}
-use Rattle.interpolator.specs.Syntax.At.{Placed, text_of}
-use Rattle.interpolator.specs.Faults.{Answer, fault, no_memory, fmt, answer_of}
+use Rattle.interpolator_syntax.specs.declared.error.Error.{Error}
+use Rattle.interpolator_syntax.specs.At.{Placed, text_of}
+use Rattle.interpolator_syntax.specs.Faults.{Answer, fault, no_memory, fmt, answer_of}
 use Rattle.interpolator.specs.Meaning.Meanings.{Meaning}
 
 -- a writer before and after, and what was answered

@@ -5,9 +5,9 @@ use Rattle.std.specs.Borrow.{Bor}
 use Rattle.interpolator_render.specs.declared.view.Trait.{Trait}
 use Rattle.interpolator_render.specs.declared.view.Spec.{Spec}
 use Rattle.interpolator_render.specs.Views.{Shown}
-use Rattle.interpolator.specs.Syntax.At.{size}
-use Rattle.interpolator.specs.Syntax.Grammar.{from_place}
-use Rattle.interpolator.specs.Syntax.Seams.{ending, seam_of}
+use Rattle.interpolator_syntax.specs.At.{size}
+use Rattle.interpolator_syntax.specs.Grammar.{from_place}
+use Rattle.interpolator.specs.Seams.{ending, seam_of}
 use Rattle.interpolator.specs.Meaning.Environments.{Environment}
 use Rattle.interpolator.specs.Meaning.Meanings.{Meaning, nothing, joined, means}
 use Rattle.interpolator.specs.declared.parts.Ending.TheVariants.{Open}

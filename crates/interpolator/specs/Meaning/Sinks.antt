@@ -1,7 +1,7 @@
 -- What is written to a sink: a writer, or a buffer in its stead.
 use Rattle.std.specs.Prelude.{◌≡◌, Option, None, Some, option_map, ⊤}
 use Rattle.interpolator_render.specs.Written.{Written, as_writer}
-use Rattle.interpolator.specs.Faults.{Answer}
+use Rattle.interpolator_syntax.specs.Faults.{Answer}
 use Rattle.interpolator.specs.Meaning.Meanings.{Meaning}
 use Rattle.interpolator.specs.Meaning.Outcomes.{Outcome}
 use Rattle.interpolator.specs.declared.meaning.sink.Sink as code_sink

@@ -4,7 +4,7 @@ ghost use Rattle.std.specs.Prelude.{◌≡◌, ◌↔◌, ℕ, ◌+◌, ◌<◌,
 ghost use Rattle.std.specs.Prelude.{Option, None, Some};
 ghost use Rattle.interpolator.specs.Meaning.Choices.{lower_in, upper_in};
 ghost use Rattle.interpolator.specs.Meaning.Choices.{chosen_places, chosen_items};
-ghost use Rattle.interpolator.specs.declared.syntax.range.Range.{Range};
+ghost use Rattle.interpolator_syntax.specs.declared.range.Range.{Range};
 
 /// An index of a list is chosen exactly where it is not below the lower bound and is below the
 /// upper one, as both read in this list: a bound below zero counts from the list's end and lies at

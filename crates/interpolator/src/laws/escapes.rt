@@ -1,8 +1,8 @@
 //! Laws of formats that say a text alone, each the contract of a small function.
 
 ghost use Rattle.std.specs.Prelude.{List, ℕ};
-ghost use Rattle.interpolator.specs.Syntax.At.{At, outermost};
-ghost use Rattle.interpolator.specs.Syntax.Pieces.{pieces};
+ghost use Rattle.interpolator_syntax.specs.At.{At, outermost};
+ghost use Rattle.interpolator_syntax.specs.Pieces.{pieces};
 ghost use Rattle.interpolator.specs.Meaning.Environments.{Environment};
 ghost use Rattle.interpolator.specs.Meaning.Meanings.{means};
 ghost use Rattle.interpolator.specs.Escaping.{braces_doubled, ArePlain, SaysAlone};

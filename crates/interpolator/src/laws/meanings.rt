@@ -4,10 +4,10 @@ ghost use Rattle.std.specs.Prelude.{◌≡◌, ℕ, List, [], None, Some, false,
 ghost use Rattle.std.specs.Prelude.{length, max, replicate, unwrap_or};
 ghost use Rattle.interpolator_render.specs.Characters.{space};
 ghost use Rattle.interpolator_render.specs.Padding.{padded_text};
-ghost use Rattle.interpolator.specs.Syntax.At.{placed_at, text_of};
-ghost use Rattle.interpolator.specs.Syntax.Arguments.{Argument};
-ghost use Rattle.interpolator.specs.Syntax.Lists.{ListAsked};
-ghost use Rattle.interpolator.specs.Faults.{Fault, parse, iter};
+ghost use Rattle.interpolator_syntax.specs.At.{placed_at, text_of};
+ghost use Rattle.interpolator_syntax.specs.Arguments.{Argument};
+ghost use Rattle.interpolator_syntax.specs.Lists.{ListAsked};
+ghost use Rattle.interpolator_syntax.specs.Faults.{Fault, parse, iter};
 ghost use Rattle.interpolator.specs.Trees.{Tree};
 ghost use Rattle.interpolator.specs.Meaning.Choices.{chosen_items};
 ghost use Rattle.interpolator.specs.Meaning.Environments.{Environment};

@@ -1,7 +1,7 @@
 //! Laws of the names that a format asks, each the contract of a small function.
 
 ghost use Rattle.std.specs.Prelude.{◌≡◌};
-ghost use Rattle.interpolator.specs.Syntax.At.{At};
+ghost use Rattle.interpolator_syntax.specs.At.{At};
 ghost use Rattle.interpolator.specs.Meaning.AskedNames.{asked_names, AgreeOn};
 ghost use Rattle.interpolator.specs.Meaning.Environments.{Environment, cut};
 ghost use Rattle.interpolator.specs.Meaning.Meanings.{means};

@@ -2,13 +2,13 @@
 
 ghost use Rattle.std.specs.Prelude.{◌≡◌, ◌≢◌, ℕ, ◌+◌, ◌++◌, List, [], ◌∷◌, IsTrue, IsFalse};
 ghost use Rattle.std.specs.Prelude.{Ok, None, codes};
-ghost use Rattle.interpolator.specs.Syntax.At.{At, size, outermost};
-ghost use Rattle.interpolator.specs.Syntax.Classes.{close_brace};
-ghost use Rattle.interpolator.specs.Syntax.Arguments.{Argument, argument_at};
-ghost use Rattle.interpolator.specs.Syntax.SpecTexts.{begins_alignment};
-ghost use Rattle.interpolator.specs.Syntax.Grammar.{from_place};
-ghost use Rattle.interpolator.specs.Syntax.Pieces.{pieces};
-ghost use Rattle.interpolator.specs.Syntax.Seams.{ends_empty_spec, ending, may_follow, seam_of};
+ghost use Rattle.interpolator_syntax.specs.At.{At, size, outermost};
+ghost use Rattle.interpolator_syntax.specs.Classes.{close_brace};
+ghost use Rattle.interpolator_syntax.specs.Arguments.{Argument, argument_at};
+ghost use Rattle.interpolator_syntax.specs.SpecTexts.{begins_alignment};
+ghost use Rattle.interpolator_syntax.specs.Grammar.{from_place};
+ghost use Rattle.interpolator_syntax.specs.Pieces.{pieces};
+ghost use Rattle.interpolator.specs.Seams.{ends_empty_spec, ending, may_follow, seam_of};
 ghost use Rattle.interpolator.specs.Meaning.Environments.{Environment};
 ghost use Rattle.interpolator.specs.Meaning.Meanings.{means};
 ghost use Rattle.interpolator.specs.Meaning.Parts.{joined_text, parts_mean, Clean, FrontsClose};

@@ -1,32 +1,30 @@
 //! Writes what the pieces of a text mean, up to the first fault.
 ghost use Rattle.std.specs.Prelude.{◌≡◌, IfOk, None, Some, map, option_map};
-ghost use Rattle.interpolator.specs.Syntax.At.{at};
-ghost use Rattle.interpolator.specs.Syntax.Arguments.{argument_of, kind_of};
-ghost use Rattle.interpolator.specs.Syntax.Groups.{group_of};
-ghost use Rattle.interpolator.specs.Faults.{answered};
+ghost use Rattle.interpolator_syntax.specs.At.{at};
+ghost use Rattle.interpolator_syntax.specs.Arguments.{argument_of, kind_of, argument_at};
+ghost use Rattle.interpolator_syntax.specs.Arguments.{argument_behind, plain_argument};
+ghost use Rattle.interpolator_syntax.specs.Groups.{group_of};
+ghost use Rattle.interpolator_syntax.specs.Faults.{answered};
 ghost use Rattle.interpolator.specs.Meaning.Meanings.{means, argument_means, argument_from_means};
 ghost use Rattle.interpolator.specs.Meaning.Meanings.{token_means, kind_means, list_means};
 ghost use Rattle.interpolator.specs.Meaning.Meanings.{chosen_means, item_means, join_means};
 ghost use Rattle.interpolator.specs.Meaning.Lists.{list_asked, all_asked, whole_means};
-ghost use Rattle.interpolator.specs.Syntax.Pieces.{argument_from};
-ghost use Rattle.interpolator.specs.Syntax.Tokens.{token_of, past_token, RunFits};
+ghost use Rattle.interpolator_syntax.specs.Pieces.{argument_from};
+ghost use Rattle.interpolator_syntax.specs.Tokens.{token_of, past_token, RunFits};
 ghost use Rattle.interpolator.specs.Meaning.Scopes.{environment_of};
 ghost use Rattle.interpolator.specs.Meaning.Sinks.{Writes};
 ghost use Rattle.interpolator.specs.Trees.{tree_of};
 
 use crate::context::Context;
-use crate::error::{Error, ParseError};
 use crate::meaning::list::{Groups, choose, forbids_list, inside};
 use crate::meaning::scope::{Scope, missing_name};
 use crate::meaning::sink::Sink;
 use crate::slots::Formattable;
-use crate::syntax::argument::{Argument, Kind, take_argument};
-use crate::syntax::broken::error_of;
-use crate::syntax::cursor::Cursor;
-use crate::syntax::group::Group;
-use crate::syntax::piece::{Piece, next_piece};
-use crate::syntax::range::Range;
 use interpolator_render::{Spec, TextBuffer, TextWrite, Trait};
+use interpolator_syntax::{
+    Argument, Cursor, Error, Group, Kind, Named, ParseError, Piece, Range, error_of, next_piece,
+    plain, take_asked, take_name,
+};
 use std::alloc::Global;
 
 /// Writes one item of a list whose argument's spec ends at `place`.
@@ -228,8 +226,40 @@ fn write_value<'a, W: TextWrite, C: Context>(
     }
 }
 
+/// Writes what the argument means that begins here, and has that name and something behind it.
+/// Returns what stands behind its closing brace.
+#[cycle(evaluate)]
+#[inline(always)]
+fn write_asked<'t, 'a, W: TextWrite, C: Context>(
+    alloc: Global,
+    sink: &mut Sink<'_, W>,
+    here: Cursor<'t>,
+    named: Named<'t>,
+    scope: &Scope<'a, C, C::Object>,
+) -> Result<Cursor<'t>, Error>
+    requires named { argument_at (at here)
+        ≡ argument_behind here.place (plain_argument named) (at named.end) }
+    ensures writes { Writes W.written
+        (argument_from_means C.Object.shows (environment_of C.finds scope.now) (at here.entry))
+        sink.old sink.new (answered result) }
+    ensures rest { IfOk result (λ r. at r ≡ (argument_from here.entry.place (at here.entry)).rest) }
+{
+    let mut end = here;
+    let mut argument = plain(named);
+    match take_asked(here, named, &mut end, &mut argument) {
+        Ok(()) => {}
+        Err(broken) => return Err(error_of(broken)),
+    }
+    write_value(alloc, sink, here.place, &argument, end.place, scope)?;
+    match end.strip(b'}') {
+        Some(behind) => Ok(behind),
+        None => Err(Error::Parse(ParseError::Expected("}", end.place))),
+    }
+}
+
 /// Writes what the argument means that begins here, behind its brace. Returns what stands behind
-/// its closing brace.
+/// its closing brace. A name alone is told apart, since the compiler then knows what is asked of
+/// it.
 #[cycle(evaluate)]
 #[inline(always)]
 fn write_argument<'t, 'a, W: TextWrite, C: Context>(
@@ -243,17 +273,13 @@ fn write_argument<'t, 'a, W: TextWrite, C: Context>(
         sink.old sink.new (answered result) }
     ensures rest { IfOk result (λ r. at r ≡ (argument_from here.entry.place (at here.entry)).rest) }
 {
-    let mut end = here;
-    let mut argument = Argument::unnamed();
-    match take_argument(&mut end, &mut argument) {
-        Ok(()) => {}
-        Err(broken) => return Err(error_of(broken)),
+    let named = take_name(here);
+    if let Some(behind) = named.end.strip(b'}') {
+        let alone = plain(named);
+        write_value(alloc, sink, here.place, &alone, named.end.place, scope)?;
+        return Ok(behind);
     }
-    write_value(alloc, sink, here.place, &argument, end.place, scope)?;
-    match end.strip(b'}') {
-        Some(behind) => Ok(behind),
-        None => Err(Error::Parse(ParseError::Expected("}", end.place))),
-    }
+    write_asked(alloc, sink, here, named, scope)
 }
 
 /// Writes what a piece at a place means, behind which stands `rest`. Returns what stands behind it

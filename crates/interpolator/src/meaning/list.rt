@@ -1,14 +1,12 @@
 //! Lists: which of their items are written, and what a spec may ask of them.
 ghost use Rattle.std.specs.Prelude.{◌≡◌};
-ghost use Rattle.interpolator.specs.Syntax.At.{at};
-ghost use Rattle.interpolator.specs.Syntax.Groups.{group_of};
+ghost use Rattle.interpolator_syntax.specs.At.{at};
+ghost use Rattle.interpolator_syntax.specs.Groups.{group_of};
 ghost use Rattle.interpolator.specs.Meaning.Choices.{bound_in, chosen_places, chosen_items};
 ghost use Rattle.interpolator.specs.Meaning.Meanings.{has_sign, forbids_list, inside};
 
-use crate::syntax::cursor::Cursor;
-use crate::syntax::group::Group;
-use crate::syntax::range::Range;
 use interpolator_render::{Sign, Spec};
+use interpolator_syntax::{Cursor, Group, Range};
 
 /// The texts by which a list is written.
 #[derive(Clone, Copy)]

@@ -1,14 +1,14 @@
 //! What names mean while a format is written.
 ghost use Rattle.std.specs.Prelude.{◌≡◌, ◌⊎◌, Some, MatchOption, option_map};
 ghost use Rattle.std.specs.Str.{chars};
-ghost use Rattle.interpolator.specs.Faults.{answer_of, fault, missing_value, no_memory};
+ghost use Rattle.interpolator_syntax.specs.Faults.{answer_of, fault, missing_value, no_memory};
 ghost use Rattle.interpolator.specs.Trees.{tree_of};
 ghost use Rattle.interpolator.specs.Meaning.Environments.{environment, bind, given};
 ghost use Rattle.interpolator.specs.Meaning.Scopes.{environment_of};
 
 use crate::context::Context;
-use crate::error::Error;
 use crate::slots::Formattable;
+use interpolator_syntax::Error;
 use std::alloc::{AllocError, Global};
 
 /// A context, and at most one inner value, which has the empty name.

@@ -5,16 +5,16 @@ ghost use Rattle.std.specs.Option.{option_copied};
 ghost use Rattle.interpolator_render.specs.Views.{IsInRange, shown_by};
 ghost use Rattle.interpolator_render.specs.Padding.{padded_text};
 ghost use Rattle.interpolator_render.specs.Texts.{view_text};
-ghost use Rattle.interpolator.specs.Syntax.At.{placed_at, placed_from};
-ghost use Rattle.interpolator.specs.Faults.{answered};
+ghost use Rattle.interpolator_syntax.specs.At.{placed_at, placed_from};
+ghost use Rattle.interpolator_syntax.specs.Faults.{answered};
 ghost use Rattle.interpolator.specs.Meaning.Meanings.{text_alone, view_means, value_means};
 ghost use Rattle.interpolator.specs.Meaning.Outcomes.{Outcome};
 ghost use Rattle.interpolator.specs.Meaning.Sinks.{Writes};
 
-use crate::error::Error;
 use interpolator_render::{
     RenderFault, Spec, TextBuffer, TextWrite, Trait, Value, View, pad, render,
 };
+use interpolator_syntax::Error;
 use std::fmt;
 
 /// Writes one character of the format.

@@ -1,40 +1,33 @@
 use Rattle.std.proofs.Common.{sym}
-use Rattle.interpolator.specs.Syntax.At.{at}
-use Rattle.interpolator.specs.Syntax.Arguments.{argument_of}
-use Rattle.interpolator.proofs.SyntaxLemmas.ReaderLemmas.{argument_takes}
-use Rattle.interpolator.proofs.SyntaxLemmas.EndingLemmas.{closed_ends, closed_behind, unclosed_ends}
-use Rattle.interpolator.proofs.SyntaxLemmas.EndingLemmas.{unclosed_behind, broken_ends}
-use Rattle.interpolator.proofs.SyntaxLemmas.EndingLemmas.{broken_behind}
+use Rattle.interpolator_syntax.specs.At.{at}
+use Rattle.interpolator_syntax.proofs.ReaderLemmas.{argument_takes}
+use Rattle.interpolator.proofs.EndingLemmas.{closed_ends, closed_behind, unclosed_ends}
+use Rattle.interpolator.proofs.EndingLemmas.{unclosed_behind, broken_ends}
+use Rattle.interpolator.proofs.EndingLemmas.{broken_behind}
 use Rattle.interpolator.proofs.parts.argument_ending.Goals as goal
 
 pub closed_ending-requires : goal.closed_ending-requires
 closed_ending-requires c =
-    let front =
-    argument_takes (at c.args.here) (argument_of c.take_argument.new.argument)
-    (at c.take_argument.new.here) (sym c.in-Ok.ensures.read) in
+    let front = argument_takes (at c.args.here) _ _ (sym c.in-Ok.ensures.read) in
     (front.front, front.split)
 
 pub returns-in-Some-clause-ending : goal.returns-in-Some-clause-ending
 returns-in-Some-clause-ending c =
-    closed_ends (at c.args.here) (argument_of c.take_argument.new.argument)
-    (at c.take_argument.new.here) (sym c.in-Ok.ensures.read) (at c.in-Some.behind) _
+    closed_ends (at c.args.here) _ _ (sym c.in-Ok.ensures.read) (at c.in-Some.behind) _
     (sym c.in-Some.ensures) c.closed_ending.ensures
 
 pub returns-in-Some-clause-rest : goal.returns-in-Some-clause-rest
 returns-in-Some-clause-rest c =
-    closed_behind (at c.args.here) (argument_of c.take_argument.new.argument)
-    (at c.take_argument.new.here) (sym c.in-Ok.ensures.read) (at c.in-Some.behind)
+    closed_behind (at c.args.here) _ _ (sym c.in-Ok.ensures.read) (at c.in-Some.behind)
     (sym c.in-Some.ensures)
 
 pub returns-in-None-clause-ending : goal.returns-in-None-clause-ending
 returns-in-None-clause-ending c =
-    unclosed_ends (at c.args.here) (argument_of c.take_argument.new.argument)
-    (at c.take_argument.new.here) (sym c.in-Ok.ensures.read) (sym c.in-None.ensures)
+    unclosed_ends (at c.args.here) _ _ (sym c.in-Ok.ensures.read) (sym c.in-None.ensures)
 
 pub returns-in-None-clause-rest : goal.returns-in-None-clause-rest
 returns-in-None-clause-rest c =
-    unclosed_behind (at c.args.here) (argument_of c.take_argument.new.argument)
-    (at c.take_argument.new.here) (sym c.in-Ok.ensures.read) c.args.here.place
+    unclosed_behind (at c.args.here) _ _ (sym c.in-Ok.ensures.read) c.args.here.place
     (sym c.in-None.ensures)
 
 pub returns-in-Err-clause-ending : goal.returns-in-Err-clause-ending

@@ -1,7 +1,7 @@
 use Rattle.std.proofs.Common.{◌≡◌, length}
-use Rattle.interpolator.specs.Syntax.At.{at}
-use Rattle.interpolator.specs.Syntax.Pieces.{pieces}
-use Rattle.interpolator.specs.Syntax.Seams.{ending, last_ending}
+use Rattle.interpolator_syntax.specs.At.{at}
+use Rattle.interpolator_syntax.specs.Pieces.{pieces}
+use Rattle.interpolator.specs.Seams.{ending, last_ending}
 use Rattle.interpolator.proofs.parts.ending_of.Given as goal
 
 -- how the rest ends, behind what was read, is how the whole text ends

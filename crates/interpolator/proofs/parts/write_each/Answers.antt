@@ -1,8 +1,7 @@
-use Rattle.std.proofs.Common.{◌+◌, length, drop, ap, arith, Some}
+use Rattle.std.proofs.Common.{◌+◌, length, ap, arith, Some}
 use Rattle.std.proofs.lemmas.List.{drop_all}
-use Rattle.interpolator.specs.Faults.{answer_of}
+use Rattle.interpolator_syntax.specs.Faults.{answer_of}
 use Rattle.interpolator.specs.Meaning.Parts.{bytes_of}
-use Rattle.interpolator.specs.Meaning.Scopes.{environment_of}
 use Rattle.interpolator.proofs.MeaningLemmas.SinkLemmas.{same_then, goes_on}
 use Rattle.interpolator.proofs.MeaningLemmas.PlaceLemmas.{lies_in_more}
 use Rattle.interpolator.proofs.MeaningLemmas.PartLemmas.{part_runs, part_faults, no_parts_run}
@@ -22,9 +21,7 @@ returns-in-Err g c =
     record {
       writes =
           goes_on _ _ _ _ _ _ _ c.loop-part.invariant.so_far c.loop-part.invariant.same
-          (part_faults g.C.Object.Value.shows (environment_of g.C.Context.finds c.args.scope.now) _
-          c.loop-part.place (drop i parts) (part_at parts i) (drop (i + 1) parts) split _ _ _
-          c.in-Err.ensures.writes);
+          (part_faults _ _ _ _ _ _ _ split _ _ _ c.in-Err.ensures.writes);
       place =
           lies_in_more (c.loop-part.place + length (part_at parts i).now) (bytes_of parts)
           (Some (answer_of c.in-Err.fault))
@@ -33,15 +30,12 @@ returns-in-Err g c =
 
 pub loop-part-preserved : goal.loop-part-preserved
 loop-part-preserved g c =
-    let parts = c.args.parts.now in
-    let i = c.loop-part.part-index in
-    let split = rest_at parts i c.loop-part-test.true in
+    let split = rest_at c.args.parts.now c.loop-part.part-index c.loop-part-test.true in
     record {
       so_far =
-          λ new answer o. c.loop-part.invariant.so_far new answer (part_runs
-          g.C.Object.Value.shows (environment_of g.C.Context.finds c.args.scope.now) _
-          c.loop-part.place (drop i parts) (part_at parts i) (drop (i + 1) parts) split _ _ _ _ _
-          c.in-Ok.ensures.behind c.in-Ok.ensures.writes o);
+          λ new answer o. c.loop-part.invariant.so_far new answer
+          (part_runs _ _ _ _ _ _ _ split _ _ _ _ _ c.in-Ok.ensures.behind c.in-Ok.ensures.writes
+          o);
       same = same_then _ _ _ c.loop-part.invariant.same c.in-Ok.ensures.writes.same;
       fits = omega (arith, ap bytes_of split, c.loop-part.invariant.fits, c.in-Ok.ensures.bytes);
     }
@@ -50,8 +44,7 @@ pub returns : goal.returns
 returns g c = record {
   writes =
       goes_on _ _ _ _ _ _ _ c.loop-part.invariant.so_far c.loop-part.invariant.same
-      (no_parts_run g.C.Object.Value.shows (environment_of g.C.Context.finds c.args.scope.now) _
-      c.loop-part.place (drop c.loop-part.part-index c.args.parts.now) _
+      (no_parts_run _ _ _ _ _ _
       (drop_all c.loop-part.part-index c.args.parts.now c.loop-part-test.false));
   place = tt;
 }

@@ -1,5 +1,5 @@
 use Rattle.std.proofs.Common.{◌≡◌, ◌+◌, drop, Option}
-use Rattle.interpolator.specs.Faults.{Answer}
+use Rattle.interpolator_syntax.specs.Faults.{Answer}
 use Rattle.interpolator.specs.Meaning.Parts.{texts_of, bytes_of, parts_mean}
 use Rattle.interpolator.specs.Meaning.Scopes.{environment_of}
 use Rattle.interpolator.specs.Meaning.Sinks.{SinkState, Evaluates, SameSink, seen}

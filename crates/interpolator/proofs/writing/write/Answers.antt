@@ -1,18 +1,18 @@
-use Rattle.std.proofs.Common.{rules}
+use Rattle.std.proofs.Common.{arith, length, rules}
 use Rattle.std.specs.Str.{chars}
-use Rattle.interpolator.specs.Syntax.At.{outermost}
+use Rattle.interpolator_syntax.specs.At.{outermost}
 use Rattle.interpolator.specs.Meaning.Environments.{environment}
-use Rattle.interpolator.proofs.SyntaxLemmas.CharacterLemmas.{size-chars}
+use Rattle.interpolator_syntax.proofs.CharacterLemmas.{size-chars}
 use Rattle.interpolator.proofs.MeaningLemmas.AskedLemmas.{asked_outcome}
 use Rattle.interpolator.proofs.MeaningLemmas.SinkLemmas.{at_out}
-use Rattle.interpolator.proofs.MeaningLemmas.PlaceLemmas.{outcome_lies}
+use Rattle.interpolator.proofs.MeaningLemmas.PlaceLemmas.{outcome_lies_from}
 use Rattle.interpolator.proofs.writing.write.Goals as goal
 
 pub returns-clause-place : goal.returns-clause-place
 returns-clause-place g c =
-    outcome_lies g.C.Object.Value.shows (environment (g.C.Context.finds c.args.context.now))
-    (chars c.args.format.now) _ _ _ _
-    (size-chars c.args.format.now c.utf8.format)
+    outcome_lies_from g.C.Object.Value.shows (environment (g.C.Context.finds c.args.context.now)) 0
+    (chars c.args.format.now) (length c.args.format.now) _ _ _
+    (omega (arith, size-chars c.args.format.now c.utf8.format))
     (at_out _ _ _ _ _ (rw c.outermost.ensures at c.write_text-answer.ensures.writes.evaluates))
 
 pub returns-clause-asked : goal.returns-clause-asked

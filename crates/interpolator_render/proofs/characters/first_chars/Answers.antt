@@ -1,9 +1,8 @@
-use Rattle.std.proofs.lemmas.List.{take_all}
-use Rattle.std.proofs.Common.{arith, sym, take, ℕ, List, slice_range, ◌≡◌}
-use Rattle.std.specs.Str.{chars}
+use Rattle.std.proofs.Common.{arith, sym, ◌≡◌, take_all, chars}
 use Rattle.interpolator_render.proofs.CharacterLemmas.{walked_none, walked_more, walked_end}
 use Rattle.interpolator_render.proofs.CharacterLemmas.{walked_boundary, walked_all, walked_count}
 use Rattle.interpolator_render.proofs.characters.first_chars.Goals as goal
+use Rattle.std.proofs.lemmas.Slice.{between_from_start}
 
 pub walk-init : goal.walk-init
 walk-init c = rw c.chars-rest.ensures.rest (walked_none c.args.text.now c.utf8.text)
@@ -15,17 +14,14 @@ walk-preserved c = walked_more _ _ _ c.walk.done c.in-Some.field-0 c.in-Some.ens
 pub range-requires-clause-end_boundary : goal.range-requires-clause-end_boundary
 range-requires-clause-end_boundary c = rw c.as_str.ensures (walked_boundary _ _ _ c.walk.invariant)
 
-from_start : (text : List ℕ) (n : ℕ) → slice_range text 0 n ≡ take n text
-from_start text n = grind arith
-
 pub returns-clause-text : goal.returns-clause-text
 returns-clause-text c = let e : c.walk.done ≡ c.args.count = omega arith in
-    rw (c.range.ensures.value, from_start, c.as_str.ensures)
+    rw (c.range.ensures.value, between_from_start, c.as_str.ensures)
     (walked_end _ _ c.args.count (rw e at c.walk.invariant))
 
 pub returns-clause-count : goal.returns-clause-count
 returns-clause-count c = let e : c.walk.done ≡ c.args.count = omega arith in
-    rw (c.range.ensures.value, from_start, c.as_str.ensures)
+    rw (c.range.ensures.value, between_from_start, c.as_str.ensures)
     (sym (walked_count _ _ c.args.count (rw e at c.walk.invariant)))
 
 pub returns-in_default-clause-text : goal.returns-in_default-clause-text

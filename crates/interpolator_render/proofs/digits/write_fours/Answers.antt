@@ -2,20 +2,6 @@ use Rattle.std.proofs.Common.{◌∙◌, ◌-◌, arith}
 use Rattle.interpolator_render.proofs.DigitLemmas.{four_count, take_less}
 use Rattle.interpolator_render.proofs.digits.write_fours.Goals as goal
 
-pub write_last_four-rest-requires-clause-room : goal.write_last_four-rest-requires-clause-room
-write_last_four-rest-requires-clause-room c =
-    let begins = c.loop-rest.invariant.begins in
-    let four = four_count c.args.base c.loop-rest.rest c.args.upper c.requires.lowest
-    c.loop-rest-test.true in
-    omega arith
-
-pub overflow_sub-at : goal.overflow_sub-at
-overflow_sub-at c =
-    let begins = c.loop-rest.invariant.begins in
-    let four = four_count c.args.base c.loop-rest.rest c.args.upper c.requires.lowest
-    c.loop-rest-test.true in
-    omega arith
-
 pub loop-rest-preserved : goal.loop-rest-preserved
 loop-rest-preserved c =
     let l = c.loop-rest in

@@ -1,9 +1,6 @@
 use Rattle.std.proofs.Common.{◌∙◌, arith}
-use Rattle.interpolator_render.proofs.DigitLemmas.{low_begins, low_written, take_less}
+use Rattle.interpolator_render.proofs.DigitLemmas.{low_written, take_less}
 use Rattle.interpolator_render.proofs.digits.write_low.Goals as goal
-
-pub write_ones-requires-clause-room : goal.write_ones-requires-clause-room
-write_ones-requires-clause-room c = let begins = c.write_fours-at.ensures.begins in omega arith
 
 pub returns-clause-leads : goal.returns-clause-leads
 returns-clause-leads c = let many = c.write_fours-at in let ones = c.write_ones in
@@ -16,12 +13,6 @@ returns-clause-written c = let many = c.write_fours-at in let ones = c.write_one
     (low_written c.args.base c.args.n many.result.1 _ many.result.0 c.args.end c.args.upper _
     many.new.out
     c.args.out.now c.requires.lowest ones.ensures.leads ones.ensures.written many.ensures.written).1
-
-pub returns-clause-begins : goal.returns-clause-begins
-returns-clause-begins c = let many = c.write_fours-at in let ones = c.write_ones in
-    low_begins c.args.base c.args.n many.result.1 ones.result.0 many.result.0 c.args.end
-    c.args.upper c.requires.lowest
-    ones.ensures.begins many.ensures.begins
 
 pub returns-clause-front : goal.returns-clause-front
 returns-clause-front c =

@@ -1,9 +1,6 @@
 use Rattle.std.proofs.Common.{◌∙◌, false, arith}
-use Rattle.interpolator_render.proofs.DigitLemmas.{low_begins, low_written, take_less}
+use Rattle.interpolator_render.proofs.DigitLemmas.{low_written, take_less}
 use Rattle.interpolator_render.proofs.digits.write_low_decimal.Goals as goal
-
-pub write_ones-requires-clause-room : goal.write_ones-requires-clause-room
-write_ones-requires-clause-room c = let begins = c.write_pairs-at.ensures.begins in omega arith
 
 pub returns-clause-leads : goal.returns-clause-leads
 returns-clause-leads c = let many = c.write_pairs-at in let ones = c.write_ones in
@@ -14,11 +11,6 @@ pub returns-clause-written : goal.returns-clause-written
 returns-clause-written c = let many = c.write_pairs-at in let ones = c.write_ones in
     (low_written 10 c.args.n many.result.1 _ many.result.0 c.args.end false _ many.new.out
     c.args.out.now (omega arith) ones.ensures.leads ones.ensures.written many.ensures.written).1
-
-pub returns-clause-begins : goal.returns-clause-begins
-returns-clause-begins c = let many = c.write_pairs-at in let ones = c.write_ones in
-    low_begins 10 c.args.n many.result.1 ones.result.0 many.result.0 c.args.end false (omega arith)
-    ones.ensures.begins many.ensures.begins
 
 pub returns-clause-front : goal.returns-clause-front
 returns-clause-front c =

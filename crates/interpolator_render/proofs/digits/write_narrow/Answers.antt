@@ -3,13 +3,6 @@ use Rattle.std.proofs.lemmas.Int.Digits.{length-digits_of_step}
 use Rattle.interpolator_render.proofs.DigitLemmas.{one_digit_more}
 use Rattle.interpolator_render.proofs.digits.write_narrow.Goals as goal
 
-pub overflow_sub-at : goal.overflow_sub-at
-overflow_sub-at c = omega (
-  arith,
-  length-digits_of_step c.args.base c.loop-rest.rest
-      c.requires.lowest (omega arith),
-)
-
 pub loop-rest-preserved : goal.loop-rest-preserved
 loop-rest-preserved c =
     let l = c.loop-rest in

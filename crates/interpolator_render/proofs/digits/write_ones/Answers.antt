@@ -1,24 +1,10 @@
-use Rattle.std.proofs.Common.{◌≡◌, ◌∙◌, ◌<◌, ◌≤◌, ◌-◌, Bool, length, drop, ◌++◌, List, ℕ, ◌∷◌, ap}
+use Rattle.std.proofs.Common.{◌≡◌, ◌∙◌, ◌<◌, ◌≤◌, ◌-◌, Bool, drop, ◌++◌, List, ℕ, ◌∷◌}
 use Rattle.std.proofs.Common.{arith}
 use Rattle.std.specs.Fmt.{digit_glyph}
 use Rattle.interpolator_render.specs.Digits.{digit_text}
 use Rattle.interpolator_render.proofs.DigitLemmas.{digit_text_some, digit_count_step}
 use Rattle.interpolator_render.proofs.DigitLemmas.{digit_text_one, led, take_less}
 use Rattle.interpolator_render.proofs.digits.write_ones.Goals as goal
-
-pub write_last-rest-requires-clause-room : goal.write_last-rest-requires-clause-room
-write_last-rest-requires-clause-room c =
-    let begins = c.loop-rest.invariant.begins in
-    let step = digit_count_step c.args.base c.loop-rest.rest c.args.upper c.requires.lowest
-    c.loop-rest-test.true in
-    omega arith
-
-pub overflow_sub-at : goal.overflow_sub-at
-overflow_sub-at c =
-    let begins = c.loop-rest.invariant.begins in
-    let step = digit_count_step c.args.base c.loop-rest.rest c.args.upper c.requires.lowest
-    c.loop-rest-test.true in
-    omega arith
 
 pub loop-rest-preserved : goal.loop-rest-preserved
 loop-rest-preserved c =
@@ -54,10 +40,3 @@ pub returns-clause-written : goal.returns-clause-written
 returns-clause-written c = let l = c.loop-rest in
     (one_left c.args.base c.args.n l.rest l.at c.args.end c.args.upper l.out c.args.out.now
     c.requires.lowest (omega arith) l.invariant.written).1
-
-pub returns-clause-begins : goal.returns-clause-begins
-returns-clause-begins c =
-    let one = ap length (digit_text_one c.args.base c.loop-rest.rest c.args.upper c.requires.lowest
-    (omega arith)) in
-    let all = ap length (returns-clause-leads c) in
-    omega arith

@@ -15,13 +15,6 @@ loop-rest-init c = record {
       ++ x) (nothing_behind c.args.out.now 128 c.told-out) ∙ append-nil _;
 }
 
-pub overflow_sub-at : goal.overflow_sub-at
-overflow_sub-at c = omega (
-  arith,
-  length-digits_of_step c.args.base c.loop-rest.rest
-      c.requires.lowest (omega arith),
-)
-
 pub loop-rest-preserved : goal.loop-rest-preserved
 loop-rest-preserved c =
     let l = c.loop-rest in

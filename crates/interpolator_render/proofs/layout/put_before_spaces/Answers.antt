@@ -1,8 +1,6 @@
-use Rattle.std.proofs.Common.{◌≡◌, ◌-◌, ◌^◌, min, arith, replicate}
-use Rattle.std.specs.Str.{chars}
+use Rattle.std.proofs.Common.{◌≡◌, ◌-◌, ◌^◌, min, arith, replicate, chars}
 use Rattle.interpolator_render.specs.Written.{byte_count}
-use Rattle.interpolator_render.proofs.LayoutLemmas.{refuses_in_first}
-use Rattle.interpolator_render.proofs.LayoutLemmas.{refuses_in_second}
+use Rattle.interpolator_render.proofs.LayoutLemmas.{refuses_in_first, refuses_in_second}
 use Rattle.interpolator_render.proofs.layout.put_before_spaces.Goals as goal
 
 pub returns-in-Err : goal.returns-in-Err

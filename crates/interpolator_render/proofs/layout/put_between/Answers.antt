@@ -1,8 +1,7 @@
-use Rattle.std.proofs.Common.{◌≡◌, ◌-◌, ◌^◌, ◌++◌, min, arith, replicate}
-use Rattle.std.specs.Str.{chars}
+use Rattle.std.proofs.Common.{◌≡◌, ◌-◌, ◌^◌, ◌++◌, min, arith, replicate, chars}
 use Rattle.interpolator_render.specs.Written.{byte_count}
-use Rattle.interpolator_render.proofs.LayoutLemmas.{byte_count-replicate}
-use Rattle.interpolator_render.proofs.LayoutLemmas.{refuses_in_first, refuses_in_second}
+use Rattle.interpolator_render.proofs.LayoutLemmas.{bytes_of_copies, refuses_in_first}
+use Rattle.interpolator_render.proofs.LayoutLemmas.{refuses_in_second}
 use Rattle.interpolator_render.proofs.layout.put_between.Goals as goal
 
 pub returns-in-Err : goal.returns-in-Err
@@ -11,7 +10,7 @@ returns-in-Err g c = refuses_in_first _ _ (replicate c.args.before 32)
 
 pub returns-in-Err-put_before_spaces : goal.returns-in-Err-put_before_spaces
 returns-in-Err-put_before_spaces g c =
-    let size = byte_count-replicate c.args.before 32 (omega arith) in
+    let size = bytes_of_copies c.args.before 32 (omega arith) in
     let done : c.args.before ≡ min (byte_count (replicate c.args.before 32)) (2 ^ 64 - 1)
     = omega (arith, size) in
     refuses_in_second _ _ _ (replicate c.args.before 32)

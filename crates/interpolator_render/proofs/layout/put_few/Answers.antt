@@ -2,7 +2,7 @@ use Rattle.std.proofs.Common.{arith, ◌≡◌, ◌≤◌, slice_range, replicat
 use Rattle.std.proofs.lemmas.List.{take-replicate, length-replicate}
 use Rattle.std.proofs.lemmas.Str.{IsCharBoundary-from_ascii}
 use Rattle.interpolator_render.proofs.LayoutLemmas.{puts_from_write, IsAscii-replicate}
-use Rattle.interpolator_render.proofs.LayoutLemmas.{chars-replicate, byte_count-replicate}
+use Rattle.interpolator_render.proofs.LayoutLemmas.{chars-replicate, bytes_of_copies}
 use Rattle.interpolator_render.proofs.layout.put_few.Goals as goal
 
 pub range-requires-clause-end_boundary : goal.range-requires-clause-end_boundary
@@ -17,6 +17,6 @@ pub returns : goal.returns
 returns g c =
     let same : c.range.result.now ≡ replicate c.args.count c.args.c = c.range.ensures.value
     ∙ rw c.requires.run (first_copies c.args.count c.args.c c.requires.few) in
-    let n = byte_count-replicate c.args.count c.args.c c.requires.ascii in
+    let n = bytes_of_copies c.args.count c.args.c c.requires.ascii in
     puts_from_write _ _ _ _ (omega arith)
     (rw (same, chars-replicate c.args.count c.args.c c.requires.ascii) at c.write_str.ensures)

@@ -3,15 +3,14 @@ use Rattle.interpolator_render.proofs.LayoutLemmas.{parts_append, parts_stop, pa
 use Rattle.interpolator_render.proofs.layout.put_parts.Goals as goal
 
 pub returns-in-Err : goal.returns-in-Err
-returns-in-Err g c = parts_stop part_text _ _ _ c.args.parts.now c.loop-part.part-index _
-    c.loop-part.done c.in-Err.refusal.taken _ c.loop-part-test.true
-    c.loop-part.invariant.1 c.saturating_add-taken.ensures c.loop-part.invariant.0 c.in-Err.ensures
+returns-in-Err g c = let l = c.loop-part in
+    parts_stop part_text _ _ _ c.args.parts.now l.part-index _ l.done c.in-Err.refusal.taken _
+    c.loop-part-test.true l.invariant.1 c.saturating_add-taken.ensures l.invariant.0
+    c.in-Err.ensures
 
 pub loop-part-preserved : goal.loop-part-preserved
-loop-part-preserved g c = (
-  parts_append part_text _ _ _ c.args.parts.now c.loop-part.part-index _ c.loop-part-test.true
-      c.loop-part.invariant.0 c.in_default.ensures,
-  parts_count part_text c.args.parts.now c.loop-part.part-index _ c.loop-part.done c.len.result _
-      c.loop-part-test.true
-      c.loop-part.invariant.1 c.len.ensures c.saturating_add-done.ensures,
-)
+loop-part-preserved g c = let l = c.loop-part in let within = c.loop-part-test.true in
+    let more = parts_append part_text _ _ _ c.args.parts.now l.part-index _ within l.invariant.0
+    c.in_default.ensures in
+    let count = parts_count part_text c.args.parts.now l.part-index _ l.done c.len.result _ within
+    l.invariant.1 c.len.ensures c.saturating_add-done.ensures in (more, count)

@@ -8,8 +8,6 @@ returns-in-Err g c = copies_stop _ _ _ c.args.count c.loop-left.left c.min-now.r
     c.loop-left.invariant.0 (omega arith) (search rules) c.loop-left.invariant.1 c.in-Err.ensures
 
 pub loop-left-preserved : goal.loop-left-preserved
-loop-left-preserved g c = (
-  omega arith,
-  copies_more _ _ _ c.args.count c.loop-left.left c.min-now.result c.args.c (omega arith)
-      c.loop-left.invariant.0 c.loop-left.invariant.1 c.in_default.ensures,
-)
+loop-left-preserved g c = let l = c.loop-left in
+    let more = copies_more _ _ _ c.args.count l.left c.min-now.result c.args.c (omega arith)
+    l.invariant.0 l.invariant.1 c.in_default.ensures in (omega arith, more)

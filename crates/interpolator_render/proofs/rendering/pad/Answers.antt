@@ -1,10 +1,8 @@
-use Rattle.interpolator_render.specs.Padding.{padded_text}
+use Rattle.std.specs.Str.{chars}
+use Rattle.interpolator_render.proofs.RenderingLemmas.{displayed_as_it_is}
 use Rattle.interpolator_render.proofs.rendering.pad.Goals as goal
 
-pub returns : goal.returns
-unfolding padded_text
-returns g c = rw (
-  c.spaces_before-before.ensures.before,
-  c.cut-missing.ensures.missing,
-  c.cut-missing.ensures.text,
-) at c.put_between.ensures
+pub returns-in-None-None : goal.returns-in-None-None
+returns-in-None-None g c =
+    rw (displayed_as_it_is c.args.spec.now (chars c.args.text.now) c.in-None-None.is-1
+    c.in-None-None.is-0) c.put_text.ensures

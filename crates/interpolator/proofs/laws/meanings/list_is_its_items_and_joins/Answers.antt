@@ -5,13 +5,11 @@ use Rattle.interpolator.proofs.laws.meanings.list_is_its_items_and_joins.Goals a
 
 pub returns-clause-text : goal.returns-clause-text
 returns-clause-text g c = λ e q l ts h.
-    let shows = g.V.Value.shows in
-    (items_finish (join_of shows e l) (item_of shows e l q) (chosen_items l.range ts) h).1
+    (items_finish (join_of g.V.Value.shows e l) _ (chosen_items l.range ts) h).1
 
 pub returns-clause-all : goal.returns-clause-all
 returns-clause-all g c = λ e q l ts h.
-    let shows = g.V.Value.shows in
-    (items_finish (join_of shows e l) (item_of shows e l q) (chosen_items l.range ts) h).0
+    (items_finish (join_of g.V.Value.shows e l) _ (chosen_items l.range ts) h).0
 
 pub returns-clause-first : goal.returns-clause-first
 returns-clause-first g c = λ e q l ts f h.

@@ -1,4 +1,4 @@
-use Rattle.interpolator.proofs.SyntaxLemmas.SeamLemmas.{closed_same}
+use Rattle.interpolator.proofs.SeamLemmas.{closed_same}
 use Rattle.interpolator.proofs.laws.parts.closed_argument_stays.Goals as goal
 
 pub returns : goal.returns

@@ -1,5 +1,5 @@
 use Rattle.std.proofs.Common.{arith, length}
-use Rattle.interpolator.proofs.SyntaxLemmas.SeamLemmas.{pieces_append}
+use Rattle.interpolator.proofs.SeamLemmas.{pieces_append}
 use Rattle.interpolator.proofs.laws.parts.pieces_compose.Goals as goal
 
 pub returns : goal.returns

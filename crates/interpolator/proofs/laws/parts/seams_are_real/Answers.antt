@@ -1,7 +1,7 @@
 use Rattle.std.proofs.Common.{◌≡◌, refl, ap, arith, length}
-use Rattle.interpolator.specs.Syntax.Arguments.{argument_at}
-use Rattle.interpolator.specs.Syntax.Pieces.{pieces, argument_from}
-use Rattle.interpolator.specs.Syntax.SpecTexts.{spec_behind}
+use Rattle.interpolator_syntax.specs.Arguments.{argument_at}
+use Rattle.interpolator_syntax.specs.Pieces.{pieces, argument_from}
+use Rattle.interpolator_syntax.specs.SpecTexts.{spec_behind}
 use Rattle.interpolator.proofs.laws.parts.seams_are_real.Goals as goal
 
 pub returns : goal.returns

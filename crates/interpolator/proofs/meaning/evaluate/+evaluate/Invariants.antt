@@ -1,8 +1,8 @@
 use Rattle.std.proofs.Common.{length, ◌+◌, ◌*◌, ◌≤◌, map, drop, Option, option_map}
 use Rattle.std.specs.Str.{chars}
-use Rattle.interpolator.specs.Syntax.Arguments.{kind_of}
-use Rattle.interpolator.specs.Syntax.Groups.{group_of}
-use Rattle.interpolator.specs.Faults.{Answer}
+use Rattle.interpolator_syntax.specs.Arguments.{kind_of}
+use Rattle.interpolator_syntax.specs.Groups.{group_of}
+use Rattle.interpolator_syntax.specs.Faults.{Answer}
 use Rattle.interpolator.specs.Trees.{tree_of}
 use Rattle.interpolator.specs.Meaning.Lists.{all_asked}
 use Rattle.interpolator.specs.Meaning.Meanings.{means, item_means, join_means, items_behind}
@@ -18,10 +18,13 @@ abbrev pub decreases-write_text : goal.decreases-write_text
 decreases-write_text g l = 16 * length (chars l.text.rest.now)
 
 abbrev pub decreases-write_piece : goal.decreases-write_piece
-decreases-write_piece g l = 16 * length (chars l.rest.rest.now) + 8
+decreases-write_piece g l = 16 * length (chars l.rest.rest.now) + 9
 
 abbrev pub decreases-write_argument : goal.decreases-write_argument
-decreases-write_argument g l = 16 * length (chars l.here.rest.now) + 7
+decreases-write_argument g l = 16 * length (chars l.here.rest.now) + 8
+
+abbrev pub decreases-write_asked : goal.decreases-write_asked
+decreases-write_asked g l = 16 * length (chars l.here.rest.now) + 7
 
 abbrev pub decreases-write_value : goal.decreases-write_value
 decreases-write_value g l = 16 * kind_size (kind_of l.argument.now.kind) + 6

@@ -1,7 +1,7 @@
 use Rattle.std.proofs.Common.{arith, rules, ◌≡◌, ◌<◌, length, get_or}
-use Rattle.interpolator.proofs.SyntaxLemmas.StripLemmas.{one_char}
+use Rattle.interpolator_syntax.proofs.StripLemmas.{one_char}
 use Rattle.std.specs.Str.{chars}
-use Rattle.interpolator.proofs.SyntaxLemmas.CharacterLemmas.{size-chars}
+use Rattle.interpolator_syntax.proofs.CharacterLemmas.{size-chars}
 use Rattle.interpolator.proofs.MeaningLemmas.PlacedLemmas.{wrote_from, refused_from, taken_fits}
 use Rattle.interpolator.proofs.meaning.sink.write_run.Goals as goal
 

@@ -1,4 +1,4 @@
-use Rattle.std.proofs.Common.{◌≡◌, ◌≤◌, ◌-◌, ◌∙◌, ap, replicate, arith}
+use Rattle.std.proofs.Common.{◌≡◌, ◌≤◌, ◌-◌, ◌∙◌, ap, replicate, arith, refl}
 use Rattle.std.proofs.lemmas.List.{length-replicate}
 use Rattle.interpolator_render.specs.Rows.{Row, grown}
 use Rattle.interpolator_render.proofs.LineLemmas.{row_grows, copies_in_front}
@@ -13,5 +13,6 @@ returns c =
     (omega arith) c.self.invariant in
     let n = length-replicate c.args.count row.fill in
     row_grows row.bytes row.bytes (replicate c.args.count row.fill) row.fill
-    (row.start - c.args.count) row.start row.end c.self.invariant.ordered (omega arith) written
+    (row.start - c.args.count) row.start row.end _ c.self.invariant.ordered (omega arith) written
+    refl
     ∙ ap (λ (r : Row). grown (replicate c.args.count r.fill) r) c.self.view_is

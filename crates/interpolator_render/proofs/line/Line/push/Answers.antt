@@ -1,5 +1,5 @@
-use Rattle.std.proofs.Common.{◌≡◌, ◌-◌, ◌∷◌, [], ◌∙◌, ap, arith}
-use Rattle.interpolator_render.specs.Rows.{Row, grown}
+use Rattle.std.proofs.Common.{◌≡◌, ◌-◌, ◌∷◌, [], ap, arith}
+use Rattle.interpolator_render.specs.Rows.{Row}
 use Rattle.interpolator_render.proofs.LineLemmas.{row_grows, byte_in_front}
 use Rattle.interpolator_render.proofs.line.Line.push.Goals as goal
 
@@ -8,6 +8,5 @@ returns c =
     let row = c.self.inside in
     let place : row.start ≡ c.args.self.now.before = ap (λ (r : Row). r.before) c.self.view_is in
     let written = byte_in_front row.bytes row.start c.args.byte (omega arith) (omega arith) in
-    row_grows row.bytes _ (c.args.byte ∷ []) row.fill (row.start - 1) row.start row.end
-    c.self.invariant.ordered (omega arith) written
-    ∙ ap (grown (c.args.byte ∷ [])) c.self.view_is
+    row_grows row.bytes _ (c.args.byte ∷ []) row.fill (row.start - 1) row.start row.end _
+    c.self.invariant.ordered (omega arith) written c.self.view_is

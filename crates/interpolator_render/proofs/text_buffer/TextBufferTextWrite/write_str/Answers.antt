@@ -1,7 +1,8 @@
 use Rattle.std.proofs.Common.{ap, length, refl, string_bytes, rules}
 use Rattle.std.proofs.lemmas.Str.{IsUtf8-string_bytes}
 use Rattle.interpolator_render.specs.Written.{as_writer}
-use Rattle.interpolator_render.proofs.WrittenLemmas.{may_refuse, appends_nothing, buffer_writes, chars_nonempty}
+use Rattle.interpolator_render.proofs.WrittenLemmas.{may_refuse, appends_nothing, buffer_writes}
+use Rattle.interpolator_render.proofs.WrittenLemmas.{chars_nonempty}
 use Rattle.interpolator_render.proofs.text_buffer.TextBufferTextWrite.write_str.Goals as goal
 
 pub returns-then-is_empty-clause-written : goal.returns-then-is_empty-clause-written

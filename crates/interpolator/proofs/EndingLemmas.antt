@@ -1,0 +1,307 @@
+-- How a text ends, as the scan finds it.
+use Rattle.std.proofs.Common.{◌≡◌, ◌≢◌, ℕ, ◌+◌, ◌<◌, true, false, eqb, List, [], ◌∷◌, ◌++◌, length}
+use Rattle.std.proofs.Common.{take, ◌-◌, arith, refl, ap, ◌∙◌, sym, subst, Ok, Err, Option, Some}
+use Rattle.std.proofs.Common.{None, append_assoc, length-append, eqb-true}
+use Rattle.std.specs.Prelude.{◌&&◌, ◌==◌}
+use Rattle.std.specs.Char.{len_utf8}
+use Rattle.std.specs.Str.{chars, IsUtf8, encode_utf8_all}
+use Rattle.std.proofs.lemmas.List.{append_cancel_right}
+use Rattle.std.proofs.lemmas.Str.{encode_ascii, encodes-chars, encodes-append, chars-nil}
+use Rattle.interpolator_syntax.specs.At.{At, size, behind, strip}
+use Rattle.interpolator_syntax.specs.Classes.{front_of, behind_of, in_class, is_brace, open_brace}
+use Rattle.interpolator_syntax.specs.Classes.{close_brace, colon}
+use Rattle.interpolator_syntax.specs.Arguments.{Argument, argument_at}
+use Rattle.interpolator_syntax.specs.Faults.{Fault}
+use Rattle.interpolator_syntax.specs.Pieces.{Piece, literal, step, Step, argument_from, open_step}
+use Rattle.interpolator_syntax.specs.Pieces.{close_step, past, pieces}
+use Rattle.interpolator_syntax.specs.Tokens.{Token, first_token, past_token, open_scan, close_scan}
+use Rattle.interpolator_syntax.specs.Tokens.{no_open_scan, scan_by}
+use Rattle.interpolator.specs.Seams.{ends_empty_spec, closed_ending, piece_ending}
+use Rattle.interpolator.specs.Seams.{last_ending, token_ending}
+use Rattle.interpolator_syntax.specs.declared.class.Class.TheVariants.{Literal}
+use Rattle.interpolator.specs.declared.parts.Ending.{Ending}
+use Rattle.interpolator.specs.declared.parts.Ending.TheVariants.{Settled, EmptySpec, Open}
+use Rattle.interpolator_syntax.proofs.CharacterLemmas.{chars_of_next}
+use Rattle.interpolator_syntax.proofs.GroupLemmas.{chars_of_cut}
+use Rattle.interpolator_syntax.proofs.LocalityLemmas.{stands}
+use Rattle.interpolator_syntax.proofs.ReaderLemmas.{argument_takes}
+use Rattle.interpolator_syntax.proofs.PieceLemmas.{closed_text}
+use Rattle.interpolator_syntax.proofs.PieceLemmas.{pieces_none, pieces_next, strip_behind}
+use Rattle.interpolator_syntax.proofs.PieceLemmas.{literal_step}
+use Rattle.std.proofs.lemmas.Bool.{cond_both}
+use Rattle.interpolator_syntax.proofs.TestLemmas.{head_same, tail_same}
+
+-- ---- `:}` at the end of a text
+
+pub ends_append :
+    (cs : List ℕ) (c d : ℕ)
+    → ends_empty_spec (cs ++ (c ∷ d ∷ [])) ≡ (c == colon && d == close_brace)
+ends_append [] c d = refl
+ends_append (x ∷ []) c d = refl
+ends_append (x ∷ y ∷ []) c d = refl
+ends_append (x ∷ y ∷ z ∷ zs) c d = ends_append (y ∷ z ∷ zs) c d
+
+-- a text that does not end in a colon, with a closing brace behind it
+no_colon :
+    (x : ℕ) (cs : List ℕ) → ((front : List ℕ) → x ∷ cs ≢ front ++ (colon ∷ []))
+    → ends_empty_spec (x ∷ (cs ++ (close_brace ∷ []))) ≡ false
+no_colon x [] h = grind (arith, eqb-true, h [])
+no_colon x (y ∷ []) h = no_colon y [] (λ front e. h (x ∷ front) (ap (λ cs. x ∷ cs) e))
+no_colon x (y ∷ z ∷ zs) h = no_colon y (z ∷ zs) (λ front e. h (x ∷ front) (ap (λ cs. x ∷ cs) e))
+
+no_colon_in_braces :
+    (cs : List ℕ) → ((front : List ℕ) → cs ≢ front ++ (colon ∷ []))
+    → ends_empty_spec (open_brace ∷ (cs ++ (close_brace ∷ []))) ≡ false
+no_colon_in_braces cs h = no_colon open_brace cs other
+  where
+    other : (front : List ℕ) → open_brace ∷ cs ≢ front ++ (colon ∷ [])
+    other [] e = let same : open_brace ≡ colon = head_same e in omega (arith, same)
+    other (x ∷ front) e = h front (tail_same e)
+
+colon_in_braces :
+    (front : List ℕ)
+    → ends_empty_spec (open_brace ∷ ((front ++ (colon ∷ [])) ++ (close_brace ∷ []))) ≡ true
+colon_in_braces front =
+    rw (append_assoc front (colon ∷ []) (close_brace ∷ []))
+    (ends_append (open_brace ∷ front) colon close_brace)
+
+colon_byte : encode_utf8_all (colon ∷ []) ≡ colon ∷ []
+colon_byte = ap (λ bs. bs ++ []) (encode_ascii colon (omega arith))
+
+-- a text whose last byte is a colon, and one whose last byte is not
+colon_bytes :
+    (bs front : List ℕ) → IsUtf8 bs → bs ≡ front ++ (colon ∷ [])
+    → (cs : List ℕ) × (chars bs ≡ cs ++ (colon ∷ []))
+colon_bytes bs front u e =
+    let is_text : IsUtf8 (colon ∷ []) = (colon ∷ [], (refl, colon_byte)) in
+    let one : chars (colon ∷ []) ≡ colon ∷ [] =
+    chars_of_next (colon ∷ []) [] colon is_text (sym colon_byte)
+    ∙ ap (λ cs. colon ∷ cs) chars-nil in
+    let cut = chars_of_cut bs (colon ∷ []) _ u is_text (front, e) refl in (
+      chars (take (length bs - 1) bs),
+      sym cut
+          ∙ ap (λ cs. chars (take (length bs - 1) bs) ++ cs) one,
+    )
+
+colon_chars :
+    (bs front : List ℕ) → IsUtf8 bs → chars bs ≡ front ++ (colon ∷ [])
+    → bs ≡ encode_utf8_all front ++ (colon ∷ [])
+colon_chars bs front u e =
+    sym (encodes-chars bs u) ∙ ap encode_utf8_all e ∙ encodes-append front (colon ∷ [])
+    ∙ ap (λ bs. encode_utf8_all front ++ bs) colon_byte
+
+-- ---- what the scan hands on, in pieces
+
+-- the pieces of a text are some, of which the last ends as told, and those of what stands behind
+pub record Scanned (a : At) (e : Ending) (rest : At) : Type 0 where
+  pub front : List Piece
+  pub last : Piece
+  pub split : pieces a ≡ front ++ (last ∷ pieces rest)
+  pub ends : e ≡ piece_ending last
+
+-- the argument behind a brace ends the same wherever the brace stands
+abbrev AnyPlace : Step → Step → Type 0
+AnyPlace s t = (piece_ending s.piece ≡ piece_ending t.piece) × (s.rest ≡ t.rest)
+
+any_place : (q p : ℕ) (b : At) → AnyPlace (argument_from q b) (argument_from p b)
+unfolding argument_from
+any_place q p b = grind arith
+
+-- what the scan hands on first, by what stands behind it
+abbrev ScansTo : At → Option (Token × At) → Type 0
+ScansTo a None = pieces a ≡ []
+ScansTo a (Some x) = Scanned a (token_ending a x.0 x.1) (past_token x.0 x.1)
+
+scans_open :
+    (p : ℕ) (cs : List ℕ) (b : At) (o : Option At)
+    → pieces (stands p (open_brace ∷ cs)) ≡ (open_step p b o).piece ∷ pieces (open_step p b o).rest
+    → ScansTo (stands p (open_brace ∷ cs)) (Some (open_scan b o))
+scans_open p cs b (Some rest) e = record { front = []; last = _; split = e; ends = refl }
+scans_open p cs b None e =
+    let same = any_place b.place p b in record {
+      front = [];
+      last = (argument_from p b).piece;
+      split = e ∙ ap (λ r. (argument_from p b).piece ∷ pieces r) (sym same.1);
+      ends = same.0;
+    }
+
+scans_close :
+    (p : ℕ) (cs : List ℕ) (o : Option At)
+    → strip close_brace (past p close_brace cs) ≡ o
+    → pieces (stands p (close_brace ∷ cs))
+    ≡ (close_step p (past p close_brace cs) o).piece
+    ∷ pieces (close_step p (past p close_brace cs) o).rest
+    → ScansTo (stands p (close_brace ∷ cs)) (Some (close_scan (past p close_brace cs) o))
+scans_close p cs (Some rest) d e = record { front = []; last = _; split = e; ends = rw d refl }
+scans_close p cs None d e = record { front = []; last = _; split = e; ends = rw d refl }
+
+-- a run of literals
+abbrev ScansRun : At → Type 0
+ScansRun a = Scanned a Settled (behind (in_class Literal) a)
+
+literal_next :
+    (p c : ℕ) (cs : List ℕ) → is_brace c ≡ false
+    → pieces (stands p (c ∷ cs))
+    ≡ (step p (c ∷ []) (literal c) (past p c cs)).piece ∷ pieces (past p c cs)
+literal_next p c cs h =
+    pieces_next p c cs
+    ∙ ap (λ (s : Step). s.piece ∷ pieces s.rest) (literal_step p c (past p c cs) h)
+
+-- what stands behind a run that begins with a literal
+behind_literal :
+    (p c : ℕ) (cs : List ℕ) → is_brace c ≡ false
+    → behind (in_class Literal) (past p c cs) ≡ behind (in_class Literal) (stands p (c ∷ cs))
+behind_literal p c cs h =
+    let n : p + len_utf8 c + size (front_of (in_class Literal) cs)
+    ≡ p + (len_utf8 c + size (front_of (in_class Literal) cs)) = omega arith in
+    rw (h, n) refl
+
+no_run : (p : ℕ) (cs : List ℕ) → front_of (in_class Literal) cs ≡ []
+    → behind_of (in_class Literal) cs ≡ cs → behind (in_class Literal) (stands p cs) ≡ stands p cs
+no_run p cs e d = let n : p + 0 ≡ p = omega arith in rw (e, d, n) refl
+
+abbrev literal_piece : ℕ → ℕ → Piece
+literal_piece p c = record { place = p; text = c ∷ []; kind = literal c }
+
+-- a run of one literal
+run_of_one :
+    (p c : ℕ) (cs : List ℕ) → is_brace c ≡ false
+    → behind (in_class Literal) (past p c cs) ≡ past p c cs → ScansRun (stands p (c ∷ cs))
+run_of_one p c cs h one = record {
+  front = [];
+  last = literal_piece p c;
+  split = literal_next p c cs h
+      ∙ ap (λ (r : At). literal_piece p c ∷ pieces r) (sym one ∙ behind_literal p c cs h);
+  ends = refl;
+}
+
+scans_run : (p c : ℕ) (cs : List ℕ) → is_brace c ≡ false → ScansRun (stands p (c ∷ cs))
+scans_run p c [] h = run_of_one p c [] h (no_run (p + len_utf8 c) [] refl refl)
+scans_run p c (d ∷ ds) h =
+    let b = stands (p + len_utf8 c) (d ∷ ds) in
+    elim (is_brace d) as (λ t. is_brace d ≡ t → ScansRun (stands p (c ∷ d ∷ ds))) [
+      | true ↦ λ k. run_of_one p c b.text h (no_run b.place b.text (rw k refl) (rw k refl))
+      | false ↦ λ k.
+          let more = scans_run b.place d ds k in
+          record {
+            front = literal_piece p c ∷ more.front;
+            last = more.last;
+            split = literal_next p c b.text h ∙ rw (more.split, behind_literal p c b.text h) refl;
+            ends = more.ends;
+          }
+    ] refl
+
+scans_at : (p : ℕ) (cs : List ℕ) → ScansTo (stands p cs) (first_token (stands p cs))
+unfolding first_token
+scans_at p [] = pieces_none p
+scans_at p (c ∷ cs) =
+    let a = stands p (c ∷ cs) in
+    cond_both (eqb c open_brace) _ _ (λ o. ScansTo a (scan_by a o))
+    (λ e. rw (eqb-true c open_brace e)
+    (scans_open p cs (past p open_brace cs) _ (pieces_next p open_brace cs)))
+    (λ n. cond_both (eqb c close_brace) _ _ (λ o. ScansTo a (no_open_scan a o))
+    (λ e. rw (eqb-true c close_brace e)
+    (scans_close p cs _ refl (pieces_next p close_brace cs)))
+    (λ d. scans_run p c cs (rw (n, d) refl)))
+
+pub scanned : (a : At) (x : Token × At) → first_token a ≡ Some x
+    → Scanned a (token_ending a x.0 x.1) (past_token x.0 x.1)
+scanned a x h = subst (ScansTo a) h (scans_at a.place a.text)
+
+pub scanned_end : (a : At) → first_token a ≡ None → pieces a ≡ []
+scanned_end a h = subst (ScansTo a) h (scans_at a.place a.text)
+
+-- how the last piece ends is decided behind any front
+pub last_behind : (e : Ending) (front : List Piece) (x : Piece) (xs : List Piece)
+    → last_ending e (front ++ (x ∷ xs)) ≡ last_ending (piece_ending x) xs
+last_behind e [] x xs = refl
+last_behind e (y ∷ front) x xs = last_behind (piece_ending y) front x xs
+
+-- a step of the scan
+pub ending_step :
+    (a : At) (x : Token × At) (rest : At) (e d whole : Ending) → first_token a ≡ Some x
+    → d ≡ token_ending a x.0 x.1 → pieces rest ≡ pieces (past_token x.0 x.1)
+    → last_ending e (pieces a) ≡ whole → last_ending d (pieces rest) ≡ whole
+ending_step a x rest e d whole h ends r k =
+    let s = scanned a x h in
+    rw (ends, s.ends, r) (sym (last_behind e s.front s.last (pieces (past_token x.0 x.1)))
+    ∙ sym (ap (last_ending e) s.split) ∙ k)
+
+pub ending_smaller :
+    (a : At) (x : Token × At) (rest : At) → first_token a ≡ Some x
+    → pieces rest ≡ pieces (past_token x.0 x.1) → length (pieces rest) < length (pieces a)
+ending_smaller a x rest h r =
+    let s = scanned a x h in
+    omega (arith, ap length s.split, length-append {A = Piece}, ap length r)
+
+pub ending_done : (a : At) (e whole : Ending) → first_token a ≡ None
+    → last_ending e (pieces a) ≡ whole → e ≡ whole
+ending_done a e whole h k = sym (ap (last_ending e) (scanned_end a h)) ∙ k
+
+-- ---- how an argument ends
+
+module _ (text rest bs front : List ℕ) (u : IsUtf8 bs) (whole : chars bs ++ chars rest ≡ chars text)
+    (e : chars text ≡ front ++ chars rest) where
+  same_front : chars bs ≡ front
+  same_front = append_cancel_right (chars bs) front (chars rest) (whole ∙ e)
+
+  -- the text in front of the closing brace ends in no colon
+  pub ends_settled : ((f : List ℕ) → bs ≢ f ++ (colon ∷ []))
+      → Settled ≡ closed_ending (open_brace ∷ (front ++ (close_brace ∷ [])))
+  ends_settled h =
+      let ends =
+      no_colon_in_braces front (λ f k. h (encode_utf8_all f) (colon_chars bs f u (same_front
+      ∙ k))) in
+      rw ends refl
+
+  -- it ends in one
+  pub ends_empty : (f : List ℕ) → bs ≡ f ++ (colon ∷ [])
+      → EmptySpec ≡ closed_ending (open_brace ∷ (front ++ (close_brace ∷ [])))
+  ends_empty f h =
+      let cut = colon_bytes bs f u h in
+      let ends =
+      ap (λ cs. ends_empty_spec (open_brace ∷ (cs ++ (close_brace ∷ [])))) (sym same_front
+      ∙ cut.1) ∙ colon_in_braces cut.0 in
+      rw ends refl
+
+module _ (a : At) (x : Argument) (q : At) (h : argument_at a ≡ Ok (x, q)) where
+  pub closed_ends :
+      (rest : At) (e : Ending) → strip close_brace q ≡ Some rest
+      → ((front : List ℕ) → a.text ≡ front ++ q.text → e
+      ≡ closed_ending (open_brace ∷ (front ++ (close_brace ∷ []))))
+      → e ≡ piece_ending (argument_from a.place a).piece
+  unfolding argument_from
+  closed_ends rest e d ends =
+      let front = argument_takes a x q h in
+      let whole =
+      front.split ∙ ap (λ cs. front.front ++ cs) (strip_behind close_brace q.place q.text rest d).0
+      in
+      rw (h, d) (ends front.front front.split
+      ∙ ap closed_ending (sym (closed_text a rest front.front whole)))
+
+  pub closed_behind : (rest : At) → strip close_brace q ≡ Some rest
+      → pieces rest ≡ pieces (argument_from a.place a).rest
+  unfolding argument_from
+  closed_behind rest d = rw (h, d) refl
+
+  pub unclosed_ends : strip close_brace q ≡ None → Open
+      ≡ piece_ending (argument_from a.place a).piece
+  unfolding argument_from
+  unclosed_ends d = rw (h, d) refl
+
+  pub unclosed_behind : (p : ℕ) → strip close_brace q ≡ None
+      → pieces (stands p (chars [])) ≡ pieces (argument_from a.place a).rest
+  unfolding argument_from
+  unclosed_behind p d =
+      rw (h, d, chars-nil) (pieces_none p ∙ sym (pieces_none (a.place + size a.text)))
+
+pub broken_ends : (a : At) (f : Fault) → argument_at a ≡ Err f
+    → Open ≡ piece_ending (argument_from a.place a).piece
+unfolding argument_from
+broken_ends a f h = rw h refl
+
+pub broken_behind : (a : At) (f : Fault) (p : ℕ) → argument_at a ≡ Err f
+    → pieces (stands p (chars [])) ≡ pieces (argument_from a.place a).rest
+unfolding argument_from
+broken_behind a f p h =
+    rw (h, chars-nil) (pieces_none p ∙ sym (pieces_none (a.place + size a.text)))

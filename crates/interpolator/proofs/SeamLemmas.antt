@@ -1,0 +1,260 @@
+-- The pieces of a text that has another behind it.
+use Rattle.std.proofs.Common.{◌≡◌, ◌≢◌, ℕ, zero, suc, ◌+◌, ◌-◌, ◌≤◌, Bool, true, false, List, []}
+use Rattle.std.proofs.Common.{◌∷◌, ◌++◌, length, take, arith, refl, ap, ◌∙◌, sym, subst, Result, Ok}
+use Rattle.std.proofs.Common.{Err, Option, Some, None, inl, length-append}
+use Rattle.std.specs.Prelude.{not}
+use Rattle.std.specs.Char.{len_utf8}
+use Rattle.std.proofs.lemmas.List.{take-append-le}
+use Rattle.interpolator_syntax.specs.At.{At, size, strip, strip_of, behind}
+use Rattle.interpolator_syntax.specs.Classes.{in_class, open_brace, close_brace, colon}
+use Rattle.interpolator_syntax.specs.SpecTexts.{begins_alignment, spec_behind}
+use Rattle.interpolator_syntax.specs.Arguments.{Argument, argument_at}
+use Rattle.interpolator_syntax.specs.Faults.{Fault}
+use Rattle.interpolator_syntax.specs.Pieces.{Piece, Step, closed, step, text_up_to, argument_step}
+use Rattle.interpolator_syntax.specs.Pieces.{argument_or_broken, argument_from, open_step}
+use Rattle.interpolator_syntax.specs.Pieces.{close_step, piece_from, past, pieces}
+use Rattle.interpolator.specs.Seams.{ends_empty_spec, closed_ending, piece_ending}
+use Rattle.interpolator.specs.Seams.{last_ending, ending, begins_close, may_follow}
+use Rattle.interpolator_syntax.specs.declared.class.Class.TheVariants.{WhiteSpace, Name}
+use Rattle.interpolator.specs.declared.parts.Ending.{Ending}
+use Rattle.interpolator.specs.declared.parts.Ending.TheVariants.{Settled, Open}
+use Rattle.interpolator_syntax.proofs.TestLemmas.{none_some, tail_same}
+use Rattle.interpolator_syntax.proofs.LocalityLemmas.{stands, with_more, takes_then}
+use Rattle.interpolator_syntax.proofs.LocalityLemmas.{takes_behind, Guarded}
+use Rattle.interpolator_syntax.proofs.ReaderLemmas.{name_end, NoFillBehind, argument_takes}
+use Rattle.interpolator_syntax.proofs.ReaderLemmas.{argument_same}
+use Rattle.interpolator_syntax.proofs.GrammarLemmas.{same_ok}
+use Rattle.interpolator_syntax.proofs.GrammarPieceLemmas.{step_reaches}
+use Rattle.interpolator_syntax.proofs.PieceLemmas.{piece_within, pieces_none, pieces_next}
+use Rattle.interpolator_syntax.proofs.PieceLemmas.{strip_behind}
+use Rattle.interpolator.proofs.EndingLemmas.{ends_append}
+use Rattle.interpolator_syntax.proofs.PieceLemmas.{closed_text}
+
+-- a text behind one that ends so leaves its pieces as they are
+abbrev pub Leaves : Ending → List ℕ → Type 0
+Leaves e more = (e ≢ Open) × (may_follow e more ≡ true)
+
+-- ---- one character ahead
+
+strip_more :
+    (c p : ℕ) (cs more : List ℕ) (r : At) → strip_of c p cs ≡ Some r
+    → strip_of c p (cs ++ more) ≡ Some (with_more r more)
+strip_more c p [] more r e = absurd (none_some e)
+strip_more c p (d ∷ ds) more r e = grind arith
+
+strip_none_more :
+    (c p : ℕ) (cs more : List ℕ) → strip_of c p cs ≡ None → cs ≢ []
+    → strip_of c p (cs ++ more) ≡ None
+strip_none_more c p [] more e h = absurd (h refl)
+strip_none_more c p (d ∷ ds) more e h = grind arith
+
+not_true : (b : Bool) → not b ≡ true → b ≡ false
+not_true b e = grind arith
+
+no_close : (p : ℕ) (more : List ℕ) → begins_close more ≡ false → strip_of close_brace p more ≡ None
+no_close p [] h = refl
+no_close p (d ∷ ds) h = rw h refl
+
+-- ---- arguments
+
+-- the text behind a brace, where its name is followed by `:}` and no more
+reads_empty :
+    (a : At) (x : Argument) (q : At) → argument_at a ≡ Ok (x, q)
+    → (name_end a).text ≡ colon ∷ close_brace ∷ [] → q.text ≡ close_brace ∷ []
+unfolding argument_at spec_behind
+reads_empty a x q e h =
+    let read = rw h at e in ap (λ (m : At). m.text) (sym (same_ok read).1)
+
+-- a closed argument is the same whatever comes behind it, but for an alignment behind `:}`
+pub closed_same :
+    (a : At) (more : List ℕ) (x : Argument) (q : At) (rest : List ℕ) → argument_at a ≡ Ok (x, q)
+    → q.text ≡ close_brace ∷ rest
+    → (rest ≡ [] → ends_empty_spec a.text ≡ true → begins_alignment more ≡ false)
+    → argument_at (with_more a more) ≡ Ok (x, with_more q more)
+closed_same a more x q rest e closes h =
+    argument_same a more x q e (subst Guarded (sym closes) (inl refl)) no_fill
+  where
+    no_fill : NoFillBehind (name_end a) more
+    no_fill k =
+        let b = behind (in_class WhiteSpace) a in
+        let front =
+        takes_then a b (name_end a) (takes_behind (in_class WhiteSpace) a)
+        (takes_behind (in_class Name) b) in
+        let whole = front.split ∙ ap (λ cs. front.front ++ cs) k in
+        let same : close_brace ∷ rest ≡ close_brace ∷ [] = sym closes ∙ reads_empty a x q e k in
+        h (tail_same same) (ap ends_empty_spec whole ∙ ends_append front.front colon close_brace)
+
+-- ---- pieces
+
+-- what a piece needs of the text behind it, where it is the last
+abbrev Goes : Step → List ℕ → Type 0
+Goes s more = s.rest.text ≡ [] → Leaves (piece_ending s.piece) more
+
+abbrev step_more : Step → List ℕ → Step
+step_more s more = record { piece = s.piece; rest = with_more s.rest more }
+
+never : {A : Type 0} (more : List ℕ) → Leaves Open more → A
+never more h = absurd (h.0 refl)
+
+cut_more :
+    (cs r more : List ℕ) → length r ≤ length cs
+    → take (length (cs ++ more) - length (r ++ more)) (cs ++ more) ≡ take (length cs - length r) cs
+cut_more cs r more h =
+    let n : length (cs ++ more) - length (r ++ more) ≡ length cs - length r =
+    omega (arith, h, length-append cs more, length-append r more) in
+    ap (λ k. take k (cs ++ more)) n ∙ take-append-le (length cs - length r) cs more (omega arith)
+
+-- the text of an argument behind which nothing stands
+last_text :
+    (b r : At) (front : List ℕ) → b.text ≡ front ++ (close_brace ∷ r.text) → r.text ≡ []
+    → text_up_to b r ≡ open_brace ∷ b.text
+last_text b r front e none =
+    closed_text b r front e
+    ∙ sym (ap (λ cs. open_brace ∷ cs) (e ∙ ap (λ cs. front ++ (close_brace ∷ cs)) none))
+
+ends_behind : (c : ℕ) (cs : List ℕ) → ends_empty_spec cs ≡ true → ends_empty_spec (c ∷ cs) ≡ true
+ends_behind c [] h = absurd (cc)
+ends_behind c (x ∷ []) h = absurd (cc)
+ends_behind c (x ∷ y ∷ ys) h = h
+
+empty_leaves : (text more : List ℕ) → ends_empty_spec text ≡ true
+    → Leaves (closed_ending text) more → begins_alignment more ≡ false
+empty_leaves text more h k =
+    let j = rw h at k in not_true (begins_alignment more) j.1
+
+module _ (p : ℕ) (b : At) (more : List ℕ) where
+  closed_more :
+      (x : Argument) (q r : At) → argument_at b ≡ Ok (x, q) → strip close_brace q ≡ Some r
+      → Goes (argument_step p b x q (Some r)) more
+      → argument_or_broken p (with_more b more) (argument_at (with_more b more))
+      ≡ step_more (argument_step p b x q (Some r)) more
+  closed_more x q r e d g =
+      let front = argument_takes b x q e in
+      let closes = (strip_behind close_brace q.place q.text r d).0 in
+      let whole = front.split ∙ ap (λ cs. front.front ++ cs) closes in
+      let same = closed_same b more x q r.text e closes (λ none ends.
+      empty_leaves (open_brace ∷ b.text) more (ends_behind open_brace b.text ends)
+      (subst (λ text. Leaves (closed_ending text) more) (last_text b r front.front whole none)
+      (g none))) in
+      let shorter : length r.text ≤ length (open_brace ∷ b.text) =
+      omega (arith, ap length whole, length-append front.front (close_brace ∷ r.text)) in
+      rw (same, strip_more close_brace q.place q.text more r d)
+      (ap (λ text. step p text (closed b.place x q.place) (with_more r more))
+      (cut_more (open_brace ∷ b.text) r.text more shorter))
+
+  argument_more :
+      (o : Result (Argument × At) Fault) → argument_at b ≡ o
+      → Goes (argument_or_broken p b o) more
+      → argument_or_broken p (with_more b more) (argument_at (with_more b more))
+      ≡ step_more (argument_or_broken p b o) more
+  argument_more (Err f) e g = never more (g refl)
+  argument_more (Ok w) e g = by_close (strip close_brace w.1) refl g
+    where
+      by_close : (o : Option At) → strip close_brace w.1 ≡ o
+          → Goes (argument_step p b w.0 w.1 o) more
+          → argument_or_broken p (with_more b more) (argument_at (with_more b more))
+          ≡ step_more (argument_step p b w.0 w.1 o) more
+      by_close None d k = never more (k refl)
+      by_close (Some r) d k = closed_more w.0 w.1 r e d k
+
+  argument_from_more : Goes (argument_from p b) more
+      → argument_from p (with_more b more) ≡ step_more (argument_from p b) more
+  unfolding argument_from
+  argument_from_more g = argument_more (argument_at b) refl g
+
+-- behind a brace that ends the text no argument is closed
+brace_last : (p q : ℕ) (more : List ℕ) → Goes (argument_from p (stands q [])) more → ⊥
+unfolding argument_from argument_at
+brace_last p q more g = (g refl).0 refl
+
+module _ (p : ℕ) (more : List ℕ) where
+  open_more :
+      (q : ℕ) (cs : List ℕ) (o : Option At) → strip_of open_brace q cs ≡ o
+      → Goes (open_step p (stands q cs) o) more
+      → open_step p (stands q (cs ++ more)) (strip_of open_brace q (cs ++ more))
+      ≡ step_more (open_step p (stands q cs) o) more
+  open_more q cs (Some r) e g =
+      ap (open_step p (stands q (cs ++ more))) (strip_more open_brace q cs more r e)
+  open_more q [] None e g = absurd (brace_last p q more g)
+  open_more q (c ∷ cs) None e g =
+      rw (strip_none_more open_brace q (c ∷ cs) more e (λ h. cc))
+      (argument_from_more p (stands q (c ∷ cs)) more g)
+
+  close_more :
+      (q : ℕ) (cs : List ℕ) (o : Option At) → strip_of close_brace q cs ≡ o
+      → Goes (close_step p (stands q cs) o) more
+      → close_step p (stands q (cs ++ more)) (strip_of close_brace q (cs ++ more))
+      ≡ step_more (close_step p (stands q cs) o) more
+  close_more q cs (Some r) e g =
+      ap (close_step p (stands q (cs ++ more))) (strip_more close_brace q cs more r e)
+  close_more q [] None e g =
+      ap (close_step p (stands q more)) (no_close q more (not_true (begins_close more) (g refl).1))
+  close_more q (c ∷ cs) None e g =
+      rw (strip_none_more close_brace q (c ∷ cs) more e (λ h. cc)) refl
+
+  piece_more :
+      (c q : ℕ) (cs : List ℕ) → Goes (piece_from p c (stands q cs)) more
+      → piece_from p c (stands q (cs ++ more)) ≡ step_more (piece_from p c (stands q cs)) more
+  piece_more c q cs g =
+      grind (
+        arith,
+        open_more q cs (strip_of open_brace q cs) refl,
+        close_more q cs (strip_of close_brace q cs) refl,
+      )
+
+-- ---- whole texts
+
+settled_leaves : (more : List ℕ) → Leaves Settled more
+settled_leaves more = (λ e. cc, refl)
+
+-- what is left of the pieces, if any, ends as all do
+rest_leaves : (e : Ending) (xs : List Piece) (more : List ℕ) → Leaves (last_ending e xs) more
+    → Leaves (last_ending Settled xs) more
+rest_leaves e [] more h = settled_leaves more
+rest_leaves e (x ∷ xs) more h = h
+
+last_leaves : (e : Ending) (a : At) (more : List ℕ) → Leaves (last_ending e (pieces a)) more
+    → a.text ≡ [] → Leaves e more
+last_leaves e a more h none =
+    subst (λ xs. Leaves (last_ending e xs) more) (ap (λ cs. pieces (stands a.place cs)) none
+    ∙ pieces_none a.place) h
+
+-- the pieces of two texts are those of the first, and then those of the second
+pub pieces_append :
+    (n p : ℕ) (cs more : List ℕ) → length cs ≤ n → Leaves (ending (stands p cs)) more
+    → pieces (stands p (cs ++ more)) ≡ pieces (stands p cs) ++ pieces (stands (p + size cs) more)
+pieces_append n p [] more h m = let e : p + 0 ≡ p = omega arith in rw (e, pieces_none p) refl
+pieces_append zero p (c ∷ cs) more h m = absurd (omega arith)
+pieces_append (suc n) p (c ∷ cs) more h m =
+    let s = piece_from p c (past p c cs) in
+    let leaves = subst (λ xs. Leaves (last_ending Settled xs) more) (pieces_next p c cs) m in
+    let same =
+    piece_more p more c (p + len_utf8 c) cs
+    (last_leaves (piece_ending s.piece) s.rest more leaves) in
+    let shorter : length s.rest.text ≤ n = omega (arith, h, piece_within p c (past p c cs)) in
+    pieces_next p c (cs ++ more)
+    ∙ ap (λ (t : Step). t.piece ∷ pieces t.rest) same
+    ∙ ap (λ xs. s.piece ∷ xs) (pieces_append n s.rest.place s.rest.text more shorter
+    (rest_leaves (piece_ending s.piece) (pieces s.rest) more leaves))
+    ∙ rw (step_reaches p c cs, pieces_next p c cs) refl
+
+-- ---- how two texts end
+
+pub last_append : (e : Ending) (xs ys : List Piece)
+    → last_ending e (xs ++ ys) ≡ last_ending (last_ending e xs) ys
+last_append e [] ys = refl
+last_append e (x ∷ xs) ys = last_append (piece_ending x) xs ys
+
+not_open : (e : Ending) (xs : List Piece) → e ≢ Open → last_ending Settled xs ≢ Open
+    → last_ending e xs ≢ Open
+not_open e [] h k = h
+not_open e (x ∷ xs) h k = k
+
+pub both_close :
+    (p : ℕ) (cs more : List ℕ) → Leaves (ending (stands p cs)) more
+    → ending (stands (p + size cs) more) ≢ Open → ending (stands p (cs ++ more)) ≢ Open
+both_close p cs more h k =
+    rw (
+      pieces_append (length cs) p cs more (omega arith) h,
+      last_append Settled (pieces (stands p cs)) (pieces (stands (p + size cs) more)),
+    ) (not_open (ending (stands p cs)) (pieces (stands (p + size cs) more)) h.0 k)

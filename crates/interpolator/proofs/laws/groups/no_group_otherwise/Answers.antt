@@ -1,8 +1,0 @@
-use Rattle.interpolator.proofs.SyntaxLemmas.GrammarGroupLemmas.{no_group_is, only_no_group}
-use Rattle.interpolator.proofs.laws.groups.no_group_otherwise.Goals as goal
-
-pub returns-clause-is : goal.returns-clause-is
-returns-clause-is c = no_group_is
-
-pub returns-clause-only : goal.returns-clause-only
-returns-clause-only c = only_no_group

@@ -1,8 +1,0 @@
-use Rattle.interpolator.proofs.SyntaxLemmas.GrammarNumberLemmas.{integer_is, only_integer}
-use Rattle.interpolator.proofs.laws.numbers.integer_is_its_sign_and_digits.Goals as goal
-
-pub returns-clause-is : goal.returns-clause-is
-returns-clause-is c = integer_is
-
-pub returns-clause-only : goal.returns-clause-only
-returns-clause-only c = only_integer

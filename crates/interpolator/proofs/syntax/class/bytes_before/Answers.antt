@@ -1,9 +1,0 @@
-use Rattle.std.proofs.Common.{◌∙◌, sym}
-use Rattle.interpolator.proofs.SyntaxLemmas.ByteLemmas.{found_nowhere}
-use Rattle.interpolator.proofs.syntax.class.bytes_before.Goals as goal
-
-pub returns-in-None : goal.returns-in-None
-returns-in-None c =
-    let rest = c.skip_blocks-rest in
-    found_nowhere _ c.args.bytes.now rest.result.now (rest.ensures.shorter, rest.ensures.first)
-    (sym c.byte_position.ensures ∙ c.in-None.is)

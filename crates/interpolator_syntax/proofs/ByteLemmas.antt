@@ -1,0 +1,222 @@
+-- The text up to the first of two ASCII characters, found by its bytes.
+use Rattle.std.proofs.Common.{◌≡◌, ℕ, suc, ◌+◌, ◌<◌, ◌≤◌, zero, Bool, true, false, not, cond, eqb}
+use Rattle.std.proofs.Common.{List, [], ◌∷◌, ◌++◌, length, take, drop, get_or, arith, refl, ap, ◌∙◌}
+use Rattle.std.proofs.Common.{sym, ◌⊎◌, inl, inr, ◌||◌, ◌%◌, ◌^◌, Option, Some, None, bit_or}
+use Rattle.std.proofs.Common.{map, replicate, eqb-true}
+use Rattle.std.specs.List.{position, position_or_len}
+use Rattle.std.specs.Prelude.{⊤, IfSome}
+use Rattle.std.specs.Char.{encode_utf8}
+use Rattle.std.specs.Str.{chars, IsUtf8, IsCharBoundary, encode_utf8_all}
+use Rattle.std.proofs.lemmas.Str.{encodes-chars, encode_ascii, chars_from_encodes, IsUtf8-take}
+use Rattle.std.proofs.lemmas.Str.{IsUtf8-drop, IsCharBoundary-before_ascii, IsCharBoundary-end}
+use Rattle.std.proofs.lemmas.List.Sums.{position_or_len_is, fails_before_first, passes_at_first}
+use Rattle.std.proofs.lemmas.List.Sums.{prefix_len-le-length}
+use Rattle.std.proofs.lemmas.List.{get_or-take, length-take-le, length-map, length-drop}
+use Rattle.std.proofs.lemmas.Simd.{zip2_splat, zip2_of_maps, mask_l-mod, leading_from_mask_l}
+use Rattle.std.proofs.lemmas.Simd.{trailing_mask_l}
+use Rattle.std.specs.Simd.Lanes.{mask_l, zip2, top}
+use Rattle.std.specs.Int.Count.{count_trailing_zeros}
+use Rattle.std.proofs.lemmas.Bool.{cond_both, ne_eqb, cases_lt}
+use Rattle.interpolator_syntax.specs.Classes.{avoids, front_of, behind_of}
+
+-- ---- a block's mask
+
+top_either : (s t : Bool) → top 7 (bit_or (cond s 255 0) (cond t 255 0)) ≡ (s || t)
+top_either true true = refl
+top_either true false = refl
+top_either false true = refl
+top_either false false = refl
+
+module _ (first second : ℕ) where
+  abbrev IsEither : ℕ → Bool
+  IsEither b = eqb b first || eqb b second
+
+  abbrev Lane : ℕ → ℕ → ℕ
+  Lane a b = cond (eqb a b) 255 0
+
+  tops : (xs : List ℕ)
+      → map (top 7) (map (λ b. bit_or (Lane b first) (Lane b second)) xs) ≡ map IsEither xs
+  tops [] = refl
+  tops (x ∷ xs) =
+      rw (top_either (eqb x first) (eqb x second)) (ap (λ (ms : List Bool). IsEither x ∷ ms)
+      (tops xs))
+
+  abbrev Mask : List ℕ → ℕ → ℕ
+  Mask xs n =
+      mask_l (map (top 7) (zip2 bit_or (zip2 Lane xs (replicate n first))
+      (zip2 Lane xs (replicate n second)))) % 2 ^ 64
+
+  mask_is : (xs : List ℕ) (n : ℕ) → length xs ≡ n → n ≤ 64 → Mask xs n ≡ mask_l (map IsEither xs)
+  mask_is xs n long room =
+      let lanes =
+      zip2_of_maps bit_or (λ b. Lane b first) (λ b. Lane b second) xs
+      (zip2_splat Lane xs n first long) (zip2_splat Lane xs n second long) in
+      let as_long : length (map IsEither xs) ≡ length xs = length-map xs IsEither in
+      ap (λ (ms : List Bool). mask_l ms % 2 ^ 64) (ap (map (top 7)) lanes ∙ tops xs)
+      ∙ mask_l-mod (map IsEither xs) 64 (omega (arith, long, room, as_long))
+
+  pub no_hit : (xs : List ℕ) (n : ℕ) → length xs ≡ n → n ≤ 64 → Mask xs n ≡ 0
+      → n ≡ position_or_len IsEither xs
+  no_hit xs n long room none =
+      sym (leading_from_mask_l IsEither xs (sym (mask_is xs n long room) ∙ none) ∙ long)
+
+  pub a_hit : (xs : List ℕ) (n : ℕ) → length xs ≡ n → n ≤ 64 → ¬ (Mask xs n ≡ 0)
+      → count_trailing_zeros 64 (Mask xs n) ≡ position_or_len IsEither xs
+  a_hit xs n long room some =
+      let is = mask_is xs n long room in
+      let more : 0 < mask_l (map IsEither xs) = omega (arith, is, some) in
+      ap (count_trailing_zeros 64) is
+      ∙ trailing_mask_l IsEither 64 xs (omega (arith, long, room)) more
+
+-- how far the first that passes lies from the end is the same of a whole and of what is left of it
+abbrev pub SameFirst : (ℕ → Bool) → List ℕ → List ℕ → Type 0
+SameFirst test all rest =
+    (length rest ≤ length all) × (position_or_len test all + length rest
+    ≡ position_or_len test rest + length all)
+
+-- past bytes that do not pass
+drop_before : (test : ℕ → Bool) (k : ℕ) (xs : List ℕ) → k ≤ position_or_len test xs
+    → position_or_len test xs ≡ k + position_or_len test (drop k xs)
+drop_before test zero xs h = omega arith
+drop_before test (suc k) [] h = absurd (omega arith)
+drop_before test (suc k) (x ∷ xs) h = grind (arith, drop_before test k xs)
+
+take_before : (test : ℕ → Bool) (n : ℕ) (xs : List ℕ)
+    → position_or_len test (take n xs) ≤ position_or_len test xs
+take_before test zero xs = omega arith
+take_before test (suc n) [] = omega arith
+take_before test (suc n) (x ∷ xs) = grind (arith, take_before test n xs)
+
+pub one_block_less :
+    (test : ℕ → Bool) (all rest left : List ℕ) (n k : ℕ) → SameFirst test all rest
+    → k ≡ position_or_len test (take n rest) → left ≡ drop k rest → SameFirst test all left
+one_block_less test all rest left n k same is e =
+    let low : k ≤ position_or_len test rest = omega (arith, is, take_before test n rest) in
+    let high : position_or_len test rest ≤ length rest = prefix_len-le-length _ rest in
+    let long = length-drop k rest in
+    let first = drop_before test k rest low in
+    rw e (omega (arith, long, same.0), omega (arith, long, low, high, first, same.1))
+
+pub found_nowhere : (test : ℕ → Bool) (all rest : List ℕ) → SameFirst test all rest
+    → position test rest ≡ None → length all ≡ position_or_len test all
+found_nowhere test all rest same e =
+    let low : length rest ≤ position_or_len test rest = grind arith in
+    let high : position_or_len test rest ≤ length rest = prefix_len-le-length _ rest in
+    omega (arith, low, high, same.1)
+
+-- ---- every byte of a character past ASCII is past ASCII
+
+abbrev AllHigh : List ℕ → Type 0
+AllHigh [] = ⊤
+AllHigh (b ∷ bs) = (128 ≤ b) × AllHigh bs
+
+encode_high : (c : ℕ) → 128 ≤ c → AllHigh (encode_utf8 c)
+unfolding encode_utf8
+encode_high c h = grind arith
+
+-- ---- the two fronts are one
+
+module _ (first second : ℕ) (low_first : first < 128) (low_second : second < 128) where
+  -- what lies past ASCII is neither
+  avoids_high : (b : ℕ) → 128 ≤ b → avoids first second b ≡ true
+  avoids_high b h =
+      rw (ne_eqb b first (λ e. omega arith), ne_eqb b second (λ e. omega arith)) refl
+
+  over : (xs ys : List ℕ) → AllHigh xs
+      → (front_of (avoids first second) (xs ++ ys) ≡ xs ++ front_of (avoids first second) ys)
+      × (behind_of (avoids first second) (xs ++ ys) ≡ behind_of (avoids first second) ys)
+  over [] ys h = (refl, refl)
+  over (x ∷ xs) ys h =
+      let more = over xs ys h.1 in rw (avoids_high x h.0) (ap (λ zs. x ∷ zs) more.0, more.1)
+
+  -- one more character, by the size of its code
+  bytes : (cs : List ℕ)
+      → (front_of (avoids first second) (encode_utf8_all cs)
+      ≡ encode_utf8_all (front_of (avoids first second) cs))
+      × (behind_of (avoids first second) (encode_utf8_all cs)
+      ≡ encode_utf8_all (behind_of (avoids first second) cs))
+  bytes [] = (refl, refl)
+  bytes (c ∷ cs) = let more = bytes cs in elim (cases_lt c 128) [
+    | inl low ↦
+        let one = encode_ascii c low in
+        rw one (grind (arith, more.0, one), grind (arith, more.1, one))
+    | inr high ↦
+        let past = over (encode_utf8 c) (encode_utf8_all cs) (encode_high c high) in
+        rw (avoids_high c high) (past.0 ∙ ap (λ zs. encode_utf8 c ++ zs) more.0, past.1 ∙ more.1)
+  ]
+
+  abbrev Stops : ℕ → Bool
+  Stops b = eqb b first || eqb b second
+
+  one_more : (n : ℕ) → 1 + n ≡ suc n
+  one_more n = omega arith
+
+  take_one : (n b : ℕ) (bs : List ℕ) → take (1 + n) (b ∷ bs) ≡ b ∷ take n bs
+  take_one n b bs = ap (λ k. take k (b ∷ bs)) (one_more n)
+
+  drop_one : (n b : ℕ) (bs : List ℕ) → drop (1 + n) (b ∷ bs) ≡ drop n bs
+  drop_one n b bs = ap (λ k. drop k (b ∷ bs)) (one_more n)
+
+  at_cut : (bs : List ℕ)
+      → (take (position_or_len Stops bs) bs ≡ front_of (avoids first second) bs)
+      × (drop (position_or_len Stops bs) bs ≡ behind_of (avoids first second) bs)
+  at_cut [] = (refl, refl)
+  at_cut (b ∷ bs) =
+      let more = at_cut bs in (grind (arith, more.0, take_one), grind (arith, more.1, drop_one))
+
+  stop_is_ascii : (b : ℕ) → Stops b ≡ true → b < 128
+  stop_is_ascii b e = grind (arith, eqb-true)
+
+  -- the cut stands at the end, or before an ASCII character
+  abbrev Cuts : ℕ → List ℕ → Type 0
+  Cuts n bs = (n ≡ length bs) ⊎ ((n < length bs) × (get_or bs n 0 < 128))
+
+  cuts_later : (n b : ℕ) (bs : List ℕ) → Cuts n bs → Cuts (1 + n) (b ∷ bs)
+  cuts_later n b bs (inl e) = inl (omega arith)
+  cuts_later n b bs (inr h) = rw (one_more n) (inr (omega (arith, h.0), h.1))
+
+  cuts : (bs : List ℕ) → Cuts (position_or_len Stops bs) bs
+  cuts [] = inl refl
+  cuts (b ∷ bs) =
+      cond_both (not (Stops b)) (1 + position_or_len Stops bs) 0 (λ n. Cuts n (b ∷ bs))
+      (λ e. cuts_later (position_or_len Stops bs) b bs (cuts bs))
+      (λ e. inr (omega arith, stop_is_ascii b (grind arith)))
+
+  pub cut_boundary : (bs : List ℕ) → IsCharBoundary bs (position_or_len Stops bs)
+  cut_boundary bs = by_cut (position_or_len Stops bs) (cuts bs)
+    where
+      by_cut : (n : ℕ) → Cuts n bs → IsCharBoundary bs n
+      by_cut n (inl e) = rw e (IsCharBoundary-end bs)
+      by_cut n (inr h) = IsCharBoundary-before_ascii bs n h.0 h.1
+
+  -- the characters of the bytes up to the cut, and from it on
+  pub chars_front : (bs : List ℕ) → IsUtf8 bs
+      → chars (take (position_or_len Stops bs) bs) ≡ front_of (avoids first second) (chars bs)
+  chars_front bs u =
+      sym (chars_from_encodes (front_of (avoids first second) (chars bs)) _
+      (IsUtf8-take bs _ u (cut_boundary bs))
+      (sym (bytes (chars bs)).0 ∙ ap (front_of (avoids first second)) (encodes-chars bs u)
+      ∙ sym (at_cut bs).0))
+
+  pub chars_behind : (bs : List ℕ) → IsUtf8 bs
+      → chars (drop (position_or_len Stops bs) bs) ≡ behind_of (avoids first second) (chars bs)
+  chars_behind bs u =
+      sym (chars_from_encodes (behind_of (avoids first second) (chars bs)) _
+      (IsUtf8-drop bs _ u (cut_boundary bs))
+      (sym (bytes (chars bs)).1 ∙ ap (behind_of (avoids first second)) (encodes-chars bs u)
+      ∙ sym (at_cut bs).1))
+
+pub near_is :
+    (test : ℕ → Bool) (bs : List ℕ) (n : ℕ) (r : Option ℕ) → n ≤ length bs
+    → r ≡ position test (take n bs) → IfSome r (λ index. index ≡ position_or_len test bs)
+near_is test bs n None within e = tt
+near_is test bs n (Some index) within e =
+    let near = take n bs in
+    let first : index ≡ position_or_len test near = grind arith in
+    let low : position_or_len test near < length near = grind arith in
+    let here : index < n = omega (arith, low, length-take-le n bs within, first) in
+    sym (position_or_len_is test bs index 0 (omega (arith, here, within))
+    (λ k h. sym (ap test (get_or-take n bs k 0 (omega (arith, here, h))))
+    ∙ fails_before_first test near k 0 (omega (arith, h, first)))
+    (λ h. sym (ap test (get_or-take n bs index 0 here)) ∙ ap (λ (i : ℕ). test (get_or near i 0))
+    first ∙ passes_at_first test near 0 low))

@@ -1,0 +1,44 @@
+-- The characters of a text, and its bytes.
+use Rattle.std.proofs.Common.{◌≡◌, ℕ, ◌+◌, List, [], ◌∷◌, ◌++◌, length, arith, refl, ◌<◌, ap, ◌∙◌}
+use Rattle.std.proofs.Common.{sym}
+use Rattle.std.specs.Str.{chars, IsUtf8, encode_utf8_all}
+use Rattle.std.specs.Char.{encode_utf8, len_utf8}
+use Rattle.std.proofs.lemmas.Str.{chars_past_char, chars-nil, length-encode, len_utf8_bounds}
+use Rattle.std.proofs.lemmas.Str.{encodes-chars}
+use Rattle.interpolator_syntax.specs.At.{size}
+use Rattle.std.proofs.lemmas.List.{length-append, nil_from_length}
+
+pub chars_of_next : (bs rest : List ℕ) (c : ℕ) → IsUtf8 bs → bs ≡ encode_utf8 c ++ rest
+    → chars bs ≡ c ∷ chars rest
+chars_of_next bs rest c u e = chars_past_char bs rest c u e
+
+pub chars_of_end : (bs : List ℕ) → length bs ≡ 0 → chars bs ≡ []
+chars_of_end bs e = ap chars (nil_from_length bs e) ∙ chars-nil
+
+pub length_of_next : (bs rest : List ℕ) (c : ℕ) → bs ≡ encode_utf8 c ++ rest
+    → length bs ≡ len_utf8 c + length rest
+length_of_next bs rest c e = ap length e ∙ length-append (encode_utf8 c) rest
+    ∙ ap (λ n. n + length rest) (length-encode c)
+
+pub shorter_after : (bs rest : List ℕ) (c : ℕ) → bs ≡ encode_utf8 c ++ rest
+    → length rest < length bs
+shorter_after bs rest c e = omega (arith, length_of_next bs rest c e, len_utf8_bounds c)
+
+pub nil_of_end : (bs : List ℕ) → length bs ≡ 0 → bs ≡ []
+nil_of_end bs e = nil_from_length bs e
+
+pub length-encodes : (cs : List ℕ) → length (encode_utf8_all cs) ≡ size cs
+length-encodes [] = refl
+length-encodes (c ∷ cs) = length_of_next (encode_utf8_all (c ∷ cs)) (encode_utf8_all cs) c refl
+    ∙ ap (λ n. len_utf8 c + n) (length-encodes cs)
+
+-- how many bytes a text has
+pub size-chars : (bs : List ℕ) → IsUtf8 bs → size (chars bs) ≡ length bs
+size-chars bs u = sym (length-encodes (chars bs)) ∙ ap length (encodes-chars bs u)
+
+pub no_text : (bs : List ℕ) → bs ≡ [] → chars bs ≡ []
+no_text bs e = ap chars e ∙ chars-nil
+
+-- what the first character leaves of a text
+pub ruleset first_character =
+    (chars_of_next, chars_of_end, length_of_next, shorter_after, nil_of_end)

@@ -1,0 +1,42 @@
+-- An error told by the bytes of a missing name, and by its characters: both say the same.
+use Rattle.std.proofs.Common.{◌≡◌, ℕ, List, refl, ap, sym, ◌∙◌, string_bytes, encode_utf8_all}
+use Rattle.std.specs.Str.{chars}
+use Rattle.std.proofs.lemmas.Str.{encodes-chars, IsUtf8-string_bytes}
+use Rattle.interpolator_syntax.specs.declared.error.Error.{Error}
+use Rattle.interpolator_syntax.specs.declared.error.Error.TheVariants.{MissingValue}
+use Rattle.interpolator_syntax.specs.Faults.{Answer, fault, missing_value, answer_of}
+
+-- what an error says, with a missing name in bytes
+abbrev pub byte_answer_of : Error → Answer
+byte_answer_of (MissingValue name place) = fault (missing_value (string_bytes name) place)
+byte_answer_of error = answer_of error
+
+-- the missing name of an answer, changed
+with_name : (List ℕ → List ℕ) → Answer → Answer
+with_name change (fault (missing_value name place)) = fault (missing_value (change name) place)
+with_name change answer = answer
+
+answer_of_bytes : (error : Error) → answer_of error ≡ with_name chars (byte_answer_of error)
+unfolding with_name
+answer_of_bytes (MissingValue _ _) = refl
+answer_of_bytes error = refl
+
+bytes_of_answer : (error : Error) →
+    byte_answer_of error ≡ with_name encode_utf8_all (answer_of error)
+unfolding with_name
+bytes_of_answer (MissingValue name place) =
+    ap (λ bytes. fault (missing_value bytes place))
+    (sym (encodes-chars _ (IsUtf8-string_bytes name)))
+bytes_of_answer error = refl
+
+-- what is one in bytes is one in characters
+pub same_answers : (first second : Error) →
+    byte_answer_of first ≡ byte_answer_of second → answer_of first ≡ answer_of second
+same_answers first second same =
+    answer_of_bytes first ∙ ap (with_name chars) same ∙ sym (answer_of_bytes second)
+
+-- and the other way round
+pub same_byte_answers : (first second : Error) →
+    answer_of first ≡ answer_of second → byte_answer_of first ≡ byte_answer_of second
+same_byte_answers first second same =
+    bytes_of_answer first ∙ ap (with_name encode_utf8_all) same ∙ sym (bytes_of_answer second)

@@ -1,0 +1,61 @@
+-- The longest front of one class, and the rest behind it.
+use Rattle.std.proofs.Common.{◌≡◌, ℕ, ◌-◌, Bool, true, false, cond, List, [], ◌∷◌, ◌++◌, length}
+use Rattle.std.proofs.Common.{take, arith, refl, ap, ◌∙◌, sym, subst, append_assoc}
+use Rattle.std.specs.Str.{chars, IsUtf8, IsCharBoundary}
+use Rattle.std.specs.Char.{encode_utf8}
+use Rattle.std.proofs.lemmas.Str.{chars-append, IsCharBoundary-at_seam, IsUtf8-take}
+use Rattle.std.proofs.lemmas.List.{length-append, append_cancel_right}
+use Rattle.std.proofs.Math.Seq.{take-append_seam}
+use Rattle.interpolator_syntax.specs.Classes.{front_of, behind_of}
+
+pub front_behind : (passes : ℕ → Bool) (cs : List ℕ)
+    → front_of passes cs ++ behind_of passes cs ≡ cs
+front_behind passes [] = refl
+front_behind passes (c ∷ cs) =
+    elim (passes c) as (λ b. cond b (c ∷ front_of passes cs) [] ++ cond b (behind_of passes cs)
+    (c ∷ cs) ≡ c ∷ cs) [ true ↦ ap (λ xs. c ∷ xs) (front_behind passes cs) | false ↦ refl ]
+
+-- a front, behind which ends is a rest of the text
+abbrev pub IsRest : List ℕ → List ℕ → Type 0
+IsRest text rest = (front : List ℕ) × (text ≡ front ++ rest)
+
+pub rest_more : (text rest after : List ℕ) (c : ℕ) → IsRest text rest
+    → rest ≡ encode_utf8 c ++ after → IsRest text after
+rest_more text rest after c r e = (
+  r.0 ++ encode_utf8 c,
+  r.1 ∙ ap (λ xs. r.0 ++ xs) e
+      ∙ sym (append_assoc r.0 (encode_utf8 c) after),
+)
+
+pub rest_boundary : (text rest : List ℕ) → IsRest text rest → IsUtf8 rest
+    → IsCharBoundary text (length text - length rest)
+rest_boundary text rest r u =
+    let n : length text - length rest ≡ length r.0 =
+    omega (arith, ap length r.1, length-append r.0 rest) in
+    rw n (IsCharBoundary-at_seam text r.0 rest r.1 u)
+
+pub cut_at_rest : (text rest : List ℕ) → IsRest text rest
+    → take (length text - length rest) text ++ rest ≡ text
+cut_at_rest text rest r =
+    let n : length text - length rest ≡ length r.0 =
+    omega (arith, ap length r.1, length-append r.0 rest) in
+    ap (λ k. take k text ++ rest) n ∙ ap (λ xs. take (length r.0) xs ++ rest) r.1
+    ∙ ap (λ xs. xs ++ rest) (take-append_seam r.0 rest) ∙ sym r.1
+
+pub front_cut :
+    (passes : ℕ → Bool) (text front rest : List ℕ) → IsUtf8 front → front ++ rest ≡ text
+    → behind_of passes (chars text) ≡ chars rest → chars front ≡ front_of passes (chars text)
+front_cut passes text front rest u e b =
+    append_cancel_right (chars front) (front_of passes (chars text)) (chars rest)
+    (sym (chars-append front rest u) ∙ ap chars e ∙ sym (front_behind passes (chars text))
+    ∙ ap (λ xs. front_of passes (chars text) ++ xs) b)
+
+-- the text up to a rest, in front of which the characters pass and at which they stop
+pub front_at_rest :
+    (passes : ℕ → Bool) (text front rest : List ℕ) → IsUtf8 text → IsUtf8 rest → IsRest text rest
+    → front ≡ take (length text - length rest) text → behind_of passes (chars text) ≡ chars rest
+    → chars front ≡ front_of passes (chars text)
+front_at_rest passes text front rest u v r e b =
+    let cut = rest_boundary text rest r v in
+    let is_text = subst IsUtf8 (sym e) (IsUtf8-take text (length text - length rest) u cut) in
+    front_cut passes text front rest is_text (ap (λ xs. xs ++ rest) e ∙ cut_at_rest text rest r) b

@@ -1,0 +1,285 @@
+-- A number is its digits, both ways, and why a text is none.
+use Rattle.std.proofs.Common.{◌≡◌, ℕ, ◌+◌, ◌*◌, ◌-◌, ◌^◌, ◌<◌, ◌≤◌, true, false, ltb, eqb, IsTrue}
+use Rattle.std.proofs.Common.{List, [], ◌∷◌, ◌++◌, length, arith, refl, ◌≢◌, ap, ◌∙◌, sym, subst}
+use Rattle.std.proofs.Common.{Result, Ok, Err, inl, inr, eqb-true, append-nil, append_assoc}
+use Rattle.std.specs.Prelude.{ℤ, pos}
+use Rattle.std.specs.Char.{is_ascii_digit}
+use Rattle.std.proofs.lemmas.List.{length-append}
+use Rattle.std.proofs.lemmas.Bool.{ltb-true, ltb-false, lt-ltb, le-ltb, eqb-false, ne_eqb}
+use Rattle.std.proofs.lemmas.Bool.{both_ways, cond_both}
+use Rattle.std.proofs.lemmas.List.Elements.{All-nil, All-cons, All-head, All-tail, All-append}
+use Rattle.std.proofs.Math.Nat.{pow-suc, one-le-pow, le-mul_of_pos_right}
+use Rattle.interpolator_syntax.specs.Classes.{minus, zero_digit}
+use Rattle.interpolator_syntax.specs.Numbers.{with_digit, digits_behind, natural, signed, negated}
+use Rattle.interpolator_syntax.specs.Numbers.{negative, integer}
+use Rattle.interpolator_syntax.specs.NumberGrammar.{decimal_value, AreDigits, IsNumber, IsStopped}
+use Rattle.interpolator_syntax.specs.NumberGrammar.{IsStop, IsNoNumber, IsSigned, IsInteger}
+use Rattle.interpolator_syntax.specs.NumberGrammar.{IsNoInteger}
+use Rattle.interpolator_syntax.specs.declared.error.NumberError.{NumberError}
+use Rattle.interpolator_syntax.specs.declared.error.NumberError.TheVariants.{Empty, PosOverflow}
+use Rattle.interpolator_syntax.specs.declared.error.NumberError.TheVariants.{NegOverflow}
+
+abbrev Digit : ℕ → Type 0
+Digit c = IsTrue (is_ascii_digit c)
+
+-- ---- the value of digits behind those of a number
+
+value_from : ℕ → List ℕ → ℕ
+value_from n cs = n * 10 ^ length cs + decimal_value cs
+
+value_none : (n : ℕ) → value_from n [] ≡ n
+unfolding value_from
+value_none n = omega arith
+
+value_whole : (cs : List ℕ) → value_from 0 cs ≡ decimal_value cs
+unfolding value_from
+value_whole cs = omega arith
+
+carried : (n d p q v : ℕ) → q ≡ p * 10 → n * q + (d * p + v) ≡ (n * 10 + d) * p + v
+carried n d p q v e = rw e (omega arith)
+
+value_digit : (n c : ℕ) (cs : List ℕ) → value_from n (c ∷ cs) ≡ value_from (with_digit n c) cs
+unfolding value_from
+value_digit n c cs =
+    carried n (c - zero_digit) (10 ^ length cs) _ (decimal_value cs) (pow-suc 10 (length cs))
+
+value_least : (n : ℕ) (cs : List ℕ) → n ≤ value_from n cs
+unfolding value_from
+value_least n cs =
+    let power = one-le-pow (length cs) 10 (omega arith) in
+    let whole = le-mul_of_pos_right n power in omega arith
+
+-- digits behind digits
+value_over : (n : ℕ) (cs ds : List ℕ) → value_from n (cs ++ ds) ≡ value_from (value_from n cs) ds
+value_over n [] ds = ap (λ m. value_from m ds) (sym (value_none n))
+value_over n (c ∷ cs) ds =
+    rw (value_digit n c (cs ++ ds), value_digit n c cs) (value_over (with_digit n c) cs ds)
+
+value_last : (cs : List ℕ) (c : ℕ)
+    → decimal_value (cs ++ (c ∷ [])) ≡ with_digit (decimal_value cs) c
+value_last cs c =
+    sym (value_whole (cs ++ (c ∷ []))) ∙ value_over 0 cs (c ∷ [])
+    ∙ ap (λ m. value_from m (c ∷ [])) (value_whole cs)
+    ∙ value_digit (decimal_value cs) c [] ∙ value_none (with_digit (decimal_value cs) c)
+
+-- ---- digits behind those of a number
+
+module _ (limit : ℕ) (overflow : NumberError) where
+  abbrev read_from : ℕ → List ℕ → Result ℕ NumberError
+  read_from n cs = digits_behind limit overflow n cs
+
+  -- what the digits of a text answer
+  abbrev Spelled : List ℕ → Result ℕ NumberError → Type 0
+  Spelled text (Ok n) = AreDigits text × (n ≡ decimal_value text) × (n < limit)
+  Spelled text (Err kind) = IsStopped limit overflow text kind
+
+  -- behind digits of a value below the limit
+  spelled_behind : (front cs : List ℕ) → AreDigits front → decimal_value front < limit
+      → Spelled (front ++ cs) (read_from (decimal_value front) cs)
+  spelled_behind front [] d h = rw (append-nil front) (d, refl, h)
+  spelled_behind front (c ∷ cs) d h =
+      let Says = Spelled (front ++ (c ∷ cs)) in
+      let n = with_digit (decimal_value front) c in
+      cond_both (is_ascii_digit c) _ _ Says
+      (λ digit. cond_both (ltb n limit) _ _ Says
+      (λ below.
+      let digits = All-append Digit front (c ∷ []) d (All-cons Digit c [] digit (All-nil Digit)) in
+      let less : decimal_value (front ++ (c ∷ [])) < limit =
+      omega (arith, ltb-true n limit below, value_last front c) in
+      rw (← append_assoc front (c ∷ []) cs, ← value_last front c)
+      (spelled_behind (front ++ (c ∷ [])) cs digits less))
+      (λ past.
+      at_once (inr (digit, omega (arith, ltb-false n limit past, value_last front c), refl))))
+      (λ none. at_once (inl (none, refl)))
+    where
+      at_once : {kind : NumberError} → IsStop limit overflow front c kind
+          → IsStopped limit overflow (front ++ (c ∷ cs)) kind
+      at_once k = record {
+        front = front;
+        c = c;
+        rest = cs;
+        split = refl;
+        digits = d;
+        below = h;
+        stop = k;
+      }
+
+  -- a number, or why the text is none
+  abbrev Says : List ℕ → Result ℕ NumberError → Type 0
+  Says text (Ok n) = IsNumber limit text n
+  Says text (Err kind) = IsNoNumber limit overflow text kind
+
+  says : (c : ℕ) (cs : List ℕ) → 0 < limit → Says (c ∷ cs) (read_from 0 (c ∷ cs))
+  says c cs h = by_digits _ (spelled_behind [] (c ∷ cs) (All-nil Digit) h)
+    where
+      by_digits : (r : Result ℕ NumberError) → Spelled (c ∷ cs) r → Says (c ∷ cs) r
+      by_digits (Ok n) s = record { not_empty = λ k. cc; digits = s.0; value = s.1; below = s.2 }
+      by_digits (Err kind) s = inr s
+
+  -- digits of a value below the limit are read, and what stands behind them goes on from it
+  read_over : (n : ℕ) (cs rest : List ℕ) → AreDigits cs → value_from n cs < limit
+      → read_from n (cs ++ rest) ≡ read_from (value_from n cs) rest
+  read_over n [] rest d h = ap (λ m. read_from m rest) (sym (value_none n))
+  read_over n (c ∷ cs) rest d h =
+      let value = value_digit n c cs in
+      let less : with_digit n c < limit =
+      omega (arith, h, value, value_least (with_digit n c) cs) in
+      let more : value_from (with_digit n c) cs < limit = omega (arith, h, value) in
+      rw (All-head Digit c cs d, lt-ltb (with_digit n c) limit less, value)
+      (read_over (with_digit n c) cs rest (All-tail Digit c cs d) more)
+
+  whole_read : (cs rest : List ℕ) → AreDigits cs → decimal_value cs < limit
+      → read_from 0 (cs ++ rest) ≡ read_from (decimal_value cs) rest
+  whole_read cs rest d h =
+      read_over 0 cs rest d (omega (arith, h, value_whole cs))
+      ∙ ap (λ m. read_from m rest) (value_whole cs)
+
+  only_number : (cs : List ℕ) (n : ℕ) → IsNumber limit cs n → read_from 0 cs ≡ Ok n
+  only_number cs n h =
+      ap (read_from 0) (sym (append-nil cs))
+      ∙ whole_read cs [] h.digits (omega (arith, h.below, h.value)) ∙ ap Ok (sym h.value)
+
+  only_none : (d : ℕ) (ds : List ℕ) (kind : NumberError)
+      → IsNoNumber limit overflow (d ∷ ds) kind → read_from 0 (d ∷ ds) ≡ Err kind
+  only_none d ds kind (inl k) = let e = k.0 in cc
+  only_none d ds kind (inr s) =
+      ap (read_from 0) s.split ∙ whole_read s.front (s.c ∷ s.rest) s.digits s.below
+      ∙ stops s.stop
+    where
+      stops : IsStop limit overflow s.front s.c kind
+          → read_from (decimal_value s.front) (s.c ∷ s.rest) ≡ Err kind
+      stops (inl k) = rw (k.0, k.1) refl
+      stops (inr k) =
+          let n = with_digit (decimal_value s.front) s.c in
+          let past : limit ≤ n = omega (arith, k.1, value_last s.front s.c) in
+          rw (k.0, k.2, le-ltb n limit past) refl
+
+none_empty :
+    (limit : ℕ) (overflow kind : NumberError) → IsNoNumber limit overflow [] kind → kind ≡ Empty
+none_empty limit overflow kind (inl k) = k.1
+none_empty limit overflow kind (inr s) =
+    absurd (omega (arith, ap length s.split, length-append s.front (s.c ∷ s.rest)))
+
+-- ---- a number without a sign
+
+natural_says : (text : List ℕ) → Says (2 ^ 64) PosOverflow text (natural text)
+natural_says [] = inl (refl, refl)
+natural_says (c ∷ cs) = says (2 ^ 64) PosOverflow c cs (omega arith)
+
+pub natural_is : (text : List ℕ) (n : ℕ) → natural text ≡ Ok n → IsNumber (2 ^ 64) text n
+natural_is text n e = subst (Says (2 ^ 64) PosOverflow text) e (natural_says text)
+
+pub only_natural : (text : List ℕ) (n : ℕ) → IsNumber (2 ^ 64) text n → natural text ≡ Ok n
+only_natural [] n h = absurd (h.not_empty refl)
+only_natural (c ∷ cs) n h = only_number (2 ^ 64) PosOverflow (c ∷ cs) n h
+
+pub no_natural_is :
+    (text : List ℕ) (kind : NumberError) → natural text ≡ Err kind
+    → IsNoNumber (2 ^ 64) PosOverflow text kind
+no_natural_is text kind e = subst (Says (2 ^ 64) PosOverflow text) e (natural_says text)
+
+pub only_no_natural :
+    (text : List ℕ) (kind : NumberError) → IsNoNumber (2 ^ 64) PosOverflow text kind
+    → natural text ≡ Err kind
+only_no_natural [] kind h = ap Err (sym (none_empty (2 ^ 64) PosOverflow kind h))
+only_no_natural (c ∷ cs) kind h = only_none (2 ^ 64) PosOverflow c cs kind h
+
+-- ---- an integer
+
+abbrev IntegerSays : List ℕ → Result ℤ NumberError → Type 0
+IntegerSays text (Ok z) = IsInteger text z
+IntegerSays text (Err kind) = IsNoInteger text kind
+
+sign_first : (c d : ℕ) (ds : List ℕ) → eqb c minus ≡ true → IsSigned (c ∷ d ∷ ds) (d ∷ ds)
+sign_first c d ds t =
+    record { split = ap (λ n. n ∷ d ∷ ds) (eqb-true c minus t); not_empty = λ e. cc }
+
+negative_says : (c : ℕ) (cs : List ℕ) → eqb c minus ≡ true → IntegerSays (c ∷ cs) (negative cs)
+negative_says c [] t = inl (
+  λ behind s. let e = s.split in let none : behind ≡ [] = cc in s.not_empty none,
+  inr (record {
+    front = [];
+    c = c;
+    rest = [];
+    split = refl;
+    digits = All-nil Digit;
+    below = omega arith;
+    stop = inl (ap is_ascii_digit (eqb-true c minus t), refl);
+  }),
+)
+negative_says c (d ∷ ds) t = by_digits _ (says (2 ^ 63 + 1) NegOverflow d ds (omega arith))
+  where
+    by_digits : (r : Result ℕ NumberError) → Says (2 ^ 63 + 1) NegOverflow (d ∷ ds) r
+        → IntegerSays (c ∷ d ∷ ds) (signed negated r)
+    by_digits (Ok n) h = inr (d ∷ ds, n, sign_first c d ds t, h, refl)
+    by_digits (Err kind) h = inr (d ∷ ds, sign_first c d ds t, h)
+
+positive_says : (c : ℕ) (cs : List ℕ) (r : Result ℕ NumberError) → eqb c minus ≡ false
+    → Says (2 ^ 63) PosOverflow (c ∷ cs) r → IntegerSays (c ∷ cs) (signed pos r)
+positive_says c cs (Ok n) t h = inl (n, h, refl)
+positive_says c cs (Err kind) t h =
+    inl (λ behind s. let k = s.split in eqb-false c minus t (cc), h)
+
+integer_says : (text : List ℕ) → IntegerSays text (integer text)
+integer_says [] = inl (λ behind s. let k = s.split in cc, inl (refl, refl))
+integer_says (c ∷ cs) =
+    cond_both (eqb c minus) _ _ (IntegerSays (c ∷ cs)) (negative_says c cs)
+    (λ t. positive_says c cs _ t (says (2 ^ 63) PosOverflow c cs (omega arith)))
+
+pub integer_is : (text : List ℕ) (z : ℤ) → integer text ≡ Ok z → IsInteger text z
+integer_is text z e = subst (IntegerSays text) e (integer_says text)
+
+pub no_integer_is :
+    (text : List ℕ) (kind : NumberError) → integer text ≡ Err kind → IsNoInteger text kind
+no_integer_is text kind e = subst (IntegerSays text) e (integer_says text)
+
+only_positive : (text : List ℕ) (n : ℕ) → IsNumber (2 ^ 63) text n → integer text ≡ Ok (pos n)
+only_positive [] n h = absurd (h.not_empty refl)
+only_positive (c ∷ cs) n h =
+    let digit = All-head Digit c cs h.digits in
+    let no_minus : eqb c minus ≡ false =
+    ne_eqb c minus (λ e. both_ways (is_ascii_digit c) (ap is_ascii_digit e) digit) in
+    rw no_minus (ap (signed pos) (only_number (2 ^ 63) PosOverflow (c ∷ cs) n h))
+
+only_negative :
+    (behind : List ℕ) (n : ℕ) → IsNumber (2 ^ 63 + 1) behind n
+    → negative behind ≡ Ok (negated n)
+only_negative [] n h = absurd (h.not_empty refl)
+only_negative (d ∷ ds) n h = ap (signed negated) (only_number (2 ^ 63 + 1) NegOverflow (d ∷ ds) n h)
+
+pub only_integer : (text : List ℕ) (z : ℤ) → IsInteger text z → integer text ≡ Ok z
+only_integer text z h = elim h [
+  | inl k ↦ only_positive text k.0 k.1 ∙ ap Ok (sym k.2)
+  | inr k ↦ ap integer k.2.split ∙ only_negative k.0 k.1 k.3 ∙ ap Ok (sym k.4)
+]
+
+-- where a text without a sign begins with `-`, that stands alone
+only_lone :
+    (c : ℕ) (cs : List ℕ) (kind : NumberError) → eqb c minus ≡ true
+    → ((behind : List ℕ) → IsSigned (c ∷ cs) behind → ⊥)
+    → digits_behind (2 ^ 63) PosOverflow 0 (c ∷ cs) ≡ Err kind → negative cs ≡ Err kind
+only_lone c [] kind t unsigned e = let k = rw (eqb-true c minus t) at e in cc
+only_lone c (d ∷ ds) kind t unsigned e = absurd (unsigned (d ∷ ds) (sign_first c d ds t))
+
+only_unsigned :
+    (text : List ℕ) (kind : NumberError) → ((behind : List ℕ) → IsSigned text behind → ⊥)
+    → IsNoNumber (2 ^ 63) PosOverflow text kind → integer text ≡ Err kind
+only_unsigned [] kind unsigned h = ap Err (sym (none_empty (2 ^ 63) PosOverflow kind h))
+only_unsigned (c ∷ cs) kind unsigned h =
+    let digits = only_none (2 ^ 63) PosOverflow c cs kind h in
+    cond_both (eqb c minus) _ _ (λ (r : Result ℤ NumberError). r ≡ Err kind)
+    (λ t. only_lone c cs kind t unsigned digits) (λ t. ap (signed pos) digits)
+
+only_no_negative :
+    (behind : List ℕ) (kind : NumberError) → behind ≢ []
+    → IsNoNumber (2 ^ 63 + 1) NegOverflow behind kind → negative behind ≡ Err kind
+only_no_negative [] kind unsigned h = absurd (unsigned refl)
+only_no_negative (d ∷ ds) kind unsigned h =
+    ap (signed negated) (only_none (2 ^ 63 + 1) NegOverflow d ds kind h)
+
+pub only_no_integer :
+    (text : List ℕ) (kind : NumberError) → IsNoInteger text kind → integer text ≡ Err kind
+only_no_integer text kind h = elim h [
+  | inl k ↦ only_unsigned text kind k.0 k.1
+  | inr k ↦ ap integer k.1.split ∙ only_no_negative k.0 kind k.1.not_empty k.2
+]

@@ -1,0 +1,217 @@
+-- The pieces that the reader finds are each of the first kind that its place allows.
+use Rattle.std.proofs.Common.{◌≡◌, ◌≢◌, ℕ, zero, suc, ◌+◌, ◌≤◌, eqb}
+use Rattle.std.proofs.Common.{List, [], ◌∷◌, ◌++◌, length, arith, refl, ap, ◌∙◌, sym, subst}
+use Rattle.std.proofs.Common.{Result, Ok, Err, Option, Some, None, append_assoc, append-nil}
+use Rattle.std.proofs.Common.{eqb-true}
+use Rattle.std.proofs.lemmas.Bool.{eqb-false, cond_both, ne_eqb}
+use Rattle.interpolator_syntax.specs.At.{At, size, strip, strip_of}
+use Rattle.interpolator_syntax.specs.Classes.{open_brace, close_brace}
+use Rattle.interpolator_syntax.specs.Arguments.{Argument, argument_at}
+use Rattle.interpolator_syntax.specs.Faults.{Fault}
+use Rattle.interpolator_syntax.specs.Pieces.{PieceKind, Step, doubled, closed}
+use Rattle.interpolator_syntax.specs.Pieces.{argument_step}
+use Rattle.interpolator_syntax.specs.Pieces.{argument_or_broken, argument_from, open_step}
+use Rattle.interpolator_syntax.specs.Pieces.{close_step, piece_from, past, pieces}
+use Rattle.interpolator_syntax.specs.Grammar.{rank, from_place, NotFirst, Fits}
+use Rattle.interpolator_syntax.specs.Grammar.{IsPieces}
+use Rattle.interpolator_syntax.proofs.PieceLemmas.{piece_within, pieces_none, pieces_next}
+use Rattle.interpolator_syntax.proofs.PieceLemmas.{strip_behind}
+use Rattle.interpolator_syntax.proofs.PieceLemmas.{closed_text}
+use Rattle.interpolator_syntax.proofs.TestLemmas.{err_ok}
+use Rattle.interpolator_syntax.proofs.GrammarLemmas.{Shows, stands_shown, same_ok}
+use Rattle.interpolator_syntax.proofs.LocalityLemmas.{size-append}
+use Rattle.interpolator_syntax.proofs.ReaderLemmas.{argument_takes}
+
+-- a text that begins with the character c is stripped of it
+strip_none : (c p : ℕ) (cs : List ℕ) → strip_of c p cs ≡ None → NotFirst c cs
+strip_none c p [] e ds h = cc
+strip_none c p (d ∷ more) e ds h = grind (arith, eqb-false)
+
+-- a step hands out the first piece, and goes on behind it
+abbrev IsFirstStep : (p c : ℕ) → List ℕ → Step → Type 0
+IsFirstStep p c cs s =
+    (s.piece.place ≡ p) × (c ∷ cs ≡ s.piece.text ++ s.rest.text)
+    × Fits p s.piece.kind s.piece.text s.rest.text
+    × ((k : PieceKind) (r : List ℕ) → Shows p c cs k r → rank s.piece.kind ≤ rank k)
+    × (s.rest.place ≡ p + size s.piece.text)
+
+-- ---- what comes after what
+
+-- a character that is no brace is a literal
+literal_first :
+    (p c : ℕ) (cs : List ℕ) → c ≢ open_brace → c ≢ close_brace → (k : PieceKind) (r : List ℕ)
+    → Shows p c cs k r → 4 ≤ rank k
+literal_first p c cs no_open no_close (doubled brace) r h =
+    let e = rw (ne_eqb c open_brace no_open, ne_eqb c close_brace no_close) at h.0 in absurd (cc)
+literal_first p c cs no_open no_close k r h = omega (arith, no_open, no_close)
+
+-- a closing brace with no second one behind it is a lone one
+lone_first :
+    (p : ℕ) (cs : List ℕ) → NotFirst close_brace cs → (k : PieceKind) (r : List ℕ)
+    → Shows p close_brace cs k r → 3 ≤ rank k
+lone_first p cs no_more (doubled brace) r h = absurd (no_more r h.2)
+lone_first p cs no_more k r h = omega arith
+
+-- an opening brace with no second one behind it begins an argument
+closed_first :
+    (p : ℕ) (cs : List ℕ) → NotFirst open_brace cs → (k : PieceKind) (r : List ℕ)
+    → Shows p open_brace cs k r → 1 ≤ rank k
+closed_first p cs no_more (doubled brace) r h = absurd (no_more r h.2)
+closed_first p cs no_more k r h = omega arith
+
+-- no argument stands there that ends in front of a closing brace
+abbrev NotClosed : At → Type 0
+NotClosed b = (x : Argument) (end : ℕ) (more : List ℕ)
+    → argument_at b ≢ Ok (x, from_place end (close_brace ∷ more))
+
+ends_elsewhere :
+    (b : At) (x : Argument) (q : At) → argument_at b ≡ Ok (x, q) → NotFirst close_brace q.text
+    → NotClosed b
+ends_elsewhere b x q reads no_close y end more h =
+    no_close more (ap (λ (a : At). a.text) (same_ok (sym reads ∙ h)).1)
+
+-- what is not closed takes all the rest
+unclosed_first :
+    (p : ℕ) (cs : List ℕ) → NotFirst open_brace cs
+    → NotClosed (from_place (p + 1) cs)
+    → (k : PieceKind) (r : List ℕ) → Shows p open_brace cs k r → 2 ≤ rank k
+unclosed_first p cs no_more not_closed (doubled brace) r h = absurd (no_more r h.2)
+unclosed_first p cs no_more not_closed (closed start x end) r h = absurd (not_closed x end r h.2)
+unclosed_first p cs no_more not_closed k r h = omega arith
+
+-- ---- the steps
+
+close_first :
+    (p : ℕ) (cs : List ℕ) (o : Option At) → strip close_brace (past p close_brace cs) ≡ o
+    → IsFirstStep p close_brace cs (close_step p (past p close_brace cs) o)
+close_first p cs None e =
+    (refl, refl, refl, lone_first p cs (strip_none close_brace (p + 1) cs e), omega arith)
+close_first p cs (Some rest) e =
+    let behind = strip_behind close_brace (p + 1) cs rest e in
+    let split = ap (λ xs. close_brace ∷ xs) behind.0 in
+    (refl, split, (refl, refl), λ k r h. omega arith, omega (arith, behind.1))
+
+-- an argument that ends at q
+argument_step_first :
+    (p : ℕ) (cs : List ℕ) (x : Argument) (q : At) (o : Option At)
+    → NotFirst open_brace cs → argument_at (from_place (p + 1) cs) ≡ Ok (x, q)
+    → strip close_brace q ≡ o
+    → IsFirstStep p open_brace cs (argument_step p (from_place (p + 1) cs) x q o)
+argument_step_first p cs x q None no_more reads e =
+    let b = from_place (p + 1) cs in
+    let none = strip_none close_brace q.place q.text e in
+    let first = unclosed_first p cs no_more (ends_elsewhere b x q reads none) in (
+      refl,
+      sym (append-nil (open_brace ∷ cs)),
+      record {
+        inner = cs;
+        left = q.text;
+        takes_all = refl;
+        in_front = refl;
+        begins = refl;
+        reads = reads;
+        not_closed = none;
+      },
+      first,
+      omega arith,
+    )
+argument_step_first p cs x q (Some rest) no_more reads e =
+    let b = from_place (p + 1) cs in
+    let front = argument_takes b x q reads in
+    let close = strip_behind close_brace q.place q.text rest e in
+    let inner = front.front in
+    let whole : cs ≡ inner ++ (close_brace ∷ rest.text) = rw (← close.0) front.split in
+    let text = closed_text b rest inner whole in
+    let closed_inner = inner ++ (close_brace ∷ []) in
+    let parts : cs ≡ closed_inner ++ rest.text =
+    whole ∙ sym (append_assoc inner (close_brace ∷ []) rest.text) in
+    let ends = size-append inner (close_brace ∷ []) in (
+      refl,
+      rw text (ap (λ xs. open_brace ∷ xs) parts),
+      record {
+        inner = inner;
+        in_braces = text;
+        begins = refl;
+        reads = rw (← whole, ← close.0) reads;
+      },
+      closed_first p cs no_more,
+      omega (arith, ap size text, ends, close.1, front.place),
+    )
+
+argument_first :
+    (p : ℕ) (cs : List ℕ) (o : Result (Argument × At) Fault) → NotFirst open_brace cs
+    → argument_at (from_place (p + 1) cs) ≡ o
+    → IsFirstStep p open_brace cs (argument_or_broken p (from_place (p + 1) cs) o)
+argument_first p cs (Ok w) no_more reads =
+    argument_step_first p cs w.0 w.1 (strip close_brace w.1) no_more reads refl
+argument_first p cs (Err f) no_more reads =
+    let first = unclosed_first p cs no_more (λ y end ds h. err_ok (sym reads ∙ h)) in (
+      refl,
+      sym (append-nil (open_brace ∷ cs)),
+      record {
+        inner = cs;
+        takes_all = refl;
+        in_front = refl;
+        reads = reads;
+      },
+      first,
+      omega arith,
+    )
+
+open_first :
+    (p : ℕ) (cs : List ℕ) (o : Option At) → strip open_brace (past p open_brace cs) ≡ o
+    → IsFirstStep p open_brace cs (open_step p (past p open_brace cs) o)
+unfolding argument_from
+open_first p cs None e =
+    argument_first p cs (argument_at (from_place (p + 1) cs)) (strip_none open_brace (p + 1) cs e)
+    refl
+open_first p cs (Some rest) e =
+    let behind = strip_behind open_brace (p + 1) cs rest e in
+    let split = ap (λ xs. open_brace ∷ xs) behind.0 in
+    (refl, split, (refl, refl), λ k r h. omega arith, omega (arith, behind.1))
+
+step_first : (p c : ℕ) (cs : List ℕ) → IsFirstStep p c cs (piece_from p c (past p c cs))
+step_first p c cs =
+    cond_both (eqb c open_brace) _ _ (IsFirstStep p c cs)
+    (λ e. rw (eqb-true c open_brace e) (open_first p cs _ refl))
+    (λ no_open. cond_both (eqb c close_brace) _ _ (IsFirstStep p c cs)
+    (λ e. rw (eqb-true c close_brace e) (close_first p cs _ refl))
+    (λ no_close.
+    let first =
+    literal_first p c cs (eqb-false c open_brace no_open) (eqb-false c close_brace no_close) in
+    (refl, refl, refl, first, omega arith)))
+
+are_pieces :
+    (most p : ℕ) (cs : List ℕ) → length cs ≤ most
+    → IsPieces (from_place p cs) (pieces (from_place p cs))
+are_pieces most p [] h = subst (IsPieces (from_place p [])) (sym (pieces_none p)) refl
+are_pieces zero p (c ∷ cs) h = absurd (omega arith)
+are_pieces (suc most) p (c ∷ cs) h =
+    let s = piece_from p c (past p c cs) in
+    let first = step_first p c cs in
+    let shorter = piece_within p c (past p c cs) in
+    let more = are_pieces most s.rest.place s.rest.text (omega arith) in
+    let there =
+    subst (λ q. IsPieces (from_place q s.rest.text) (pieces s.rest)) first.4 more in
+    subst (IsPieces (from_place p (c ∷ cs))) (sym (pieces_next p c cs)) (
+      s.rest.text,
+      record {
+        stands = record { place = first.0; split = first.1; fits = first.2 };
+        first = λ y r k. first.3 y.kind r (stands_shown p c cs y r k);
+      },
+      there,
+    )
+
+-- the pieces that the reader finds are pieces of the text
+pub pieces_are : (a : At) → IsPieces a (pieces a)
+pieces_are a = are_pieces (length a.text) a.place a.text (omega arith)
+
+-- what stands behind the first piece ends where the text ends
+pub step_reaches :
+    (p c : ℕ) (cs : List ℕ)
+    → (piece_from p c (past p c cs)).rest.place + size (piece_from p c (past p c cs)).rest.text
+    ≡ p + size (c ∷ cs)
+step_reaches p c cs =
+    let first = step_first p c cs in
+    let s = piece_from p c (past p c cs) in
+    omega (arith, first.4, ap size first.1, size-append s.piece.text s.rest.text)

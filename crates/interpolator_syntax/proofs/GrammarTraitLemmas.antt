@@ -1,0 +1,172 @@
+-- A trait is its text, both ways, and why a text begins none.
+use Rattle.std.proofs.Common.{◌≡◌, ◌≢◌, ℕ, ◌+◌, Bool, true, false, eqb, All, List, [], ◌∷◌, ◌++◌}
+use Rattle.std.proofs.Common.{arith, refl, ap, ◌∙◌, sym, Result, Ok, Err, Option, Some, None}
+use Rattle.std.proofs.Common.{inl, inr, eqb-true, get_or, ltb, cond}
+use Rattle.std.specs.Prelude.{codes}
+use Rattle.std.specs.Char.{len_utf8}
+use Rattle.std.proofs.lemmas.Bool.{eqb-false, ne_eqb, cond_both, ltb-true}
+use Rattle.std.proofs.lemmas.List.Elements.{All-nil, All-cons, All-get_or}
+use Rattle.interpolator_render.specs.declared.view.Trait.{Trait}
+use Rattle.interpolator_render.specs.declared.view.Trait.TheVariants as traits
+use Rattle.interpolator_render.specs.declared.view.HexDebug.{HexDebug}
+use Rattle.interpolator_render.specs.declared.view.HexDebug.TheVariants as hex_debugs
+use Rattle.interpolator_syntax.specs.At.{At, size}
+use Rattle.interpolator_syntax.specs.Classes.{close_brace, question_mark, lower_x, upper_x, lower_o}
+use Rattle.interpolator_syntax.specs.Classes.{lower_b, lower_e, upper_e, lower_i, lower_p}
+use Rattle.interpolator_syntax.specs.SpecTexts.{Wanted, wanted, hexadecimal, trait_letter, lettered}
+use Rattle.interpolator_syntax.specs.SpecTexts.{trait_from, trait_at}
+use Rattle.interpolator_syntax.specs.Grammar.{from_place, NotFirst}
+use Rattle.interpolator_syntax.specs.GrammarParts.{Lies}
+use Rattle.interpolator_syntax.specs.SpecGrammar.{trait_text, MayEnd, AsksDisplay, shown}
+use Rattle.interpolator_syntax.specs.Faults.{Fault, parse, expected}
+use Rattle.interpolator_syntax.proofs.GrammarPartLemmas.{ok_pair, Says, Agrees, lies_here}
+use Rattle.interpolator_syntax.proofs.GrammarPartLemmas.{lies_cons, lies_end, Stripped}
+use Rattle.interpolator_syntax.proofs.GrammarPartLemmas.{stripped, strip_not}
+use Rattle.interpolator_syntax.proofs.TestLemmas.{none_some, some_same}
+
+place_behind : (p : ℕ) → p + 1 + 1 ≡ p + 2
+place_behind p = omega arith
+
+module _ (start : ℕ) (flagged : Bool) where
+  abbrev Shows : At → Result (Wanted × At) Fault → Type 0
+  Shows a o = Says (shown start flagged) a o
+
+  module _ (p c : ℕ) (cs : List ℕ) where
+    abbrev here : At
+    here = from_place p (c ∷ cs)
+
+    abbrev past : At
+    past = from_place (p + len_utf8 c) cs
+
+    -- `x` and `X`, and `x?` and `X?`
+    hex_shows : (t : Trait) (hex : HexDebug) (d : ℕ) → eqb c d ≡ true
+        → trait_text t hex_debugs.No ≡ Some (d ∷ [])
+        → trait_text traits.Debug hex ≡ Some (d ∷ question_mark ∷ [])
+        → (NotFirst question_mark cs → MayEnd t cs) → (o : Option At)
+        → Stripped question_mark past o → Shows here (hexadecimal t hex past o)
+    hex_shows t hex d e one two ends None h =
+        inr (d ∷ [], one, rw (← eqb-true c d e) (lies_here p c cs), ends h)
+    hex_shows t hex d e one two ends (Some q) h =
+        inr (d ∷ question_mark ∷ [], two, rw (← eqb-true c d e) (lies_cons p c cs _ q h), tt)
+
+    abbrev Lettered : Option Trait → Type 0
+    Lettered o = Shows here (lettered c p past o)
+
+    -- a trait of one letter, or another
+    letter_or : (t : Trait) (d : ℕ) → trait_text t hex_debugs.No ≡ Some (d ∷ []) → MayEnd t cs
+        → (o : Option Trait) → (eqb c d ≡ false → Lettered o)
+        → Lettered (cond (eqb c d) (Some t) o)
+    letter_or t d text follows o other =
+        cond_both (eqb c d) _ _ Lettered
+        (λ e. inr (d ∷ [], text, rw (← eqb-true c d e) (lies_here p c cs), follows)) other
+
+    abbrev None_of : List ℕ → Type 0
+    None_of ds = All (λ d. c ≢ d) ds
+
+    and_not : (d : ℕ) (ds : List ℕ) → eqb c d ≡ false → None_of ds → None_of (d ∷ ds)
+    and_not d ds e h = All-cons (λ n. c ≢ n) d ds (eqb-false c d e) h
+
+    letters_show : eqb c close_brace ≡ false → eqb c lower_x ≡ false → eqb c upper_x ≡ false
+        → Lettered (trait_letter c)
+    letters_show no_brace no_x no_X =
+        letter_or traits.Debug question_mark refl tt _ (λ no_mark.
+        letter_or traits.Octal lower_o refl tt _ (λ no_o.
+        letter_or traits.Binary lower_b refl tt _ (λ no_b.
+        letter_or traits.LowerExp lower_e refl tt _ (λ no_e.
+        letter_or traits.UpperExp upper_e refl tt _ (λ no_E.
+        letter_or traits.Iter lower_i refl tt _ (λ no_i.
+        cond_both (eqb c lower_p) _ _ (λ (f : Fault). (shown start flagged).is_not here f)
+        (λ e. inr (inl ((cs, ap (λ n. n ∷ cs) (eqb-true c lower_p e)), refl)))
+        (λ no_p. inr (inr (
+          c,
+          (cs, refl),
+          and_not 125 (codes "?oxXbeEip") no_brace (and_not 63 (codes "oxXbeEip") no_mark
+              (and_not 111 (codes "xXbeEip") no_o (and_not 120 (codes "XbeEip") no_x
+              (and_not 88 (codes "beEip") no_X (and_not 98 (codes "eEip") no_b
+              (and_not 101 (codes "Eip") no_e (and_not 69 (codes "ip") no_E
+              (and_not 105 (codes "p") no_i
+              (and_not 112 [] no_p (All-nil (λ n. c ≢ n))))))))))),
+          refl,
+        )))))))))
+
+    char_shows : Shows here (trait_from here c past)
+    char_shows =
+        cond_both (eqb c close_brace) _ _ (Shows here)
+        (λ e. inl (inl (cs, ap (λ n. n ∷ cs) (eqb-true c close_brace e)), refl, refl))
+        (λ no_brace. cond_both (eqb c lower_x) _ _ (Shows here)
+        (λ e. hex_shows traits.LowerHex _ _ e refl refl (λ h. h) _ (stripped question_mark past))
+        (λ no_x. cond_both (eqb c upper_x) _ _ (Shows here)
+        (λ e. hex_shows traits.UpperHex _ _ e refl refl (λ h. h) _ (stripped question_mark past))
+        (λ no_X. letters_show no_brace no_x no_X)))
+
+    -- a character that begins no trait
+    no_trait_begins :
+        None_of (codes "}?oxXbeEip") → trait_from here c past ≡ Err (parse (expected (codes "}") p))
+    no_trait_begins h =
+        rw (apart 0 refl, apart 3 refl, apart 4 refl, apart 1 refl, apart 2 refl, apart 5 refl)
+        (rw (apart 6 refl, apart 7 refl, apart 8 refl, apart 9 refl) refl)
+      where
+        apart : (i : ℕ) → ltb i 10 ≡ true → eqb c (get_or (codes "}?oxXbeEip") i 0) ≡ false
+        apart i k =
+            ne_eqb c _ (All-get_or (λ n. c ≢ n) (codes "}?oxXbeEip") i 0 (ltb-true i 10 k) h)
+
+  trait_shows :
+      (p : ℕ) (cs : List ℕ) → Shows (from_place p cs) (trait_at start flagged (from_place p cs))
+  trait_shows p [] =
+      cond_both flagged _ _ (Shows (from_place p [])) (λ e. inl (refl, e, refl))
+      (λ e. inl (inr (refl, e), refl, refl))
+  trait_shows p (c ∷ cs) = char_shows p c cs
+
+  abbrev reads : ℕ → List ℕ → Result (Wanted × At) Fault
+  reads p cs = trait_at start flagged (from_place p cs)
+
+  display_read :
+      (a : At) → AsksDisplay flagged a.text
+      → trait_at start flagged a ≡ Ok (wanted traits.Display, a)
+  display_read a h = elim h [
+    | inl k ↦ rw k.1 refl
+    | inr k ↦ rw (k.0, k.1) refl
+  ]
+
+  abbrev both : Trait → HexDebug → Wanted
+  both t hex = record { slot = t; hex_debug = hex }
+
+  -- the text of a trait, in front of that rest, is read
+  abbrev Reads : Trait → HexDebug → ℕ → List ℕ → List ℕ → Type 0
+  Reads t hex p rest cs = reads p (cs ++ rest) ≡ Ok (both t hex, from_place (p + size cs) rest)
+
+  text_read :
+      (t : Trait) (hex : HexDebug) (cs : List ℕ) (p : ℕ) (rest : List ℕ)
+      → trait_text t hex ≡ Some cs
+      → MayEnd t rest → Reads t hex p rest cs
+  text_read traits.Display hex cs p rest e h = absurd (none_some e)
+  text_read traits.LowerHex hex_debugs.No cs p rest e h =
+      rw (← some_same e, strip_not question_mark (from_place (p + 1) rest) h) refl
+  text_read traits.UpperHex hex_debugs.No cs p rest e h =
+      rw (← some_same e, strip_not question_mark (from_place (p + 1) rest) h) refl
+  text_read t hex_debugs.No cs p rest e h = rw (← some_same e) refl
+  text_read traits.Debug hex cs p rest e h = rw (← some_same e, place_behind p) refl
+  text_read t hex cs p rest e h = absurd (none_some e)
+
+  named_read :
+      (a : At) (x : Wanted) (cs : List ℕ) (q : At) → trait_text x.slot x.hex_debug ≡ Some cs
+      → Lies a cs q → MayEnd x.slot q.text → trait_at start flagged a ≡ Ok (x, q)
+  named_read a x cs q e l h =
+      ap (reads a.place) l.split
+      ∙ text_read x.slot x.hex_debug cs a.place q.text e h
+      ∙ ok_pair refl (lies_end a cs q l)
+
+  pub agrees_trait : Agrees (trait_at start flagged) (shown start flagged)
+  agrees_trait = record {
+    says = λ a. trait_shows a.place a.text;
+    only = λ a q x t. elim t [
+      | inl s ↦ display_read a s.0 ∙ ok_pair (sym s.1) (sym s.2)
+      | inr s ↦ named_read a x s.0 q s.1 s.2 s.3
+    ];
+    only_not = λ a f t. elim t [
+      | inl s ↦ rw (s.0, s.1, s.2) refl
+      | inr (inl s) ↦ rw (s.0.1, s.1) refl
+      | inr (inr s) ↦
+          ap (reads a.place) s.1.1 ∙ no_trait_begins a.place s.0 s.1.0 s.2 ∙ ap Err (sym s.3)
+    ];
+  }

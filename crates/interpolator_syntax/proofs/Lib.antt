@@ -1,0 +1,26 @@
+-- The lemmas of the reader and of the faults.
+pub mod ByteLemmas
+pub mod CharacterLemmas
+pub mod ErrorLemmas
+pub mod FrontLemmas
+pub mod GrammarArgumentLemmas
+pub mod GrammarGroupLemmas
+pub mod GrammarLemmas
+pub mod GrammarListLemmas
+pub mod GrammarNumberLemmas
+pub mod GrammarOptionLemmas
+pub mod GrammarPartLemmas
+pub mod GrammarPieceLemmas
+pub mod GrammarSpecLemmas
+pub mod GrammarTraitLemmas
+pub mod GroupLemmas
+pub mod ListReaderLemmas
+pub mod LocalityLemmas
+pub mod LongestLemmas
+pub mod PieceLemmas
+pub mod ReaderLemmas
+pub mod SimpleReaderLemmas
+pub mod SizeLemmas
+pub mod StripLemmas
+pub mod TestLemmas
+pub mod UnstyledLemmas

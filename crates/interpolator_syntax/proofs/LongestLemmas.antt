@@ -1,0 +1,69 @@
+-- The longest front of a text whose characters pass: the one defined by recursion is one, and no
+-- other is.
+use Rattle.std.proofs.Common.{◌≡◌, ℕ, ◌+◌, Bool, false, IsTrue, IsFalse, All, List, []}
+use Rattle.std.proofs.Common.{◌∷◌, ◌++◌, refl, ap, ◌∙◌, sym}
+use Rattle.std.proofs.lemmas.Bool.{cond_both}
+use Rattle.std.proofs.lemmas.List.Elements.{All-nil, All-cons, All-head, All-tail}
+use Rattle.interpolator_syntax.specs.At.{At, size, behind}
+use Rattle.interpolator_syntax.specs.Classes.{front_of, behind_of}
+use Rattle.interpolator_syntax.specs.Grammar.{from_place, IsLongest}
+use Rattle.interpolator_syntax.proofs.FrontLemmas.{front_behind}
+
+pub at_same : {p q : ℕ} {cs ds : List ℕ} → p ≡ q → cs ≡ ds → from_place p cs ≡ from_place q ds
+at_same e h = cc
+
+module _ (passes : ℕ → Bool) where
+  front_passes : (cs : List ℕ) → All (λ c. IsTrue (passes c)) (front_of passes cs)
+  front_passes [] = All-nil (λ c. IsTrue (passes c))
+  front_passes (c ∷ cs) =
+      cond_both (passes c) _ _ (All (λ c. IsTrue (passes c)))
+      (λ e. All-cons (λ c. IsTrue (passes c)) c (front_of passes cs) e (front_passes cs))
+      (λ e. All-nil (λ c. IsTrue (passes c)))
+
+  behind_stops : (cs : List ℕ) (c : ℕ) (more : List ℕ) → behind_of passes cs ≡ c ∷ more
+      → passes c ≡ false
+  behind_stops [] c more h = cc
+  behind_stops (d ∷ ds) c more h =
+      cond_both (passes d) _ _ (λ xs. xs ≡ c ∷ more → passes c ≡ false)
+      (λ e. behind_stops ds c more) (λ e k. let same : d ≡ c = cc in ap passes (sym same) ∙ e) h
+
+  -- the front and what stands behind it are the longest front and its rest
+  pub front_longest : (cs : List ℕ) → IsLongest passes cs (front_of passes cs) (behind_of passes cs)
+  front_longest cs =
+      record {
+        split = sym (front_behind passes cs);
+        pass = front_passes cs;
+        stops = behind_stops cs;
+      }
+
+  abbrev Stops : List ℕ → Type 0
+  Stops rest = (c : ℕ) (more : List ℕ) → rest ≡ c ∷ more → IsFalse (passes c)
+
+  front_stops : (rest : List ℕ) → Stops rest
+      → (front_of passes rest ≡ []) × (behind_of passes rest ≡ rest)
+  front_stops [] h = (refl, refl)
+  front_stops (c ∷ cs) h = rw (h c cs refl) (refl, refl)
+
+  front_then :
+      (front rest : List ℕ) → All (λ c. IsTrue (passes c)) front → Stops rest
+      → (front_of passes (front ++ rest) ≡ front) × (behind_of passes (front ++ rest) ≡ rest)
+  front_then [] rest h k = front_stops rest k
+  front_then (c ∷ cs) rest h k =
+      let e = All-head (λ c. IsTrue (passes c)) c cs h in
+      let more = front_then cs rest (All-tail (λ c. IsTrue (passes c)) c cs h) k in
+      rw e (ap (λ xs. c ∷ xs) more.0, more.1)
+
+  -- there is only one longest front
+  pub longest_front :
+      (text front rest : List ℕ) → IsLongest passes text front rest
+      → (front_of passes text ≡ front) × (behind_of passes text ≡ rest)
+  longest_front text front rest h =
+      let same = front_then front rest h.pass h.stops in
+      (ap (front_of passes) h.split ∙ same.0, ap (behind_of passes) h.split ∙ same.1)
+
+  pub behind_longest :
+      (a : At) (front rest : List ℕ) → IsLongest passes a.text front rest
+      → behind passes a ≡ from_place (a.place + size front) rest
+  behind_longest a front rest h =
+      let same = longest_front a.text front rest h in
+      at_same (ap (λ xs. a.place + size xs) same.0) same.1

@@ -1,0 +1,113 @@
+-- The pieces of a text, one after the other.
+use Rattle.std.proofs.Common.{◌≡◌, ℕ, zero, suc, ◌≤◌, Bool, true, false, cond, eqb, List, [], ◌∷◌}
+use Rattle.std.proofs.Common.{length, arith, refl, ap, Ok, Option, Some, None, ◌+◌, eqb-true, ◌||◌}
+use Rattle.std.proofs.Common.{Result, Err, ◌++◌, ◌∙◌, sym, append_assoc}
+use Rattle.std.proofs.lemmas.List.{append_cancel_right}
+use Rattle.interpolator_syntax.specs.At.{At, at, strip, strip_of}
+use Rattle.interpolator_syntax.specs.Classes.{behind_of, open_brace, close_brace, is_brace}
+use Rattle.interpolator_syntax.specs.Arguments.{Argument, argument_at, argument_behind}
+use Rattle.interpolator_syntax.specs.Arguments.{plain_argument}
+use Rattle.interpolator_syntax.specs.declared.argument.Named.{Named}
+use Rattle.interpolator_syntax.specs.Pieces.{Step, argument_from, piece_from, past, pieces_within}
+use Rattle.interpolator_syntax.specs.Pieces.{pieces, step, literal, argument_or_broken, text_up_to}
+use Rattle.interpolator_syntax.proofs.FrontLemmas.{cut_at_rest}
+use Rattle.interpolator_syntax.proofs.LocalityLemmas.{takes_shorter}
+use Rattle.interpolator_syntax.proofs.ReaderLemmas.{argument_takes}
+use Rattle.interpolator_syntax.proofs.TestLemmas.{in_both, none_some}
+use Rattle.std.specs.Char.{len_utf8}
+use Rattle.interpolator_syntax.specs.Faults.{Fault}
+
+pub behind_shorter : (passes : ℕ → Bool) (cs : List ℕ) → length (behind_of passes cs) ≤ length cs
+behind_shorter passes [] = omega arith
+behind_shorter passes (c ∷ cs) =
+    elim (passes c) as (λ b. length (cond b (behind_of passes cs) (c ∷ cs)) ≤ length (c ∷ cs))
+    [ true ↦ omega (arith, behind_shorter passes cs) | false ↦ omega arith ]
+
+-- what stands behind a character, if it stands there, is no longer than so many characters
+abbrev pub OptionWithin : ℕ → Option At → Type 0
+OptionWithin n None = Unit {0}
+OptionWithin n (Some rest) = length rest.text ≤ n
+
+pub strip_within : (c p : ℕ) (cs : List ℕ) (n : ℕ) → length cs ≤ n
+    → OptionWithin n (strip_of c p cs)
+strip_within c p [] n h = tt
+strip_within c p (d ∷ ds) n h = in_both (OptionWithin n) (eqb d c) _ _ (omega arith) tt
+
+-- what stands behind a character that stands there
+pub strip_behind : (c p : ℕ) (cs : List ℕ) (r : At) → strip_of c p cs ≡ Some r
+    → (cs ≡ c ∷ r.text) × (r.place ≡ p + len_utf8 c)
+strip_behind c p [] r e = absurd (none_some e)
+strip_behind c p (d ∷ ds) r e = grind (arith, eqb-true)
+
+-- a character that is no brace is a literal
+pub literal_step : (p c : ℕ) (b : At) → is_brace c ≡ false
+    → piece_from p c b ≡ step p (c ∷ []) (literal c) b
+literal_step p c b h =
+    let tests = neither (eqb c open_brace) (eqb c close_brace) h in rw (tests.0, tests.1) refl
+  where
+    neither : (b d : Bool) → (b || d) ≡ false → (b ≡ false) × (d ≡ false)
+    neither b d e = grind arith
+
+argument_or_broken_within :
+    (p : ℕ) (b : At) (r : Result (Argument × At) Fault) → argument_at b ≡ r
+    → length (argument_or_broken p b r).rest.text ≤ length b.text
+argument_or_broken_within p b (Ok x) e =
+    let shorter = takes_shorter b x.1 (argument_takes b x.0 x.1 e) in grind (arith, shorter)
+argument_or_broken_within p b (Err f) e = omega arith
+
+pub argument_from_within : (p : ℕ) (b : At) → length (argument_from p b).rest.text ≤ length b.text
+unfolding argument_from
+argument_from_within p b = argument_or_broken_within p b (argument_at b) refl
+
+pub piece_within : (p c : ℕ) (b : At) → length (piece_from p c b).rest.text ≤ length b.text
+piece_within p c b = grind (arith, argument_from_within p b)
+
+-- a piece stands where it begins
+abbrev BeginsAt : ℕ → Step → Type 0
+BeginsAt p s = s.piece.place ≡ p
+
+pub piece_begins : (p c : ℕ) (b : At) → BeginsAt p (piece_from p c b)
+unfolding argument_from
+piece_begins p c b = grind arith
+
+-- any bound that is long enough gives the same pieces
+enough : (n m p : ℕ) (cs : List ℕ) → length cs ≤ n → length cs ≤ m
+    → pieces_within n p cs ≡ pieces_within m p cs
+enough n m p [] h k = refl
+enough zero m p (c ∷ cs) h k = absurd (omega arith)
+enough (suc n) zero p (c ∷ cs) h k = absurd (omega arith)
+enough (suc n) (suc m) p (c ∷ cs) h k =
+    let s = piece_from p c (past p c cs) in
+    let l = piece_within p c (past p c cs) in
+    ap (λ xs. s.piece ∷ xs) (enough n m s.rest.place s.rest.text (omega arith) (omega arith))
+
+pub pieces_none : (p : ℕ) → pieces (record { place = p; text = [] }) ≡ []
+unfolding pieces
+pieces_none p = refl
+
+-- the first piece, and then those of what stands behind it
+pub pieces_next : (p c : ℕ) (cs : List ℕ)
+    → pieces (record { place = p; text = c ∷ cs }) ≡ (piece_from p c (past p c cs)).piece ∷ pieces
+    (piece_from p c (past p c cs)).rest
+unfolding pieces
+pieces_next p c cs =
+    let s = piece_from p c (past p c cs) in
+    ap (λ xs. s.piece ∷ xs) (enough (length cs) (length s.rest.text) s.rest.place s.rest.text
+    (piece_within p c (past p c cs)) (omega arith))
+
+-- the text of a closed argument
+pub closed_text :
+    (b r : At) (front : List ℕ) → b.text ≡ front ++ (close_brace ∷ r.text)
+    → text_up_to b r ≡ open_brace ∷ (front ++ (close_brace ∷ []))
+closed_text b r front e =
+    let inner = front ++ (close_brace ∷ []) in
+    let whole : open_brace ∷ b.text ≡ (open_brace ∷ inner) ++ r.text =
+    ap (λ cs. open_brace ∷ cs) (e ∙ sym (append_assoc front (close_brace ∷ []) r.text)) in
+    append_cancel_right (text_up_to b r) (open_brace ∷ inner) r.text
+    (cut_at_rest (open_brace ∷ b.text) r.text (open_brace ∷ inner, whole) ∙ whole)
+
+-- a name that a closing brace follows is plain display of it
+pub read_alone : (a : At) (n : Named) (r : At)
+    → argument_at a ≡ argument_behind a.place (plain_argument n) (at n.end)
+    → strip close_brace (at n.end) ≡ Some r → argument_at a ≡ Ok (plain_argument n, at n.end)
+read_alone a n r named closed = named ∙ rw closed refl

@@ -1,0 +1,73 @@
+-- An ASCII character at the beginning of a text, by its byte.
+use Rattle.std.proofs.Common.{◌≡◌, ℕ, ◌+◌, ◌<◌, true, eqb, List, [], ◌∷◌}
+use Rattle.std.proofs.Common.{◌++◌, length, get_or, arith, refl, ap, ◌∙◌, sym, rules}
+use Rattle.std.proofs.Common.{Some, None}
+use Rattle.std.specs.Str.{chars, IsUtf8, IsCharBoundary, encode_utf8_all}
+use Rattle.std.specs.Char.{encode_utf8}
+use Rattle.std.specs.List.{slice_get}
+use Rattle.std.proofs.lemmas.Str.{chars_past_char, chars-nil, encodes-chars, encode_ascii}
+use Rattle.std.proofs.lemmas.Str.{len_utf8_ascii, IsCharBoundary-after_ascii}
+use Rattle.interpolator_syntax.specs.At.{At, strip, strip_of, behind}
+use Rattle.interpolator_syntax.specs.Classes.{front_of, in_class, open_brace, close_brace}
+use Rattle.interpolator_syntax.specs.Tokens.{literals, first_token, literal_scan}
+use Rattle.interpolator_syntax.specs.declared.class.Class.TheVariants.{Literal}
+use Rattle.interpolator_syntax.specs.Grammar.{NotFirst}
+use Rattle.std.proofs.lemmas.Bool.{cond_both, eqb-true}
+
+same_test : (n : ℕ) → eqb n n ≡ true
+same_test n = search rules
+
+pub strip_here : (wanted p : ℕ) (bs rest : List ℕ) → wanted < 128 → IsUtf8 bs → bs ≡ wanted ∷ rest
+    → strip_of wanted p (chars bs) ≡ Some (record { place = p + 1; text = chars rest })
+strip_here wanted p bs rest low u e =
+    let whole : chars bs ≡ wanted ∷ chars rest =
+    chars_past_char bs rest wanted u (rw (encode_ascii wanted low) e) in
+    rw (whole, same_test wanted, len_utf8_ascii wanted low) refl
+
+strip_other_at : (wanted p : ℕ) (bs cs : List ℕ) → wanted < 128 → NotFirst wanted bs
+    → encode_utf8_all cs ≡ bs → strip_of wanted p cs ≡ None
+strip_other_at wanted p bs [] low h e = refl
+strip_other_at wanted p bs (c ∷ cs) low h e =
+    cond_both (eqb c wanted) _ _ (λ o. o ≡ None) (λ d.
+    let begins = ap encode_utf8 (eqb-true c wanted d) ∙ encode_ascii wanted low in
+    absurd (h (encode_utf8_all cs) (sym e ∙ ap (λ xs. xs ++ encode_utf8_all cs) begins)))
+    (λ d. refl)
+
+pub strip_other : (wanted p : ℕ) (bs : List ℕ) → wanted < 128 → IsUtf8 bs → NotFirst wanted bs
+    → strip_of wanted p (chars bs) ≡ None
+strip_other wanted p bs low u h = strip_other_at wanted p bs (chars bs) low h (encodes-chars bs u)
+
+pub boundary_behind : (bs : List ℕ) (b : ℕ) → slice_get bs 0 ≡ Some b → b < 128 → IsUtf8 bs
+    → IsCharBoundary bs 1
+boundary_behind [] b e low u = absurd (cc)
+boundary_behind (x ∷ xs) b e low u =
+    let same : x ≡ b = cc in IsCharBoundary-after_ascii (x ∷ xs) 0 u (omega arith) (omega arith)
+
+-- a text that is not empty and begins with no brace begins with a run of literals
+pub literals_scanned : (p : ℕ) (bs cs : List ℕ) (r : At) → 0 < length bs → IsUtf8 bs
+    → None ≡ strip open_brace (record { place = p; text = chars bs })
+    → None ≡ strip close_brace (record { place = p; text = chars bs })
+    → cs ≡ front_of (in_class Literal) (chars bs)
+    → r ≡ behind (in_class Literal) (record { place = p; text = chars bs })
+    → Some (literals cs, r) ≡ first_token (record { place = p; text = chars bs })
+unfolding first_token
+literals_scanned p bs cs r n u h k f b =
+    rw (sym h, sym k, f, b) (by_chars (chars bs) (encodes-chars bs u))
+  where
+    by_chars : (ds : List ℕ) → encode_utf8_all ds ≡ bs
+        → Some (
+          literals (front_of (in_class Literal) (chars bs)),
+          behind (in_class Literal)
+              (record { place = p; text = chars bs }),
+        )
+        ≡ literal_scan (record { place = p; text = chars bs }) ds
+    by_chars [] e = let none : length bs ≡ 0 = sym (ap length e) in absurd (omega arith)
+    by_chars (d ∷ ds) e = refl
+
+-- a text of one byte
+pub one_char : (bs cs : List ℕ) → cs ≡ bs → length cs ≡ 1 → get_or cs 0 0 < 128 → IsUtf8 bs
+    → chars bs ≡ get_or cs 0 0 ∷ []
+one_char bs [] s n low u = absurd (omega arith)
+one_char bs (b ∷ []) s n low u = chars_past_char bs [] b u (rw (encode_ascii b low) (sym s))
+    ∙ ap (λ xs. b ∷ xs) chars-nil
+one_char bs (b ∷ d ∷ ds) s n low u = absurd (omega arith)

@@ -1,0 +1,69 @@
+-- Places in the outermost format text, counted in bytes, and the characters from there on.
+use Rattle.std.specs.Prelude.{ℕ, Bool, ◌+◌, ◌==◌, if◌then◌else◌, List, [], ◌∷◌, map, Option, Some}
+use Rattle.std.specs.Prelude.{None}
+use Rattle.std.specs.Char.{len_utf8}
+use Rattle.std.specs.Str.{chars}
+use Rattle.interpolator_syntax.specs.Classes.{front_of, behind_of}
+use Rattle.interpolator_syntax.specs.declared.cursor.Cursor.{Cursor}
+
+-- how many bytes the characters take
+abbrev pub size : List ℕ → ℕ
+size [] = 0
+size (c ∷ cs) = len_utf8 c + size cs
+
+-- characters, each with its place
+abbrev pub Placed : Type 0
+Placed = List (ℕ × ℕ)
+
+-- the characters without their places
+abbrev pub text_of : Placed → List ℕ
+text_of xs = map (λ x. x.0) xs
+
+-- characters that stand in the format from a place on, one behind the other
+abbrev pub placed_from : ℕ → List ℕ → Placed
+placed_from p [] = []
+placed_from p (c ∷ cs) = (c, p) ∷ placed_from (p + len_utf8 c) cs
+
+-- characters that all have one place
+abbrev pub placed_at : ℕ → List ℕ → Placed
+placed_at p cs = map (λ c. (c, p)) cs
+
+-- a place in the outermost text, and the characters from there on
+pub record At : Type 0 where
+  pub place : ℕ
+  pub text : List ℕ
+
+-- a whole format
+abbrev pub outermost : List ℕ → At
+outermost cs = record { place = 0; text = cs }
+
+-- where a cursor stands
+abbrev pub at : Cursor → At
+at c = record { place = c.place; text = chars c.rest.now }
+
+-- the first character of a text at a place, and what stands behind it
+abbrev pub first_of : ℕ → List ℕ → Option (ℕ × At)
+first_of p [] = None
+first_of p (c ∷ cs) = Some (c, record { place = p + len_utf8 c; text = cs })
+
+-- the same of a text at a place
+abbrev pub first : At → Option (ℕ × At)
+first a = first_of a.place a.text
+
+-- what stands behind the longest front whose characters pass
+abbrev pub behind : (ℕ → Bool) → At → At
+behind passes a =
+    record { place = a.place + size (front_of passes a.text); text = behind_of passes a.text }
+
+-- what stands behind the character c, where the text begins with it
+abbrev pub strip_of : ℕ → ℕ → List ℕ → Option At
+strip_of c p [] = None
+strip_of c p (d ∷ ds) = if d == c then Some (record { place = p + len_utf8 d; text = ds }) else None
+
+-- the same of a text at a place
+abbrev pub strip : ℕ → At → Option At
+strip c a = strip_of c a.place a.text
+
+-- what stands behind all of the text
+abbrev pub all_behind : At → At
+all_behind a = record { place = a.place + size a.text; text = [] }

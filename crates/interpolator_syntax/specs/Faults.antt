@@ -1,0 +1,102 @@
+-- What a fault says: its variant and its fields, where borrows and allocators do not count.
+use Rattle.std.specs.Prelude.{ℕ, ◌≤◌, List, Option, None, Some, Result, Ok, Err, string_bytes, ⊤}
+use Rattle.std.specs.Prelude.{codes}
+use Rattle.std.specs.Str.{chars}
+use Rattle.interpolator_render.specs.declared.view.Trait.{Trait}
+use Rattle.interpolator_syntax.specs.declared.error.NumberError.{NumberError}
+use Rattle.interpolator_syntax.specs.declared.error.ParseError.{ParseError}
+use Rattle.interpolator_syntax.specs.declared.error.ParseError.TheVariants.{FormatSpecUnclosed}
+use Rattle.interpolator_syntax.specs.declared.error.ParseError.TheVariants.{Expected}
+use Rattle.interpolator_syntax.specs.declared.error.ParseError.TheVariants.{InvalidWidth}
+use Rattle.interpolator_syntax.specs.declared.error.ParseError.TheVariants.{InvalidPrecision}
+use Rattle.interpolator_syntax.specs.declared.error.ParseError.TheVariants.{Fill, Iter, RangeBound}
+use Rattle.interpolator_syntax.specs.declared.broken.Broken.{Broken}
+use Rattle.interpolator_syntax.specs.declared.broken.Broken.TheVariants.{Text, Pointer}
+use Rattle.interpolator_syntax.specs.declared.error.Error.{Error}
+use Rattle.interpolator_syntax.specs.declared.error.Error.TheVariants.{MissingTraitImpl, Fmt, Parse}
+use Rattle.interpolator_syntax.specs.declared.error.Error.TheVariants.{MissingValue}
+use Rattle.interpolator_syntax.specs.declared.error.Error.TheVariants.{UnsupportedOption}
+use Rattle.interpolator_syntax.specs.declared.error.Error.TheVariants.{NoMemory}
+
+-- a fault of the format text: the bytes of a wanted text, and places
+pub data ParseFault : Type 0 where
+  unclosed : ℕ → ParseFault
+  expected : List ℕ → ℕ → ParseFault
+  invalid_width : NumberError → ℕ → ParseFault
+  invalid_precision : NumberError → ℕ → ParseFault
+  fill : ℕ → ParseFault
+  iter : ℕ → ParseFault
+  range_bound : NumberError → ℕ → ParseFault
+
+-- a fault that a format can have: the characters of a missing name, the bytes of an option and
+-- its feature, and places
+pub data Fault : Type 0 where
+  missing_trait_impl : Trait → ℕ → Fault
+  fmt : ℕ → Fault
+  parse : ParseFault → Fault
+  missing_value : List ℕ → ℕ → Fault
+  unsupported_option : List ℕ → List ℕ → ℕ → Fault
+
+-- what an error says: a fault of the format, or that memory was refused
+pub data Answer : Type 0 where
+  fault : Fault → Answer
+  no_memory : Answer
+
+-- what a `ParseError` says
+abbrev pub parse_fault_of : ParseError → ParseFault
+parse_fault_of (FormatSpecUnclosed place) = unclosed place
+parse_fault_of (Expected text place) = expected text.now place
+parse_fault_of (InvalidWidth kind place) = invalid_width kind place
+parse_fault_of (InvalidPrecision kind place) = invalid_precision kind place
+parse_fault_of (Fill place) = fill place
+parse_fault_of (Iter place) = iter place
+parse_fault_of (RangeBound kind place) = range_bound kind place
+
+-- what an `Error` says
+abbrev pub answer_of : Error → Answer
+answer_of (MissingTraitImpl wanted place) = fault (missing_trait_impl wanted place)
+answer_of (Fmt _ place) = fault (fmt place)
+answer_of (Parse error) = fault (parse (parse_fault_of error))
+answer_of (MissingValue name place) = fault (missing_value (chars (string_bytes name)) place)
+answer_of (UnsupportedOption option feature place) =
+    fault (unsupported_option option.now feature.now place)
+answer_of NoMemory = no_memory
+
+-- what a call answered beside its result: nothing for `Ok`
+abbrev pub answered : {A : Type 0} → Result A Error → Option Answer
+answered (Ok _) = None
+answered (Err error) = Some (answer_of error)
+
+-- why no argument can be read
+abbrev pub broken_fault_of : Broken → Fault
+broken_fault_of (Text error) = parse (parse_fault_of error)
+broken_fault_of (Pointer place) = unsupported_option (codes "p") (codes "pointer") place
+
+-- the one fault that owns memory
+abbrev pub IsMissingValue : Error → Type 0
+IsMissingValue (MissingValue _ _) = ⊤
+IsMissingValue _ = ⊥
+
+-- the place that a fault of the format text carries
+abbrev pub parse_place : ParseFault → ℕ
+parse_place (unclosed place) = place
+parse_place (expected text place) = place
+parse_place (invalid_width kind place) = place
+parse_place (invalid_precision kind place) = place
+parse_place (fill place) = place
+parse_place (iter place) = place
+parse_place (range_bound kind place) = place
+
+-- the place that a fault carries
+abbrev pub fault_place : Fault → ℕ
+fault_place (missing_trait_impl wanted place) = place
+fault_place (fmt place) = place
+fault_place (parse f) = parse_place f
+fault_place (missing_value name place) = place
+fault_place (unsupported_option option feature place) = place
+
+-- an answered fault carries a place of at most so many bytes
+abbrev pub PlaceWithin : ℕ → Option Answer → Type 0
+PlaceWithin length None = ⊤
+PlaceWithin length (Some (fault f)) = fault_place f ≤ length
+PlaceWithin length (Some no_memory) = ⊤

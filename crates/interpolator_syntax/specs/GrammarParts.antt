@@ -1,0 +1,123 @@
+-- Parts of a text by relation: what stands at a place, or the fault that it does not. A part reads
+-- nothing, and parts stand one behind the other.
+use Rattle.std.specs.Prelude.{◌≡◌, ◌≢◌, ◌⊎◌, ℕ, ◌+◌, Bool, true, false, IsTrue, IsFalse}
+use Rattle.std.specs.Prelude.{List, [], ◌∷◌, ◌++◌, Option, Some, None}
+use Rattle.interpolator_syntax.specs.At.{At, size}
+use Rattle.interpolator_syntax.specs.Classes.{in_class}
+use Rattle.interpolator_syntax.specs.Grammar.{NotFirst, IsLongest}
+use Rattle.interpolator_syntax.specs.NumberGrammar.{Spelling}
+use Rattle.interpolator_syntax.specs.Faults.{Fault, ParseFault, parse, unclosed}
+use Rattle.interpolator_syntax.specs.declared.error.NumberError.{NumberError}
+use Rattle.interpolator_syntax.specs.declared.class.Class.{Class}
+use Rattle.interpolator_syntax.specs.declared.class.Class.TheVariants.{Number}
+
+-- `is a x q`: x stands at a, and behind it what stands at q; `is_not a f`: none stands at a, and f
+-- is the fault
+pub record Part (A : Type 0) : Type 1 where
+  pub is : At → A → At → Type 0
+  pub is_not : At → Fault → Type 0
+
+infixl 10 ◌>>=◌
+-- a part and, behind it, the next; the fault is of the first part that does not stand
+abbrev pub ◌>>=◌ : {A B : Type 0} → Part A → (A → Part B) → Part B
+◌>>=◌ {A = A} part next = record {
+  is = λ a y q. (x : A) × (b : At) × part.is a x b × (next x).is b y q;
+  is_not =
+      λ a f. part.is_not a f ⊎ ((x : A) × (b : At) × part.is a x b × (next x).is_not b f);
+}
+
+-- no text at all, which says x
+abbrev pub ends : {A : Type 0} → A → Part A
+ends x = record { is = λ a y q. (y ≡ x) × (q ≡ a); is_not = λ a f. ⊥ }
+
+-- a part that tells its own place
+abbrev pub placed : {A : Type 0} → (ℕ → Part A) → Part A
+placed part =
+    record { is = λ a. (part a.place).is a; is_not = λ a. (part a.place).is_not a }
+
+-- the text begins with the character c
+abbrev pub IsFirst : (c : ℕ) → List ℕ → Type 0
+IsFirst c text = (more : List ℕ) × (text ≡ c ∷ more)
+
+-- the characters stand at a, and behind them what stands at q
+pub record Lies (a : At) (cs : List ℕ) (q : At) : Type 0 where
+  pub split : a.text ≡ cs ++ q.text
+  pub place : q.place ≡ a.place + size cs
+
+-- no letter of the table stands first
+abbrev pub NoLetter : {A : Type 0} → (ℕ → Option A) → List ℕ → Type 0
+NoLetter table text = (c : ℕ) → IsFirst c text → table c ≡ None
+
+-- a letter of the table stands there, and means x; or none does, and x is absent
+abbrev pub letter : {A : Type 0} → (ℕ → Option A) → (absent : A) → Part A
+letter table absent = record {
+  is =
+      λ a x q. ((c : ℕ) × (table c ≡ Some x) × Lies a (c ∷ []) q)
+      ⊎ (NoLetter table a.text × (x ≡ absent) × (q ≡ a));
+  is_not = λ a f. ⊥;
+}
+
+-- whether the character c stands there
+abbrev pub flag : ℕ → Part Bool
+flag c = record {
+  is = λ a x q. (Lies a (c ∷ []) q × (x ≡ true)) ⊎ (NotFirst c a.text × (x ≡ false) × (q ≡ a));
+  is_not = λ a f. ⊥;
+}
+
+-- a character that passes stands first
+abbrev pub FirstPasses : (ℕ → Bool) → List ℕ → Type 0
+FirstPasses passes text = (c : ℕ) × IsFirst c text × IsTrue (passes c)
+
+-- no character that passes stands first
+abbrev pub NonePasses : (ℕ → Bool) → List ℕ → Type 0
+NonePasses passes text = (c : ℕ) → IsFirst c text → IsFalse (passes c)
+
+-- a part that is there exactly where a character that passes stands first
+abbrev pub where_first : {A : Type 0} → (ℕ → Bool) → Part (Option A) → Part (Option A)
+where_first passes part = record {
+  is =
+      λ a x q. (FirstPasses passes a.text × part.is a x q)
+      ⊎ (NonePasses passes a.text × (x ≡ None) × (q ≡ a));
+  is_not = λ a f. FirstPasses passes a.text × part.is_not a f;
+}
+
+-- a part that is there exactly behind the character c
+abbrev pub where_behind : {A : Type 0} → ℕ → Part (Option A) → Part (Option A)
+where_behind c part = record {
+  is =
+      λ a x q. ((b : At) × Lies a (c ∷ []) b × part.is b x q)
+      ⊎ (NotFirst c a.text × (x ≡ None) × (q ≡ a));
+  is_not = λ a f. (b : At) × Lies a (c ∷ []) b × part.is_not b f;
+}
+
+-- the longest run of a class stands at a, and behind it what stands at q
+pub record IsRun (class : Class) (a : At) (cs : List ℕ) (q : At) : Type 0 where
+  pub longest : IsLongest (in_class class) a.text cs q.text
+  pub place : q.place ≡ a.place + size cs
+
+-- the longest run of a class, which does not touch the end of the text
+abbrev pub run : Class → (start : ℕ) → Part (List ℕ)
+run class start = record {
+  is = λ a cs q. IsRun class a cs q × (q.text ≢ []);
+  is_not =
+      λ a f. (cs : List ℕ) × (b : At) × IsRun class a cs b × (b.text ≡ [])
+      × (f ≡ parse (unclosed start));
+}
+
+-- the run that stood at p spells a number
+abbrev pub spelled : {A : Type 0} → Spelling A → (NumberError → ℕ → ParseFault) → (p : ℕ)
+    → (cs : List ℕ) → Part (Option A)
+spelled {A = A} spelling wrong p cs = record {
+  is = λ a x q. (n : A) × spelling.spells cs n × (x ≡ Some n) × (q ≡ a);
+  is_not =
+      λ a f. (kind : NumberError) × spelling.spells_none cs kind × (f ≡ parse (wrong kind p));
+}
+
+-- a number: a run of digits and `-` that spells one
+abbrev pub number : {A : Type 0} → Spelling A → (NumberError → ℕ → ParseFault) → (start : ℕ)
+    → Part (Option A)
+number spelling wrong start =
+    placed (λ p.
+    do
+      cs ← run Number start
+      spelled spelling wrong p cs)

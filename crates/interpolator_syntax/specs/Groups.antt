@@ -1,0 +1,102 @@
+-- A text in round brackets, guarded by signs `#`.
+use Rattle.std.specs.Prelude.{ℕ, zero, suc, ◌+◌, ◌==◌, ◌||◌, if◌then◌else◌, List, [], ◌∷◌, length}
+use Rattle.std.specs.Prelude.{Option, Some, None, option_map, Result, Ok, Err, codes}
+use Rattle.std.specs.Char.{len_utf8}
+use Rattle.std.specs.Str.{chars}
+use Rattle.std.specs.Borrow.{Bor}
+use Rattle.interpolator_syntax.specs.At.{At, at, first, strip, behind}
+use Rattle.interpolator_syntax.specs.Classes.{in_class, hash, open_bracket, close_bracket}
+use Rattle.interpolator_syntax.specs.Readers.{Reader, ◌>>=◌, give, span}
+use Rattle.interpolator_syntax.specs.Faults.{Fault, parse, unclosed, expected, broken_fault_of}
+use Rattle.interpolator_syntax.specs.declared.class.Class.TheVariants.{Sign, Enclosed}
+use Rattle.interpolator_syntax.specs.declared.broken.Broken.{Broken}
+use Rattle.interpolator_syntax.specs.declared.cursor.Cursor.{Cursor}
+use Rattle.interpolator_syntax.specs.declared.group.Group as code_group
+
+-- what stands behind k signs, where so many stand at p
+abbrev pub behind_signs : (k p : ℕ) → List ℕ → Option At
+behind_signs zero p cs = Some (record { place = p; text = cs })
+behind_signs (suc k) p [] = None
+behind_signs (suc k) p (c ∷ cs) = if c == hash then behind_signs k (p + len_utf8 c) cs else None
+
+-- the text ends in front of the character c, behind whose signs this stands; or it ends later
+abbrev pub here_or_later : (c : ℕ) → Option At → Option (List ℕ × At) → Option (List ℕ × At)
+here_or_later c (Some q) later = Some ([], q)
+here_or_later c None later = option_map (λ w. (c ∷ w.0, w.1)) later
+
+-- the text up to the first `)` that is followed by k signs, and what stands behind those
+abbrev pub close_from : (k p : ℕ) → List ℕ → Option (List ℕ × At)
+close_from k p [] = None
+close_from k p (c ∷ cs) =
+    here_or_later c (if c == close_bracket then behind_signs k (p + len_utf8 c) cs else None)
+    (close_from k (p + len_utf8 c) cs)
+
+-- a text in brackets, and where it begins
+pub record Group : Type 0 where
+  pub text : List ℕ
+  pub place : ℕ
+
+-- the group whose text begins at p, where it closes
+abbrev pub closed_group : (start p : ℕ) → Option (List ℕ × At) → Result (Group × At) Fault
+closed_group start p None = Err (parse (unclosed start))
+closed_group start p (Some w) = Ok (record { text = w.0; place = p }, w.1)
+
+-- behind k signs, a bracket, and the text up to where it closes
+abbrev pub bracket_first : (start k : ℕ) → (a : At) → Option (ℕ × At) → Result (Group × At) Fault
+bracket_first start k a None = Err (parse (unclosed start))
+bracket_first start k a (Some w) =
+    if w.0 == open_bracket
+    then closed_group start w.1.place (close_from k w.1.place w.1.text)
+    else Err (parse (expected (codes "(") a.place))
+
+-- the same of a text at a place
+abbrev pub bracket_at : (start k : ℕ) → Reader Group
+bracket_at start k = λ a. bracket_first start k a (first a)
+
+-- a group of the argument that begins at `start`: all the signs that stand here, `(`, and the text
+-- up to the first `)` that is followed by as many signs
+unfoldable pub group_at : (start : ℕ) → Reader Group
+group_at start =
+    do
+      signs ← span Sign
+      bracket_at start (length signs)
+
+-- a group where a `(` or a sign stands first
+abbrev pub if_bracket : Reader Group → (a : At) → Option (ℕ × At)
+    → Result (Option Group × At) Fault
+if_bracket read a None = Ok (None, a)
+if_bracket read a (Some w) =
+    if w.0 == open_bracket || w.0 == hash then (read >>= λ g. give (Some g)) a else Ok (None, a)
+
+-- a group, if one stands here
+abbrev pub group_if : (start : ℕ) → Reader (Option Group)
+group_if start = λ a. if_bracket (group_at start) a (first a)
+
+-- a `)`, if one stands at b, and what stands behind it
+abbrev pub with_behind : (b : At) → Option At → Option (At × At)
+with_behind b None = None
+with_behind b (Some rest) = Some (b, rest)
+
+-- the next `)`, and what stands behind it
+abbrev pub next_close : At → Option (At × At)
+next_close a =
+    with_behind (behind (in_class Enclosed) a) (strip close_bracket (behind (in_class Enclosed) a))
+
+-- a text as the code has it, and what stands behind it
+abbrev pub text_read : Bor (List ℕ) × Cursor → List ℕ × At
+text_read x = (chars x.0.now, at x.1)
+
+-- a group as the code has it, without where it lies in memory
+abbrev pub group_of : code_group.Group → Group
+group_of g = record { text = chars g.text.now; place = g.place }
+
+-- the same with what stands behind it; or why it is broken
+abbrev pub group_read : Result (code_group.Group × Cursor) Broken → Result (Group × At) Fault
+group_read (Ok x) = Ok (group_of x.0, at x.1)
+group_read (Err broken) = Err (broken_fault_of broken)
+
+-- the same of a group that may be absent
+abbrev pub group_if_read : Result (Option code_group.Group × Cursor) Broken
+    → Result (Option Group × At) Fault
+group_if_read (Ok x) = Ok (option_map group_of x.0, at x.1)
+group_if_read (Err broken) = Err (broken_fault_of broken)

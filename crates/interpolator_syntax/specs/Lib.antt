@@ -1,0 +1,22 @@
+-- The definitions that the contracts cite.
+pub mod At
+pub mod Classes
+pub mod Readers
+pub mod Numbers
+pub mod Groups
+pub mod Ranges
+pub mod Lists
+pub mod SpecTexts
+pub mod SpecReads
+pub mod Arguments
+pub mod Pieces
+pub mod Tokens
+pub mod NumberGrammar
+pub mod GroupGrammar
+pub mod Grammar
+pub mod GrammarParts
+pub mod ListGrammar
+pub mod SpecGrammar
+pub mod ArgumentGrammar
+pub mod Faults
+pub mod FaultTexts

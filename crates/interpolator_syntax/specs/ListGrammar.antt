@@ -1,0 +1,87 @@
+-- The text behind the letter of a list as its parts, one behind the other: a range and two groups.
+use Rattle.std.specs.Prelude.{◌≡◌, ◌≢◌, ◌⊎◌, ℕ, ℤ, Bool, true, false, ◌==◌, ◌||◌, List, ◌∷◌}
+use Rattle.std.specs.Prelude.{Option, Some, None, codes}
+use Rattle.interpolator_syntax.specs.At.{At}
+use Rattle.interpolator_syntax.specs.Classes.{in_class, point, equals, hash, open_bracket}
+use Rattle.interpolator_syntax.specs.Ranges.{range_of}
+use Rattle.interpolator_syntax.specs.Groups.{Group}
+use Rattle.interpolator_syntax.specs.Lists.{ListAsked}
+use Rattle.interpolator_syntax.specs.NumberGrammar.{integers}
+use Rattle.interpolator_syntax.specs.Grammar.{NotFirst}
+use Rattle.interpolator_syntax.specs.GrammarParts.{Part, ◌>>=◌, ends, Lies, where_first, number}
+use Rattle.interpolator_syntax.specs.GroupGrammar.{IsGroup, IsNoGroup}
+use Rattle.interpolator_syntax.specs.Faults.{Fault, range_bound}
+use Rattle.interpolator_syntax.specs.declared.class.Class.TheVariants.{Number}
+use Rattle.interpolator_syntax.specs.declared.range.Range.{Range}
+
+-- a bound, where a digit or a `-` stands
+abbrev pub bound : (start : ℕ) → Part (Option ℤ)
+bound start = where_first (in_class Number) (number integers range_bound start)
+
+-- the text does not begin with two points
+abbrev pub NoPoints : List ℕ → Type 0
+NoPoints text = (more : List ℕ) → text ≢ point ∷ point ∷ more
+
+-- `..=`, or `..` where no `=` follows, and whether it is the one with `=`; or neither
+abbrev pub points : Part (Option Bool)
+points = record {
+  is =
+      λ a x q. (Lies a (codes "..=") q × (x ≡ Some true))
+      ⊎ ((Lies a (codes "..") q × NotFirst equals q.text × (x ≡ Some false))
+      ⊎ (NoPoints a.text × (x ≡ None) × (q ≡ a)));
+  is_not = λ a f. ⊥;
+}
+
+-- an upper bound may stand behind points alone
+abbrev pub upper : (start : ℕ) → Option Bool → Part (Option ℤ)
+upper start None = ends None
+upper start (Some inclusive) = bound start
+
+-- a range: a bound, points and an upper bound, each where it stands; a bound alone is both bounds
+abbrev pub range : (start : ℕ) → Part (Option Range)
+range start =
+    do
+      lower ← bound start
+      inclusive ← points
+      upper ← upper start inclusive
+      ends (range_of lower inclusive upper)
+
+-- this range, if one, stands at a, and behind it what stands at q
+abbrev pub IsRange : (start : ℕ) → (a : At) → (x : Option Range) → (q : At) → Type 0
+IsRange start = (range start).is
+
+-- no range can stand at a, for this reason
+abbrev pub IsNoRange : (start : ℕ) → (a : At) → (f : Fault) → Type 0
+IsNoRange start = (range start).is_not
+
+-- `(` or `#`
+abbrev pub opens_group : ℕ → Bool
+opens_group c = c == open_bracket || c == hash
+
+-- a group
+abbrev pub group : (start : ℕ) → Part Group
+group start = record { is = IsGroup; is_not = IsNoGroup start }
+
+-- a group, where a `(` or a `#` stands
+abbrev pub group_there : (start : ℕ) → Part (Option Group)
+group_there start =
+    where_first opens_group (do
+      g ← group start
+      ends (Some g))
+
+-- how a list is written: a range, the format of an item, and the join
+abbrev pub list : (start : ℕ) → Part ListAsked
+list start =
+    do
+      range ← range start
+      item ← group_there start
+      join ← group_there start
+      ends (record { range = range; item = item; join = join })
+
+-- x stands at a, behind the letter of a list, and behind it what stands at q
+abbrev pub IsList : (start : ℕ) → (a : At) → (x : ListAsked) → (q : At) → Type 0
+IsList start = (list start).is
+
+-- why what stands behind the letter is no list
+abbrev pub IsNoList : (start : ℕ) → (a : At) → (f : Fault) → Type 0
+IsNoList start = (list start).is_not

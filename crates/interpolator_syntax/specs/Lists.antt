@@ -1,0 +1,21 @@
+-- How a list is written: which of its items, the format of an item, and the text between them.
+use Rattle.std.specs.Prelude.{ℕ, Option}
+use Rattle.interpolator_syntax.specs.Groups.{Group, group_if}
+use Rattle.interpolator_syntax.specs.Ranges.{range_at}
+use Rattle.interpolator_syntax.specs.Readers.{Reader, ◌>>=◌, give}
+use Rattle.interpolator_syntax.specs.declared.range.Range.{Range}
+
+-- a range, an item format and a join, each of which may be absent
+pub record ListAsked : Type 0 where
+  pub range : Option Range
+  pub item : Option Group
+  pub join : Option Group
+
+-- what stands behind the letter `i` of the argument that begins at `start`
+unfoldable pub list_at : (start : ℕ) → Reader ListAsked
+list_at start =
+    do
+      range ← range_at start
+      item ← group_if start
+      join ← group_if start
+      give (record { range = range; item = item; join = join })

@@ -1,0 +1,71 @@
+-- A range of the indexes of a list.
+use Rattle.std.specs.Prelude.{ℕ, ℤ, Bool, true, if◌then◌else◌, Option, None, Some, Result, Ok, Err}
+use Rattle.interpolator_syntax.specs.At.{At, at, first, strip}
+use Rattle.interpolator_syntax.specs.Classes.{in_class, point, equals}
+use Rattle.interpolator_syntax.specs.Numbers.{integer}
+use Rattle.interpolator_syntax.specs.Readers.{Reader, ◌>>=◌, give, flag, run}
+use Rattle.interpolator_syntax.specs.Faults.{Fault, parse, range_bound, broken_fault_of}
+use Rattle.interpolator_syntax.specs.declared.error.NumberError.{NumberError}
+use Rattle.interpolator_syntax.specs.declared.class.Class.TheVariants.{Number}
+use Rattle.interpolator_syntax.specs.declared.broken.Broken.{Broken}
+use Rattle.interpolator_syntax.specs.declared.cursor.Cursor.{Cursor}
+use Rattle.interpolator_syntax.specs.declared.range.Range.{Range}
+
+-- the bound of a run at p, or the fault that it is none
+abbrev pub bound_or : (p : ℕ) → Result ℤ NumberError → Reader (Option ℤ)
+bound_or p (Ok n) = give (Some n)
+bound_or p (Err kind) = λ a. Err (parse (range_bound kind p))
+
+-- a run of digits and `-` that spells a bound
+abbrev pub bound_at : (start : ℕ) → Reader (Option ℤ)
+bound_at start = λ a. (run (in_class Number) start >>= λ cs. bound_or a.place (integer cs)) a
+
+-- a bound where a digit or a `-` stands first
+abbrev pub if_number : Reader (Option ℤ) → (a : At) → Option (ℕ × At) → Result (Option ℤ × At) Fault
+if_number read a None = Ok (None, a)
+if_number read a (Some w) = if in_class Number w.0 then read a else Ok (None, a)
+
+-- a bound, if one stands here
+abbrev pub bound_if : (start : ℕ) → Reader (Option ℤ)
+bound_if start = λ a. if_number (bound_at start) a (first a)
+
+-- behind a point at a: a second one, and whether a `=` stands behind that
+abbrev pub second_point : (a : At) → Option At → Result (Option Bool × At) Fault
+second_point a None = Ok (None, a)
+second_point a (Some rest) = (flag equals >>= λ inclusive. give (Some inclusive)) rest
+
+-- behind a point, if one stands at a
+abbrev pub first_point : (a : At) → Option At → Result (Option Bool × At) Fault
+first_point a None = Ok (None, a)
+first_point a (Some rest) = second_point a (strip point rest)
+
+-- `..` or `..=`, if one stands here: whether it is the one with `=`
+abbrev pub points : Reader (Option Bool)
+points = λ a. first_point a (strip point a)
+
+-- behind `..` or `..=` an upper bound may stand
+abbrev pub upper_at : (start : ℕ) → Option Bool → Reader (Option ℤ)
+upper_at start None = give None
+upper_at start (Some inclusive) = bound_if start
+
+-- the range of what was read: a bound alone is both bounds
+abbrev pub range_of : Option ℤ → Option Bool → Option ℤ → Option Range
+range_of lower (Some inclusive) upper =
+    Some (record { lower = lower; inclusive = inclusive; upper = upper })
+range_of (Some n) None upper =
+    Some (record { lower = Some n; inclusive = true; upper = Some n })
+range_of None None upper = None
+
+-- a range, if one stands here, of the argument that begins at `start`
+unfoldable pub range_at : (start : ℕ) → Reader (Option Range)
+range_at start =
+    do
+      lower ← bound_if start
+      inclusive ← points
+      upper ← upper_at start inclusive
+      give (range_of lower inclusive upper)
+
+-- what was read, and what stands behind it; or why it is broken
+abbrev pub part_or_broken : {A : Type 0} → Result (A × Cursor) Broken → Result (A × At) Fault
+part_or_broken (Ok x) = Ok (x.0, at x.1)
+part_or_broken (Err broken) = Err (broken_fault_of broken)

@@ -1,0 +1,128 @@
+-- A spec's text as its parts, one behind the other, each where its first character stands.
+use Rattle.std.specs.Prelude.{◌≡◌, ◌≢◌, ◌⊎◌, ℕ, ◌≤◌, ◌||◌, Bool, IsTrue, IsFalse, All}
+use Rattle.std.specs.Prelude.{List, [], ◌∷◌, length, Option, Some, None, codes, ⊤}
+use Rattle.std.specs.Char.{is_ascii_digit}
+use Rattle.interpolator_render.specs.declared.view.Trait.{Trait}
+use Rattle.interpolator_render.specs.declared.view.Trait.TheVariants as traits
+use Rattle.interpolator_render.specs.declared.view.Alignment.TheVariants as alignments
+use Rattle.interpolator_render.specs.declared.view.Sign.TheVariants as signs
+use Rattle.interpolator_render.specs.declared.view.HexDebug.{HexDebug}
+use Rattle.interpolator_render.specs.declared.view.HexDebug.TheVariants as hex_debugs
+use Rattle.interpolator_syntax.specs.At.{At}
+use Rattle.interpolator_syntax.specs.Classes.{is_alignment, hash, zero_digit, point, close_brace}
+use Rattle.interpolator_syntax.specs.Classes.{question_mark, lower_p}
+use Rattle.interpolator_syntax.specs.SpecTexts.{Kind, of_value, of_list, Asked, plain_display}
+use Rattle.interpolator_syntax.specs.SpecTexts.{Wanted, wanted, alignment_letter, sign_letter}
+use Rattle.interpolator_syntax.specs.NumberGrammar.{naturals}
+use Rattle.interpolator_syntax.specs.Grammar.{NotFirst}
+use Rattle.interpolator_syntax.specs.GrammarParts.{Part, ◌>>=◌, ends, IsFirst, Lies, letter, flag}
+use Rattle.interpolator_syntax.specs.GrammarParts.{where_first, where_behind, number}
+use Rattle.interpolator_syntax.specs.ListGrammar.{list}
+use Rattle.interpolator_syntax.specs.Faults.{Fault, parse, unclosed, expected, fill}
+use Rattle.interpolator_syntax.specs.Faults.{invalid_width, invalid_precision, unsupported_option}
+
+-- a number, where a digit stands
+abbrev pub width : (start : ℕ) → Part (Option ℕ)
+width start = where_first is_ascii_digit (number naturals invalid_width start)
+
+-- a number behind a `.`, where one stands
+abbrev pub precision : (start : ℕ) → Part (Option ℕ)
+precision start = where_behind point (number naturals invalid_precision start)
+
+-- the text of a trait, and of how debug writes numbers; display has none
+abbrev pub trait_text : Trait → HexDebug → Option (List ℕ)
+trait_text traits.Debug hex_debugs.No = Some (codes "?")
+trait_text traits.Debug hex_debugs.Lower = Some (codes "x?")
+trait_text traits.Debug hex_debugs.Upper = Some (codes "X?")
+trait_text traits.Octal hex_debugs.No = Some (codes "o")
+trait_text traits.LowerHex hex_debugs.No = Some (codes "x")
+trait_text traits.UpperHex hex_debugs.No = Some (codes "X")
+trait_text traits.Binary hex_debugs.No = Some (codes "b")
+trait_text traits.LowerExp hex_debugs.No = Some (codes "e")
+trait_text traits.UpperExp hex_debugs.No = Some (codes "E")
+trait_text traits.Iter hex_debugs.No = Some (codes "i")
+trait_text _ _ = None
+
+-- `x` and `X` end only where no `?` follows
+abbrev pub MayEnd : Trait → (rest : List ℕ) → Type 0
+MayEnd traits.LowerHex rest = NotFirst question_mark rest
+MayEnd traits.UpperHex rest = NotFirst question_mark rest
+MayEnd _ rest = ⊤
+
+-- display is asked for in front of a `}`, and at the end of the text where no `#` or `0` was read
+abbrev pub AsksDisplay : (flagged : Bool) → (text : List ℕ) → Type 0
+AsksDisplay flagged text = IsFirst close_brace text ⊎ ((text ≡ []) × IsFalse flagged)
+
+-- a trait's text, or nothing for display; why there is none: the text ends, a `p` stands there, or
+-- another character that begins no trait
+abbrev pub shown : (start : ℕ) → (flagged : Bool) → Part Wanted
+shown start flagged = record {
+  is =
+      λ a x q. (AsksDisplay flagged a.text × (x ≡ wanted traits.Display) × (q ≡ a))
+      ⊎ ((cs : List ℕ) × (trait_text x.slot x.hex_debug ≡ Some cs) × Lies a cs q
+      × MayEnd x.slot q.text);
+  is_not =
+      λ a f. ((a.text ≡ []) × IsTrue flagged × (f ≡ parse (unclosed start)))
+      ⊎ ((IsFirst lower_p a.text
+      × (f ≡ unsupported_option (codes "p") (codes "pointer") a.place))
+      ⊎ ((c : ℕ) × IsFirst c a.text × All (λ d. c ≢ d) (codes "}?oxXbeEip")
+      × (f ≡ parse (expected (codes "}") a.place))));
+}
+
+-- what is asked for under a trait: behind the letter of a list stands how it is written
+abbrev pub kind : (start : ℕ) → Trait → Part Kind
+kind start traits.Iter =
+    do
+      l ← list start
+      ends (of_list l)
+kind start t = ends (of_value t)
+
+-- the parts of a spec
+abbrev pub parts : (start : ℕ) → Part Asked
+parts start =
+    do
+      alignment ← letter alignment_letter alignments.Unset
+      sign ← letter sign_letter signs.Unset
+      alternate ← flag hash
+      zero ← flag zero_digit
+      width ← width start
+      precision ← precision start
+      shown ← shown start (alternate || zero)
+      kind ← kind start shown.slot
+      ends (record {
+        spec = record {
+          alignment = alignment;
+          sign = sign;
+          alternate = alternate;
+          zero = zero;
+          width = width;
+          precision = precision;
+          hex_debug = shown.hex_debug;
+        };
+        kind = kind;
+      })
+
+-- the second character of the text is d
+abbrev pub IsSecond : (d : ℕ) → (text : List ℕ) → Type 0
+IsSecond d text = (c : ℕ) × (more : List ℕ) × (text ≡ c ∷ d ∷ more)
+
+-- the text behind the colon of the argument that begins at `start`: at most one character is plain
+-- display, and not read; a second character that is an alignment would make the first a fill; else
+-- the parts stand there
+abbrev pub spec : (start : ℕ) → Part Asked
+spec start = record {
+  is =
+      λ a x q. ((length a.text ≤ 1) × (x ≡ plain_display) × (q ≡ a))
+      ⊎ ((d : ℕ) × IsSecond d a.text × IsFalse (is_alignment d) × (parts start).is a x q);
+  is_not =
+      λ a f. ((d : ℕ) × IsSecond d a.text × IsTrue (is_alignment d) × (f ≡ parse (fill a.place)))
+      ⊎ ((d : ℕ) × IsSecond d a.text × IsFalse (is_alignment d) × (parts start).is_not a f);
+}
+
+-- what x asks stands behind the colon, and behind it what stands at q
+abbrev pub IsSpec : (start : ℕ) → (a : At) → (x : Asked) → (q : At) → Type 0
+IsSpec start = (spec start).is
+
+-- no spec stands behind the colon, for this reason
+abbrev pub IsNoSpec : (start : ℕ) → (a : At) → (f : Fault) → Type 0
+IsNoSpec start = (spec start).is_not

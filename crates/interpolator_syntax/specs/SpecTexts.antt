@@ -1,0 +1,203 @@
+-- What stands behind the colon of an argument.
+use Rattle.std.specs.Prelude.{ℕ, Bool, false, ◌==◌, ◌||◌, if◌then◌else◌, List, [], ◌∷◌, Option}
+use Rattle.std.specs.Prelude.{None}
+use Rattle.std.specs.Prelude.{Some, Result, Ok, Err, codes}
+use Rattle.std.specs.Char.{is_ascii_digit}
+use Rattle.interpolator_render.specs.declared.view.Trait.{Trait}
+use Rattle.interpolator_render.specs.declared.view.Trait.TheVariants as traits
+use Rattle.interpolator_render.specs.declared.view.Spec.{Spec}
+use Rattle.interpolator_render.specs.declared.view.Alignment.{Alignment}
+use Rattle.interpolator_render.specs.declared.view.Alignment.TheVariants as alignments
+use Rattle.interpolator_render.specs.declared.view.Sign.{Sign}
+use Rattle.interpolator_render.specs.declared.view.Sign.TheVariants as signs
+use Rattle.interpolator_render.specs.declared.view.HexDebug.{HexDebug}
+use Rattle.interpolator_render.specs.declared.view.HexDebug.TheVariants as hex_debugs
+use Rattle.interpolator_syntax.specs.At.{At, first, strip}
+use Rattle.interpolator_syntax.specs.Classes.{in_class, is_alignment, left_angle, caret}
+use Rattle.interpolator_syntax.specs.Classes.{right_angle, plus, minus, hash, zero_digit, point}
+use Rattle.interpolator_syntax.specs.Classes.{question_mark, close_brace, upper_x, lower_x}
+use Rattle.interpolator_syntax.specs.Classes.{upper_e, lower_e, lower_b, lower_i, lower_o}
+use Rattle.interpolator_syntax.specs.Classes.{lower_p}
+use Rattle.interpolator_syntax.specs.Lists.{ListAsked, list_at}
+use Rattle.interpolator_syntax.specs.Numbers.{natural}
+use Rattle.interpolator_syntax.specs.Readers.{Reader, ◌>>=◌, give, letter, flag, run}
+use Rattle.interpolator_syntax.specs.Faults.{Fault, parse, unclosed, expected, fill}
+use Rattle.interpolator_syntax.specs.Faults.{invalid_width, invalid_precision, unsupported_option}
+use Rattle.interpolator_syntax.specs.Faults.{ParseFault}
+use Rattle.interpolator_syntax.specs.declared.error.NumberError.{NumberError}
+use Rattle.interpolator_syntax.specs.declared.class.Class.TheVariants.{Number}
+
+-- what an argument asks for: a value under a trait, or a list
+pub data Kind : Type 0 where
+  of_value : Trait → Kind
+  of_list : ListAsked → Kind
+
+-- a spec, and what is asked for
+pub record Asked : Type 0 where
+  pub spec : Spec
+  pub kind : Kind
+
+-- nothing is set
+abbrev pub plain_spec : Spec
+plain_spec = record {
+  alignment = alignments.Unset;
+  sign = signs.Unset;
+  alternate = false;
+  zero = false;
+  width = None;
+  precision = None;
+  hex_debug = hex_debugs.No;
+}
+
+-- plain display
+abbrev pub plain_display : Asked
+plain_display = record { spec = plain_spec; kind = of_value traits.Display }
+
+-- `<`, `^`, `>`
+abbrev pub alignment_letter : ℕ → Option Alignment
+alignment_letter c =
+    if c == left_angle then Some alignments.Left
+    else (if c == caret then Some alignments.Center
+    else (if c == right_angle then Some alignments.Right else None))
+
+-- `+`, `-`
+abbrev pub sign_letter : ℕ → Option Sign
+sign_letter c =
+    if c == plus then Some signs.Plus else (if c == minus then Some signs.Minus else None)
+
+-- the number of a run at p, or the fault that it is none
+abbrev pub number_or : (NumberError → ℕ → ParseFault) → (p : ℕ) → Result ℕ NumberError
+    → Reader (Option ℕ)
+number_or wrong p (Ok n) = give (Some n)
+number_or wrong p (Err kind) = λ a. Err (parse (wrong kind p))
+
+-- a run of digits and `-` that spells a number
+abbrev pub number_at : (NumberError → ℕ → ParseFault) → (start : ℕ) → Reader (Option ℕ)
+number_at wrong start =
+    λ a. (run (in_class Number) start >>= λ cs. number_or wrong a.place (natural cs)) a
+
+-- a number where a digit stands first
+abbrev pub if_digit : Reader (Option ℕ) → (a : At) → Option (ℕ × At) → Result (Option ℕ × At) Fault
+if_digit read a None = Ok (None, a)
+if_digit read a (Some w) = if is_ascii_digit w.0 then read a else Ok (None, a)
+
+-- a width stands where a digit does
+abbrev pub width_at : (start : ℕ) → Reader (Option ℕ)
+width_at start = λ a. if_digit (number_at invalid_width start) a (first a)
+
+-- a number behind a point, where one stands
+abbrev pub if_point : Reader (Option ℕ) → (a : At) → Option At → Result (Option ℕ × At) Fault
+if_point read a None = Ok (None, a)
+if_point read a (Some rest) = read rest
+
+-- a precision stands behind a point
+abbrev pub precision_at : (start : ℕ) → Reader (Option ℕ)
+precision_at start = λ a. if_point (number_at invalid_precision start) a (strip point a)
+
+-- a trait, and how debug writes numbers
+pub record Wanted : Type 0 where
+  pub slot : Trait
+  pub hex_debug : HexDebug
+
+-- a trait alone
+abbrev pub wanted : Trait → Wanted
+wanted t = record { slot = t; hex_debug = hex_debugs.No }
+
+-- behind `x` or `X`: debug with hexadecimal numbers where a `?` stands, else hexadecimal
+abbrev pub hexadecimal : Trait → HexDebug → (rest : At) → Option At → Result (Wanted × At) Fault
+hexadecimal t hex rest None = Ok (wanted t, rest)
+hexadecimal t hex rest (Some end) = Ok (record { slot = traits.Debug; hex_debug = hex }, end)
+
+-- `?`, `o`, `b`, `e`, `E`, `i`
+abbrev pub trait_letter : ℕ → Option Trait
+trait_letter c =
+    if c == question_mark then Some traits.Debug
+    else (if c == lower_o then Some traits.Octal
+    else (if c == lower_b then Some traits.Binary
+    else (if c == lower_e then Some traits.LowerExp
+    else (if c == upper_e then Some traits.UpperExp
+    else (if c == lower_i then Some traits.Iter else None)))))
+
+-- why no trait begins with c at p
+abbrev pub no_trait : (c p : ℕ) → Fault
+no_trait c p =
+    if c == lower_p then unsupported_option (codes "p") (codes "pointer") p
+    else parse (expected (codes "}") p)
+
+-- the trait of a letter c at p
+abbrev pub lettered : (c p : ℕ) → (rest : At) → Option Trait → Result (Wanted × At) Fault
+lettered c p rest (Some t) = Ok (wanted t, rest)
+lettered c p rest None = Err (no_trait c p)
+
+-- the trait that the first character begins: `}` is display and is not read
+abbrev pub trait_from : (a : At) → (c : ℕ) → (rest : At) → Result (Wanted × At) Fault
+trait_from a c rest =
+    if c == close_brace then Ok (wanted traits.Display, a)
+    else (if c == lower_x
+    then hexadecimal traits.LowerHex hex_debugs.Lower rest (strip question_mark rest)
+    else (if c == upper_x
+    then hexadecimal traits.UpperHex hex_debugs.Upper rest (strip question_mark rest)
+    else lettered c a.place rest (trait_letter c)))
+
+-- at the end of the text display, but no argument behind `#` or `0`
+abbrev pub trait_first : (start : ℕ) → (flagged : Bool) → (a : At) → Option (ℕ × At)
+    → Result (Wanted × At) Fault
+trait_first start flagged a None =
+    if flagged then Err (parse (unclosed start)) else Ok (wanted traits.Display, a)
+trait_first start flagged a (Some w) = trait_from a w.0 w.1
+
+-- the trait that stands here; `flagged` tells whether `#` or `0` was read
+abbrev pub trait_at : (start : ℕ) → (flagged : Bool) → Reader Wanted
+trait_at start flagged = λ a. trait_first start flagged a (first a)
+
+-- how a list is written, behind its letter
+abbrev pub list_kind_at : (start : ℕ) → Reader Kind
+list_kind_at start = list_at start >>= λ l. give (of_list l)
+
+-- what is asked for under a trait that was read
+abbrev pub kind_at : (start : ℕ) → Trait → Reader Kind
+kind_at start traits.Iter = list_kind_at start
+kind_at start t = give (of_value t)
+
+-- alignment, sign, `#`, `0`, width, precision, trait, each where it stands; and behind the letter
+-- of a list how it is written
+unfoldable pub spec_parts : (start : ℕ) → Reader Asked
+spec_parts start =
+    do
+      alignment ← letter alignment_letter alignments.Unset
+      sign ← letter sign_letter signs.Unset
+      alternate ← flag hash
+      zero ← flag zero_digit
+      width ← width_at start
+      precision ← precision_at start
+      shown ← trait_at start (alternate || zero)
+      kind ← kind_at start shown.slot
+      give (record {
+        spec = record {
+          alignment = alignment;
+          sign = sign;
+          alternate = alternate;
+          zero = zero;
+          width = width;
+          precision = precision;
+          hex_debug = shown.hex_debug;
+        };
+        kind = kind;
+      })
+
+-- an alignment stands first
+abbrev pub begins_alignment : List ℕ → Bool
+begins_alignment [] = false
+begins_alignment (c ∷ cs) = is_alignment c
+
+-- the text behind the colon of the argument that begins at `start`: at most one character is not
+-- read; an alignment that stands second would make the first a fill; else its parts are read
+abbrev pub spec_of : (start : ℕ) → (a : At) → List ℕ → Result (Asked × At) Fault
+spec_of start a [] = Ok (plain_display, a)
+spec_of start a (c ∷ []) = Ok (plain_display, a)
+spec_of start a (c ∷ d ∷ ds) =
+    if is_alignment d then Err (parse (fill a.place)) else spec_parts start a
+
+-- the spec behind a colon
+unfoldable pub spec_behind : (start : ℕ) → Reader Asked
+spec_behind start = λ a. spec_of start a a.text

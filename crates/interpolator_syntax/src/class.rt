@@ -1,0 +1,216 @@
+//! Classes of characters, and the longest front of a text that is of one class.
+ghost use Rattle.std.specs.Prelude.{◌≡◌, ◌+◌, ◌++◌, ◌<◌, ◌≤◌, length, take, [], ◌∷◌, ◌==◌, ◌||◌};
+ghost use Rattle.std.specs.Prelude.{MatchOption};
+ghost use Rattle.std.specs.Prelude.{IfSome, ℕ};
+ghost use Rattle.std.specs.Str.{chars};
+ghost use Rattle.std.specs.Char.{len_utf8, encode_utf8};
+ghost use Rattle.std.specs.List.{position, position_or_len};
+ghost use Rattle.interpolator_syntax.specs.Classes.{in_class, avoids, front_of, behind_of};
+ghost use Rattle.interpolator_syntax.specs.Grammar.{NotFirst};
+
+use std::simd::prelude::*;
+
+/// A class of characters.
+#[derive(Clone, Copy)]
+pub enum Class {
+    /// White space.
+    WhiteSpace,
+    /// What a name is made of: neither `:` nor `}`.
+    Name,
+    /// What a number is made of: ASCII digits and `-`.
+    Number,
+    /// What is copied as it stands: no brace.
+    Literal,
+    /// What guards a group: `#`.
+    Sign,
+    /// What may stand in front of the first `)`.
+    Enclosed,
+}
+
+/// The first character of a text, and the text behind it.
+#[tactic(auto, using(crate::proofs::CharacterLemmas::first_character))]
+#[inline(always)]
+pub fn split_first(text: &str) -> Option<(char, &str)>
+    ensures chars { MatchOption result (chars text.now ≡ [])
+        (λ r. chars text.now ≡ r.0 ∷ chars r.1.now) }
+    ensures len { MatchOption result (length text.now ≡ 0)
+        (λ r. length text.now ≡ len_utf8 r.0 + length r.1.now) }
+    ensures bytes { MatchOption result (text.now ≡ [])
+        (λ r. text.now ≡ encode_utf8 r.0 ++ r.1.now) }
+    ensures shorter { IfSome result (λ r. length r.1.now < length text.now) }
+{
+    let mut characters = text.chars();
+    let c = characters.next()?;
+    Some((c, characters.as_str()))
+}
+
+/// What stands behind that ASCII character, where the text begins with it.
+#[inline(always)]
+pub(crate) fn strip_ascii(text: &str, wanted: u8) -> Option<&str>
+    requires ascii { wanted < 128 }
+    ensures bytes { MatchOption result (NotFirst wanted text.now) (λ r. text.now ≡ wanted ∷ r.now) }
+{
+    let first = text.as_bytes().first()?;
+    if *first != wanted {
+        return None;
+    }
+    let (_, rest) = text.split_at(1);
+    Some(rest)
+}
+
+/// Whether a character is of that class.
+#[inline(always)]
+fn is_in(class: Class, c: char) -> bool
+    ensures { result ≡ in_class class c }
+{
+    match class {
+        Class::WhiteSpace => c.is_whitespace(),
+        Class::Name => c != ':' && c != '}',
+        Class::Number => c.is_ascii_digit() || c == '-',
+        Class::Literal => c != '{' && c != '}',
+        Class::Sign => c == '#',
+        Class::Enclosed => c != ')',
+    }
+}
+
+/// What stands behind the first character, where it is of that class.
+#[inline(always)]
+fn past_one(text: &str, class: Class) -> Option<&str>
+    ensures behind { MatchOption result
+        (behind_of (in_class class) (chars text.now) ≡ chars text.now)
+        (λ r. behind_of (in_class class) (chars text.now)
+        ≡ behind_of (in_class class) (chars r.now)) }
+    ensures bytes { IfSome result (λ r. (c : ℕ) × (text.now ≡ encode_utf8 c ++ r.now)) }
+    ensures shorter { IfSome result (λ r. length r.now < length text.now) }
+{
+    let (c, rest) = split_first(text)?;
+    if is_in(class, c) { Some(rest) } else { None }
+}
+
+/// The longest front of that class, read character by character, and what stands behind it.
+#[inline(always)]
+fn split_while(text: &str, class: Class) -> (&str, &str)
+    ensures front { chars result.0.now ≡ front_of (in_class class) (chars text.now) }
+    ensures behind { chars result.1.now ≡ behind_of (in_class class) (chars text.now) }
+    ensures whole { text.now ≡ result.0.now ++ result.1.now }
+{
+    let mut rest = text;
+    while let Some(after) = past_one(rest, class) {
+        rest = after;
+    }
+    text.split_at(text.len() - rest.len())
+}
+
+/// How many bytes of a name are tested one by one before a search by vectors, which costs more to
+/// begin.
+const NEAR_NAME: usize = 8;
+
+/// The same of a literal text.
+const NEAR_LITERAL: usize = 2;
+
+/// The same of the text in a bracket.
+const NEAR_ENCLOSED: usize = 8;
+
+/// How many bytes are tested at once.
+const BLOCK: usize = 16;
+
+/// How many bytes of the first block stand before the first byte that is one of these two.
+#[inline(always)]
+fn block_position(bytes: &[u8], first: u8, second: u8) -> Option<usize>
+    requires { 16 ≤ length bytes.now }
+    ensures { MatchOption result
+        (16 ≡ position_or_len (λ b. b == first || b == second) (take 16 bytes.now))
+        (λ n. n ≡ position_or_len (λ b. b == first || b == second) (take 16 bytes.now)) }
+{
+    let block = u8x16::from_slice(bytes);
+    let is_first = block.simd_eq(u8x16::splat(first));
+    let is_second = block.simd_eq(u8x16::splat(second));
+    let hits = (is_first | is_second).to_bitmask();
+    if hits == 0 {
+        return None;
+    }
+    Some(hits.trailing_zeros() as usize)
+}
+
+/// What is left of the bytes behind some that are none of these two: it begins with one of them, or
+/// is shorter than a block.
+#[inline(always)]
+fn skip_blocks(bytes: &[u8], first: u8, second: u8) -> &[u8]
+    ensures shorter { length result.now ≤ length bytes.now }
+    ensures first { position_or_len (λ b. b == first || b == second) bytes.now + length result.now
+        ≡ position_or_len (λ b. b == first || b == second) result.now + length bytes.now }
+{
+    let mut rest = bytes;
+    while rest.len() >= BLOCK {
+        if let Some(index) = block_position(rest, first, second) {
+            let (_, found) = rest.split_at(index);
+            return found;
+        }
+        let (_, behind) = rest.split_at(BLOCK);
+        rest = behind;
+    }
+    rest
+}
+
+/// The index of the first byte that is one of these two.
+#[inline(always)]
+fn byte_position(bytes: &[u8], first: u8, second: u8) -> Option<usize>
+    ensures { result ≡ position (λ b. b == first || b == second) bytes.now }
+{
+    bytes.iter().position(|b| *b == first || *b == second)
+}
+
+/// The same, where it is among the first `near`.
+#[inline(always)]
+fn near_position(bytes: &[u8], near: usize, first: u8, second: u8) -> Option<usize>
+    ensures { IfSome result (λ r. r ≡ position_or_len (λ b. b == first || b == second) bytes.now) }
+{
+    let (front, _) = bytes.split_at(bytes.len().min(near));
+    byte_position(front, first, second)
+}
+
+/// How many bytes stand before the first that is one of these two, or all where there is none. It
+/// is likely to be among the first `near`.
+#[inline(always)]
+fn bytes_before(bytes: &[u8], near: usize, first: u8, second: u8) -> usize
+    ensures { result ≡ position_or_len (λ b. b == first || b == second) bytes.now }
+{
+    if let Some(index) = near_position(bytes, near, first, second) {
+        return index;
+    }
+    let rest = skip_blocks(bytes, first, second);
+    let skipped = bytes.len() - rest.len();
+    match byte_position(rest, first, second) {
+        Some(index) => skipped + index,
+        None => bytes.len(),
+    }
+}
+
+/// The text up to the first of two ASCII characters, and what stands from there on.
+#[inline(always)]
+fn split_before(text: &str, near: usize, first: u8, second: u8) -> (&str, &str)
+    requires first { first < 128 }
+    requires second { second < 128 }
+    ensures front { chars result.0.now ≡ front_of (avoids first second) (chars text.now) }
+    ensures behind { chars result.1.now ≡ behind_of (avoids first second) (chars text.now) }
+    ensures whole { text.now ≡ result.0.now ++ result.1.now }
+{
+    text.split_at(bytes_before(text.as_bytes(), near, first, second))
+}
+
+/// The longest front of that class, and what stands behind it.
+#[inline(always)]
+pub fn split_class(text: &str, class: Class) -> (&str, &str)
+    ensures front { chars result.0.now ≡ front_of (in_class class) (chars text.now) }
+    ensures behind { chars result.1.now ≡ behind_of (in_class class) (chars text.now) }
+    ensures whole { text.now ≡ result.0.now ++ result.1.now }
+{
+    match class {
+        Class::WhiteSpace => split_while(text, Class::WhiteSpace),
+        Class::Number => split_while(text, Class::Number),
+        Class::Name => split_before(text, NEAR_NAME, b':', b'}'),
+        Class::Literal => split_before(text, NEAR_LITERAL, b'{', b'}'),
+        Class::Sign => split_while(text, Class::Sign),
+        Class::Enclosed => split_before(text, NEAR_ENCLOSED, b')', b')'),
+    }
+}

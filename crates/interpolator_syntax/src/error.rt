@@ -1,0 +1,136 @@
+//! The faults: what a call answers in place of its result.
+
+ghost use Rattle.std.specs.Prelude.{◌≡◌, IfOk, IfErr, IsOk};
+ghost use Rattle.interpolator_syntax.specs.Faults.{answer_of, IsMissingValue};
+ghost use Rattle.interpolator_syntax.specs.declared.error.Error.TheVariants.{Parse, NoMemory};
+
+use interpolator_render::Trait;
+use std::alloc::{AllocError, AllocFailed, Global};
+use std::fmt;
+
+/// Why the text of a number is refused.
+///
+/// From the left, the first character decides that is no digit, or with which the digits so far
+/// pass the end of the type.
+#[derive(Debug, PartialEq, Eq, Clone, Copy)]
+pub enum NumberError {
+    /// There is no character to read.
+    Empty,
+    /// A `-` stands alone, or where none is allowed.
+    InvalidDigit,
+    /// The number is greater than the greatest of its type.
+    PosOverflow,
+    /// The number is less than the least of its type.
+    NegOverflow,
+}
+
+/// Why a format text is refused.
+///
+/// Each place counts bytes from the beginning of the outermost format text.
+#[derive(Debug, PartialEq, Clone, Copy)]
+pub enum ParseError {
+    /// The text ends before the argument does; the place is the byte behind its `{`.
+    FormatSpecUnclosed(usize),
+    /// This text should stand at this place.
+    Expected(&'static str, usize),
+    /// The width that begins at this place is no `usize`.
+    InvalidWidth(NumberError, usize),
+    /// The precision that begins at this place is no `usize`.
+    InvalidPrecision(NumberError, usize),
+    /// A character to fill with stands at this place, in front of an alignment.
+    Fill(usize),
+    /// A list is asked for with a precision, a sign, `#` or the zero flag; the place is the byte
+    /// behind its spec.
+    Iter(usize),
+    /// The bound of a range that begins at this place is no `isize`.
+    RangeBound(NumberError, usize),
+}
+
+/// Why a format has no text, or no whole one.
+///
+/// Each place counts bytes from the beginning of the outermost format text. Two faults are equal
+/// where their variants and fields are. `{}` writes a sentence:
+///
+/// ```text
+/// specified value not in context `name` at 7
+/// ```
+#[derive(Debug, PartialEq, Drop)]
+pub enum Error {
+    /// The value has no text under this trait; the place is the byte behind the argument's spec.
+    MissingTraitImpl(Trait, usize),
+    /// A value failed, or the writer refused a text.
+    ///
+    /// The place is the byte behind the argument's spec, or that of the first literal character
+    /// that was not appended.
+    Fmt(fmt::Error, usize),
+    /// The format text is broken.
+    Parse(ParseError),
+    /// The context has no value of this name; the place is the byte behind the argument's `{`.
+    MissingValue(String, usize),
+    /// This option, at this place, wants this feature, which is left out.
+    UnsupportedOption(&'static str, &'static str, usize),
+    /// Memory was refused.
+    NoMemory,
+}
+
+impl std::error::Error for NumberError {}
+
+impl std::error::Error for ParseError {}
+
+impl std::error::Error for Error {}
+
+/// Gives `Error::Parse` of the fault.
+impl From<ParseError> for Error {
+    ghost from_gives = { λ fault error. error ≡ Parse fault };
+
+    fn from(fault: ParseError) -> Error {
+        Error::Parse(fault)
+    }
+}
+
+/// Gives `Error::NoMemory`.
+impl From<AllocError> for Error {
+    ghost from_gives = { λ _ error. error ≡ NoMemory };
+
+    fn from(_refused: AllocError) -> Error {
+        Error::NoMemory
+    }
+}
+
+/// Gives `Error::NoMemory`, and drops what could not be stored.
+impl<T: Drop> From<AllocFailed<T>> for Error {
+    ghost from_gives = { λ _ error. error ≡ NoMemory };
+
+    fn from(_refused: AllocFailed<T>) -> Error {
+        Error::NoMemory
+    }
+}
+
+impl Error {
+    /// Gives an equal fault.
+    ///
+    /// Only the name of a `MissingValue` takes memory.
+    ///
+    /// # Errors
+    ///
+    /// `NoMemory` where that name cannot be copied.
+    pub fn try_clone(&self, alloc: Global) -> Result<Error, Error>
+        ensures ok { IfOk result (λ copy. answer_of copy ≡ answer_of self.now) }
+        ensures err { IfErr result (λ error. error ≡ NoMemory) }
+        ensures succeeds { ¬ IsMissingValue self.now → IsOk result }
+    {
+        match self {
+            Error::MissingTraitImpl(t, place) => Ok(Error::MissingTraitImpl(*t, *place)),
+            Error::Fmt(fault, place) => Ok(Error::Fmt(*fault, *place)),
+            Error::Parse(fault) => Ok(Error::Parse(*fault)),
+            Error::MissingValue(name, place) => match String::from_str(alloc, name.as_str()) {
+                Ok(name) => Ok(Error::MissingValue(name, *place)),
+                Err(_) => Err(Error::NoMemory),
+            },
+            Error::UnsupportedOption(option, feature, place) => {
+                Ok(Error::UnsupportedOption(*option, *feature, *place))
+            }
+            Error::NoMemory => Ok(Error::NoMemory),
+        }
+    }
+}

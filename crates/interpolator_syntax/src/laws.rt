@@ -1,0 +1,15 @@
+//! Laws, each the contract of a small function: of the faults, of what stands in braces (numbers,
+//! groups, lists, specs and arguments), and of the pieces of a format.
+
+pub mod arguments;
+mod faults;
+pub mod groups;
+pub mod lists;
+pub mod numbers;
+pub mod pieces;
+pub mod specs;
+
+pub use faults::{
+    clone_of_number_error, clone_of_parse_error, is_same_error, is_same_number_error,
+    is_same_parse_error,
+};

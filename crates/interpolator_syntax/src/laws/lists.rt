@@ -1,0 +1,68 @@
+//! Laws of the lists in a format text, each the contract of a small function.
+
+ghost use Rattle.std.specs.Prelude.{◌≡◌, ℕ, Option, Ok, Err};
+ghost use Rattle.interpolator_syntax.specs.At.{At};
+ghost use Rattle.interpolator_syntax.specs.Ranges.{range_at};
+ghost use Rattle.interpolator_syntax.specs.Lists.{ListAsked, list_at};
+ghost use Rattle.interpolator_syntax.specs.ListGrammar.{IsRange, IsNoRange, IsList, IsNoList};
+ghost use Rattle.interpolator_syntax.specs.Faults.{Fault};
+ghost use Rattle.interpolator_syntax.specs.declared.range.Range.{Range};
+
+/// A range is its parts, one behind the other, each where its first character stands:
+///
+/// 1. a lower bound: where a digit or a `-` stands, the longest run of digits and `-`, which is an
+///    integer
+/// 2. `..=`, or `..` where no `=` follows
+/// 3. behind these points an upper bound, as the lower one
+///
+/// A bound without points is both bounds, and the item at it is written. Where neither a bound nor
+/// points stand there is no range, and nothing is read. Only such a text is a range.
+///
+/// So the bounds of `-1` are -1 and -1, `1..` has no upper bound and `..=` has none at all; and of
+/// `1.` the point is not read.
+pub fn range_is_its_parts()
+    ensures is { (start : ℕ) (a q : At) (range : Option Range) → range_at start a ≡ Ok (range, q)
+        → IsRange start a range q }
+    ensures only { (start : ℕ) (a q : At) (range : Option Range) → IsRange start a range q
+        → range_at start a ≡ Ok (range, q) }
+{}
+
+/// Where no range can be read, the fault is that of the first bound that does not stand: one that
+/// ends with the text leaves the argument unclosed, and one that is no integer is named by the
+/// place where its run begins.
+///
+/// So the fault of `{l:i..1` is `FormatSpecUnclosed(1)`, and of `{l:i1..--5}` it is
+/// `RangeBound(InvalidDigit, 7)`.
+pub fn range_is_refused_otherwise()
+    ensures is { (start : ℕ) (a : At) (fault : Fault) → range_at start a ≡ Err fault
+        → IsNoRange start a fault }
+    ensures only { (start : ℕ) (a : At) (fault : Fault) → IsNoRange start a fault
+        → range_at start a ≡ Err fault }
+{}
+
+/// How a list is written stands behind its letter as three parts, one behind the other, each of
+/// which may be absent: a range; a group, the format of an item; and a group, the join. A group is
+/// there exactly where a `(` or a `#` stands, so the first group is always the item's. Only such a
+/// text asks for a list.
+///
+/// So behind the `i` of `{l:i1..({:>4})(, )}` stand the range `1..`, the item format `{:>4}` and
+/// the join `, `; behind that of `{l:i( )}` an item format alone; and behind that of `{l:i}`
+/// nothing.
+pub fn list_is_its_parts()
+    ensures is { (start : ℕ) (a q : At) (list : ListAsked) → list_at start a ≡ Ok (list, q)
+        → IsList start a list q }
+    ensures only { (start : ℕ) (a q : At) (list : ListAsked) → IsList start a list q
+        → list_at start a ≡ Ok (list, q) }
+{}
+
+/// Where none can be read, the fault is that of the first of these parts that does not stand, from
+/// the left: of a bound of the range, or of a group that a `(` or a `#` begins.
+///
+/// So the fault of `{l:i-(a}` is `RangeBound(InvalidDigit, 4)`, and of `{l:i(a)#b}` it is
+/// `Expected("(", 8)`.
+pub fn list_is_refused_otherwise()
+    ensures is { (start : ℕ) (a : At) (fault : Fault) → list_at start a ≡ Err fault
+        → IsNoList start a fault }
+    ensures only { (start : ℕ) (a : At) (fault : Fault) → IsNoList start a fault
+        → list_at start a ≡ Err fault }
+{}
