@@ -1,6 +1,7 @@
 -- Lemmas on what a format means, and on what writing it leaves.
 pub mod AskedLemmas
 pub mod ChoiceLemmas
+pub mod CopyLemmas
 pub mod DepthLemmas
 pub mod ListLawLemmas
 pub mod ListLemmas

@@ -1,6 +1,7 @@
 -- What a format means, and what writing it leaves.
 pub mod AskedNames
 pub mod Choices
+pub mod Copies
 pub mod Environments
 pub mod ListArguments
 pub mod Lists

@@ -142,7 +142,27 @@ fn render_truth<W: TextWrite>(
 /// render(&mut out, View::Signed(-1, Bits::B8), Trait::LowerHex, &spec)   // appends "0x000000ff"
 /// ```
 #[tactic(auto, unfolding(crate::specs::Texts::view_text))]
+#[inline(always)]
 pub fn render<W: TextWrite>(
+    out: &mut W,
+    view: View<'_>,
+    t: Trait,
+    spec: &Spec,
+) -> Result<(), RenderFault>
+    requires { IsInRange (shown_by view) }
+    ensures { Renders (view_text (shown_by view.entry) t spec.now) (W.written out.old) result
+        (W.written out.new) }
+{
+    match view {
+        View::Text(text) => render_text(out, t, '"', text, spec),
+        _ => render_any(out, view, t, spec),
+    }
+}
+
+/// The same with no look ahead at what is most likely.
+#[tactic(auto, unfolding(crate::specs::Texts::view_text))]
+#[inline(never)]
+fn render_any<W: TextWrite>(
     out: &mut W,
     view: View<'_>,
     t: Trait,

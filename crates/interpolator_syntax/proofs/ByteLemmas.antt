@@ -75,7 +75,7 @@ SameFirst test all rest =
     ≡ position_or_len test rest + length all)
 
 -- past bytes that do not pass
-drop_before : (test : ℕ → Bool) (k : ℕ) (xs : List ℕ) → k ≤ position_or_len test xs
+pub drop_before : (test : ℕ → Bool) (k : ℕ) (xs : List ℕ) → k ≤ position_or_len test xs
     → position_or_len test xs ≡ k + position_or_len test (drop k xs)
 drop_before test zero xs h = omega arith
 drop_before test (suc k) [] h = absurd (omega arith)
@@ -87,15 +87,25 @@ take_before test zero xs = omega arith
 take_before test (suc n) [] = omega arith
 take_before test (suc n) (x ∷ xs) = grind (arith, take_before test n xs)
 
-pub one_block_less :
-    (test : ℕ → Bool) (all rest left : List ℕ) (n k : ℕ) → SameFirst test all rest
-    → k ≡ position_or_len test (take n rest) → left ≡ drop k rest → SameFirst test all left
-one_block_less test all rest left n k same is e =
-    let low : k ≤ position_or_len test rest = omega (arith, is, take_before test n rest) in
+pub less_behind :
+    (test : ℕ → Bool) (all rest left : List ℕ) (k : ℕ) → SameFirst test all rest
+    → k ≤ position_or_len test rest → left ≡ drop k rest → SameFirst test all left
+less_behind test all rest left k same low e =
     let high : position_or_len test rest ≤ length rest = prefix_len-le-length _ rest in
     let long = length-drop k rest in
     let first = drop_before test k rest low in
     rw e (omega (arith, long, same.0), omega (arith, long, low, high, first, same.1))
+
+pub one_block_less :
+    (test : ℕ → Bool) (all rest left : List ℕ) (n k : ℕ) → SameFirst test all rest
+    → k ≡ position_or_len test (take n rest) → left ≡ drop k rest → SameFirst test all left
+one_block_less test all rest left n k same is e =
+    less_behind test all rest left k same (omega (arith, is, take_before test n rest)) e
+
+pub same_through : (test : ℕ → Bool) (all rest left : List ℕ) → SameFirst test all rest
+    → SameFirst test rest left → SameFirst test all left
+same_through test all rest left same more =
+    (omega (arith, same.0, more.0), omega (arith, same.1, more.1))
 
 pub found_nowhere : (test : ℕ → Bool) (all rest : List ℕ) → SameFirst test all rest
     → position test rest ≡ None → length all ≡ position_or_len test all

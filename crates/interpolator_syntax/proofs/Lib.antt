@@ -21,6 +21,7 @@ pub mod PieceLemmas
 pub mod ReaderLemmas
 pub mod SimpleReaderLemmas
 pub mod SizeLemmas
+pub mod StrideLemmas
 pub mod StripLemmas
 pub mod TestLemmas
 pub mod UnstyledLemmas

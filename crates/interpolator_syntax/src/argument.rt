@@ -1,7 +1,9 @@
 //! The argument that stands in braces.
 ghost use Rattle.std.specs.Prelude.{◌≡◌};
-ghost use Rattle.std.specs.Str.{IsCharBoundary};
-ghost use Rattle.interpolator_syntax.specs.At.{at};
+ghost use Rattle.std.specs.Str.{IsCharBoundary, chars};
+ghost use Rattle.interpolator_syntax.specs.At.{at, behind};
+ghost use Rattle.interpolator_syntax.specs.Classes.{in_class, front_of};
+ghost use Rattle.interpolator_syntax.specs.declared.class.Class.TheVariants.{WhiteSpace, Name};
 ghost use Rattle.interpolator_syntax.specs.Arguments.{argument_of, plain_argument, argument_at};
 ghost use Rattle.interpolator_syntax.specs.Arguments.{argument_behind, argument_read, argument_told};
 ghost use Rattle.interpolator_syntax.specs.Arguments.{answering, with_end, from_byte};
@@ -60,7 +62,13 @@ pub struct Named<'a> {
 #[tactic(auto, unfolding(crate::specs::Arguments::argument_at))]
 #[inline(always)]
 pub fn take_name(here: Cursor<'_>) -> Named<'_>
-    ensures { argument_at (at here.entry)
+    ensures name { let from = behind (in_class WhiteSpace) (at here.entry) in
+        chars result.name.now ≡ front_of (in_class Name) from.text }
+    ensures place { let from = behind (in_class WhiteSpace) (at here.entry) in
+        result.place ≡ from.place }
+    ensures end { let from = behind (in_class WhiteSpace) (at here.entry) in
+        at result.end ≡ behind (in_class Name) from }
+    ensures read { argument_at (at here.entry)
         ≡ argument_behind here.entry.place (plain_argument result) (at result.end) }
 {
     let (_, from) = here.take_class(Class::WhiteSpace);

@@ -1,6 +1,7 @@
 //! Classes of characters, and the longest front of a text that is of one class.
 ghost use Rattle.std.specs.Prelude.{◌≡◌, ◌+◌, ◌++◌, ◌<◌, ◌≤◌, length, take, [], ◌∷◌, ◌==◌, ◌||◌};
-ghost use Rattle.std.specs.Prelude.{MatchOption};
+ghost use Rattle.std.specs.Prelude.{MatchOption, true, map, min, ◌-◌, ◌%◌};
+ghost use Rattle.std.specs.Simd.Lanes.{zip2};
 ghost use Rattle.std.specs.Prelude.{IfSome, ℕ};
 ghost use Rattle.std.specs.Str.{chars};
 ghost use Rattle.std.specs.Char.{len_utf8, encode_utf8};
@@ -114,6 +115,62 @@ const NEAR_ENCLOSED: usize = 8;
 /// How many bytes are tested at once.
 const BLOCK: usize = 16;
 
+/// How many bytes a vector has of those that are tested by strides.
+const LANES: usize = 64;
+
+/// How many bytes are tested at once of a long text, behind as many that were tested by blocks.
+const STRIDE: usize = 4 * LANES;
+
+/// How far above that byte each of the first ones lies, counted round from the greatest byte to 0.
+#[inline(always)]
+fn heights(bytes: &[u8], low: u8) -> u8x64
+    requires { 64 ≤ length bytes.now }
+    ensures { result ≡ map (λ b. (b + (256 - low)) % 256) (take 64 bytes.now) }
+{
+    u8x64::from_slice(bytes) - u8x64::splat(low)
+}
+
+/// The lower ones, lane by lane.
+#[inline(always)]
+fn lower(these: u8x64, those: u8x64) -> u8x64
+    ensures { result ≡ zip2 min these those }
+{
+    these.simd_min(those)
+}
+
+/// Whether none of the bytes of the first stride lies between these two: then it is none of them.
+#[inline(always)]
+fn is_clear(bytes: &[u8], first: u8, second: u8) -> bool
+    requires long { 256 ≤ length bytes.now }
+    requires order { first ≤ second }
+    ensures { result ≡ true → 256 ≤ position_or_len (λ b. b == first || b == second) bytes.now }
+{
+    let (_, behind_one) = bytes.split_at(LANES);
+    let (_, behind_two) = behind_one.split_at(LANES);
+    let (_, behind_three) = behind_two.split_at(LANES);
+    let lowest = lower(
+        lower(heights(bytes, first), heights(behind_one, first)),
+        lower(heights(behind_two, first), heights(behind_three, first)),
+    );
+    lowest.simd_le(u8x64::splat(second - first)).to_bitmask() == 0
+}
+
+/// What is left of the bytes behind strides that have none of these two.
+#[inline(never)]
+fn skip_strides(bytes: &[u8], first: u8, second: u8) -> &[u8]
+    requires order { first ≤ second }
+    ensures shorter { length result.now ≤ length bytes.now }
+    ensures first { position_or_len (λ b. b == first || b == second) bytes.now + length result.now
+        ≡ position_or_len (λ b. b == first || b == second) result.now + length bytes.now }
+{
+    let mut rest = bytes;
+    while rest.len() >= STRIDE && is_clear(rest, first, second) {
+        let (_, behind) = rest.split_at(STRIDE);
+        rest = behind;
+    }
+    rest
+}
+
 /// How many bytes of the first block stand before the first byte that is one of these two.
 #[inline(always)]
 fn block_position(bytes: &[u8], first: u8, second: u8) -> Option<usize>
@@ -136,6 +193,7 @@ fn block_position(bytes: &[u8], first: u8, second: u8) -> Option<usize>
 /// is shorter than a block.
 #[inline(always)]
 fn skip_blocks(bytes: &[u8], first: u8, second: u8) -> &[u8]
+    requires order { first ≤ second }
     ensures shorter { length result.now ≤ length bytes.now }
     ensures first { position_or_len (λ b. b == first || b == second) bytes.now + length result.now
         ≡ position_or_len (λ b. b == first || b == second) result.now + length bytes.now }
@@ -148,6 +206,9 @@ fn skip_blocks(bytes: &[u8], first: u8, second: u8) -> &[u8]
         }
         let (_, behind) = rest.split_at(BLOCK);
         rest = behind;
+        if (bytes.len() - rest.len()) % STRIDE == 0 {
+            rest = skip_strides(rest, first, second);
+        }
     }
     rest
 }
@@ -173,6 +234,7 @@ fn near_position(bytes: &[u8], near: usize, first: u8, second: u8) -> Option<usi
 /// is likely to be among the first `near`.
 #[inline(always)]
 fn bytes_before(bytes: &[u8], near: usize, first: u8, second: u8) -> usize
+    requires order { first ≤ second }
     ensures { result ≡ position_or_len (λ b. b == first || b == second) bytes.now }
 {
     if let Some(index) = near_position(bytes, near, first, second) {
@@ -189,6 +251,7 @@ fn bytes_before(bytes: &[u8], near: usize, first: u8, second: u8) -> usize
 /// The text up to the first of two ASCII characters, and what stands from there on.
 #[inline(always)]
 fn split_before(text: &str, near: usize, first: u8, second: u8) -> (&str, &str)
+    requires order { first ≤ second }
     requires first { first < 128 }
     requires second { second < 128 }
     ensures front { chars result.0.now ≡ front_of (avoids first second) (chars text.now) }

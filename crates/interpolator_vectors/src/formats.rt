@@ -1,7 +1,7 @@
 //! Rows of formats: what is written, and what is answered.
 
 pub(crate) mod held;
-mod own;
+pub(crate) mod own;
 pub(crate) mod rows;
 mod spec_rows;
 pub(crate) mod told;

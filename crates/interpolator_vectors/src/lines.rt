@@ -151,18 +151,28 @@ fn escape_gives_the_format_or_wants_memory(rt: HostRuntime) {
     }
 }
 
-// Each `{` is doubled, and nothing else.
-#[test]
-fn a_long_text_is_doubled(rt: HostRuntime) -> Result<(), Fail> {
-    let alloc = rt.alloc();
+/// A part of a text, and the same with its braces doubled: by hand, each brace twice.
+const LONG: [(&str, &str); 4] = [("abc{", "abc{{"), ("a", "a"), ("}", "}}"), ("é", "é")];
+
+/// A part, 20,000 times.
+fn repeated(alloc: Global, part: &str) -> Result<String, Fail> {
     let mut text = String::new(alloc);
-    let mut doubled = String::new(alloc);
     for _ in 0..20_000 {
-        text.push_str("abc{")?;
-        doubled.push_str("abc{{")?;
+        text.push_str(part)?;
     }
-    let format = escape(alloc, text.as_str())?;
-    assert_eq!(rt; format.as_str(), doubled.as_str());
-    assert_eq!(rt; written(alloc, format.as_str())?.as_str(), text.as_str());
+    Ok(text)
+}
+
+#[test]
+fn long_texts_are_doubled(rt: HostRuntime) -> Result<(), Fail> {
+    let alloc = rt.alloc();
+    for (part, doubled) in LONG {
+        let text = repeated(alloc, part)?;
+        let doubled = repeated(alloc, doubled)?;
+        let format = escape(alloc, text.as_str())?;
+        assert!(rt; format.as_str() == doubled.as_str(), "at {part}");
+        let written = written(alloc, format.as_str())?;
+        assert!(rt; written.as_str() == text.as_str(), "at {part}");
+    }
     Ok(())
 }

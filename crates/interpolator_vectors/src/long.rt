@@ -1,9 +1,14 @@
 //! Long formats, names and texts: none is refused, and none wants more memory than there is.
 
 use crate::counting::Counting;
+use crate::formats::own::Nowhere;
 use crate::formats::told::{Told, told_by};
 use crate::limited::Limited;
-use interpolator::{Error, Formattable, Interpolate, TextBuffer, TextWrite, View};
+use crate::parts::parts_fit;
+use interpolator::{
+    Error, Formattable, Interpolate, ParseError, TextBuffer, TextWrite, Trait, View, iwriteln,
+    write_parts,
+};
 use std::alloc::{AllocError, Global};
 use std::collections::HashMap;
 use std::process::Abort;
@@ -23,6 +28,17 @@ const FORMATS: [(&str, usize, &str); 9] = [
     ("a{n:>3}b", 1_000, "a  7b"),
     ("{t}{{", 1_000, "é\"{"),
     ("{t:?}", 1_000, "\"é\\\"\""),
+];
+
+/// A part of a format, how often it stands there, what each of them prints, what stands behind
+/// them, and what is answered, where `n` is 7. Worked by hand from the rules of outcomes in
+/// docs/DEFINITIONS.md: a fault stands behind all that the parts print.
+#[rattlefmt::skip]
+const FAULTS: [(&str, usize, &str, &str, Told<'static>); 4] = [
+    ("a", 100_000, "a", "{q}", Told::MissingValue("q", 100_001)),
+    ("{n}", 1_000, "7", "{q}", Told::MissingValue("q", 3_001)),
+    ("é", 1_000, "é", "{n:x}", Told::MissingTraitImpl(Trait::LowerHex, 2_004)),
+    ("}}", 1_000, "}", "{n", Told::Parse(ParseError::FormatSpecUnclosed(2_001))),
 ];
 
 /// A part of a name, and how often it stands there. By the rules of arguments in
@@ -117,6 +133,94 @@ fn long_formats(rt: HostRuntime) -> Result<(), Fail> {
         let format = repeated(alloc, part, count)?;
         let text = repeated(alloc, printed, count)?;
         prints(&rt, alloc, format.as_str(), "é\"", text.as_str(), part)?;
+    }
+    Ok(())
+}
+
+#[test]
+fn faults_behind_long_texts(rt: HostRuntime) -> Result<(), Fail> {
+    let alloc = rt.alloc();
+    for (part, count, printed, behind, told) in FAULTS {
+        let parts = repeated(alloc, part, count)?;
+        let format = between(alloc, parts.as_str(), behind, "")?;
+        let text = repeated(alloc, printed, count)?;
+        let mut out = TextBuffer::new(alloc);
+        let answer = written(alloc, &mut out, format.as_str(), "");
+        assert_eq!(rt; told_by(&answer), told, "at {part}");
+        assert!(rt; out.as_str() == text.as_str(), "at {part}");
+        let made = made(alloc, format.as_str(), "");
+        assert_eq!(rt; told_by(&made), told, "at {part}");
+    }
+    Ok(())
+}
+
+/// Writes the format as a line and then as a part, where `n` is 7 and `t` a text.
+fn written_otherwise(
+    alloc: Global,
+    out: &mut TextBuffer,
+    format: &str,
+    t: &str,
+) -> Result<(), Error> {
+    let n = View::Unsigned(7);
+    let t = View::Text(t);
+    let mut context = HashMap::new(alloc);
+    context.insert("n", Formattable::display(&n))?;
+    context.insert("t", Formattable::debug_display(&t))?;
+    context.write_line_to(alloc, out, format)?;
+    let parts = [format];
+    if parts_fit(&parts) {
+        context.write_parts_to(alloc, out, &parts)?;
+    }
+    Ok(())
+}
+
+#[test]
+fn long_formats_as_lines_and_as_parts(rt: HostRuntime) -> Result<(), Fail> {
+    let alloc = rt.alloc();
+    for (part, count, printed) in FORMATS {
+        let format = repeated(alloc, part, count)?;
+        let text = repeated(alloc, printed, count)?;
+        let text = between(alloc, text.as_str(), "\n", text.as_str())?;
+        let mut out = TextBuffer::new(alloc);
+        let answer = written_otherwise(alloc, &mut out, format.as_str(), "é\"");
+        assert_eq!(rt; told_by(&answer), Told::Done, "at {part}");
+        assert!(rt; out.as_str() == text.as_str(), "at {part}");
+    }
+    Ok(())
+}
+
+/// What a format is answered with as a line, where nothing is under any name.
+fn line_of_nothing(alloc: Global, format: &str) -> Result<(), Error> {
+    let mut out = TextBuffer::new(alloc);
+    iwriteln(alloc, &mut out, format, &Nowhere)
+}
+
+/// The same as a part.
+fn part_of_nothing(alloc: Global, format: &str) -> Result<(), Error> {
+    let mut out = TextBuffer::new(alloc);
+    let parts = [format];
+    if parts_fit(&parts) {
+        return write_parts(alloc, &mut out, &parts, &Nowhere);
+    }
+    Ok(())
+}
+
+#[test]
+fn long_names_are_missing_in_lines_and_parts(rt: HostRuntime) -> Result<(), Fail> {
+    let alloc = rt.alloc();
+    for (part, count) in NAMES {
+        let name = repeated(alloc, part, count)?;
+        let format = between(alloc, "{", name.as_str(), "}")?;
+        let line = line_of_nothing(alloc, format.as_str());
+        assert!(rt;
+            told_by(&line) == Told::MissingValue(name.as_str(), 1),
+            "at {part}"
+        );
+        let parts = part_of_nothing(alloc, format.as_str());
+        assert!(rt;
+            told_by(&parts) == Told::MissingValue(name.as_str(), 1),
+            "at {part}"
+        );
     }
     Ok(())
 }

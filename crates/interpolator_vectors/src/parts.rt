@@ -69,7 +69,7 @@ const PARTS: [(&[&str], &str, Told<'static>); 17] = [
 ];
 
 /// Whether the parts, joined, have fewer than 2^64 bytes.
-fn parts_fit(parts: &[&str]) -> bool
+pub(crate) fn parts_fit(parts: &[&str]) -> bool
     ensures { IsTrue result → bytes_of parts.now < 2 ^ 64 }
 {
     let mut bytes: usize = 0;
@@ -131,4 +131,28 @@ fn many_parts_are_written(rt: HostRuntime) -> Result<(), Fail> {
         text.push_str("a1")?;
     }
     give(&rt, alloc, parts.as_slice(), text.as_str(), Told::Done)
+}
+
+// The name that is missing behind long parts is long, too: by the rules of parts in
+// docs/DEFINITIONS.md.
+#[test]
+fn long_parts_are_written(rt: HostRuntime) -> Result<(), Fail> {
+    let alloc = rt.alloc();
+    let mut long = String::new(alloc);
+    for _ in 0..2_000 {
+        long.push('a')?;
+    }
+    let mut text = String::from_str(alloc, long.as_str())?;
+    text.push_str("1")?;
+    text.push_str(long.as_str())?;
+    let mut missing = String::from_str(alloc, "{")?;
+    missing.push_str(long.as_str())?;
+    missing.push_str("}")?;
+    give(
+        &rt,
+        alloc,
+        &[long.as_str(), "{x}", long.as_str(), missing.as_str()],
+        text.as_str(),
+        Told::MissingValue(long.as_str(), 4_004),
+    )
 }

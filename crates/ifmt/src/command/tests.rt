@@ -73,6 +73,27 @@ const LISTS: [Row; 19] = [
     (&["{l:i}", "l[]=a", "l[]"], "", "bad word: l[]\n", 2),
 ];
 
+/// A text: parts, and how often each of them stands there.
+type Long = &'static [(&'static str, usize)];
+
+/// A format and a word, what `out` and `err` get, and the status, where a name, a text, a number, a
+/// list, a format, a fault or a bad word is long: by hand, from the same rule.
+#[rattlefmt::skip]
+const LONG: [(Long, Long, Long, Long, u8); 12] = [
+    (&[("{", 1), ("a", 1_000), ("}", 1)], &[("a", 1_000), ("=x", 1)], &[("x\n", 1)], &[], 0),
+    (&[("{", 1), ("é", 101), ("}", 1)], &[("é", 101), ("=x", 1)], &[("x\n", 1)], &[], 0),
+    (&[("{", 1), ("a", 1_000), ("}", 1)], &[("a", 1_000), (":=-7", 1)], &[("-7\n", 1)], &[], 0),
+    (&[("{", 1), ("a", 1_000), (":i}", 1)], &[("a", 1_000), ("[]=b,c", 1)], &[("bc\n", 1)], &[], 0),
+    (&[("{t}", 1)], &[("t=", 1), ("é", 50_000)], &[("é", 50_000), ("\n", 1)], &[], 0),
+    (&[("{n}", 1)], &[("n:=", 1), ("0", 1_000), ("7", 1)], &[("7\n", 1)], &[], 0),
+    (&[("{l:i}", 1)], &[("l[]=a", 1), (",b", 1_000)], &[("a", 1), ("b", 1_000), ("\n", 1)], &[], 0),
+    (&[("{l:i}", 1)], &[("l[]=", 1), ("a", 50_000)], &[("a", 50_000), ("\n", 1)], &[], 0),
+    (&[("{n}", 1_000)], &[("n:=7", 1)], &[("7", 1_000), ("\n", 1)], &[], 0),
+    (&[("a", 100_000)], &[("n=x", 1)], &[("a", 100_000), ("\n", 1)], &[], 0),
+    (&[("{", 1), ("q", 1_000), ("}", 1)], &[("n=x", 1)], &[], &[("specified value not in context `", 1), ("q", 1_000), ("` at 1\n", 1)], 1),
+    (&[("{n}", 1)], &[("b", 1_000)], &[], &[("bad word: ", 1), ("b", 1_000), ("\n", 1)], 2),
+];
+
 fn line_of(alloc: Global, words: &[&str]) -> Result<Vec<String>, AllocError> {
     let mut line = Vec::new(alloc);
     for word in words {
@@ -102,4 +123,79 @@ fn command_lines_are_answered(rt: HostRuntime) -> Result<(), Fail> {
 #[test]
 fn lists_are_run(rt: HostRuntime) -> Result<(), Fail> {
     gives(&rt, rt.alloc(), &LISTS)
+}
+
+fn append(text: &mut String, part: &str, count: usize) -> Result<(), AllocError> {
+    for _ in 0..count {
+        text.push_str(part)?;
+    }
+    Ok(())
+}
+
+fn text_of(alloc: Global, parts: &[(&str, usize)]) -> Result<String, AllocError> {
+    let mut text = String::new(alloc);
+    for (part, count) in parts {
+        append(&mut text, part, *count)?;
+    }
+    Ok(text)
+}
+
+#[test]
+fn long_lines_are_answered(rt: HostRuntime) -> Result<(), Fail> {
+    let alloc = rt.alloc();
+    for (format, word, text, fault, status) in LONG {
+        let mut line = Vec::new(alloc);
+        line.push(text_of(alloc, format)?)?;
+        line.push(text_of(alloc, word)?)?;
+        let mut out = Vec::new(alloc);
+        let mut err = Vec::new(alloc);
+        let answered = answer(alloc, line.as_slice(), &mut out, &mut err);
+        assert_eq!(rt; answered, status, "{format:?} with {word:?}");
+        let text = text_of(alloc, text)?;
+        assert!(rt;
+            out.as_slice() == text.as_str().as_bytes(),
+            "{format:?} with {word:?}"
+        );
+        let fault = text_of(alloc, fault)?;
+        assert!(rt;
+            err.as_slice() == fault.as_str().as_bytes(),
+            "{format:?} with {word:?}"
+        );
+    }
+    Ok(())
+}
+
+/// A format that asks the names `a`, `aa`, and so on, and for each a word, whose text is the name.
+fn many_words(alloc: Global, count: usize) -> Result<Vec<String>, AllocError> {
+    let mut line = Vec::new(alloc);
+    line.push(asking(alloc, count)?)?;
+    for length in 1..=count {
+        line.push(text_of(alloc, &[("a", length), ("=", 1), ("a", length)])?)?;
+    }
+    Ok(line)
+}
+
+/// The format alone.
+fn asking(alloc: Global, count: usize) -> Result<String, AllocError> {
+    let mut format = String::new(alloc);
+    for length in 1..=count {
+        format.push_str("{")?;
+        append(&mut format, "a", length)?;
+        format.push_str("}")?;
+    }
+    Ok(format)
+}
+
+// The numbers from 1 to 100 add up to 5,050.
+#[test]
+fn many_words_are_run(rt: HostRuntime) -> Result<(), Fail> {
+    let alloc = rt.alloc();
+    let line = many_words(alloc, 100)?;
+    let mut out = Vec::new(alloc);
+    let mut err = Vec::new(alloc);
+    assert_eq!(rt; answer(alloc, line.as_slice(), &mut out, &mut err), 0);
+    let text = text_of(alloc, &[("a", 5_050), ("\n", 1)])?;
+    assert!(rt; out.as_slice() == text.as_str().as_bytes());
+    assert!(rt; err.is_empty());
+    Ok(())
 }

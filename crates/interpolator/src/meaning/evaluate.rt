@@ -6,11 +6,10 @@ ghost use Rattle.interpolator_syntax.specs.Arguments.{argument_behind, plain_arg
 ghost use Rattle.interpolator_syntax.specs.Groups.{group_of};
 ghost use Rattle.interpolator_syntax.specs.Faults.{answered};
 ghost use Rattle.interpolator.specs.Meaning.Meanings.{means, argument_means, argument_from_means};
-ghost use Rattle.interpolator.specs.Meaning.Meanings.{token_means, kind_means, list_means};
+ghost use Rattle.interpolator.specs.Meaning.Meanings.{kind_means, list_means};
 ghost use Rattle.interpolator.specs.Meaning.Meanings.{chosen_means, item_means, join_means};
 ghost use Rattle.interpolator.specs.Meaning.Lists.{list_asked, all_asked, whole_means};
 ghost use Rattle.interpolator_syntax.specs.Pieces.{argument_from};
-ghost use Rattle.interpolator_syntax.specs.Tokens.{token_of, past_token, RunFits};
 ghost use Rattle.interpolator.specs.Meaning.Scopes.{environment_of};
 ghost use Rattle.interpolator.specs.Meaning.Sinks.{Writes};
 ghost use Rattle.interpolator.specs.Trees.{tree_of};
@@ -257,6 +256,34 @@ fn write_asked<'t, 'a, W: TextWrite, C: Context>(
     }
 }
 
+/// Writes the value of a name alone, whose argument starts at `start`.
+#[inline(always)]
+fn write_alone<'a, W: TextWrite, C: Context>(
+    alloc: Global,
+    sink: &mut Sink<'_, W>,
+    start: usize,
+    named: Named<'_>,
+    scope: &Scope<'a, C, C::Object>,
+) -> Result<(), Error>
+    ensures writes { Writes W.written
+        (argument_means C.Object.shows (means C.Object.shows) (environment_of C.finds scope.now)
+        start (plain_argument named.entry) named.entry.end.place)
+        sink.old sink.new (answered result) }
+{
+    let place = named.end.place;
+    if let Some(item) = scope.inner(named.name) {
+        let shown = item.slot(Trait::Display);
+        return sink.put_value(shown, Trait::Display, &Spec::default(), place);
+    }
+    match scope.outer(named.name) {
+        Some(found) => {
+            let shown = found.slot(Trait::Display);
+            sink.put_value(shown, Trait::Display, &Spec::default(), place)
+        }
+        None => Err(missing_name(alloc, named.name, start)),
+    }
+}
+
 /// Writes what the argument means that begins here, behind its brace. Returns what stands behind
 /// its closing brace. A name alone is told apart, since the compiler then knows what is asked of
 /// it.
@@ -275,41 +302,14 @@ fn write_argument<'t, 'a, W: TextWrite, C: Context>(
 {
     let named = take_name(here);
     if let Some(behind) = named.end.strip(b'}') {
-        let alone = plain(named);
-        write_value(alloc, sink, here.place, &alone, named.end.place, scope)?;
+        write_alone(alloc, sink, here.place, named, scope)?;
         return Ok(behind);
     }
     write_asked(alloc, sink, here, named, scope)
 }
 
-/// Writes what a piece at a place means, behind which stands `rest`. Returns what stands behind it
-/// and its argument.
-#[cycle(evaluate)]
-#[inline(always)]
-fn write_piece<'t, 'a, W: TextWrite, C: Context>(
-    alloc: Global,
-    sink: &mut Sink<'_, W>,
-    piece: Piece<'_>,
-    place: usize,
-    rest: Cursor<'t>,
-    scope: &Scope<'a, C, C::Object>,
-) -> Result<Cursor<'t>, Error>
-    requires fits { RunFits place piece }
-    ensures writes { Writes W.written
-        (token_means C.Object.shows (environment_of C.finds scope.now) place
-        (token_of piece.entry) (at rest.entry))
-        sink.old sink.new (answered result) }
-    ensures rest { IfOk result (λ r. at r ≡ past_token (token_of piece.entry) (at rest.entry)) }
-{
-    match piece {
-        Piece::Literals(text) => sink.put_run(text, place)?,
-        Piece::Brace(brace) => sink.put_char(brace, place)?,
-        Piece::Argument => return write_argument(alloc, sink, rest, scope),
-    }
-    Ok(rest)
-}
-
-/// Writes what a text means, piece by piece.
+/// Writes what a text means, piece by piece. What stands behind a brace that is written is copied
+/// by a loop of its own, up to the next argument.
 #[cycle(evaluate)]
 pub(crate) fn write_text<'a, W: TextWrite, C: Context>(
     alloc: Global,
@@ -323,7 +323,14 @@ pub(crate) fn write_text<'a, W: TextWrite, C: Context>(
 {
     let mut here = text;
     while let Some((piece, rest)) = next_piece(here) {
-        here = write_piece(alloc, sink, piece, here.place, rest, scope)?;
+        here = match piece {
+            Piece::Literals(run) => {
+                sink.put_run(run, here.place)?;
+                rest
+            }
+            Piece::Brace(_) => sink.put_copied(here)?,
+            Piece::Argument => write_argument(alloc, sink, rest, scope)?,
+        };
     }
     Ok(())
 }

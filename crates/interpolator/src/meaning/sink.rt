@@ -1,12 +1,13 @@
 //! Where text goes: to the writer, or aside into a buffer.
-ghost use Rattle.std.specs.Prelude.{◌≡◌, ◌+◌, ◌^◌, ◌<◌, length, [], ◌∷◌, None};
+ghost use Rattle.std.specs.Prelude.{◌≡◌, ◌+◌, ◌^◌, ◌<◌, length, [], ◌∷◌, None, IfOk};
 ghost use Rattle.std.specs.Str.{chars};
 ghost use Rattle.std.specs.Option.{option_copied};
 ghost use Rattle.interpolator_render.specs.Views.{IsInRange, shown_by};
 ghost use Rattle.interpolator_render.specs.Padding.{padded_text};
 ghost use Rattle.interpolator_render.specs.Texts.{view_text};
-ghost use Rattle.interpolator_syntax.specs.At.{placed_at, placed_from};
+ghost use Rattle.interpolator_syntax.specs.At.{at, placed_at, placed_from};
 ghost use Rattle.interpolator_syntax.specs.Faults.{answered};
+ghost use Rattle.interpolator.specs.Meaning.Copies.{copied};
 ghost use Rattle.interpolator.specs.Meaning.Meanings.{text_alone, view_means, value_means};
 ghost use Rattle.interpolator.specs.Meaning.Outcomes.{Outcome};
 ghost use Rattle.interpolator.specs.Meaning.Sinks.{Writes};
@@ -14,7 +15,7 @@ ghost use Rattle.interpolator.specs.Meaning.Sinks.{Writes};
 use interpolator_render::{
     RenderFault, Spec, TextBuffer, TextWrite, Trait, Value, View, pad, render,
 };
-use interpolator_syntax::Error;
+use interpolator_syntax::{Cursor, Error, Piece, next_piece};
 use std::fmt;
 
 /// Writes one character of the format.
@@ -48,7 +49,26 @@ fn write_run<W: TextWrite>(out: &mut W, text: &str, place: usize) -> Result<(), 
     }
 }
 
+/// Writes literals and braces up to the next argument. Returns what stands from there on.
+fn write_copied<'t, W: TextWrite>(out: &mut W, text: Cursor<'t>) -> Result<Cursor<'t>, Error>
+    ensures outcome { Outcome (text_alone (copied (at text.entry)).text)
+        (W.written out.old) (W.written out.new) (answered result) }
+    ensures rest { IfOk result (λ r. at r ≡ (copied (at text.entry)).rest) }
+{
+    let mut here = text;
+    while let Some((piece, rest)) = next_piece(here) {
+        match piece {
+            Piece::Literals(run) => write_run(out, run, here.place)?,
+            Piece::Brace(brace) => write_char(out, brace, here.place)?,
+            Piece::Argument => return Ok(here),
+        }
+        here = rest;
+    }
+    Ok(here)
+}
+
 /// Writes a view, each character of which stands at one place.
+#[inline(always)]
 fn write_view<W: TextWrite>(
     out: &mut W,
     view: View<'_>,
@@ -92,18 +112,6 @@ pub(crate) struct Sink<'s, W> {
 }
 
 impl<'s, W: TextWrite> Sink<'s, W> {
-    /// One character of the format.
-    #[inline(always)]
-    pub(crate) fn put_char(&mut self, c: char, place: usize) -> Result<(), Error>
-        ensures writes { Writes W.written (text_alone ((c, place) ∷ []))
-            self.old self.new (answered result) }
-    {
-        match &mut *self.aside {
-            None => write_char(&mut *self.out, c, place),
-            Some(buffer) => write_char(buffer, c, place),
-        }
-    }
-
     /// Characters of the format that stand from a place on, as one slice.
     #[inline(always)]
     pub(crate) fn put_run(&mut self, text: &str, place: usize) -> Result<(), Error>
@@ -114,6 +122,20 @@ impl<'s, W: TextWrite> Sink<'s, W> {
         match &mut *self.aside {
             None => write_run(&mut *self.out, text, place),
             Some(buffer) => write_run(buffer, text, place),
+        }
+    }
+
+    /// Literals and braces up to the next argument. Returns what stands from there on.
+    #[cold]
+    #[inline(never)]
+    pub(crate) fn put_copied<'t>(&mut self, text: Cursor<'t>) -> Result<Cursor<'t>, Error>
+        ensures writes { Writes W.written (text_alone (copied (at text.entry)).text)
+            self.old self.new (answered result) }
+        ensures rest { IfOk result (λ r. at r ≡ (copied (at text.entry)).rest) }
+    {
+        match &mut *self.aside {
+            None => write_copied(&mut *self.out, text),
+            Some(buffer) => write_copied(buffer, text),
         }
     }
 

@@ -1,6 +1,7 @@
-//! Lists of many items.
+//! Lists of many items, and of long groups.
 
-use interpolator::{Formattable, Interpolate, Pairs};
+use crate::formats::told::{Told, told_by};
+use interpolator::{Formattable, Interpolate, Pairs, TextBuffer};
 use std::alloc::Global;
 use std::test::Fail;
 
@@ -28,6 +29,67 @@ fn long_lists(rt: HostRuntime) -> Result<(), Fail> {
         let text = Pairs(&[("l", Formattable::iter(&items))]).format(rt.alloc(), format)?;
         let wanted = digits(rt.alloc(), beginning)?;
         assert!(rt; text.as_str() == wanted.as_str(), "at {format}");
+    }
+    Ok(())
+}
+
+/// What stands in front of a group's long text and behind it, the parts of what is written, and what
+/// is answered.
+struct LongGroup {
+    front: &'static str,
+    end: &'static str,
+    text: &'static [(&'static str, usize)],
+    told: Told<'static>,
+}
+
+/// Worked by hand from the rules of lists and outcomes in docs/DEFINITIONS.md, over the list of 1
+/// and 5, where `a` stands 2,000 times between the format's front and its end.
+#[rattlefmt::skip]
+const GROUPS: [LongGroup; 6] = [
+    LongGroup { front: "{l:i(", end: ")}", text: &[("a", 4_000)], told: Told::Done },
+    LongGroup { front: "{l:4002i(", end: ")}", text: &[("a", 4_000), (" ", 2)], told: Told::Done },
+    LongGroup { front: "{l:>4003i(", end: "{})}", text: &[(" ", 1), ("a", 2_000), ("1", 1), ("a", 2_000), ("5", 1)], told: Told::Done },
+    LongGroup { front: "{l:>2003i({})(", end: ")}", text: &[(" ", 1), ("1", 1), ("a", 2_000), ("5", 1)], told: Told::Done },
+    LongGroup { front: "{l:i(", end: "{q})}", text: &[("a", 2_000)], told: Told::MissingValue("q", 2_006) },
+    LongGroup { front: "{l:9i(", end: "{q})}", text: &[], told: Told::MissingValue("q", 2_007) },
+];
+
+/// Appends a text, so often.
+fn append(text: &mut String, part: &str, count: usize) -> Result<(), Fail> {
+    for _ in 0..count {
+        text.push_str(part)?;
+    }
+    Ok(())
+}
+
+/// These parts, each so often.
+fn parts(alloc: Global, parts: &[(&str, usize)]) -> Result<String, Fail> {
+    let mut text = String::new(alloc);
+    for (part, count) in parts {
+        append(&mut text, part, *count)?;
+    }
+    Ok(text)
+}
+
+#[test]
+fn long_groups(rt: HostRuntime) -> Result<(), Fail> {
+    let alloc = rt.alloc();
+    let values = [1u64, 5];
+    let items = [
+        Formattable::display(&values[0]),
+        Formattable::display(&values[1]),
+    ];
+    for row in &GROUPS {
+        let format = parts(alloc, &[(row.front, 1), ("a", 2_000), (row.end, 1)])?;
+        let wanted = parts(alloc, row.text)?;
+        let mut out = TextBuffer::new(alloc);
+        let answer = Pairs(&[("l", Formattable::iter(&items))]).write_to(
+            alloc,
+            &mut out,
+            format.as_str(),
+        );
+        assert_eq!(rt; told_by(&answer), row.told, "at {}", row.front);
+        assert!(rt; out.as_str() == wanted.as_str(), "at {}", row.front);
     }
     Ok(())
 }

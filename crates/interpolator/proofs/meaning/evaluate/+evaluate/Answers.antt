@@ -4,7 +4,8 @@ use Rattle.std.specs.Str.{chars}
 use Rattle.std.proofs.lemmas.Result.{err_from_is_err_and}
 use Rattle.interpolator_render.specs.Written.{as_writer}
 use Rattle.interpolator_syntax.specs.At.{at}
-use Rattle.interpolator_syntax.specs.Arguments.{kind_of, argument_of}
+use Rattle.interpolator_syntax.specs.Arguments.{kind_of, plain_argument}
+use Rattle.interpolator_syntax.specs.Tokens.{literals, brace, argument, first_token}
 use Rattle.interpolator_syntax.proofs.PieceLemmas.{read_alone}
 use Rattle.interpolator.specs.Trees.{tree_of}
 use Rattle.interpolator.specs.Meaning.Lists.{list_asked, all_asked}
@@ -12,12 +13,14 @@ use Rattle.interpolator.specs.Meaning.Meanings.{means}
 use Rattle.interpolator.specs.Meaning.Scopes.{environment_of}
 use Rattle.interpolator.proofs.MeaningLemmas.SinkLemmas.{same_then, goes_on, whole_refused}
 use Rattle.interpolator.proofs.MeaningLemmas.SinkLemmas.{whole_fault}
+use Rattle.interpolator.proofs.MeaningLemmas.CopyLemmas.{copied_shorter}
 use Rattle.interpolator.proofs.MeaningLemmas.MeaningLemmas.{scan_shorter, token_shorter}
 use Rattle.interpolator.proofs.MeaningLemmas.ListLemmas.{kind_size, groups_within, list_writes}
 use Rattle.interpolator.proofs.MeaningLemmas.ListLemmas.{first_runs, first_fault}
 use Rattle.interpolator.proofs.MeaningLemmas.ListLemmas.{item_runs, join_fault, item_fault}
 use Rattle.interpolator.proofs.MeaningLemmas.ListLemmas.{items_end}
 use Rattle.interpolator.proofs.MeaningLemmas.RunLemmas.{end_writes, step_runs, fault_writes}
+use Rattle.interpolator.proofs.MeaningLemmas.RunLemmas.{copy_refused, copy_runs}
 use Rattle.interpolator.proofs.MeaningLemmas.RunLemmas.{broken_writes, value_fault_writes}
 use Rattle.interpolator.proofs.MeaningLemmas.RunLemmas.{closed_writes, closed_rest, unclosed_writes}
 use Rattle.interpolator.proofs.meaning.evaluate.+evaluate.Goals as goal
@@ -59,72 +62,139 @@ write_asked-returns-in-None-clause-writes g t c =
     unclosed_writes g.C.Object.Value.shows _ e (at c.args.here) _ _ (sym c.in-Ok.ensures.read) _ _
     (sym c.in-None.ensures) c.in_ok-write_value.ensures.writes
 
-pub write_argument-write_value-requires : goal.write_argument-write_value-requires
-write_argument-write_value-requires g t c =
-    let kind = kind_of c.plain-alone.result.kind in
-    let within : kind_size kind ≤ length (chars c.args.here.rest.now) =
-    groups_within (at c.args.here) (argument_of c.plain-alone.result) (at c.take_name-named.result.end)
-    (rw c.plain-alone.ensures (read_alone (at c.args.here) c.take_name-named.result _ c.take_name-named.ensures
-    (sym c.in-Some.ensures))) in
-    search rules
-
-pub write_argument-returns-in_err-write_value-clause-writes :
-    goal.write_argument-returns-in_err-write_value-clause-writes
-write_argument-returns-in_err-write_value-clause-writes g t c =
+pub write_argument-returns-in_err-write_alone-clause-writes :
+    goal.write_argument-returns-in_err-write_alone-clause-writes
+write_argument-returns-in_err-write_alone-clause-writes g t c =
     let e = environment_of g.C.Context.finds c.args.scope.now in
     let err = err_from_is_err_and c.from_residual.result c.from_residual.ensures.1 in
     rw (err.1, err.2) (value_fault_writes g.C.Object.Value.shows _ e (at c.args.here)
-    (argument_of c.plain-alone.result) (at c.take_name-named.result.end)
-    (rw c.plain-alone.ensures (read_alone (at c.args.here) c.take_name-named.result _ c.take_name-named.ensures
-    (sym c.in-Some.ensures))) _ _ _ c.in_err-write_value.ensures.writes)
+    (plain_argument c.take_name-named.result) (at c.take_name-named.result.end)
+    (read_alone (at c.args.here) c.take_name-named.result _ c.take_name-named.ensures.read
+    (sym c.in-Some.ensures)) _ _ _ c.in_err-write_alone.ensures.writes)
 
 pub write_argument-returns-in-Some-clause-writes : goal.write_argument-returns-in-Some-clause-writes
 write_argument-returns-in-Some-clause-writes g t c =
     let e = environment_of g.C.Context.finds c.args.scope.now in
     closed_writes g.C.Object.Value.shows _ e (at c.args.here)
-    (argument_of c.plain-alone.result) (at c.take_name-named.result.end)
-    (rw c.plain-alone.ensures (read_alone (at c.args.here) c.take_name-named.result _ c.take_name-named.ensures
-    (sym c.in-Some.ensures))) _ _ _ (sym c.in-Some.ensures) c.in_ok-write_value.ensures.writes
+    (plain_argument c.take_name-named.result) (at c.take_name-named.result.end)
+    (read_alone (at c.args.here) c.take_name-named.result _ c.take_name-named.ensures.read
+    (sym c.in-Some.ensures)) _ _ _ (sym c.in-Some.ensures) c.in_ok-write_alone.ensures.writes
 
 pub write_argument-returns-in-Some-clause-rest : goal.write_argument-returns-in-Some-clause-rest
 write_argument-returns-in-Some-clause-rest g t c =
-    sym (closed_rest (at c.args.here) (argument_of c.plain-alone.result) (at c.take_name-named.result.end) _
-    (rw c.plain-alone.ensures (read_alone (at c.args.here) c.take_name-named.result _ c.take_name-named.ensures
-    (sym c.in-Some.ensures))) (sym c.in-Some.ensures))
+    sym (closed_rest (at c.args.here) (plain_argument c.take_name-named.result)
+    (at c.take_name-named.result.end) _
+    (read_alone (at c.args.here) c.take_name-named.result _ c.take_name-named.ensures.read
+    (sym c.in-Some.ensures)) (sym c.in-Some.ensures))
 
-pub write_text-write_piece-requires : goal.write_text-write_piece-requires
-write_text-write_piece-requires g t c =
+pub write_text-returns-in_err-put_run-in-Literals :
+    goal.write_text-returns-in_err-put_run-in-Literals
+write_text-returns-in_err-put_run-in-Literals g t c =
+    let err = err_from_is_err_and c.from_residual.result c.from_residual.ensures.1 in
+    rw (err.1, err.2) (record {
+      writes =
+          goes_on _ _ _ _ _ _ _ c.loop-piece.invariant.so_far c.loop-piece.invariant.same
+          (fault_writes _ _ _ (at c.loop-piece.here)
+          (literals (chars c.in-Literals.run'.now), at c.in-Some.rest) _ _ _
+          (rw c.in-Literals.is at (sym c.in-Some.ensures.token))
+          c.in_err-put_run-in-Literals.ensures.writes);
+    })
+
+pub write_text-returns-in_err-here-in-Brace :
+    goal.write_text-returns-in_err-here-in-Brace
+write_text-returns-in_err-here-in-Brace g t c =
+    let residual = c.from_residual-in_err-here-in-Brace in
+    let err = err_from_is_err_and residual.result residual.ensures.1 in
+    rw (err.1, err.2) (record {
+      writes =
+          goes_on _ _ _ _ _ _ _ c.loop-piece.invariant.so_far c.loop-piece.invariant.same
+          (copy_refused _ _ _ (at c.loop-piece.here) _ _ _
+          c.in_err-here-in-Brace.ensures.writes);
+    })
+
+pub write_text-write_argument-requires : goal.write_text-write_argument-requires
+write_text-write_argument-requires g t c =
     let behind = length (chars c.in-Some.rest.rest.now) in
     let shorter : behind < length (chars c.loop-piece.here.rest.now) =
     token_shorter (at c.loop-piece.here) _ (sym c.in-Some.ensures.token) in
     let within = c.loop-piece.invariant.shorter in
     search rules
 
-pub write_text-returns-in_err-here : goal.write_text-returns-in_err-here
-write_text-returns-in_err-here g t c =
-    let err = err_from_is_err_and c.from_residual.result c.from_residual.ensures.1 in
+pub write_text-returns-in_err-here-in-Argument :
+    goal.write_text-returns-in_err-here-in-Argument
+write_text-returns-in_err-here-in-Argument g t c =
+    let residual = c.from_residual-in_err-here-in-Argument in
+    let err = err_from_is_err_and residual.result residual.ensures.1 in
     rw (err.1, err.2) (record {
       writes =
           goes_on _ _ _ _ _ _ _ c.loop-piece.invariant.so_far c.loop-piece.invariant.same
-          (fault_writes _ _ _
-          (at c.loop-piece.here) _ _ _ _ (sym c.in-Some.ensures.token)
-          c.in_err-here.ensures.writes);
+          (fault_writes _ _ _ (at c.loop-piece.here) (argument, at c.in-Some.rest) _ _ _
+          (rw c.in-Argument.is at (sym c.in-Some.ensures.token))
+          c.in_err-here-in-Argument.ensures.writes);
     })
 
-pub write_text-loop-piece-smaller : goal.write_text-loop-piece-smaller
-write_text-loop-piece-smaller g t c =
-    scan_shorter (at c.loop-piece.here) _ _ (sym c.in-Some.ensures.token) c.in_ok-here.ensures.rest
+pub write_text-loop-piece-smaller-in_ok-put_run-in-Literals :
+    goal.write_text-loop-piece-smaller-in_ok-put_run-in-Literals
+write_text-loop-piece-smaller-in_ok-put_run-in-Literals g t c =
+    token_shorter (at c.loop-piece.here) _ (sym c.in-Some.ensures.token)
 
-pub write_text-loop-piece-preserved : goal.write_text-loop-piece-preserved
-write_text-loop-piece-preserved g t c =
-    let o = c.in_ok-here.ensures.writes in
-    let shorter = scan_shorter (at c.loop-piece.here) (at c.in_ok-here.here) _
-    (sym c.in-Some.ensures.token) c.in_ok-here.ensures.rest in
+pub write_text-loop-piece-preserved-in_ok-put_run-in-Literals :
+    goal.write_text-loop-piece-preserved-in_ok-put_run-in-Literals
+write_text-loop-piece-preserved-in_ok-put_run-in-Literals g t c =
+    let here = at c.loop-piece.here in
+    let rest = at c.in-Some.rest in
+    let o = c.in_ok-put_run-in-Literals.ensures.writes in
+    let shorter = token_shorter here _ (sym c.in-Some.ensures.token) in
     record {
       shorter = omega (arith, shorter, c.loop-piece.invariant.shorter);
       so_far = λ new answer k. c.loop-piece.invariant.so_far new answer
-          (step_runs _ _ _ (at c.loop-piece.here) _ _ _ _ _ _
-          (sym c.in-Some.ensures.token) c.in_ok-here.ensures.rest o k);
+          (step_runs _ _ _ here (literals (chars c.in-Literals.run'.now), rest) rest _ _ _ _
+          (rw c.in-Literals.is at (sym c.in-Some.ensures.token)) refl o k);
+      same = same_then _ _ _ c.loop-piece.invariant.same o.same;
+    }
+
+pub write_text-loop-piece-smaller-in_ok-here-in-Brace :
+    goal.write_text-loop-piece-smaller-in_ok-here-in-Brace
+write_text-loop-piece-smaller-in_ok-here-in-Brace g t c =
+    copied_shorter (at c.loop-piece.here) (at c.in_ok-here-in-Brace.here) (brace c.in-Brace.field-0)
+    (at c.in-Some.rest) tt (rw c.in-Brace.is at (sym c.in-Some.ensures.token))
+    c.in_ok-here-in-Brace.ensures.rest
+
+pub write_text-loop-piece-preserved-in_ok-here-in-Brace :
+    goal.write_text-loop-piece-preserved-in_ok-here-in-Brace
+write_text-loop-piece-preserved-in_ok-here-in-Brace g t c =
+    let here = at c.loop-piece.here in
+    let o = c.in_ok-here-in-Brace.ensures.writes in
+    let shorter = copied_shorter here (at c.in_ok-here-in-Brace.here) (brace c.in-Brace.field-0)
+    (at c.in-Some.rest) tt (rw c.in-Brace.is at (sym c.in-Some.ensures.token))
+    c.in_ok-here-in-Brace.ensures.rest in
+    record {
+      shorter = omega (arith, shorter, c.loop-piece.invariant.shorter);
+      so_far = λ new answer k. c.loop-piece.invariant.so_far new answer
+          (copy_runs _ _ _ here _ _ (at c.in_ok-here-in-Brace.here) _ _
+          c.in_ok-here-in-Brace.ensures.rest o k);
+      same = same_then _ _ _ c.loop-piece.invariant.same o.same;
+    }
+
+pub write_text-loop-piece-smaller : goal.write_text-loop-piece-smaller
+write_text-loop-piece-smaller g t c =
+    scan_shorter (at c.loop-piece.here) _ (argument, at c.in-Some.rest)
+    (rw c.in-Argument.is at (sym c.in-Some.ensures.token))
+    c.in_ok-here-in-Argument.ensures.rest
+
+pub write_text-loop-piece-preserved : goal.write_text-loop-piece-preserved
+write_text-loop-piece-preserved g t c =
+    let here = at c.loop-piece.here in
+    let o = c.in_ok-here-in-Argument.ensures.writes in
+    let token : first_token here ≡ Some (argument, at c.in-Some.rest) =
+    rw c.in-Argument.is at (sym c.in-Some.ensures.token) in
+    let shorter = scan_shorter here (at c.in_ok-here-in-Argument.here) (argument, at c.in-Some.rest)
+    token c.in_ok-here-in-Argument.ensures.rest in
+    record {
+      shorter = omega (arith, shorter, c.loop-piece.invariant.shorter);
+      so_far = λ new answer k. c.loop-piece.invariant.so_far new answer
+          (step_runs _ _ _ here (argument, at c.in-Some.rest) (at c.in_ok-here-in-Argument.here)
+          _ _ _ _ token c.in_ok-here-in-Argument.ensures.rest o k);
       same = same_then _ _ _ c.loop-piece.invariant.same o.same;
     }
 

@@ -17,9 +17,6 @@ use Rattle.interpolator.proofs.meaning.evaluate.+evaluate.Given as goal
 abbrev pub decreases-write_text : goal.decreases-write_text
 decreases-write_text g l = 16 * length (chars l.text.rest.now)
 
-abbrev pub decreases-write_piece : goal.decreases-write_piece
-decreases-write_piece g l = 16 * length (chars l.rest.rest.now) + 9
-
 abbrev pub decreases-write_argument : goal.decreases-write_argument
 decreases-write_argument g l = 16 * length (chars l.here.rest.now) + 8
 

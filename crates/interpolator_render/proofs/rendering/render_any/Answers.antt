@@ -3,7 +3,7 @@ use Rattle.std.specs.Int.{w128}
 use Rattle.std.proofs.lemmas.Int.{to_z-of_z}
 use Rattle.interpolator_render.specs.Texts.{view_text}
 use Rattle.interpolator_render.proofs.RenderingLemmas.{renders_puts, signed_text, unsigned_text}
-use Rattle.interpolator_render.proofs.rendering.render.Goals as goal
+use Rattle.interpolator_render.proofs.rendering.render_any.Goals as goal
 
 pub returns-in-Some : goal.returns-in-Some
 returns-in-Some g c =
