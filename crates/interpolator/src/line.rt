@@ -22,7 +22,8 @@ fn write_newline<W: TextWrite>(out: &mut W) -> Result<(), Error>
     ensures outcome { Outcome newline_means
         (W.written out.old) (W.written out.new) (answered result) }
 {
-    write_char(out, '\n', 0)
+    write_char(out, '\n', 0)?;
+    Ok(())
 }
 
 /// Writes what the format means in the context, as `write` does, and behind it a newline where

@@ -1,9 +1,9 @@
 //! Pairs of a name and what it stands for, as a context.
-ghost use Rattle.std.specs.Prelude.{◌≡◌, ⊤};
+ghost use Rattle.std.specs.Prelude.{◌≡◌, ⊤, option_map};
 ghost use Rattle.std.specs.Option.{option_copied};
 ghost use Rattle.interpolator.specs.Contexts.{found_by_pairs, held_last};
 
-use crate::context::{Context, copied};
+use crate::context::Context;
 use crate::slots::Formattable;
 use interpolator_render::Value;
 use std::alloc::AllocError;
@@ -38,13 +38,12 @@ impl<'a, V> Clone for Pairs<'a, V> {
 
 impl<'a, V> Copy for Pairs<'a, V> {}
 
-// What the last pair of that name holds.
-#[inline(always)]
-fn last_under<'s, T>(pairs: &'s [(&str, T)], name: &str) -> Option<&'s T>
-    ensures { option_copied result ≡ held_last pairs.now name.now }
+// The last pair of that name. It is not inlined, so that its few words stay in registers.
+#[inline(never)]
+fn last_pair<'s, 'k, T>(pairs: &'s [(&'k str, T)], name: &str) -> Option<&'s (&'k str, T)>
+    ensures { option_map (λ pair. pair.1) (option_copied result) ≡ held_last pairs.now name.now }
 {
-    let found = pairs.iter().rev().find(|pair| pair.0 == name)?;
-    Some(&found.1)
+    pairs.iter().rev().find(|pair| pair.0 == name)
 }
 
 impl<'a, V: Value> Context for Pairs<'a, V> {
@@ -54,6 +53,9 @@ impl<'a, V: Value> Context for Pairs<'a, V> {
 
     #[inline(always)]
     fn get(&self, key: &str) -> Option<Formattable<'_, V>> {
-        copied(last_under(self.0, key))
+        match last_pair(self.0, key) {
+            Some(pair) => Some(pair.1),
+            None => None,
+        }
     }
 }

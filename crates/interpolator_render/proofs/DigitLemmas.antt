@@ -219,6 +219,24 @@ pair_count n h =
     let rest : n / 10 / 10 ≡ n / 100 = omega arith in
     let count = rw rest at twice in omega arith
 
+-- a number of two digits alone
+pub pair_alone : (n : ℕ) → 10 ≤ n → n < 100 →
+    digit_text 10 false n ≡ (48 + n / 10) ∷ (48 + n % 10) ∷ []
+pair_alone n l h =
+    let tens : digit_glyph false (n / 10) ≡ 48 + n / 10 = grind (arith, nat_tests) in
+    let ones : digit_glyph false (n % 10) ≡ 48 + n % 10 = grind (arith, nat_tests) in
+    rw (
+      digit_text_step 10 n false (omega arith) l,
+      digit_text_one 10 (n / 10) false (omega arith) (omega arith),
+      tens,
+      ones,
+    ) refl
+
+-- and of one
+pub one_alone : (n : ℕ) → n < 10 → digit_text 10 false n ≡ (48 + n) ∷ []
+one_alone n h = let glyph : digit_glyph false n ≡ 48 + n = grind (arith, nat_tests) in
+    rw (digit_text_one 10 n false (omega arith) h, glyph) refl
+
 pub take_less : (k at : ℕ) (new old : List ℕ) → k ≤ at → take at new ≡ take at old →
     take k new ≡ take k old
 take_less k at new old h e = sym (take-take k at new h) ∙ (ap (take k) e ∙ take-take k at old h)

@@ -2,7 +2,7 @@
 use Rattle.std.proofs.Common.{append_assoc, ◌≡◌, ℕ, Bool, ◌<◌, ◌≤◌, ◌-◌, ◌+◌, ◌^◌, List, [], ◌∷◌}
 use Rattle.std.proofs.Common.{◌++◌, length, take, drop, set, replicate, slice_range, refl, sym, ◌∙◌}
 use Rattle.std.proofs.Common.{ap, arith, length-append, drop-drop, take-take, take-append-drop}
-use Rattle.std.proofs.Common.{length-take-le, unwrap_or, IsAscii, take-add}
+use Rattle.std.proofs.Common.{length-take-le, unwrap_or, IsAscii, take-add, false}
 use Rattle.std.proofs.lemmas.List.{length-replicate, take-replicate, drop-replicate, drop-append-le}
 use Rattle.std.proofs.lemmas.List.{drop-set}
 use Rattle.std.proofs.lemmas.Str.{IsAscii-take, IsAscii-drop, IsAscii-append}
@@ -141,6 +141,10 @@ pub short_digits : (base n : ℕ) (upper : Bool) → 2 ≤ base → n < 2 ^ 64 �
     length (digit_text base upper n) ≤ 64
 short_digits base n upper b s = let wide : 2 ^ 64 ≤ base ^ 64 = pow-le-pow_left b 64 in
     length-digit_text-le base 64 n upper b (omega arith) (omega arith)
+
+-- for the digits of 64 bits in base ten
+pub few_decimals : (n : ℕ) → n < 2 ^ 64 → length (digit_text 10 false n) ≤ 64
+few_decimals n s = short_digits 10 n false (omega arith) s
 
 -- the digits of 64 bits alone in a row
 pub number_row : (spec : Spec) (radix : Radix) (n : ℕ) (empty row : Row) (fill : ℕ) →

@@ -1,11 +1,16 @@
 -- The parts of a number are its padded text.
 use Rattle.std.proofs.Common.{◌≡◌, ℕ, ◌+◌, ◌-◌, ◌^◌, ◌<◌, min, Bool, true, false, List, [], ◌++◌}
 use Rattle.std.proofs.Common.{length, refl, sym, append_assoc, append-nil, replicate, arith, inl}
-use Rattle.std.proofs.Common.{inr, Option, unwrap_or, ◌≤◌}
+use Rattle.std.proofs.Common.{inr, Option, None, unwrap_or, ◌≤◌, ap, ◌∙◌}
 use Rattle.interpolator_render.specs.declared.view.Alignment.{Alignment}
 use Rattle.interpolator_render.specs.declared.view.Alignment.TheVariants.{Unset, Left, Center}
 use Rattle.interpolator_render.specs.declared.view.Alignment.TheVariants.{Right}
+use Rattle.interpolator_render.specs.declared.number.NumberForm.TheVariants.{Digits as InDigits}
+use Rattle.interpolator_render.specs.declared.number.Radix.TheVariants.{Decimal}
+use Rattle.interpolator_render.specs.declared.view.Sign.TheVariants.{Unset as NoSign}
 use Rattle.interpolator_render.specs.declared.view.Spec.{Spec}
+use Rattle.interpolator_render.specs.Digits.{digit_text}
+use Rattle.interpolator_render.specs.Numbers.{front_text, number_text}
 use Rattle.interpolator_render.specs.Exponent.{exponent_tail, exponent_text, pointed, scientific}
 use Rattle.interpolator_render.specs.Padding.{fill_of, missing_to, padded_number, spaces_before}
 use Rattle.interpolator_render.specs.Padding.{IsNumberLayout}
@@ -80,3 +85,14 @@ nothing_padded spec front body z m =
     let none = before_within spec.alignment 0 0 (omega arith) in
     let all : spaces_before spec.alignment 0 0 ≡ 0 = omega arith in
     rw (z, ← m, all) (sym (append-nil (front ++ body)))
+
+-- a number of which no more is asked than its digits
+pub bare_number : (spec : Spec) (n : ℕ) → spec.width ≡ None → spec.zero ≡ false →
+    spec.alternate ≡ false → spec.sign ≡ NoSign →
+    number_text (InDigits Decimal) spec false n ≡ digit_text 10 false n
+bare_number spec n w z a s =
+    let front : front_text (InDigits Decimal) spec false ≡ [] = rw (s, a) refl in
+    let none : 0 ≡ missing_to spec (length {A = ℕ} [] + length (digit_text 10 false n)) =
+    rw w (omega arith) in
+    ap (λ (f : List ℕ). padded_number spec f (digit_text 10 false n)) front
+    ∙ sym (nothing_padded spec [] (digit_text 10 false n) z none)

@@ -1,5 +1,6 @@
 //! Whole numbers: sign, prefix, digits or exponent form, and their padding.
 ghost use Rattle.std.specs.Prelude.{◌≡◌, ◌<◌, ◌≤◌, ◌+◌, ◌++◌, length, replicate, unwrap_or};
+ghost use Rattle.std.specs.Prelude.{ℕ, true, false};
 ghost use Rattle.interpolator_render.specs.Characters.{zero_digit};
 ghost use Rattle.interpolator_render.specs.Digits.{digit_text};
 ghost use Rattle.interpolator_render.specs.Numbers.{base_of, is_upper, prefix_of, number_form};
@@ -11,9 +12,9 @@ ghost use Rattle.interpolator_render.specs.Padding.{IsNumberLayout, IsNumberRow}
 ghost use Rattle.interpolator_render.specs.Rows.{grown};
 ghost use Rattle.interpolator_render.specs.Written.{Puts};
 
-use crate::digits::digit_str;
+use crate::digits::{ascii_str, digit_str, pair_digits};
 use crate::exponent::{exponent_tail, mantissa_of};
-use crate::layout::{Part, put_ascii, put_parts};
+use crate::layout::{Part, put_ascii, put_char, put_parts};
 use crate::line::{LINE_WIDTH, Line};
 use crate::short_exponent::{put_shown, shown_of};
 use crate::text_write::{Refusal, TextWrite};
@@ -395,6 +396,52 @@ fn put_digits<W: TextWrite>(
         put_short(out, radix, spec, negative, n as u64)
     } else {
         put_long(out, radix, spec, negative, n)
+    }
+}
+
+/// Writes the digits of a number in base ten, and nothing around them.
+#[inline(never)]
+fn put_bare<W: TextWrite>(out: &mut W, n: u64) -> Result<(), Refusal>
+    ensures { Puts (W.written out.old) (digit_text 10 false n) result (W.written out.new) }
+{
+    if n < 10 {
+        return put_char(out, (b'0' + n as u8) as char);
+    }
+    if n < 100 {
+        let (tens, ones) = pair_digits(n);
+        return put_ascii(out, ascii_str(&[tens, ones]));
+    }
+    let mut line = Line::new(b' ');
+    line.put_decimal(n);
+    put_ascii(out, line.as_str())
+}
+
+/// Whether a spec asks no more of a number in base ten than its digits and a `-`.
+#[inline(always)]
+fn is_bare(spec: &Spec) -> bool
+    ensures { result ≡ true → (n : ℕ) →
+        number_text (NumberForm.Digits Radix.Decimal) spec.now false n ≡ digit_text 10 false n }
+{
+    if spec.zero || spec.alternate {
+        return false;
+    }
+    match (spec.sign, spec.width) {
+        (Sign::Unset, None) => true,
+        _ => false,
+    }
+}
+
+/// Writes a number that is not negative, in base ten.
+#[inline(always)]
+pub(crate) fn put_natural<W: TextWrite>(out: &mut W, spec: &Spec, n: u128) -> Result<(), Refusal>
+    ensures { Puts (W.written out.old)
+        (number_text (NumberForm.Digits Radix.Decimal) spec.now false n)
+        result (W.written out.new) }
+{
+    if n <= 0xffff_ffff_ffff_ffff && is_bare(spec) {
+        put_bare(out, n as u64)
+    } else {
+        put_digits(out, Radix::Decimal, spec, false, n)
     }
 }
 

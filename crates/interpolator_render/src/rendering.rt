@@ -12,7 +12,9 @@ ghost use Rattle.interpolator_render.specs.Written.{Puts};
 
 use crate::characters::cut;
 use crate::layout::{put_between, put_text};
-use crate::number::{NumberForm, number_form, put_number, sign_and_magnitude, spaces_before};
+use crate::number::{
+    NumberForm, number_form, put_natural, put_number, sign_and_magnitude, spaces_before,
+};
 use crate::quoting::put_quoted;
 use crate::text_write::{Refusal, TextWrite};
 use crate::view::{RenderFault, Spec, Trait, View};
@@ -153,10 +155,15 @@ pub fn render<W: TextWrite>(
     ensures { Renders (view_text (shown_by view.entry) t spec.now) (W.written out.old) result
         (W.written out.new) }
 {
-    match view {
-        View::Text(text) => render_text(out, t, '"', text, spec),
-        _ => render_any(out, view, t, spec),
+    if let View::Text(text) = view {
+        return render_text(out, t, '"', text, spec);
     }
+    if let Trait::Display = t {
+        if let View::Unsigned(number) = view {
+            return refused(put_natural(out, spec, number));
+        }
+    }
+    render_any(out, view, t, spec)
 }
 
 /// The same with no look ahead at what is most likely.

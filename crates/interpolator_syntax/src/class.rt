@@ -102,9 +102,8 @@ fn split_while(text: &str, class: Class) -> (&str, &str)
     text.split_at(text.len() - rest.len())
 }
 
-/// How many bytes of a name are tested one by one before a search by vectors, which costs more to
-/// begin.
-const NEAR_NAME: usize = 8;
+/// How many bytes of a name are tested one by one before a search by vectors.
+const NEAR_NAME: usize = 0;
 
 /// The same of a literal text.
 const NEAR_LITERAL: usize = 2;
@@ -230,14 +229,29 @@ fn near_position(bytes: &[u8], near: usize, first: u8, second: u8) -> Option<usi
     byte_position(front, first, second)
 }
 
+/// The same, where it is among the first sixteen of at least so many.
+#[inline(always)]
+fn block_index(bytes: &[u8], first: u8, second: u8) -> Option<usize>
+    ensures { IfSome result (λ r. r ≡ position_or_len (λ b. b == first || b == second) bytes.now) }
+{
+    if bytes.len() < BLOCK {
+        return None;
+    }
+    let index = block_position(bytes, first, second)?;
+    if index < BLOCK { Some(index) } else { None }
+}
+
 /// How many bytes stand before the first that is one of these two, or all where there is none. It
-/// is likely to be among the first `near`.
+/// is likely to be among the first `near`, and else among the first sixteen.
 #[inline(always)]
 fn bytes_before(bytes: &[u8], near: usize, first: u8, second: u8) -> usize
     requires order { first ≤ second }
     ensures { result ≡ position_or_len (λ b. b == first || b == second) bytes.now }
 {
     if let Some(index) = near_position(bytes, near, first, second) {
+        return index;
+    }
+    if let Some(index) = block_index(bytes, first, second) {
         return index;
     }
     let rest = skip_blocks(bytes, first, second);

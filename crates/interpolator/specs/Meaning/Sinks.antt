@@ -1,10 +1,12 @@
 -- What is written to a sink: a writer, or a buffer in its stead.
-use Rattle.std.specs.Prelude.{◌≡◌, Option, None, Some, option_map, ⊤}
+use Rattle.std.specs.Prelude.{◌≡◌, Option, None, Some, option_map, ⊤, Result, Ok, Err}
 use Rattle.interpolator_render.specs.Written.{Written, as_writer}
-use Rattle.interpolator_syntax.specs.Faults.{Answer}
+use Rattle.interpolator_syntax.specs.Faults.{Answer, fault, missing_trait_impl, fmt}
 use Rattle.interpolator.specs.Meaning.Meanings.{Meaning}
 use Rattle.interpolator.specs.Meaning.Outcomes.{Outcome}
 use Rattle.interpolator.specs.declared.meaning.sink.Sink as code_sink
+use Rattle.interpolator.specs.declared.meaning.sink.Unwritten.{Unwritten}
+use Rattle.interpolator.specs.declared.meaning.sink.Unwritten.TheVariants.{MissingTraitImpl, Fmt}
 
 -- where text goes: to the writer `out`, or aside into a buffer if there is one
 pub record SinkState : Type 0 where
@@ -53,3 +55,13 @@ pub record Writes {W : Type 0} (written : W → Written) (m : Meaning)
     (old new : code_sink.Sink W) (answer : Option Answer) : Type 0 where
   pub evaluates : Evaluates m (seen written old) (seen written new) answer
   pub same : SameSink old new
+
+-- what the reason comes to why something was not written
+abbrev pub unwritten_answer : Unwritten → Answer
+unwritten_answer (MissingTraitImpl wanted place) = fault (missing_trait_impl wanted place)
+unwritten_answer (Fmt place) = fault (fmt place)
+
+-- what a call answered that writes to a sink: nothing for `Ok`
+abbrev pub unwritten : {A : Type 0} → Result A Unwritten → Option Answer
+unwritten (Ok _) = None
+unwritten (Err reason) = Some (unwritten_answer reason)

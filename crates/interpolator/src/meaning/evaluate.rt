@@ -45,7 +45,8 @@ fn write_item<'a, W: TextWrite, C: Context>(
         Some(group) => write_text(alloc, sink, inside(group), &scope.bind(item)),
         None => {
             let value = item.slot(Trait::Display);
-            sink.put_value(value, Trait::Display, &Spec::default(), place)
+            sink.put_value(value, Trait::Display, &Spec::default(), place)?;
+            Ok(())
         }
     }
 }
@@ -127,7 +128,8 @@ fn write_whole<'a, W: TextWrite, C: Context>(
                 return Err(Error::NoMemory);
             }
             answer?;
-            sink.put_padded(buffer.as_str(), spec, place)
+            sink.put_padded(buffer.as_str(), spec, place)?;
+            Ok(())
         }
     }
 }
@@ -178,7 +180,10 @@ fn write_found<'a, W: TextWrite, C: Context>(
         sink.old sink.new (answered result) }
 {
     match argument.kind {
-        Kind::Value(t) => sink.put_value(found.slot(t), t, &argument.spec, end),
+        Kind::Value(t) => {
+            sink.put_value(found.slot(t), t, &argument.spec, end)?;
+            Ok(())
+        }
         Kind::List { range, item, join } => {
             let groups = Groups { item, join };
             match found.list() {
@@ -270,18 +275,15 @@ fn write_alone<'a, W: TextWrite, C: Context>(
         start (plain_argument named.entry) named.entry.end.place)
         sink.old sink.new (answered result) }
 {
-    let place = named.end.place;
-    if let Some(item) = scope.inner(named.name) {
-        let shown = item.slot(Trait::Display);
-        return sink.put_value(shown, Trait::Display, &Spec::default(), place);
-    }
-    match scope.outer(named.name) {
-        Some(found) => {
-            let shown = found.slot(Trait::Display);
-            sink.put_value(shown, Trait::Display, &Spec::default(), place)
-        }
-        None => Err(missing_name(alloc, named.name, start)),
-    }
+    let shown = match scope.inner(named.name) {
+        Some(item) => item.slot(Trait::Display),
+        None => match scope.outer(named.name) {
+            Some(found) => found.slot(Trait::Display),
+            None => return Err(missing_name(alloc, named.name, start)),
+        },
+    };
+    sink.put_value(shown, Trait::Display, &Spec::default(), named.end.place)?;
+    Ok(())
 }
 
 /// Writes what the argument means that begins here, behind its brace. Returns what stands behind

@@ -6,11 +6,11 @@ ghost use Rattle.interpolator_render.specs.Views.{IsInRange, shown_by};
 ghost use Rattle.interpolator_render.specs.Padding.{padded_text};
 ghost use Rattle.interpolator_render.specs.Texts.{view_text};
 ghost use Rattle.interpolator_syntax.specs.At.{at, placed_at, placed_from};
-ghost use Rattle.interpolator_syntax.specs.Faults.{answered};
+ghost use Rattle.interpolator_syntax.specs.Faults.{answer_of};
 ghost use Rattle.interpolator.specs.Meaning.Copies.{copied};
 ghost use Rattle.interpolator.specs.Meaning.Meanings.{text_alone, view_means, value_means};
 ghost use Rattle.interpolator.specs.Meaning.Outcomes.{Outcome};
-ghost use Rattle.interpolator.specs.Meaning.Sinks.{Writes};
+ghost use Rattle.interpolator.specs.Meaning.Sinks.{Writes, unwritten, unwritten_answer};
 
 use interpolator_render::{
     RenderFault, Spec, TextBuffer, TextWrite, Trait, Value, View, pad, render,
@@ -18,25 +18,47 @@ use interpolator_render::{
 use interpolator_syntax::{Cursor, Error, Piece, next_piece};
 use std::fmt;
 
+/// Why something was not written, and where in the format. An [`Error`] is made of it only where
+/// there is one, since its room, which is bigger, would be cleared for each piece that is written.
+#[derive(Clone, Copy)]
+pub(crate) enum Unwritten {
+    /// The value has no slot for the trait, or no text under it.
+    MissingTraitImpl(Trait, usize),
+    /// A value failed, or the writer refused.
+    Fmt(usize),
+}
+
+impl From<Unwritten> for Error {
+    ghost from_gives = { λ fault error. answer_of error ≡ unwritten_answer fault };
+
+    #[cold]
+    fn from(fault: Unwritten) -> Error {
+        match fault {
+            Unwritten::MissingTraitImpl(t, place) => Error::MissingTraitImpl(t, place),
+            Unwritten::Fmt(place) => Error::Fmt(fmt::Error, place),
+        }
+    }
+}
+
 /// Writes one character of the format.
 #[inline(always)]
-pub(crate) fn write_char<W: TextWrite>(out: &mut W, c: char, place: usize) -> Result<(), Error>
+pub(crate) fn write_char<W: TextWrite>(out: &mut W, c: char, place: usize) -> Result<(), Unwritten>
     ensures outcome { Outcome (text_alone ((c, place) ∷ []))
-        (W.written out.old) (W.written out.new) (answered result) }
+        (W.written out.old) (W.written out.new) (unwritten result) }
 {
     match out.write_char(c) {
         Ok(()) => Ok(()),
-        Err(_) => Err(Error::Fmt(fmt::Error, place)),
+        Err(_) => Err(Unwritten::Fmt(place)),
     }
 }
 
 /// Writes characters of the format that stand from a place on. A single one is not written as a
 /// text, which costs more.
 #[inline(always)]
-fn write_run<W: TextWrite>(out: &mut W, text: &str, place: usize) -> Result<(), Error>
+fn write_run<W: TextWrite>(out: &mut W, text: &str, place: usize) -> Result<(), Unwritten>
     requires fits { place + length text.now < 2 ^ 64 }
     ensures outcome { Outcome (text_alone (placed_from place (chars text.now)))
-        (W.written out.old) (W.written out.new) (answered result) }
+        (W.written out.old) (W.written out.new) (unwritten result) }
 {
     if let [byte] = text.as_bytes() {
         if byte.is_ascii() {
@@ -45,14 +67,14 @@ fn write_run<W: TextWrite>(out: &mut W, text: &str, place: usize) -> Result<(), 
     }
     match out.write_str(text) {
         Ok(()) => Ok(()),
-        Err(refusal) => Err(Error::Fmt(fmt::Error, place + refusal.taken)),
+        Err(refusal) => Err(Unwritten::Fmt(place + refusal.taken)),
     }
 }
 
 /// Writes literals and braces up to the next argument. Returns what stands from there on.
-fn write_copied<'t, W: TextWrite>(out: &mut W, text: Cursor<'t>) -> Result<Cursor<'t>, Error>
+fn write_copied<'t, W: TextWrite>(out: &mut W, text: Cursor<'t>) -> Result<Cursor<'t>, Unwritten>
     ensures outcome { Outcome (text_alone (copied (at text.entry)).text)
-        (W.written out.old) (W.written out.new) (answered result) }
+        (W.written out.old) (W.written out.new) (unwritten result) }
     ensures rest { IfOk result (λ r. at r ≡ (copied (at text.entry)).rest) }
 {
     let mut here = text;
@@ -75,16 +97,16 @@ fn write_view<W: TextWrite>(
     t: Trait,
     spec: &Spec,
     place: usize,
-) -> Result<(), Error>
+) -> Result<(), Unwritten>
     requires in_range { IsInRange (shown_by view) }
     ensures outcome { Outcome (view_means t place (view_text (shown_by view.entry) t spec.now))
-        (W.written out.old) (W.written out.new) (answered result) }
+        (W.written out.old) (W.written out.new) (unwritten result) }
 {
     match render(out, view, t, spec) {
         Ok(()) => Ok(()),
-        Err(RenderFault::NotImplemented) => Err(Error::MissingTraitImpl(t, place)),
-        Err(RenderFault::Failed) => Err(Error::Fmt(fmt::Error, place)),
-        Err(RenderFault::Refused) => Err(Error::Fmt(fmt::Error, place)),
+        Err(RenderFault::NotImplemented) => Err(Unwritten::MissingTraitImpl(t, place)),
+        Err(RenderFault::Failed) => Err(Unwritten::Fmt(place)),
+        Err(RenderFault::Refused) => Err(Unwritten::Fmt(place)),
     }
 }
 
@@ -94,14 +116,14 @@ fn write_padded<W: TextWrite>(
     text: &str,
     spec: &Spec,
     place: usize,
-) -> Result<(), Error>
+) -> Result<(), Unwritten>
     requires no_precision { spec.now.precision ≡ None }
     ensures outcome { Outcome (text_alone (placed_at place (padded_text spec.now (chars text.now))))
-        (W.written out.old) (W.written out.new) (answered result) }
+        (W.written out.old) (W.written out.new) (unwritten result) }
 {
     match pad(out, text, spec) {
         Ok(()) => Ok(()),
-        Err(_) => Err(Error::Fmt(fmt::Error, place)),
+        Err(_) => Err(Unwritten::Fmt(place)),
     }
 }
 
@@ -114,10 +136,10 @@ pub(crate) struct Sink<'s, W> {
 impl<'s, W: TextWrite> Sink<'s, W> {
     /// Characters of the format that stand from a place on, as one slice.
     #[inline(always)]
-    pub(crate) fn put_run(&mut self, text: &str, place: usize) -> Result<(), Error>
+    pub(crate) fn put_run(&mut self, text: &str, place: usize) -> Result<(), Unwritten>
         requires fits { place + length text.now < 2 ^ 64 }
         ensures writes { Writes W.written (text_alone (placed_from place (chars text.now)))
-            self.old self.new (answered result) }
+            self.old self.new (unwritten result) }
     {
         match &mut *self.aside {
             None => write_run(&mut *self.out, text, place),
@@ -128,9 +150,9 @@ impl<'s, W: TextWrite> Sink<'s, W> {
     /// Literals and braces up to the next argument. Returns what stands from there on.
     #[cold]
     #[inline(never)]
-    pub(crate) fn put_copied<'t>(&mut self, text: Cursor<'t>) -> Result<Cursor<'t>, Error>
+    pub(crate) fn put_copied<'t>(&mut self, text: Cursor<'t>) -> Result<Cursor<'t>, Unwritten>
         ensures writes { Writes W.written (text_alone (copied (at text.entry)).text)
-            self.old self.new (answered result) }
+            self.old self.new (unwritten result) }
         ensures rest { IfOk result (λ r. at r ≡ (copied (at text.entry)).rest) }
     {
         match &mut *self.aside {
@@ -140,11 +162,16 @@ impl<'s, W: TextWrite> Sink<'s, W> {
     }
 
     /// A text with spaces up to the width, each character at one place.
-    pub(crate) fn put_padded(&mut self, text: &str, spec: &Spec, place: usize) -> Result<(), Error>
+    pub(crate) fn put_padded(
+        &mut self,
+        text: &str,
+        spec: &Spec,
+        place: usize,
+    ) -> Result<(), Unwritten>
         requires no_precision { spec.now.precision ≡ None }
         ensures writes { Writes W.written
             (text_alone (placed_at place (padded_text spec.now (chars text.now))))
-            self.old self.new (answered result) }
+            self.old self.new (unwritten result) }
     {
         match &mut *self.aside {
             None => write_padded(&mut *self.out, text, spec, place),
@@ -160,13 +187,13 @@ impl<'s, W: TextWrite> Sink<'s, W> {
         t: Trait,
         spec: &Spec,
         place: usize,
-    ) -> Result<(), Error>
+    ) -> Result<(), Unwritten>
         ensures writes { Writes W.written
             (value_means V.shows t spec.now place (option_copied value.entry))
-            self.old self.new (answered result) }
+            self.old self.new (unwritten result) }
     {
         let Some(value) = value else {
-            return Err(Error::MissingTraitImpl(t, place));
+            return Err(Unwritten::MissingTraitImpl(t, place));
         };
         let view = value.view(t, spec);
         match &mut *self.aside {

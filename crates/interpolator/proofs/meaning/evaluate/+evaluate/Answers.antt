@@ -5,6 +5,7 @@ use Rattle.std.proofs.lemmas.Result.{err_from_is_err_and}
 use Rattle.interpolator_render.specs.Written.{as_writer}
 use Rattle.interpolator_syntax.specs.At.{at}
 use Rattle.interpolator_syntax.specs.Arguments.{kind_of, plain_argument}
+use Rattle.interpolator_syntax.specs.SpecTexts.{plain_spec}
 use Rattle.interpolator_syntax.specs.Tokens.{literals, brace, argument, first_token}
 use Rattle.interpolator_syntax.proofs.PieceLemmas.{read_alone}
 use Rattle.interpolator.specs.Trees.{tree_of}
@@ -247,6 +248,28 @@ write_whole-returns-then-refused g t c =
         same = record { out = refl; aside = refl };
       };
     }
+
+pub write_whole-returns-in_err-put_padded-in-Some :
+    goal.write_whole-returns-in_err-put_padded-in-Some
+write_whole-returns-in_err-put_padded-in-Some g t c =
+    let residual = c.from_residual-in_err-put_padded-in-Some in
+    let err = err_from_is_err_and residual.result residual.ensures.1 in
+    rw (err.1, err.2) (search rules)
+
+pub write_item-returns-in_err-put_value-in-None :
+    goal.write_item-returns-in_err-put_value-in-None
+write_item-returns-in_err-put_value-in-None g t c =
+    let err = err_from_is_err_and c.from_residual.result c.from_residual.ensures.1 in
+    let plain : c.default.result ≡ plain_spec = search rules in
+    rw (err.1, err.2, c.in-None.is, ← c.slot-value.ensures, ← plain) (record {
+      writes = c.in_err-put_value-in-None.ensures.writes;
+    })
+
+pub write_found-returns-in_err-put_value-in-Value :
+    goal.write_found-returns-in_err-put_value-in-Value
+write_found-returns-in_err-put_value-in-Value g t c =
+    let err = err_from_is_err_and c.from_residual.result c.from_residual.ensures.1 in
+    rw (err.1, err.2) (search rules)
 
 pub write_whole-returns-in_err-answer-in-Some : goal.write_whole-returns-in_err-answer-in-Some
 write_whole-returns-in_err-answer-in-Some g t c =
