@@ -1,6 +1,7 @@
 -- The lemmas of the reader and of the faults.
 pub mod ByteLemmas
 pub mod CharacterLemmas
+pub mod DoubledLemmas
 pub mod ErrorLemmas
 pub mod FrontLemmas
 pub mod GrammarArgumentLemmas

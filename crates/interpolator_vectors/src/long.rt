@@ -18,11 +18,17 @@ use std::test::Fail;
 /// `t` the text `é"`. Worked by hand from the rules of pieces and of rendering in
 /// docs/DEFINITIONS.md.
 #[rattlefmt::skip]
-const FORMATS: [(&str, usize, &str); 9] = [
+const FORMATS: [(&str, usize, &str); 15] = [
     ("a", 100_000, "a"),
     ("é", 50_000, "é"),
     ("}}", 50_000, "}"),
     ("{{", 50_000, "{"),
+    ("{{", 15, "{"),
+    ("}}", 16, "}"),
+    ("{{", 17, "{"),
+    ("{{}}", 1_000, "{}"),
+    ("{{{{a", 1_000, "{{a"),
+    ("{{}}{n}}}", 1_000, "{}7}"),
     ("{n}", 1_000, "7"),
     ("{  n}", 1_000, "7"),
     ("a{n:>3}b", 1_000, "a  7b"),
@@ -39,6 +45,19 @@ const FAULTS: [(&str, usize, &str, &str, Told<'static>); 4] = [
     ("{n}", 1_000, "7", "{q}", Told::MissingValue("q", 3_001)),
     ("é", 1_000, "é", "{n:x}", Told::MissingTraitImpl(Trait::LowerHex, 2_004)),
     ("}}", 1_000, "}", "{n", Told::Parse(ParseError::FormatSpecUnclosed(2_001))),
+];
+
+/// The bytes that a writer has room for, and the place that it tells of a hundred doubled braces:
+/// by the rules of outcomes in docs/DEFINITIONS.md, that of the first one without room.
+const ROOMS: [(usize, usize); 8] = [
+    (0, 0),
+    (1, 2),
+    (15, 30),
+    (16, 32),
+    (17, 34),
+    (47, 94),
+    (97, 194),
+    (99, 198),
 ];
 
 /// A part of a name, and how often it stands there. By the rules of arguments in
@@ -150,6 +169,21 @@ fn faults_behind_long_texts(rt: HostRuntime) -> Result<(), Fail> {
         assert!(rt; out.as_str() == text.as_str(), "at {part}");
         let made = made(alloc, format.as_str(), "");
         assert_eq!(rt; told_by(&made), told, "at {part}");
+    }
+    Ok(())
+}
+
+#[test]
+fn doubled_braces_are_refused_at_their_places(rt: HostRuntime) -> Result<(), Fail> {
+    let alloc = rt.alloc();
+    let format = repeated(alloc, "{{}}", 50)?;
+    let text = repeated(alloc, "{}", 50)?;
+    for (room, place) in ROOMS {
+        let mut out = Limited::new(alloc, room)?;
+        let answer = written(alloc, &mut out, format.as_str(), "");
+        assert_eq!(rt; told_by(&answer), Told::Fmt(place), "at room {room}");
+        assert_eq!(rt; out.as_str().len(), room, "at room {room}");
+        assert!(rt; text.as_str().starts_with(out.as_str()), "at room {room}");
     }
     Ok(())
 }

@@ -1,12 +1,18 @@
 -- The text in front of the next argument: step by step, and what it means.
-use Rattle.std.proofs.Common.{◌≡◌, ℕ, zero, suc, ◌≤◌, ◌<◌, [], ◌∷◌, length, arith, refl}
-use Rattle.std.proofs.Common.{sym, ap, ◌∙◌, Option, None, Some, inl}
+use Rattle.std.proofs.Common.{◌≡◌, ℕ, zero, suc, ◌+◌, ◌*◌, ◌≤◌, ◌<◌, List, [], ◌∷◌, ◌++◌, length}
+use Rattle.std.proofs.Common.{arith, refl, sym, ap, ◌∙◌, Option, None, Some, inl, inr, true, eqb}
+use Rattle.std.proofs.Common.{eqb-true, length-append}
+use Rattle.std.proofs.lemmas.Bool.{or_cases}
+use Rattle.std.proofs.lemmas.Str.{len_utf8_ascii}
+use Rattle.std.specs.Char.{len_utf8}
 use Rattle.interpolator_render.specs.declared.view.Trait.{Trait}
 use Rattle.interpolator_render.specs.declared.view.Spec.{Spec}
 use Rattle.interpolator_render.specs.Views.{Shown}
 use Rattle.interpolator_render.specs.Written.{Written}
 use Rattle.interpolator_render.proofs.LayoutLemmas.{appends_none}
 use Rattle.interpolator_syntax.specs.At.{At, Placed, placed_from}
+use Rattle.interpolator_syntax.specs.Classes.{is_brace, open_brace, close_brace}
+use Rattle.interpolator_syntax.specs.Doubled.{twice, placed_by_two, AreBraces}
 use Rattle.interpolator_syntax.specs.Faults.{Answer}
 use Rattle.interpolator_syntax.specs.Tokens.{Token, literals, brace, argument, first_token}
 use Rattle.interpolator.specs.Meaning.Copies.{Copy, behind_copied, no_copy, copy_from, copy_if}
@@ -158,6 +164,51 @@ module _ (a b : At) (front : Placed) (e : copied a ≡ behind_copied front (copi
       → Outcome (text_alone (copied a).text) old new (Some q)
   copy_refused old new q o = rw e
       (before_fault (text_alone front) (text_alone (copied b).text) old new q None refl o)
+
+-- ---- doubled braces in a row
+
+abbrev here : ℕ → List ℕ → At
+here p cs = record { place = p; text = cs }
+
+behind_two : (p c : ℕ) → c < 128 → p + len_utf8 c + len_utf8 c ≡ p + 2
+behind_two p c low = omega (arith, len_utf8_ascii c low)
+
+-- one of them
+doubled_token : (p c : ℕ) (cs : List ℕ) → is_brace c ≡ true
+    → first_token (here p (c ∷ c ∷ cs)) ≡ Some (brace c, here (p + 2) cs)
+unfolding first_token
+doubled_token p c cs e = elim (or_cases (eqb c open_brace) (eqb c close_brace) e) [
+  | inl h ↦
+      rw (eqb-true c open_brace h) (ap (λ q. Some (brace open_brace, here q cs))
+      (behind_two p open_brace (omega arith)))
+  | inr h ↦
+      rw (eqb-true c close_brace h) (ap (λ q. Some (brace close_brace, here q cs))
+      (behind_two p close_brace (omega arith)))
+]
+
+doubled_here : (p : ℕ) (cs : List ℕ) (b : At) → AreBraces cs → b.place ≡ p + 2 * length cs
+    → copied (here p (twice cs ++ b.text)) ≡ behind_copied (placed_by_two p cs) (copied b)
+doubled_here p [] b all e =
+    let same : p ≡ b.place = omega (arith, e) in ap (λ q. copied (here q b.text)) same
+doubled_here p (c ∷ cs) b all e =
+    let next = here (p + 2) (twice cs ++ b.text) in
+    copied_step (here p (c ∷ c ∷ (twice cs ++ b.text))) (brace c) next tt
+    (doubled_token p c (twice cs ++ b.text) (all 0 0 (omega arith)))
+    ∙ ap (behind_copied ((c, p) ∷ []))
+    (doubled_here (p + 2) cs b (λ k d h. all (suc k) d (omega (arith, h))) (omega (arith, e)))
+
+-- and what stands behind them
+pub copied_doubled : (a b : At) (cs : List ℕ) → AreBraces cs → a.text ≡ twice cs ++ b.text
+    → b.place ≡ a.place + 2 * length cs
+    → copied a ≡ behind_copied (placed_by_two a.place cs) (copied b)
+copied_doubled a b cs all e p =
+    ap (λ ds. copied (here a.place ds)) e ∙ doubled_here a.place cs b all p
+
+pub doubled_shorter : (text rest cs : List ℕ) → text ≡ twice cs ++ rest → length cs ≡ 16
+    → length rest < length text
+doubled_shorter text rest [] e long = absurd (omega (arith, long))
+doubled_shorter text rest (c ∷ cs) e long =
+    rw e (omega (arith, length-append (twice cs) rest))
 
 -- where nothing is copied, nothing is written
 pub stop_written : (a : At) (w : Written) → copied a ≡ no_copy a

@@ -6,6 +6,7 @@ ghost use Rattle.interpolator_render.specs.Views.{IsInRange, shown_by};
 ghost use Rattle.interpolator_render.specs.Padding.{padded_text};
 ghost use Rattle.interpolator_render.specs.Texts.{view_text};
 ghost use Rattle.interpolator_syntax.specs.At.{at, placed_at, placed_from};
+ghost use Rattle.interpolator_syntax.specs.Doubled.{placed_by_two, AreBraces};
 ghost use Rattle.interpolator_syntax.specs.Faults.{answer_of};
 ghost use Rattle.interpolator.specs.Meaning.Copies.{copied};
 ghost use Rattle.interpolator.specs.Meaning.Meanings.{text_alone, view_means, value_means};
@@ -15,8 +16,8 @@ ghost use Rattle.interpolator.specs.Meaning.Sinks.{Writes, unwritten, unwritten_
 use interpolator_render::{
     RenderFault, Spec, TextBuffer, TextWrite, Trait, Value, View, pad, render,
 };
-use interpolator_syntax::{Cursor, Error, Piece, next_piece};
-use std::fmt;
+use interpolator_syntax::{Cursor, Error, Piece, next_piece, take_doubled};
+use std::{fmt, str};
 
 /// Why something was not written, and where in the format. An [`Error`] is made of it only where
 /// there is one, since its room, which is bigger, would be cleared for each piece that is written.
@@ -71,6 +72,27 @@ fn write_run<W: TextWrite>(out: &mut W, text: &str, place: usize) -> Result<(), 
     }
 }
 
+/// Writes braces that stand doubled in the format, the first of them at that place, each once.
+#[inline(always)]
+fn write_doubled<W: TextWrite>(
+    out: &mut W,
+    braces: &[u8; 16],
+    place: usize,
+) -> Result<(), Unwritten>
+    requires braces { AreBraces braces.now }
+    requires fits { place + 32 < 2 ^ 64 }
+    ensures outcome { Outcome (text_alone (placed_by_two place braces.now))
+        (W.written out.old) (W.written out.new) (unwritten result) }
+{
+    match str::from_utf8(braces) {
+        Ok(single) => match out.write_str(single) {
+            Ok(()) => Ok(()),
+            Err(refusal) => Err(Unwritten::Fmt(place + 2 * refusal.taken)),
+        },
+        Err(_) => unreachable!(),
+    }
+}
+
 /// Writes literals and braces up to the next argument. Returns what stands from there on.
 fn write_copied<'t, W: TextWrite>(out: &mut W, text: Cursor<'t>) -> Result<Cursor<'t>, Unwritten>
     ensures outcome { Outcome (text_alone (copied (at text.entry)).text)
@@ -79,12 +101,24 @@ fn write_copied<'t, W: TextWrite>(out: &mut W, text: Cursor<'t>) -> Result<Curso
 {
     let mut here = text;
     while let Some((piece, rest)) = next_piece(here) {
-        match piece {
-            Piece::Literals(run) => write_run(out, run, here.place)?,
-            Piece::Brace(brace) => write_char(out, brace, here.place)?,
+        here = match piece {
+            Piece::Literals(run) => {
+                write_run(out, run, here.place)?;
+                rest
+            }
+            Piece::Brace(brace) => match take_doubled(here) {
+                Some(front) => {
+                    let braces = front.0;
+                    write_doubled(out, &braces, here.place)?;
+                    front.1
+                }
+                None => {
+                    write_char(out, brace, here.place)?;
+                    rest
+                }
+            },
             Piece::Argument => return Ok(here),
-        }
-        here = rest;
+        };
     }
     Ok(here)
 }
