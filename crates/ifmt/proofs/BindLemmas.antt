@@ -1,4 +1,4 @@
--- What the words bind, one behind the other.
+-- What the words bind, one after the other.
 use Rattle.std.proofs.Common.{◌≡◌, ℕ, ◌+◌, ◌<◌, ◌≤◌, List, [], ◌∷◌, ◌++◌, take, length, get_or}
 use Rattle.std.proofs.Common.{map}
 use Rattle.std.proofs.Common.{Option, None}
@@ -15,7 +15,7 @@ use Rattle.interpolator.specs.declared.View.{View}
 use Rattle.interpolator.specs.declared.slots.Formattable.{Formattable}
 use Rattle.interpolator.specs.declared.context_map.NameMap.{NameMap}
 use Rattle.interpolator.specs.NameMaps.{under, found}
-use Rattle.interpolator.specs.Trees.{Tree, tree_of}
+use Rattle.interpolator.specs.Slots.{Slots, slots_of}
 use Rattle.interpolator.specs.Views.{shown_as_value}
 use Rattle.ifmt.specs.declared.words.Word.{Word}
 use Rattle.ifmt.specs.declared.words.Word.TheVariants.{Text, Number, List as ListWord, Bad}
@@ -23,21 +23,21 @@ use Rattle.ifmt.specs.declared.binding.Object.{Object}
 use Rattle.ifmt.specs.declared.binding.Entry.{Entry}
 use Rattle.ifmt.specs.Words.{IsGood, Classifies}
 use Rattle.ifmt.specs.Binding.{AreBound, Binds, Fills, HasObject, Lends}
-use Rattle.ifmt.specs.Binding.{items_show, item_trees, object_shows}
+use Rattle.ifmt.specs.Binding.{items_show, item_slots, object_shows}
 use Rattle.ifmt.specs.Command.{AllGood}
 
 -- an entry was filled in
-abbrev pub IsFilled : (old : List ℕ → Option (Tree View)) → Entry
-    → (new : List ℕ → Option (Tree View)) → Type 0
-IsFilled old entry new = Fills old entry.word entry.value.now (map tree_of entry.items.items) new
+abbrev pub IsFilled : (old : List ℕ → Option (Slots View)) → Entry
+    → (new : List ℕ → Option (Slots View)) → Type 0
+IsFilled old entry new = Fills old entry.word entry.value.now (map slots_of entry.items.items) new
 
 -- the entries, in their order, were filled in where nothing was
-abbrev pub AreFilled : List Entry → (finds : List ℕ → Option (Tree View)) → Type 0
+abbrev pub AreFilled : List Entry → (finds : List ℕ → Option (Slots View)) → Type 0
 AreFilled entries finds = FoldsTo IsFilled (λ _. None) entries finds
 
 module _ {A : Type 0} (xs : List A) (i : ℕ) (x : A) (within : i < length xs)
     (here : x ≡ get_or xs i x) where
-  -- the front of a list with the element behind it
+  -- the front of a list with the element after it
   taken : take (i + 1) xs ≡ take i xs ++ (x ∷ [])
   taken = take_more xs i x within ∙ ap (λ y. take i xs ++ (y ∷ [])) (sym here)
 
@@ -50,7 +50,7 @@ module _ {A : Type 0} (xs : List A) (i : ℕ) (x : A) (within : i < length xs)
 
 -- one more entry
 pub filled_more : (entries : List Entry) (i : ℕ) (entry : Entry)
-    (old new : List ℕ → Option (Tree View)) → i < length entries →
+    (old new : List ℕ → Option (Slots View)) → i < length entries →
     entry ≡ get_or entries i entry → AreFilled (take i entries) old → IsFilled old entry new →
     AreFilled (take (i + 1) entries) new
 filled_more entries i entry old new within here so_far more =
@@ -71,13 +71,13 @@ has_object text spelled word object same means is shows items = record {
 -- in a map with no name nothing is filled in
 pub none_filled : (map : NameMap (Formattable View)) → ((name : List ℕ) → under map name ≡ None) →
     AreFilled [] (found map)
-none_filled map none = fun_ext (λ name. ap (option_map tree_of) (sym (none name)))
+none_filled map none = fun_ext (λ name. ap (option_map slots_of) (sym (none name)))
 
 -- objects of a word that is filled in are what the word binds
 binds : (text : List ℕ) (word : Word) (value : View) (objects : List View)
-    (old new : List ℕ → Option (Tree View)) → IsGood text → Classifies text word →
+    (old new : List ℕ → Option (Slots View)) → IsGood text → Classifies text word →
     shown_as_value value ≡ object_shows word → map shown_as_value objects ≡ items_show word →
-    Fills old word value (item_trees objects) new → Binds old text new
+    Fills old word value (item_slots objects) new → Binds old text new
 binds text (Text _ _) value objects old new good means shows items filled = record {
   assignment = _;
   means = (means _).1 refl;
@@ -107,10 +107,10 @@ binds text Bad value objects old new good means shows items filled =
 
 -- and so is an entry that lends them
 entry_binds : (text : List ℕ) (object : Object) (entry : Entry)
-    (old new : List ℕ → Option (Tree View)) → IsGood text → HasObject text object →
+    (old new : List ℕ → Option (Slots View)) → IsGood text → HasObject text object →
     Lends object entry → IsFilled old entry new → Binds old text new
 entry_binds text object entry old new good has lends filled =
-    let of_object : Fills old object.word object.value (item_trees object.items.items) new =
+    let of_object : Fills old object.word object.value (item_slots object.items.items) new =
     rw (← lends.same_word, ← lends.same_value, ← lends.filled) filled in
     binds text object.word object.value object.items.items old new good has.classified has.value
     has.items of_object
@@ -118,7 +118,7 @@ entry_binds text object entry old new good has lends filled =
 module _ {Z : Type 0} where
   -- entries that are filled in are what their words bind
   binds_all : (words : List (String Z)) (objects : List Object) (entries : List Entry)
-      (old new : List ℕ → Option (Tree View)) → AllGood words →
+      (old new : List ℕ → Option (Slots View)) → AllGood words →
       AllZip (λ word object. HasObject (string_bytes word) object) words objects →
       AllZip Lends objects entries → FoldsTo IsFilled old entries new →
       FoldsTo (λ old word new. Binds old (string_bytes word) new) old words new
@@ -135,12 +135,12 @@ module _ {Z : Type 0} where
         (All-tail (λ each. IsGood (string_bytes each)) word words good) has.1 lends.1 filled.2,
   )
 
-  -- and so do all entries below a place behind the last
+  -- and so do all entries below a place after the last
   pub bound : (words : List (String Z)) (objects : List Object) (entries : List Entry) (i : ℕ)
-      (finds : List ℕ → Option (Tree View)) → AllGood words →
+      (finds : List ℕ → Option (Slots View)) → AllGood words →
       AllZip (λ word object. HasObject (string_bytes word) object) words objects →
       AllZip Lends objects entries → length entries ≤ i → AreFilled (take i entries) finds →
       AreBound words finds
-  bound words objects entries i finds good has lends behind filled =
+  bound words objects entries i finds good has lends after filled =
       binds_all words objects entries (λ _. None) finds good has lends
-      (rw (take_all i entries behind) at filled)
+      (rw (take_all i entries after) at filled)

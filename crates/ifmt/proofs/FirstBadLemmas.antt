@@ -1,4 +1,4 @@
--- Words that mean something, one behind the other, up to the first that means nothing.
+-- Words that mean something, one after the other, up to the first that means nothing.
 use Rattle.std.proofs.Common.{◌≡◌, ℕ, ◌+◌, ◌<◌, ◌≤◌, List, ◌∷◌, ◌++◌, length, get_or, take, drop}
 use Rattle.std.proofs.Common.{suc}
 use Rattle.std.proofs.Common.{string_bytes, refl, sym, ap, ◌∙◌, drop-cons, take-append-drop}
@@ -37,7 +37,7 @@ module _ {Z : Type 0} (words : List (String Z)) (i : ℕ) (item : String Z)
   first_bad_at none = record {
     before = take i words;
     word = item;
-    behind = drop (suc i) words;
+    after = drop (suc i) words;
     split = sym (take-append-drop i words)
         ∙ ap (λ rest. take i words ++ rest) (drop-cons words i item within)
         ∙ ap (λ found. take i words ++ (found ∷ drop (suc i) words)) (sym here);
@@ -46,7 +46,7 @@ module _ {Z : Type 0} (words : List (String Z)) (i : ℕ) (item : String Z)
     none = none;
   }
 
--- all words, where the place is behind the last
+-- all words, where the place is after the last
 pub all_good : {Z : Type 0} (words : List (String Z)) (i : ℕ) → length words ≤ i →
     AllGood (take i words) → AllGood words
-all_good words i behind good = rw (take_all i words behind) at good
+all_good words i after good = rw (take_all i words after) at good

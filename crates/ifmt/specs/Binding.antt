@@ -1,4 +1,4 @@
--- What the words of a command line put under their names, one behind the other.
+-- What the words of a command line put under their names, one after the other.
 use Rattle.std.specs.Prelude.{◌≡◌, ◌≢◌, ℕ, List, [], map, Option, None, Some, string_bytes}
 use Rattle.std.specs.Option.{unwrap_or}
 use Rattle.std.specs.List.{FoldsTo}
@@ -6,8 +6,8 @@ use Rattle.std.specs.Str.{chars}
 use Rattle.std.specs.declared.string.String.{String}
 use Rattle.interpolator.specs.declared.View.{View}
 use Rattle.interpolator.specs.declared.Bits.TheVariants.{B128}
-use Rattle.interpolator.specs.Trees.{Tree, tree_of, empty_tree, with_debug_display, with_integer}
-use Rattle.interpolator.specs.Trees.{with_iter}
+use Rattle.interpolator.specs.Slots.{Slots, slots_of, empty_slots, with_debug_display, with_integer}
+use Rattle.interpolator.specs.Slots.{with_iter}
 use Rattle.interpolator.specs.Views.{Shown, shown_as_value, some_text, signed_number}
 use Rattle.interpolator.specs.Views.{nothing_implemented}
 use Rattle.ifmt.specs.declared.words.Word.{Word}
@@ -49,19 +49,19 @@ pub record HasObject (word : List ℕ) (object : Object) : Type 0 where
 
 module _ {X : Type 0} where
   -- items of a list, each with its slots of debug and display filled, and no other
-  abbrev pub item_trees : List X → List (Tree X)
-  item_trees objects = map (λ object. with_debug_display empty_tree object) objects
+  abbrev pub item_slots : List X → List (Slots X)
+  item_slots objects = map (λ object. with_debug_display empty_slots object) objects
 
   -- one name's tree was changed, from no slot where it had none, and the other names stayed
-  pub record Changes (old : List ℕ → Option (Tree X)) (name : List ℕ) (change : Tree X → Tree X)
-      (new : List ℕ → Option (Tree X)) : Type 0 where
-    pub here : new name ≡ Some (change (unwrap_or (old name) empty_tree))
+  pub record Changes (old : List ℕ → Option (Slots X)) (name : List ℕ) (change : Slots X → Slots X)
+      (new : List ℕ → Option (Slots X)) : Type 0 where
+    pub here : new name ≡ Some (change (unwrap_or (old name) empty_slots))
     pub others : (other : List ℕ) → other ≢ name → new other ≡ old other
 
   -- a text word fills the slots of debug and display of its name, a number word those of an
   -- integer, a list word that of the items
-  abbrev pub Fills : (old : List ℕ → Option (Tree X)) → Word → (object : X)
-      → (items : List (Tree X)) → (new : List ℕ → Option (Tree X)) → Type 0
+  abbrev pub Fills : (old : List ℕ → Option (Slots X)) → Word → (object : X)
+      → (items : List (Slots X)) → (new : List ℕ → Option (Slots X)) → Type 0
   Fills old (Text name value) object items new =
       Changes old (chars name.now) (λ tree. with_debug_display tree object) new
   Fills old (Number name value) object items new =
@@ -74,32 +74,32 @@ module _ {X : Type 0} where
 pub record Lends (object : Object) (entry : Entry) : Type 0 where
   pub same_word : entry.word ≡ object.word
   pub same_value : entry.value.now ≡ object.value
-  pub filled : map tree_of entry.items.items ≡ item_trees object.items.items
+  pub filled : map slots_of entry.items.items ≡ item_slots object.items.items
 
 -- what an assignment makes of the tree under its name: an object that shows a text fills the
 -- slots of debug and display, one that shows a number those of an integer, and objects that show
 -- the items of a list are the items in the slot of a list, each in its slots of debug and display
-abbrev pub Merges : Assignment → (before after : Tree View) → Type 0
+abbrev pub Merges : Assignment → (before after : Slots View) → Type 0
 Merges (text name value) before after = (object : View)
     × (shown_as_value object ≡ some_text (chars value)) × (after ≡ with_debug_display before object)
 Merges (number name value) before after = (object : View)
     × (shown_as_value object ≡ signed_number value B128) × (after ≡ with_integer before object)
 Merges (list name value) before after = (objects : List View)
     × (map shown_as_value objects ≡ texts_show (items_of value))
-    × (after ≡ with_iter before (item_trees objects))
+    × (after ≡ with_iter before (item_slots objects))
 
 -- the word's assignment was merged into the tree under its name, and the other names stayed
-pub record Binds (old : List ℕ → Option (Tree View)) (word : List ℕ)
-    (new : List ℕ → Option (Tree View)) : Type 0 where
+pub record Binds (old : List ℕ → Option (Slots View)) (word : List ℕ)
+    (new : List ℕ → Option (Slots View)) : Type 0 where
   pub assignment : Assignment
   pub means : Means word assignment
-  pub tree : Tree View
-  pub merges : Merges assignment (unwrap_or (old (assigned_name assignment)) empty_tree) tree
+  pub tree : Slots View
+  pub merges : Merges assignment (unwrap_or (old (assigned_name assignment)) empty_slots) tree
   pub here : new (assigned_name assignment) ≡ Some tree
   pub others : (other : List ℕ) → other ≢ assigned_name assignment → new other ≡ old other
 
 -- the words, in their order, bind what is found under each name, where nothing was
-abbrev pub AreBound : {Z : Type 0} → List (String Z) → (finds : List ℕ → Option (Tree View))
+abbrev pub AreBound : {Z : Type 0} → List (String Z) → (finds : List ℕ → Option (Slots View))
     → Type 0
 AreBound words finds =
     FoldsTo (λ old word new. Binds old (string_bytes word) new) (λ _. None) words finds

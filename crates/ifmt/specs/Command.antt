@@ -8,7 +8,7 @@ use Rattle.interpolator.specs.At.{outermost}
 use Rattle.interpolator.specs.Meaning.Environments.{environment}
 use Rattle.interpolator.specs.Faults.{no_memory}
 use Rattle.interpolator.specs.Meaning.Meanings.{means}
-use Rattle.interpolator.specs.Trees.{Tree}
+use Rattle.interpolator.specs.Slots.{Slots}
 use Rattle.interpolator.specs.Views.{shown_as_value}
 use Rattle.ifmt.specs.Words.{IsGood}
 use Rattle.ifmt.specs.Binding.{AreBound}
@@ -23,8 +23,8 @@ module _ {Z : Type 0} where
   pub record IsFirstBad (words : List (String Z)) (bad : List ℕ) : Type 0 where
     pub before : List (String Z)
     pub word : String Z
-    pub behind : List (String Z)
-    pub split : words ≡ before ++ (word ∷ behind)
+    pub after : List (String Z)
+    pub split : words ≡ before ++ (word ∷ after)
     pub good : AllGood before
     pub spelled : string_bytes word ≡ bad
     pub none : ¬ (IsGood bad)
@@ -40,7 +40,7 @@ module _ {Z : Type 0} where
 module _ {Z : Type 0} (out_old out_new err_old err_new : Option (List ℕ)) (status : ℕ) where
   -- the format was run over what the words bind
   pub record RunsOver (format : List ℕ) (words : List (String Z)) : Type 0 where
-    pub finds : List ℕ → Option (Tree View)
+    pub finds : List ℕ → Option (Slots View)
     pub bound : AreBound words finds
     pub runs : Runs out_old out_new err_old err_new status
         (means (λ view _ _. shown_as_value view) (environment finds) (outermost (chars format)))

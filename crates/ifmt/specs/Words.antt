@@ -40,7 +40,7 @@ pub record Spells (whole : List ℕ) (value : ℤ) : Type 0 where
       ⊎ ((whole ≡ codes "-" ++ digits) × (value ≡ neg_ℤ (pos (digits_value 10 digits))))
   pub fits : FitsSigned w128 value
 
--- the rule on the parts before and behind the `=`: behind `:` a number, behind `[]` the items of a
+-- the rule on the parts before and after the `=`: after `:` a number, after `[]` the items of a
 -- list, else a text
 abbrev pub PartsMean : List ℕ → List ℕ → Assignment → Type 0
 PartsMean left right (text name value) =

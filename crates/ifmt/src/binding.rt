@@ -3,11 +3,11 @@
 ghost use Rattle.std.specs.Prelude.{◌≡◌, IfErr, IfOk, OnOk, List, map, string_bytes};
 ghost use Rattle.std.specs.List.{AllZip};
 ghost use Rattle.interpolator.specs.Views.{shown_as_value};
-ghost use Rattle.interpolator.specs.Trees.{tree_of};
+ghost use Rattle.interpolator.specs.Slots.{slots_of};
 ghost use Rattle.interpolator.specs.NameMaps.{found};
 ghost use Rattle.interpolator.specs.declared.Error.TheVariants.{NoMemory};
 ghost use Rattle.ifmt.specs.Items.{texts_of};
-ghost use Rattle.ifmt.specs.Binding.{Fills, HasObject, Lends, item_trees, items_show};
+ghost use Rattle.ifmt.specs.Binding.{Fills, HasObject, Lends, item_slots, items_show};
 ghost use Rattle.ifmt.specs.Binding.{object_shows, texts_show};
 
 use crate::words::{Word, classify, items};
@@ -136,7 +136,7 @@ pub fn entries_of<'e, 'a>(alloc: Global, objects: &'e [Object<'a>]) -> Result<Ve
 
 // Each object as an item: its slots of debug and display are filled.
 fn as_items<'a, V>(alloc: Global, objects: &'a [V]) -> Result<Vec<Formattable<'a, V>>, Error>
-    ensures ok { IfOk result (λ items. map tree_of items.items ≡ item_trees objects.now) }
+    ensures ok { IfOk result (λ items. map slots_of items.items ≡ item_slots objects.now) }
     ensures err { IfErr result (λ error. error ≡ NoMemory) }
 {
     let mut items = Vec::with_capacity(alloc, objects.len())?;
@@ -159,7 +159,7 @@ pub fn fill<'a, V>(
     items: &'a [Formattable<'a, V>],
 ) -> Result<(), Error>
     ensures ok { OnOk result (Fills
-        (found context.old) word.entry value.now (map tree_of items.now) (found context.new)) }
+        (found context.old) word.entry value.now (map slots_of items.now) (found context.new)) }
     ensures err { IfErr result (λ error. error ≡ NoMemory) }
 {
     match word {

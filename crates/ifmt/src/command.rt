@@ -12,7 +12,7 @@ use interpolator::{ContextMap, Error};
 use std::alloc::Global;
 use std::io::Write;
 
-/// Answers a command line: a format and the words behind it.
+/// Answers a command line: a format and the words after it.
 ///
 /// Without a format it writes the usage line, and at the first bad word a complaint, before any
 /// object is made. Gives the status of the program.

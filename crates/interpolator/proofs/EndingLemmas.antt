@@ -7,8 +7,8 @@ use Rattle.std.specs.Char.{len_utf8}
 use Rattle.std.specs.Str.{chars, IsUtf8, encode_utf8_all}
 use Rattle.std.proofs.lemmas.List.{append_cancel_right}
 use Rattle.std.proofs.lemmas.Str.{encode_ascii, encodes-chars, encodes-append, chars-nil}
-use Rattle.interpolator_syntax.specs.At.{At, size, behind, strip}
-use Rattle.interpolator_syntax.specs.Classes.{front_of, behind_of, in_class, is_brace, open_brace}
+use Rattle.interpolator_syntax.specs.At.{At, size, after, strip}
+use Rattle.interpolator_syntax.specs.Classes.{front_of, after_of, in_class, is_brace, open_brace}
 use Rattle.interpolator_syntax.specs.Classes.{close_brace, colon}
 use Rattle.interpolator_syntax.specs.Arguments.{Argument, argument_at}
 use Rattle.interpolator_syntax.specs.Faults.{Fault}
@@ -26,10 +26,10 @@ use Rattle.interpolator_syntax.proofs.GroupLemmas.{chars_of_cut}
 use Rattle.interpolator_syntax.proofs.LocalityLemmas.{stands}
 use Rattle.interpolator_syntax.proofs.ReaderLemmas.{argument_takes}
 use Rattle.interpolator_syntax.proofs.PieceLemmas.{closed_text}
-use Rattle.interpolator_syntax.proofs.PieceLemmas.{pieces_none, pieces_next, strip_behind}
+use Rattle.interpolator_syntax.proofs.PieceLemmas.{pieces_none, pieces_next, strip_after}
 use Rattle.interpolator_syntax.proofs.PieceLemmas.{literal_step}
 use Rattle.std.proofs.lemmas.Bool.{cond_both}
-use Rattle.interpolator_syntax.proofs.TestLemmas.{head_same, tail_same}
+use Rattle.interpolator_syntax.proofs.CaseLemmas.{head_same, tail_same}
 
 -- ---- `:}` at the end of a text
 
@@ -41,7 +41,7 @@ ends_append (x ∷ []) c d = refl
 ends_append (x ∷ y ∷ []) c d = refl
 ends_append (x ∷ y ∷ z ∷ zs) c d = ends_append (y ∷ z ∷ zs) c d
 
--- a text that does not end in a colon, with a closing brace behind it
+-- a text that does not end in a colon, with a closing brace after it
 no_colon :
     (x : ℕ) (cs : List ℕ) → ((front : List ℕ) → x ∷ cs ≢ front ++ (colon ∷ []))
     → ends_empty_spec (x ∷ (cs ++ (close_brace ∷ []))) ≡ false
@@ -92,14 +92,14 @@ colon_chars bs front u e =
 
 -- ---- what the scan hands on, in pieces
 
--- the pieces of a text are some, of which the last ends as told, and those of what stands behind
+-- the pieces of a text are some, of which the last ends as told, and those of what stands after
 pub record Scanned (a : At) (e : Ending) (rest : At) : Type 0 where
   pub front : List Piece
   pub last : Piece
   pub split : pieces a ≡ front ++ (last ∷ pieces rest)
   pub ends : e ≡ piece_ending last
 
--- the argument behind a brace ends the same wherever the brace stands
+-- the argument after a brace ends the same wherever the brace stands
 abbrev AnyPlace : Step → Step → Type 0
 AnyPlace s t = (piece_ending s.piece ≡ piece_ending t.piece) × (s.rest ≡ t.rest)
 
@@ -107,10 +107,10 @@ any_place : (q p : ℕ) (b : At) → AnyPlace (argument_from q b) (argument_from
 unfolding argument_from
 any_place q p b = grind arith
 
--- what the scan hands on first, by what stands behind it
+-- what the scan hands on first, by what stands after it
 abbrev ScansTo : At → Option (Token × At) → Type 0
 ScansTo a None = pieces a ≡ []
-ScansTo a (Some x) = Scanned a (token_ending a x.0 x.1) (past_token x.0 x.1)
+ScansTo a (Some x) = Scanned a (token_ending x.0 x.1) (past_token x.0 x.1)
 
 scans_open :
     (p : ℕ) (cs : List ℕ) (b : At) (o : Option At)
@@ -127,17 +127,16 @@ scans_open p cs b None e =
 
 scans_close :
     (p : ℕ) (cs : List ℕ) (o : Option At)
-    → strip close_brace (past p close_brace cs) ≡ o
     → pieces (stands p (close_brace ∷ cs))
     ≡ (close_step p (past p close_brace cs) o).piece
     ∷ pieces (close_step p (past p close_brace cs) o).rest
     → ScansTo (stands p (close_brace ∷ cs)) (Some (close_scan (past p close_brace cs) o))
-scans_close p cs (Some rest) d e = record { front = []; last = _; split = e; ends = rw d refl }
-scans_close p cs None d e = record { front = []; last = _; split = e; ends = rw d refl }
+scans_close p cs (Some rest) e = record { front = []; last = _; split = e; ends = refl }
+scans_close p cs None e = record { front = []; last = _; split = e; ends = refl }
 
 -- a run of literals
 abbrev ScansRun : At → Type 0
-ScansRun a = Scanned a Settled (behind (in_class Literal) a)
+ScansRun a = Scanned a Settled (after (in_class Literal) a)
 
 literal_next :
     (p c : ℕ) (cs : List ℕ) → is_brace c ≡ false
@@ -147,17 +146,17 @@ literal_next p c cs h =
     pieces_next p c cs
     ∙ ap (λ (s : Step). s.piece ∷ pieces s.rest) (literal_step p c (past p c cs) h)
 
--- what stands behind a run that begins with a literal
-behind_literal :
+-- what stands after a run that begins with a literal
+after_literal :
     (p c : ℕ) (cs : List ℕ) → is_brace c ≡ false
-    → behind (in_class Literal) (past p c cs) ≡ behind (in_class Literal) (stands p (c ∷ cs))
-behind_literal p c cs h =
+    → after (in_class Literal) (past p c cs) ≡ after (in_class Literal) (stands p (c ∷ cs))
+after_literal p c cs h =
     let n : p + len_utf8 c + size (front_of (in_class Literal) cs)
     ≡ p + (len_utf8 c + size (front_of (in_class Literal) cs)) = omega arith in
     rw (h, n) refl
 
 no_run : (p : ℕ) (cs : List ℕ) → front_of (in_class Literal) cs ≡ []
-    → behind_of (in_class Literal) cs ≡ cs → behind (in_class Literal) (stands p cs) ≡ stands p cs
+    → after_of (in_class Literal) cs ≡ cs → after (in_class Literal) (stands p cs) ≡ stands p cs
 no_run p cs e d = let n : p + 0 ≡ p = omega arith in rw (e, d, n) refl
 
 abbrev literal_piece : ℕ → ℕ → Piece
@@ -166,12 +165,12 @@ literal_piece p c = record { place = p; text = c ∷ []; kind = literal c }
 -- a run of one literal
 run_of_one :
     (p c : ℕ) (cs : List ℕ) → is_brace c ≡ false
-    → behind (in_class Literal) (past p c cs) ≡ past p c cs → ScansRun (stands p (c ∷ cs))
+    → after (in_class Literal) (past p c cs) ≡ past p c cs → ScansRun (stands p (c ∷ cs))
 run_of_one p c cs h one = record {
   front = [];
   last = literal_piece p c;
   split = literal_next p c cs h
-      ∙ ap (λ (r : At). literal_piece p c ∷ pieces r) (sym one ∙ behind_literal p c cs h);
+      ∙ ap (λ (r : At). literal_piece p c ∷ pieces r) (sym one ∙ after_literal p c cs h);
   ends = refl;
 }
 
@@ -186,7 +185,7 @@ scans_run p c (d ∷ ds) h =
           record {
             front = literal_piece p c ∷ more.front;
             last = more.last;
-            split = literal_next p c b.text h ∙ rw (more.split, behind_literal p c b.text h) refl;
+            split = literal_next p c b.text h ∙ rw (more.split, after_literal p c b.text h) refl;
             ends = more.ends;
           }
     ] refl
@@ -201,30 +200,30 @@ scans_at p (c ∷ cs) =
     (scans_open p cs (past p open_brace cs) _ (pieces_next p open_brace cs)))
     (λ n. cond_both (eqb c close_brace) _ _ (λ o. ScansTo a (no_open_scan a o))
     (λ e. rw (eqb-true c close_brace e)
-    (scans_close p cs _ refl (pieces_next p close_brace cs)))
+    (scans_close p cs _ (pieces_next p close_brace cs)))
     (λ d. scans_run p c cs (rw (n, d) refl)))
 
 pub scanned : (a : At) (x : Token × At) → first_token a ≡ Some x
-    → Scanned a (token_ending a x.0 x.1) (past_token x.0 x.1)
+    → Scanned a (token_ending x.0 x.1) (past_token x.0 x.1)
 scanned a x h = subst (ScansTo a) h (scans_at a.place a.text)
 
 pub scanned_end : (a : At) → first_token a ≡ None → pieces a ≡ []
 scanned_end a h = subst (ScansTo a) h (scans_at a.place a.text)
 
--- how the last piece ends is decided behind any front
-pub last_behind : (e : Ending) (front : List Piece) (x : Piece) (xs : List Piece)
+-- how the last piece ends is decided after any front
+pub last_after : (e : Ending) (front : List Piece) (x : Piece) (xs : List Piece)
     → last_ending e (front ++ (x ∷ xs)) ≡ last_ending (piece_ending x) xs
-last_behind e [] x xs = refl
-last_behind e (y ∷ front) x xs = last_behind (piece_ending y) front x xs
+last_after e [] x xs = refl
+last_after e (y ∷ front) x xs = last_after (piece_ending y) front x xs
 
 -- a step of the scan
 pub ending_step :
     (a : At) (x : Token × At) (rest : At) (e d whole : Ending) → first_token a ≡ Some x
-    → d ≡ token_ending a x.0 x.1 → pieces rest ≡ pieces (past_token x.0 x.1)
+    → d ≡ token_ending x.0 x.1 → pieces rest ≡ pieces (past_token x.0 x.1)
     → last_ending e (pieces a) ≡ whole → last_ending d (pieces rest) ≡ whole
 ending_step a x rest e d whole h ends r k =
     let s = scanned a x h in
-    rw (ends, s.ends, r) (sym (last_behind e s.front s.last (pieces (past_token x.0 x.1)))
+    rw (ends, s.ends, r) (sym (last_after e s.front s.last (pieces (past_token x.0 x.1)))
     ∙ sym (ap (last_ending e) s.split) ∙ k)
 
 pub ending_smaller :
@@ -274,25 +273,25 @@ module _ (a : At) (x : Argument) (q : At) (h : argument_at a ≡ Ok (x, q)) wher
   closed_ends rest e d ends =
       let front = argument_takes a x q h in
       let whole =
-      front.split ∙ ap (λ cs. front.front ++ cs) (strip_behind close_brace q.place q.text rest d).0
+      front.split ∙ ap (λ cs. front.front ++ cs) (strip_after close_brace q.place q.text rest d).0
       in
       rw (h, d) (ends front.front front.split
       ∙ ap closed_ending (sym (closed_text a rest front.front whole)))
 
-  pub closed_behind : (rest : At) → strip close_brace q ≡ Some rest
+  pub closed_after : (rest : At) → strip close_brace q ≡ Some rest
       → pieces rest ≡ pieces (argument_from a.place a).rest
   unfolding argument_from
-  closed_behind rest d = rw (h, d) refl
+  closed_after rest d = rw (h, d) refl
 
   pub unclosed_ends : strip close_brace q ≡ None → Open
       ≡ piece_ending (argument_from a.place a).piece
   unfolding argument_from
   unclosed_ends d = rw (h, d) refl
 
-  pub unclosed_behind : (p : ℕ) → strip close_brace q ≡ None
+  pub unclosed_after : (p : ℕ) → strip close_brace q ≡ None
       → pieces (stands p (chars [])) ≡ pieces (argument_from a.place a).rest
   unfolding argument_from
-  unclosed_behind p d =
+  unclosed_after p d =
       rw (h, d, chars-nil) (pieces_none p ∙ sym (pieces_none (a.place + size a.text)))
 
 pub broken_ends : (a : At) (f : Fault) → argument_at a ≡ Err f
@@ -300,8 +299,8 @@ pub broken_ends : (a : At) (f : Fault) → argument_at a ≡ Err f
 unfolding argument_from
 broken_ends a f h = rw h refl
 
-pub broken_behind : (a : At) (f : Fault) (p : ℕ) → argument_at a ≡ Err f
+pub broken_after : (a : At) (f : Fault) (p : ℕ) → argument_at a ≡ Err f
     → pieces (stands p (chars [])) ≡ pieces (argument_from a.place a).rest
 unfolding argument_from
-broken_behind a f p h =
+broken_after a f p h =
     rw (h, chars-nil) (pieces_none p ∙ sym (pieces_none (a.place + size a.text)))

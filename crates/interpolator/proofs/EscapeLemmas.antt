@@ -10,7 +10,7 @@ use Rattle.interpolator_render.specs.declared.view.Trait.{Trait}
 use Rattle.interpolator_render.specs.declared.view.Spec.{Spec}
 use Rattle.interpolator_render.specs.Views.{Shown}
 use Rattle.interpolator_syntax.specs.At.{At, outermost}
-use Rattle.interpolator_syntax.specs.Classes.{front_of, behind_of, in_class, is_brace}
+use Rattle.interpolator_syntax.specs.Classes.{front_of, after_of, in_class, is_brace}
 use Rattle.interpolator_syntax.specs.Pieces.{PieceKind, Piece, literal, doubled, step, piece_from}
 use Rattle.interpolator_syntax.specs.Pieces.{past, pieces}
 use Rattle.interpolator.specs.Meaning.Environments.{Environment}
@@ -20,18 +20,18 @@ use Rattle.interpolator_syntax.specs.declared.class.Class.TheVariants.{Literal}
 use Rattle.interpolator_syntax.proofs.PieceLemmas.{piece_within, pieces_none, pieces_next}
 use Rattle.interpolator_syntax.proofs.PieceLemmas.{literal_step}
 use Rattle.interpolator.proofs.MeaningLemmas.MeaningLemmas.{means_none, means_next}
-use Rattle.interpolator_syntax.proofs.TestLemmas.{head_same, tail_same, some_same}
+use Rattle.interpolator_syntax.proofs.CaseLemmas.{head_same, tail_same, some_same}
 
 -- ---- appended
 
 doubled_front : (cs : List ℕ)
-    → front_of (in_class Literal) cs ++ braces_doubled (behind_of (in_class Literal) cs)
+    → front_of (in_class Literal) cs ++ braces_doubled (after_of (in_class Literal) cs)
     ≡ braces_doubled cs
 doubled_front [] = refl
 doubled_front (c ∷ cs) = grind (arith, doubled_front cs)
 
--- what stands behind the front begins with a brace
-front_stops : (cs rest : List ℕ) (c : ℕ) → behind_of (in_class Literal) cs ≡ c ∷ rest
+-- what stands after the front begins with a brace
+front_stops : (cs rest : List ℕ) (c : ℕ) → after_of (in_class Literal) cs ≡ c ∷ rest
     → is_brace c ≡ true
 front_stops [] rest c e = absurd (cc)
 front_stops (d ∷ ds) rest c e = grind (arith, front_stops ds rest c)
@@ -39,19 +39,19 @@ front_stops (d ∷ ds) rest c e = grind (arith, front_stops ds rest c)
 -- a front was appended
 pub front_appended :
     (old new run rest text : List ℕ) → new ≡ old ++ run → run ≡ front_of (in_class Literal) text
-    → rest ≡ behind_of (in_class Literal) text
+    → rest ≡ after_of (in_class Literal) text
     → new ++ braces_doubled rest ≡ old ++ braces_doubled text
 front_appended old new run rest text a f b =
     rw (a, f, b, append_assoc, doubled_front text) refl
 
--- and behind it a brace, twice
+-- and after it a brace, twice
 pub brace_appended :
-    (old mid new run rest behind text : List ℕ) (c : ℕ) → mid ≡ old ++ run
-    → run ≡ front_of (in_class Literal) text → rest ≡ behind_of (in_class Literal) text
-    → new ≡ mid ++ (c ∷ c ∷ []) → rest ≡ c ∷ behind
-    → new ++ braces_doubled behind ≡ old ++ braces_doubled text
-brace_appended old mid new run rest behind text c a f b n e =
-    let brace : is_brace c ≡ true = front_stops text behind c (sym b ∙ e) in
+    (old mid new run rest after text : List ℕ) (c : ℕ) → mid ≡ old ++ run
+    → run ≡ front_of (in_class Literal) text → rest ≡ after_of (in_class Literal) text
+    → new ≡ mid ++ (c ∷ c ∷ []) → rest ≡ c ∷ after
+    → new ++ braces_doubled after ≡ old ++ braces_doubled text
+brace_appended old mid new run rest after text c a f b n e =
+    let brace : is_brace c ≡ true = front_stops text after c (sym b ∙ e) in
     rw (n, append_assoc) (rw (e, brace) at (front_appended old mid run rest text a f b))
 
 -- nothing was appended yet

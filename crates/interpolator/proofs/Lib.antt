@@ -6,4 +6,4 @@ pub mod LineLemmas
 pub mod LoanLemmas
 pub mod SeamLemmas
 pub mod SlotNameLemmas
-pub mod TreeLemmas
+pub mod SlotLemmas

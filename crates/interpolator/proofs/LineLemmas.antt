@@ -1,4 +1,4 @@
--- A newline behind what a format means.
+-- A newline after what a format means.
 use Rattle.std.proofs.Common.{refl, ℕ, arith, Option, None, Some}
 use Rattle.interpolator_render.specs.Written.{Written}
 use Rattle.interpolator_syntax.specs.Faults.{Answer, PlaceWithin}
@@ -9,7 +9,7 @@ use Rattle.interpolator.proofs.MeaningLemmas.OutcomeLemmas.{finished_if_none, af
 use Rattle.interpolator.proofs.MeaningLemmas.OutcomeLemmas.{before_fault}
 use Rattle.interpolator.proofs.MeaningLemmas.PlaceLemmas.{outcome_within}
 
--- behind a format without fault
+-- after a format without fault
 pub line_done :
     (m : Meaning) (old mid new : Written) (answer : Option Answer) → Outcome m old mid None
     → Outcome newline_means mid new answer
@@ -17,7 +17,7 @@ pub line_done :
 line_done m old mid new answer h k =
     after_finished _ _ old mid new answer (finished_if_none m old mid h) k
 
--- behind a fault
+-- after a fault
 pub line_fault :
     (m : Meaning) (old new : Written) (q : Answer) → Outcome m old new (Some q)
     → Outcome (line_means m) old new (Some q)

@@ -109,7 +109,7 @@ module _ {T : Type 0} where
       count = written.count ∙ rw (as_before.finds name, as_before.count) refl;
     }
 
-    -- the last value behind a loan of a name that was put in first
+    -- the last value after a loan of a name that was put in first
     pub put_after :
         (old added new : NameMap T) (name : List ℕ) (last : T) → HasAdded IsDefault old name added
         → HasPut added name last new → HasPut old name last new

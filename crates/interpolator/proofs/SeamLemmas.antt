@@ -1,13 +1,13 @@
--- The pieces of a text that has another behind it.
+-- The pieces of a text that has another after it.
 use Rattle.std.proofs.Common.{◌≡◌, ◌≢◌, ℕ, zero, suc, ◌+◌, ◌-◌, ◌≤◌, Bool, true, false, List, []}
 use Rattle.std.proofs.Common.{◌∷◌, ◌++◌, length, take, arith, refl, ap, ◌∙◌, sym, subst, Result, Ok}
 use Rattle.std.proofs.Common.{Err, Option, Some, None, inl, length-append}
 use Rattle.std.specs.Prelude.{not}
 use Rattle.std.specs.Char.{len_utf8}
 use Rattle.std.proofs.lemmas.List.{take-append-le}
-use Rattle.interpolator_syntax.specs.At.{At, size, strip, strip_of, behind}
+use Rattle.interpolator_syntax.specs.At.{At, size, strip, strip_of, after}
 use Rattle.interpolator_syntax.specs.Classes.{in_class, open_brace, close_brace, colon}
-use Rattle.interpolator_syntax.specs.SpecTexts.{begins_alignment, spec_behind}
+use Rattle.interpolator_syntax.specs.SpecTexts.{begins_alignment, spec_after}
 use Rattle.interpolator_syntax.specs.Arguments.{Argument, argument_at}
 use Rattle.interpolator_syntax.specs.Faults.{Fault}
 use Rattle.interpolator_syntax.specs.Pieces.{Piece, Step, closed, step, text_up_to, argument_step}
@@ -18,19 +18,19 @@ use Rattle.interpolator.specs.Seams.{last_ending, ending, begins_close, may_foll
 use Rattle.interpolator_syntax.specs.declared.class.Class.TheVariants.{WhiteSpace, Name}
 use Rattle.interpolator.specs.declared.parts.Ending.{Ending}
 use Rattle.interpolator.specs.declared.parts.Ending.TheVariants.{Settled, Open}
-use Rattle.interpolator_syntax.proofs.TestLemmas.{none_some, tail_same}
+use Rattle.interpolator_syntax.proofs.CaseLemmas.{none_some, tail_same}
 use Rattle.interpolator_syntax.proofs.LocalityLemmas.{stands, with_more, takes_then}
-use Rattle.interpolator_syntax.proofs.LocalityLemmas.{takes_behind, Guarded}
+use Rattle.interpolator_syntax.proofs.LocalityLemmas.{takes_after, Guarded}
 use Rattle.interpolator_syntax.proofs.ReaderLemmas.{name_end, NoFillBehind, argument_takes}
 use Rattle.interpolator_syntax.proofs.ReaderLemmas.{argument_same}
 use Rattle.interpolator_syntax.proofs.GrammarLemmas.{same_ok}
 use Rattle.interpolator_syntax.proofs.GrammarPieceLemmas.{step_reaches}
 use Rattle.interpolator_syntax.proofs.PieceLemmas.{piece_within, pieces_none, pieces_next}
-use Rattle.interpolator_syntax.proofs.PieceLemmas.{strip_behind}
+use Rattle.interpolator_syntax.proofs.PieceLemmas.{strip_after}
 use Rattle.interpolator.proofs.EndingLemmas.{ends_append}
 use Rattle.interpolator_syntax.proofs.PieceLemmas.{closed_text}
 
--- a text behind one that ends so leaves its pieces as they are
+-- a text after one that ends so leaves its pieces as they are
 abbrev pub Leaves : Ending → List ℕ → Type 0
 Leaves e more = (e ≢ Open) × (may_follow e more ≡ true)
 
@@ -57,15 +57,15 @@ no_close p (d ∷ ds) h = rw h refl
 
 -- ---- arguments
 
--- the text behind a brace, where its name is followed by `:}` and no more
+-- the text after a brace, where its name is followed by `:}` and no more
 reads_empty :
     (a : At) (x : Argument) (q : At) → argument_at a ≡ Ok (x, q)
     → (name_end a).text ≡ colon ∷ close_brace ∷ [] → q.text ≡ close_brace ∷ []
-unfolding argument_at spec_behind
+unfolding argument_at spec_after
 reads_empty a x q e h =
     let read = rw h at e in ap (λ (m : At). m.text) (sym (same_ok read).1)
 
--- a closed argument is the same whatever comes behind it, but for an alignment behind `:}`
+-- a closed argument is the same whatever comes after it, but for an alignment after `:}`
 pub closed_same :
     (a : At) (more : List ℕ) (x : Argument) (q : At) (rest : List ℕ) → argument_at a ≡ Ok (x, q)
     → q.text ≡ close_brace ∷ rest
@@ -76,17 +76,17 @@ closed_same a more x q rest e closes h =
   where
     no_fill : NoFillBehind (name_end a) more
     no_fill k =
-        let b = behind (in_class WhiteSpace) a in
+        let b = after (in_class WhiteSpace) a in
         let front =
-        takes_then a b (name_end a) (takes_behind (in_class WhiteSpace) a)
-        (takes_behind (in_class Name) b) in
+        takes_then a b (name_end a) (takes_after (in_class WhiteSpace) a)
+        (takes_after (in_class Name) b) in
         let whole = front.split ∙ ap (λ cs. front.front ++ cs) k in
         let same : close_brace ∷ rest ≡ close_brace ∷ [] = sym closes ∙ reads_empty a x q e k in
         h (tail_same same) (ap ends_empty_spec whole ∙ ends_append front.front colon close_brace)
 
 -- ---- pieces
 
--- what a piece needs of the text behind it, where it is the last
+-- what a piece needs of the text after it, where it is the last
 abbrev Goes : Step → List ℕ → Type 0
 Goes s more = s.rest.text ≡ [] → Leaves (piece_ending s.piece) more
 
@@ -104,7 +104,7 @@ cut_more cs r more h =
     omega (arith, h, length-append cs more, length-append r more) in
     ap (λ k. take k (cs ++ more)) n ∙ take-append-le (length cs - length r) cs more (omega arith)
 
--- the text of an argument behind which nothing stands
+-- the text of an argument after which nothing stands
 last_text :
     (b r : At) (front : List ℕ) → b.text ≡ front ++ (close_brace ∷ r.text) → r.text ≡ []
     → text_up_to b r ≡ open_brace ∷ b.text
@@ -112,10 +112,10 @@ last_text b r front e none =
     closed_text b r front e
     ∙ sym (ap (λ cs. open_brace ∷ cs) (e ∙ ap (λ cs. front ++ (close_brace ∷ cs)) none))
 
-ends_behind : (c : ℕ) (cs : List ℕ) → ends_empty_spec cs ≡ true → ends_empty_spec (c ∷ cs) ≡ true
-ends_behind c [] h = absurd (cc)
-ends_behind c (x ∷ []) h = absurd (cc)
-ends_behind c (x ∷ y ∷ ys) h = h
+ends_after : (c : ℕ) (cs : List ℕ) → ends_empty_spec cs ≡ true → ends_empty_spec (c ∷ cs) ≡ true
+ends_after c [] h = absurd (cc)
+ends_after c (x ∷ []) h = absurd (cc)
+ends_after c (x ∷ y ∷ ys) h = h
 
 empty_leaves : (text more : List ℕ) → ends_empty_spec text ≡ true
     → Leaves (closed_ending text) more → begins_alignment more ≡ false
@@ -130,10 +130,10 @@ module _ (p : ℕ) (b : At) (more : List ℕ) where
       ≡ step_more (argument_step p b x q (Some r)) more
   closed_more x q r e d g =
       let front = argument_takes b x q e in
-      let closes = (strip_behind close_brace q.place q.text r d).0 in
+      let closes = (strip_after close_brace q.place q.text r d).0 in
       let whole = front.split ∙ ap (λ cs. front.front ++ cs) closes in
       let same = closed_same b more x q r.text e closes (λ none ends.
-      empty_leaves (open_brace ∷ b.text) more (ends_behind open_brace b.text ends)
+      empty_leaves (open_brace ∷ b.text) more (ends_after open_brace b.text ends)
       (subst (λ text. Leaves (closed_ending text) more) (last_text b r front.front whole none)
       (g none))) in
       let shorter : length r.text ≤ length (open_brace ∷ b.text) =
@@ -162,7 +162,7 @@ module _ (p : ℕ) (b : At) (more : List ℕ) where
   unfolding argument_from
   argument_from_more g = argument_more (argument_at b) refl g
 
--- behind a brace that ends the text no argument is closed
+-- after a brace that ends the text no argument is closed
 brace_last : (p q : ℕ) (more : List ℕ) → Goes (argument_from p (stands q [])) more → ⊥
 unfolding argument_from argument_at
 brace_last p q more g = (g refl).0 refl

@@ -12,7 +12,7 @@ use Rattle.std.proofs.lemmas.List.Concat.{flat_map-append}
 use Rattle.std.proofs.lemmas.List.Elements.{filter-append}
 use Rattle.interpolator_render.specs.declared.view.Trait.{Trait}
 use Rattle.interpolator_render.specs.declared.view.Trait.TheVariants.{Binary}
-use Rattle.interpolator.specs.SlotNames.{slot_name, slot_order, name_behind, in_parentheses}
+use Rattle.interpolator.specs.SlotNames.{slot_name, slot_order, name_after, in_parentheses}
 
 -- the names so far, with no closing parenthesis yet
 abbrev pub opened : List (List ℕ) → List ℕ
@@ -29,7 +29,7 @@ abbrev pub names_of : (Trait → Bool) → List Trait → List (List ℕ)
 names_of filled slots = map slot_name (filter filled slots)
 
 pub opened-more : (names : List (List ℕ)) (name : List ℕ)
-    → opened (names ++ name ∷ []) ≡ opened names ++ name_behind (no_name names) name
+    → opened (names ++ name ∷ []) ≡ opened names ++ name_after (no_name names) name
 opened-more [] name = ap (λ text. codes "(" ++ text) (append-nil name)
 opened-more (first ∷ names) name =
     let more = flat_map-append (λ part. codes ", " ++ part) names (name ∷ []) in
@@ -49,7 +49,7 @@ module _ (filled : Trait → Bool) (index : ℕ) (below : index < 9) where
       rw (take_more slot_order index Binary below, filter-append filled passed (slot ∷ []))
       (map-append slot_name _ _)
 
-  -- the name of a slot that is filled comes behind the names so far
+  -- the name of a slot that is filled comes after the names so far
   pub one_more : filled (get_or slot_order index Binary) ≡ true
       → names_of filled (take (index + 1) slot_order)
       ≡ names_of filled (take index slot_order) ++ slot_name (get_or slot_order index Binary) ∷
@@ -61,30 +61,30 @@ module _ (filled : Trait → Bool) (index : ℕ) (below : index < 9) where
       → names_of filled (take (index + 1) slot_order) ≡ names_of filled (take index slot_order)
   none_more fails = (rw fails at next_names) ∙ append-nil _
 
--- the names that are all written, and the parenthesis behind them
+-- the names that are all written, and the parenthesis after them
 pub closed : (front : List ℕ) (names : List (List ℕ)) → no_name names ≡ false
     → (front ++ opened names) ++ codes ")" ≡ front ++ in_parentheses names
 closed front [] is = absurd (false≢true (sym is))
 closed front (name ∷ names) is = simp (append_assoc)
 
 module _ {W : Type 0} (took : W → List ℕ → W → Type 0) where
-  -- a text that is written behind another
-  pub written_behind : (f g h : Formatter W) (a b all : List ℕ) → HasWrittenStyled took f a g
+  -- a text that is written after another
+  pub written_after : (f g h : Formatter W) (a b all : List ℕ) → HasWrittenStyled took f a g
       → (IsFlush g → true ≡ true → HasWrittenStyled took g b h) → a ++ b ≡ all
       → HasWrittenStyled took f all h
-  written_behind f g h a b all before after is =
+  written_after f g h a b all before after is =
       has_written_styled_of_eq took f (a ++ b) all h is
       (has_written_styled_append took f a g b h before (after before.flush refl))
 
-  -- a name that is written behind the names so far
+  -- a name that is written after the names so far
   pub name_written : (f g h : Formatter W) (front : List ℕ) (names : List (List ℕ))
       (name shown : List ℕ) (is_first : Bool)
       → is_first ≡ no_name names → shown ≡ name → HasWrittenStyled took f (front ++ opened names) g
-      → (IsFlush g → true ≡ true → HasWrittenStyled took g (name_behind is_first shown) h)
+      → (IsFlush g → true ≡ true → HasWrittenStyled took g (name_after is_first shown) h)
       → HasWrittenStyled took f (front ++ opened (names ++ name ∷ [])) h
   name_written f g h front names name shown is_first e same before after =
-      let joined : (front ++ opened names) ++ name_behind is_first shown
+      let joined : (front ++ opened names) ++ name_after is_first shown
       ≡ front ++ opened (names ++ name ∷ []) =
-      rw (e, same) (append_assoc front (opened names) (name_behind (no_name names) name)
+      rw (e, same) (append_assoc front (opened names) (name_after (no_name names) name)
       ∙ ap (λ text. front ++ text) (sym (opened-more names name))) in
-      written_behind f g h _ _ _ before after joined
+      written_after f g h _ _ _ before after joined

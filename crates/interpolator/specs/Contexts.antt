@@ -5,19 +5,19 @@ use Rattle.std.specs.Option.{option_map}
 use Rattle.std.specs.Str.{bytes_eq, encode_utf8_all}
 use Rattle.std.specs.Borrow.{Bor}
 use Rattle.std.specs.HashMap.{HashMap, get_by, get_by_text}
-use Rattle.interpolator.specs.Trees.{Tree, tree_of}
+use Rattle.interpolator.specs.Slots.{Slots, slots_of}
 use Rattle.interpolator.specs.declared.slots.Formattable.{Formattable}
 
 -- the tree under the name, in a map whose keys are lent texts
 abbrev pub found_by_str : {X S : Type 0} → HashMap (Bor (List ℕ)) (Formattable X) S → List ℕ
-    → Option (Tree X)
+    → Option (Slots X)
 found_by_str map name =
-    option_map tree_of (get_by (λ key. bytes_eq (encode_utf8_all name) key.now) map)
+    option_map slots_of (get_by (λ key. bytes_eq (encode_utf8_all name) key.now) map)
 
 -- the tree under the name, in a map whose keys are owned texts
 abbrev pub found_by_text : {X A S : Type 0} → HashMap (String A) (Formattable X) S → List ℕ
-    → Option (Tree X)
-found_by_text map name = option_map tree_of (get_by_text map (encode_utf8_all name))
+    → Option (Slots X)
+found_by_text map name = option_map slots_of (get_by_text map (encode_utf8_all name))
 
 -- what the last pair holds whose name has these bytes
 abbrev pub held_last : {Y : Type 0} → List (Bor (List ℕ) × Y) → List ℕ → Option Y
@@ -26,5 +26,5 @@ held_last pairs bytes =
 
 -- the tree in the last pair of the name
 abbrev pub found_by_pairs : {X : Type 0} → List (Bor (List ℕ) × Formattable X) → List ℕ
-    → Option (Tree X)
-found_by_pairs pairs name = option_map tree_of (held_last pairs (encode_utf8_all name))
+    → Option (Slots X)
+found_by_pairs pairs name = option_map slots_of (held_last pairs (encode_utf8_all name))

@@ -6,7 +6,7 @@ pub use Rattle.interpolator_syntax.specs.At
 pub use Rattle.interpolator_syntax.specs.Faults
 pub use Rattle.interpolator_syntax.specs.FaultTexts
 pub mod Meaning
-pub mod Trees
+pub mod Slots
 pub mod SlotNames
 pub mod Seams
 pub mod Contexts

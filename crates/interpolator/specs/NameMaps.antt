@@ -5,7 +5,7 @@ use Rattle.std.specs.Option.{option_map, OnSome}
 use Rattle.std.specs.Str.{encode_utf8_all}
 use Rattle.std.specs.HashMap.{hash_map_len, get_by_text}
 use Rattle.std.specs.Borrow.{LendsSo, LendsSoOk, Fml, RattleType, MutBor}
-use Rattle.interpolator.specs.Trees.{Tree, tree_of}
+use Rattle.interpolator.specs.Slots.{Slots, slots_of}
 use Rattle.interpolator.specs.declared.slots.Formattable.{Formattable}
 use Rattle.interpolator.specs.declared.context_map.NameMap.{NameMap}
 use Rattle.interpolator.specs.contracts.context_map.NameMap.{the_row}
@@ -53,5 +53,5 @@ LendsEntry T map name lent = LendsSoOk (the_row T) T map lent
     (λ new last. HasPut map.now name last new) (λ new. IsSame map.now new)
 
 -- the tree under the name, in a map of `Formattable`s
-abbrev pub found : {X : Type 0} → NameMap (Formattable X) → List ℕ → Option (Tree X)
-found map name = option_map tree_of (under map name)
+abbrev pub found : {X : Type 0} → NameMap (Formattable X) → List ℕ → Option (Slots X)
+found map name = option_map slots_of (under map name)

@@ -1,12 +1,12 @@
--- How a text ends, and which text may stand behind it and leave its last piece as it is.
+-- How a text ends, and which text may stand after it and leave its last piece as it is.
 use Rattle.std.specs.Prelude.{ℕ, Bool, true, false, not, ◌&&◌, ◌==◌, if◌then◌else◌, List, [], ◌∷◌}
-use Rattle.std.specs.Prelude.{Option, Some, None}
-use Rattle.interpolator_syntax.specs.At.{At, outermost, strip}
+use Rattle.interpolator_syntax.specs.At.{At, outermost}
 use Rattle.interpolator_syntax.specs.Classes.{close_brace, colon}
 use Rattle.interpolator_syntax.specs.SpecTexts.{begins_alignment}
 use Rattle.interpolator_syntax.specs.Pieces.{PieceKind, Piece, literal, doubled, lone_close, closed}
 use Rattle.interpolator_syntax.specs.Pieces.{unclosed, broken, pieces, argument_from}
-use Rattle.interpolator_syntax.specs.Tokens.{Token, literals, brace, argument}
+use Rattle.interpolator_syntax.specs.Tokens.{Token, literals, argument}
+use Rattle.interpolator_syntax.specs.Tokens.{doubled as doubled_token, lone_close as lone_token}
 use Rattle.interpolator.specs.declared.parts.Ending.{Ending}
 use Rattle.interpolator.specs.declared.parts.Ending.TheVariants.{Settled, LoneClose, EmptySpec}
 use Rattle.interpolator.specs.declared.parts.Ending.TheVariants.{Open}
@@ -49,31 +49,22 @@ abbrev pub begins_close : List ℕ → Bool
 begins_close [] = false
 begins_close (c ∷ cs) = c == close_brace
 
--- whether a text that stands behind one that ends so leaves its last piece as it is
+-- whether a text that stands after one that ends so leaves its last piece as it is
 abbrev pub may_follow : Ending → List ℕ → Bool
 may_follow Settled more = true
 may_follow LoneClose more = not (begins_close more)
 may_follow EmptySpec more = not (begins_alignment more)
 may_follow Open more = true
 
--- whether the text b may stand behind the text a: not where a ends in a lone `}` and b begins with
+-- whether the text b may stand after the text a: not where a ends in a lone `}` and b begins with
 -- one, and not where a ends in a closed argument with an empty spec, `:}`, and b begins with `<`,
 -- `^` or `>`
 abbrev pub seam_of : (a b : List ℕ) → Bool
 seam_of a b = may_follow (ending (outermost a)) b
 
--- a closing brace, by what stands behind it if that is a second one
-abbrev pub close_ending : Option At → Ending
-close_ending None = LoneClose
-close_ending (Some b) = Settled
-
--- a text that begins with a brace, by what stands behind that if it is a closing one
-abbrev pub brace_ending : Option At → Ending
-brace_ending None = Settled
-brace_ending (Some b) = close_ending (strip close_brace b)
-
--- how what the scan hands on ends, at the beginning of the text a, where b stands behind it
-abbrev pub token_ending : (a : At) → Token → (b : At) → Ending
-token_ending a (literals cs) b = Settled
-token_ending a (brace c) b = brace_ending (strip close_brace a)
-token_ending a argument b = piece_ending (argument_from b.place b).piece
+-- how what the scan hands on ends, where b stands after it
+abbrev pub token_ending : Token → (b : At) → Ending
+token_ending (literals cs) b = Settled
+token_ending (doubled_token c) b = Settled
+token_ending lone_token b = LoneClose
+token_ending argument b = piece_ending (argument_from b.place b).piece

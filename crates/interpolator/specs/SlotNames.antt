@@ -7,7 +7,7 @@ use Rattle.interpolator_render.specs.declared.view.Trait.TheVariants.{Binary, De
 use Rattle.interpolator_render.specs.declared.view.Trait.TheVariants.{LowerExp}
 use Rattle.interpolator_render.specs.declared.view.Trait.TheVariants.{LowerHex, Octal, UpperExp}
 use Rattle.interpolator_render.specs.declared.view.Trait.TheVariants.{UpperHex, Iter}
-use Rattle.interpolator.specs.Trees.{Tree, slots, items, slot_at}
+use Rattle.interpolator.specs.Slots.{Slots, values_of, items, slot_at}
 
 -- the name of a trait's slot
 abbrev pub slot_name : Trait → List ℕ
@@ -27,8 +27,8 @@ slot_order =
     Debug ∷ Display ∷ Binary ∷ LowerExp ∷ LowerHex ∷ Octal ∷ UpperExp ∷ UpperHex ∷ Iter ∷ []
 
 -- what stands before a name, and the name
-abbrev pub name_behind : Bool → List ℕ → List ℕ
-name_behind is_first name = (if is_first then codes "(" else codes ", ") ++ name
+abbrev pub name_after : Bool → List ℕ → List ℕ
+name_after is_first name = (if is_first then codes "(" else codes ", ") ++ name
 
 -- the names in parentheses, or nothing where there is none
 abbrev pub in_parentheses : List (List ℕ) → List ℕ
@@ -38,14 +38,14 @@ in_parentheses (name ∷ names) =
 
 module _ {X : Type 0} where
   -- whether a trait's slot is filled
-  abbrev pub is_filled : Tree X → Trait → Bool
+  abbrev pub is_filled : Slots X → Trait → Bool
   is_filled tree Iter = is_some (items tree)
-  is_filled tree slot = is_some (slot_at slot (slots tree))
+  is_filled tree slot = is_some (slot_at slot (values_of tree))
 
   -- the names of the slots that are filled
-  abbrev pub filled_names : Tree X → List (List ℕ)
+  abbrev pub filled_names : Slots X → List (List ℕ)
   filled_names tree = map slot_name (filter (is_filled tree) slot_order)
 
   -- the text for debugging
-  abbrev pub debug_text : Tree X → List ℕ
+  abbrev pub debug_text : Slots X → List ℕ
   debug_text tree = codes "Formattable" ++ in_parentheses (filled_names tree)

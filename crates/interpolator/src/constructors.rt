@@ -1,10 +1,10 @@
 //! Formattables made of one value, and more slots filled in a chain of calls.
 ghost use Rattle.std.specs.Prelude.{◌≡◌, map};
-ghost use Rattle.interpolator.specs.Trees.{tree_of, empty_tree};
-ghost use Rattle.interpolator.specs.Trees.{with_debug_display, with_debug, with_display};
-ghost use Rattle.interpolator.specs.Trees.{with_integer, with_float, with_binary, with_iter};
-ghost use Rattle.interpolator.specs.Trees.{with_lower_exp, with_lower_hex, with_octal};
-ghost use Rattle.interpolator.specs.Trees.{with_upper_exp, with_upper_hex};
+ghost use Rattle.interpolator.specs.Slots.{slots_of, empty_slots};
+ghost use Rattle.interpolator.specs.Slots.{with_debug_display, with_debug, with_display};
+ghost use Rattle.interpolator.specs.Slots.{with_integer, with_float, with_binary, with_iter};
+ghost use Rattle.interpolator.specs.Slots.{with_lower_exp, with_lower_hex, with_octal};
+ghost use Rattle.interpolator.specs.Slots.{with_upper_exp, with_upper_hex};
 
 use crate::slots::Formattable;
 
@@ -12,84 +12,84 @@ use crate::slots::Formattable;
 impl<'a, V> Formattable<'a, V> {
     /// Only the debug and display slots are filled.
     pub fn debug_display(value: &'a V) -> Self
-        ensures { tree_of result ≡ with_debug_display empty_tree value.now }
+        ensures { slots_of result ≡ with_debug_display empty_slots value.now }
     {
         Formattable::default().and_debug_display(value)
     }
 
     /// Only the debug slot is filled.
     pub fn debug(value: &'a V) -> Self
-        ensures { tree_of result ≡ with_debug empty_tree value.now }
+        ensures { slots_of result ≡ with_debug empty_slots value.now }
     {
         Formattable::default().and_debug(value)
     }
 
     /// Only the display slot is filled.
     pub fn display(value: &'a V) -> Self
-        ensures { tree_of result ≡ with_display empty_tree value.now }
+        ensures { slots_of result ≡ with_display empty_slots value.now }
     {
         Formattable::default().and_display(value)
     }
 
     /// Only the eight slots of the formatting traits are filled.
     pub fn integer(value: &'a V) -> Self
-        ensures { tree_of result ≡ with_integer empty_tree value.now }
+        ensures { slots_of result ≡ with_integer empty_slots value.now }
     {
         Formattable::default().and_integer(value)
     }
 
     /// Only the debug, display, lower_exp and upper_exp slots are filled.
     pub fn float(value: &'a V) -> Self
-        ensures { tree_of result ≡ with_float empty_tree value.now }
+        ensures { slots_of result ≡ with_float empty_slots value.now }
     {
         Formattable::default().and_float(value)
     }
 
     /// Only the binary slot is filled.
     pub fn binary(value: &'a V) -> Self
-        ensures { tree_of result ≡ with_binary empty_tree value.now }
+        ensures { slots_of result ≡ with_binary empty_slots value.now }
     {
         Formattable::default().and_binary(value)
     }
 
     /// Only the lower_exp slot is filled.
     pub fn lower_exp(value: &'a V) -> Self
-        ensures { tree_of result ≡ with_lower_exp empty_tree value.now }
+        ensures { slots_of result ≡ with_lower_exp empty_slots value.now }
     {
         Formattable::default().and_lower_exp(value)
     }
 
     /// Only the lower_hex slot is filled.
     pub fn lower_hex(value: &'a V) -> Self
-        ensures { tree_of result ≡ with_lower_hex empty_tree value.now }
+        ensures { slots_of result ≡ with_lower_hex empty_slots value.now }
     {
         Formattable::default().and_lower_hex(value)
     }
 
     /// Only the octal slot is filled.
     pub fn octal(value: &'a V) -> Self
-        ensures { tree_of result ≡ with_octal empty_tree value.now }
+        ensures { slots_of result ≡ with_octal empty_slots value.now }
     {
         Formattable::default().and_octal(value)
     }
 
     /// Only the upper_exp slot is filled.
     pub fn upper_exp(value: &'a V) -> Self
-        ensures { tree_of result ≡ with_upper_exp empty_tree value.now }
+        ensures { slots_of result ≡ with_upper_exp empty_slots value.now }
     {
         Formattable::default().and_upper_exp(value)
     }
 
     /// Only the upper_hex slot is filled.
     pub fn upper_hex(value: &'a V) -> Self
-        ensures { tree_of result ≡ with_upper_hex empty_tree value.now }
+        ensures { slots_of result ≡ with_upper_hex empty_slots value.now }
     {
         Formattable::default().and_upper_hex(value)
     }
 
     /// Only the iter slot, with the items of a list, is filled.
     pub fn iter(value: &'a [Formattable<'a, V>]) -> Self
-        ensures { tree_of result ≡ with_iter empty_tree (map tree_of value.now) }
+        ensures { slots_of result ≡ with_iter empty_slots (map slots_of value.now) }
     {
         Formattable::default().and_iter(value)
     }
@@ -99,7 +99,7 @@ impl<'a, V> Formattable<'a, V> {
 impl<'a, V> Formattable<'a, V> {
     /// The same with the debug and display slots filled.
     pub fn and_debug_display(mut self, value: &'a V) -> Self
-        ensures { tree_of result ≡ with_debug_display (tree_of self.entry) value.now }
+        ensures { slots_of result ≡ with_debug_display (slots_of self.entry) value.now }
     {
         self.set_debug_display(value);
         self
@@ -107,7 +107,7 @@ impl<'a, V> Formattable<'a, V> {
 
     /// The same with the debug slot filled.
     pub fn and_debug(mut self, value: &'a V) -> Self
-        ensures { tree_of result ≡ with_debug (tree_of self.entry) value.now }
+        ensures { slots_of result ≡ with_debug (slots_of self.entry) value.now }
     {
         self.set_debug(value);
         self
@@ -115,7 +115,7 @@ impl<'a, V> Formattable<'a, V> {
 
     /// The same with the display slot filled.
     pub fn and_display(mut self, value: &'a V) -> Self
-        ensures { tree_of result ≡ with_display (tree_of self.entry) value.now }
+        ensures { slots_of result ≡ with_display (slots_of self.entry) value.now }
     {
         self.set_display(value);
         self
@@ -123,7 +123,7 @@ impl<'a, V> Formattable<'a, V> {
 
     /// The same with the eight slots of the formatting traits filled.
     pub fn and_integer(mut self, value: &'a V) -> Self
-        ensures { tree_of result ≡ with_integer (tree_of self.entry) value.now }
+        ensures { slots_of result ≡ with_integer (slots_of self.entry) value.now }
     {
         self.set_integer(value);
         self
@@ -131,7 +131,7 @@ impl<'a, V> Formattable<'a, V> {
 
     /// The same with the debug, display, lower_exp and upper_exp slots filled.
     pub fn and_float(mut self, value: &'a V) -> Self
-        ensures { tree_of result ≡ with_float (tree_of self.entry) value.now }
+        ensures { slots_of result ≡ with_float (slots_of self.entry) value.now }
     {
         self.set_float(value);
         self
@@ -139,7 +139,7 @@ impl<'a, V> Formattable<'a, V> {
 
     /// The same with the binary slot filled.
     pub fn and_binary(mut self, value: &'a V) -> Self
-        ensures { tree_of result ≡ with_binary (tree_of self.entry) value.now }
+        ensures { slots_of result ≡ with_binary (slots_of self.entry) value.now }
     {
         self.set_binary(value);
         self
@@ -147,7 +147,7 @@ impl<'a, V> Formattable<'a, V> {
 
     /// The same with the lower_exp slot filled.
     pub fn and_lower_exp(mut self, value: &'a V) -> Self
-        ensures { tree_of result ≡ with_lower_exp (tree_of self.entry) value.now }
+        ensures { slots_of result ≡ with_lower_exp (slots_of self.entry) value.now }
     {
         self.set_lower_exp(value);
         self
@@ -155,7 +155,7 @@ impl<'a, V> Formattable<'a, V> {
 
     /// The same with the lower_hex slot filled.
     pub fn and_lower_hex(mut self, value: &'a V) -> Self
-        ensures { tree_of result ≡ with_lower_hex (tree_of self.entry) value.now }
+        ensures { slots_of result ≡ with_lower_hex (slots_of self.entry) value.now }
     {
         self.set_lower_hex(value);
         self
@@ -163,7 +163,7 @@ impl<'a, V> Formattable<'a, V> {
 
     /// The same with the octal slot filled.
     pub fn and_octal(mut self, value: &'a V) -> Self
-        ensures { tree_of result ≡ with_octal (tree_of self.entry) value.now }
+        ensures { slots_of result ≡ with_octal (slots_of self.entry) value.now }
     {
         self.set_octal(value);
         self
@@ -171,7 +171,7 @@ impl<'a, V> Formattable<'a, V> {
 
     /// The same with the upper_exp slot filled.
     pub fn and_upper_exp(mut self, value: &'a V) -> Self
-        ensures { tree_of result ≡ with_upper_exp (tree_of self.entry) value.now }
+        ensures { slots_of result ≡ with_upper_exp (slots_of self.entry) value.now }
     {
         self.set_upper_exp(value);
         self
@@ -179,7 +179,7 @@ impl<'a, V> Formattable<'a, V> {
 
     /// The same with the upper_hex slot filled.
     pub fn and_upper_hex(mut self, value: &'a V) -> Self
-        ensures { tree_of result ≡ with_upper_hex (tree_of self.entry) value.now }
+        ensures { slots_of result ≡ with_upper_hex (slots_of self.entry) value.now }
     {
         self.set_upper_hex(value);
         self
@@ -187,7 +187,7 @@ impl<'a, V> Formattable<'a, V> {
 
     /// The same with the iter slot, with the items of a list, filled.
     pub fn and_iter(mut self, value: &'a [Formattable<'a, V>]) -> Self
-        ensures { tree_of result ≡ with_iter (tree_of self.entry) (map tree_of value.now) }
+        ensures { slots_of result ≡ with_iter (slots_of self.entry) (map slots_of value.now) }
     {
         self.set_iter(value);
         self

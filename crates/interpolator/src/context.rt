@@ -2,7 +2,7 @@
 ghost use Rattle.std.specs.Prelude.{◌≡◌, ℕ, List, Option};
 ghost use Rattle.std.specs.Option.{option_copied, option_map};
 ghost use Rattle.std.specs.Str.{chars};
-ghost use Rattle.interpolator.specs.Trees.{Tree, tree_of};
+ghost use Rattle.interpolator.specs.Slots.{Slots, slots_of};
 ghost use Rattle.interpolator.specs.Contexts.{found_by_str, found_by_text};
 
 use crate::slots::Formattable;
@@ -18,11 +18,11 @@ pub trait Context {
     type Object: Value;
 
     // the tree of what stands under a name
-    ghost finds: { Self → List ℕ → Option (Tree Self.Object) };
+    ghost finds: { Self → List ℕ → Option (Slots Self.Object) };
 
     /// What stands under a name, or `None`. It takes no memory.
     fn get(&self, key: &str) -> Option<Formattable<'_, Self::Object>>
-        ensures found { option_map tree_of result ≡ finds self.now (chars key.now) };
+        ensures found { option_map slots_of result ≡ finds self.now (chars key.now) };
 }
 
 // What a map lends, copied in the place that asks, with no call.

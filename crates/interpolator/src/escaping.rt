@@ -32,8 +32,8 @@ fn append_twice(out: &mut TextBuffer, c: char) -> Result<(), Error>
     Ok(())
 }
 
-/// Appends the front of a text in which no brace stands, and twice the brace behind it. Returns
-/// what stands behind that.
+/// Appends the front of a text in which no brace stands, and twice the brace after it. Returns
+/// what stands after that.
 fn append_front<'a>(out: &mut TextBuffer, text: &'a str) -> Result<&'a str, Error>
     requires not_empty { 0 < length text.now }
     ensures ok { IfOk result (λ rest. out.new.text ++ braces_doubled (chars rest.now)
@@ -46,9 +46,9 @@ fn append_front<'a>(out: &mut TextBuffer, text: &'a str) -> Result<&'a str, Erro
     append(out, run)?;
     match split_first(rest) {
         None => Ok(rest),
-        Some((brace, behind)) => {
+        Some((brace, after)) => {
             append_twice(out, brace)?;
-            Ok(behind)
+            Ok(after)
         }
     }
 }

@@ -65,7 +65,7 @@ pub trait Interpolate: Context {
         write(alloc, out, text, self)
     }
 
-    /// Writes what the format means and a newline behind it, as the function `iwriteln` does.
+    /// Writes what the format means and a newline after it, as the function `iwriteln` does.
     ///
     /// # Errors
     ///

@@ -1,6 +1,6 @@
 //! Laws, each the contract of a small function: of the names that a format asks, of the items that
-//! a range chooses, of what lists mean, of texts made into formats, and of formats in parts. Those
-//! of the faults and of what stands in braces are the reader's.
+//! a range chooses, of what texts and lists mean, of texts made into formats, and of formats in
+//! parts. Those of the faults and of what stands in braces are the reader's.
 
 pub mod choices;
 pub mod escapes;
@@ -9,6 +9,6 @@ pub mod names;
 pub mod parts;
 
 pub use interpolator_syntax::laws::{
-    arguments, clone_of_number_error, clone_of_parse_error, groups, is_same_error,
-    is_same_number_error, is_same_parse_error, lists, numbers, pieces, specs,
+    arguments, clone_of_number_error, clone_of_parse_error, clones, groups, is_same_error,
+    is_same_number_error, is_same_parse_error, lists, moves, numbers, pieces, specs,
 };

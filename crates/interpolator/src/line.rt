@@ -1,4 +1,4 @@
-//! Formats with a newline behind them.
+//! Formats with a newline after them.
 ghost use Rattle.std.specs.Prelude.{length};
 ghost use Rattle.std.specs.Str.{chars};
 ghost use Rattle.interpolator_syntax.specs.At.{outermost};
@@ -26,7 +26,7 @@ fn write_newline<W: TextWrite>(out: &mut W) -> Result<(), Error>
     Ok(())
 }
 
-/// Writes what the format means in the context, as `write` does, and behind it a newline where
+/// Writes what the format means in the context, as `write` does, and after it a newline where
 /// there is no fault.
 ///
 /// # Errors

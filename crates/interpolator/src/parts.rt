@@ -1,12 +1,12 @@
-//! Formats in parts: which may stand one behind the other, and what they write.
+//! Formats in parts: which may stand one after the other, and what they write.
 ghost use Rattle.std.specs.Prelude.{◌≡◌, ◌+◌, ◌^◌, ◌<◌, ◌++◌, ℕ, List, [], ◌∷◌, length};
 ghost use Rattle.std.specs.Prelude.{IfOk};
 ghost use Rattle.std.specs.Str.{chars};
-ghost use Rattle.interpolator_syntax.specs.At.{at, strip, size, outermost};
+ghost use Rattle.interpolator_syntax.specs.At.{at, size, outermost};
 ghost use Rattle.interpolator_syntax.specs.Classes.{open_brace, close_brace};
 ghost use Rattle.interpolator_syntax.specs.Pieces.{pieces, argument_from};
 ghost use Rattle.interpolator_syntax.specs.Tokens.{token_of, past_token};
-ghost use Rattle.interpolator.specs.Seams.{closed_ending, piece_ending, brace_ending};
+ghost use Rattle.interpolator.specs.Seams.{closed_ending, piece_ending};
 ghost use Rattle.interpolator.specs.Seams.{ending, seam_of, token_ending};
 ghost use Rattle.interpolator_syntax.specs.Grammar.{from_place};
 ghost use Rattle.interpolator_syntax.specs.Faults.{answered, PlaceWithin};
@@ -23,26 +23,24 @@ use crate::meaning::evaluate::write_text;
 use crate::meaning::scope::Scope;
 use crate::meaning::sink::Sink;
 use interpolator_render::TextWrite;
-use interpolator_syntax::{
-    Cursor, Error, Piece, next_piece, plain, take_asked, take_name, text_before,
-};
+use interpolator_syntax::{Cursor, Error, Token, next_token, take_argument, text_before};
 use std::alloc::Global;
 
-/// How a text ends, as far as the text behind it can change its last piece.
+/// How a text ends, as far as the text after it can change its last piece.
 #[derive(Clone, Copy)]
 pub(crate) enum Ending {
-    /// Whatever stands behind it, the last piece stays, or there is none.
+    /// Whatever stands after it, the last piece stays, or there is none.
     Settled,
     /// In a lone `}`, which a second one would double.
     LoneClose,
-    /// In a closed argument with an empty spec, `:}`. An alignment behind it would make the `}` a
+    /// In a closed argument with an empty spec, `:}`. An alignment after it would make the `}` a
     /// fill.
     EmptySpec,
-    /// In an argument that is unclosed or broken, which takes all that stands behind it.
+    /// In an argument that is unclosed or broken, which takes all that stands after it.
     Open,
 }
 
-/// How a closed argument ends, whose text from behind its brace on is given, and what stands from
+/// How a closed argument ends, whose text from after its brace on is given, and what stands from
 /// its closing brace on.
 fn closed_ending(text: &str, rest: &str) -> Ending
     requires { (front : List ℕ) × (chars text.now ≡ front ++ chars rest.now) }
@@ -55,7 +53,7 @@ fn closed_ending(text: &str, rest: &str) -> Ending
     }
 }
 
-/// How the argument ends that begins here, behind its brace, and what stands behind it.
+/// How the argument ends that begins here, after its brace, and what stands after it.
 fn argument_ending(here: Cursor<'_>) -> (Ending, Cursor<'_>)
     ensures ending { result.0
         ≡ piece_ending (argument_from here.entry.place (at here.entry)).piece }
@@ -66,43 +64,26 @@ fn argument_ending(here: Cursor<'_>) -> (Ending, Cursor<'_>)
         place: here.place,
         rest: "",
     };
-    let named = take_name(here);
-    let mut end = here;
-    let mut argument = plain(named);
-    match take_asked(here, named, &mut end, &mut argument) {
-        Ok(()) => match end.strip(b'}') {
-            Some(behind) => (closed_ending(here.rest, end.rest), behind),
+    match take_argument(here) {
+        Ok(taken) => match taken.rest {
+            Some(after) => (closed_ending(here.rest, taken.end.rest), after),
             None => (Ending::Open, nothing),
         },
         Err(_) => (Ending::Open, nothing),
     }
 }
 
-/// How the brace ends that stands here.
-fn brace_ending(here: Cursor<'_>) -> Ending
-    ensures { result ≡ brace_ending (strip close_brace (at here.entry)) }
-{
-    match here.strip(b'}') {
-        None => Ending::Settled,
-        Some(behind) => match behind.strip(b'}') {
-            None => Ending::LoneClose,
-            Some(_) => Ending::Settled,
-        },
-    }
-}
-
-/// How the piece ends that stands here, behind which stands `rest`, and what stands behind it and
-/// its argument.
-fn past_piece<'t>(here: Cursor<'t>, piece: Piece<'t>, rest: Cursor<'t>) -> (Ending, Cursor<'t>)
-    ensures ending { result.0
-        ≡ token_ending (at here.entry) (token_of piece.entry) (at rest.entry) }
+/// How a token ends after which `rest` stands, and what stands after it and its argument.
+fn past_token<'t>(token: Token<'t>, rest: Cursor<'t>) -> (Ending, Cursor<'t>)
+    ensures ending { result.0 ≡ token_ending (token_of token.entry) (at rest.entry) }
     ensures rest { pieces (at result.1)
-        ≡ pieces (past_token (token_of piece.entry) (at rest.entry)) }
+        ≡ pieces (past_token (token_of token.entry) (at rest.entry)) }
 {
-    match piece {
-        Piece::Literals(_) => (Ending::Settled, rest),
-        Piece::Brace(_) => (brace_ending(here), rest),
-        Piece::Argument => argument_ending(rest),
+    match token {
+        Token::Literals(_) => (Ending::Settled, rest),
+        Token::Doubled(_) => (Ending::Settled, rest),
+        Token::LoneClose => (Ending::LoneClose, rest),
+        Token::Argument => argument_ending(rest),
     }
 }
 
@@ -112,13 +93,13 @@ fn ending_of(text: Cursor<'_>) -> Ending
 {
     let mut here = text;
     let mut ending = Ending::Settled;
-    while let Some((piece, rest)) = next_piece(here) {
-        (ending, here) = past_piece(here, piece, rest);
+    while let Some((token, rest)) = next_token(here) {
+        (ending, here) = past_token(token, rest);
     }
     ending
 }
 
-/// Tests whether one format may stand behind another, so that the pieces of `a` stay what they are
+/// Tests whether one format may stand after another, so that the pieces of `a` stay what they are
 /// by themselves.
 ///
 /// It is false in two cases: `a` ends in a lone `}` and `b` begins with one, so that the two would
@@ -145,25 +126,24 @@ pub fn seam(a: &str, b: &str) -> bool
     }
 }
 
-/// Writes what a part means at its place. Returns the place behind it.
+/// Writes what a part means at its place. Returns the place after it.
 fn write_part<'a, W: TextWrite, C: Context>(
-    alloc: Global,
     sink: &mut Sink<'_, W>,
+    scope: &Scope<'a, C, C::Object>,
     part: &str,
     place: usize,
-    scope: &Scope<'a, C, C::Object>,
 ) -> Result<usize, Error>
     requires fits { place + length part.now < 2 ^ 64 }
     ensures writes { Writes W.written
         (means C.Object.shows (environment_of C.finds scope.now)
         (from_place place (chars part.now)))
         sink.old sink.new (answered result) }
-    ensures behind { IfOk result (λ behind. behind ≡ place + size (chars part.now)) }
-    ensures bytes { IfOk result (λ behind. behind ≡ place + length part.now) }
+    ensures after { IfOk result (λ after. after ≡ place + size (chars part.now)) }
+    ensures bytes { IfOk result (λ after. after ≡ place + length part.now) }
     ensures place { PlaceWithin (place + length part.now) (answered result) }
 {
     let text = Cursor { place, rest: part };
-    match write_text(alloc, sink, text, scope) {
+    match write_text(sink, scope, text) {
         Ok(()) => Ok(place + part.len()),
         Err(fault) => Err(fault),
     }
@@ -171,10 +151,9 @@ fn write_part<'a, W: TextWrite, C: Context>(
 
 /// Writes what each part means at its place, one after the other.
 fn write_each<'a, W: TextWrite, C: Context>(
-    alloc: Global,
     sink: &mut Sink<'_, W>,
-    parts: &[&str],
     scope: &Scope<'a, C, C::Object>,
+    parts: &[&str],
 ) -> Result<(), Error>
     requires fits { bytes_of parts.now < 2 ^ 64 }
     ensures writes { Writes W.written
@@ -184,8 +163,8 @@ fn write_each<'a, W: TextWrite, C: Context>(
 {
     let mut place = 0;
     for part in parts {
-        match write_part(alloc, sink, part, place, scope) {
-            Ok(behind) => place = behind,
+        match write_part(sink, scope, part, place) {
+            Ok(after) => place = after,
             Err(fault) => return Err(fault),
         }
     }
@@ -194,7 +173,7 @@ fn write_each<'a, W: TextWrite, C: Context>(
 
 /// Writes the parts one after the other, each as a format by itself, up to the first fault.
 ///
-/// A brace or an argument never goes over from one part into the next. A part behind the first
+/// A brace or an argument never goes over from one part into the next. A part after the first
 /// fault is not read. No part is copied, and memory is taken only as by `write`.
 ///
 /// Where no part but the last ends in an argument that is unclosed or broken, and at each border
@@ -235,7 +214,7 @@ pub fn write_parts<W: TextWrite, C: Context>(
         out,
         aside: &mut aside,
     };
-    let answer = write_each(alloc, &mut sink, parts, &Scope::outermost(context));
+    let answer = write_each(&mut sink, &Scope::outermost(alloc, context), parts);
     let Sink { out: _, aside: _ } = sink;
     answer
 }

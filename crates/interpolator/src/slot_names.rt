@@ -1,8 +1,8 @@
 //! The text of a `Formattable` for debugging: the names of its filled slots.
 ghost use Rattle.std.specs.Prelude.{◌≡◌, Some};
 ghost use Rattle.std.specs.Fmt.{WritesOnOk, WritesStyledOnOk};
-ghost use Rattle.interpolator.specs.Trees.{tree_of};
-ghost use Rattle.interpolator.specs.SlotNames.{slot_name, is_filled, name_behind, debug_text};
+ghost use Rattle.interpolator.specs.Slots.{slots_of};
+ghost use Rattle.interpolator.specs.SlotNames.{slot_name, is_filled, name_after, debug_text};
 
 use crate::slots::Formattable;
 use interpolator_render::Trait;
@@ -42,7 +42,7 @@ fn name_of(slot: Trait) -> &'static str
 impl<'a, V> Formattable<'a, V> {
     // Whether the slot is filled.
     fn has(&self, slot: Trait) -> bool
-        ensures { result ≡ is_filled (tree_of self.now) slot }
+        ensures { result ≡ is_filled (slots_of self.now) slot }
     {
         match slot {
             Trait::Iter => self.list().is_some(),
@@ -51,10 +51,10 @@ impl<'a, V> Formattable<'a, V> {
     }
 }
 
-// Writes a name behind a parenthesis, or behind the name in front of it.
+// Writes a name after a parenthesis, or after the name in front of it.
 fn write_name<W: fmt::Write>(f: &mut fmt::Formatter<W>, is_first: bool, name: &str) -> fmt::Result
     ensures { WritesStyledOnOk W.write_str_gives f.old result
-        (name_behind is_first name.now) f.new }
+        (name_after is_first name.now) f.new }
 {
     if is_first {
         write_unstyled(f, format_args!("({name}"))
@@ -64,13 +64,13 @@ fn write_name<W: fmt::Write>(f: &mut fmt::Formatter<W>, is_first: bool, name: &s
 }
 
 impl<'a, V> fmt::Debug for Formattable<'a, V> {
-    ghost debug_output = { λ formattable. Some (debug_text (tree_of formattable)) };
+    ghost debug_output = { λ formattable. Some (debug_text (slots_of formattable)) };
 
     fn fmt<W: fmt::Write>(&self, f: &mut fmt::Formatter<W>) -> fmt::Result
         ensures writes { WritesOnOk W.write_str_gives f.old result
-            (debug_text (tree_of self.now)) f.new }
+            (debug_text (slots_of self.now)) f.new }
         ensures styled { WritesStyledOnOk W.write_str_gives f.old result
-            (debug_text (tree_of self.now)) f.new }
+            (debug_text (slots_of self.now)) f.new }
     {
         f.write_str("Formattable")?;
         let mut is_first = true;

@@ -1,12 +1,12 @@
 //! A value's slots: which traits a format may write it with.
 ghost use Rattle.std.specs.Prelude.{◌≡◌, map, ⊤};
 ghost use Rattle.std.specs.Option.{option_copied};
-ghost use Rattle.interpolator.specs.Trees.{tree_of, empty_tree};
-ghost use Rattle.interpolator.specs.Trees.{slots, items, slot_at, trees_behind};
-ghost use Rattle.interpolator.specs.Trees.{with_debug_display, with_debug, with_display};
-ghost use Rattle.interpolator.specs.Trees.{with_integer, with_float, with_binary, with_iter};
-ghost use Rattle.interpolator.specs.Trees.{with_lower_exp, with_lower_hex, with_octal};
-ghost use Rattle.interpolator.specs.Trees.{with_upper_exp, with_upper_hex};
+ghost use Rattle.interpolator.specs.Slots.{slots_of, empty_slots};
+ghost use Rattle.interpolator.specs.Slots.{values_of, items, slot_at, lent_slots};
+ghost use Rattle.interpolator.specs.Slots.{with_debug_display, with_debug, with_display};
+ghost use Rattle.interpolator.specs.Slots.{with_integer, with_float, with_binary, with_iter};
+ghost use Rattle.interpolator.specs.Slots.{with_lower_exp, with_lower_hex, with_octal};
+ghost use Rattle.interpolator.specs.Slots.{with_upper_exp, with_upper_hex};
 
 use interpolator_render::Trait;
 use std::alloc::AllocError;
@@ -48,9 +48,9 @@ impl<'a, V> Clone for Formattable<'a, V> {
 
 impl<'a, V> Copy for Formattable<'a, V> {}
 
-#[tactic(auto, using(crate::proofs::TreeLemmas::tree_layers))]
+#[tactic(auto, using(crate::proofs::SlotLemmas::slots_layers))]
 impl<'a, V> Default for Formattable<'a, V> {
-    ghost is_default = { λ formattable. tree_of formattable ≡ empty_tree };
+    ghost is_default = { λ formattable. slots_of formattable ≡ empty_slots };
 
     /// No slot is filled.
     fn default() -> Self {
@@ -69,11 +69,11 @@ impl<'a, V> Default for Formattable<'a, V> {
 }
 
 /// Each `set_` call fills the slots of its name, and leaves the others as they were.
-#[tactic(auto, using(crate::proofs::TreeLemmas::tree_layers))]
+#[tactic(auto, using(crate::proofs::SlotLemmas::slots_layers))]
 impl<'a, V> Formattable<'a, V> {
     /// Fills the debug and display slots.
     pub fn set_debug_display(&mut self, value: &'a V)
-        ensures { tree_of self.new ≡ with_debug_display (tree_of self.old) value.now }
+        ensures { slots_of self.new ≡ with_debug_display (slots_of self.old) value.now }
     {
         *self = Formattable {
             debug: Some(value),
@@ -84,21 +84,21 @@ impl<'a, V> Formattable<'a, V> {
 
     /// Fills the debug slot.
     pub fn set_debug(&mut self, value: &'a V)
-        ensures { tree_of self.new ≡ with_debug (tree_of self.old) value.now }
+        ensures { slots_of self.new ≡ with_debug (slots_of self.old) value.now }
     {
         self.debug = Some(value);
     }
 
     /// Fills the display slot.
     pub fn set_display(&mut self, value: &'a V)
-        ensures { tree_of self.new ≡ with_display (tree_of self.old) value.now }
+        ensures { slots_of self.new ≡ with_display (slots_of self.old) value.now }
     {
         self.display = Some(value);
     }
 
     /// Fills the eight slots of the formatting traits.
     pub fn set_integer(&mut self, value: &'a V)
-        ensures { tree_of self.new ≡ with_integer (tree_of self.old) value.now }
+        ensures { slots_of self.new ≡ with_integer (slots_of self.old) value.now }
     {
         *self = Formattable {
             debug: Some(value),
@@ -115,7 +115,7 @@ impl<'a, V> Formattable<'a, V> {
 
     /// Fills the debug, display, lower_exp and upper_exp slots.
     pub fn set_float(&mut self, value: &'a V)
-        ensures { tree_of self.new ≡ with_float (tree_of self.old) value.now }
+        ensures { slots_of self.new ≡ with_float (slots_of self.old) value.now }
     {
         *self = Formattable {
             debug: Some(value),
@@ -128,60 +128,60 @@ impl<'a, V> Formattable<'a, V> {
 
     /// Fills the binary slot.
     pub fn set_binary(&mut self, value: &'a V)
-        ensures { tree_of self.new ≡ with_binary (tree_of self.old) value.now }
+        ensures { slots_of self.new ≡ with_binary (slots_of self.old) value.now }
     {
         self.binary = Some(value);
     }
 
     /// Fills the lower_exp slot.
     pub fn set_lower_exp(&mut self, value: &'a V)
-        ensures { tree_of self.new ≡ with_lower_exp (tree_of self.old) value.now }
+        ensures { slots_of self.new ≡ with_lower_exp (slots_of self.old) value.now }
     {
         self.lower_exp = Some(value);
     }
 
     /// Fills the lower_hex slot.
     pub fn set_lower_hex(&mut self, value: &'a V)
-        ensures { tree_of self.new ≡ with_lower_hex (tree_of self.old) value.now }
+        ensures { slots_of self.new ≡ with_lower_hex (slots_of self.old) value.now }
     {
         self.lower_hex = Some(value);
     }
 
     /// Fills the octal slot.
     pub fn set_octal(&mut self, value: &'a V)
-        ensures { tree_of self.new ≡ with_octal (tree_of self.old) value.now }
+        ensures { slots_of self.new ≡ with_octal (slots_of self.old) value.now }
     {
         self.octal = Some(value);
     }
 
     /// Fills the upper_exp slot.
     pub fn set_upper_exp(&mut self, value: &'a V)
-        ensures { tree_of self.new ≡ with_upper_exp (tree_of self.old) value.now }
+        ensures { slots_of self.new ≡ with_upper_exp (slots_of self.old) value.now }
     {
         self.upper_exp = Some(value);
     }
 
     /// Fills the upper_hex slot.
     pub fn set_upper_hex(&mut self, value: &'a V)
-        ensures { tree_of self.new ≡ with_upper_hex (tree_of self.old) value.now }
+        ensures { slots_of self.new ≡ with_upper_hex (slots_of self.old) value.now }
     {
         self.upper_hex = Some(value);
     }
 
     /// Fills the iter slot: the items of a list.
     pub fn set_iter(&mut self, value: &'a [Formattable<'a, V>])
-        ensures { tree_of self.new ≡ with_iter (tree_of self.old) (map tree_of value.now) }
+        ensures { slots_of self.new ≡ with_iter (slots_of self.old) (map slots_of value.now) }
     {
         self.iter = Some(value);
     }
 }
 
-#[tactic(auto, using(crate::proofs::TreeLemmas::tree_layers))]
+#[tactic(auto, using(crate::proofs::SlotLemmas::slots_layers))]
 impl<'a, V> Formattable<'a, V> {
     // The value in the slot that a trait asks; the iter slot holds no value.
     #[inline(always)]
     pub(crate) fn slot(self, wanted: Trait) -> Option<&'a V>
-        ensures { option_copied result ≡ slot_at wanted (slots (tree_of self.entry)) }
+        ensures { option_copied result ≡ slot_at wanted (values_of (slots_of self.entry)) }
     {
         match wanted {
             Trait::Binary => self.binary,
@@ -199,7 +199,7 @@ impl<'a, V> Formattable<'a, V> {
     // The items, where the iter slot is filled.
     #[inline(always)]
     pub(crate) fn list(self) -> Option<&'a [Formattable<'a, V>]>
-        ensures { trees_behind result ≡ items (tree_of self.entry) }
+        ensures { lent_slots result ≡ items (slots_of self.entry) }
     {
         self.iter
     }

@@ -22,7 +22,7 @@ use std::alloc::{AllocError, Global};
 ///
 /// The pieces of the format are read once, from left to right, and written as they come: `{{` as
 /// `{`, `}}` as `}`, `{name}` as the text of the value under the name, and every other character
-/// as it stands. `{name:i}` writes the items of a list one behind the other: each displayed plainly
+/// as it stands. `{name:i}` writes the items of a list one after the other: each displayed plainly
 /// or, where a group `(..)` follows, by the format in it, in which the empty name is the item. A
 /// second group is written between two items.
 ///
@@ -38,7 +38,7 @@ use std::alloc::{AllocError, Global};
 /// - `MissingTraitImpl`: the value has no slot for the trait, or no text under it.
 /// - `Fmt`: a value failed, or the writer refused. Where the writer refused a literal character,
 ///   the place is that of the first which was not appended; where it refused a value or a padded
-///   list, the byte behind the argument's spec.
+///   list, the byte after the argument's spec.
 /// - `NoMemory`: a missing name could not be copied, or a padded list's text found no memory.
 ///
 /// Every place counts bytes from the beginning of the format, and is at most its length.
@@ -74,7 +74,7 @@ pub fn write<W: TextWrite, C: Context>(
         out,
         aside: &mut aside,
     };
-    let answer = write_text(alloc, &mut sink, text, &Scope::outermost(context));
+    let answer = write_text(&mut sink, &Scope::outermost(alloc, context), text);
     let Sink { out: _, aside: _ } = sink;
     answer
 }

@@ -93,7 +93,7 @@ pub fn copies(alloc: Global, piece: &str, count: u32, repeats: u32) -> Result<St
     Ok(text)
 }
 
-// A format that asks each name, and has a space behind it.
+// A format that asks each name, and has a space after it.
 fn names_format(alloc: Global, names: &[&str]) -> Result<String, AllocError> {
     let mut format = String::new(alloc);
     for name in names {

@@ -10,6 +10,7 @@ mod merge;
 mod renders;
 mod rows;
 mod spec_formats;
+mod templates;
 mod workloads;
 
 use checksum::checksum_of;
@@ -45,7 +46,7 @@ fn answer(rt: &(impl Env + Print + Eprint + AllocGlobal)) -> Result<(), Failure>
     answer
 }
 
-// What the words behind the program's name ask.
+// What the words after the program's name ask.
 fn asked(rt: &(impl Env + AllocGlobal)) -> Result<Command, Failure> {
     let words = env::args(rt)?.skip(1).collect::<Vec<String>>(rt.alloc())?;
     command_of(words.as_slice()).ok_or(Failure::Usage)

@@ -55,7 +55,7 @@ fn repeat_specs<V: Value>(
     repeat_format(alloc, format.as_str(), &context, repeats)
 }
 
-// Appends what asks a name under each spec, with a space behind each.
+// Appends what asks a name under each spec, with a space after each.
 fn put_specs(format: &mut String, name: &str, specs: &[&str]) -> Result<(), AllocError> {
     for spec in specs {
         format.push('{')?;

@@ -1,7 +1,7 @@
 //! The table of workloads.
 
 use crate::failure::Failure;
-use crate::{formats, lists, merge, renders, spec_formats};
+use crate::{formats, lists, merge, renders, spec_formats, templates};
 use std::alloc::Global;
 
 /// Sixty-four bytes that stand for themselves.
@@ -22,6 +22,9 @@ pub enum Workload {
     LogLine,
     NumberNames,
     TextNames,
+    JsonTemplate,
+    Letter4K,
+    TableRow,
     Braces64K,
     Literal64K,
     Braces1M,
@@ -34,6 +37,7 @@ pub enum Workload {
     FormatPaddedTexts,
     FormatWide,
     List,
+    AngledList,
     LongList,
     LongPaddedList,
     NestedLists,
@@ -49,10 +53,13 @@ pub enum Workload {
 
 impl Workload {
     /// Every workload, in the order in which `all` runs them.
-    pub const ALL: [Workload; 26] = [
+    pub const ALL: [Workload; 30] = [
         Workload::LogLine,
         Workload::NumberNames,
         Workload::TextNames,
+        Workload::JsonTemplate,
+        Workload::Letter4K,
+        Workload::TableRow,
         Workload::Braces64K,
         Workload::Literal64K,
         Workload::Braces1M,
@@ -65,6 +72,7 @@ impl Workload {
         Workload::FormatPaddedTexts,
         Workload::FormatWide,
         Workload::List,
+        Workload::AngledList,
         Workload::LongList,
         Workload::LongPaddedList,
         Workload::NestedLists,
@@ -84,6 +92,9 @@ impl Workload {
             Workload::LogLine => "log-line",
             Workload::NumberNames => "names-32-numbers",
             Workload::TextNames => "names-18-texts",
+            Workload::JsonTemplate => "json-template",
+            Workload::Letter4K => "letter-4k",
+            Workload::TableRow => "table-row",
             Workload::Braces64K => "braces-64k",
             Workload::Literal64K => "literal-64k",
             Workload::Braces1M => "braces-1m",
@@ -96,6 +107,7 @@ impl Workload {
             Workload::FormatPaddedTexts => "format-padded-texts",
             Workload::FormatWide => "format-wide",
             Workload::List => "list-1000",
+            Workload::AngledList => "list-1000-angled",
             Workload::LongList => "list-100000",
             Workload::LongPaddedList => "list-100000-padded",
             Workload::NestedLists => "lists-32-deep",
@@ -116,6 +128,9 @@ impl Workload {
             Workload::LogLine => formats::log_line(alloc, repeats),
             Workload::NumberNames => formats::number_names(alloc, repeats),
             Workload::TextNames => formats::text_names(alloc, repeats),
+            Workload::JsonTemplate => templates::json(alloc, repeats),
+            Workload::Letter4K => templates::letter(alloc, repeats),
+            Workload::TableRow => templates::table_row(alloc, repeats),
             Workload::Braces64K => formats::copies(alloc, BRACES, COPIES_64K, repeats),
             Workload::Literal64K => formats::copies(alloc, LITERAL, COPIES_64K, repeats),
             Workload::Braces1M => formats::copies(alloc, BRACES, COPIES_1M, repeats),
@@ -128,6 +143,7 @@ impl Workload {
             Workload::FormatPaddedTexts => spec_formats::padded_texts(alloc, repeats),
             Workload::FormatWide => spec_formats::wide(alloc, repeats),
             Workload::List => lists::numbers(alloc, 1_000, "{n:i({})(, )}", repeats),
+            Workload::AngledList => lists::numbers(alloc, 1_000, "{n:i(<{}>)}", repeats),
             Workload::LongList => lists::numbers(alloc, 100_000, "{n:i({} )}", repeats),
             Workload::LongPaddedList => {
                 lists::numbers(alloc, 100_000, "{n:>600000i({} )}", repeats)

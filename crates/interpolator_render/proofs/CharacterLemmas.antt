@@ -18,20 +18,20 @@ scalar_first rest after c u e = let p = cons_from_encodes u.0 after c (u.1.1 ∙
     and_true_left : (a b : Bool) → (a && b) ≡ true → a ≡ true
     and_true_left a b h = grind arith
 
--- so many characters of the text are behind, and `rest` is to come
+-- so many characters of the text are after, and `rest` is to come
 pub record Walked (text rest : List ℕ) (count : ℕ) : Type 0 where
-  pub behind : List ℕ
-  pub parts : text ≡ behind ++ rest
-  pub counted : length (chars behind) ≡ count
-  pub behind_valid : IsUtf8 behind
+  pub after : List ℕ
+  pub parts : text ≡ after ++ rest
+  pub counted : length (chars after) ≡ count
+  pub after_valid : IsUtf8 after
   pub rest_valid : IsUtf8 rest
 
 pub walked_none : (text : List ℕ) → IsUtf8 text → Walked text text 0
 walked_none text u = record {
-  behind = [];
+  after = [];
   parts = refl;
   counted = ap length chars-nil;
-  behind_valid = IsUtf8-nil;
+  after_valid = IsUtf8-nil;
   rest_valid = u;
 }
 
@@ -39,32 +39,32 @@ pub walked_more : (text rest after : List ℕ) (count c : ℕ) → rest ≡ enco
     Walked text rest count → Walked text after (count + 1)
 walked_more text rest after count c e w = let s = scalar_first rest after c w.rest_valid e in
     let u = IsUtf8-past_char rest after c w.rest_valid e in record {
-      behind = w.behind ++ encode_utf8 c;
-      parts = w.parts ∙ (ap (λ (x : List ℕ). w.behind ++ x) e
-          ∙ sym (append_assoc w.behind (encode_utf8 c) after));
-      counted = rw (chars-append w.behind (encode_utf8 c) w.behind_valid, chars-encode c s)
+      after = w.after ++ encode_utf8 c;
+      parts = w.parts ∙ (ap (λ (x : List ℕ). w.after ++ x) e
+          ∙ sym (append_assoc w.after (encode_utf8 c) after));
+      counted = rw (chars-append w.after (encode_utf8 c) w.after_valid, chars-encode c s)
           (rw (length-append, w.counted) refl);
-      behind_valid = IsUtf8-append w.behind (encode_utf8 c) w.behind_valid (IsUtf8-encode c s);
+      after_valid = IsUtf8-append w.after (encode_utf8 c) w.after_valid (IsUtf8-encode c s);
       rest_valid = u;
     }
 
 -- where the first `count` characters end
 pub walked_chars : (text rest : List ℕ) (count : ℕ) → (w : Walked text rest count) →
-    chars w.behind ≡ take count (chars text)
+    chars w.after ≡ take count (chars text)
 walked_chars text rest count w =
-    let split : chars text ≡ chars w.behind ++ chars rest = ap chars w.parts
-    ∙ chars-append w.behind rest w.behind_valid in
-    rw (split, ← w.counted) (sym (take-append_seam (chars w.behind) (chars rest)))
+    let split : chars text ≡ chars w.after ++ chars rest = ap chars w.parts
+    ∙ chars-append w.after rest w.after_valid in
+    rw (split, ← w.counted) (sym (take-append_seam (chars w.after) (chars rest)))
 
 walked_length : (text rest : List ℕ) (count : ℕ) → (w : Walked text rest count) →
-    length text - length rest ≡ length w.behind
+    length text - length rest ≡ length w.after
 walked_length text rest count w =
-    let n = ap length w.parts ∙ length-append w.behind rest in omega arith
+    let n = ap length w.parts ∙ length-append w.after rest in omega arith
 
 pub walked_take : (text rest : List ℕ) (count : ℕ) → (w : Walked text rest count) →
-    take (length text - length rest) text ≡ w.behind
+    take (length text - length rest) text ≡ w.after
 walked_take text rest count w =
-    rw (walked_length text rest count w, w.parts) (take-append_seam w.behind rest)
+    rw (walked_length text rest count w, w.parts) (take-append_seam w.after rest)
 
 pub walked_end : (text rest : List ℕ) (count : ℕ) → Walked text rest count →
     chars (take (length text - length rest) text) ≡ take count (chars text)
@@ -74,13 +74,13 @@ walked_end text rest count w = ap chars (walked_take text rest count w)
 pub walked_boundary : (text rest : List ℕ) (count : ℕ) → Walked text rest count →
     IsCharBoundary text (length text - length rest)
 walked_boundary text rest count w = rw (walked_length text rest count w)
-    (IsCharBoundary-at_seam text w.behind rest w.parts w.rest_valid)
+    (IsCharBoundary-at_seam text w.after rest w.parts w.rest_valid)
 
 -- all of a text was walked, and its characters counted
 pub walked_all : (text rest : List ℕ) (count : ℕ) → length rest ≡ 0 → Walked text rest count →
     length (chars text) ≡ count
 walked_all text [] count e w =
-    let whole : text ≡ w.behind = w.parts ∙ append-nil w.behind in rw whole w.counted
+    let whole : text ≡ w.after = w.parts ∙ append-nil w.after in rw whole w.counted
 walked_all text (b ∷ bs) count e w = absurd (omega arith)
 
 -- the characters walked are as many as were counted

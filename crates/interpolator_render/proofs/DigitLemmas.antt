@@ -3,7 +3,7 @@ use Rattle.std.proofs.Common.{◌≡◌, ◌≢◌, ℕ, ◌<◌, ◌≤◌, ◌
 use Rattle.std.proofs.Common.{◌∷◌, ◌++◌, length, take, drop, map, set, get_or, refl, sym, ◌∙◌, ap}
 use Rattle.std.proofs.Common.{arith, rules, append_assoc, length-append, length-drop, length-set}
 use Rattle.std.proofs.Common.{◌==◌, inl, inr, take-take, IsAscii, mod-eq_of_lt, div-le_self}
-use Rattle.std.proofs.Common.{eq-zero-or-pos, le-div_iff_mul-le}
+use Rattle.std.proofs.Common.{eq-zero-or-pos, le-div_iff_mul-le, append-nil}
 use Rattle.std.specs.Fmt.{digit_glyph}
 use Rattle.std.specs.Int.Digits.{digits_of, AllBelowBase}
 use Rattle.std.proofs.lemmas.Int.Digits.{length-digits_of-le, digits_of_step, length-digits_of_step}
@@ -15,24 +15,6 @@ use Rattle.std.proofs.lemmas.Str.Ascii.{IsAscii-cons}
 use Rattle.std.proofs.Math.Nat.{pow-le-pow_left, div-eq_of_lt}
 use Rattle.std.proofs.Math.Seq.{drop-length}
 use Rattle.interpolator_render.specs.Digits.{digit_text}
-
--- the buffer has room for the digits of any number
-pub digits_fit : (base n : ℕ) → 2 ≤ base → n < 2 ^ 128 → length (digits_of base n) ≤ 128
-digits_fit base n b s = let wide : 2 ^ 128 ≤ base ^ 128 = pow-le-pow_left b 128 in
-    length-digits_of-le base 128 n b (omega arith)
-
--- one more digit, in front of those that are written
-pub one_digit_more : (base rest at : ℕ) (upper : Bool) (out : List ℕ) → 2 ≤ base → 0 < rest →
-    at < length out →
-    map (digit_glyph upper) (digits_of base (rest / base))
-    ++ drop at (set out at (digit_glyph upper (rest % base)))
-    ≡ map (digit_glyph upper) (digits_of base rest) ++ drop (at + 1) out
-one_digit_more base rest at upper out b r l =
-    rw (drop-set out at (digit_glyph upper (rest % base)) l, digits_of_step base rest b r)
-    (rw (map-append, append_assoc) refl)
-
--- one digit more than the quotient has
-pub ruleset digit_steps = length-digits_of_step
 
 -- ---- the text of a number
 
@@ -62,28 +44,17 @@ length-digit_text-le base k n upper b p h = elim (eq-zero-or-pos n) [
   | inr m ↦ rw (digit_text_map base n upper m, length-map) (length-digits_of-le base k n b h)
 ]
 
+-- the buffer has room for the digits of any number
+pub text_fits : (base n : ℕ) (upper : Bool) → 2 ≤ base → n < 2 ^ 128 →
+    length (digit_text base upper n) ≤ 128
+text_fits base n upper b s = let wide : 2 ^ 128 ≤ base ^ 128 = pow-le-pow_left b 128 in
+    length-digit_text-le base 128 n upper b (omega arith) (omega arith)
+
 -- ---- the buffer
 
--- nothing stands behind the buffer
-pub nothing_behind : (out : List ℕ) (size : ℕ) → length out ≡ size → drop size out ≡ []
-nothing_behind out size e = rw (← e) (drop-length out)
-
--- the digits of zero
-pub zero_written : (out : List ℕ) (base : ℕ) (upper : Bool) (n : ℕ) → length out ≡ 128 → n ≡ 0 →
-    drop 127 (set out 127 48) ≡ digit_text base upper n
-zero_written out base upper n e z =
-    rw (digit_text_zero base upper n z, drop-set out 127 48 (omega arith), nothing_behind out 128 e)
-    refl
-
--- where the digits begin, the whole text of the number lies behind
-pub text_start : (base n start : ℕ) (upper : Bool) (out : List ℕ) → 2 ≤ base → length out ≡ 128 →
-    drop start out ≡ digit_text base upper n → start < 128
-text_start base n start upper out b e w =
-    let some = digit_text_some base n upper b in let count = ap length w in
-    let k = length-drop start out in omega arith
-
--- for the digits at the end of the buffer
-pub ruleset text_places = (zero_written, text_start, digit_text_map)
+-- nothing stands after the buffer
+pub nothing_after : (out : List ℕ) (size : ℕ) → length out ≡ size → drop size out ≡ []
+nothing_after out size e = rw (← e) (drop-length out)
 
 -- ---- ASCII
 
@@ -160,13 +131,13 @@ four_count base n upper b h =
     let three = digit_count_step base (n / base / base) upper b (omega arith) in
     let four = digit_count_step base (n / base / base / base) upper b h in omega arith
 
-pub led : (text behind there : List ℕ) (first : ℕ) → 0 < length text →
-    first ∷ there ≡ text ++ behind → (text ≡ first ∷ drop 1 text) × (there ≡ drop 1 text ++ behind)
-led [] behind there first h e = absurd (omega arith)
-led (x ∷ xs) behind there first h e =
+pub led : (text after there : List ℕ) (first : ℕ) → 0 < length text →
+    first ∷ there ≡ text ++ after → (text ≡ first ∷ drop 1 text) × (there ≡ drop 1 text ++ after)
+led [] after there first h e = absurd (omega arith)
+led (x ∷ xs) after there first h e =
     (ap (λ (l : List ℕ). get_or l 0 0 ∷ xs) (sym e), ap (drop 1) e)
 
--- digits left of a number, written behind its first: the whole but for that
+-- digits left of a number, written after its first: the whole but for that
 pub low_written : (base n rest first at end : ℕ) (upper : Bool) (new mid old : List ℕ) → 2 ≤ base →
     digit_text base upper rest ≡ digit_glyph upper first ∷ drop 1 (digit_text base upper rest) →
     new ≡ drop 1 (digit_text base upper rest) ++ drop at mid →
@@ -247,3 +218,32 @@ pair_in_front out old at first second h e =
     take-set-le (at - 2) (set out (at - 1) first) (at - 2) second (omega arith)
     ∙ (take-set-le (at - 2) out (at - 1) first (omega arith)
     ∙ take_less (at - 2) at out old (omega arith) e)
+
+-- ---- the whole number at the end of the buffer
+
+-- there is a place for the first digit
+pub first_place : (base n rest few many : ℕ) (upper : Bool) → 2 ≤ base → n < 2 ^ 128 →
+    many + length (digit_text base upper n) ≡ 128 + length (digit_text base upper rest) →
+    many ≤ 128 → few + length (drop 1 (digit_text base upper rest)) ≡ many →
+    (1 ≤ few) × (few - 1 < 128)
+first_place base n rest few many upper b s begins place low =
+    let fits = text_fits base n upper b s in
+    let count = low_count base rest upper b in (omega arith, omega arith)
+
+pub text_written : (base n rest first few many : ℕ) (upper : Bool) (low wide old : List ℕ)
+    (glyph : ℕ) → length old ≡ 128 → length low ≡ 128 → 1 ≤ few → few - 1 < 128 →
+    glyph ≡ digit_glyph upper first →
+    digit_text base upper rest ≡ digit_glyph upper first ∷ drop 1 (digit_text base upper rest) →
+    drop few low ≡ drop 1 (digit_text base upper rest) ++ drop many wide →
+    digit_text base upper rest ++ drop many wide ≡ digit_text base upper n ++ drop 128 old →
+    drop (few - 1) (set low (few - 1) glyph) ≡ digit_text base upper n
+text_written base n rest first few many upper low wide old glyph size long some within g leads l w =
+    let place : few - 1 + 1 ≡ few = omega arith in
+    let digits : digit_text base upper rest ++ drop many wide
+    ≡ digit_text base upper n = w ∙ (ap (λ (x : List ℕ). digit_text base upper n ++ x)
+    (nothing_after old 128 size) ∙ append-nil (digit_text base upper n)) in
+    let all : digit_glyph upper first ∷ drop few low ≡ digit_text base upper rest
+    ++ drop many wide = ap (λ (x : List ℕ). digit_glyph upper first ∷ x) l
+    ∙ ap (λ (x : List ℕ). x ++ drop many wide) (sym leads) in
+    drop-set low (few - 1) glyph (omega arith)
+    ∙ (rw (place, g) (all ∙ digits))

@@ -3,15 +3,15 @@ use Rattle.std.proofs.Common.{◌≡◌, ℕ, zero, suc, ◌+◌, ◌-◌, ◌*�
 use Rattle.std.proofs.Common.{◌&&◌, T, eqb, get_or, inl, inr, arith, eq-zero-or-pos, eqb→eq}
 use Rattle.std.specs.Fmt.{digit_glyph}
 use lib.Ieee.Fits.{and_l, and_r}
-use Rattle.interpolator_render.specs.declared.digits.TheConstants.{PAIRS, SMALL_DIGITS}
-use Rattle.interpolator_render.specs.declared.digits.TheConstants.{CAPITAL_DIGITS}
+use Rattle.interpolator_render.specs.declared.digit_tables.TheConstants.{PAIRS, SMALL_DIGITS}
+use Rattle.interpolator_render.specs.declared.digit_tables.TheConstants.{CAPITAL_DIGITS}
 
 -- the test holds of all numbers below this one
-abbrev holds_below : (ℕ → Bool) → ℕ → Bool
+abbrev pub holds_below : (ℕ → Bool) → ℕ → Bool
 holds_below test zero = true
 holds_below test (suc n) = test n && holds_below test n
 
-at_below : (test : ℕ → Bool) (n p : ℕ) → T (holds_below test n) → p < n → T (test p)
+pub at_below : (test : ℕ → Bool) (n p : ℕ) → T (holds_below test n) → p < n → T (test p)
 at_below test zero p t h = absurd (omega arith)
 at_below test (suc n) p t h = elim (eq-zero-or-pos (n - p)) [
   | inl z ↦ let e : p ≡ n = omega arith in rw e (and_l _ (holds_below test n) t)

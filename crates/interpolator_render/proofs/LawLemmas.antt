@@ -143,9 +143,9 @@ pub ruleset nearest_laws = (nearest_is_nearest, nearest_only)
 -- ---- the zeros at the end
 
 tail_step : (digit : ℕ) (digits rest : List ℕ) (count : ℕ) → digits ≡ rest ++ replicate count 48 →
-    (zeros_behind : ℕ) × (digit ∷ digits
+    (zeros_after : ℕ) × (digit ∷ digits
     ≡ (if (digit == 48) && (length rest == 0) then [] else digit ∷ rest)
-    ++ replicate zeros_behind 48)
+    ++ replicate zeros_after 48)
 tail_step digit digits [] count e = elim (cases_eq digit 48) [
   | inl same ↦ (suc count, rw (e, same) refl)
   | inr other ↦ let f : (digit == 48) ≡ false = search rules in (count, rw (f, e) refl)
@@ -157,19 +157,19 @@ tail_step digit digits (second ∷ rest) count e =
 less_zeros_tail : (digits : List ℕ) →
     (count : ℕ) × (digits ≡ less_zeros digits ++ replicate count 48)
 less_zeros_tail [] = (0, refl)
-less_zeros_tail (digit ∷ digits) = let behind = less_zeros_tail digits in
-    tail_step digit digits (less_zeros digits) behind.0 behind.1
+less_zeros_tail (digit ∷ digits) = let after = less_zeros_tail digits in
+    tail_step digit digits (less_zeros digits) after.0 after.1
 
 pub trimmed_tail : (digits : List ℕ) → (count : ℕ) × (digits ≡ trimmed digits ++ replicate count 48)
 trimmed_tail [] = (0, refl)
-trimmed_tail (digit ∷ digits) = let behind = less_zeros_tail digits in
-    (behind.0, ap (λ (x : List ℕ). digit ∷ x) behind.1)
+trimmed_tail (digit ∷ digits) = let after = less_zeros_tail digits in
+    (after.0, ap (λ (x : List ℕ). digit ∷ x) after.1)
 
-last_behind : (digit : ℕ) (rest : List ℕ) → 0 < length rest →
+last_after : (digit : ℕ) (rest : List ℕ) → 0 < length rest →
     get_or rest (length rest - 1) 0 ≢ 48 →
     get_or (digit ∷ rest) (length (digit ∷ rest) - 1) 0 ≢ 48
-last_behind digit [] some last = absurd (omega arith)
-last_behind digit (second ∷ rest) some last =
+last_after digit [] some last = absurd (omega arith)
+last_after digit (second ∷ rest) some last =
     let place : suc (suc (length rest)) - 1 ≡ suc (suc (length rest) - 1) = omega arith in
     rw place last
 
@@ -185,7 +185,7 @@ last_step digit [] last some = elim (cases_eq digit 48) [
 last_step digit (second ∷ rest) last some =
     let more : (length (second ∷ rest) == 0) ≡ false = grind (arith, nat_tests) in
     rw (more, and-false (digit == 48))
-    (last_behind digit (second ∷ rest) (omega arith) (last (omega arith)))
+    (last_after digit (second ∷ rest) (omega arith) (last (omega arith)))
 
 less_zeros_last : (digits : List ℕ) → 0 < length (less_zeros digits) →
     get_or (less_zeros digits) (length (less_zeros digits) - 1) 0 ≢ 48
@@ -196,7 +196,7 @@ less_zeros_last (digit ∷ digits) some =
 pub trimmed_last : (digits : List ℕ) → 1 < length (trimmed digits) →
     get_or (trimmed digits) (length (trimmed digits) - 1) 0 ≢ 48
 trimmed_last [] more = absurd (omega arith)
-trimmed_last (digit ∷ digits) more = last_behind digit (less_zeros digits) (omega arith)
+trimmed_last (digit ∷ digits) more = last_after digit (less_zeros digits) (omega arith)
     (less_zeros_last digits (omega arith))
 
 pub ruleset trimmed_laws = (trimmed_tail, trimmed_last)

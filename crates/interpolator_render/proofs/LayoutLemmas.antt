@@ -63,7 +63,7 @@ pub writes_from_puts : (a b : Written) (t : List ℕ) (r : Result (Unit {0}) Ref
 writes_from_puts a b t (Ok x) p = p
 writes_from_puts a b t (Err refusal) p = p.part
 
--- one text was written, and another behind it or a part of it
+-- one text was written, and another after it or a part of it
 pub writes_second : (a b c : Written) (t u : List ℕ) (r : Result (Unit {0}) Refusal) →
     Appends a t b → Writes b u r c → Writes a (t ++ u) r c
 writes_second a b c t u (Ok x) p q = appends_both a b c t u p q

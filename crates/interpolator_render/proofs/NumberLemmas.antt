@@ -1,17 +1,16 @@
 -- The parts of a number are its padded text.
-use Rattle.std.proofs.Common.{◌≡◌, ℕ, ◌+◌, ◌-◌, ◌^◌, ◌<◌, min, Bool, true, false, List, [], ◌++◌}
+use Rattle.std.proofs.Common.{◌≡◌, ℕ, ◌+◌, ◌-◌, ◌^◌, ◌<◌, min, true, false, List, [], ◌++◌}
 use Rattle.std.proofs.Common.{length, refl, sym, append_assoc, append-nil, replicate, arith, inl}
-use Rattle.std.proofs.Common.{inr, Option, None, unwrap_or, ◌≤◌, ap, ◌∙◌}
+use Rattle.std.proofs.Common.{inr, None, unwrap_or, ◌≤◌, ap, ◌∙◌}
 use Rattle.interpolator_render.specs.declared.view.Alignment.{Alignment}
 use Rattle.interpolator_render.specs.declared.view.Alignment.TheVariants.{Unset, Left, Center}
 use Rattle.interpolator_render.specs.declared.view.Alignment.TheVariants.{Right}
-use Rattle.interpolator_render.specs.declared.number.NumberForm.TheVariants.{Digits as InDigits}
-use Rattle.interpolator_render.specs.declared.number.Radix.TheVariants.{Decimal}
+use Rattle.interpolator_render.specs.declared.number_form.NumberForm.TheVariants.{Digits as InDigits}
+use Rattle.interpolator_render.specs.declared.number_form.Radix.TheVariants.{Decimal}
 use Rattle.interpolator_render.specs.declared.view.Sign.TheVariants.{Unset as NoSign}
 use Rattle.interpolator_render.specs.declared.view.Spec.{Spec}
 use Rattle.interpolator_render.specs.Digits.{digit_text}
 use Rattle.interpolator_render.specs.Numbers.{front_text, number_text}
-use Rattle.interpolator_render.specs.Exponent.{exponent_tail, exponent_text, pointed, scientific}
 use Rattle.interpolator_render.specs.Padding.{fill_of, missing_to, padded_number, spaces_before}
 use Rattle.interpolator_render.specs.Padding.{IsNumberLayout}
 use Rattle.std.proofs.lemmas.Bool.{cases_Bool}
@@ -31,16 +30,16 @@ missing_capped spec count total w e = omega arith
 
 -- the parts of a number, written in order, are its padded text
 pub number_parts : (spec : Spec) (sign prefix head tail : List ℕ)
-    (count before padding behind after : ℕ) →
-    count ≡ min (length (sign ++ prefix) + length (head ++ (replicate behind 48 ++ tail)))
+    (count before padding trailing after : ℕ) →
+    count ≡ min (length (sign ++ prefix) + length (head ++ (replicate trailing 48 ++ tail)))
     (2 ^ 64 - 1) →
     IsNumberLayout spec count before padding after →
     replicate before 32 ++ (sign ++ (prefix
-    ++ (replicate padding 48 ++ (head ++ (replicate behind 48
+    ++ (replicate padding 48 ++ (head ++ (replicate trailing 48
     ++ (tail ++ (replicate after 32 ++ [])))))))
-    ≡ padded_number spec (sign ++ prefix) (head ++ (replicate behind 48 ++ tail))
+    ≡ padded_number spec (sign ++ prefix) (head ++ (replicate trailing 48 ++ tail))
 unfolding padded_number
-number_parts spec sign prefix head tail count before padding behind after n l =
+number_parts spec sign prefix head tail count before padding trailing after n l =
     let same = missing_capped spec count _ l.width_fits n in
     elim (cases_Bool spec.zero) [
       | inl z ↦ let f = l.zeroed z in rw (z, f.0, f.1, f.2, ← same)
@@ -48,16 +47,6 @@ number_parts spec sign prefix head tail count before padding behind after n l =
       | inr z ↦ let f = l.spaced z in rw (z, f.2, f.0, f.1, ← same)
           (simp (append-nil, append_assoc))
     ]
-
--- head, zeros and tail of a number in exponent form are its text
-pub exponent_parts : (upper : Bool) (precision : Option ℕ) (n : ℕ) (head tail : List ℕ)
-    (behind : ℕ) →
-    head ++ replicate behind 48 ≡ pointed (scientific precision n).digits →
-    tail ≡ exponent_tail upper (scientific precision n).exponent →
-    head ++ (replicate behind 48 ++ tail) ≡ exponent_text upper precision n
-unfolding exponent_text
-exponent_parts upper precision n head tail behind e t = rw (t, ← e)
-    (sym (append_assoc head (replicate behind 48) _))
 
 -- a number under the zero flag, written from its end to its front
 pub zero_padded : (spec : Spec) (front body : List ℕ) (missing fill : ℕ) → spec.zero ≡ true →

@@ -34,7 +34,7 @@ plain_chars : (f : ℕ → List ℕ) (cs : List ℕ) → ((c : ℕ) → 128 ≤ 
 plain_chars f [] wide plain = refl
 plain_chars f (c ∷ cs) wide plain =
     let size = length-append (encode_utf8 c) (encode_utf8_all cs) in
-    let behind = plain_chars f cs wide (λ k h.
+    let after = plain_chars f cs wide (λ k h.
     let here = plain (length (encode_utf8 c) + k) (omega arith) in
     rw get_or-append-add at here) in
     let first : f c ≡ c ∷ [] = elim (cases_lt c 128) [
@@ -42,7 +42,7 @@ plain_chars f (c ∷ cs) wide plain =
           let here = plain 0 (let n = ap length one in omega arith) in rw one at here
       | inr past ↦ wide c past
     ] in
-    rw (first, behind) refl
+    rw (first, after) refl
 
 pub plain_run : (f : ℕ → List ℕ) (run : List ℕ) → ((c : ℕ) → 128 ≤ c → f c ≡ c ∷ []) → IsUtf8 run →
     ((k : ℕ) → k < length run → f (get_or run k 0) ≡ get_or run k 0 ∷ []) →
@@ -52,16 +52,16 @@ plain_run f run wide u plain = plain_chars f (chars run) wide (rw (encodes-chars
 -- ---- the text up to a place
 
 -- the part from one place to another
-pub part_behind : (text : List ℕ) (start end : ℕ) → start ≤ end → take end text ≡ take start text
+pub part_after : (text : List ℕ) (start end : ℕ) → start ≤ end → take end text ≡ take start text
     ++ slice_range text start end
-part_behind text start end h =
+part_after text start end h =
     let place : start + (end - start) ≡ end = omega arith in
     let whole = take-append-drop start (take end text) in
     let front = take-take start end text h in
     let back = rw place at (drop-take start (end - start) text) in
     sym (rw (front, back) at whole)
 
--- the characters of the text up to a place, and those behind
+-- the characters of the text up to a place, and those after
 pub split_at : (f : ℕ → List ℕ) (text : List ℕ) (place : ℕ) → IsUtf8 text →
     IsCharBoundary text place →
     flat_map f (chars text) ≡ flat_map f (chars (take place text))
@@ -84,7 +84,7 @@ run_plain f text start index k s l plain h =
     rw (get_or-take (index - start) (drop start text) k 0 within, get_or-drop start text k 0)
     (plain (start + k) (omega arith) (omega arith))
 
--- a run of characters that stand as they are, and one ASCII character behind it
+-- a run of characters that stand as they are, and one ASCII character after it
 pub run_more : (f : ℕ → List ℕ) (text : List ℕ) (start index : ℕ) →
     ((c : ℕ) → 128 ≤ c → f c ≡ c ∷ []) → IsUtf8 text → IsCharBoundary text start →
     start ≤ index → index < length text → get_or text index 0 < 128 →
@@ -102,7 +102,7 @@ run_more f text start index wide u b s l ascii plain =
     let alone : chars (c ∷ []) ≡ c ∷ [] = chars-IsAscii (c ∷ [])
     (IsAscii-cons c [] ascii (λ i. omega arith)) in
     let parts : take (index + 1) text ≡ take start text ++ (run ++ c ∷ []) =
-    take_more text index 0 l ∙ (ap (λ (x : List ℕ). x ++ c ∷ []) (part_behind text start index s)
+    take_more text index 0 l ∙ (ap (λ (x : List ℕ). x ++ c ∷ []) (part_after text start index s)
     ∙ append_assoc (take start text) run (c ∷ [])) in
     rw (parts, chars-append (take start text) (run ++ c ∷ []) (IsUtf8-take text start u b))
     (rw (chars-append run (c ∷ []) valid_run, alone, flat_map-append f (chars (take start text)) _)
@@ -152,7 +152,7 @@ runs_plain f text start index before now here runs = record {
   written = runs.written;
 }
 
--- an ASCII character that does not, written behind the run
+-- an ASCII character that does not, written after the run
 pub runs_escaped : (f : ℕ → List ℕ) (text : List ℕ) (start index : ℕ) (before now after : Written) →
     ((c : ℕ) → 128 ≤ c → f c ≡ c ∷ []) → IsUtf8 text →
     index < length text → get_or text index 0 < 128 → Runs f text start index before now →

@@ -1,7 +1,7 @@
 -- What a text is without options, and what `render` answers for what a writer answered.
 use Rattle.std.proofs.Common.{◌≡◌, ℕ, ◌-◌, List, length, refl, Result, Ok, Err, None, Some, ℤ}
 use Rattle.std.proofs.Common.{append-nil, arith, false}
-use Rattle.interpolator_render.specs.declared.number.NumberForm.{NumberForm}
+use Rattle.interpolator_render.specs.declared.number_form.NumberForm.{NumberForm}
 use Rattle.interpolator_render.specs.declared.text_write.Refusal.{Refusal}
 use Rattle.interpolator_render.specs.declared.view.Bits.{Bits}
 use Rattle.interpolator_render.specs.declared.view.RenderFault.{RenderFault}

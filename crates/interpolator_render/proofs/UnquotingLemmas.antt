@@ -49,7 +49,7 @@ text_read quote n rest = elim (eq-zero-or-pos n) [
       (number_read quote 0 (digits_of 16 n) rest (all_below_base_digits_of 16 n (omega arith)))
 ]
 
--- a character that stands behind a backslash by its number
+-- a character that stands after a backslash by its number
 code_read : (quote c : ℕ) (rest : List ℕ) → StandsForItself quote →
     unquoted_from quote at_character ((codes "\\u{" ++ (digit_text 16 false c ++ codes "}"))
     ++ rest)
@@ -76,7 +76,7 @@ none_read quote c rest p q s e =
       | false ↦ rw (other, slash) refl
     ])
 
--- a letter behind a backslash stands for its character
+-- a letter after a backslash stands for its character
 letter_meaning : (quote c letter : ℕ) → StandsForItself quote
     → escape_letter quote c ≡ Some letter →
     ((letter == 117) ≡ false) × (escape_meaning letter ≡ c)
@@ -93,17 +93,17 @@ escaped_read quote c rest (Some letter) p e = let m = letter_meaning quote c let
 
 -- ---- texts
 
-inside_read : (quote : ℕ) (text behind : List ℕ) → StandsForItself quote →
-    unquoted_from quote at_character (flat_map (escaped quote) text ++ quote ∷ behind)
-    ≡ record { text = text; behind = behind }
-inside_read quote [] behind p = let t : (quote == quote) ≡ true = search rules in rw t refl
-inside_read quote (c ∷ cs) behind p =
-    rw append_assoc (escaped_read quote c (flat_map (escaped quote) cs ++ quote ∷ behind) _ p refl
-    ∙ ap (preceded_by c) (inside_read quote cs behind p))
+inside_read : (quote : ℕ) (text after : List ℕ) → StandsForItself quote →
+    unquoted_from quote at_character (flat_map (escaped quote) text ++ quote ∷ after)
+    ≡ record { text = text; after = after }
+inside_read quote [] after p = let t : (quote == quote) ≡ true = search rules in rw t refl
+inside_read quote (c ∷ cs) after p =
+    rw append_assoc (escaped_read quote c (flat_map (escaped quote) cs ++ quote ∷ after) _ p refl
+    ∙ ap (preceded_by c) (inside_read quote cs after p))
 
-pub quoted_read : (quote : ℕ) (text behind : List ℕ) → IsQuote quote →
-    unquoted quote (quoted quote text ++ behind) ≡ Some (record { text = text; behind = behind })
-quoted_read quote text behind q =
+pub quoted_read : (quote : ℕ) (text after : List ℕ) → IsQuote quote →
+    unquoted quote (quoted quote text ++ after) ≡ Some (record { text = text; after = after })
+quoted_read quote text after q =
     let t : (quote == quote) ≡ true = search rules in
-    rw (t, append_assoc (flat_map (escaped quote) text) (quote ∷ []) behind)
-    (ap Some (inside_read quote text behind (quotes_stand quote q)))
+    rw (t, append_assoc (flat_map (escaped quote) text) (quote ∷ []) after)
+    (ap Some (inside_read quote text after (quotes_stand quote q)))

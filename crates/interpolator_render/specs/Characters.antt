@@ -53,11 +53,11 @@ carriage_return = 13
 abbrev pub delete : ℕ
 delete = 127
 
--- `n`, which stands for a newline behind a backslash
+-- `n`, which stands for a newline after a backslash
 abbrev pub letter_n : ℕ
 letter_n = 110
 
--- `u`, which begins a number behind a backslash
+-- `u`, which begins a number after a backslash
 abbrev pub letter_u : ℕ
 letter_u = 117
 
@@ -73,7 +73,7 @@ letter_r = 114
 abbrev pub letter_t : ℕ
 letter_t = 116
 
--- what a precision leaves of a text: so many characters, or all without one
+-- what a precision leaves of a text: at most that many characters, or all without one
 abbrev pub cut : Option ℕ → List ℕ → List ℕ
 cut None text = text
 cut (Some count) text = take count text

@@ -10,8 +10,7 @@ pub record Scientific : Type 0 where
   pub digits : List ℕ
   pub exponent : ℕ
 
--- the greatest exponent of ten whose power is at most the number, and 0 for 0: one less than it has
--- digits
+-- the exponent of the first digit: one less than the number has digits
 abbrev pub exponent_of : ℕ → ℕ
 exponent_of n = length (digit_text 10 false n) - 1
 
@@ -22,23 +21,23 @@ nearest n unit =
     let twice = 2 * (n % unit) in
     if nat_lt twice unit then low else (if nat_lt unit twice then low + 1 else low + low % 2)
 
--- digits less the zeros at their end
+-- digits without the zeros at their end
 abbrev pub less_zeros : List ℕ → List ℕ
 less_zeros [] = []
 less_zeros (digit ∷ digits) =
     if (digit == zero_digit) && (length (less_zeros digits) == 0)
     then [] else digit ∷ less_zeros digits
 
--- the same, and one digit at least
+-- the same, but the first digit always stays
 abbrev pub trimmed : List ℕ → List ℕ
 trimmed [] = []
 trimmed (digit ∷ digits) = digit ∷ less_zeros digits
 
--- with zeros before them, up to so many digits
+-- digits with zeros before them, so that there are at least `count`
 abbrev pub zero_extended : ℕ → List ℕ → List ℕ
 zero_extended count digits = replicate (count - length digits) zero_digit ++ digits
 
--- rounded to `places` digits behind the first, where the number has more: a carry to ten raises the
+-- rounded to `places` digits after the first, where the number has more: a carry to ten raises the
 -- exponent
 abbrev pub rounded : ℕ → ℕ → ℕ → Scientific
 rounded places n exponent =
@@ -47,7 +46,8 @@ rounded places n exponent =
     then record { digits = digit_text 10 false (10 ^ places); exponent = exponent + 1 }
     else record { digits = digit_text 10 false mantissa; exponent = exponent }
 
--- without precision all digits less zeros at the end; with one, exactly so many behind the first
+-- without precision, all digits but the zeros at their end; with one, exactly that many digits
+-- after the first
 unfoldable pub scientific : Option ℕ → ℕ → Scientific
 scientific None n = record { digits = trimmed (digit_text 10 false n); exponent = exponent_of n }
 scientific (Some places) n =
@@ -57,19 +57,32 @@ scientific (Some places) n =
       exponent = exponent_of n;
     }
 
--- a point behind the first digit, if more follow
+-- a point after the first digit, if more follow
 abbrev pub pointed : List ℕ → List ℕ
 pointed [] = []
 pointed (first ∷ []) = first ∷ []
 pointed (first ∷ second ∷ more) = first ∷ point ∷ second ∷ more
 
+-- what stands in `pointed (digits ++ after)` before `after`
+abbrev pub leading : List ℕ → List ℕ → List ℕ
+leading [] after = []
+leading (first ∷ []) [] = first ∷ []
+leading (first ∷ []) (next ∷ after) = first ∷ point ∷ []
+leading (first ∷ second ∷ more) after = first ∷ point ∷ second ∷ more
+
 -- the mark of an exponent
 abbrev pub mark : Bool → ℕ
 mark upper = if upper then upper_e else lower_e
 
--- the exponent behind its mark
+-- the exponent after its mark
 abbrev pub exponent_tail : Bool → ℕ → List ℕ
 exponent_tail upper exponent = mark upper ∷ digit_text 10 false exponent
+
+-- exponent form of a number's digits, zeros after them, and an exponent
+abbrev pub shown_text : Bool → ℕ → ℕ → ℕ → List ℕ
+shown_text upper digits zeros exponent =
+    pointed (digit_text 10 false digits ++ replicate zeros zero_digit)
+    ++ exponent_tail upper exponent
 
 -- the text of a number in exponent form
 unfoldable pub exponent_text : Bool → Option ℕ → ℕ → List ℕ
@@ -80,7 +93,7 @@ exponent_text upper precision n =
 abbrev pub distance : ℕ → ℕ → ℕ
 distance m n = (m - n) + (n - m)
 
--- a number of units that lies nearest to n, an even one where two lie as near
+-- a count of units nearest to n, the even one on a tie
 pub record IsNearest (n unit count : ℕ) : Type 0 where
   pub near : 2 * distance n (count * unit) ≤ unit
   pub even : 2 * distance n (count * unit) ≡ unit → count % 2 ≡ 0

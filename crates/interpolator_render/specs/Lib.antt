@@ -4,7 +4,7 @@ pub mod Views
 pub mod Characters
 pub mod Layout
 pub mod Digits
-pub mod Rows
+pub mod DigitBuffers
 pub mod Exponent
 pub mod Padding
 pub mod Numbers

@@ -2,15 +2,15 @@
 use Rattle.std.specs.Prelude.{ℕ, ℤ, pos, negsuc, ◌+◌, ◌-◌, ◌%◌, ◌^◌, ◌≤◌, Bool, true, false, List}
 use Rattle.std.specs.Prelude.{[], ◌++◌, length, Option, Some, None, if◌then◌else◌, codes}
 use Rattle.std.specs.Str.{IsAscii}
-use Rattle.interpolator_render.specs.declared.number.Radix.{Radix}
-use Rattle.interpolator_render.specs.declared.number.Radix.TheVariants.{Decimal}
-use Rattle.interpolator_render.specs.declared.number.Radix.TheVariants.{Binary as InBinary}
-use Rattle.interpolator_render.specs.declared.number.Radix.TheVariants.{Octal as InOctal}
-use Rattle.interpolator_render.specs.declared.number.Radix.TheVariants.{LowerHex as InLowerHex}
-use Rattle.interpolator_render.specs.declared.number.Radix.TheVariants.{UpperHex as InUpperHex}
-use Rattle.interpolator_render.specs.declared.number.NumberForm.{NumberForm}
-use Rattle.interpolator_render.specs.declared.number.NumberForm.TheVariants.{Digits as InDigits}
-use Rattle.interpolator_render.specs.declared.number.NumberForm.TheVariants.{Exponent as InExponent}
+use Rattle.interpolator_render.specs.declared.number_form.Radix.{Radix}
+use Rattle.interpolator_render.specs.declared.number_form.Radix.TheVariants.{Decimal}
+use Rattle.interpolator_render.specs.declared.number_form.Radix.TheVariants.{Binary as InBinary}
+use Rattle.interpolator_render.specs.declared.number_form.Radix.TheVariants.{Octal as InOctal}
+use Rattle.interpolator_render.specs.declared.number_form.Radix.TheVariants.{LowerHex as InLowerHex}
+use Rattle.interpolator_render.specs.declared.number_form.Radix.TheVariants.{UpperHex as InUpperHex}
+use Rattle.interpolator_render.specs.declared.number_form.NumberForm.{NumberForm}
+use Rattle.interpolator_render.specs.declared.number_form.NumberForm.TheVariants.{Digits as InDigits}
+use Rattle.interpolator_render.specs.declared.number_form.NumberForm.TheVariants.{Exponent as InExponent}
 use Rattle.interpolator_render.specs.declared.view.Bits.{Bits}
 use Rattle.interpolator_render.specs.declared.view.HexDebug.{HexDebug}
 use Rattle.interpolator_render.specs.declared.view.HexDebug.TheVariants.{No, Lower, Upper}
@@ -101,8 +101,8 @@ has_minus (InDigits Decimal) z = is_negative z
 has_minus (InDigits _) z = false
 has_minus (InExponent upper) z = is_negative z
 
--- the digits of a signed number stand for this one: two's complement but in decimal and exponent
--- form
+-- the number that a signed number's digits show: two's complement, but in decimal and exponent form
+-- the number without its sign
 abbrev pub magnitude : NumberForm → ℤ → Bits → ℕ
 magnitude (InDigits Decimal) z bits = distance_from_zero z
 magnitude (InDigits _) z bits = twos_complement z bits
@@ -126,6 +126,6 @@ abbrev pub number_text : NumberForm → Spec → Bool → ℕ → List ℕ
 number_text form spec negative n =
     padded_number spec (front_text form spec negative) (body_text form spec n)
 
--- a short text below 128, whose bytes are its characters
+-- a short ASCII text, whose bytes are its characters
 abbrev pub IsShortAscii : List ℕ → Type 0
 IsShortAscii bytes = IsAscii bytes × (length bytes ≤ 128)

@@ -6,24 +6,24 @@ use Rattle.interpolator_render.specs.declared.view.Alignment.TheVariants.{Unset,
 use Rattle.interpolator_render.specs.declared.view.Alignment.TheVariants.{Right}
 use Rattle.interpolator_render.specs.declared.view.Spec.{Spec}
 use Rattle.interpolator_render.specs.Characters.{cut, space, zero_digit}
-use Rattle.interpolator_render.specs.Rows.{Row}
+use Rattle.interpolator_render.specs.DigitBuffers.{Buffered}
 
--- the characters that a text of so many lacks to the width, none where no width is set
+-- how many characters a text of `count` lacks to the width, none where no width is set
 abbrev pub missing_to : Spec → ℕ → ℕ
 missing_to spec count = unwrap_or spec.width 0 - count
 
--- how many of the missing spaces stand before a text; without alignment so many as `unset` says
+-- how many of the missing spaces stand before a text: `unset` of them without alignment
 abbrev pub spaces_before : Alignment → ℕ → ℕ → ℕ
 spaces_before Left missing unset = 0
 spaces_before Right missing unset = missing
 spaces_before Center missing unset = missing / 2
 spaces_before Unset missing unset = unset
 
--- a text with so many spaces before and behind it
+-- a text between spaces
 abbrev pub between_spaces : ℕ → ℕ → List ℕ → List ℕ
 between_spaces before after text = replicate before space ++ (text ++ replicate after space)
 
--- a number, whose front is its sign and prefix: padded with zeros behind the front under the zero
+-- a number, whose front is its sign and prefix: padded with zeros after the front under the zero
 -- flag, else with spaces, on its left without alignment
 unfoldable pub padded_number : Spec → List ℕ → List ℕ → List ℕ
 padded_number spec front body =
@@ -43,7 +43,7 @@ padded_text spec text =
 abbrev pub displayed_text : Spec → List ℕ → List ℕ
 displayed_text spec text = padded_text spec (cut spec.precision text)
 
--- the spaces before, the zeros and the spaces behind, of a number of so many characters
+-- how a number of `count` characters is padded: spaces before, zeros, spaces after
 pub record IsNumberLayout (spec : Spec) (count before zeros after : ℕ) : Type 0 where
   pub width_fits : unwrap_or spec.width 0 < 2 ^ 64
   pub zeroed : spec.zero ≡ true → (before ≡ 0) × (zeros ≡ missing_to spec count) × (after ≡ 0)
@@ -55,8 +55,8 @@ pub record IsNumberLayout (spec : Spec) (count before zeros after : ℕ) : Type 
 abbrev pub fill_of : Spec → ℕ
 fill_of spec = if spec.zero then zero_digit else space
 
--- a row that holds a number's body alone, with room for what comes before and behind it
-pub record IsNumberRow (spec : Spec) (row : Row) : Type 0 where
+-- a row that holds a number's body alone, with room for what comes before and after it
+pub record IsNumberRow (spec : Spec) (row : Buffered) : Type 0 where
   pub narrow : unwrap_or spec.width 0 ≤ 40
   pub fill : row.fill ≡ fill_of spec
   pub before : row.before + length row.text ≡ 88

@@ -1,6 +1,5 @@
 -- Texts between quotes, with escapes.
 use Rattle.std.specs.Prelude.{ℕ, List, [], ◌∷◌, ◌++◌, Option, Some, None, false, if◌then◌else◌}
--- Texts between quotes, with escapes.
 use Rattle.std.specs.Prelude.{codes, ◌==◌, ◌||◌, nat_lt}
 use Rattle.std.specs.List.{flat_map}
 use Rattle.interpolator_render.specs.Characters.{backslash, carriage_return, delete, letter_n}
@@ -8,7 +7,7 @@ use Rattle.interpolator_render.specs.Characters.{letter_r, letter_t, newline, nu
 use Rattle.interpolator_render.specs.Characters.{zero_digit}
 use Rattle.interpolator_render.specs.Digits.{digit_text}
 
--- the character that stands behind a backslash for c, where one does: the quote, a backslash, `0`,
+-- the character that stands after a backslash for c, where one does: the quote, a backslash, `0`,
 -- `t`, `r` or `n`
 abbrev pub escape_letter : ℕ → ℕ → Option ℕ
 escape_letter quote c =
@@ -19,7 +18,7 @@ escape_letter quote c =
     (if c == carriage_return then Some letter_r else
     (if c == newline then Some letter_n else None)))))
 
--- a letter behind a backslash; any other ASCII control by its number in base sixteen; all else as
+-- a letter after a backslash; any other ASCII control by its number in base sixteen; all else as
 -- it is
 abbrev pub escaped_by : Option ℕ → ℕ → List ℕ
 escaped_by (Some letter) c = backslash ∷ letter ∷ []

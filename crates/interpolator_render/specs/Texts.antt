@@ -1,7 +1,7 @@
 -- The text of a view, and what `render` answers of it.
 use Rattle.std.specs.Prelude.{◌≡◌, Bool, true, false, ℕ, List, [], ◌∷◌, Option, Some, None, Result}
 use Rattle.std.specs.Prelude.{Ok, Err, codes}
-use Rattle.interpolator_render.specs.declared.number.NumberForm.{NumberForm}
+use Rattle.interpolator_render.specs.declared.number_form.NumberForm.{NumberForm}
 use Rattle.interpolator_render.specs.declared.text_write.Refusal.{Refusal}
 use Rattle.interpolator_render.specs.declared.view.RenderFault.{RenderFault}
 use Rattle.interpolator_render.specs.declared.view.RenderFault.TheVariants.{Refused}

@@ -11,24 +11,24 @@ use Rattle.interpolator_render.specs.Characters.{zero_digit}
 abbrev pub IsQuote : ℕ → Type 0
 IsQuote quote = (quote ≡ double_quote) ⊎ (quote ≡ single_quote)
 
--- how far a reader is: at a character, behind a backslash, behind `\u`, or in a number, of which
+-- how far a reader is: at a character, after a backslash, after `\u`, or in a number, of which
 -- it has read so much
 pub data Reading : Type 0 where
   at_character : Reading
-  behind_backslash : Reading
+  after_backslash : Reading
   before_number : Reading
   in_number : ℕ → Reading
 
--- the text that was read, and what stands behind its closing quote
+-- the text that was read, and what stands after its closing quote
 pub record Unquoted : Type 0 where
   pub text : List ℕ
-  pub behind : List ℕ
+  pub after : List ℕ
 
 -- with a character before
 abbrev pub preceded_by : ℕ → Unquoted → Unquoted
-preceded_by c read = record { text = c ∷ read.text; behind = read.behind }
+preceded_by c read = record { text = c ∷ read.text; after = read.after }
 
--- what a character behind a backslash stands for, but for `u`
+-- what a character after a backslash stands for, but for `u`
 abbrev pub escape_meaning : ℕ → ℕ
 escape_meaning c =
     if c == zero_digit then null else
@@ -38,12 +38,12 @@ escape_meaning c =
 
 -- what is read from there on
 abbrev pub unquoted_from : ℕ → Reading → List ℕ → Unquoted
-unquoted_from quote reading [] = record { text = []; behind = [] }
+unquoted_from quote reading [] = record { text = []; after = [] }
 unquoted_from quote at_character (c ∷ cs) =
-    if c == quote then record { text = []; behind = cs } else
-    (if c == backslash then unquoted_from quote behind_backslash cs
+    if c == quote then record { text = []; after = cs } else
+    (if c == backslash then unquoted_from quote after_backslash cs
     else preceded_by c (unquoted_from quote at_character cs))
-unquoted_from quote behind_backslash (c ∷ cs) =
+unquoted_from quote after_backslash (c ∷ cs) =
     if c == letter_u then unquoted_from quote before_number cs
     else preceded_by (escape_meaning c) (unquoted_from quote at_character cs)
 unquoted_from quote before_number (c ∷ cs) = unquoted_from quote (in_number 0) cs
@@ -51,7 +51,7 @@ unquoted_from quote (in_number n) (c ∷ cs) =
     if c == close_brace then preceded_by n (unquoted_from quote at_character cs)
     else unquoted_from quote (in_number (n * 16 + digit_value c)) cs
 
--- a text behind its opening quote, where one stands first
+-- a text after its opening quote, where one stands first
 abbrev pub unquoted : ℕ → List ℕ → Option Unquoted
 unquoted quote [] = None
 unquoted quote (c ∷ cs) = if c == quote then Some (unquoted_from quote at_character cs) else None

@@ -1,4 +1,4 @@
-//! Views of what is a value already, so that values of several kinds stand in one map.
+//! Views made of values, so that one map can hold values of several kinds.
 ghost use Rattle.std.specs.Prelude.{◌≡◌, string_bytes};
 ghost use Rattle.std.specs.Str.{chars};
 ghost use Rattle.interpolator_render.specs.declared.view.Bits.TheVariants.{B8, B16, B32, B64, B128};

@@ -1,5 +1,6 @@
-//! What the definitions that the contracts cite say in other words: laws, proved once for all
-//! values. Their bodies are empty, and their contracts are the laws.
+//! Laws: what the definitions that contracts cite mean, said in other words and proved for all
+//! values. The contract of each function is the law. Most bodies are empty; the others compare,
+//! make or clone values.
 ghost use Rattle.std.specs.Prelude.{◌≡◌, ◌+◌, ◌-◌, ◌*◌, ◌^◌, ◌<◌, ◌≤◌, ◌≢◌, ◌↔◌, ◌++◌, ◌+ℤ◌};
 ghost use Rattle.std.specs.Prelude.{◌*ℤ◌, max, ℕ, ℤ, pos, Bool, List, Some, None, IsTrue, false};
 ghost use Rattle.std.specs.Prelude.{length, replicate, slice_index, unwrap_or};
@@ -15,11 +16,13 @@ ghost use Rattle.interpolator_render.specs.Unquoting.{IsQuote, unquoted};
 ghost use Rattle.interpolator_render.specs.Views.{bit_count};
 ghost use Rattle.interpolator_render.specs.Written.{Written, Appends};
 
+pub mod clones;
+
 use crate::text_write::Refusal;
 use crate::view::{Alignment, Bits, HexDebug, RenderFault, Sign, Spec, Trait};
 
-/// The digits of a number, read back in their base, are the number, and the first is no zero but
-/// for zero itself.
+/// The digits of a number, read back in their base, give the number. The first of them is `0` for
+/// zero alone.
 #[tactic(auto, using(crate::proofs::LawLemmas::digit_laws))]
 pub fn digits_read_back()
     ensures value { (base n : ℕ) (upper : Bool) → 2 ≤ base → base ≤ 16
@@ -28,16 +31,16 @@ pub fn digits_read_back()
         → slice_index (digit_text base upper n) 0 ≢ zero_digit }
 {}
 
-/// The exponent of a number above zero is the greatest whose power of ten is at most the number,
-/// and that of zero is 0.
+/// The exponent of a number above zero is the greatest e with 10^e at most the number. The exponent
+/// of zero is 0.
 #[tactic(auto, using(crate::proofs::LawLemmas::exponent_of_zero))]
 pub fn exponent_bounds()
     ensures some { (n : ℕ) → 0 < n → (10 ^ exponent_of n ≤ n) × (n < 10 ^ (exponent_of n + 1)) }
     ensures zero { exponent_of 0 ≡ 0 }
 {}
 
-/// A rounded number of units lies within half a unit, and is even where it lies just so far; no
-/// other does and is.
+/// The rounded count of units is at most half a unit from the number, and even on a tie. No other
+/// count is both.
 #[tactic(auto, using(crate::proofs::LawLemmas::nearest_laws))]
 pub fn rounding_is_to_nearest()
     ensures nearest { (n unit : ℕ) → 0 < unit → IsNearest n unit (nearest n unit) }
@@ -45,8 +48,8 @@ pub fn rounding_is_to_nearest()
         → count ≡ nearest n unit }
 {}
 
-/// Digits are those that remain of them without the zeros at their end, and those zeros; where more
-/// than one remains, the last of them is no zero.
+/// Trimming takes zeros from the end of the digits and nothing else. Where more than one digit
+/// remains, the last is no zero.
 #[tactic(auto, using(crate::proofs::LawLemmas::trimmed_laws))]
 pub fn trimmed_digits()
     ensures zeros { (digits : List ℕ)
@@ -55,9 +58,9 @@ pub fn trimmed_digits()
         → slice_index (trimmed digits) (length (trimmed digits) - 1) ≢ zero_digit }
 {}
 
-/// With a precision there are exactly so many digits behind the first. Where the number has no
-/// more, they are the number's own and zeros; where it has more, they and the exponent make the
-/// nearest number of units of the last place.
+/// A precision is exactly the count of digits after the first. Where the number has no more digits
+/// than that, they are its own, followed by zeros. Where it has more, digits and exponent make the
+/// number rounded to the last place that is shown.
 #[tactic(auto, using(crate::proofs::CountLemmas::scientific_laws))]
 pub fn precise_digits()
     ensures count { (places n : ℕ) → length (scientific (Some places) n).digits ≡ places + 1 }
@@ -72,16 +75,16 @@ pub fn precise_digits()
         ≡ nearest n (10 ^ (exponent_of n - places)) * 10 ^ (exponent_of n - places)) }
 {}
 
-/// A quoted text, read with its escapes up to the first quote that is not escaped, is the text, and
-/// nothing stands between that quote and the end.
+/// A quoted text is read back as the text: its escapes are undone up to the first quote that is not
+/// escaped, and that quote is the closing one.
 #[tactic(auto, using(crate::proofs::UnquotingLemmas::quoted_read))]
 pub fn quoted_reads_back()
-    ensures { (quote : ℕ) (text behind : List ℕ) → IsQuote quote
-        → unquoted quote (quoted quote text ++ behind)
-        ≡ Some (record { text = text; behind = behind }) }
+    ensures { (quote : ℕ) (text after : List ℕ) → IsQuote quote
+        → unquoted quote (quoted quote text ++ after)
+        ≡ Some (record { text = text; after = after }) }
 {}
 
-/// A padded text has as many characters as the width says, or all its own where they are more.
+/// A padded text has as many characters as the width says, or as the text where that has more.
 #[tactic(auto, using(crate::proofs::LawLemmas::padded_laws))]
 pub fn padded_counts()
     ensures texts { (spec : Spec) (text : List ℕ)
@@ -91,8 +94,8 @@ pub fn padded_counts()
         ≡ max (unwrap_or spec.width 0) (length front + length body) }
 {}
 
-/// Without precision, a text that `pad` wrote whole has added as many characters as the width says,
-/// or all its own where they are more.
+/// Without precision, a `pad` that wrote its whole text has added as many characters as the width
+/// says, or as the text has where those are more.
 #[tactic(auto, using(crate::proofs::LawLemmas::pad_count))]
 pub fn pad_adds()
     ensures { (spec : Spec) (text : List ℕ) (old new : Written) → spec.precision ≡ None

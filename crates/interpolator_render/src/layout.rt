@@ -3,10 +3,11 @@ ghost use Rattle.std.specs.Prelude.{◌≡◌, ◌∷◌, ◌++◌, [], ◌<◌,
 ghost use Rattle.std.specs.Str.{chars, IsAscii};
 ghost use Rattle.interpolator_render.specs.Characters.{space, zero_digit};
 ghost use Rattle.interpolator_render.specs.Layout.{part_text, text_of_parts};
-ghost use Rattle.interpolator_render.specs.Padding.{between_spaces};
+ghost use Rattle.interpolator_render.specs.Padding.{between_spaces, spaces_before};
 ghost use Rattle.interpolator_render.specs.Written.{Puts, byte_count};
 
 use crate::text_write::{Refusal, TextWrite};
+use crate::view::Alignment;
 
 /// How many spaces or zeros are written by one call.
 const RUN: usize = 64;
@@ -53,7 +54,7 @@ pub(crate) fn put_ascii<W: TextWrite>(out: &mut W, text: &str) -> Result<(), Ref
     out.write_str(text)
 }
 
-/// Writes at most [`RUN`] copies of an ASCII character, of which `run` has that many.
+/// Writes `count` copies of an ASCII character, at most [`RUN`]. `run` has [`RUN`] of them.
 #[inline(always)]
 fn put_few<W: TextWrite>(out: &mut W, c: char, run: &str, count: usize) -> Result<(), Refusal>
     requires run { run.now ≡ replicate 64 c }
@@ -64,7 +65,7 @@ fn put_few<W: TextWrite>(out: &mut W, c: char, run: &str, count: usize) -> Resul
     out.write_str(&run[..count])
 }
 
-/// Writes so many copies of an ASCII character, run after run.
+/// Writes `count` copies of an ASCII character, run after run.
 #[cold]
 #[inline(never)]
 fn put_runs<W: TextWrite>(out: &mut W, c: char, run: &str, count: usize) -> Result<(), Refusal>
@@ -84,7 +85,7 @@ fn put_runs<W: TextWrite>(out: &mut W, c: char, run: &str, count: usize) -> Resu
     Ok(())
 }
 
-/// Writes so many copies of an ASCII character, of which `run` has [`RUN`].
+/// Writes `count` copies of an ASCII character, of which `run` has [`RUN`].
 #[inline(always)]
 fn put_copies<W: TextWrite>(out: &mut W, c: char, run: &str, count: usize) -> Result<(), Refusal>
     requires run { run.now ≡ replicate 64 c }
@@ -164,7 +165,7 @@ pub(crate) fn put_parts<W: TextWrite>(out: &mut W, parts: &[Part<'_>]) -> Result
     Ok(())
 }
 
-/// Writes a text and so many spaces behind it.
+/// Writes a text and `after` spaces after it.
 #[inline(always)]
 fn put_before_spaces<W: TextWrite>(out: &mut W, text: &str, after: usize) -> Result<(), Refusal>
     ensures { Puts (W.written out.old) (chars text.now ++ replicate after space) result
@@ -199,4 +200,19 @@ pub(crate) fn put_between<W: TextWrite>(
         return Err(Refusal { taken });
     }
     Ok(())
+}
+
+/// How many of the missing spaces stand before a text: `unset` of them without alignment.
+#[inline(always)]
+pub(crate) fn spaces_before(alignment: Alignment, missing: usize, unset: usize) -> usize
+    requires { unset ≤ missing }
+    ensures before { result ≡ spaces_before alignment missing unset }
+    ensures within { result ≤ missing }
+{
+    match alignment {
+        Alignment::Unset => unset,
+        Alignment::Left => 0,
+        Alignment::Center => missing / 2,
+        Alignment::Right => missing,
+    }
 }

@@ -2,7 +2,7 @@
 //!
 //! A [`View`] is what is written: one number, one truth value, one character or one text. A
 //! [`Trait`] says in which way (display, debug, a base, an exponent form), and a [`Spec`] with which
-//! flags, to which width and at which precision, as the text behind the colon of a format string
+//! flags, to which width and at which precision, as the text after the colon of a format string
 //! does in Rust. [`render`] appends the text of a view to a writer, and [`pad`] a text as display
 //! shows it. A writer is any type with [`TextWrite`]; [`TextBuffer`] is one over a `String`. A type
 //! of one's own becomes writable by [`Value`], which says what it shows.
@@ -21,15 +21,19 @@
 
 mod characters;
 mod conversions;
+mod digit_buffer;
+mod digit_tables;
 mod digits;
 mod exponent;
 pub mod laws;
 mod layout;
-mod line;
 mod number;
+mod number_form;
+mod number_parts;
+mod number_row;
 mod quoting;
 mod rendering;
-mod short_exponent;
+mod scientific;
 mod text_buffer;
 mod text_write;
 mod value;

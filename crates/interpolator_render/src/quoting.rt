@@ -25,7 +25,7 @@ fn put_code<W: TextWrite>(out: &mut W, c: char) -> Result<(), Refusal>
     )
 }
 
-/// The character that stands behind a backslash for `c`, where one does.
+/// The character that stands after a backslash for `c`, where one does.
 fn escape_letter(quote: char, c: char) -> Option<char>
     ensures { result ≡ escape_letter quote c }
 {
@@ -46,7 +46,7 @@ fn escape_letter(quote: char, c: char) -> Option<char>
     }
 }
 
-/// Writes a character behind a backslash.
+/// Writes a character after a backslash.
 fn put_letter<W: TextWrite>(out: &mut W, letter: char) -> Result<(), Refusal>
     ensures { Puts (W.written out.old) (backslash ∷ letter ∷ []) result (W.written out.new) }
 {
@@ -82,7 +82,7 @@ fn is_escaped(quote: char, byte: u8) -> bool
     byte < b' ' || byte == b'\x7f' || byte == b'\\' || byte == quote as u8
 }
 
-/// Writes a run of characters as they are, and the escaped one behind it.
+/// Writes a run of characters as they are, and the escaped one after it.
 fn put_run<W: TextWrite>(out: &mut W, quote: char, run: &str, c: char) -> Result<(), Refusal>
     ensures { Writes (W.written out.old) (chars run.now ++ escaped quote c) result
         (W.written out.new) }

@@ -11,16 +11,15 @@ ghost use Rattle.interpolator_render.specs.Views.{IsInRange, shown_by};
 ghost use Rattle.interpolator_render.specs.Written.{Puts};
 
 use crate::characters::cut;
-use crate::layout::{put_between, put_text};
-use crate::number::{
-    NumberForm, number_form, put_natural, put_number, sign_and_magnitude, spaces_before,
-};
+use crate::layout::{put_between, put_text, spaces_before};
+use crate::number::{put_natural, put_number};
+use crate::number_form::{NumberForm, number_form, sign_and_magnitude};
 use crate::quoting::put_quoted;
 use crate::text_write::{Refusal, TextWrite};
 use crate::view::{RenderFault, Spec, Trait, View};
 
 /// Writes a text as display does: its first characters, as many as the precision says, and spaces
-/// up to the width, behind it unless the alignment says otherwise. Sign, `#` and the zero flag do
+/// up to the width, after it unless the alignment says otherwise. Sign, `#` and the zero flag do
 /// nothing. Width and precision count characters. The call takes no memory of its own.
 ///
 /// # Errors
@@ -166,7 +165,7 @@ pub fn render<W: TextWrite>(
     render_any(out, view, t, spec)
 }
 
-/// The same with no look ahead at what is most likely.
+/// The same, for every view and trait: [`render`] has tried the most likely ones first.
 #[tactic(auto, unfolding(crate::specs::Texts::view_text))]
 #[inline(never)]
 fn render_any<W: TextWrite>(

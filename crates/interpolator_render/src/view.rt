@@ -29,7 +29,7 @@ pub enum Alignment {
     /// Numbers on the right, all else on the left.
     #[default]
     Unset,
-    /// All spaces behind the text.
+    /// All spaces after the text.
     Left,
     /// Half of the spaces, rounded down, before the text.
     Center,
@@ -89,12 +89,12 @@ pub struct Spec {
     pub sign: Sign,
     /// `#`: a prefix before numbers in base two, eight and sixteen.
     pub alternate: bool,
-    /// `0`: numbers are padded with zeros behind their sign and prefix, whatever the alignment.
+    /// `0`: numbers are padded with zeros after their sign and prefix, whatever the alignment.
     pub zero: bool,
     /// The least number of characters.
     pub width: Option<usize>,
     /// Of a text the greatest number of characters that are shown, before padding; of an exponent
-    /// form the number of digits behind the point.
+    /// form the number of digits after the point.
     pub precision: Option<usize>,
     /// How `Trait::Debug` writes whole numbers.
     pub hex_debug: HexDebug,

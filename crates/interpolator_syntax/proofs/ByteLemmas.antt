@@ -3,11 +3,12 @@ use Rattle.std.proofs.Common.{◌≡◌, ℕ, suc, ◌+◌, ◌<◌, ◌≤◌, 
 use Rattle.std.proofs.Common.{List, [], ◌∷◌, ◌++◌, length, take, drop, get_or, arith, refl, ap, ◌∙◌}
 use Rattle.std.proofs.Common.{sym, ◌⊎◌, inl, inr, ◌||◌, ◌%◌, ◌^◌, Option, Some, None, bit_or}
 use Rattle.std.proofs.Common.{map, replicate, eqb-true}
-use Rattle.std.specs.List.{position, position_or_len}
-use Rattle.std.specs.Prelude.{⊤, IfSome}
+use Rattle.std.specs.List.{position, position_or_len, slice_get}
+use Rattle.std.specs.Prelude.{⊤, IfSome, min, unwrap_or}
 use Rattle.std.specs.Char.{encode_utf8}
 use Rattle.std.specs.Str.{chars, IsUtf8, IsCharBoundary, encode_utf8_all}
 use Rattle.std.proofs.lemmas.Str.{encodes-chars, encode_ascii, chars_from_encodes, IsUtf8-take}
+use Rattle.std.proofs.lemmas.Str.{length-encode, len_utf8_bounds}
 use Rattle.std.proofs.lemmas.Str.{IsUtf8-drop, IsCharBoundary-before_ascii, IsCharBoundary-end}
 use Rattle.std.proofs.lemmas.List.Sums.{position_or_len_is, fails_before_first, passes_at_first}
 use Rattle.std.proofs.lemmas.List.Sums.{prefix_len-le-length}
@@ -17,7 +18,7 @@ use Rattle.std.proofs.lemmas.Simd.{trailing_mask_l}
 use Rattle.std.specs.Simd.Lanes.{mask_l, zip2, top}
 use Rattle.std.specs.Int.Count.{count_trailing_zeros}
 use Rattle.std.proofs.lemmas.Bool.{cond_both, ne_eqb, cases_lt}
-use Rattle.interpolator_syntax.specs.Classes.{avoids, front_of, behind_of}
+use Rattle.interpolator_syntax.specs.Classes.{avoids, front_of, after_of}
 
 -- ---- a block's mask
 
@@ -87,10 +88,10 @@ take_before test zero xs = omega arith
 take_before test (suc n) [] = omega arith
 take_before test (suc n) (x ∷ xs) = grind (arith, take_before test n xs)
 
-pub less_behind :
+less_after :
     (test : ℕ → Bool) (all rest left : List ℕ) (k : ℕ) → SameFirst test all rest
     → k ≤ position_or_len test rest → left ≡ drop k rest → SameFirst test all left
-less_behind test all rest left k same low e =
+less_after test all rest left k same low e =
     let high : position_or_len test rest ≤ length rest = prefix_len-le-length _ rest in
     let long = length-drop k rest in
     let first = drop_before test k rest low in
@@ -100,12 +101,12 @@ pub one_block_less :
     (test : ℕ → Bool) (all rest left : List ℕ) (n k : ℕ) → SameFirst test all rest
     → k ≡ position_or_len test (take n rest) → left ≡ drop k rest → SameFirst test all left
 one_block_less test all rest left n k same is e =
-    less_behind test all rest left k same (omega (arith, is, take_before test n rest)) e
+    less_after test all rest left k same (omega (arith, is, take_before test n rest)) e
 
-pub same_through : (test : ℕ → Bool) (all rest left : List ℕ) → SameFirst test all rest
-    → SameFirst test rest left → SameFirst test all left
-same_through test all rest left same more =
-    (omega (arith, same.0, more.0), omega (arith, same.1, more.1))
+pub first_or_all : (test : ℕ → Bool) (bs : List ℕ)
+    → unwrap_or (position test bs) (length bs) ≡ position_or_len test bs
+first_or_all test bs =
+    let high : position_or_len test bs ≤ length bs = prefix_len-le-length _ bs in grind arith
 
 pub found_nowhere : (test : ℕ → Bool) (all rest : List ℕ) → SameFirst test all rest
     → position test rest ≡ None → length all ≡ position_or_len test all
@@ -124,6 +125,25 @@ encode_high : (c : ℕ) → 128 ≤ c → AllHigh (encode_utf8 c)
 unfolding encode_utf8
 encode_high c h = grind arith
 
+-- the first byte of a character is the character, or both lie past ASCII
+head_high : (bs more : List ℕ) (b : ℕ) → AllHigh bs → 0 < length bs
+    → slice_get (bs ++ more) 0 ≡ Some b → 128 ≤ b
+head_high [] more b h n e = absurd (omega arith)
+head_high (x ∷ xs) more b h n e = let same : x ≡ b = cc in omega (arith, same, h.0)
+
+pub encode_head : (c : ℕ) (more : List ℕ) (b : ℕ) → slice_get (encode_utf8 c ++ more) 0 ≡ Some b
+    → min b 128 ≡ min c 128
+encode_head c more b e = elim (cases_lt c 128) [
+  | inl low ↦
+      let one : slice_get (c ∷ more) 0 ≡ Some b = rw (encode_ascii c low) at e in
+      let same : c ≡ b = cc in ap (λ n. min n 128) (sym same)
+  | inr high ↦
+      let some = len_utf8_bounds c in
+      let long = head_high (encode_utf8 c) more b (encode_high c high)
+      (omega (arith, length-encode c, some)) e in
+      omega (arith, high, long)
+]
+
 -- ---- the two fronts are one
 
 module _ (first second : ℕ) (low_first : first < 128) (low_second : second < 128) where
@@ -134,7 +154,7 @@ module _ (first second : ℕ) (low_first : first < 128) (low_second : second < 1
 
   over : (xs ys : List ℕ) → AllHigh xs
       → (front_of (avoids first second) (xs ++ ys) ≡ xs ++ front_of (avoids first second) ys)
-      × (behind_of (avoids first second) (xs ++ ys) ≡ behind_of (avoids first second) ys)
+      × (after_of (avoids first second) (xs ++ ys) ≡ after_of (avoids first second) ys)
   over [] ys h = (refl, refl)
   over (x ∷ xs) ys h =
       let more = over xs ys h.1 in rw (avoids_high x h.0) (ap (λ zs. x ∷ zs) more.0, more.1)
@@ -143,8 +163,8 @@ module _ (first second : ℕ) (low_first : first < 128) (low_second : second < 1
   bytes : (cs : List ℕ)
       → (front_of (avoids first second) (encode_utf8_all cs)
       ≡ encode_utf8_all (front_of (avoids first second) cs))
-      × (behind_of (avoids first second) (encode_utf8_all cs)
-      ≡ encode_utf8_all (behind_of (avoids first second) cs))
+      × (after_of (avoids first second) (encode_utf8_all cs)
+      ≡ encode_utf8_all (after_of (avoids first second) cs))
   bytes [] = (refl, refl)
   bytes (c ∷ cs) = let more = bytes cs in elim (cases_lt c 128) [
     | inl low ↦
@@ -169,7 +189,7 @@ module _ (first second : ℕ) (low_first : first < 128) (low_second : second < 1
 
   at_cut : (bs : List ℕ)
       → (take (position_or_len Stops bs) bs ≡ front_of (avoids first second) bs)
-      × (drop (position_or_len Stops bs) bs ≡ behind_of (avoids first second) bs)
+      × (drop (position_or_len Stops bs) bs ≡ after_of (avoids first second) bs)
   at_cut [] = (refl, refl)
   at_cut (b ∷ bs) =
       let more = at_cut bs in (grind (arith, more.0, take_one), grind (arith, more.1, drop_one))
@@ -208,12 +228,12 @@ module _ (first second : ℕ) (low_first : first < 128) (low_second : second < 1
       (sym (bytes (chars bs)).0 ∙ ap (front_of (avoids first second)) (encodes-chars bs u)
       ∙ sym (at_cut bs).0))
 
-  pub chars_behind : (bs : List ℕ) → IsUtf8 bs
-      → chars (drop (position_or_len Stops bs) bs) ≡ behind_of (avoids first second) (chars bs)
-  chars_behind bs u =
-      sym (chars_from_encodes (behind_of (avoids first second) (chars bs)) _
+  pub chars_after : (bs : List ℕ) → IsUtf8 bs
+      → chars (drop (position_or_len Stops bs) bs) ≡ after_of (avoids first second) (chars bs)
+  chars_after bs u =
+      sym (chars_from_encodes (after_of (avoids first second) (chars bs)) _
       (IsUtf8-drop bs _ u (cut_boundary bs))
-      (sym (bytes (chars bs)).1 ∙ ap (behind_of (avoids first second)) (encodes-chars bs u)
+      (sym (bytes (chars bs)).1 ∙ ap (after_of (avoids first second)) (encodes-chars bs u)
       ∙ sym (at_cut bs).1))
 
 pub near_is :

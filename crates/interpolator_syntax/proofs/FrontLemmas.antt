@@ -1,4 +1,4 @@
--- The longest front of one class, and the rest behind it.
+-- The longest front of one class, and the rest after it.
 use Rattle.std.proofs.Common.{◌≡◌, ℕ, ◌-◌, Bool, true, false, cond, List, [], ◌∷◌, ◌++◌, length}
 use Rattle.std.proofs.Common.{take, arith, refl, ap, ◌∙◌, sym, subst, append_assoc}
 use Rattle.std.specs.Str.{chars, IsUtf8, IsCharBoundary}
@@ -6,16 +6,16 @@ use Rattle.std.specs.Char.{encode_utf8}
 use Rattle.std.proofs.lemmas.Str.{chars-append, IsCharBoundary-at_seam, IsUtf8-take}
 use Rattle.std.proofs.lemmas.List.{length-append, append_cancel_right}
 use Rattle.std.proofs.Math.Seq.{take-append_seam}
-use Rattle.interpolator_syntax.specs.Classes.{front_of, behind_of}
+use Rattle.interpolator_syntax.specs.Classes.{front_of, after_of}
 
-pub front_behind : (passes : ℕ → Bool) (cs : List ℕ)
-    → front_of passes cs ++ behind_of passes cs ≡ cs
-front_behind passes [] = refl
-front_behind passes (c ∷ cs) =
-    elim (passes c) as (λ b. cond b (c ∷ front_of passes cs) [] ++ cond b (behind_of passes cs)
-    (c ∷ cs) ≡ c ∷ cs) [ true ↦ ap (λ xs. c ∷ xs) (front_behind passes cs) | false ↦ refl ]
+pub front_after : (passes : ℕ → Bool) (cs : List ℕ)
+    → front_of passes cs ++ after_of passes cs ≡ cs
+front_after passes [] = refl
+front_after passes (c ∷ cs) =
+    elim (passes c) as (λ b. cond b (c ∷ front_of passes cs) [] ++ cond b (after_of passes cs)
+    (c ∷ cs) ≡ c ∷ cs) [ true ↦ ap (λ xs. c ∷ xs) (front_after passes cs) | false ↦ refl ]
 
--- a front, behind which ends is a rest of the text
+-- a front, after which ends is a rest of the text
 abbrev pub IsRest : List ℕ → List ℕ → Type 0
 IsRest text rest = (front : List ℕ) × (text ≡ front ++ rest)
 
@@ -44,16 +44,16 @@ cut_at_rest text rest r =
 
 pub front_cut :
     (passes : ℕ → Bool) (text front rest : List ℕ) → IsUtf8 front → front ++ rest ≡ text
-    → behind_of passes (chars text) ≡ chars rest → chars front ≡ front_of passes (chars text)
+    → after_of passes (chars text) ≡ chars rest → chars front ≡ front_of passes (chars text)
 front_cut passes text front rest u e b =
     append_cancel_right (chars front) (front_of passes (chars text)) (chars rest)
-    (sym (chars-append front rest u) ∙ ap chars e ∙ sym (front_behind passes (chars text))
+    (sym (chars-append front rest u) ∙ ap chars e ∙ sym (front_after passes (chars text))
     ∙ ap (λ xs. front_of passes (chars text) ++ xs) b)
 
 -- the text up to a rest, in front of which the characters pass and at which they stop
 pub front_at_rest :
     (passes : ℕ → Bool) (text front rest : List ℕ) → IsUtf8 text → IsUtf8 rest → IsRest text rest
-    → front ≡ take (length text - length rest) text → behind_of passes (chars text) ≡ chars rest
+    → front ≡ take (length text - length rest) text → after_of passes (chars text) ≡ chars rest
     → chars front ≡ front_of passes (chars text)
 front_at_rest passes text front rest u v r e b =
     let cut = rest_boundary text rest r v in

@@ -1,11 +1,11 @@
--- An argument is its parts, one behind the other, both ways.
+-- An argument is its parts, one after the other, both ways.
 use Rattle.std.proofs.Common.{◌≡◌, ℕ, IsFalse, List, [], ◌∷◌, ◌++◌, arith, refl, ap, ◌∙◌, sym}
 use Rattle.std.proofs.Common.{subst, Result, Ok, Err, Option, Some, None, inl, inr, eqb, eqb-true}
 use Rattle.std.proofs.lemmas.Bool.{not-false, or_cases}
-use Rattle.interpolator_syntax.specs.At.{At, behind, strip}
+use Rattle.interpolator_syntax.specs.At.{At, after, strip}
 use Rattle.interpolator_syntax.specs.Classes.{front_of, in_class, close_brace, colon}
 use Rattle.interpolator_syntax.specs.Readers.{on, give}
-use Rattle.interpolator_syntax.specs.SpecTexts.{Asked, spec_behind}
+use Rattle.interpolator_syntax.specs.SpecTexts.{Asked, spec_after}
 use Rattle.interpolator_syntax.specs.Arguments.{Argument, argument, asked_by, asked_at, argument_at}
 use Rattle.interpolator_syntax.specs.Faults.{Fault}
 use Rattle.interpolator_syntax.specs.Grammar.{NotFirst}
@@ -14,7 +14,7 @@ use Rattle.interpolator_syntax.specs.SpecGrammar.{spec}
 use Rattle.interpolator_syntax.specs.ArgumentGrammar.{IsNamed, Asks, AsksNothing, asked, IsArgument}
 use Rattle.interpolator_syntax.specs.ArgumentGrammar.{IsNoArgument}
 use Rattle.interpolator_syntax.specs.declared.class.Class.TheVariants.{WhiteSpace, Name}
-use Rattle.interpolator_syntax.proofs.FrontLemmas.{front_behind}
+use Rattle.interpolator_syntax.proofs.FrontLemmas.{front_after}
 use Rattle.interpolator_syntax.proofs.LongestLemmas.{at_same, front_longest, longest_front}
 use Rattle.interpolator_syntax.proofs.GrammarPartLemmas.{ok_pair, Says, Stripped, stripped}
 use Rattle.interpolator_syntax.proofs.GrammarSpecLemmas.{agrees_spec, only_spec, only_no_spec}
@@ -23,17 +23,17 @@ use Rattle.interpolator_syntax.proofs.GrammarSpecLemmas.{agrees_spec, only_spec,
 
 module _ (a : At) where
   abbrev name_from : At
-  name_from = behind (in_class WhiteSpace) a
+  name_from = after (in_class WhiteSpace) a
 
   abbrev name_end : At
-  name_end = behind (in_class Name) name_from
+  name_end = after (in_class Name) name_from
 
   abbrev name_read : List ℕ
   name_read = front_of (in_class Name) name_from.text
 
   named_is : IsNamed a name_read name_from.place name_end
   named_is =
-      let whole = front_behind (in_class Name) name_from.text in
+      let whole = front_after (in_class Name) name_from.text in
       record {
         spaces = front_of (in_class WhiteSpace) a.text;
         white = rw whole (front_longest (in_class WhiteSpace) a.text);
@@ -42,7 +42,7 @@ module _ (a : At) where
         end_place = refl;
       }
 
--- what is asked behind a name, put under that name
+-- what is asked after a name, put under that name
 abbrev named_so : (start : ℕ) → (name : List ℕ) → (p : ℕ) → (b : At) → Result (Argument × At) Fault
 named_so start name p b = on (asked_at start b) (λ x. give (argument name p x))
 
@@ -55,9 +55,9 @@ name_found a name p b h =
     let named = longest_front (in_class Name) (name ++ b.text) name b.text h.named in
     rw (white.0, white.1, named.0, named.1, ← h.name_place, ← h.end_place) refl
 
--- ---- what stands behind the name
+-- ---- what stands after the name
 
--- what is answered behind a name stands there
+-- what is answered after a name stands there
 abbrev Told : (start : ℕ) → (b : At) → Result (Asked × At) Fault → Type 0
 Told start b (Ok w) = Asks start b w.0 w.1
 Told start b (Err f) = AsksNothing start b f
@@ -79,24 +79,24 @@ module _ (start : ℕ) (b : At) where
       → Stripped close_brace b x → Stripped colon b y → Told start b (asked_by start b x y)
   asked_told stops (Some q) y h k = inl ((q.text, h.split), refl, refl)
   asked_told stops None (Some m) h k =
-      elim (spec_behind start m) as (λ o. Says (spec start) m o → Told start b o)
+      elim (spec_after start m) as (λ o. Says (spec start) m o → Told start b o)
       [ Ok w ↦ λ s. inr (m, k, s) | Err f ↦ λ s. inr (m, k, s) ] ((agrees_spec start).says m)
   asked_told stops None None h k = inl (name_ends b.text stops h k, refl)
 
-  behind_colon : (m : At) → Lies b (colon ∷ []) m → asked_at start b ≡ spec_behind start m
-  behind_colon m h =
-      rw h.split (ap (spec_behind start) (at_same (omega (arith, h.place)) refl))
+  after_colon : (m : At) → Lies b (colon ∷ []) m → asked_at start b ≡ spec_after start m
+  after_colon m h =
+      rw h.split (ap (spec_after start) (at_same (omega (arith, h.place)) refl))
 
   only_asked : (x : Asked) (q : At) → Asks start b x q → asked_at start b ≡ Ok (x, q)
   only_asked x q h = elim h [
     | inl s ↦ rw s.0.1 (ok_pair (sym s.1) (at_same refl (sym s.0.1) ∙ sym s.2))
-    | inr s ↦ behind_colon s.0 s.1 ∙ only_spec start s.0 q x s.2
+    | inr s ↦ after_colon s.0 s.1 ∙ only_spec start s.0 q x s.2
   ]
 
   only_nothing : (f : Fault) → AsksNothing start b f → asked_at start b ≡ Err f
   only_nothing f h = elim h [
     | inl s ↦ rw (s.0, s.1) refl
-    | inr s ↦ behind_colon s.0 s.1 ∙ only_no_spec start s.0 f s.2
+    | inr s ↦ after_colon s.0 s.1 ∙ only_no_spec start s.0 f s.2
   ]
 
 -- ---- the whole argument
@@ -115,11 +115,11 @@ module _ (a : At) where
 
   told_says : (o : Result (Asked × At) Fault) → Told a.place (name_end a) o
       → ArgumentSays (on o (λ y. give (argument (name_read a) (name_from a).place y)))
-  told_says (Ok w) t = record { behind = name_end a; named = named_is a; asks = t }
+  told_says (Ok w) t = record { after = name_end a; named = named_is a; asks = t }
   told_says (Err f) t = record {
     name = name_read a;
     name_place = (name_from a).place;
-    behind = name_end a;
+    after = name_end a;
     named = named_is a;
     refused = t;
   }
@@ -135,15 +135,15 @@ argument_is a q x e = subst (ArgumentSays a) e (argument_says a)
 
 pub only_argument : (a q : At) (x : Argument) → IsArgument a x q → argument_at a ≡ Ok (x, q)
 only_argument a q x h =
-    name_found a x.name x.name_place h.behind h.named
+    name_found a x.name x.name_place h.after h.named
     ∙ ap (λ (o : Result (Asked × At) Fault). on o (λ y. give (argument x.name x.name_place y)))
-    (only_asked a.place h.behind (asked x) q h.asks)
+    (only_asked a.place h.after (asked x) q h.asks)
 
 pub broken_is : (a : At) (f : Fault) → argument_at a ≡ Err f → IsNoArgument a f
 broken_is a f e = subst (ArgumentSays a) e (argument_says a)
 
 pub only_broken : (a : At) (f : Fault) → IsNoArgument a f → argument_at a ≡ Err f
 only_broken a f h =
-    name_found a h.name h.name_place h.behind h.named
+    name_found a h.name h.name_place h.after h.named
     ∙ ap (λ (o : Result (Asked × At) Fault). on o (λ y. give (argument h.name h.name_place y)))
-    (only_nothing a.place h.behind f h.refused)
+    (only_nothing a.place h.after f h.refused)

@@ -7,17 +7,17 @@ use Rattle.std.proofs.lemmas.Bool.{eqb-true, eqb-false, cond_both}
 use Rattle.std.specs.Prelude.{codes}
 use Rattle.std.specs.Char.{len_utf8}
 use Rattle.interpolator_syntax.specs.At.{At, size, first_of}
-use Rattle.interpolator_syntax.specs.Classes.{front_of, behind_of, in_class, hash, open_bracket}
+use Rattle.interpolator_syntax.specs.Classes.{front_of, after_of, in_class, hash, open_bracket}
 use Rattle.interpolator_syntax.specs.Classes.{close_bracket}
-use Rattle.interpolator_syntax.specs.Groups.{Group, behind_signs, here_or_later, close_from}
+use Rattle.interpolator_syntax.specs.Groups.{Group, after_hashes, here_or_later, close_from}
 use Rattle.interpolator_syntax.specs.Groups.{closed_group, bracket_first, group_at}
 use Rattle.interpolator_syntax.specs.GroupGrammar.{sign_text, open_text, close_text, NoneCloses}
 use Rattle.interpolator_syntax.specs.GroupGrammar.{IsGroup, IsNoGroup, ends, no_bracket, no_end}
 use Rattle.interpolator_syntax.specs.Faults.{Fault, parse, unclosed, expected}
-use Rattle.interpolator_syntax.specs.declared.class.Class.TheVariants.{Sign}
-use Rattle.interpolator_syntax.proofs.FrontLemmas.{front_behind}
+use Rattle.interpolator_syntax.specs.declared.class.Class.TheVariants.{Hash}
+use Rattle.interpolator_syntax.proofs.FrontLemmas.{front_after}
 use Rattle.interpolator_syntax.proofs.LocalityLemmas.{size-append, stands}
-use Rattle.interpolator_syntax.proofs.TestLemmas.{none_some, some_same, err_ok}
+use Rattle.interpolator_syntax.proofs.CaseLemmas.{none_some, some_same, err_ok}
 
 -- ---- signs
 
@@ -30,7 +30,7 @@ sign_length zero = refl
 sign_length (suc k) = omega (arith, sign_length k)
 
 -- signs that stand are read
-pub signs_split : (k p : ℕ) (cs : List ℕ) (q : At) → behind_signs k p cs ≡ Some q
+pub signs_split : (k p : ℕ) (cs : List ℕ) (q : At) → after_hashes k p cs ≡ Some q
     → (cs ≡ sign_text k ++ q.text) × (q.place ≡ p + k)
 signs_split zero p cs q e = grind arith
 signs_split (suc k) p [] q e = absurd (none_some e)
@@ -38,14 +38,14 @@ signs_split (suc k) p (c ∷ cs) q e =
     grind (arith, eqb-true, signs_split k (p + len_utf8 c) cs q)
 
 -- and only those
-pub only_signs : (k p : ℕ) (rest : List ℕ) → behind_signs k p (sign_text k ++ rest)
+pub only_signs : (k p : ℕ) (rest : List ℕ) → after_hashes k p (sign_text k ++ rest)
     ≡ Some (stands (p + k) rest)
 only_signs zero p rest = let same : p ≡ p + 0 = omega arith in ap (λ n. Some (stands n rest)) same
 only_signs (suc k) p rest = grind (arith, only_signs k (p + 1) rest)
 
 -- ---- the end
 
--- no bracket closes, where neither the first character does nor one behind it
+-- no bracket closes, where neither the first character does nor one after it
 none_closes : (k c : ℕ) (inner after : List ℕ) → ((rest : List ℕ) → c ≡ close_bracket
     → inner ++ after ≢ sign_text k ++ rest) → NoneCloses k inner after
     → NoneCloses k (c ∷ inner) after
@@ -60,9 +60,9 @@ nothing_closes : (k : ℕ) (after : List ℕ) → NoneCloses k [] after
 nothing_closes k after [] more rest e h = cc
 nothing_closes k after (d ∷ front) more rest e h = cc
 
--- whether the signs of a bracket stand behind c
+-- whether the signs of a bracket stand after c
 abbrev signs_at : (k p c : ℕ) → List ℕ → Option At
-signs_at k p c cs = cond (eqb c close_bracket) (behind_signs k (p + len_utf8 c) cs) None
+signs_at k p c cs = cond (eqb c close_bracket) (after_hashes k (p + len_utf8 c) cs) None
 
 not_here : (k p c : ℕ) (cs rest : List ℕ) → signs_at k p c cs ≡ None → c ≡ close_bracket
     → cs ≢ sign_text k ++ rest
@@ -141,7 +141,7 @@ only_close k p (c ∷ inner) rest h =
     let more = inner ++ (close_text k ++ rest) in
     grind (
       arith,
-      none_here k p c more (λ behind d. h [] inner behind (ap (λ n. n ∷ inner) d)),
+      none_here k p c more (λ after d. h [] inner after (ap (λ n. n ∷ inner) d)),
       only_close k (p + len_utf8 c) inner rest (later_closes k c inner (close_text k ++ rest) h),
     )
 
@@ -156,8 +156,8 @@ only_no_close k p (c ∷ cs) h =
 -- ---- groups
 
 -- all the signs that stand in front
-all_signs : (cs : List ℕ) → front_of (in_class Sign) cs
-    ≡ sign_text (length (front_of (in_class Sign) cs))
+all_signs : (cs : List ℕ) → front_of (in_class Hash) cs
+    ≡ sign_text (length (front_of (in_class Hash) cs))
 all_signs [] = refl
 all_signs (c ∷ cs) = grind (arith, eqb-true, all_signs cs)
 
@@ -167,19 +167,19 @@ NoSign [] = Unit {0}
 NoSign (c ∷ cs) = c ≢ hash
 
 pub signs_front : (k : ℕ) (rest : List ℕ) → NoSign rest
-    → (front_of (in_class Sign) (sign_text k ++ rest) ≡ sign_text k) × (behind_of (in_class Sign)
+    → (front_of (in_class Hash) (sign_text k ++ rest) ≡ sign_text k) × (after_of (in_class Hash)
     (sign_text k ++ rest) ≡ rest)
 signs_front zero [] h = (refl, refl)
 signs_front zero (c ∷ cs) h = rw (ne_eqb c hash h) (refl, refl)
 signs_front (suc k) rest h = grind (arith, signs_front k rest h)
 
--- what stands behind all the signs begins with none
-behind_no_sign : (cs : List ℕ) → NoSign (behind_of (in_class Sign) cs)
-behind_no_sign [] = tt
-behind_no_sign (c ∷ cs) =
-    cond_both (eqb c hash) _ _ NoSign (λ e. behind_no_sign cs) (λ e. eqb-false c hash e)
+-- what stands after all the signs begins with none
+after_no_sign : (cs : List ℕ) → NoSign (after_of (in_class Hash) cs)
+after_no_sign [] = tt
+after_no_sign (c ∷ cs) =
+    cond_both (eqb c hash) _ _ NoSign (λ e. after_no_sign cs) (λ e. eqb-false c hash e)
 
--- a group by the signs in front and what stands behind them
+-- a group by the signs in front and what stands after them
 pub group_of_signs : (start k : ℕ) (a : At) (rest : List ℕ) → a.text ≡ sign_text k ++ rest
     → NoSign rest → group_at start a ≡ bracket_first start k (stands (a.place + k) rest)
     (first_of (a.place + k) rest)
@@ -197,12 +197,12 @@ pub record Signed (a : At) : Type 0 where
 
 pub signed : (a : At) → Signed a
 signed a = record {
-  k = length (front_of (in_class Sign) a.text);
-  rest = behind_of (in_class Sign) a.text;
+  k = length (front_of (in_class Hash) a.text);
+  rest = after_of (in_class Hash) a.text;
   split =
-      sym (front_behind (in_class Sign) a.text) ∙ ap (λ xs. xs ++ behind_of (in_class Sign) a.text)
+      sym (front_after (in_class Hash) a.text) ∙ ap (λ xs. xs ++ after_of (in_class Hash) a.text)
       (all_signs a.text);
-  no_sign = behind_no_sign a.text;
+  no_sign = after_no_sign a.text;
 }
 
 opened : (k : ℕ) (rest : List ℕ) → open_text k ++ rest ≡ sign_text k ++ (open_bracket ∷ rest)
@@ -220,7 +220,7 @@ opens : (start k p c : ℕ) (cs : List ℕ) (g : Group) (q : At)
     → (c ≡ open_bracket) × (g.place ≡ p + 1) × (close_from k (p + 1) cs ≡ Some (g.text, q))
 opens start k p c cs g q h = grind (arith, eqb-true)
 
--- what a group is, behind its signs
+-- what a group is, after its signs
 bracket_is : (start k : ℕ) (a : At) (rest : List ℕ) (g : Group) (q : At) → a.text
     ≡ sign_text k ++ rest → bracket_first start k (stands (a.place + k) rest)
     (first_of (a.place + k) rest) ≡ Ok (g, q) → IsGroup a g q
@@ -265,7 +265,7 @@ not_opened : (start k p c : ℕ) (cs : List ℕ) (f : Fault)
     ⊎ ((c ≡ open_bracket) × (close_from k (p + 1) cs ≡ None) × (f ≡ parse (unclosed start)))
 not_opened start k p c cs f h = grind (arith, eqb-true, eqb-false)
 
--- why there is none, behind the signs
+-- why there is none, after the signs
 no_bracket_is : (start k : ℕ) (a : At) (rest : List ℕ) (f : Fault) → a.text ≡ sign_text k ++ rest
     → NoSign rest → bracket_first start k (stands (a.place + k) rest) (first_of (a.place + k) rest)
     ≡ Err f → IsNoGroup start a f

@@ -11,7 +11,7 @@ use Rattle.interpolator_syntax.specs.Pieces.{PieceKind, Piece, literal, doubled,
 use Rattle.interpolator_syntax.specs.Pieces.{unclosed, broken}
 use Rattle.interpolator_syntax.specs.Grammar.{rank, from_place, NotFirst, Fits, Stands, StandsFirst}
 use Rattle.interpolator_syntax.specs.Grammar.{IsPieces}
-use Rattle.interpolator_syntax.proofs.TestLemmas.{tail_same}
+use Rattle.interpolator_syntax.proofs.CaseLemmas.{tail_same}
 
 -- what a piece of this kind in front of this rest shows of a text that begins with c at p
 abbrev pub Shows : (p c : ℕ) (cs : List ℕ) → PieceKind → (rest : List ℕ) → Type 0
@@ -125,8 +125,8 @@ one_list (x ∷ xs) [] a h k =
 one_list (x ∷ xs) (y ∷ ys) a h k =
     let same = first_same a.place a.text x y h.0 k.0 h.1 k.1 in
     let first : x ≡ y = same.0 in
-    let behind = from_place (a.place + size x.text) h.0 in
-    let rest : xs ≡ ys = one_list xs ys behind h.2 (pieces_moved a.place ys same.0 same.1 k.2) in cc
+    let after = from_place (a.place + size x.text) h.0 in
+    let rest : xs ≡ ys = one_list xs ys after h.2 (pieces_moved a.place ys same.0 same.1 k.2) in cc
 
 -- the texts of pieces, joined
 pub pieces_joined : (xs : List Piece) (a : At) → IsPieces a xs → flat_map (λ x. x.text) xs ≡ a.text

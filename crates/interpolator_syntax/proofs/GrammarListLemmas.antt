@@ -1,4 +1,4 @@
--- The text behind the letter of a list is its parts, one behind the other, both ways.
+-- The text after the letter of a list is its parts, one after the other, both ways.
 use Rattle.std.proofs.Common.{◌≡◌, ℕ, ◌+◌, Bool, List, [], ◌∷◌, arith, refl, ap, ◌∙◌, sym}
 use Rattle.std.proofs.Common.{Result, Ok, Err, Option, Some, None, inl, inr}
 use Rattle.interpolator_syntax.specs.At.{At, strip}
@@ -24,19 +24,19 @@ use Rattle.interpolator_syntax.proofs.GrammarPartLemmas.{strip_not}
 use Rattle.interpolator_syntax.proofs.GrammarOptionLemmas.{agrees_same, agrees_where_first}
 use Rattle.interpolator_syntax.proofs.GrammarOptionLemmas.{agrees_bound}
 use Rattle.interpolator_syntax.proofs.LongestLemmas.{at_same}
-use Rattle.interpolator_syntax.proofs.TestLemmas.{tail_same}
+use Rattle.interpolator_syntax.proofs.CaseLemmas.{tail_same}
 
 -- ---- points
 
--- characters that stand behind others
-lies_behind :
+-- characters that stand after others
+lies_after :
     (a b q : At) (c : ℕ) (cs : List ℕ) → Lies a (c ∷ []) b → Lies b cs q → Lies a (c ∷ cs) q
-lies_behind a b q c cs h k = record {
+lies_after a b q c cs h k = record {
   split = h.split ∙ ap (λ xs. c ∷ xs) k.split;
   place = omega (arith, h.place, k.place);
 }
 
--- what is answered behind two points, in front of which a stands
+-- what is answered after two points, in front of which a stands
 abbrev by_equals : (d : At) → Option At → Result (Option Bool × At) Fault
 by_equals d o = on (was_there d o) (λ inclusive. give (Some inclusive))
 
@@ -48,8 +48,8 @@ module _ (a : At) where
       (b d : At) → Lies a (point ∷ []) b → Lies b (point ∷ []) d → (o : Option At)
       → Stripped equals d o → Points (by_equals d o)
   equals_say b d h k (Some q) m =
-      inl (lies_behind a b q point _ h (lies_behind b d q point _ k m), refl)
-  equals_say b d h k None m = inr (inl (lies_behind a b d point _ h k, m, refl))
+      inl (lies_after a b q point _ h (lies_after b d q point _ k m), refl)
+  equals_say b d h k None m = inr (inl (lies_after a b d point _ h k, m, refl))
 
   second_says :
       (b : At) → Lies a (point ∷ []) b → (o : Option At) → Stripped point b o

@@ -10,7 +10,7 @@ use Rattle.std.proofs.lemmas.Bool.{both_ways, cond_both}
 use Rattle.std.proofs.lemmas.List.Elements.{All-nil, All-cons, All-head, All-tail, All-append}
 use Rattle.std.proofs.Math.Nat.{pow-suc, one-le-pow, le-mul_of_pos_right}
 use Rattle.interpolator_syntax.specs.Classes.{minus, zero_digit}
-use Rattle.interpolator_syntax.specs.Numbers.{with_digit, digits_behind, natural, signed, negated}
+use Rattle.interpolator_syntax.specs.Numbers.{with_digit, digits_after, natural, signed, negated}
 use Rattle.interpolator_syntax.specs.Numbers.{negative, integer}
 use Rattle.interpolator_syntax.specs.NumberGrammar.{decimal_value, AreDigits, IsNumber, IsStopped}
 use Rattle.interpolator_syntax.specs.NumberGrammar.{IsStop, IsNoNumber, IsSigned, IsInteger}
@@ -22,7 +22,7 @@ use Rattle.interpolator_syntax.specs.declared.error.NumberError.TheVariants.{Neg
 abbrev Digit : ℕ → Type 0
 Digit c = IsTrue (is_ascii_digit c)
 
--- ---- the value of digits behind those of a number
+-- ---- the value of digits after those of a number
 
 value_from : ℕ → List ℕ → ℕ
 value_from n cs = n * 10 ^ length cs + decimal_value cs
@@ -49,7 +49,7 @@ value_least n cs =
     let power = one-le-pow (length cs) 10 (omega arith) in
     let whole = le-mul_of_pos_right n power in omega arith
 
--- digits behind digits
+-- digits after digits
 value_over : (n : ℕ) (cs ds : List ℕ) → value_from n (cs ++ ds) ≡ value_from (value_from n cs) ds
 value_over n [] ds = ap (λ m. value_from m ds) (sym (value_none n))
 value_over n (c ∷ cs) ds =
@@ -62,22 +62,22 @@ value_last cs c =
     ∙ ap (λ m. value_from m (c ∷ [])) (value_whole cs)
     ∙ value_digit (decimal_value cs) c [] ∙ value_none (with_digit (decimal_value cs) c)
 
--- ---- digits behind those of a number
+-- ---- digits after those of a number
 
 module _ (limit : ℕ) (overflow : NumberError) where
   abbrev read_from : ℕ → List ℕ → Result ℕ NumberError
-  read_from n cs = digits_behind limit overflow n cs
+  read_from n cs = digits_after limit overflow n cs
 
   -- what the digits of a text answer
   abbrev Spelled : List ℕ → Result ℕ NumberError → Type 0
   Spelled text (Ok n) = AreDigits text × (n ≡ decimal_value text) × (n < limit)
   Spelled text (Err kind) = IsStopped limit overflow text kind
 
-  -- behind digits of a value below the limit
-  spelled_behind : (front cs : List ℕ) → AreDigits front → decimal_value front < limit
+  -- after digits of a value below the limit
+  spelled_after : (front cs : List ℕ) → AreDigits front → decimal_value front < limit
       → Spelled (front ++ cs) (read_from (decimal_value front) cs)
-  spelled_behind front [] d h = rw (append-nil front) (d, refl, h)
-  spelled_behind front (c ∷ cs) d h =
+  spelled_after front [] d h = rw (append-nil front) (d, refl, h)
+  spelled_after front (c ∷ cs) d h =
       let Says = Spelled (front ++ (c ∷ cs)) in
       let n = with_digit (decimal_value front) c in
       cond_both (is_ascii_digit c) _ _ Says
@@ -87,7 +87,7 @@ module _ (limit : ℕ) (overflow : NumberError) where
       let less : decimal_value (front ++ (c ∷ [])) < limit =
       omega (arith, ltb-true n limit below, value_last front c) in
       rw (← append_assoc front (c ∷ []) cs, ← value_last front c)
-      (spelled_behind (front ++ (c ∷ [])) cs digits less))
+      (spelled_after (front ++ (c ∷ [])) cs digits less))
       (λ past.
       at_once (inr (digit, omega (arith, ltb-false n limit past, value_last front c), refl))))
       (λ none. at_once (inl (none, refl)))
@@ -110,13 +110,13 @@ module _ (limit : ℕ) (overflow : NumberError) where
   Says text (Err kind) = IsNoNumber limit overflow text kind
 
   says : (c : ℕ) (cs : List ℕ) → 0 < limit → Says (c ∷ cs) (read_from 0 (c ∷ cs))
-  says c cs h = by_digits _ (spelled_behind [] (c ∷ cs) (All-nil Digit) h)
+  says c cs h = by_digits _ (spelled_after [] (c ∷ cs) (All-nil Digit) h)
     where
       by_digits : (r : Result ℕ NumberError) → Spelled (c ∷ cs) r → Says (c ∷ cs) r
       by_digits (Ok n) s = record { not_empty = λ k. cc; digits = s.0; value = s.1; below = s.2 }
       by_digits (Err kind) s = inr s
 
-  -- digits of a value below the limit are read, and what stands behind them goes on from it
+  -- digits of a value below the limit are read, and what stands after them goes on from it
   read_over : (n : ℕ) (cs rest : List ℕ) → AreDigits cs → value_from n cs < limit
       → read_from n (cs ++ rest) ≡ read_from (value_from n cs) rest
   read_over n [] rest d h = ap (λ m. read_from m rest) (sym (value_none n))
@@ -196,7 +196,7 @@ sign_first c d ds t =
 
 negative_says : (c : ℕ) (cs : List ℕ) → eqb c minus ≡ true → IntegerSays (c ∷ cs) (negative cs)
 negative_says c [] t = inl (
-  λ behind s. let e = s.split in let none : behind ≡ [] = cc in s.not_empty none,
+  λ after s. let e = s.split in let none : after ≡ [] = cc in s.not_empty none,
   inr (record {
     front = [];
     c = c;
@@ -218,10 +218,10 @@ positive_says : (c : ℕ) (cs : List ℕ) (r : Result ℕ NumberError) → eqb c
     → Says (2 ^ 63) PosOverflow (c ∷ cs) r → IntegerSays (c ∷ cs) (signed pos r)
 positive_says c cs (Ok n) t h = inl (n, h, refl)
 positive_says c cs (Err kind) t h =
-    inl (λ behind s. let k = s.split in eqb-false c minus t (cc), h)
+    inl (λ after s. let k = s.split in eqb-false c minus t (cc), h)
 
 integer_says : (text : List ℕ) → IntegerSays text (integer text)
-integer_says [] = inl (λ behind s. let k = s.split in cc, inl (refl, refl))
+integer_says [] = inl (λ after s. let k = s.split in cc, inl (refl, refl))
 integer_says (c ∷ cs) =
     cond_both (eqb c minus) _ _ (IntegerSays (c ∷ cs)) (negative_says c cs)
     (λ t. positive_says c cs _ t (says (2 ^ 63) PosOverflow c cs (omega arith)))
@@ -242,8 +242,8 @@ only_positive (c ∷ cs) n h =
     rw no_minus (ap (signed pos) (only_number (2 ^ 63) PosOverflow (c ∷ cs) n h))
 
 only_negative :
-    (behind : List ℕ) (n : ℕ) → IsNumber (2 ^ 63 + 1) behind n
-    → negative behind ≡ Ok (negated n)
+    (after : List ℕ) (n : ℕ) → IsNumber (2 ^ 63 + 1) after n
+    → negative after ≡ Ok (negated n)
 only_negative [] n h = absurd (h.not_empty refl)
 only_negative (d ∷ ds) n h = ap (signed negated) (only_number (2 ^ 63 + 1) NegOverflow (d ∷ ds) n h)
 
@@ -256,13 +256,13 @@ only_integer text z h = elim h [
 -- where a text without a sign begins with `-`, that stands alone
 only_lone :
     (c : ℕ) (cs : List ℕ) (kind : NumberError) → eqb c minus ≡ true
-    → ((behind : List ℕ) → IsSigned (c ∷ cs) behind → ⊥)
-    → digits_behind (2 ^ 63) PosOverflow 0 (c ∷ cs) ≡ Err kind → negative cs ≡ Err kind
+    → ((after : List ℕ) → IsSigned (c ∷ cs) after → ⊥)
+    → digits_after (2 ^ 63) PosOverflow 0 (c ∷ cs) ≡ Err kind → negative cs ≡ Err kind
 only_lone c [] kind t unsigned e = let k = rw (eqb-true c minus t) at e in cc
 only_lone c (d ∷ ds) kind t unsigned e = absurd (unsigned (d ∷ ds) (sign_first c d ds t))
 
 only_unsigned :
-    (text : List ℕ) (kind : NumberError) → ((behind : List ℕ) → IsSigned text behind → ⊥)
+    (text : List ℕ) (kind : NumberError) → ((after : List ℕ) → IsSigned text after → ⊥)
     → IsNoNumber (2 ^ 63) PosOverflow text kind → integer text ≡ Err kind
 only_unsigned [] kind unsigned h = ap Err (sym (none_empty (2 ^ 63) PosOverflow kind h))
 only_unsigned (c ∷ cs) kind unsigned h =
@@ -271,8 +271,8 @@ only_unsigned (c ∷ cs) kind unsigned h =
     (λ t. only_lone c cs kind t unsigned digits) (λ t. ap (signed pos) digits)
 
 only_no_negative :
-    (behind : List ℕ) (kind : NumberError) → behind ≢ []
-    → IsNoNumber (2 ^ 63 + 1) NegOverflow behind kind → negative behind ≡ Err kind
+    (after : List ℕ) (kind : NumberError) → after ≢ []
+    → IsNoNumber (2 ^ 63 + 1) NegOverflow after kind → negative after ≡ Err kind
 only_no_negative [] kind unsigned h = absurd (unsigned refl)
 only_no_negative (d ∷ ds) kind unsigned h =
     ap (signed negated) (only_none (2 ^ 63 + 1) NegOverflow d ds kind h)

@@ -12,7 +12,7 @@ use Rattle.interpolator_syntax.specs.Ranges.{bound_at, bound_if}
 use Rattle.interpolator_syntax.specs.Grammar.{from_place}
 use Rattle.interpolator_syntax.specs.NumberGrammar.{Spelling, naturals, integers}
 use Rattle.interpolator_syntax.specs.GrammarParts.{Part, FirstPasses, NonePasses, where_first}
-use Rattle.interpolator_syntax.specs.GrammarParts.{where_behind, spelled, number}
+use Rattle.interpolator_syntax.specs.GrammarParts.{where_after, spelled, number}
 use Rattle.interpolator_syntax.specs.SpecGrammar.{width, precision}
 use Rattle.interpolator_syntax.specs.ListGrammar.{bound}
 use Rattle.interpolator_syntax.specs.Faults.{Fault, ParseFault, parse, invalid_width}
@@ -27,7 +27,7 @@ use Rattle.interpolator_syntax.proofs.GrammarNumberLemmas.{no_integer_is, only_n
 use Rattle.interpolator_syntax.proofs.GrammarPartLemmas.{ok_pair, Says, Agrees, agrees_then}
 use Rattle.interpolator_syntax.proofs.GrammarPartLemmas.{agrees_placed, agrees_run, Stripped}
 use Rattle.interpolator_syntax.proofs.GrammarPartLemmas.{stripped, strip_lies, strip_not}
-use Rattle.interpolator_syntax.proofs.TestLemmas.{head_same}
+use Rattle.interpolator_syntax.proofs.CaseLemmas.{head_same}
 
 -- a reader that answers as one that agrees
 pub agrees_same :
@@ -83,18 +83,18 @@ module _
     only_not = λ a f t. read_first a t.0 ∙ h.only_not a f t.1;
   }
 
--- ---- behind a point
+-- ---- after a point
 
 module _ (read : Reader (Option ℕ)) (part : Part (Option ℕ)) (h : Agrees read part) where
   point_says :
       (a : At) (o : Option At) → Stripped point a o
-      → Says (where_behind point part) a (if_point read a o)
+      → Says (where_after point part) a (if_point read a o)
   point_says a None s = inr (s, refl, refl)
   point_says a (Some b) s =
-      elim (read b) as (λ o. Says part b o → Says (where_behind point part) a o)
+      elim (read b) as (λ o. Says part b o → Says (where_after point part) a o)
       [ Ok w ↦ λ t. inl (b, s, t) | Err f ↦ λ t. (b, s, t) ] (h.says b)
 
-  agrees_if_point : Agrees (λ a. if_point read a (strip point a)) (where_behind point part)
+  agrees_if_point : Agrees (λ a. if_point read a (strip point a)) (where_after point part)
   agrees_if_point = record {
     says = λ a. point_says a (strip point a) (stripped point a);
     only = λ a q x t. elim t [

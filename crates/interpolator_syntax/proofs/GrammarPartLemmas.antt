@@ -4,7 +4,7 @@ use Rattle.std.proofs.Common.{ap, ◌∙◌, sym, subst, Result, Ok, Err, Option
 use Rattle.std.proofs.Common.{eqb-true}
 use Rattle.std.specs.Char.{len_utf8}
 use Rattle.std.proofs.lemmas.Bool.{eqb-false, cond_both}
-use Rattle.interpolator_syntax.specs.At.{At, size, first, first_of, strip, strip_of, behind}
+use Rattle.interpolator_syntax.specs.At.{At, size, first, first_of, strip, strip_of, after}
 use Rattle.interpolator_syntax.specs.Classes.{front_of, in_class}
 use Rattle.interpolator_syntax.specs.Readers.{Reader, on, ◌>>=◌ as ◌>>>◌, give, read_or_stay}
 use Rattle.interpolator_syntax.specs.Readers.{letter as read_letter, was_there}
@@ -15,7 +15,7 @@ use Rattle.interpolator_syntax.specs.GrammarParts.{letter, flag, IsRun, run}
 use Rattle.interpolator_syntax.specs.Faults.{Fault}
 use Rattle.interpolator_syntax.specs.declared.class.Class.{Class}
 use Rattle.interpolator_syntax.proofs.LongestLemmas.{at_same, front_longest, longest_front}
-use Rattle.interpolator_syntax.proofs.TestLemmas.{head_same}
+use Rattle.interpolator_syntax.proofs.CaseLemmas.{head_same}
 
 pub ok_pair :
     {A : Type 0} {x y : A} {q r : At} → x ≡ y → q ≡ r
@@ -90,7 +90,7 @@ pub lies_cons :
 lies_cons p c cs ds q h =
     record { split = ap (λ xs. c ∷ xs) h.split; place = omega (arith, h.place) }
 
--- what stands behind characters at a
+-- what stands after characters at a
 pub lies_end : (a : At) (cs : List ℕ) (q : At) → Lies a cs q
     → from_place (a.place + size cs) q.text ≡ q
 lies_end a cs q h = at_same (sym h.place) refl
@@ -173,7 +173,7 @@ agrees_flag c = record {
 
 run_is :
     (class : Class) (a : At)
-    → IsRun class a (front_of (in_class class) a.text) (behind (in_class class) a)
+    → IsRun class a (front_of (in_class class) a.text) (after (in_class class) a)
 run_is class a = record { longest = front_longest (in_class class) a.text; place = refl }
 
 run_says :
@@ -183,21 +183,21 @@ run_says :
 run_says class start a cs p [] h = (cs, from_place p [], h, refl, refl)
 run_says class start a cs p (d ∷ ds) h = (h, λ e. cc)
 
-more_behind :
+more_after :
     (start : ℕ) (cs : List ℕ) (p : ℕ) (ds : List ℕ) → ds ≢ []
     → run_before start cs (from_place p ds) ds ≡ Ok (cs, from_place p ds)
-more_behind start cs p [] h = absurd (h refl)
-more_behind start cs p (d ∷ ds) h = refl
+more_after start cs p [] h = absurd (h refl)
+more_after start cs p (d ∷ ds) h = refl
 
 pub agrees_run : (class : Class) (start : ℕ)
     → Agrees (read_run (in_class class) start) (run class start)
 agrees_run class start = record {
   says = λ a.
-      let b = behind (in_class class) a in
+      let b = after (in_class class) a in
       run_says class start a (front_of (in_class class) a.text) b.place b.text (run_is class a);
   only = λ a q cs t.
       let ends = longest_front (in_class class) a.text cs q.text t.0.longest in
-      rw (ends.0, ends.1, ← t.0.place) (more_behind start cs q.place q.text t.1);
+      rw (ends.0, ends.1, ← t.0.place) (more_after start cs q.place q.text t.1);
   only_not = λ a f t.
       let ends = longest_front (in_class class) a.text t.0 t.1.text t.2.longest in
       rw (ends.1, t.3, t.4) refl;

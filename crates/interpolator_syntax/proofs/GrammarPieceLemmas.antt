@@ -15,9 +15,9 @@ use Rattle.interpolator_syntax.specs.Pieces.{close_step, piece_from, past, piece
 use Rattle.interpolator_syntax.specs.Grammar.{rank, from_place, NotFirst, Fits}
 use Rattle.interpolator_syntax.specs.Grammar.{IsPieces}
 use Rattle.interpolator_syntax.proofs.PieceLemmas.{piece_within, pieces_none, pieces_next}
-use Rattle.interpolator_syntax.proofs.PieceLemmas.{strip_behind}
+use Rattle.interpolator_syntax.proofs.PieceLemmas.{strip_after}
 use Rattle.interpolator_syntax.proofs.PieceLemmas.{closed_text}
-use Rattle.interpolator_syntax.proofs.TestLemmas.{err_ok}
+use Rattle.interpolator_syntax.proofs.CaseLemmas.{err_ok}
 use Rattle.interpolator_syntax.proofs.GrammarLemmas.{Shows, stands_shown, same_ok}
 use Rattle.interpolator_syntax.proofs.LocalityLemmas.{size-append}
 use Rattle.interpolator_syntax.proofs.ReaderLemmas.{argument_takes}
@@ -27,7 +27,7 @@ strip_none : (c p : ℕ) (cs : List ℕ) → strip_of c p cs ≡ None → NotFir
 strip_none c p [] e ds h = cc
 strip_none c p (d ∷ more) e ds h = grind (arith, eqb-false)
 
--- a step hands out the first piece, and goes on behind it
+-- a step hands out the first piece, and goes on after it
 abbrev IsFirstStep : (p c : ℕ) → List ℕ → Step → Type 0
 IsFirstStep p c cs s =
     (s.piece.place ≡ p) × (c ∷ cs ≡ s.piece.text ++ s.rest.text)
@@ -45,14 +45,14 @@ literal_first p c cs no_open no_close (doubled brace) r h =
     let e = rw (ne_eqb c open_brace no_open, ne_eqb c close_brace no_close) at h.0 in absurd (cc)
 literal_first p c cs no_open no_close k r h = omega (arith, no_open, no_close)
 
--- a closing brace with no second one behind it is a lone one
+-- a closing brace with no second one after it is a lone one
 lone_first :
     (p : ℕ) (cs : List ℕ) → NotFirst close_brace cs → (k : PieceKind) (r : List ℕ)
     → Shows p close_brace cs k r → 3 ≤ rank k
 lone_first p cs no_more (doubled brace) r h = absurd (no_more r h.2)
 lone_first p cs no_more k r h = omega arith
 
--- an opening brace with no second one behind it begins an argument
+-- an opening brace with no second one after it begins an argument
 closed_first :
     (p : ℕ) (cs : List ℕ) → NotFirst open_brace cs → (k : PieceKind) (r : List ℕ)
     → Shows p open_brace cs k r → 1 ≤ rank k
@@ -87,9 +87,9 @@ close_first :
 close_first p cs None e =
     (refl, refl, refl, lone_first p cs (strip_none close_brace (p + 1) cs e), omega arith)
 close_first p cs (Some rest) e =
-    let behind = strip_behind close_brace (p + 1) cs rest e in
-    let split = ap (λ xs. close_brace ∷ xs) behind.0 in
-    (refl, split, (refl, refl), λ k r h. omega arith, omega (arith, behind.1))
+    let after = strip_after close_brace (p + 1) cs rest e in
+    let split = ap (λ xs. close_brace ∷ xs) after.0 in
+    (refl, split, (refl, refl), λ k r h. omega arith, omega (arith, after.1))
 
 -- an argument that ends at q
 argument_step_first :
@@ -118,7 +118,7 @@ argument_step_first p cs x q None no_more reads e =
 argument_step_first p cs x q (Some rest) no_more reads e =
     let b = from_place (p + 1) cs in
     let front = argument_takes b x q reads in
-    let close = strip_behind close_brace q.place q.text rest e in
+    let close = strip_after close_brace q.place q.text rest e in
     let inner = front.front in
     let whole : cs ≡ inner ++ (close_brace ∷ rest.text) = rw (← close.0) front.split in
     let text = closed_text b rest inner whole in
@@ -166,9 +166,9 @@ open_first p cs None e =
     argument_first p cs (argument_at (from_place (p + 1) cs)) (strip_none open_brace (p + 1) cs e)
     refl
 open_first p cs (Some rest) e =
-    let behind = strip_behind open_brace (p + 1) cs rest e in
-    let split = ap (λ xs. open_brace ∷ xs) behind.0 in
-    (refl, split, (refl, refl), λ k r h. omega arith, omega (arith, behind.1))
+    let after = strip_after open_brace (p + 1) cs rest e in
+    let split = ap (λ xs. open_brace ∷ xs) after.0 in
+    (refl, split, (refl, refl), λ k r h. omega arith, omega (arith, after.1))
 
 step_first : (p c : ℕ) (cs : List ℕ) → IsFirstStep p c cs (piece_from p c (past p c cs))
 step_first p c cs =
@@ -206,7 +206,7 @@ are_pieces (suc most) p (c ∷ cs) h =
 pub pieces_are : (a : At) → IsPieces a (pieces a)
 pieces_are a = are_pieces (length a.text) a.place a.text (omega arith)
 
--- what stands behind the first piece ends where the text ends
+-- what stands after the first piece ends where the text ends
 pub step_reaches :
     (p c : ℕ) (cs : List ℕ)
     → (piece_from p c (past p c cs)).rest.place + size (piece_from p c (past p c cs)).rest.text

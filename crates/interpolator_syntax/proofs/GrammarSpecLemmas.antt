@@ -1,4 +1,4 @@
--- A spec's text is its parts, one behind the other, both ways.
+-- A spec's text is its parts, one after the other, both ways.
 use Rattle.std.proofs.Common.{◌≡◌, ℕ, ◌≤◌, cond, List, [], ◌∷◌, length, arith, refl, ap}
 use Rattle.std.proofs.Common.{◌∙◌, sym, Result, Ok, Err, inl, inr, ◌||◌}
 use Rattle.std.proofs.lemmas.Bool.{cond_both}
@@ -10,7 +10,7 @@ use Rattle.interpolator_syntax.specs.At.{At}
 use Rattle.interpolator_syntax.specs.Classes.{is_alignment, hash, zero_digit}
 use Rattle.interpolator_syntax.specs.SpecTexts.{of_value, of_list, Asked, plain_display}
 use Rattle.interpolator_syntax.specs.SpecTexts.{alignment_letter, sign_letter, kind_at, spec_parts}
-use Rattle.interpolator_syntax.specs.SpecTexts.{spec_of, spec_behind}
+use Rattle.interpolator_syntax.specs.SpecTexts.{spec_of, spec_after}
 use Rattle.interpolator_syntax.specs.Grammar.{from_place}
 use Rattle.interpolator_syntax.specs.SpecGrammar.{kind, parts, IsSecond, spec, IsSpec, IsNoSpec}
 use Rattle.interpolator_syntax.specs.Faults.{Fault, parse, fill}
@@ -66,8 +66,8 @@ module _ (start : ℕ) where
       ≡ cond (is_alignment d) (Err (parse (fill a.place))) (spec_parts start a)
   long_read a d s = ap (spec_of start a) s.2
 
-  pub agrees_spec : Agrees (spec_behind start) (spec start)
-  unfolding spec_behind
+  pub agrees_spec : Agrees (spec_after start) (spec start)
+  unfolding spec_after
   agrees_spec = record {
     says = λ a. spec_says_at a.place a.text;
     only = λ a q x t. elim t [
@@ -80,17 +80,17 @@ module _ (start : ℕ) where
     ];
   }
 
-pub spec_is : (start : ℕ) (a q : At) (x : Asked) → spec_behind start a ≡ Ok (x, q)
+pub spec_is : (start : ℕ) (a q : At) (x : Asked) → spec_after start a ≡ Ok (x, q)
     → IsSpec start a x q
-spec_is start = agrees_is (spec_behind start) (spec start) (agrees_spec start)
+spec_is start = agrees_is (spec_after start) (spec start) (agrees_spec start)
 
 pub only_spec :
-    (start : ℕ) (a q : At) (x : Asked) → IsSpec start a x q → spec_behind start a ≡ Ok (x, q)
+    (start : ℕ) (a q : At) (x : Asked) → IsSpec start a x q → spec_after start a ≡ Ok (x, q)
 only_spec start = (agrees_spec start).only
 
-pub no_spec_is : (start : ℕ) (a : At) (f : Fault) → spec_behind start a ≡ Err f → IsNoSpec start a f
-no_spec_is start = agrees_is_not (spec_behind start) (spec start) (agrees_spec start)
+pub no_spec_is : (start : ℕ) (a : At) (f : Fault) → spec_after start a ≡ Err f → IsNoSpec start a f
+no_spec_is start = agrees_is_not (spec_after start) (spec start) (agrees_spec start)
 
 pub only_no_spec : (start : ℕ) (a : At) (f : Fault) → IsNoSpec start a f
-    → spec_behind start a ≡ Err f
+    → spec_after start a ≡ Err f
 only_no_spec start = (agrees_spec start).only_not

@@ -22,10 +22,10 @@ use Rattle.interpolator_syntax.specs.Faults.{Fault, parse, expected}
 use Rattle.interpolator_syntax.proofs.GrammarPartLemmas.{ok_pair, Says, Agrees, lies_here}
 use Rattle.interpolator_syntax.proofs.GrammarPartLemmas.{lies_cons, lies_end, Stripped}
 use Rattle.interpolator_syntax.proofs.GrammarPartLemmas.{stripped, strip_not}
-use Rattle.interpolator_syntax.proofs.TestLemmas.{none_some, some_same}
+use Rattle.interpolator_syntax.proofs.CaseLemmas.{none_some, some_same}
 
-place_behind : (p : ℕ) → p + 1 + 1 ≡ p + 2
-place_behind p = omega arith
+place_after : (p : ℕ) → p + 1 + 1 ≡ p + 2
+place_after p = omega arith
 
 module _ (start : ℕ) (flagged : Bool) where
   abbrev Shows : At → Result (Wanted × At) Fault → Type 0
@@ -145,7 +145,7 @@ module _ (start : ℕ) (flagged : Bool) where
   text_read traits.UpperHex hex_debugs.No cs p rest e h =
       rw (← some_same e, strip_not question_mark (from_place (p + 1) rest) h) refl
   text_read t hex_debugs.No cs p rest e h = rw (← some_same e) refl
-  text_read traits.Debug hex cs p rest e h = rw (← some_same e, place_behind p) refl
+  text_read traits.Debug hex cs p rest e h = rw (← some_same e, place_after p) refl
   text_read t hex cs p rest e h = absurd (none_some e)
 
   named_read :

@@ -7,23 +7,23 @@ use Rattle.std.proofs.lemmas.Str.{encodes-chars, encodes-append, IsUtf8-take, ch
 use Rattle.std.specs.Prelude.{option_map}
 use Rattle.std.specs.Char.{len_utf8}
 use Rattle.std.specs.Str.{chars, IsUtf8, encode_utf8_all}
-use Rattle.interpolator_syntax.specs.At.{At, size, strip, strip_of, behind}
-use Rattle.interpolator_syntax.specs.Classes.{front_of, behind_of, in_class, hash, close_bracket}
-use Rattle.interpolator_syntax.specs.Groups.{behind_signs, here_or_later, close_from, with_behind}
+use Rattle.interpolator_syntax.specs.At.{At, size, strip, strip_of, after}
+use Rattle.interpolator_syntax.specs.Classes.{front_of, after_of, in_class, hash, close_bracket}
+use Rattle.interpolator_syntax.specs.Groups.{after_hashes, here_or_later, close_from, with_after}
 use Rattle.interpolator_syntax.specs.Groups.{next_close}
-use Rattle.interpolator_syntax.specs.declared.class.Class.TheVariants.{Sign, Enclosed}
+use Rattle.interpolator_syntax.specs.declared.class.Class.TheVariants.{Hash, Enclosed}
 use Rattle.interpolator_syntax.proofs.CharacterLemmas.{size-chars}
-use Rattle.interpolator_syntax.proofs.FrontLemmas.{IsRest, front_behind, rest_boundary}
+use Rattle.interpolator_syntax.proofs.FrontLemmas.{IsRest, front_after, rest_boundary}
 use Rattle.interpolator_syntax.proofs.FrontLemmas.{cut_at_rest}
 use Rattle.interpolator_syntax.specs.Grammar.{IsLongest}
 use Rattle.interpolator_syntax.proofs.LongestLemmas.{front_longest}
-use Rattle.interpolator_syntax.proofs.TestLemmas.{none_some, some_same}
+use Rattle.interpolator_syntax.proofs.CaseLemmas.{none_some, some_same}
 
 -- ---- signs
 
--- behind a sign one less is wanted
+-- after a sign one less is wanted
 pub signs_next : (k p : ℕ) (cs : List ℕ) (q : At) → strip_of hash p cs ≡ Some q
-    → behind_signs (suc k) p cs ≡ behind_signs k q.place q.text
+    → after_hashes (suc k) p cs ≡ after_hashes k q.place q.text
 signs_next k p [] q e = absurd (none_some e)
 signs_next k p (c ∷ cs) q e = grind arith
 
@@ -31,64 +31,64 @@ pub one_less : (n i : ℕ) → i < n → n - i ≡ suc (n - (i + 1))
 one_less n i h = omega arith
 
 -- a sign is one byte
-pub signs_size : (cs : List ℕ) → size (front_of (in_class Sign) cs)
-    ≡ length (front_of (in_class Sign) cs)
+pub signs_size : (cs : List ℕ) → size (front_of (in_class Hash) cs)
+    ≡ length (front_of (in_class Hash) cs)
 signs_size [] = refl
 signs_size (c ∷ cs) = grind (arith, eqb-true, signs_size cs)
 
 -- so the bytes of the signs are their count
-pub signs_bytes : (bs cs : List ℕ) → IsUtf8 bs → chars bs ≡ front_of (in_class Sign) cs → length bs
-    ≡ length (front_of (in_class Sign) cs)
+pub signs_bytes : (bs cs : List ℕ) → IsUtf8 bs → chars bs ≡ front_of (in_class Hash) cs → length bs
+    ≡ length (front_of (in_class Hash) cs)
 signs_bytes bs cs u e = sym (size-chars bs u) ∙ ap size e ∙ signs_size cs
 
 -- ---- the closing bracket
 
--- a text that closes, behind a front of it
-abbrev pub behind_front : List ℕ → Option (List ℕ × At) → Option (List ℕ × At)
-behind_front front o = option_map (λ w. (front ++ w.0, w.1)) o
+-- a text that closes, after a front of it
+abbrev pub after_front : List ℕ → Option (List ℕ × At) → Option (List ℕ × At)
+after_front front o = option_map (λ w. (front ++ w.0, w.1)) o
 
 one_more : (front : List ℕ) (c : ℕ) (o : Option (List ℕ × At))
-    → behind_front front (here_or_later c None o) ≡ behind_front (front ++ (c ∷ [])) o
+    → after_front front (here_or_later c None o) ≡ after_front (front ++ (c ∷ [])) o
 one_more front c None = refl
 one_more front c (Some w) = ap (λ xs. Some (xs, w.1)) (sym (append_assoc front (c ∷ []) w.0))
 
-front_then : (xs ys : List ℕ) (o : Option (List ℕ × At)) → behind_front xs (behind_front ys o)
-    ≡ behind_front (xs ++ ys) o
+front_then : (xs ys : List ℕ) (o : Option (List ℕ × At)) → after_front xs (after_front ys o)
+    ≡ after_front (xs ++ ys) o
 front_then xs ys None = refl
 front_then xs ys (Some w) = ap (λ zs. Some (zs, w.1)) (sym (append_assoc xs ys w.0))
 
 abbrev enclosed : List ℕ → List ℕ
 enclosed cs = front_of (in_class Enclosed) cs
 
--- a text in whose front no bracket stands closes where it closes behind that
+-- a text in whose front no bracket stands closes where it closes after that
 pub close_past : (k p : ℕ) (cs : List ℕ) → close_from k p cs
-    ≡ behind_front (enclosed cs) (close_from k (p + size (enclosed cs))
-    (behind_of (in_class Enclosed) cs))
+    ≡ after_front (enclosed cs) (close_from k (p + size (enclosed cs))
+    (after_of (in_class Enclosed) cs))
 close_past k p [] = refl
 close_past k p (c ∷ cs) = grind (arith, append_assoc, close_past k (p + len_utf8 c) cs)
 
 -- where no bracket stands, nothing closes
-none_behind : (k p q : ℕ) (cs rest : List ℕ) → IsLongest (in_class Enclosed) cs (enclosed cs) rest
+none_after : (k p q : ℕ) (cs rest : List ℕ) → IsLongest (in_class Enclosed) cs (enclosed cs) rest
     → strip_of close_bracket q rest ≡ None → close_from k p rest ≡ None
-none_behind k p q cs [] h e = refl
-none_behind k p q cs (d ∷ ds) h e = grind (arith, h.stops d ds refl)
+none_after k p q cs [] h e = refl
+none_after k p q cs (d ∷ ds) h e = grind (arith, h.stops d ds refl)
 
 pub close_none : (k : ℕ) (a : At) → next_close a ≡ None → close_from k a.place a.text ≡ None
 close_none k a e =
     close_past k a.place a.text
-    ∙ ap (behind_front (enclosed a.text))
-    (none_behind k (a.place + size (enclosed a.text)) (a.place + size (enclosed a.text)) a.text
-    (behind_of (in_class Enclosed) a.text) (front_longest (in_class Enclosed) a.text)
-    (no_pair (behind (in_class Enclosed) a) (strip close_bracket (behind (in_class Enclosed) a)) e))
+    ∙ ap (after_front (enclosed a.text))
+    (none_after k (a.place + size (enclosed a.text)) (a.place + size (enclosed a.text)) a.text
+    (after_of (in_class Enclosed) a.text) (front_longest (in_class Enclosed) a.text)
+    (no_pair (after (in_class Enclosed) a) (strip close_bracket (after (in_class Enclosed) a)) e))
   where
-    no_pair : (b : At) (o : Option At) → with_behind b o ≡ None → o ≡ None
+    no_pair : (b : At) (o : Option At) → with_after b o ≡ None → o ≡ None
     no_pair b o h = grind arith
 
--- a bracket at b, behind which r stands
+-- a bracket at b, after which r stands
 pub record Bracket (b r : At) : Type 0 where
   pub text : b.text ≡ close_bracket ∷ r.text
   pub closes : (k : ℕ) → close_from k b.place b.text
-      ≡ here_or_later close_bracket (behind_signs k r.place r.text) (close_from k r.place r.text)
+      ≡ here_or_later close_bracket (after_hashes k r.place r.text) (close_from k r.place r.text)
 
 bracket_here : (p : ℕ) (cs : List ℕ) (r : At) → strip_of close_bracket p cs ≡ Some r
     → Bracket (record { place = p; text = cs }) r
@@ -98,14 +98,14 @@ bracket_here p (c ∷ cs) r e =
 
 -- the next bracket in the text at h
 pub record Next (h b r : At) : Type 0 where
-  pub is : b ≡ behind (in_class Enclosed) h
+  pub is : b ≡ after (in_class Enclosed) h
   pub bracket : Bracket b r
 
 pub next_is : (h b r : At) → next_close h ≡ Some (b, r) → Next h b r
 next_is h b r e =
-    let past = behind (in_class Enclosed) h in
+    let past = after (in_class Enclosed) h in
     elim (strip close_bracket past) as (λ o. strip close_bracket past ≡ o
-    → with_behind past o ≡ Some (b, r) → Next h b r) [
+    → with_after past o ≡ Some (b, r) → Next h b r) [
       | None ↦ λ k g. absurd (none_some g)
       | Some q ↦ λ k g.
           let here = bracket_here past.place past.text q k in
@@ -113,44 +113,44 @@ next_is h b r e =
           (record { is = refl; bracket = here })
     ] refl e
 
--- what stands behind it is shorter
+-- what stands after it is shorter
 pub next_shorter : (h b r : At) → next_close h ≡ Some (b, r) → length r.text < length h.text
 next_shorter h b r e =
     let n = next_is h b r e in
-    let whole = ap length (front_behind (in_class Enclosed) h.text) in
+    let whole = ap length (front_after (in_class Enclosed) h.text) in
     let there = ap (λ (x : At). length x.text) n.is in
     omega (arith, whole, there, ap length n.bracket.text, length-append {A = ℕ})
 
 -- ---- the search for it
 
--- the text at a closes where it closes behind what was passed, up to h
+-- the text at a closes where it closes after what was passed, up to h
 pub record Reached (k : ℕ) (a h : At) : Type 0 where
   pub front : List ℕ
   pub split : a.text ≡ front ++ h.text
-  pub closes : behind_front front (close_from k h.place h.text) ≡ close_from k a.place a.text
+  pub closes : after_front front (close_from k h.place h.text) ≡ close_from k a.place a.text
 
 -- nothing closes where no bracket is left
 pub reached_end : (k : ℕ) (a h : At) → Reached k a h → next_close h ≡ None → None
     ≡ close_from k a.place a.text
-reached_end k a h g e = ap (behind_front g.front) (sym (close_none k h e)) ∙ g.closes
+reached_end k a h g e = ap (after_front g.front) (sym (close_none k h e)) ∙ g.closes
 
 -- the next bracket is reached
 pub reached_bracket : (k : ℕ) (a h b r : At) → Reached k a h → next_close h ≡ Some (b, r)
     → Reached k a b
 reached_bracket k a h b r g e =
     let n = next_is h b r e in
-    let past = behind (in_class Enclosed) h in
+    let past = after (in_class Enclosed) h in
     subst (Reached k a) (sym n.is) (record {
       front = g.front ++ enclosed h.text;
-      split = rw (append_assoc, front_behind (in_class Enclosed) h.text) g.split;
+      split = rw (append_assoc, front_after (in_class Enclosed) h.text) g.split;
       closes =
           sym (front_then g.front (enclosed h.text) (close_from k past.place past.text))
-          ∙ ap (behind_front g.front) (sym (close_past k h.place h.text)) ∙ g.closes;
+          ∙ ap (after_front g.front) (sym (close_past k h.place h.text)) ∙ g.closes;
     })
 
--- and passed, where too few signs stand behind it
+-- and passed, where too few signs stand after it
 pub reached_past : (k : ℕ) (a h b r : At) → Reached k a h → next_close h ≡ Some (b, r)
-    → behind_signs k r.place r.text ≡ None → Reached k a r
+    → after_hashes k r.place r.text ≡ None → Reached k a r
 reached_past k a h b r g e none =
     let n = next_is h b r e in
     let there = reached_bracket k a h b r g e in record {
@@ -164,7 +164,7 @@ reached_past k a h b r g e none =
 -- the text closes there, where the signs stand
 pub reached_close :
     (k : ℕ) (a h b r q : At) (inner : List ℕ) → Reached k a h → next_close h ≡ Some (b, r)
-    → behind_signs k r.place r.text ≡ Some q → inner ++ b.text ≡ a.text → Some (inner, q)
+    → after_hashes k r.place r.text ≡ Some q → inner ++ b.text ≡ a.text → Some (inner, q)
     ≡ close_from k a.place a.text
 reached_close k a h b r q inner g e signs cut =
     let n = next_is h b r e in

@@ -1,8 +1,10 @@
 -- The lemmas of the reader and of the faults.
+pub mod ArgumentFaultLemmas
 pub mod ByteLemmas
 pub mod CharacterLemmas
-pub mod DoubledLemmas
 pub mod ErrorLemmas
+pub mod FaultPlaceLemmas
+pub mod FirstByteLemmas
 pub mod FrontLemmas
 pub mod GrammarArgumentLemmas
 pub mod GrammarGroupLemmas
@@ -18,11 +20,16 @@ pub mod GroupLemmas
 pub mod ListReaderLemmas
 pub mod LocalityLemmas
 pub mod LongestLemmas
+pub mod MoveArgumentLemmas
+pub mod MoveLemmas
+pub mod MoveListLemmas
+pub mod MovePieceLemmas
+pub mod PieceGrammarLemmas
 pub mod PieceLemmas
 pub mod ReaderLemmas
+pub mod ScanLemmas
 pub mod SimpleReaderLemmas
 pub mod SizeLemmas
-pub mod StrideLemmas
 pub mod StripLemmas
-pub mod TestLemmas
+pub mod CaseLemmas
 pub mod UnstyledLemmas

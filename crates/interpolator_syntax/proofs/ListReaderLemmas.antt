@@ -20,7 +20,7 @@ use Rattle.interpolator_syntax.specs.Lists.{list_at}
 use Rattle.interpolator_syntax.specs.SpecTexts.{of_value, of_list, kind_at}
 use Rattle.interpolator_syntax.specs.Faults.{Fault, parse, expected}
 use Rattle.interpolator_syntax.specs.declared.error.NumberError.{NumberError}
-use Rattle.interpolator_syntax.specs.declared.class.Class.TheVariants.{Number, Sign}
+use Rattle.interpolator_syntax.specs.declared.class.Class.TheVariants.{Number, Hash}
 use Rattle.interpolator_syntax.proofs.LocalityLemmas.{Takes, takes_then, Guarded}
 use Rattle.interpolator_syntax.proofs.LocalityLemmas.{with_more, Reads, Keeps, KeepsAt}
 use Rattle.interpolator_syntax.proofs.LocalityLemmas.{reads_by, keeps_by, keeps_stay}
@@ -77,7 +77,7 @@ module _ (start : ℕ) where
   point_guards cs ds e guard =
       elim (subst Guarded e guard) [ inl same ↦ absurd (omega (arith, same)) | inr more ↦ more ]
 
-  -- behind a point one character more is looked at
+  -- after a point one character more is looked at
   reads_points : Reads start points
   reads_points =
       reads_by start points (λ a more.
@@ -109,7 +109,7 @@ module _ (start : ℕ) where
 bracket_no_sign : close_bracket ≢ hash
 bracket_no_sign e = omega (arith, e)
 
--- signs in front of which a bracket stands are the same whatever comes behind the bracket
+-- signs in front of which a bracket stands are the same whatever comes after the bracket
 signs_before :
     (k : ℕ) (cs after more rest : List ℕ) → cs ++ (close_bracket ∷ after) ≡ sign_text k ++ rest
     → (left : List ℕ) × (cs ++ (close_bracket ∷ more) ≡ sign_text k ++ left)
@@ -117,18 +117,18 @@ signs_before zero cs after more rest e = (cs ++ (close_bracket ∷ more), refl)
 signs_before (suc k) [] after more rest e = absurd (bracket_no_sign cc)
 signs_before (suc k) (c ∷ cs) after more rest e =
     let first : c ≡ hash = cc in
-    let behind : cs ++ (close_bracket ∷ after) ≡ sign_text k ++ rest = cc in
-    let s = signs_before k cs after more rest behind in
+    let others : cs ++ (close_bracket ∷ after) ≡ sign_text k ++ rest = cc in
+    let s = signs_before k cs after more rest others in
     (s.0, ap (λ n. n ∷ (cs ++ (close_bracket ∷ more))) first ∙ ap (λ xs. hash ∷ xs) s.1)
 
--- a text of which no bracket closes has none that does, whatever comes behind the one that closes
+-- a text of which no bracket closes has none that does, whatever comes after the one that closes
 none_closes_with :
     (k : ℕ) (inner after more : List ℕ) → NoneCloses k inner (close_bracket ∷ after)
     → NoneCloses k inner (close_bracket ∷ more)
 none_closes_with k inner after more h front cs rest e f =
     let s = signs_before k cs more after rest f in h front cs s.0 e s.1
 
--- a text that closes closes there, whatever comes behind it
+-- a text that closes closes there, whatever comes after it
 close_with :
     (k p : ℕ) (cs more : List ℕ) (w : List ℕ × At) → IsClose k p cs w.0 w.1
     → close_from k p (cs ++ more) ≡ Some (w.0, with_more w.1 more)
@@ -180,7 +180,7 @@ module _ (start : ℕ) where
 
   pub reads_group : Reads start (group_at start)
   unfolding group_at
-  reads_group = reads_then (reads_span start Sign) (λ signs. reads_bracket (length signs))
+  reads_group = reads_then (reads_span start Hash) (λ signs. reads_bracket (length signs))
 
   reads_group_if : Reads start (group_if start)
   reads_group_if =

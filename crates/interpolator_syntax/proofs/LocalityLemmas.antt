@@ -6,11 +6,11 @@ use Rattle.std.proofs.Common.{Some, None, inr, ◌⊎◌, append_assoc}
 use Rattle.std.specs.Char.{len_utf8}
 use Rattle.std.proofs.lemmas.List.{length-append}
 use Rattle.std.proofs.lemmas.Bool.{eqb-true}
-use Rattle.interpolator_syntax.specs.At.{At, size, first_of, strip_of, behind}
+use Rattle.interpolator_syntax.specs.At.{At, size, first_of, strip_of, after}
 use Rattle.interpolator_syntax.specs.Classes.{front_of, close_brace}
 use Rattle.interpolator_syntax.specs.Readers.{Reader, on, ◌>>=◌}
 use Rattle.interpolator_syntax.specs.Faults.{Fault, fault_place}
-use Rattle.interpolator_syntax.proofs.FrontLemmas.{front_behind}
+use Rattle.interpolator_syntax.proofs.FrontLemmas.{front_after}
 
 -- ---- what is taken
 
@@ -18,7 +18,7 @@ pub size-append : (xs ys : List ℕ) → size (xs ++ ys) ≡ size xs + size ys
 size-append [] ys = omega arith
 size-append (c ∷ cs) ys = omega (arith, size-append cs ys)
 
--- q stands behind a front of the text at a, at its place
+-- q stands after a front of the text at a, at its place
 pub record Takes (a q : At) : Type 0 where
   pub front : List ℕ
   pub split : a.text ≡ front ++ q.text
@@ -35,7 +35,7 @@ takes_none a = record { front = []; split = refl; place = omega arith }
 pub takes_one : (p c : ℕ) (cs : List ℕ) → Takes (stands p (c ∷ cs)) (stands (p + len_utf8 c) cs)
 takes_one p c cs = record { front = c ∷ []; split = refl; place = omega arith }
 
--- one front behind the other
+-- one front after the other
 pub takes_then : (a b c : At) → Takes a b → Takes b c → Takes a c
 takes_then a b c h k = record {
   front = h.front ++ k.front;
@@ -44,14 +44,14 @@ takes_then a b c h k = record {
 }
 
 -- the longest front of characters that pass
-pub takes_behind : (passes : ℕ → Bool) (a : At) → Takes a (behind passes a)
-takes_behind passes a = record {
+pub takes_after : (passes : ℕ → Bool) (a : At) → Takes a (after passes a)
+takes_after passes a = record {
   front = front_of passes a.text;
-  split = sym (front_behind passes a.text);
+  split = sym (front_after passes a.text);
   place = refl;
 }
 
--- what stands behind a front is no longer
+-- what stands after a front is no longer
 pub takes_shorter : (a q : At) → Takes a q → length q.text ≤ length a.text
 takes_shorter a q h = omega (arith, ap length h.split, length-append h.front q.text)
 
@@ -66,22 +66,22 @@ abbrev pub Guarded : List ℕ → Type 0
 Guarded [] = ⊥
 Guarded (c ∷ cs) = (c ≡ close_brace) ⊎ Guarded cs
 
-guarded_behind : (front cs : List ℕ) → Guarded cs → Guarded (front ++ cs)
-guarded_behind [] cs h = h
-guarded_behind (c ∷ front) cs h = inr (guarded_behind front cs h)
+guarded_after : (front cs : List ℕ) → Guarded cs → Guarded (front ++ cs)
+guarded_after [] cs h = h
+guarded_after (c ∷ front) cs h = inr (guarded_after front cs h)
 
--- a closing brace behind a front stands in the text
+-- a closing brace after a front stands in the text
 pub takes_guards : (a q : At) → Takes a q → Guarded q.text → Guarded a.text
-takes_guards a q h guard = subst Guarded (sym h.split) (guarded_behind h.front q.text guard)
+takes_guards a q h guard = subst Guarded (sym h.split) (guarded_after h.front q.text guard)
 
 -- ---- what a reader keeps
 
--- the same place, and more behind the text
+-- the same place, and more after the text
 abbrev pub with_more : At → List ℕ → At
 with_more a more = record { place = a.place; text = a.text ++ more }
 
 -- what every reader of an argument that begins at `start` keeps: what it takes is a front of the
--- text; a fault lies in the text; and what it answers does not depend on what stands behind a
+-- text; a fault lies in the text; and what it answers does not depend on what stands after a
 -- closing brace that it has not passed
 pub record Reads {A : Type 0} (start : ℕ) (f : Reader A) : Type 0 where
   pub takes : (a : At) (x : A) (q : At) → f a ≡ Ok (x, q) → Takes a q
@@ -92,7 +92,7 @@ pub record Reads {A : Type 0} (start : ℕ) (f : Reader A) : Type 0 where
       (a : At) (more : List ℕ) (x : A) (q : At) → f a ≡ Ok (x, q) → Guarded q.text
       → f (with_more a more) ≡ Ok (x, with_more q more)
 
--- the same of one answer at a, and the answer with more behind the text
+-- the same of one answer at a, and the answer with more after the text
 abbrev pub Keeps :
     {A : Type 0} → (start : ℕ) → (a : At) → (more : List ℕ) → Result (A × At) Fault
     → Result (A × At) Fault → Type 0
@@ -105,21 +105,21 @@ abbrev pub KeepsAt : {A : Type 0} → (start : ℕ) → Reader A → (a : At) �
 KeepsAt start f a more = Keeps start a more (f a) (f (with_more a more))
 
 module _ {A : Type 0} (start : ℕ) (f : Reader A) where
-  abbrev behind_it : (a : At) (more : List ℕ) → Result (A × At) Fault → Type 0
-  behind_it a more o = Keeps start a more o (f (with_more a more))
+  abbrev after_it : (a : At) (more : List ℕ) → Result (A × At) Fault → Type 0
+  after_it a more o = Keeps start a more o (f (with_more a more))
 
   pub kept_takes : (a : At) → KeepsAt start f a [] → (x : A) (q : At) → f a ≡ Ok (x, q) → Takes a q
-  kept_takes a h x q e = (subst (behind_it a []) e h).0
+  kept_takes a h x q e = (subst (after_it a []) e h).0
 
   pub kept_refuses :
       (a : At) → KeepsAt start f a [] → (d : Fault) → start ≤ a.place → f a ≡ Err d
       → fault_place d ≤ a.place + size a.text
-  kept_refuses a h d from e = subst (behind_it a []) e h from
+  kept_refuses a h d from e = subst (after_it a []) e h from
 
   pub kept_same :
       (a : At) (more : List ℕ) → KeepsAt start f a more → (x : A) (q : At) → f a ≡ Ok (x, q)
       → Guarded q.text → f (with_more a more) ≡ Ok (x, with_more q more)
-  kept_same a more h x q e = (subst (behind_it a more) e h).1
+  kept_same a more h x q e = (subst (after_it a more) e h).1
 
   -- a reader by what it keeps everywhere
   pub reads_by : ((a : At) (more : List ℕ) → KeepsAt start f a more) → Reads start f
@@ -132,7 +132,7 @@ module _ {A : Type 0} (start : ℕ) (f : Reader A) where
   -- what a reader keeps at a
   pub keeps_by : Reads start f → (a : At) (more : List ℕ) → KeepsAt start f a more
   keeps_by h a more =
-      elim (f a) as (λ o. f a ≡ o → behind_it a more o) [
+      elim (f a) as (λ o. f a ≡ o → after_it a more o) [
         | Ok w ↦ λ e. (h.takes a w.0 w.1 e, h.same a more w.0 w.1 e)
         | Err d ↦ λ e from. h.refuses a d from e
       ] refl
@@ -142,7 +142,7 @@ module _ {A : Type 0} (start : ℕ) (a : At) (more : List ℕ) where
   pub keeps_stay : (x : A) → Keeps start a more (Ok (x, a)) (Ok (x, with_more a more))
   keeps_stay x = (takes_none a, λ guard. refl)
 
-  -- an answer behind a front
+  -- an answer after a front
   pub keeps_past :
       (b : At) (o k l : Result (A × At) Fault) → Takes a b → (Guarded b.text → l ≡ k)
       → Keeps start b more o k → Keeps start a more o l
@@ -151,14 +151,14 @@ module _ {A : Type 0} (start : ℕ) (a : At) (more : List ℕ) where
   keeps_past b (Err d) k l h e r =
       λ from. omega (arith, r (omega (arith, h.place)), takes_reaches _ a b h refl)
 
-  -- a reader behind a front
+  -- a reader after a front
   pub keeps_on :
       (f : Reader A) → Reads start f → (b : At) → Takes a b
       → Keeps start a more (f b) (f (with_more b more))
   keeps_on f h b t =
       keeps_past b (f b) (f (with_more b more)) _ t (λ guard. refl) (keeps_by start f h b more)
 
-  -- where no closing brace stands, what stands behind the text may change everything
+  -- where no closing brace stands, what stands after the text may change everything
   pub keeps_unguarded :
       (o k l : Result (A × At) Fault) → (Guarded a.text → ⊥) → Keeps start a more o k
       → Keeps start a more o l
@@ -173,7 +173,7 @@ module _ {A : Type 0} (start : ℕ) (a : At) (more : List ℕ) where
   keeps_either true o k p l h g = h
   keeps_either false o k p l h g = g
 
--- behind an answer the next reader
+-- after an answer the next reader
 pub keeps_then :
     {A B : Type 0} (start : ℕ) (a : At) (more : List ℕ) (o k : Result (A × At) Fault)
     (g : A → Reader B) → Keeps start a more o k
@@ -185,7 +185,7 @@ keeps_then start a more (Ok w) k g h r =
     (r w.0 w.1 h.0)
 keeps_then start a more (Err d) k g h r = h
 
--- one reader, and behind it the next
+-- one reader, and after it the next
 pub reads_then :
     {A B : Type 0} {start : ℕ} {f : Reader A} {g : A → Reader B} → Reads start f
     → ((x : A) → Reads start (g x)) → Reads start (f >>= g)

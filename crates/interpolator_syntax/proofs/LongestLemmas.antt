@@ -4,10 +4,10 @@ use Rattle.std.proofs.Common.{◌≡◌, ℕ, ◌+◌, Bool, false, IsTrue, IsFa
 use Rattle.std.proofs.Common.{◌∷◌, ◌++◌, refl, ap, ◌∙◌, sym}
 use Rattle.std.proofs.lemmas.Bool.{cond_both}
 use Rattle.std.proofs.lemmas.List.Elements.{All-nil, All-cons, All-head, All-tail}
-use Rattle.interpolator_syntax.specs.At.{At, size, behind}
-use Rattle.interpolator_syntax.specs.Classes.{front_of, behind_of}
+use Rattle.interpolator_syntax.specs.At.{At, size, after}
+use Rattle.interpolator_syntax.specs.Classes.{front_of, after_of}
 use Rattle.interpolator_syntax.specs.Grammar.{from_place, IsLongest}
-use Rattle.interpolator_syntax.proofs.FrontLemmas.{front_behind}
+use Rattle.interpolator_syntax.proofs.FrontLemmas.{front_after}
 
 pub at_same : {p q : ℕ} {cs ds : List ℕ} → p ≡ q → cs ≡ ds → from_place p cs ≡ from_place q ds
 at_same e h = cc
@@ -20,33 +20,33 @@ module _ (passes : ℕ → Bool) where
       (λ e. All-cons (λ c. IsTrue (passes c)) c (front_of passes cs) e (front_passes cs))
       (λ e. All-nil (λ c. IsTrue (passes c)))
 
-  behind_stops : (cs : List ℕ) (c : ℕ) (more : List ℕ) → behind_of passes cs ≡ c ∷ more
+  after_stops : (cs : List ℕ) (c : ℕ) (more : List ℕ) → after_of passes cs ≡ c ∷ more
       → passes c ≡ false
-  behind_stops [] c more h = cc
-  behind_stops (d ∷ ds) c more h =
+  after_stops [] c more h = cc
+  after_stops (d ∷ ds) c more h =
       cond_both (passes d) _ _ (λ xs. xs ≡ c ∷ more → passes c ≡ false)
-      (λ e. behind_stops ds c more) (λ e k. let same : d ≡ c = cc in ap passes (sym same) ∙ e) h
+      (λ e. after_stops ds c more) (λ e k. let same : d ≡ c = cc in ap passes (sym same) ∙ e) h
 
-  -- the front and what stands behind it are the longest front and its rest
-  pub front_longest : (cs : List ℕ) → IsLongest passes cs (front_of passes cs) (behind_of passes cs)
+  -- the front and what stands after it are the longest front and its rest
+  pub front_longest : (cs : List ℕ) → IsLongest passes cs (front_of passes cs) (after_of passes cs)
   front_longest cs =
       record {
-        split = sym (front_behind passes cs);
+        split = sym (front_after passes cs);
         pass = front_passes cs;
-        stops = behind_stops cs;
+        stops = after_stops cs;
       }
 
   abbrev Stops : List ℕ → Type 0
   Stops rest = (c : ℕ) (more : List ℕ) → rest ≡ c ∷ more → IsFalse (passes c)
 
   front_stops : (rest : List ℕ) → Stops rest
-      → (front_of passes rest ≡ []) × (behind_of passes rest ≡ rest)
+      → (front_of passes rest ≡ []) × (after_of passes rest ≡ rest)
   front_stops [] h = (refl, refl)
   front_stops (c ∷ cs) h = rw (h c cs refl) (refl, refl)
 
   front_then :
       (front rest : List ℕ) → All (λ c. IsTrue (passes c)) front → Stops rest
-      → (front_of passes (front ++ rest) ≡ front) × (behind_of passes (front ++ rest) ≡ rest)
+      → (front_of passes (front ++ rest) ≡ front) × (after_of passes (front ++ rest) ≡ rest)
   front_then [] rest h k = front_stops rest k
   front_then (c ∷ cs) rest h k =
       let e = All-head (λ c. IsTrue (passes c)) c cs h in
@@ -56,14 +56,14 @@ module _ (passes : ℕ → Bool) where
   -- there is only one longest front
   pub longest_front :
       (text front rest : List ℕ) → IsLongest passes text front rest
-      → (front_of passes text ≡ front) × (behind_of passes text ≡ rest)
+      → (front_of passes text ≡ front) × (after_of passes text ≡ rest)
   longest_front text front rest h =
       let same = front_then front rest h.pass h.stops in
-      (ap (front_of passes) h.split ∙ same.0, ap (behind_of passes) h.split ∙ same.1)
+      (ap (front_of passes) h.split ∙ same.0, ap (after_of passes) h.split ∙ same.1)
 
-  pub behind_longest :
+  pub after_longest :
       (a : At) (front rest : List ℕ) → IsLongest passes a.text front rest
-      → behind passes a ≡ from_place (a.place + size front) rest
-  behind_longest a front rest h =
+      → after passes a ≡ from_place (a.place + size front) rest
+  after_longest a front rest h =
       let same = longest_front a.text front rest h in
       at_same (ap (λ xs. a.place + size xs) same.0) same.1

@@ -4,26 +4,34 @@ use Rattle.std.proofs.Common.{length, arith, refl, ap, Ok, Option, Some, None, �
 use Rattle.std.proofs.Common.{Result, Err, ◌++◌, ◌∙◌, sym, append_assoc}
 use Rattle.std.proofs.lemmas.List.{append_cancel_right}
 use Rattle.interpolator_syntax.specs.At.{At, at, strip, strip_of}
-use Rattle.interpolator_syntax.specs.Classes.{behind_of, open_brace, close_brace, is_brace}
-use Rattle.interpolator_syntax.specs.Arguments.{Argument, argument_at, argument_behind}
-use Rattle.interpolator_syntax.specs.Arguments.{plain_argument}
-use Rattle.interpolator_syntax.specs.declared.argument.Named.{Named}
+use Rattle.interpolator_syntax.specs.Classes.{after_of, open_brace, close_brace, is_brace}
+use Rattle.interpolator_syntax.specs.Arguments.{Argument, argument_at, argument_after}
+use Rattle.interpolator_syntax.specs.Arguments.{plain_argument, asked_at, asked_read, list_of}
+use Rattle.interpolator_syntax.specs.Arguments.{argument_read, kind_of_asked, kind_under}
+use Rattle.interpolator_syntax.specs.SpecTexts.{of_value, of_list}
+use Rattle.interpolator_syntax.specs.declared.argument.Asked.{Asked}
+use Rattle.interpolator_syntax.specs.declared.argument_fault.ArgumentFault.{ArgumentFault}
+use Rattle.interpolator_render.specs.declared.view.Trait.{Trait}
+use Rattle.interpolator_render.specs.declared.view.Trait.TheVariants.{Binary, Debug, Display}
+use Rattle.interpolator_render.specs.declared.view.Trait.TheVariants.{LowerExp, LowerHex, Octal}
+use Rattle.interpolator_render.specs.declared.view.Trait.TheVariants.{UpperExp, UpperHex, Iter}
+use Rattle.interpolator_syntax.specs.declared.argument.ArgumentName.{ArgumentName}
 use Rattle.interpolator_syntax.specs.Pieces.{Step, argument_from, piece_from, past, pieces_within}
 use Rattle.interpolator_syntax.specs.Pieces.{pieces, step, literal, argument_or_broken, text_up_to}
 use Rattle.interpolator_syntax.proofs.FrontLemmas.{cut_at_rest}
 use Rattle.interpolator_syntax.proofs.LocalityLemmas.{takes_shorter}
 use Rattle.interpolator_syntax.proofs.ReaderLemmas.{argument_takes}
-use Rattle.interpolator_syntax.proofs.TestLemmas.{in_both, none_some}
+use Rattle.interpolator_syntax.proofs.CaseLemmas.{in_both, none_some}
 use Rattle.std.specs.Char.{len_utf8}
 use Rattle.interpolator_syntax.specs.Faults.{Fault}
 
-pub behind_shorter : (passes : ℕ → Bool) (cs : List ℕ) → length (behind_of passes cs) ≤ length cs
-behind_shorter passes [] = omega arith
-behind_shorter passes (c ∷ cs) =
-    elim (passes c) as (λ b. length (cond b (behind_of passes cs) (c ∷ cs)) ≤ length (c ∷ cs))
-    [ true ↦ omega (arith, behind_shorter passes cs) | false ↦ omega arith ]
+pub after_shorter : (passes : ℕ → Bool) (cs : List ℕ) → length (after_of passes cs) ≤ length cs
+after_shorter passes [] = omega arith
+after_shorter passes (c ∷ cs) =
+    elim (passes c) as (λ b. length (cond b (after_of passes cs) (c ∷ cs)) ≤ length (c ∷ cs))
+    [ true ↦ omega (arith, after_shorter passes cs) | false ↦ omega arith ]
 
--- what stands behind a character, if it stands there, is no longer than so many characters
+-- what stands after a character, if it stands there, is no longer than so many characters
 abbrev pub OptionWithin : ℕ → Option At → Type 0
 OptionWithin n None = Unit {0}
 OptionWithin n (Some rest) = length rest.text ≤ n
@@ -33,11 +41,11 @@ pub strip_within : (c p : ℕ) (cs : List ℕ) (n : ℕ) → length cs ≤ n
 strip_within c p [] n h = tt
 strip_within c p (d ∷ ds) n h = in_both (OptionWithin n) (eqb d c) _ _ (omega arith) tt
 
--- what stands behind a character that stands there
-pub strip_behind : (c p : ℕ) (cs : List ℕ) (r : At) → strip_of c p cs ≡ Some r
+-- what stands after a character that stands there
+pub strip_after : (c p : ℕ) (cs : List ℕ) (r : At) → strip_of c p cs ≡ Some r
     → (cs ≡ c ∷ r.text) × (r.place ≡ p + len_utf8 c)
-strip_behind c p [] r e = absurd (none_some e)
-strip_behind c p (d ∷ ds) r e = grind (arith, eqb-true)
+strip_after c p [] r e = absurd (none_some e)
+strip_after c p (d ∷ ds) r e = grind (arith, eqb-true)
 
 -- a character that is no brace is a literal
 pub literal_step : (p c : ℕ) (b : At) → is_brace c ≡ false
@@ -85,7 +93,7 @@ pub pieces_none : (p : ℕ) → pieces (record { place = p; text = [] }) ≡ []
 unfolding pieces
 pieces_none p = refl
 
--- the first piece, and then those of what stands behind it
+-- the first piece, and then those of what stands after it
 pub pieces_next : (p c : ℕ) (cs : List ℕ)
     → pieces (record { place = p; text = c ∷ cs }) ≡ (piece_from p c (past p c cs)).piece ∷ pieces
     (piece_from p c (past p c cs)).rest
@@ -107,7 +115,34 @@ closed_text b r front e =
     (cut_at_rest (open_brace ∷ b.text) r.text (open_brace ∷ inner, whole) ∙ whole)
 
 -- a name that a closing brace follows is plain display of it
-pub read_alone : (a : At) (n : Named) (r : At)
-    → argument_at a ≡ argument_behind a.place (plain_argument n) (at n.end)
+pub read_alone : (a : At) (n : ArgumentName) (r : At)
+    → argument_at a ≡ argument_after a.place (plain_argument n) (at n.end)
     → strip close_brace (at n.end) ≡ Some r → argument_at a ≡ Ok (plain_argument n, at n.end)
 read_alone a n r named closed = named ∙ rw closed refl
+
+-- what is asked after a name, where no closing brace follows it
+pub read_asked :
+    (a : At) (n : ArgumentName) (result : Result (Unit {0}) ArgumentFault) (x : Asked) (q : At)
+    → argument_at a ≡ argument_after a.place (plain_argument n) (at n.end)
+    → asked_read result x q ≡ asked_at a.place (at n.end)
+    → argument_read n result x q ≡ argument_at a
+read_asked a n (Ok u) x q named read = sym (named ∙ rw (sym read) refl)
+read_asked a n (Err broken) x q named read = sym (named ∙ rw (sym read) refl)
+
+-- `Iter` asks for a list, and each other trait for a value
+pub asks_list : (x : Asked) → x.slot ≡ Iter → kind_of_asked x ≡ of_list (list_of x.list)
+asks_list x e = rw e refl
+
+pub asks_value : (x : Asked) → ¬ (x.slot ≡ Iter) → kind_of_asked x ≡ of_value x.slot
+asks_value x other = by_slot x.slot other
+  where
+    by_slot : (t : Trait) → ¬ (t ≡ Iter) → kind_under t (list_of x.list) ≡ of_value t
+    by_slot Iter h = absurd (h refl)
+    by_slot Binary h = refl
+    by_slot Debug h = refl
+    by_slot Display h = refl
+    by_slot LowerExp h = refl
+    by_slot LowerHex h = refl
+    by_slot Octal h = refl
+    by_slot UpperExp h = refl
+    by_slot UpperHex h = refl

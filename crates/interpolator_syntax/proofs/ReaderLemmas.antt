@@ -9,7 +9,7 @@ use Rattle.interpolator_render.specs.declared.view.HexDebug.{HexDebug}
 use Rattle.interpolator_render.specs.declared.view.HexDebug.TheVariants as hex_debugs
 use Rattle.interpolator_render.specs.declared.view.Alignment.TheVariants as alignments
 use Rattle.interpolator_render.specs.declared.view.Sign.TheVariants as signs
-use Rattle.interpolator_syntax.specs.At.{At, size, strip, behind}
+use Rattle.interpolator_syntax.specs.At.{At, size, strip, after}
 use Rattle.interpolator_syntax.specs.Classes.{front_of, in_class, is_alignment, close_brace, colon}
 use Rattle.interpolator_syntax.specs.Classes.{point, question_mark, hash, zero_digit, lower_p}
 use Rattle.interpolator_syntax.specs.Classes.{lower_x, upper_x}
@@ -19,16 +19,16 @@ use Rattle.interpolator_syntax.specs.SpecTexts.{Asked, plain_display, alignment_
 use Rattle.interpolator_syntax.specs.SpecTexts.{number_or, number_at, if_digit, width_at, if_point}
 use Rattle.interpolator_syntax.specs.SpecTexts.{precision_at, wanted, hexadecimal, trait_letter}
 use Rattle.interpolator_syntax.specs.SpecTexts.{no_trait, lettered, trait_first, trait_at}
-use Rattle.interpolator_syntax.specs.SpecTexts.{spec_parts, spec_of, spec_behind, begins_alignment}
+use Rattle.interpolator_syntax.specs.SpecTexts.{spec_parts, spec_of, spec_after, begins_alignment}
 use Rattle.interpolator_syntax.specs.Arguments.{Argument, argument, asked_by, asked_at, argument_at}
 use Rattle.interpolator_syntax.specs.Faults.{Fault, ParseFault, fault_place, parse_place, parse}
 use Rattle.interpolator_syntax.specs.Faults.{unclosed}
 use Rattle.interpolator_syntax.specs.Faults.{fill, invalid_width, invalid_precision}
 use Rattle.interpolator_syntax.specs.declared.error.NumberError.{NumberError}
 use Rattle.interpolator_syntax.specs.declared.class.Class.TheVariants.{WhiteSpace, Name, Number}
-use Rattle.interpolator_syntax.proofs.TestLemmas.{in_both}
+use Rattle.interpolator_syntax.proofs.CaseLemmas.{in_both}
 use Rattle.interpolator_syntax.proofs.LocalityLemmas.{Takes, stands, takes_none, takes_then}
-use Rattle.interpolator_syntax.proofs.LocalityLemmas.{takes_behind, Guarded, takes_guards}
+use Rattle.interpolator_syntax.proofs.LocalityLemmas.{takes_after, Guarded, takes_guards}
 use Rattle.interpolator_syntax.proofs.LocalityLemmas.{with_more, Reads, Keeps, KeepsAt}
 use Rattle.interpolator_syntax.proofs.LocalityLemmas.{kept_takes, kept_refuses, kept_same}
 use Rattle.interpolator_syntax.proofs.LocalityLemmas.{reads_by, keeps_by, keeps_stay}
@@ -150,7 +150,7 @@ brace_alone : (c : ℕ) → Guarded (c ∷ []) → c ≡ close_brace
 brace_alone c (inl e) = e
 brace_alone c (inr guard) = absurd guard
 
--- where a `}` alone ends the text, no alignment comes behind it: it would make the `}` a fill
+-- where a `}` alone ends the text, no alignment comes after it: it would make the `}` a fill
 abbrev pub NoFill : List ℕ → List ℕ → Type 0
 NoFill cs more = cs ≡ close_brace ∷ [] → begins_alignment more ≡ false
 
@@ -178,17 +178,17 @@ keeps_spec_of start p (c ∷ d ∷ ds) more h =
 
 keeps_spec :
     (start : ℕ) (a : At) (more : List ℕ) → NoFill a.text more
-    → KeepsAt start (spec_behind start) a more
-unfolding spec_behind
+    → KeepsAt start (spec_after start) a more
+unfolding spec_after
 keeps_spec start a more h = keeps_spec_of start a.place a.text more h
 
 -- ---- arguments
 
--- what stands behind the name of the argument at a
+-- what stands after the name of the argument at a
 abbrev pub name_end : At → At
-name_end a = behind (in_class Name) (behind (in_class WhiteSpace) a)
+name_end a = after (in_class Name) (after (in_class WhiteSpace) a)
 
--- where `:}` ends the text at a, no alignment comes behind it
+-- where `:}` ends the text at a, no alignment comes after it
 abbrev pub NoFillBehind : At → List ℕ → Type 0
 NoFillBehind a more = a.text ≡ colon ∷ close_brace ∷ [] → begins_alignment more ≡ false
 
@@ -211,14 +211,14 @@ keeps_argument :
 unfolding argument_at
 keeps_argument a more h =
     let start = a.place in
-    let b = behind (in_class WhiteSpace) a in
+    let b = after (in_class WhiteSpace) a in
     let q = name_end a in
     let name = front_of (in_class Name) b.text in
-    let named = takes_behind (in_class Name) b in
+    let named = takes_after (in_class Name) b in
     let asks = λ (place : ℕ) (cs : List ℕ).
     asked_at start >>= λ asked. give (argument cs place asked) in
     let names = λ (spaces : List ℕ). here >>= λ place. span Name >>= asks place in
-    keeps_past start a more q _ _ _ (takes_then a b q (takes_behind (in_class WhiteSpace) a) named)
+    keeps_past start a more q _ _ _ (takes_then a b q (takes_after (in_class WhiteSpace) a) named)
     (λ guard.
     ap (λ answer. on answer names)
     ((reads_span start WhiteSpace).same a more _ b refl (takes_guards b q named guard))
@@ -238,7 +238,7 @@ pub argument_refuses :
 argument_refuses a d =
     kept_refuses a.place argument_at a (keeps_argument a [] (λ e. refl)) d (omega arith)
 
--- an argument is the same whatever comes behind the text, but for an alignment behind `:}` alone
+-- an argument is the same whatever comes after the text, but for an alignment after `:}` alone
 pub argument_same :
     (a : At) (more : List ℕ) (x : Argument) (q : At) → argument_at a ≡ Ok (x, q) → Guarded q.text
     → NoFillBehind (name_end a) more → argument_at (with_more a more) ≡ Ok (x, with_more q more)

@@ -1,12 +1,12 @@
 -- What the readers keep that the parts of an argument are made of.
 use Rattle.std.proofs.Common.{◌≡◌, ℕ, Bool, false, List, [], ◌∷◌, ◌++◌, arith, refl}
 use Rattle.std.proofs.Common.{Ok, Option, Some, None}
-use Rattle.interpolator_syntax.specs.At.{At, behind}
-use Rattle.interpolator_syntax.specs.Classes.{front_of, behind_of, in_class}
+use Rattle.interpolator_syntax.specs.At.{At, after}
+use Rattle.interpolator_syntax.specs.Classes.{front_of, after_of, in_class}
 use Rattle.interpolator_syntax.specs.Readers.{give, span, read_or_stay, letter_first, letter}
 use Rattle.interpolator_syntax.specs.Readers.{was_there, flag, run_before, run}
 use Rattle.interpolator_syntax.specs.declared.class.Class.{Class}
-use Rattle.interpolator_syntax.proofs.LocalityLemmas.{Takes, takes_behind, Guarded}
+use Rattle.interpolator_syntax.proofs.LocalityLemmas.{Takes, takes_after, Guarded}
 use Rattle.interpolator_syntax.proofs.LocalityLemmas.{with_more, Reads, Keeps, KeepsAt}
 use Rattle.interpolator_syntax.proofs.LocalityLemmas.{reads_by, keeps_stay, keeps_first}
 use Rattle.interpolator_syntax.proofs.LocalityLemmas.{keeps_strip}
@@ -14,14 +14,14 @@ use Rattle.interpolator_syntax.proofs.LocalityLemmas.{keeps_strip}
 -- ---- the longest front
 
 module _ (passes : ℕ → Bool) where
-  -- the longest front of a text, and with more behind it
+  -- the longest front of a text, and with more after it
   abbrev pub SameFront : (cs more : List ℕ) → Type 0
   SameFront cs more =
       (front_of passes (cs ++ more) ≡ front_of passes cs)
-      × (behind_of passes (cs ++ more) ≡ behind_of passes cs ++ more)
+      × (after_of passes (cs ++ more) ≡ after_of passes cs ++ more)
 
-  -- where a closing brace is left, it is the same whatever comes behind the text
-  pub same_front : (cs more : List ℕ) → Guarded (behind_of passes cs) → SameFront cs more
+  -- where a closing brace is left, it is the same whatever comes after the text
+  pub same_front : (cs more : List ℕ) → Guarded (after_of passes cs) → SameFront cs more
   same_front [] more guard = absurd guard
   same_front (c ∷ cs) more guard = grind (arith, same_front cs more)
 
@@ -32,24 +32,24 @@ reads_give start x = reads_by start (give x) (λ a more. keeps_stay start a more
 
 module _ (start : ℕ) (passes : ℕ → Bool) (a : At) (more : List ℕ) where
   keeps_span :
-      Keeps start a more (Ok (front_of passes a.text, behind passes a))
-      (Ok (front_of passes (a.text ++ more), behind passes (with_more a more)))
+      Keeps start a more (Ok (front_of passes a.text, after passes a))
+      (Ok (front_of passes (a.text ++ more), after passes (with_more a more)))
   keeps_span = (
-    takes_behind passes a,
+    takes_after passes a,
     λ guard.
         let same = same_front passes a.text more guard in rw (same.0, same.1) refl,
   )
 
   keeps_run : KeepsAt start (run passes start) a more
-  keeps_run = by_rest (behind_of passes a.text) refl
+  keeps_run = by_rest (after_of passes a.text) refl
     where
       by_rest :
-          (rest : List ℕ) → behind_of passes a.text ≡ rest
-          → Keeps start a more (run_before start (front_of passes a.text) (behind passes a) rest)
+          (rest : List ℕ) → after_of passes a.text ≡ rest
+          → Keeps start a more (run_before start (front_of passes a.text) (after passes a) rest)
           (run passes start (with_more a more))
       by_rest [] e = λ from. omega arith
       by_rest (d ∷ ds) e = (
-        takes_behind passes a,
+        takes_after passes a,
         λ guard.
             let same = same_front passes a.text more guard in rw (same.0, same.1, e) refl,
       )

@@ -17,7 +17,7 @@ use Rattle.interpolator_syntax.specs.GroupGrammar.{IsGroup}
 use Rattle.interpolator_syntax.specs.Lists.{ListAsked, list_at}
 use Rattle.interpolator_syntax.specs.SpecTexts.{Kind, of_value, of_list, Asked, alignment_letter}
 use Rattle.interpolator_syntax.specs.SpecTexts.{sign_letter, kind_at, spec_parts}
-use Rattle.interpolator_syntax.specs.SpecTexts.{spec_of, spec_behind}
+use Rattle.interpolator_syntax.specs.SpecTexts.{spec_of, spec_after}
 use Rattle.interpolator_syntax.specs.Arguments.{Argument, argument, asked_by, asked_at}
 use Rattle.interpolator_syntax.specs.Arguments.{argument_parts, argument_at}
 use Rattle.interpolator_syntax.specs.Pieces.{Piece, PieceKind, closed, unclosed, pieces, broken}
@@ -35,8 +35,8 @@ use Rattle.interpolator_syntax.proofs.LocalityLemmas.{takes_then, takes_shorter}
 use Rattle.interpolator_syntax.proofs.LocalityLemmas.{takes_reaches, Reads}
 use Rattle.interpolator_syntax.proofs.SimpleReaderLemmas.{reads_span, reads_letter}
 use Rattle.interpolator_syntax.proofs.SimpleReaderLemmas.{reads_flag}
-use Rattle.interpolator_syntax.proofs.PieceLemmas.{strip_behind}
-use Rattle.interpolator_syntax.proofs.TestLemmas.{in_both}
+use Rattle.interpolator_syntax.proofs.PieceLemmas.{strip_after}
+use Rattle.interpolator_syntax.proofs.CaseLemmas.{in_both}
 
 -- ---- groups in a text
 
@@ -60,7 +60,7 @@ abbrev pub KindIn : Kind → At → Type 0
 KindIn (of_value t) a = ⊤
 KindIn (of_list l) a = ListIn l a
 
--- what lies behind a front of a text lies in the text
+-- what lies after a front of a text lies in the text
 group_grows : (g : Group) (a b : At) → Takes a b → GroupIn g b → GroupIn g a
 group_grows g a b t h = record {
   shorter = omega (arith, h.shorter, takes_shorter a b t);
@@ -87,7 +87,7 @@ group_in b g q h = record {
 -- ---- what is read of one text, here the text at a
 
 module _ (a : At) where
-  -- what an answer takes ends behind a front of the text, and P holds of what was read
+  -- what an answer takes ends after a front of the text, and P holds of what was read
   abbrev Held : {A : Type 0} → (A → Type 0) → Result (A × At) Fault → Type 0
   Held P (Ok w) = Takes a w.1 × P w.0
   Held P (Err f) = ⊤
@@ -100,7 +100,7 @@ module _ (a : At) where
   abbrev Any : {A : Type 0} → A → Type 0
   Any x = ⊤
 
-  -- one reader, and behind it the next
+  -- one reader, and after it the next
   then_holds :
       {A B : Type 0} (P : A → Type 0) (Q : B → Type 0) (f : Reader A) (g : A → Reader B)
       → Holds P f → ((x : A) → P x → Holds Q (g x)) → Holds Q (f >>= g)
@@ -114,11 +114,11 @@ module _ (a : At) where
   held_by P f b h =
       elim (f b) as (λ o. f b ≡ o → Held P o) [ Ok w ↦ λ e. h w.0 w.1 e | Err d ↦ λ e. tt ] refl
 
-  -- behind a reader of whose answer nothing is said
-  behind_any :
+  -- after a reader of whose answer nothing is said
+  after_any :
       {A B : Type 0} (Q : B → Type 0) (start : ℕ) (f : Reader A) (g : A → Reader B)
       → Reads start f → ((x : A) → Holds Q (g x)) → Holds Q (f >>= g)
-  behind_any Q start f g reads h =
+  after_any Q start f g reads h =
       then_holds Any Q f g (λ b t.
       held_by Any f b (λ x q e. (takes_then a b q t (reads.takes b x q e), tt))) (λ x u. h x)
 
@@ -148,7 +148,7 @@ module _ (a : At) where
   list_holds : (start : ℕ) → Holds (λ l. ListIn l a) (list_at start)
   unfolding list_at
   list_holds start =
-      behind_any (λ l. ListIn l a) start _ _ (reads_range start) (λ range.
+      after_any (λ l. ListIn l a) start _ _ (reads_range start) (λ range.
       then_holds (λ o. GroupIfIn o a) (λ l. ListIn l a) _ _ (group_if_holds start) (λ item h.
       then_holds (λ o. GroupIfIn o a) (λ l. ListIn l a) _ _ (group_if_holds start) (λ join k b t.
       (t, record { item = h; join = k }))))
@@ -168,13 +168,13 @@ module _ (a : At) where
   unfolding spec_parts
   parts_hold start =
       let Q = AskedHeld in
-      behind_any Q start _ _ (reads_letter start alignment_letter alignments.Unset) (λ alignment.
-      behind_any Q start _ _ (reads_letter start sign_letter signs.Unset) (λ sign.
-      behind_any Q start _ _ (reads_flag start hash) (λ alternate.
-      behind_any Q start _ _ (reads_flag start zero_digit) (λ zero.
-      behind_any Q start _ _ (reads_width start) (λ width.
-      behind_any Q start _ _ (reads_precision start) (λ precision.
-      behind_any Q start _ _ (reads_trait start (alternate || zero)) (λ shown.
+      after_any Q start _ _ (reads_letter start alignment_letter alignments.Unset) (λ alignment.
+      after_any Q start _ _ (reads_letter start sign_letter signs.Unset) (λ sign.
+      after_any Q start _ _ (reads_flag start hash) (λ alternate.
+      after_any Q start _ _ (reads_flag start zero_digit) (λ zero.
+      after_any Q start _ _ (reads_width start) (λ width.
+      after_any Q start _ _ (reads_precision start) (λ precision.
+      after_any Q start _ _ (reads_trait start (alternate || zero)) (λ shown.
       then_holds KindHeld Q _ _ (kind_holds start shown.slot) (λ kind h b t. (t, h)))))))))
 
   spec_of_holds : (start : ℕ) (b : At) (cs : List ℕ) → Takes a b
@@ -184,8 +184,8 @@ module _ (a : At) where
   spec_of_holds start b (c ∷ d ∷ ds) t =
       in_both (Held AskedHeld) (is_alignment d) _ _ tt (parts_hold start b t)
 
-  spec_holds : (start : ℕ) → Holds AskedHeld (spec_behind start)
-  unfolding spec_behind
+  spec_holds : (start : ℕ) → Holds AskedHeld (spec_after start)
+  unfolding spec_after
   spec_holds start b t = spec_of_holds start b b.text t
 
   -- ---- arguments
@@ -196,7 +196,7 @@ module _ (a : At) where
       by_strips : (o k : Option At) → strip colon b ≡ k → Held AskedHeld (asked_by start b o k)
       by_strips (Some end) k e = (t, tt)
       by_strips None (Some rest) e =
-          let s = strip_behind colon b.place b.text rest e in
+          let s = strip_after colon b.place b.text rest e in
           spec_holds start rest (takes_then a b rest t
           (record { front = colon ∷ []; split = s.0; place = omega (arith, s.1) }))
       by_strips None None e = tt
@@ -207,8 +207,8 @@ module _ (a : At) where
       let asks = λ (place : ℕ) (name : List ℕ).
       asked_at start >>= λ asked. give (argument name place asked) in
       let names = λ (spaces : List ℕ). here >>= λ place. span Name >>= asks place in
-      behind_any Q start (span WhiteSpace) names (reads_span start WhiteSpace) (λ spaces b.
-      behind_any Q start (span Name) (asks b.place) (reads_span start Name) (λ name.
+      after_any Q start (span WhiteSpace) names (reads_span start WhiteSpace) (λ spaces b.
+      after_any Q start (span Name) (asks b.place) (reads_span start Name) (λ name.
       then_holds AskedHeld Q (asked_at start) (λ asked. give (argument name b.place asked))
       (asked_holds start) (λ asked h c t. (t, h))) b)
 
@@ -251,10 +251,10 @@ argument_lies a b x q t e =
     }
 
 module _ (a b : At) (t : Takes a b) where
-  -- what stands behind a brace
-  behind_brace : (start : ℕ) (inner : List ℕ) → b.text ≡ open_brace ∷ inner → start ≡ b.place + 1
+  -- what stands after a brace
+  after_brace : (start : ℕ) (inner : List ℕ) → b.text ≡ open_brace ∷ inner → start ≡ b.place + 1
       → Takes a (stands start inner)
-  behind_brace start inner e k =
+  after_brace start inner e k =
       takes_then a b (stands start inner) t
       (record { front = open_brace ∷ []; split = e; place = omega (arith, k) })
 
@@ -270,14 +270,14 @@ module _ (a b : At) (t : Takes a b) where
           let inner = f.inner ++ (close_brace ∷ rest) in
           let split : b.text ≡ open_brace ∷ inner =
           grind (arith, append_assoc, s.split, f.in_braces) in
-          argument_lies a (stands start inner) y _ (behind_brace start inner split f.begins) f.reads
+          argument_lies a (stands start inner) y _ (after_brace start inner split f.begins) f.reads
       by_kind (unclosed start y end) f =
           argument_lies a (stands start f.inner) y _
-          (behind_brace start f.inner (to_end f.inner f.in_front f.takes_all) f.begins) f.reads
+          (after_brace start f.inner (to_end f.inner f.in_front f.takes_all) f.begins) f.reads
       by_kind (broken g) f =
           let c = stands (b.place + 1) f.inner in
           let split = to_end f.inner f.in_front f.takes_all in
-          let there = takes_reaches _ a c (behind_brace c.place f.inner split refl) refl in
+          let there = takes_reaches _ a c (after_brace c.place f.inner split refl) refl in
           omega (arith, there, argument_refuses c g f.reads)
       by_kind k f = tt
 
@@ -286,9 +286,9 @@ these_in [] a b t h = tt
 these_in (x ∷ xs) a b t h =
     let s = h.1.stands in
     let rest = stands (b.place + size x.text) h.0 in
-    let behind = takes_then a b rest t (record { front = x.text; split = s.split; place = refl }) in
+    let after = takes_then a b rest t (record { front = x.text; split = s.split; place = refl }) in
     let there = takes_reaches _ a b t refl in
-    (piece_in a b t x h.0 s, omega (arith, s.place, there), these_in xs a rest behind h.2)
+    (piece_in a b t x h.0 s, omega (arith, s.place, there), these_in xs a rest after h.2)
 
 -- the pieces of a text lie in it, and their groups are shorter
 pub pieces_in : (a : At) → PiecesIn (pieces a) a

@@ -7,7 +7,7 @@ use Rattle.std.specs.Char.{encode_utf8}
 use Rattle.std.specs.List.{slice_get}
 use Rattle.std.proofs.lemmas.Str.{chars_past_char, chars-nil, encodes-chars, encode_ascii}
 use Rattle.std.proofs.lemmas.Str.{len_utf8_ascii, IsCharBoundary-after_ascii}
-use Rattle.interpolator_syntax.specs.At.{At, strip, strip_of, behind}
+use Rattle.interpolator_syntax.specs.At.{At, strip, strip_of, after}
 use Rattle.interpolator_syntax.specs.Classes.{front_of, in_class, open_brace, close_brace}
 use Rattle.interpolator_syntax.specs.Tokens.{literals, first_token, literal_scan}
 use Rattle.interpolator_syntax.specs.declared.class.Class.TheVariants.{Literal}
@@ -37,10 +37,10 @@ pub strip_other : (wanted p : ℕ) (bs : List ℕ) → wanted < 128 → IsUtf8 b
     → strip_of wanted p (chars bs) ≡ None
 strip_other wanted p bs low u h = strip_other_at wanted p bs (chars bs) low h (encodes-chars bs u)
 
-pub boundary_behind : (bs : List ℕ) (b : ℕ) → slice_get bs 0 ≡ Some b → b < 128 → IsUtf8 bs
+pub boundary_after : (bs : List ℕ) (b : ℕ) → slice_get bs 0 ≡ Some b → b < 128 → IsUtf8 bs
     → IsCharBoundary bs 1
-boundary_behind [] b e low u = absurd (cc)
-boundary_behind (x ∷ xs) b e low u =
+boundary_after [] b e low u = absurd (cc)
+boundary_after (x ∷ xs) b e low u =
     let same : x ≡ b = cc in IsCharBoundary-after_ascii (x ∷ xs) 0 u (omega arith) (omega arith)
 
 -- a text that is not empty and begins with no brace begins with a run of literals
@@ -48,7 +48,7 @@ pub literals_scanned : (p : ℕ) (bs cs : List ℕ) (r : At) → 0 < length bs �
     → None ≡ strip open_brace (record { place = p; text = chars bs })
     → None ≡ strip close_brace (record { place = p; text = chars bs })
     → cs ≡ front_of (in_class Literal) (chars bs)
-    → r ≡ behind (in_class Literal) (record { place = p; text = chars bs })
+    → r ≡ after (in_class Literal) (record { place = p; text = chars bs })
     → Some (literals cs, r) ≡ first_token (record { place = p; text = chars bs })
 unfolding first_token
 literals_scanned p bs cs r n u h k f b =
@@ -57,7 +57,7 @@ literals_scanned p bs cs r n u h k f b =
     by_chars : (ds : List ℕ) → encode_utf8_all ds ≡ bs
         → Some (
           literals (front_of (in_class Literal) (chars bs)),
-          behind (in_class Literal)
+          after (in_class Literal)
               (record { place = p; text = chars bs }),
         )
         ≡ literal_scan (record { place = p; text = chars bs }) ds

@@ -1,4 +1,4 @@
--- An argument as its parts, one behind the other, each at its place; and why no argument begins.
+-- An argument as its parts, one after the other, each at its place; and why no argument begins.
 use Rattle.std.specs.Prelude.{◌≡◌, ◌⊎◌, ℕ, ◌+◌, List, [], ◌∷◌, ◌++◌}
 use Rattle.interpolator_syntax.specs.At.{At, size}
 use Rattle.interpolator_syntax.specs.Classes.{close_brace, colon, in_class}
@@ -10,7 +10,7 @@ use Rattle.interpolator_syntax.specs.SpecGrammar.{IsSpec, IsNoSpec}
 use Rattle.interpolator_syntax.specs.Faults.{Fault, parse, unclosed}
 use Rattle.interpolator_syntax.specs.declared.class.Class.TheVariants.{WhiteSpace, Name}
 
--- behind all the white space at a stands the name, at p, up to the first `:` or `}`, and behind the
+-- after all the white space at a stands the name, at p, up to the first `:` or `}`, and after the
 -- name what stands at b
 pub record IsNamed (a : At) (name : List ℕ) (p : ℕ) (b : At) : Type 0 where
   pub spaces : List ℕ
@@ -19,14 +19,14 @@ pub record IsNamed (a : At) (name : List ℕ) (p : ℕ) (b : At) : Type 0 where
   pub name_place : p ≡ a.place + size spaces
   pub end_place : b.place ≡ p + size name
 
--- behind the name, in the argument that begins at `start`: a `}`, which asks for plain display and
--- is not read; or a `:`, and the spec behind it
-abbrev pub Asks : (start : ℕ) → (b : At) → (x : Asked) → (q : At) → Type 0
-Asks start b x q =
-    (IsFirst close_brace b.text × (x ≡ plain_display) × (q ≡ b))
-    ⊎ ((m : At) × Lies b (colon ∷ []) m × IsSpec start m x q)
+-- after the name, in the argument that begins at `start`: a `}`, which asks for plain display and
+-- is not read; or a `:`, and the spec after it
+abbrev pub Asks : (start : ℕ) → (b : At) → (x : Asked) → (end : At) → Type 0
+Asks start b x end =
+    (IsFirst close_brace b.text × (x ≡ plain_display) × (end ≡ b))
+    ⊎ ((m : At) × Lies b (colon ∷ []) m × IsSpec start m x end)
 
--- behind the name nothing that asks: the text ends, or no spec stands behind a `:`
+-- after the name nothing that asks: the text ends, or no spec stands after a `:`
 abbrev pub AsksNothing : (start : ℕ) → (b : At) → (f : Fault) → Type 0
 AsksNothing start b f =
     ((b.text ≡ []) × (f ≡ parse (unclosed start)))
@@ -36,16 +36,16 @@ AsksNothing start b f =
 abbrev pub asked : Argument → Asked
 asked x = record { spec = x.spec; kind = x.kind }
 
--- the argument that begins at a, and behind it what stands at q
-pub record IsArgument (a : At) (x : Argument) (q : At) : Type 0 where
-  pub behind : At
-  pub named : IsNamed a x.name x.name_place behind
-  pub asks : Asks a.place behind (asked x) q
+-- the argument that begins at a, and after it what stands at `end`
+pub record IsArgument (a : At) (x : Argument) (end : At) : Type 0 where
+  pub after : At
+  pub named : IsNamed a x.name x.name_place after
+  pub asks : Asks a.place after (asked x) end
 
 -- no argument begins at a, for this reason
 pub record IsNoArgument (a : At) (f : Fault) : Type 0 where
   pub name : List ℕ
   pub name_place : ℕ
-  pub behind : At
-  pub named : IsNamed a name name_place behind
-  pub refused : AsksNothing a.place behind f
+  pub after : At
+  pub named : IsNamed a name name_place after
+  pub refused : AsksNothing a.place after f

@@ -1,23 +1,28 @@
--- What stands behind an opening brace.
-use Rattle.std.specs.Prelude.{ℕ, List, drop, Option, None, Some, option_map, Result, Ok, Err}
+-- What stands after an opening brace.
+use Rattle.std.specs.Prelude.{◌≡◌, ℕ, List, drop, Option, None, Some, option_map, Result, Ok, Err}
 use Rattle.std.specs.Str.{chars}
 use Rattle.interpolator_render.specs.declared.view.Spec.{Spec}
+use Rattle.interpolator_render.specs.declared.view.Trait.{Trait}
+use Rattle.interpolator_render.specs.declared.view.Trait.TheVariants as traits
 use Rattle.interpolator_syntax.specs.At.{At, at, strip}
 use Rattle.interpolator_syntax.specs.Classes.{close_brace, colon}
 use Rattle.interpolator_syntax.specs.Readers.{Reader, ◌>>=◌, give, here, span}
 use Rattle.interpolator_syntax.specs.Groups.{group_of}
 use Rattle.interpolator_syntax.specs.SpecTexts.{Kind, of_value, of_list, Asked}
-use Rattle.interpolator_syntax.specs.SpecTexts.{plain_display, spec_behind}
-use Rattle.interpolator_syntax.specs.Faults.{Fault, Answer, fault, parse, unclosed, broken_fault_of}
+use Rattle.interpolator_syntax.specs.SpecTexts.{plain_display, plain_spec, spec_after}
+use Rattle.interpolator_syntax.specs.Lists.{ListAsked}
+use Rattle.interpolator_syntax.specs.Faults.{Fault, Answer, fault, parse, unclosed, argument_fault_of}
 use Rattle.interpolator_syntax.specs.Faults.{answer_of}
 use Rattle.interpolator_syntax.specs.declared.error.Error.{Error}
 use Rattle.interpolator_syntax.specs.declared.class.Class.TheVariants.{WhiteSpace, Name}
-use Rattle.interpolator_syntax.specs.declared.broken.Broken.{Broken}
+use Rattle.interpolator_syntax.specs.declared.argument_fault.ArgumentFault.{ArgumentFault}
 use Rattle.interpolator_syntax.specs.declared.argument.Kind as code_kind
 use Rattle.interpolator_syntax.specs.declared.argument.Kind.TheVariants.{Value, List as ListKind}
-use Rattle.interpolator_syntax.specs.declared.cursor.Cursor.{Cursor}
 use Rattle.interpolator_syntax.specs.declared.argument.Argument as code_argument
-use Rattle.interpolator_syntax.specs.declared.argument.Named.{Named}
+use Rattle.interpolator_syntax.specs.declared.argument.ArgumentName.{ArgumentName}
+use Rattle.interpolator_syntax.specs.declared.argument.Asked as code_asked
+use Rattle.interpolator_syntax.specs.declared.argument.TakenArgument.{TakenArgument}
+use Rattle.interpolator_syntax.specs.declared.list.ListForm.{ListForm}
 
 -- what stands in braces
 pub record Argument : Type 0 where
@@ -31,13 +36,13 @@ abbrev pub argument : List ℕ → ℕ → Asked → Argument
 argument name place asked =
     record { name = name; name_place = place; spec = asked.spec; kind = asked.kind }
 
--- behind a name: a closing brace, or a colon and the spec behind it; the text does not end there
+-- after a name: a closing brace, or a colon and the spec after it; the text does not end there
 abbrev pub asked_by : (start : ℕ) → (a : At) → Option At → Option At → Result (Asked × At) Fault
 asked_by start a (Some closed) spec = Ok (plain_display, a)
-asked_by start a None (Some rest) = spec_behind start rest
+asked_by start a None (Some rest) = spec_after start rest
 asked_by start a None None = Err (parse (unclosed start))
 
--- what is asked behind the name of the argument that begins at `start`
+-- what is asked after the name of the argument that begins at `start`
 abbrev pub asked_at : (start : ℕ) → Reader Asked
 asked_at start = λ a. asked_by start a (strip close_brace a) (strip colon a)
 
@@ -51,14 +56,14 @@ argument_parts start =
       asked ← asked_at start
       give (argument name place asked)
 
--- an argument whose name was read, by what is asked behind it
-abbrev pub argument_behind : (start : ℕ) → Argument → Reader Argument
-argument_behind start x =
+-- an argument whose name was read, by what is asked after it
+abbrev pub argument_after : (start : ℕ) → Argument → Reader Argument
+argument_after start x =
     do
       asked ← asked_at start
       give (argument x.name x.name_place asked)
 
--- the argument that begins here, behind its brace, and what stands behind its spec; or why it is
+-- the argument that begins here, after its brace, and what stands after its spec; or why it is
 -- broken
 unfoldable pub argument_at : Reader Argument
 argument_at = λ a. argument_parts a.place a
@@ -72,30 +77,50 @@ kind_of (ListKind range item join) = of_list (record {
   join = option_map group_of join;
 })
 
--- a kind, and what stands behind it; or why it is broken
-abbrev pub kind_read : Result (code_kind.Kind × Cursor) Broken → Result (Kind × At) Fault
-kind_read (Ok x) = Ok (kind_of x.0, at x.1)
-kind_read (Err broken) = Err (broken_fault_of broken)
+-- how a list is written, as the code has it
+abbrev pub list_of : ListForm → ListAsked
+list_of form = record {
+  range = form.range;
+  item = option_map group_of form.item;
+  join = option_map group_of form.join;
+}
+
+-- what a trait asks for: `Iter` a list of that form, and each other a value
+abbrev pub kind_under : Trait → ListAsked → Kind
+kind_under traits.Iter form = of_list form
+kind_under t form = of_value t
+
+-- the same of what is asked, as the code has it
+abbrev pub kind_of_asked : code_asked.Asked → Kind
+kind_of_asked x = kind_under x.slot (list_of x.list)
 
 -- what is asked, as the code has it
-abbrev pub asked_of : code_argument.Argument → Asked
-asked_of x = record { spec = x.spec; kind = kind_of x.kind }
+abbrev pub asked_of : code_asked.Asked → Asked
+asked_of x = record { spec = x.spec; kind = kind_of_asked x }
+
+-- plain display, as the code has it
+abbrev pub IsPlain : code_asked.Asked → Type 0
+IsPlain x = (x.slot ≡ traits.Display) × (x.spec ≡ plain_spec)
 
 -- an argument as the code has it, without where it lies in memory
 abbrev pub argument_of : code_argument.Argument → Argument
-argument_of x = argument (chars x.name.now) x.name_place (asked_of x)
+argument_of x = argument (chars x.name.now) x.name_place
+    (record { spec = x.spec; kind = kind_of x.kind })
+
+-- what is asked of a name that the code read
+abbrev pub named_argument : ArgumentName → Asked → Argument
+named_argument n asked = argument (chars n.name.now) n.place asked
 
 -- plain display of a name that the code read
-abbrev pub plain_argument : Named → Argument
-plain_argument n = argument (chars n.name.now) n.place plain_display
+abbrev pub plain_argument : ArgumentName → Argument
+plain_argument n = named_argument n plain_display
 
--- what the code read, up to q, into the argument x; or why it is broken
-abbrev pub argument_read : Result (Unit {0}) Broken → code_argument.Argument → (q : At)
-    → Result (Argument × At) Fault
-argument_read (Ok _) x q = Ok (argument_of x, q)
-argument_read (Err broken) x q = Err (broken_fault_of broken)
+-- an argument that the code read, and what stands after its spec; or why it is broken
+abbrev pub taken_read : Result TakenArgument ArgumentFault → Result (Argument × At) Fault
+taken_read (Ok t) = Ok (named_argument t.name (asked_of t.asked), at t.end)
+taken_read (Err broken) = Err (argument_fault_of broken)
 
--- an argument, and the byte behind its spec
+-- an argument, and the byte after its spec
 abbrev pub with_end : Result (Argument × At) Fault → Result (Argument × ℕ) Fault
 with_end (Ok w) = Ok (w.0, w.1.place)
 with_end (Err f) = Err f
@@ -115,8 +140,20 @@ answering (Err f) = Err (fault f)
 abbrev pub from_byte : (text : List ℕ) → (start : ℕ) → At
 from_byte text start = record { place = start; text = chars (drop start text) }
 
--- the same of what is asked
-abbrev pub asked_read : Result (Unit {0}) Broken → code_argument.Argument → (q : At)
+-- what the code read into x, up to `end`; or why it is broken
+abbrev pub asked_read : Result (Unit {0}) ArgumentFault → (x : code_asked.Asked) → (end : At)
     → Result (Asked × At) Fault
-asked_read (Ok _) x q = Ok (asked_of x, q)
-asked_read (Err broken) x q = Err (broken_fault_of broken)
+asked_read (Ok _) x end = Ok (asked_of x, end)
+asked_read (Err broken) x end = Err (argument_fault_of broken)
+
+-- the same of a name's argument
+abbrev pub argument_read : ArgumentName → Result (Unit {0}) ArgumentFault → (x : code_asked.Asked)
+    → (end : At) → Result (Argument × At) Fault
+argument_read n (Ok _) x end = Ok (named_argument n (asked_of x), end)
+argument_read n (Err broken) x end = Err (argument_fault_of broken)
+
+-- how a list is written, which was read into x up to `end`; or why it is broken
+abbrev pub list_read : Result (Unit {0}) ArgumentFault → (x : ListForm) → (end : At)
+    → Result (ListAsked × At) Fault
+list_read (Ok _) x end = Ok (list_of x, end)
+list_read (Err broken) x end = Err (argument_fault_of broken)

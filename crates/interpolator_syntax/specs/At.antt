@@ -3,7 +3,7 @@ use Rattle.std.specs.Prelude.{ℕ, Bool, ◌+◌, ◌==◌, if◌then◌else◌,
 use Rattle.std.specs.Prelude.{None}
 use Rattle.std.specs.Char.{len_utf8}
 use Rattle.std.specs.Str.{chars}
-use Rattle.interpolator_syntax.specs.Classes.{front_of, behind_of}
+use Rattle.interpolator_syntax.specs.Classes.{front_of, after_of}
 use Rattle.interpolator_syntax.specs.declared.cursor.Cursor.{Cursor}
 
 -- how many bytes the characters take
@@ -19,7 +19,7 @@ Placed = List (ℕ × ℕ)
 abbrev pub text_of : Placed → List ℕ
 text_of xs = map (λ x. x.0) xs
 
--- characters that stand in the format from a place on, one behind the other
+-- characters that stand in the format from a place on, one after the other
 abbrev pub placed_from : ℕ → List ℕ → Placed
 placed_from p [] = []
 placed_from p (c ∷ cs) = (c, p) ∷ placed_from (p + len_utf8 c) cs
@@ -41,7 +41,7 @@ outermost cs = record { place = 0; text = cs }
 abbrev pub at : Cursor → At
 at c = record { place = c.place; text = chars c.rest.now }
 
--- the first character of a text at a place, and what stands behind it
+-- the first character of a text at a place, and what stands after it
 abbrev pub first_of : ℕ → List ℕ → Option (ℕ × At)
 first_of p [] = None
 first_of p (c ∷ cs) = Some (c, record { place = p + len_utf8 c; text = cs })
@@ -50,12 +50,12 @@ first_of p (c ∷ cs) = Some (c, record { place = p + len_utf8 c; text = cs })
 abbrev pub first : At → Option (ℕ × At)
 first a = first_of a.place a.text
 
--- what stands behind the longest front whose characters pass
-abbrev pub behind : (ℕ → Bool) → At → At
-behind passes a =
-    record { place = a.place + size (front_of passes a.text); text = behind_of passes a.text }
+-- what stands after the longest front whose characters pass
+abbrev pub after : (ℕ → Bool) → At → At
+after passes a =
+    record { place = a.place + size (front_of passes a.text); text = after_of passes a.text }
 
--- what stands behind the character c, where the text begins with it
+-- what stands after the character c, where the text begins with it
 abbrev pub strip_of : ℕ → ℕ → List ℕ → Option At
 strip_of c p [] = None
 strip_of c p (d ∷ ds) = if d == c then Some (record { place = p + len_utf8 d; text = ds }) else None
@@ -64,6 +64,6 @@ strip_of c p (d ∷ ds) = if d == c then Some (record { place = p + len_utf8 d; 
 abbrev pub strip : ℕ → At → Option At
 strip c a = strip_of c a.place a.text
 
--- what stands behind all of the text
-abbrev pub all_behind : At → At
-all_behind a = record { place = a.place + size a.text; text = [] }
+-- what stands after all of the text
+abbrev pub all_after : At → At
+all_after a = record { place = a.place + size a.text; text = [] }

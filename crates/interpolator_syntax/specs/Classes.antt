@@ -3,7 +3,7 @@ use Rattle.std.specs.Prelude.{ℕ, Bool, not, ◌||◌, ◌==◌, if◌then◌el
 use Rattle.std.specs.Char.{is_whitespace, is_ascii_digit}
 use Rattle.interpolator_syntax.specs.declared.class.Class.{Class}
 use Rattle.interpolator_syntax.specs.declared.class.Class.TheVariants.{WhiteSpace, Name, Number}
-use Rattle.interpolator_syntax.specs.declared.class.Class.TheVariants.{Literal, Sign, Enclosed}
+use Rattle.interpolator_syntax.specs.declared.class.Class.TheVariants.{Literal, Hash, Enclosed}
 
 -- `{`
 abbrev pub open_brace : ℕ
@@ -111,7 +111,7 @@ in_class WhiteSpace c = is_whitespace c
 in_class Name c = avoids colon close_brace c
 in_class Number c = is_ascii_digit c || c == minus
 in_class Literal c = not (is_brace c)
-in_class Sign c = c == hash
+in_class Hash c = c == hash
 in_class Enclosed c = avoids close_bracket close_bracket c
 
 -- the longest front whose characters pass
@@ -119,7 +119,7 @@ abbrev pub front_of : (ℕ → Bool) → List ℕ → List ℕ
 front_of passes [] = []
 front_of passes (c ∷ cs) = if passes c then c ∷ front_of passes cs else []
 
--- what stands behind it
-abbrev pub behind_of : (ℕ → Bool) → List ℕ → List ℕ
-behind_of passes [] = []
-behind_of passes (c ∷ cs) = if passes c then behind_of passes cs else (c ∷ cs)
+-- what stands after it
+abbrev pub after_of : (ℕ → Bool) → List ℕ → List ℕ
+after_of passes [] = []
+after_of passes (c ∷ cs) = if passes c then after_of passes cs else (c ∷ cs)

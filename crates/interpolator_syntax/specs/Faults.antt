@@ -10,8 +10,8 @@ use Rattle.interpolator_syntax.specs.declared.error.ParseError.TheVariants.{Expe
 use Rattle.interpolator_syntax.specs.declared.error.ParseError.TheVariants.{InvalidWidth}
 use Rattle.interpolator_syntax.specs.declared.error.ParseError.TheVariants.{InvalidPrecision}
 use Rattle.interpolator_syntax.specs.declared.error.ParseError.TheVariants.{Fill, Iter, RangeBound}
-use Rattle.interpolator_syntax.specs.declared.broken.Broken.{Broken}
-use Rattle.interpolator_syntax.specs.declared.broken.Broken.TheVariants.{Text, Pointer}
+use Rattle.interpolator_syntax.specs.declared.argument_fault.ArgumentFault.{ArgumentFault}
+use Rattle.interpolator_syntax.specs.declared.argument_fault.ArgumentFault.TheVariants.{Text, Pointer}
 use Rattle.interpolator_syntax.specs.declared.error.Error.{Error}
 use Rattle.interpolator_syntax.specs.declared.error.Error.TheVariants.{MissingTraitImpl, Fmt, Parse}
 use Rattle.interpolator_syntax.specs.declared.error.Error.TheVariants.{MissingValue}
@@ -68,9 +68,9 @@ answered (Ok _) = None
 answered (Err error) = Some (answer_of error)
 
 -- why no argument can be read
-abbrev pub broken_fault_of : Broken → Fault
-broken_fault_of (Text error) = parse (parse_fault_of error)
-broken_fault_of (Pointer place) = unsupported_option (codes "p") (codes "pointer") place
+abbrev pub argument_fault_of : ArgumentFault → Fault
+argument_fault_of (Text error) = parse (parse_fault_of error)
+argument_fault_of (Pointer place) = unsupported_option (codes "p") (codes "pointer") place
 
 -- the one fault that owns memory
 abbrev pub IsMissingValue : Error → Type 0

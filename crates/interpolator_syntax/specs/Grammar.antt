@@ -25,7 +25,7 @@ from_place p cs = record { place = p; text = cs }
 abbrev pub NotFirst : ℕ → List ℕ → Type 0
 NotFirst c text = (more : List ℕ) → text ≢ c ∷ more
 
--- from a brace at p to its closing brace: the argument behind the one ends in front of the other
+-- from a brace at p to its closing brace: the argument after the one ends in front of the other
 pub record IsClosed (p start : ℕ) (x : Argument) (end : ℕ) (text rest : List ℕ) : Type 0 where
   pub inner : List ℕ
   pub in_braces : text ≡ open_brace ∷ (inner ++ (close_brace ∷ []))
@@ -34,7 +34,7 @@ pub record IsClosed (p start : ℕ) (x : Argument) (end : ℕ) (text rest : List
       argument_at (from_place start (inner ++ (close_brace ∷ rest)))
       ≡ Ok (x, from_place end (close_brace ∷ rest))
 
--- from a brace at p on all the rest: no closing brace stands where the argument behind it ends
+-- from a brace at p on all the rest: no closing brace stands where the argument after it ends
 pub record IsUnclosed (p start : ℕ) (x : Argument) (end : ℕ) (text rest : List ℕ) : Type 0 where
   pub inner : List ℕ
   pub left : List ℕ
@@ -44,7 +44,7 @@ pub record IsUnclosed (p start : ℕ) (x : Argument) (end : ℕ) (text rest : Li
   pub reads : argument_at (from_place start inner) ≡ Ok (x, from_place end left)
   pub not_closed : NotFirst close_brace left
 
--- from a brace at p on all the rest: no argument stands behind it, for this reason
+-- from a brace at p on all the rest: no argument stands after it, for this reason
 pub record IsBroken (p : ℕ) (f : Fault) (text rest : List ℕ) : Type 0 where
   pub inner : List ℕ
   pub takes_all : rest ≡ []
@@ -69,9 +69,9 @@ pub record Stands (a : At) (x : Piece) (rest : List ℕ) : Type 0 where
 -- and no piece that may stand there is of an earlier kind
 pub record StandsFirst (a : At) (x : Piece) (rest : List ℕ) : Type 0 where
   pub stands : Stands a x rest
-  pub first : (y : Piece) (behind : List ℕ) → Stands a y behind → rank x.kind ≤ rank y.kind
+  pub first : (y : Piece) (after : List ℕ) → Stands a y after → rank x.kind ≤ rank y.kind
 
--- the text is these pieces, one behind the other, each of the first kind that its place allows
+-- the text is these pieces, one after the other, each of the first kind that its place allows
 abbrev pub IsPieces : At → List Piece → Type 0
 IsPieces a [] = a.text ≡ []
 IsPieces a (x ∷ xs) =
@@ -80,7 +80,7 @@ IsPieces a (x ∷ xs) =
 
 -- ---- fronts of a text
 
--- the longest front of a text whose characters pass, and what stands behind it
+-- the longest front of a text whose characters pass, and what stands after it
 pub record IsLongest (passes : ℕ → Bool) (text front rest : List ℕ) : Type 0 where
   pub split : text ≡ front ++ rest
   pub pass : All (λ c. IsTrue (passes c)) front

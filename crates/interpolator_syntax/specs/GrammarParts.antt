@@ -1,5 +1,5 @@
 -- Parts of a text by relation: what stands at a place, or the fault that it does not. A part reads
--- nothing, and parts stand one behind the other.
+-- nothing, and parts stand one after the other.
 use Rattle.std.specs.Prelude.{◌≡◌, ◌≢◌, ◌⊎◌, ℕ, ◌+◌, Bool, true, false, IsTrue, IsFalse}
 use Rattle.std.specs.Prelude.{List, [], ◌∷◌, ◌++◌, Option, Some, None}
 use Rattle.interpolator_syntax.specs.At.{At, size}
@@ -11,14 +11,14 @@ use Rattle.interpolator_syntax.specs.declared.error.NumberError.{NumberError}
 use Rattle.interpolator_syntax.specs.declared.class.Class.{Class}
 use Rattle.interpolator_syntax.specs.declared.class.Class.TheVariants.{Number}
 
--- `is a x q`: x stands at a, and behind it what stands at q; `is_not a f`: none stands at a, and f
+-- `is a x q`: x stands at a, and after it what stands at q; `is_not a f`: none stands at a, and f
 -- is the fault
 pub record Part (A : Type 0) : Type 1 where
   pub is : At → A → At → Type 0
   pub is_not : At → Fault → Type 0
 
 infixl 10 ◌>>=◌
--- a part and, behind it, the next; the fault is of the first part that does not stand
+-- a part and, after it, the next; the fault is of the first part that does not stand
 abbrev pub ◌>>=◌ : {A B : Type 0} → Part A → (A → Part B) → Part B
 ◌>>=◌ {A = A} part next = record {
   is = λ a y q. (x : A) × (b : At) × part.is a x b × (next x).is b y q;
@@ -39,7 +39,7 @@ placed part =
 abbrev pub IsFirst : (c : ℕ) → List ℕ → Type 0
 IsFirst c text = (more : List ℕ) × (text ≡ c ∷ more)
 
--- the characters stand at a, and behind them what stands at q
+-- the characters stand at a, and after them what stands at q
 pub record Lies (a : At) (cs : List ℕ) (q : At) : Type 0 where
   pub split : a.text ≡ cs ++ q.text
   pub place : q.place ≡ a.place + size cs
@@ -81,16 +81,16 @@ where_first passes part = record {
   is_not = λ a f. FirstPasses passes a.text × part.is_not a f;
 }
 
--- a part that is there exactly behind the character c
-abbrev pub where_behind : {A : Type 0} → ℕ → Part (Option A) → Part (Option A)
-where_behind c part = record {
+-- a part that is there exactly after the character c
+abbrev pub where_after : {A : Type 0} → ℕ → Part (Option A) → Part (Option A)
+where_after c part = record {
   is =
       λ a x q. ((b : At) × Lies a (c ∷ []) b × part.is b x q)
       ⊎ (NotFirst c a.text × (x ≡ None) × (q ≡ a));
   is_not = λ a f. (b : At) × Lies a (c ∷ []) b × part.is_not b f;
 }
 
--- the longest run of a class stands at a, and behind it what stands at q
+-- the longest run of a class stands at a, and after it what stands at q
 pub record IsRun (class : Class) (a : At) (cs : List ℕ) (q : At) : Type 0 where
   pub longest : IsLongest (in_class class) a.text cs q.text
   pub place : q.place ≡ a.place + size cs

@@ -18,7 +18,7 @@ open_text k = sign_text k ++ (open_bracket ∷ [])
 abbrev pub close_text : ℕ → List ℕ
 close_text k = close_bracket ∷ sign_text k
 
--- no `)` of the inner text has k signs right behind it, where `after` stands behind that text
+-- no `)` of the inner text has k signs right after it, where `after` stands after that text
 abbrev pub NoneCloses : (k : ℕ) → (inner after : List ℕ) → Type 0
 NoneCloses k inner after =
     (front more rest : List ℕ) → inner ≡ front ++ (close_bracket ∷ more)

@@ -4,31 +4,31 @@ use Rattle.std.specs.Prelude.{Option, Some, None, option_map, Result, Ok, Err, c
 use Rattle.std.specs.Char.{len_utf8}
 use Rattle.std.specs.Str.{chars}
 use Rattle.std.specs.Borrow.{Bor}
-use Rattle.interpolator_syntax.specs.At.{At, at, first, strip, behind}
+use Rattle.interpolator_syntax.specs.At.{At, at, first, strip, after}
 use Rattle.interpolator_syntax.specs.Classes.{in_class, hash, open_bracket, close_bracket}
 use Rattle.interpolator_syntax.specs.Readers.{Reader, ◌>>=◌, give, span}
-use Rattle.interpolator_syntax.specs.Faults.{Fault, parse, unclosed, expected, broken_fault_of}
-use Rattle.interpolator_syntax.specs.declared.class.Class.TheVariants.{Sign, Enclosed}
-use Rattle.interpolator_syntax.specs.declared.broken.Broken.{Broken}
+use Rattle.interpolator_syntax.specs.Faults.{Fault, parse, unclosed, expected, argument_fault_of}
+use Rattle.interpolator_syntax.specs.declared.class.Class.TheVariants.{Hash, Enclosed}
+use Rattle.interpolator_syntax.specs.declared.argument_fault.ArgumentFault.{ArgumentFault}
 use Rattle.interpolator_syntax.specs.declared.cursor.Cursor.{Cursor}
 use Rattle.interpolator_syntax.specs.declared.group.Group as code_group
 
--- what stands behind k signs, where so many stand at p
-abbrev pub behind_signs : (k p : ℕ) → List ℕ → Option At
-behind_signs zero p cs = Some (record { place = p; text = cs })
-behind_signs (suc k) p [] = None
-behind_signs (suc k) p (c ∷ cs) = if c == hash then behind_signs k (p + len_utf8 c) cs else None
+-- what stands after k signs, where so many stand at p
+abbrev pub after_hashes : (k p : ℕ) → List ℕ → Option At
+after_hashes zero p cs = Some (record { place = p; text = cs })
+after_hashes (suc k) p [] = None
+after_hashes (suc k) p (c ∷ cs) = if c == hash then after_hashes k (p + len_utf8 c) cs else None
 
--- the text ends in front of the character c, behind whose signs this stands; or it ends later
+-- the text ends in front of the character c, after whose signs this stands; or it ends later
 abbrev pub here_or_later : (c : ℕ) → Option At → Option (List ℕ × At) → Option (List ℕ × At)
 here_or_later c (Some q) later = Some ([], q)
 here_or_later c None later = option_map (λ w. (c ∷ w.0, w.1)) later
 
--- the text up to the first `)` that is followed by k signs, and what stands behind those
+-- the text up to the first `)` that is followed by k signs, and what stands after those
 abbrev pub close_from : (k p : ℕ) → List ℕ → Option (List ℕ × At)
 close_from k p [] = None
 close_from k p (c ∷ cs) =
-    here_or_later c (if c == close_bracket then behind_signs k (p + len_utf8 c) cs else None)
+    here_or_later c (if c == close_bracket then after_hashes k (p + len_utf8 c) cs else None)
     (close_from k (p + len_utf8 c) cs)
 
 -- a text in brackets, and where it begins
@@ -41,7 +41,7 @@ abbrev pub closed_group : (start p : ℕ) → Option (List ℕ × At) → Result
 closed_group start p None = Err (parse (unclosed start))
 closed_group start p (Some w) = Ok (record { text = w.0; place = p }, w.1)
 
--- behind k signs, a bracket, and the text up to where it closes
+-- after k signs, a bracket, and the text up to where it closes
 abbrev pub bracket_first : (start k : ℕ) → (a : At) → Option (ℕ × At) → Result (Group × At) Fault
 bracket_first start k a None = Err (parse (unclosed start))
 bracket_first start k a (Some w) =
@@ -58,7 +58,7 @@ bracket_at start k = λ a. bracket_first start k a (first a)
 unfoldable pub group_at : (start : ℕ) → Reader Group
 group_at start =
     do
-      signs ← span Sign
+      signs ← span Hash
       bracket_at start (length signs)
 
 -- a group where a `(` or a sign stands first
@@ -72,17 +72,17 @@ if_bracket read a (Some w) =
 abbrev pub group_if : (start : ℕ) → Reader (Option Group)
 group_if start = λ a. if_bracket (group_at start) a (first a)
 
--- a `)`, if one stands at b, and what stands behind it
-abbrev pub with_behind : (b : At) → Option At → Option (At × At)
-with_behind b None = None
-with_behind b (Some rest) = Some (b, rest)
+-- a `)`, if one stands at b, and what stands after it
+abbrev pub with_after : (b : At) → Option At → Option (At × At)
+with_after b None = None
+with_after b (Some rest) = Some (b, rest)
 
--- the next `)`, and what stands behind it
+-- the next `)`, and what stands after it
 abbrev pub next_close : At → Option (At × At)
 next_close a =
-    with_behind (behind (in_class Enclosed) a) (strip close_bracket (behind (in_class Enclosed) a))
+    with_after (after (in_class Enclosed) a) (strip close_bracket (after (in_class Enclosed) a))
 
--- a text as the code has it, and what stands behind it
+-- a text as the code has it, and what stands after it
 abbrev pub text_read : Bor (List ℕ) × Cursor → List ℕ × At
 text_read x = (chars x.0.now, at x.1)
 
@@ -90,13 +90,13 @@ text_read x = (chars x.0.now, at x.1)
 abbrev pub group_of : code_group.Group → Group
 group_of g = record { text = chars g.text.now; place = g.place }
 
--- the same with what stands behind it; or why it is broken
-abbrev pub group_read : Result (code_group.Group × Cursor) Broken → Result (Group × At) Fault
-group_read (Ok x) = Ok (group_of x.0, at x.1)
-group_read (Err broken) = Err (broken_fault_of broken)
+-- the same, which was read up to `end`; or why it is broken
+abbrev pub group_read : Result code_group.Group ArgumentFault → (end : At) → Result (Group × At) Fault
+group_read (Ok g) end = Ok (group_of g, end)
+group_read (Err broken) end = Err (argument_fault_of broken)
 
 -- the same of a group that may be absent
-abbrev pub group_if_read : Result (Option code_group.Group × Cursor) Broken
+abbrev pub group_if_read : Result (Option code_group.Group) ArgumentFault → (end : At)
     → Result (Option Group × At) Fault
-group_if_read (Ok x) = Ok (option_map group_of x.0, at x.1)
-group_if_read (Err broken) = Err (broken_fault_of broken)
+group_if_read (Ok g) end = Ok (option_map group_of g, end)
+group_if_read (Err broken) end = Err (argument_fault_of broken)

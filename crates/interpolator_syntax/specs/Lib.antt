@@ -11,7 +11,6 @@ pub mod SpecReads
 pub mod Arguments
 pub mod Pieces
 pub mod Tokens
-pub mod Doubled
 pub mod NumberGrammar
 pub mod GroupGrammar
 pub mod Grammar
@@ -19,5 +18,8 @@ pub mod GrammarParts
 pub mod ListGrammar
 pub mod SpecGrammar
 pub mod ArgumentGrammar
+pub mod PieceGrammar
+pub mod Moved
 pub mod Faults
+pub mod ArgumentFaults
 pub mod FaultTexts

@@ -1,4 +1,4 @@
--- The text behind the letter of a list as its parts, one behind the other: a range and two groups.
+-- The text after the letter of a list as its parts, one after the other: a range and two groups.
 use Rattle.std.specs.Prelude.{◌≡◌, ◌≢◌, ◌⊎◌, ℕ, ℤ, Bool, true, false, ◌==◌, ◌||◌, List, ◌∷◌}
 use Rattle.std.specs.Prelude.{Option, Some, None, codes}
 use Rattle.interpolator_syntax.specs.At.{At}
@@ -32,7 +32,7 @@ points = record {
   is_not = λ a f. ⊥;
 }
 
--- an upper bound may stand behind points alone
+-- an upper bound may stand after points alone
 abbrev pub upper : (start : ℕ) → Option Bool → Part (Option ℤ)
 upper start None = ends None
 upper start (Some inclusive) = bound start
@@ -46,7 +46,7 @@ range start =
       upper ← upper start inclusive
       ends (range_of lower inclusive upper)
 
--- this range, if one, stands at a, and behind it what stands at q
+-- this range, if one, stands at a, and after it what stands at q
 abbrev pub IsRange : (start : ℕ) → (a : At) → (x : Option Range) → (q : At) → Type 0
 IsRange start = (range start).is
 
@@ -78,10 +78,10 @@ list start =
       join ← group_there start
       ends (record { range = range; item = item; join = join })
 
--- x stands at a, behind the letter of a list, and behind it what stands at q
+-- x stands at a, after the letter of a list, and after it what stands at q
 abbrev pub IsList : (start : ℕ) → (a : At) → (x : ListAsked) → (q : At) → Type 0
 IsList start = (list start).is
 
--- why what stands behind the letter is no list
+-- why what stands after the letter is no list
 abbrev pub IsNoList : (start : ℕ) → (a : At) → (f : Fault) → Type 0
 IsNoList start = (list start).is_not

@@ -1,5 +1,5 @@
 -- How a list is written: which of its items, the format of an item, and the text between them.
-use Rattle.std.specs.Prelude.{ℕ, Option}
+use Rattle.std.specs.Prelude.{ℕ, Option, None}
 use Rattle.interpolator_syntax.specs.Groups.{Group, group_if}
 use Rattle.interpolator_syntax.specs.Ranges.{range_at}
 use Rattle.interpolator_syntax.specs.Readers.{Reader, ◌>>=◌, give}
@@ -11,7 +11,11 @@ pub record ListAsked : Type 0 where
   pub item : Option Group
   pub join : Option Group
 
--- what stands behind the letter `i` of the argument that begins at `start`
+-- all items, each displayed plainly, and nothing between two of them
+abbrev pub plain_list : ListAsked
+plain_list = record { range = None; item = None; join = None }
+
+-- what stands after the letter `i` of the argument that begins at `start`
 unfoldable pub list_at : (start : ℕ) → Reader ListAsked
 list_at start =
     do

@@ -34,7 +34,7 @@ IsStop limit overflow front c kind =
     ⊎ (IsTrue (is_ascii_digit c) × (limit ≤ decimal_value (front ++ (c ∷ [])))
     × (kind ≡ overflow))
 
--- the text begins with digits of a value below the limit, and the character behind them decides
+-- the text begins with digits of a value below the limit, and the character after them decides
 pub record IsStopped (limit : ℕ) (overflow : NumberError) (text : List ℕ) (kind : NumberError)
     : Type 0 where
   pub front : List ℕ
@@ -51,25 +51,25 @@ abbrev pub IsNoNumber : (limit : ℕ) (overflow : NumberError) (text : List ℕ)
 IsNoNumber limit overflow text kind =
     ((text ≡ []) × (kind ≡ Empty)) ⊎ IsStopped limit overflow text kind
 
--- the text is a `-`, the sign, with something behind it
-pub record IsSigned (text behind : List ℕ) : Type 0 where
-  pub split : text ≡ minus ∷ behind
-  pub not_empty : behind ≢ []
+-- the text is a `-`, the sign, with something after it
+pub record IsSigned (text after : List ℕ) : Type 0 where
+  pub split : text ≡ minus ∷ after
+  pub not_empty : after ≢ []
 
 -- the text spells the integer z, of 64 bits: without a sign, or with one
 abbrev pub IsInteger : (text : List ℕ) (z : ℤ) → Type 0
 IsInteger text z =
     ((n : ℕ) × IsNumber (2 ^ 63) text n × (z ≡ pos n))
-    ⊎ ((behind : List ℕ) × (n : ℕ) × IsSigned text behind × IsNumber (2 ^ 63 + 1) behind n
+    ⊎ ((after : List ℕ) × (n : ℕ) × IsSigned text after × IsNumber (2 ^ 63 + 1) after n
     × (z ≡ negated n))
 
--- the text spells no integer of 64 bits, for this reason: where it has a sign, what stands behind
+-- the text spells no integer of 64 bits, for this reason: where it has a sign, what stands after
 -- the sign decides
 abbrev pub IsNoInteger : (text : List ℕ) (kind : NumberError) → Type 0
 IsNoInteger text kind =
-    (((behind : List ℕ) → IsSigned text behind → ⊥) × IsNoNumber (2 ^ 63) PosOverflow text kind)
-    ⊎ ((behind : List ℕ) × IsSigned text behind
-    × IsNoNumber (2 ^ 63 + 1) NegOverflow behind kind)
+    (((after : List ℕ) → IsSigned text after → ⊥) × IsNoNumber (2 ^ 63) PosOverflow text kind)
+    ⊎ ((after : List ℕ) × IsSigned text after
+    × IsNoNumber (2 ^ 63 + 1) NegOverflow after kind)
 
 -- which texts spell which numbers, and why the others spell none
 pub record Spelling (A : Type 0) : Type 1 where

@@ -8,26 +8,32 @@ use Rattle.interpolator_syntax.specs.declared.error.NumberError.TheVariants.{Emp
 use Rattle.interpolator_syntax.specs.declared.error.NumberError.TheVariants.{PosOverflow}
 use Rattle.interpolator_syntax.specs.declared.error.NumberError.TheVariants.{NegOverflow}
 
--- a number and, behind it, one digit more
+-- a number and, after it, one digit more
 abbrev pub with_digit : ℕ → ℕ → ℕ
 with_digit n c = n * 10 + (c - zero_digit)
 
--- the digits behind those of n, for numbers below `limit`: from the left, the first character
+-- the digits after those of n, for numbers below `limit`: from the left, the first character
 -- decides that is no digit, or whose digit takes the number to the limit
-abbrev pub digits_behind : (limit : ℕ) → (overflow : NumberError) → ℕ → List ℕ
+abbrev pub digits_after : (limit : ℕ) → (overflow : NumberError) → ℕ → List ℕ
     → Result ℕ NumberError
-digits_behind limit overflow n [] = Ok n
-digits_behind limit overflow n (c ∷ cs) =
+digits_after limit overflow n [] = Ok n
+digits_after limit overflow n (c ∷ cs) =
     if is_ascii_digit c
     then (if nat_lt (with_digit n c) limit
-    then digits_behind limit overflow (with_digit n c) cs
+    then digits_after limit overflow (with_digit n c) cs
     else Err overflow)
     else Err InvalidDigit
+
+-- the number of such digits, of which there is at least one; `none` where there is none
+abbrev pub digits_or : (none : NumberError) → (limit : ℕ) → (overflow : NumberError) → List ℕ
+    → Result ℕ NumberError
+digits_or none limit overflow [] = Err none
+digits_or none limit overflow (c ∷ cs) = digits_after limit overflow 0 (c ∷ cs)
 
 -- a number without a sign, of 64 bits
 abbrev pub natural : List ℕ → Result ℕ NumberError
 natural [] = Err Empty
-natural (c ∷ cs) = digits_behind (2 ^ 64) PosOverflow 0 (c ∷ cs)
+natural (c ∷ cs) = digits_after (2 ^ 64) PosOverflow 0 (c ∷ cs)
 
 -- a number read from digits, under its sign
 abbrev pub signed : (ℕ → ℤ) → Result ℕ NumberError → Result ℤ NumberError
@@ -38,14 +44,14 @@ signed sign (Err kind) = Err kind
 abbrev pub negated : ℕ → ℤ
 negated n = neg_ℤ (pos n)
 
--- the digits behind a `-`, of which there is at least one
+-- the digits after a `-`, of which there is at least one
 abbrev pub negative : List ℕ → Result ℤ NumberError
 negative [] = Err InvalidDigit
-negative (c ∷ cs) = signed negated (digits_behind (2 ^ 63 + 1) NegOverflow 0 (c ∷ cs))
+negative (c ∷ cs) = signed negated (digits_after (2 ^ 63 + 1) NegOverflow 0 (c ∷ cs))
 
 -- a number that may have a `-` in front, of 64 bits
 abbrev pub integer : List ℕ → Result ℤ NumberError
 integer [] = Err Empty
 integer (c ∷ cs) =
     if c == minus then negative cs
-    else signed pos (digits_behind (2 ^ 63) PosOverflow 0 (c ∷ cs))
+    else signed pos (digits_after (2 ^ 63) PosOverflow 0 (c ∷ cs))

@@ -2,12 +2,12 @@
 use Rattle.std.specs.Prelude.{ℕ, zero, suc, ◌+◌, ◌-◌, ◌==◌, if◌then◌else◌, List, [], ◌∷◌}
 use Rattle.std.specs.Prelude.{length, take, Option, Some, None, Result, Ok, Err}
 use Rattle.std.specs.Char.{len_utf8}
-use Rattle.interpolator_syntax.specs.At.{At, strip, all_behind}
+use Rattle.interpolator_syntax.specs.At.{At, strip, all_after}
 use Rattle.interpolator_syntax.specs.Classes.{open_brace, close_brace}
 use Rattle.interpolator_syntax.specs.Arguments.{Argument, argument_at}
 use Rattle.interpolator_syntax.specs.Faults.{Fault}
 
--- `start` is the place behind the opening brace, and `end` the place behind the spec
+-- `start` is the place after the opening brace, and `end` the place after the spec
 pub data PieceKind : Type 0 where
   literal : (c : ℕ) → PieceKind
   doubled : (brace : ℕ) → PieceKind
@@ -22,44 +22,44 @@ pub record Piece : Type 0 where
   pub text : List ℕ
   pub kind : PieceKind
 
--- a piece, and what stands behind it
+-- a piece, and what stands after it
 pub record Step : Type 0 where
   pub piece : Piece
   pub rest : At
 
--- a piece by its parts, and what stands behind it
+-- a piece by its parts, and what stands after it
 abbrev pub step : ℕ → List ℕ → PieceKind → At → Step
 step p text kind rest =
     record { piece = record { place = p; text = text; kind = kind }; rest = rest }
 
--- from a brace at p on all the rest, which stands at b behind the brace
+-- from a brace at p on all the rest, which stands at b after the brace
 abbrev pub takes_all : ℕ → At → PieceKind → Step
-takes_all p b kind = step p (open_brace ∷ b.text) kind (all_behind b)
+takes_all p b kind = step p (open_brace ∷ b.text) kind (all_after b)
 
--- the text from a brace up to a rest that stands behind it
+-- the text from a brace up to a rest that stands after it
 abbrev pub text_up_to : At → At → List ℕ
 text_up_to b rest = take (length (open_brace ∷ b.text) - length rest.text) (open_brace ∷ b.text)
 
--- an argument whose spec ends at q, and what stands behind a closing brace there, if one does
+-- an argument whose spec ends at `end`, and what stands after a closing brace there, if one does
 abbrev pub argument_step : ℕ → At → Argument → At → Option At → Step
-argument_step p b x q None = takes_all p b (unclosed b.place x q.place)
-argument_step p b x q (Some rest) = step p (text_up_to b rest) (closed b.place x q.place) rest
+argument_step p b x end None = takes_all p b (unclosed b.place x end.place)
+argument_step p b x end (Some rest) = step p (text_up_to b rest) (closed b.place x end.place) rest
 
--- an argument, or why it is broken, behind a brace at p
+-- an argument, or why it is broken, after a brace at p
 abbrev pub argument_or_broken : ℕ → At → Result (Argument × At) Fault → Step
 argument_or_broken p b (Ok x) = argument_step p b x.0 x.1 (strip close_brace x.1)
 argument_or_broken p b (Err f) = takes_all p b (broken f)
 
--- the argument behind a brace at p
+-- the argument after a brace at p
 unfoldable pub argument_from : ℕ → At → Step
 argument_from p b = argument_or_broken p b (argument_at b)
 
--- an opening brace at p: doubled, where a second stands behind it
+-- an opening brace at p: doubled, where a second stands after it
 abbrev pub open_step : ℕ → At → Option At → Step
 open_step p b (Some rest) = step p (open_brace ∷ open_brace ∷ []) (doubled open_brace) rest
 open_step p b None = argument_from p b
 
--- a closing brace at p: doubled, where a second stands behind it
+-- a closing brace at p: doubled, where a second stands after it
 abbrev pub close_step : ℕ → At → Option At → Step
 close_step p b (Some rest) = step p (close_brace ∷ close_brace ∷ []) (doubled close_brace) rest
 close_step p b None = step p (close_brace ∷ []) lone_close b
@@ -71,7 +71,7 @@ piece_from p c b =
     else (if c == close_brace then close_step p b (strip close_brace b)
     else step p (c ∷ []) (literal c) b)
 
--- what stands behind the character c at p
+-- what stands after the character c at p
 abbrev pub past : ℕ → ℕ → List ℕ → At
 past p c cs = record { place = p + len_utf8 c; text = cs }
 

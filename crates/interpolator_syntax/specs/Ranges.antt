@@ -1,14 +1,12 @@
 -- A range of the indexes of a list.
 use Rattle.std.specs.Prelude.{ℕ, ℤ, Bool, true, if◌then◌else◌, Option, None, Some, Result, Ok, Err}
-use Rattle.interpolator_syntax.specs.At.{At, at, first, strip}
+use Rattle.interpolator_syntax.specs.At.{At, first, strip}
 use Rattle.interpolator_syntax.specs.Classes.{in_class, point, equals}
 use Rattle.interpolator_syntax.specs.Numbers.{integer}
 use Rattle.interpolator_syntax.specs.Readers.{Reader, ◌>>=◌, give, flag, run}
-use Rattle.interpolator_syntax.specs.Faults.{Fault, parse, range_bound, broken_fault_of}
+use Rattle.interpolator_syntax.specs.Faults.{Fault, parse, range_bound}
 use Rattle.interpolator_syntax.specs.declared.error.NumberError.{NumberError}
 use Rattle.interpolator_syntax.specs.declared.class.Class.TheVariants.{Number}
-use Rattle.interpolator_syntax.specs.declared.broken.Broken.{Broken}
-use Rattle.interpolator_syntax.specs.declared.cursor.Cursor.{Cursor}
 use Rattle.interpolator_syntax.specs.declared.range.Range.{Range}
 
 -- the bound of a run at p, or the fault that it is none
@@ -29,12 +27,12 @@ if_number read a (Some w) = if in_class Number w.0 then read a else Ok (None, a)
 abbrev pub bound_if : (start : ℕ) → Reader (Option ℤ)
 bound_if start = λ a. if_number (bound_at start) a (first a)
 
--- behind a point at a: a second one, and whether a `=` stands behind that
+-- after a point at a: a second one, and whether a `=` stands after that
 abbrev pub second_point : (a : At) → Option At → Result (Option Bool × At) Fault
 second_point a None = Ok (None, a)
 second_point a (Some rest) = (flag equals >>= λ inclusive. give (Some inclusive)) rest
 
--- behind a point, if one stands at a
+-- after a point, if one stands at a
 abbrev pub first_point : (a : At) → Option At → Result (Option Bool × At) Fault
 first_point a None = Ok (None, a)
 first_point a (Some rest) = second_point a (strip point rest)
@@ -43,7 +41,7 @@ first_point a (Some rest) = second_point a (strip point rest)
 abbrev pub points : Reader (Option Bool)
 points = λ a. first_point a (strip point a)
 
--- behind `..` or `..=` an upper bound may stand
+-- after `..` or `..=` an upper bound may stand
 abbrev pub upper_at : (start : ℕ) → Option Bool → Reader (Option ℤ)
 upper_at start None = give None
 upper_at start (Some inclusive) = bound_if start
@@ -64,8 +62,3 @@ range_at start =
       inclusive ← points
       upper ← upper_at start inclusive
       give (range_of lower inclusive upper)
-
--- what was read, and what stands behind it; or why it is broken
-abbrev pub part_or_broken : {A : Type 0} → Result (A × Cursor) Broken → Result (A × At) Fault
-part_or_broken (Ok x) = Ok (x.0, at x.1)
-part_or_broken (Err broken) = Err (broken_fault_of broken)

@@ -1,22 +1,22 @@
--- Readers of a text, one behind the other: each says what it read, or why it reads nothing.
+-- Readers of a text, one after the other: each says what it read, or why it reads nothing.
 use Rattle.std.specs.Prelude.{ℕ, Bool, true, false, List, [], ◌∷◌, Option, None, Some, Result}
 use Rattle.std.specs.Prelude.{Ok, Err}
-use Rattle.interpolator_syntax.specs.At.{At, first, behind, strip}
+use Rattle.interpolator_syntax.specs.At.{At, first, after, strip}
 use Rattle.interpolator_syntax.specs.Classes.{front_of, in_class}
 use Rattle.interpolator_syntax.specs.Faults.{Fault, parse, unclosed}
 use Rattle.interpolator_syntax.specs.declared.class.Class.{Class}
 
--- what stands at the front of a text, and the text behind it; or a fault
+-- what stands at the front of a text, and the text after it; or a fault
 abbrev pub Reader : Type 0 → Type 0
 Reader A = At → Result (A × At) Fault
 
--- goes on behind what was read, and stops at a fault
+-- goes on after what was read, and stops at a fault
 abbrev pub on : {A B : Type 0} → Result (A × At) Fault → (A → Reader B) → Result (B × At) Fault
 on (Ok w) next = next w.0 w.1
 on (Err f) next = Err f
 
 infixl 10 ◌>>=◌
--- one reader, and behind it the next
+-- one reader, and after it the next
 abbrev pub ◌>>=◌ : {A B : Type 0} → Reader A → (A → Reader B) → Reader B
 read >>= next = λ a. on (read a) next
 
@@ -30,7 +30,7 @@ here = λ a. Ok (a.place, a)
 
 -- the longest front of that class
 abbrev pub span : Class → Reader (List ℕ)
-span class = λ a. Ok (front_of (in_class class) a.text, behind (in_class class) a)
+span class = λ a. Ok (front_of (in_class class) a.text, after (in_class class) a)
 
 -- the first character is read where it means something
 abbrev pub read_or_stay : {A : Type 0} → A → (a rest : At) → Option A → Result (A × At) Fault
@@ -56,7 +56,7 @@ was_there a (Some rest) = Ok (true, rest)
 abbrev pub flag : ℕ → Reader Bool
 flag c = λ a. was_there a (strip c a)
 
--- a run, where the text goes on behind it
+-- a run, where the text goes on after it
 abbrev pub run_before : (start : ℕ) → List ℕ → (rest : At) → List ℕ → Result (List ℕ × At) Fault
 run_before start cs rest [] = Err (parse (unclosed start))
 run_before start cs rest (d ∷ ds) = Ok (cs, rest)
@@ -65,4 +65,4 @@ run_before start cs rest (d ∷ ds) = Ok (cs, rest)
 -- not end with it
 abbrev pub run : (ℕ → Bool) → (start : ℕ) → Reader (List ℕ)
 run passes start =
-    λ a. run_before start (front_of passes a.text) (behind passes a) (behind passes a).text
+    λ a. run_before start (front_of passes a.text) (after passes a) (after passes a).text

@@ -1,4 +1,4 @@
--- A spec's text as its parts, one behind the other, each where its first character stands.
+-- A spec's text as its parts, one after the other, each where its first character stands.
 use Rattle.std.specs.Prelude.{◌≡◌, ◌≢◌, ◌⊎◌, ℕ, ◌≤◌, ◌||◌, Bool, IsTrue, IsFalse, All}
 use Rattle.std.specs.Prelude.{List, [], ◌∷◌, length, Option, Some, None, codes, ⊤}
 use Rattle.std.specs.Char.{is_ascii_digit}
@@ -16,7 +16,7 @@ use Rattle.interpolator_syntax.specs.SpecTexts.{Wanted, wanted, alignment_letter
 use Rattle.interpolator_syntax.specs.NumberGrammar.{naturals}
 use Rattle.interpolator_syntax.specs.Grammar.{NotFirst}
 use Rattle.interpolator_syntax.specs.GrammarParts.{Part, ◌>>=◌, ends, IsFirst, Lies, letter, flag}
-use Rattle.interpolator_syntax.specs.GrammarParts.{where_first, where_behind, number}
+use Rattle.interpolator_syntax.specs.GrammarParts.{where_first, where_after, number}
 use Rattle.interpolator_syntax.specs.ListGrammar.{list}
 use Rattle.interpolator_syntax.specs.Faults.{Fault, parse, unclosed, expected, fill}
 use Rattle.interpolator_syntax.specs.Faults.{invalid_width, invalid_precision, unsupported_option}
@@ -25,9 +25,9 @@ use Rattle.interpolator_syntax.specs.Faults.{invalid_width, invalid_precision, u
 abbrev pub width : (start : ℕ) → Part (Option ℕ)
 width start = where_first is_ascii_digit (number naturals invalid_width start)
 
--- a number behind a `.`, where one stands
+-- a number after a `.`, where one stands
 abbrev pub precision : (start : ℕ) → Part (Option ℕ)
-precision start = where_behind point (number naturals invalid_precision start)
+precision start = where_after point (number naturals invalid_precision start)
 
 -- the text of a trait, and of how debug writes numbers; display has none
 abbrev pub trait_text : Trait → HexDebug → Option (List ℕ)
@@ -69,7 +69,7 @@ shown start flagged = record {
       × (f ≡ parse (expected (codes "}") a.place))));
 }
 
--- what is asked for under a trait: behind the letter of a list stands how it is written
+-- what is asked for under a trait: after the letter of a list stands how it is written
 abbrev pub kind : (start : ℕ) → Trait → Part Kind
 kind start traits.Iter =
     do
@@ -106,7 +106,7 @@ parts start =
 abbrev pub IsSecond : (d : ℕ) → (text : List ℕ) → Type 0
 IsSecond d text = (c : ℕ) × (more : List ℕ) × (text ≡ c ∷ d ∷ more)
 
--- the text behind the colon of the argument that begins at `start`: at most one character is plain
+-- the text after the colon of the argument that begins at `start`: at most one character is plain
 -- display, and not read; a second character that is an alignment would make the first a fill; else
 -- the parts stand there
 abbrev pub spec : (start : ℕ) → Part Asked
@@ -119,10 +119,10 @@ spec start = record {
       ⊎ ((d : ℕ) × IsSecond d a.text × IsFalse (is_alignment d) × (parts start).is_not a f);
 }
 
--- what x asks stands behind the colon, and behind it what stands at q
+-- what x asks stands after the colon, and after it what stands at q
 abbrev pub IsSpec : (start : ℕ) → (a : At) → (x : Asked) → (q : At) → Type 0
 IsSpec start = (spec start).is
 
--- no spec stands behind the colon, for this reason
+-- no spec stands after the colon, for this reason
 abbrev pub IsNoSpec : (start : ℕ) → (a : At) → (f : Fault) → Type 0
 IsNoSpec start = (spec start).is_not

@@ -1,23 +1,99 @@
 -- What the readers of a spec's parts answer, without where it lies in memory.
-use Rattle.std.specs.Prelude.{ℕ, Option, Result, Ok, Err}
+use Rattle.std.specs.Prelude.{◌≡◌, ℕ, ◌-◌, false, ◌||◌, if◌then◌else◌, min, List, ◌∷◌}
+use Rattle.std.specs.Prelude.{Option, Some, None, Result, Ok, Err}
+use Rattle.std.specs.Char.{is_ascii_digit}
 use Rattle.interpolator_render.specs.declared.view.Trait.{Trait}
 use Rattle.interpolator_render.specs.declared.view.HexDebug.{HexDebug}
+use Rattle.interpolator_render.specs.declared.view.Sign.TheVariants as signs
+use Rattle.interpolator_render.specs.declared.view.Spec.{Spec}
 use Rattle.interpolator_syntax.specs.At.{At, at}
-use Rattle.interpolator_syntax.specs.SpecTexts.{Wanted}
-use Rattle.interpolator_syntax.specs.Faults.{Fault, broken_fault_of}
-use Rattle.interpolator_syntax.specs.declared.broken.Broken.{Broken}
+use Rattle.interpolator_syntax.specs.Classes.{zero_digit, hash}
+use Rattle.interpolator_syntax.specs.Readers.{Reader, ◌>>=◌, give, letter, flag}
+use Rattle.interpolator_syntax.specs.SpecTexts.{Wanted, Asked, sign_letter, width_at, precision_at}
+use Rattle.interpolator_syntax.specs.SpecTexts.{trait_at, kind_at}
+use Rattle.interpolator_syntax.specs.Faults.{Fault, argument_fault_of}
+use Rattle.interpolator_syntax.specs.declared.argument_fault.ArgumentFault.{ArgumentFault}
 use Rattle.interpolator_syntax.specs.declared.cursor.Cursor.{Cursor}
+
+-- the text begins with a character whose first byte is b: both are the same, or both lie past ASCII
+pub record FirstByte (b : ℕ) (text : List ℕ) : Type 0 where
+  pub char : ℕ
+  pub more : List ℕ
+  pub split : text ≡ char ∷ more
+  pub same : min b 128 ≡ min char 128
+
+-- the value of a digit, if the character is one
+abbrev pub digit_letter : ℕ → Option (Option ℕ)
+digit_letter c = if is_ascii_digit c then Some (Some (c - zero_digit)) else None
 
 -- a part that is never refused
 abbrev pub part_read : {A : Type 0} → A × Cursor → Result (A × At) Fault
 part_read x = Ok (x.0, at x.1)
 
--- a number, if one is there
-abbrev pub number_read : Result (Option ℕ × Cursor) Broken → Result (Option ℕ × At) Fault
-number_read (Ok x) = Ok (x.0, at x.1)
-number_read (Err broken) = Err (broken_fault_of broken)
+-- a part that was read up to `end`; or why it is broken
+abbrev pub part_or_broken : {A : Type 0} → Result A ArgumentFault → (end : At)
+    → Result (A × At) Fault
+part_or_broken (Ok x) end = Ok (x, end)
+part_or_broken (Err broken) end = Err (argument_fault_of broken)
 
 -- a trait, and how debug writes numbers
-abbrev pub wanted_read : Result (Trait × HexDebug × Cursor) Broken → Result (Wanted × At) Fault
-wanted_read (Ok x) = Ok (record { slot = x.0; hex_debug = x.1 }, at x.2)
-wanted_read (Err broken) = Err (broken_fault_of broken)
+abbrev pub wanted_read : Result (Trait × HexDebug) ArgumentFault → (end : At)
+    → Result (Wanted × At) Fault
+wanted_read (Ok x) end = Ok (record { slot = x.0; hex_debug = x.1 }, end)
+wanted_read (Err broken) end = Err (argument_fault_of broken)
+
+-- what is left of a spec after its trait: what is asked for
+abbrev pub kind_left : (start : ℕ) → Spec → Trait → Reader Asked
+kind_left start spec slot = kind_at start slot >>= λ kind. give (record { spec = spec; kind = kind })
+
+-- what is left of a spec after its options: the trait, and what is asked for
+abbrev pub trait_left : (start : ℕ) → Spec → Reader Asked
+trait_left start spec = trait_at start (spec.alternate || spec.zero) >>= λ shown.
+    kind_left start (record {
+      alignment = spec.alignment;
+      sign = spec.sign;
+      alternate = spec.alternate;
+      zero = spec.zero;
+      width = spec.width;
+      precision = spec.precision;
+      hex_debug = shown.hex_debug;
+    }) shown.slot
+
+-- what is left of a spec after its alignment
+abbrev pub spec_options : (start : ℕ) → Spec → Reader Asked
+spec_options start spec =
+    do
+      sign ← letter sign_letter signs.Unset
+      alternate ← flag hash
+      zero ← flag zero_digit
+      width ← width_at start
+      precision ← precision_at start
+      trait_left start (record {
+        alignment = spec.alignment;
+        sign = sign;
+        alternate = alternate;
+        zero = zero;
+        width = width;
+        precision = precision;
+        hex_debug = spec.hex_debug;
+      })
+
+-- none of the options is set
+pub record HasNoOptions (spec : Spec) : Type 0 where
+  pub sign : spec.sign ≡ signs.Unset
+  pub alternate : spec.alternate ≡ false
+  pub zero : spec.zero ≡ false
+  pub width : spec.width ≡ None
+  pub precision : spec.precision ≡ None
+
+-- where the options were read up to `end`, what is left
+abbrev pub options_left : (start : ℕ) → Result (Unit {0}) ArgumentFault → Spec → (end : At)
+    → Result (Asked × At) Fault
+options_left start (Ok _) spec end = trait_left start spec end
+options_left start (Err broken) spec end = Err (argument_fault_of broken)
+
+-- where all was read up to `end`, the letter of a list included, what is left
+abbrev pub spec_left : (start : ℕ) → Result (Unit {0}) ArgumentFault → Spec → Trait → (end : At)
+    → Result (Asked × At) Fault
+spec_left start (Ok _) spec slot end = kind_left start spec slot end
+spec_left start (Err broken) spec slot end = Err (argument_fault_of broken)

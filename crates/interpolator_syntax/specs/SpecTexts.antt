@@ -1,4 +1,4 @@
--- What stands behind the colon of an argument.
+-- What stands after the colon of an argument.
 use Rattle.std.specs.Prelude.{ℕ, Bool, false, ◌==◌, ◌||◌, if◌then◌else◌, List, [], ◌∷◌, Option}
 use Rattle.std.specs.Prelude.{None}
 use Rattle.std.specs.Prelude.{Some, Result, Ok, Err, codes}
@@ -85,12 +85,12 @@ if_digit read a (Some w) = if is_ascii_digit w.0 then read a else Ok (None, a)
 abbrev pub width_at : (start : ℕ) → Reader (Option ℕ)
 width_at start = λ a. if_digit (number_at invalid_width start) a (first a)
 
--- a number behind a point, where one stands
+-- a number after a point, where one stands
 abbrev pub if_point : Reader (Option ℕ) → (a : At) → Option At → Result (Option ℕ × At) Fault
 if_point read a None = Ok (None, a)
 if_point read a (Some rest) = read rest
 
--- a precision stands behind a point
+-- a precision stands after a point
 abbrev pub precision_at : (start : ℕ) → Reader (Option ℕ)
 precision_at start = λ a. if_point (number_at invalid_precision start) a (strip point a)
 
@@ -103,7 +103,7 @@ pub record Wanted : Type 0 where
 abbrev pub wanted : Trait → Wanted
 wanted t = record { slot = t; hex_debug = hex_debugs.No }
 
--- behind `x` or `X`: debug with hexadecimal numbers where a `?` stands, else hexadecimal
+-- after `x` or `X`: debug with hexadecimal numbers where a `?` stands, else hexadecimal
 abbrev pub hexadecimal : Trait → HexDebug → (rest : At) → Option At → Result (Wanted × At) Fault
 hexadecimal t hex rest None = Ok (wanted t, rest)
 hexadecimal t hex rest (Some end) = Ok (record { slot = traits.Debug; hex_debug = hex }, end)
@@ -139,7 +139,7 @@ trait_from a c rest =
     then hexadecimal traits.UpperHex hex_debugs.Upper rest (strip question_mark rest)
     else lettered c a.place rest (trait_letter c)))
 
--- at the end of the text display, but no argument behind `#` or `0`
+-- at the end of the text display, but no argument after `#` or `0`
 abbrev pub trait_first : (start : ℕ) → (flagged : Bool) → (a : At) → Option (ℕ × At)
     → Result (Wanted × At) Fault
 trait_first start flagged a None =
@@ -150,7 +150,7 @@ trait_first start flagged a (Some w) = trait_from a w.0 w.1
 abbrev pub trait_at : (start : ℕ) → (flagged : Bool) → Reader Wanted
 trait_at start flagged = λ a. trait_first start flagged a (first a)
 
--- how a list is written, behind its letter
+-- how a list is written, after its letter
 abbrev pub list_kind_at : (start : ℕ) → Reader Kind
 list_kind_at start = list_at start >>= λ l. give (of_list l)
 
@@ -159,7 +159,7 @@ abbrev pub kind_at : (start : ℕ) → Trait → Reader Kind
 kind_at start traits.Iter = list_kind_at start
 kind_at start t = give (of_value t)
 
--- alignment, sign, `#`, `0`, width, precision, trait, each where it stands; and behind the letter
+-- alignment, sign, `#`, `0`, width, precision, trait, each where it stands; and after the letter
 -- of a list how it is written
 unfoldable pub spec_parts : (start : ℕ) → Reader Asked
 spec_parts start =
@@ -190,7 +190,7 @@ abbrev pub begins_alignment : List ℕ → Bool
 begins_alignment [] = false
 begins_alignment (c ∷ cs) = is_alignment c
 
--- the text behind the colon of the argument that begins at `start`: at most one character is not
+-- the text after the colon of the argument that begins at `start`: at most one character is not
 -- read; an alignment that stands second would make the first a fill; else its parts are read
 abbrev pub spec_of : (start : ℕ) → (a : At) → List ℕ → Result (Asked × At) Fault
 spec_of start a [] = Ok (plain_display, a)
@@ -198,6 +198,6 @@ spec_of start a (c ∷ []) = Ok (plain_display, a)
 spec_of start a (c ∷ d ∷ ds) =
     if is_alignment d then Err (parse (fill a.place)) else spec_parts start a
 
--- the spec behind a colon
-unfoldable pub spec_behind : (start : ℕ) → Reader Asked
-spec_behind start = λ a. spec_of start a a.text
+-- the spec after a colon
+unfoldable pub spec_after : (start : ℕ) → Reader Asked
+spec_after start = λ a. spec_of start a a.text

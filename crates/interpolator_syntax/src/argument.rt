@@ -1,18 +1,20 @@
 //! The argument that stands in braces.
-ghost use Rattle.std.specs.Prelude.{◌≡◌};
+ghost use Rattle.std.specs.Prelude.{◌≡◌, ◌+◌, option_map, None, IfOk};
 ghost use Rattle.std.specs.Str.{IsCharBoundary, chars};
-ghost use Rattle.interpolator_syntax.specs.At.{at, behind};
-ghost use Rattle.interpolator_syntax.specs.Classes.{in_class, front_of};
+ghost use Rattle.interpolator_syntax.specs.At.{at, after, size, strip};
+ghost use Rattle.interpolator_syntax.specs.Classes.{in_class, front_of, close_brace};
 ghost use Rattle.interpolator_syntax.specs.declared.class.Class.TheVariants.{WhiteSpace, Name};
-ghost use Rattle.interpolator_syntax.specs.Arguments.{argument_of, plain_argument, argument_at};
-ghost use Rattle.interpolator_syntax.specs.Arguments.{argument_behind, argument_read, argument_told};
+ghost use Rattle.interpolator_syntax.specs.Arguments.{argument_at, argument_after, plain_argument};
+ghost use Rattle.interpolator_syntax.specs.Arguments.{IsPlain, asked_at, asked_read, taken_read};
+ghost use Rattle.interpolator_syntax.specs.Arguments.{kind_of, kind_of_asked, argument_told};
 ghost use Rattle.interpolator_syntax.specs.Arguments.{answering, with_end, from_byte};
 
-use crate::broken::{Broken, error_of};
+use crate::argument_fault::{ArgumentFault, error_of};
 use crate::class::Class;
 use crate::cursor::Cursor;
 use crate::error::{Error, ParseError};
 use crate::group::Group;
+use crate::list::{ListForm, take_list};
 use crate::range::Range;
 use crate::spec::take_spec;
 use interpolator_render::{Spec, Trait};
@@ -47,84 +49,145 @@ pub struct Argument<'a> {
     pub kind: Kind<'a>,
 }
 
-/// A name in braces, and what stands behind it.
+/// A name in braces, and what stands after it.
 #[derive(Clone, Copy)]
-pub struct Named<'a> {
+pub struct ArgumentName<'a> {
     /// The name, a slice of the text.
     pub name: &'a str,
     /// The byte of the text at which it begins.
     pub place: usize,
-    /// What stands behind it.
+    /// What stands after it.
     pub end: Cursor<'a>,
 }
 
-/// The name that stands here, behind an opening brace and white space.
+/// The name that stands here, after an opening brace and white space.
 #[tactic(auto, unfolding(crate::specs::Arguments::argument_at))]
 #[inline(always)]
-pub fn take_name(here: Cursor<'_>) -> Named<'_>
-    ensures name { let from = behind (in_class WhiteSpace) (at here.entry) in
+pub fn take_name(here: Cursor<'_>) -> ArgumentName<'_>
+    ensures name { let from = after (in_class WhiteSpace) (at here.entry) in
         chars result.name.now ≡ front_of (in_class Name) from.text }
-    ensures place { let from = behind (in_class WhiteSpace) (at here.entry) in
+    ensures place { let from = after (in_class WhiteSpace) (at here.entry) in
         result.place ≡ from.place }
-    ensures end { let from = behind (in_class WhiteSpace) (at here.entry) in
-        at result.end ≡ behind (in_class Name) from }
+    ensures end { let from = after (in_class WhiteSpace) (at here.entry) in
+        at result.end ≡ after (in_class Name) from }
+    ensures end_place { result.end.place ≡ result.place + size (chars result.name.now) }
     ensures read { argument_at (at here.entry)
-        ≡ argument_behind here.entry.place (plain_argument result) (at result.end) }
+        ≡ argument_after here.entry.place (plain_argument result) (at result.end) }
 {
     let (_, from) = here.take_class(Class::WhiteSpace);
     let (name, end) = from.take_class(Class::Name);
-    Named {
+    ArgumentName {
         name,
         place: from.place,
         end,
     }
 }
 
-/// Plain display of a name.
-#[inline(always)]
-pub fn plain(named: Named<'_>) -> Argument<'_>
-    ensures { argument_of result ≡ plain_argument named.entry }
-{
-    Argument {
-        name: named.name,
-        name_place: named.place,
-        spec: Spec::default(),
-        kind: Kind::Value(Trait::Display),
-    }
+/// How the value of a name is written.
+#[derive(Clone, Copy)]
+pub struct Asked<'a> {
+    /// Under which trait; `Iter` asks for a list.
+    pub slot: Trait,
+    /// How the value is written.
+    pub spec: Spec,
+    /// How a list is written.
+    pub list: ListForm<'a>,
 }
 
-/// The argument that begins here, behind its brace, and has that name. Goes behind its spec.
-#[inline(always)]
-pub fn take_asked<'a>(
-    here: Cursor<'a>,
-    named: Named<'a>,
-    end: &mut Cursor<'a>,
-    argument: &mut Argument<'a>,
-) -> Result<(), Broken>
-    requires named { argument_at (at here)
-        ≡ argument_behind here.place (plain_argument named) (at named.end) }
-    ensures read { argument_read result argument.new (at end.new) ≡ argument_at (at here.entry) }
-{
-    argument.name = named.name;
-    argument.name_place = named.place;
-    *end = named.end;
-    if named.end.strip(b'}').is_some() {
-        argument.spec = Spec::default();
-        argument.kind = Kind::Value(Trait::Display);
-        return Ok(());
-    }
-    match named.end.strip(b':') {
-        None => Err(Broken::Text(ParseError::FormatSpecUnclosed(here.place))),
-        Some(spec) => {
-            *end = spec;
-            take_spec(end, argument, here.place)
+impl<'a> Asked<'a> {
+    ghost use Rattle.interpolator_syntax.specs.Arguments.{IsPlain};
+
+    /// Plain display.
+    #[inline(always)]
+    pub fn plain() -> Self
+        ensures { IsPlain result }
+    {
+        Asked {
+            slot: Trait::Display,
+            spec: Spec::default(),
+            list: ListForm::plain(),
         }
     }
 }
 
-/// Reads the argument that starts at byte `start` of the text, behind its opening brace.
+/// What is asked after the name of the argument that begins at `start`, where it is not closed at
+/// once. Goes after the spec.
+#[inline(always)]
+pub fn take_asked<'a>(
+    here: &mut Cursor<'a>,
+    asked: &mut Asked<'a>,
+    start: usize,
+) -> Result<(), ArgumentFault>
+    requires open { strip close_brace (at here.old) ≡ None }
+    requires plain { IsPlain asked.old }
+    ensures { asked_read result asked.new (at here.new) ≡ asked_at start (at here.old) }
+{
+    if !here.eat(b':') {
+        return Err(ArgumentFault::Text(ParseError::FormatSpecUnclosed(start)));
+    }
+    take_spec(here, &mut asked.spec, &mut asked.slot, start)?;
+    if let Trait::Iter = asked.slot {
+        take_list(here, &mut asked.list, start)?;
+    }
+    Ok(())
+}
+
+/// An argument that was read.
+#[derive(Clone, Copy)]
+pub struct TakenArgument<'a> {
+    /// Its name.
+    pub name: ArgumentName<'a>,
+    /// What is asked of it.
+    pub asked: Asked<'a>,
+    /// What stands after its spec.
+    pub end: Cursor<'a>,
+    /// What stands after its closing brace; none where no such brace stands after its spec.
+    pub rest: Option<Cursor<'a>>,
+}
+
+/// The argument that begins here, after its opening brace, and what stands after its closing one.
 ///
-/// Answers the argument, and the byte behind its spec, where its closing brace should stand. No
+/// Where only the written value counts, [`take_name`] and [`take_asked`] are called apart: then a
+/// name alone makes no [`Asked`].
+pub fn take_argument(here: Cursor<'_>) -> Result<TakenArgument<'_>, ArgumentFault>
+    ensures read { taken_read result ≡ argument_at (at here.entry) }
+    ensures rest { IfOk result (λ t. option_map at t.rest ≡ strip close_brace (at t.end)) }
+    ensures end_place { IfOk result
+        (λ t. t.name.end.place ≡ t.name.place + size (chars t.name.name.now)) }
+{
+    let name = take_name(here);
+    let mut end = name.end;
+    let mut asked = Asked::plain();
+    let mut rest = end.strip(b'}');
+    if rest.is_none() {
+        take_asked(&mut end, &mut asked, here.place)?;
+        rest = end.strip(b'}');
+    }
+    Ok(TakenArgument {
+        name,
+        asked,
+        end,
+        rest,
+    })
+}
+
+/// What is asked for, as a caller of [`parse_argument`] gets it.
+fn kind_asked(asked: Asked<'_>) -> Kind<'_>
+    ensures { kind_of result ≡ kind_of_asked asked.entry }
+{
+    match asked.slot {
+        Trait::Iter => Kind::List {
+            range: asked.list.range,
+            item: asked.list.item,
+            join: asked.list.join,
+        },
+        slot => Kind::Value(slot),
+    }
+}
+
+/// Reads the argument that starts at byte `start` of the text, after its opening brace.
+///
+/// Answers the argument, and the byte after its spec, where its closing brace should stand. No
 /// value is looked up, and no memory is taken: the name is a slice of the text. Places count bytes
 /// from the beginning of the text.
 ///
@@ -145,12 +208,16 @@ pub fn parse_argument(text: &str, start: usize) -> Result<(Argument<'_>, usize),
         ≡ answering (with_end (argument_at (from_byte text.now start))) }
 {
     let (_, rest) = text.split_at(start);
-    let here = Cursor { place: start, rest };
-    let named = take_name(here);
-    let mut end = here;
-    let mut argument = plain(named);
-    match take_asked(here, named, &mut end, &mut argument) {
-        Ok(()) => Ok((argument, end.place)),
-        Err(broken) => Err(error_of(broken)),
+    match take_argument(Cursor { place: start, rest }) {
+        Err(fault) => Err(error_of(fault)),
+        Ok(taken) => {
+            let argument = Argument {
+                name: taken.name.name,
+                name_place: taken.name.place,
+                spec: taken.asked.spec,
+                kind: kind_asked(taken.asked),
+            };
+            Ok((argument, taken.end.place))
+        }
     }
 }

@@ -1,33 +1,33 @@
 //! Reads a text in round brackets, which signs `#` may guard.
 ghost use Rattle.std.specs.Prelude.{◌≡◌, ◌≤◌, ◌++◌, length, List, ℕ, option_map, IfSome};
 ghost use Rattle.std.specs.Str.{chars};
-ghost use Rattle.interpolator_syntax.specs.At.{at, behind};
+ghost use Rattle.interpolator_syntax.specs.At.{at, after};
 ghost use Rattle.interpolator_syntax.specs.Classes.{in_class, front_of};
-ghost use Rattle.interpolator_syntax.specs.Groups.{behind_signs, close_from, next_close, group_at};
+ghost use Rattle.interpolator_syntax.specs.Groups.{after_hashes, close_from, next_close, group_at};
 ghost use Rattle.interpolator_syntax.specs.Groups.{group_if, text_read, group_read, group_if_read};
-ghost use Rattle.interpolator_syntax.specs.declared.class.Class.TheVariants.{Sign};
+ghost use Rattle.interpolator_syntax.specs.declared.class.Class.TheVariants.{Hash};
 
-use crate::broken::Broken;
+use crate::argument_fault::ArgumentFault;
 use crate::class::Class;
 use crate::cursor::Cursor;
 use crate::error::ParseError;
 use crate::group::Group;
 
-/// How many signs stand here, and what stands behind them.
+/// How many signs stand here, and what stands after them.
 #[inline(always)]
-fn take_signs(here: Cursor<'_>) -> (usize, Cursor<'_>)
-    ensures count { result.0 ≡ length (front_of (in_class Sign) (at here.entry).text) }
-    ensures behind { at result.1 ≡ behind (in_class Sign) (at here.entry) }
+fn take_hashes(here: Cursor<'_>) -> (usize, Cursor<'_>)
+    ensures count { result.0 ≡ length (front_of (in_class Hash) (at here.entry).text) }
+    ensures after { at result.1 ≡ after (in_class Hash) (at here.entry) }
 {
-    let (signs, rest) = here.take_class(Class::Sign);
+    let (signs, rest) = here.take_class(Class::Hash);
     (signs.len(), rest)
 }
 
-/// What stands behind so many signs.
+/// What stands after so many signs.
 #[inline(always)]
-fn skip_signs(start: Cursor<'_>, count: usize) -> Option<Cursor<'_>>
+fn skip_hashes(start: Cursor<'_>, count: usize) -> Option<Cursor<'_>>
     ensures { option_map (λ c. at c) result
-        ≡ behind_signs count start.entry.place (chars start.entry.rest.now) }
+        ≡ after_hashes count start.entry.place (chars start.entry.rest.now) }
 {
     let mut here = start;
     for _ in 0..count {
@@ -36,14 +36,14 @@ fn skip_signs(start: Cursor<'_>, count: usize) -> Option<Cursor<'_>>
     Some(here)
 }
 
-/// The next `)`, and what stands behind it.
+/// The next `)`, and what stands after it.
 #[inline(always)]
 fn find_bracket(here: Cursor<'_>) -> Option<(Cursor<'_>, Cursor<'_>)>
     ensures { option_map (λ r. (at r.0, at r.1)) result ≡ next_close (at here.entry) }
 {
     let (_, close) = here.take_class(Class::Enclosed);
-    let behind = close.strip(b')')?;
-    Some((close, behind))
+    let after = close.strip(b')')?;
+    Some((close, after))
 }
 
 /// The text in front of a rest of it.
@@ -57,7 +57,7 @@ pub fn text_before<'a>(text: &'a str, rest: &str) -> &'a str
     front
 }
 
-/// The text up to the first `)` that is followed by so many signs, and what stands behind those.
+/// The text up to the first `)` that is followed by so many signs, and what stands after those.
 #[inline(always)]
 fn find_close(start: Cursor<'_>, count: usize) -> Option<(&str, Cursor<'_>)>
     ensures found { option_map text_read result
@@ -65,11 +65,11 @@ fn find_close(start: Cursor<'_>, count: usize) -> Option<(&str, Cursor<'_>)>
     ensures len { IfSome result (λ r. length r.0.now ≤ length start.entry.rest.now) }
 {
     let mut here = start;
-    while let Some((close, behind)) = find_bracket(here) {
-        if let Some(end) = skip_signs(behind, count) {
+    while let Some((close, after)) = find_bracket(here) {
+        if let Some(end) = skip_hashes(after, count) {
             return Some((text_before(start.rest, close.rest), end));
         }
-        here = behind;
+        here = after;
     }
     None
 }
@@ -77,44 +77,39 @@ fn find_close(start: Cursor<'_>, count: usize) -> Option<(&str, Cursor<'_>)>
 /// The group that stands here, in the argument that begins at `start`.
 #[tactic(auto, unfolding(crate::specs::Groups::group_at))]
 #[inline(never)]
-fn take_group(here: Cursor<'_>, start: usize) -> Result<(Group<'_>, Cursor<'_>), Broken>
-    ensures { group_read result ≡ group_at start (at here.entry) }
+fn take_group<'a>(here: &mut Cursor<'a>, start: usize) -> Result<Group<'a>, ArgumentFault>
+    ensures { group_read result (at here.new) ≡ group_at start (at here.old) }
 {
-    let (count, bracket) = take_signs(here);
-    match bracket.next() {
-        None => Err(Broken::Text(ParseError::FormatSpecUnclosed(start))),
-        Some(('(', inner)) => match find_close(inner, count) {
-            None => Err(Broken::Text(ParseError::FormatSpecUnclosed(start))),
-            Some((text, end)) => Ok((
-                Group {
-                    text,
-                    place: inner.place,
-                },
-                end,
-            )),
-        },
-        Some(_) => Err(Broken::Text(ParseError::Expected("(", bracket.place))),
-    }
+    let (count, bracket) = take_hashes(*here);
+    let Some(inner) = bracket.strip(b'(') else {
+        if bracket.is_at_end() {
+            return Err(ArgumentFault::Text(ParseError::FormatSpecUnclosed(start)));
+        }
+        return Err(ArgumentFault::Text(ParseError::Expected("(", bracket.place)));
+    };
+    let Some((text, end)) = find_close(inner, count) else {
+        return Err(ArgumentFault::Text(ParseError::FormatSpecUnclosed(start)));
+    };
+    *here = end;
+    Ok(Group {
+        text,
+        place: inner.place,
+    })
 }
 
 /// The group that stands here, if one does, in the argument that begins at `start`.
 #[inline(always)]
-pub(crate) fn take_group_if(
-    here: Cursor<'_>,
+pub(crate) fn take_group_if<'a>(
+    here: &mut Cursor<'a>,
     start: usize,
-) -> Result<(Option<Group<'_>>, Cursor<'_>), Broken>
-    ensures { group_if_read result ≡ group_if start (at here.entry) }
+) -> Result<Option<Group<'a>>, ArgumentFault>
+    ensures { group_if_read result (at here.new) ≡ group_if start (at here.old) }
 {
-    match here.next() {
-        None => Ok((None, here)),
-        Some((c, _)) => {
-            if c != '(' && c != '#' {
-                return Ok((None, here));
-            }
-            match take_group(here, start) {
-                Ok((group, rest)) => Ok((Some(group), rest)),
-                Err(broken) => Err(broken),
-            }
-        }
+    match here.byte() {
+        Some(b'(' | b'#') => match take_group(here, start) {
+            Ok(group) => Ok(Some(group)),
+            Err(broken) => Err(broken),
+        },
+        _ => Ok(None),
     }
 }

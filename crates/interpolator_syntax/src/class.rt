@@ -1,13 +1,12 @@
 //! Classes of characters, and the longest front of a text that is of one class.
 ghost use Rattle.std.specs.Prelude.{◌≡◌, ◌+◌, ◌++◌, ◌<◌, ◌≤◌, length, take, [], ◌∷◌, ◌==◌, ◌||◌};
-ghost use Rattle.std.specs.Prelude.{MatchOption, true, map, min, ◌-◌, ◌%◌};
-ghost use Rattle.std.specs.Simd.Lanes.{zip2};
-ghost use Rattle.std.specs.Prelude.{IfSome, ℕ};
+ghost use Rattle.std.specs.Prelude.{MatchOption, IfSome, ℕ};
 ghost use Rattle.std.specs.Str.{chars};
 ghost use Rattle.std.specs.Char.{len_utf8, encode_utf8};
 ghost use Rattle.std.specs.List.{position, position_or_len};
-ghost use Rattle.interpolator_syntax.specs.Classes.{in_class, avoids, front_of, behind_of};
+ghost use Rattle.interpolator_syntax.specs.Classes.{in_class, avoids, front_of, after_of};
 ghost use Rattle.interpolator_syntax.specs.Grammar.{NotFirst};
+ghost use Rattle.interpolator_syntax.specs.declared.class.Class.TheVariants.{WhiteSpace};
 
 use std::simd::prelude::*;
 
@@ -23,12 +22,12 @@ pub enum Class {
     /// What is copied as it stands: no brace.
     Literal,
     /// What guards a group: `#`.
-    Sign,
+    Hash,
     /// What may stand in front of the first `)`.
     Enclosed,
 }
 
-/// The first character of a text, and the text behind it.
+/// The first character of a text, and the text after it.
 #[tactic(auto, using(crate::proofs::CharacterLemmas::first_character))]
 #[inline(always)]
 pub fn split_first(text: &str) -> Option<(char, &str)>
@@ -45,7 +44,7 @@ pub fn split_first(text: &str) -> Option<(char, &str)>
     Some((c, characters.as_str()))
 }
 
-/// What stands behind that ASCII character, where the text begins with it.
+/// What stands after that ASCII character, where the text begins with it.
 #[inline(always)]
 pub(crate) fn strip_ascii(text: &str, wanted: u8) -> Option<&str>
     requires ascii { wanted < 128 }
@@ -69,18 +68,18 @@ fn is_in(class: Class, c: char) -> bool
         Class::Name => c != ':' && c != '}',
         Class::Number => c.is_ascii_digit() || c == '-',
         Class::Literal => c != '{' && c != '}',
-        Class::Sign => c == '#',
+        Class::Hash => c == '#',
         Class::Enclosed => c != ')',
     }
 }
 
-/// What stands behind the first character, where it is of that class.
+/// What stands after the first character, where it is of that class.
 #[inline(always)]
 fn past_one(text: &str, class: Class) -> Option<&str>
-    ensures behind { MatchOption result
-        (behind_of (in_class class) (chars text.now) ≡ chars text.now)
-        (λ r. behind_of (in_class class) (chars text.now)
-        ≡ behind_of (in_class class) (chars r.now)) }
+    ensures after { MatchOption result
+        (after_of (in_class class) (chars text.now) ≡ chars text.now)
+        (λ r. after_of (in_class class) (chars text.now)
+        ≡ after_of (in_class class) (chars r.now)) }
     ensures bytes { IfSome result (λ r. (c : ℕ) × (text.now ≡ encode_utf8 c ++ r.now)) }
     ensures shorter { IfSome result (λ r. length r.now < length text.now) }
 {
@@ -88,11 +87,11 @@ fn past_one(text: &str, class: Class) -> Option<&str>
     if is_in(class, c) { Some(rest) } else { None }
 }
 
-/// The longest front of that class, read character by character, and what stands behind it.
+/// The longest front of that class, read character by character, and what stands after it.
 #[inline(always)]
 fn split_while(text: &str, class: Class) -> (&str, &str)
     ensures front { chars result.0.now ≡ front_of (in_class class) (chars text.now) }
-    ensures behind { chars result.1.now ≡ behind_of (in_class class) (chars text.now) }
+    ensures after { chars result.1.now ≡ after_of (in_class class) (chars text.now) }
     ensures whole { text.now ≡ result.0.now ++ result.1.now }
 {
     let mut rest = text;
@@ -100,6 +99,20 @@ fn split_while(text: &str, class: Class) -> (&str, &str)
         rest = after;
     }
     text.split_at(text.len() - rest.len())
+}
+
+/// The white space in front, and what stands after it. Mostly the first byte tells that there is
+/// none.
+#[inline(always)]
+fn split_space(text: &str) -> (&str, &str)
+    ensures front { chars result.0.now ≡ front_of (in_class WhiteSpace) (chars text.now) }
+    ensures after { chars result.1.now ≡ after_of (in_class WhiteSpace) (chars text.now) }
+    ensures whole { text.now ≡ result.0.now ++ result.1.now }
+{
+    match text.as_bytes().first() {
+        Some(b'!'..=b'~') => text.split_at(0),
+        _ => split_while(text, Class::WhiteSpace),
+    }
 }
 
 /// How many bytes of a name are tested one by one before a search by vectors.
@@ -113,62 +126,6 @@ const NEAR_ENCLOSED: usize = 8;
 
 /// How many bytes are tested at once.
 const BLOCK: usize = 16;
-
-/// How many bytes a vector has of those that are tested by strides.
-const LANES: usize = 64;
-
-/// How many bytes are tested at once of a long text, behind as many that were tested by blocks.
-const STRIDE: usize = 4 * LANES;
-
-/// How far above that byte each of the first ones lies, counted round from the greatest byte to 0.
-#[inline(always)]
-fn heights(bytes: &[u8], low: u8) -> u8x64
-    requires { 64 ≤ length bytes.now }
-    ensures { result ≡ map (λ b. (b + (256 - low)) % 256) (take 64 bytes.now) }
-{
-    u8x64::from_slice(bytes) - u8x64::splat(low)
-}
-
-/// The lower ones, lane by lane.
-#[inline(always)]
-fn lower(these: u8x64, those: u8x64) -> u8x64
-    ensures { result ≡ zip2 min these those }
-{
-    these.simd_min(those)
-}
-
-/// Whether none of the bytes of the first stride lies between these two: then it is none of them.
-#[inline(always)]
-fn is_clear(bytes: &[u8], first: u8, second: u8) -> bool
-    requires long { 256 ≤ length bytes.now }
-    requires order { first ≤ second }
-    ensures { result ≡ true → 256 ≤ position_or_len (λ b. b == first || b == second) bytes.now }
-{
-    let (_, behind_one) = bytes.split_at(LANES);
-    let (_, behind_two) = behind_one.split_at(LANES);
-    let (_, behind_three) = behind_two.split_at(LANES);
-    let lowest = lower(
-        lower(heights(bytes, first), heights(behind_one, first)),
-        lower(heights(behind_two, first), heights(behind_three, first)),
-    );
-    lowest.simd_le(u8x64::splat(second - first)).to_bitmask() == 0
-}
-
-/// What is left of the bytes behind strides that have none of these two.
-#[inline(never)]
-fn skip_strides(bytes: &[u8], first: u8, second: u8) -> &[u8]
-    requires order { first ≤ second }
-    ensures shorter { length result.now ≤ length bytes.now }
-    ensures first { position_or_len (λ b. b == first || b == second) bytes.now + length result.now
-        ≡ position_or_len (λ b. b == first || b == second) result.now + length bytes.now }
-{
-    let mut rest = bytes;
-    while rest.len() >= STRIDE && is_clear(rest, first, second) {
-        let (_, behind) = rest.split_at(STRIDE);
-        rest = behind;
-    }
-    rest
-}
 
 /// How many bytes of the first block stand before the first byte that is one of these two.
 #[inline(always)]
@@ -188,11 +145,10 @@ fn block_position(bytes: &[u8], first: u8, second: u8) -> Option<usize>
     Some(hits.trailing_zeros() as usize)
 }
 
-/// What is left of the bytes behind some that are none of these two: it begins with one of them, or
+/// What is left of the bytes after some that are none of these two: it begins with one of them, or
 /// is shorter than a block.
 #[inline(always)]
 fn skip_blocks(bytes: &[u8], first: u8, second: u8) -> &[u8]
-    requires order { first ≤ second }
     ensures shorter { length result.now ≤ length bytes.now }
     ensures first { position_or_len (λ b. b == first || b == second) bytes.now + length result.now
         ≡ position_or_len (λ b. b == first || b == second) result.now + length bytes.now }
@@ -203,11 +159,8 @@ fn skip_blocks(bytes: &[u8], first: u8, second: u8) -> &[u8]
             let (_, found) = rest.split_at(index);
             return found;
         }
-        let (_, behind) = rest.split_at(BLOCK);
-        rest = behind;
-        if (bytes.len() - rest.len()) % STRIDE == 0 {
-            rest = skip_strides(rest, first, second);
-        }
+        let (_, after) = rest.split_at(BLOCK);
+        rest = after;
     }
     rest
 }
@@ -229,25 +182,26 @@ fn near_position(bytes: &[u8], near: usize, first: u8, second: u8) -> Option<usi
     byte_position(front, first, second)
 }
 
-/// The same, where it is among the first sixteen of at least so many.
+/// The same, where it is among the first sixteen.
 #[inline(always)]
 fn block_index(bytes: &[u8], first: u8, second: u8) -> Option<usize>
+    requires { 16 ≤ length bytes.now }
     ensures { IfSome result (λ r. r ≡ position_or_len (λ b. b == first || b == second) bytes.now) }
 {
-    if bytes.len() < BLOCK {
-        return None;
-    }
     let index = block_position(bytes, first, second)?;
     if index < BLOCK { Some(index) } else { None }
 }
 
 /// How many bytes stand before the first that is one of these two, or all where there is none. It
 /// is likely to be among the first `near`, and else among the first sixteen.
+#[tactic(auto, using(crate::proofs::ByteLemmas::first_or_all))]
 #[inline(always)]
 fn bytes_before(bytes: &[u8], near: usize, first: u8, second: u8) -> usize
-    requires order { first ≤ second }
     ensures { result ≡ position_or_len (λ b. b == first || b == second) bytes.now }
 {
+    if bytes.len() < BLOCK {
+        return byte_position(bytes, first, second).unwrap_or(bytes.len());
+    }
     if let Some(index) = near_position(bytes, near, first, second) {
         return index;
     }
@@ -265,29 +219,28 @@ fn bytes_before(bytes: &[u8], near: usize, first: u8, second: u8) -> usize
 /// The text up to the first of two ASCII characters, and what stands from there on.
 #[inline(always)]
 fn split_before(text: &str, near: usize, first: u8, second: u8) -> (&str, &str)
-    requires order { first ≤ second }
     requires first { first < 128 }
     requires second { second < 128 }
     ensures front { chars result.0.now ≡ front_of (avoids first second) (chars text.now) }
-    ensures behind { chars result.1.now ≡ behind_of (avoids first second) (chars text.now) }
+    ensures after { chars result.1.now ≡ after_of (avoids first second) (chars text.now) }
     ensures whole { text.now ≡ result.0.now ++ result.1.now }
 {
     text.split_at(bytes_before(text.as_bytes(), near, first, second))
 }
 
-/// The longest front of that class, and what stands behind it.
+/// The longest front of that class, and what stands after it.
 #[inline(always)]
 pub fn split_class(text: &str, class: Class) -> (&str, &str)
     ensures front { chars result.0.now ≡ front_of (in_class class) (chars text.now) }
-    ensures behind { chars result.1.now ≡ behind_of (in_class class) (chars text.now) }
+    ensures after { chars result.1.now ≡ after_of (in_class class) (chars text.now) }
     ensures whole { text.now ≡ result.0.now ++ result.1.now }
 {
     match class {
-        Class::WhiteSpace => split_while(text, Class::WhiteSpace),
+        Class::WhiteSpace => split_space(text),
         Class::Number => split_while(text, Class::Number),
         Class::Name => split_before(text, NEAR_NAME, b':', b'}'),
         Class::Literal => split_before(text, NEAR_LITERAL, b'{', b'}'),
-        Class::Sign => split_while(text, Class::Sign),
+        Class::Hash => split_while(text, Class::Hash),
         Class::Enclosed => split_before(text, NEAR_ENCLOSED, b')', b')'),
     }
 }

@@ -1,5 +1,6 @@
 //! Where the scan stands: a place in the outermost text, and the text from there on.
-ghost use Rattle.std.specs.Prelude.{◌≡◌, ◌+◌, ◌^◌, ◌<◌, length, option_map};
+ghost use Rattle.std.specs.Prelude.{◌≡◌, ◌+◌, ◌^◌, ◌<◌, length, option_map, MatchOption};
+ghost use Rattle.std.specs.Prelude.{[], None, IfSome, MatchBool, ◌≢◌};
 ghost use Rattle.std.specs.Str.{chars};
 
 use crate::class::{Class, split_class, split_first, strip_ascii};
@@ -13,23 +14,25 @@ pub struct Cursor<'a> {
 }
 
 impl<'a> Cursor<'a> {
-    ghost use Rattle.interpolator_syntax.specs.At.{at, first, strip, behind};
+    ghost use Rattle.interpolator_syntax.specs.At.{at, first, strip, after};
+    ghost use Rattle.interpolator_syntax.specs.Readers.{letter, flag};
+    ghost use Rattle.interpolator_syntax.specs.SpecReads.{FirstByte, digit_letter, part_read};
     ghost use Rattle.interpolator_syntax.specs.Classes.{in_class, front_of};
 
-    /// The character here, and what stands behind it.
+    /// The character here, and what stands after it.
     #[inline(always)]
     pub fn next(self) -> Option<(char, Cursor<'a>)>
         ensures { option_map (λ r. (r.0, at r.1)) result ≡ first (at self.entry) }
     {
         let (c, rest) = split_first(self.rest)?;
-        let behind = Cursor {
+        let after = Cursor {
             place: self.place + c.len_utf8(),
             rest,
         };
-        Some((c, behind))
+        Some((c, after))
     }
 
-    /// What stands behind that ASCII character, where the text begins with it.
+    /// What stands after that ASCII character, where the text begins with it.
     #[inline(always)]
     pub fn strip(self, wanted: u8) -> Option<Cursor<'a>>
         requires ascii { wanted < 128 }
@@ -42,18 +45,64 @@ impl<'a> Cursor<'a> {
         })
     }
 
-    /// The longest front of that class, and what stands behind it.
+    /// The longest front of that class, and what stands after it.
     #[inline(always)]
     pub fn take_class(self, class: Class) -> (&'a str, Cursor<'a>)
         ensures front { chars result.0.now ≡ front_of (in_class class) (at self.entry).text }
-        ensures behind { at result.1 ≡ behind (in_class class) (at self.entry) }
+        ensures after { at result.1 ≡ after (in_class class) (at self.entry) }
         ensures fits { self.entry.place + length result.0.now < 2 ^ 64 }
     {
         let (front, rest) = split_class(self.rest, class);
-        let behind = Cursor {
+        let after = Cursor {
             place: self.place + front.len(),
             rest,
         };
-        (front, behind)
+        (front, after)
+    }
+
+    /// The first byte here: the character itself, where that is ASCII.
+    #[inline(always)]
+    pub fn byte(self) -> Option<u8>
+        ensures { MatchOption result ((at self.entry).text ≡ [])
+            (λ b. FirstByte b (at self.entry).text) }
+    {
+        self.rest.as_bytes().first().copied()
+    }
+
+    /// Whether the text ends here.
+    #[inline(always)]
+    pub fn is_at_end(self) -> bool
+        ensures { MatchBool result ((at self.entry).text ≡ []) ((at self.entry).text ≢ []) }
+    {
+        self.rest.is_empty()
+    }
+
+    /// Goes past that ASCII character, where it stands here, and tells whether it did.
+    #[inline(always)]
+    pub fn eat(&mut self, wanted: u8) -> bool
+        requires ascii { wanted < 128 }
+        ensures { part_read (result, self.new) ≡ flag wanted (at self.old) }
+    {
+        match self.strip(wanted) {
+            None => false,
+            Some(rest) => {
+                *self = rest;
+                true
+            }
+        }
+    }
+
+    /// Goes past the digit that stands here, if one does, and gives its value.
+    #[inline(always)]
+    pub fn eat_digit(&mut self) -> Option<usize>
+        ensures read { part_read (result, self.new) ≡ letter digit_letter None (at self.old) }
+        ensures low { IfSome result (λ d. d < 10) }
+    {
+        let byte = self.byte()?;
+        if !byte.is_ascii_digit() {
+            return None;
+        }
+        *self = self.strip(byte)?;
+        Some((byte - b'0') as usize)
     }
 }

@@ -29,7 +29,7 @@ pub enum NumberError {
 /// Each place counts bytes from the beginning of the outermost format text.
 #[derive(Debug, PartialEq, Clone, Copy)]
 pub enum ParseError {
-    /// The text ends before the argument does; the place is the byte behind its `{`.
+    /// The text ends before the argument does; the place is the byte after its `{`.
     FormatSpecUnclosed(usize),
     /// This text should stand at this place.
     Expected(&'static str, usize),
@@ -40,7 +40,7 @@ pub enum ParseError {
     /// A character to fill with stands at this place, in front of an alignment.
     Fill(usize),
     /// A list is asked for with a precision, a sign, `#` or the zero flag; the place is the byte
-    /// behind its spec.
+    /// after its spec.
     Iter(usize),
     /// The bound of a range that begins at this place is no `isize`.
     RangeBound(NumberError, usize),
@@ -56,16 +56,16 @@ pub enum ParseError {
 /// ```
 #[derive(Debug, PartialEq, Drop)]
 pub enum Error {
-    /// The value has no text under this trait; the place is the byte behind the argument's spec.
+    /// The value has no text under this trait; the place is the byte after the argument's spec.
     MissingTraitImpl(Trait, usize),
     /// A value failed, or the writer refused a text.
     ///
-    /// The place is the byte behind the argument's spec, or that of the first literal character
+    /// The place is the byte after the argument's spec, or that of the first literal character
     /// that was not appended.
     Fmt(fmt::Error, usize),
     /// The format text is broken.
     Parse(ParseError),
-    /// The context has no value of this name; the place is the byte behind the argument's `{`.
+    /// The context has no value of this name; the place is the byte after the argument's `{`.
     MissingValue(String, usize),
     /// This option, at this place, wants this feature, which is left out.
     UnsupportedOption(&'static str, &'static str, usize),

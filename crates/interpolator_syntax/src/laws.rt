@@ -1,10 +1,12 @@
 //! Laws, each the contract of a small function: of the faults, of what stands in braces (numbers,
-//! groups, lists, specs and arguments), and of the pieces of a format.
+//! groups, lists, specs and arguments), of the pieces of a format, and of a format at another base.
 
 pub mod arguments;
+pub mod clones;
 mod faults;
 pub mod groups;
 pub mod lists;
+pub mod moves;
 pub mod numbers;
 pub mod pieces;
 pub mod specs;

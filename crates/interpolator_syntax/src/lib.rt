@@ -1,9 +1,10 @@
 //! What a format text is made of, and what can be wrong with it.
 //!
-//! A format is read by a [`Cursor`], a place in the text and the text from there on. [`next_piece`]
-//! tells what stands there: literals, a brace that is written, or an opening brace, behind which an
-//! argument begins. [`take_name`] reads its name, and [`take_asked`], behind a colon, its spec and
-//! how it asks for a list. What is wrong is told by a [`ParseError`], at its place in bytes.
+//! A format is read by a [`Cursor`], a place in the text and the text from there on. [`next_token`]
+//! tells what stands there: literals, a brace that is written, or an opening brace, after which an
+//! argument begins. [`take_argument`] reads it: by [`take_name`] its name, and by [`take_asked`],
+//! after a colon, its spec and how it asks for a list. What is wrong is told by a [`ParseError`],
+//! at its place in bytes.
 //!
 //! ```text
 //! let (argument, end) = parse_argument("{x:>8}", 1)?;
@@ -17,30 +18,32 @@
 #![tactic(auto)]
 
 mod argument;
+mod argument_fault;
 mod bracket;
-mod broken;
 mod class;
 mod cursor;
-mod doubled;
 mod error;
 mod error_text;
 mod group;
 pub mod laws;
 mod list;
 mod number;
-mod piece;
 mod range;
 mod spec;
+mod token;
 mod unstyled;
 
-pub use argument::{Argument, Kind, Named, parse_argument, plain, take_asked, take_name};
+pub use argument::{
+    Argument, ArgumentName, Asked, Kind, TakenArgument, parse_argument, take_argument, take_asked,
+    take_name,
+};
+pub use argument_fault::{ArgumentFault, error_of};
 pub use bracket::text_before;
-pub use broken::{Broken, error_of};
 pub use class::{Class, split_class, split_first};
 pub use cursor::Cursor;
-pub use doubled::take_doubled;
 pub use error::{Error, NumberError, ParseError};
 pub use group::Group;
-pub use piece::{Piece, next_piece};
+pub use list::ListForm;
 pub use range::Range;
+pub use token::{Token, next_token};
 pub use unstyled::write_unstyled;

@@ -1,23 +1,56 @@
-//! What stands behind the letter `i`: how a list is written.
+//! What stands after the letter `i`: how a list is written.
 ghost use Rattle.std.specs.Prelude.{◌≡◌};
 ghost use Rattle.interpolator_syntax.specs.At.{at};
-ghost use Rattle.interpolator_syntax.specs.Arguments.{kind_read};
-ghost use Rattle.interpolator_syntax.specs.SpecTexts.{list_kind_at};
+ghost use Rattle.interpolator_syntax.specs.Arguments.{list_read};
+ghost use Rattle.interpolator_syntax.specs.Lists.{list_at};
 
-use crate::argument::Kind;
+use crate::argument_fault::ArgumentFault;
 use crate::bracket::take_group_if;
-use crate::broken::Broken;
 use crate::cursor::Cursor;
-use crate::range::take_range;
+use crate::group::Group;
+use crate::range::{Range, take_range};
 
-/// What stands behind the letter, in the argument that begins at `start`.
+/// How a list is written.
+#[derive(Clone, Copy)]
+pub struct ListForm<'a> {
+    /// Which of its items; all, where there is none.
+    pub range: Option<Range>,
+    /// The format of an item, in which the empty name is the item. Without one each item is
+    /// displayed plainly.
+    pub item: Option<Group<'a>>,
+    /// The format of what stands between two items; nothing, where there is none.
+    pub join: Option<Group<'a>>,
+}
+
+impl<'a> ListForm<'a> {
+    ghost use Rattle.interpolator_syntax.specs.Arguments.{list_of};
+    ghost use Rattle.interpolator_syntax.specs.Lists.{plain_list};
+
+    /// All items, each displayed plainly, and nothing between them.
+    #[inline(always)]
+    pub fn plain() -> Self
+        ensures { list_of result ≡ plain_list }
+    {
+        ListForm {
+            range: None,
+            item: None,
+            join: None,
+        }
+    }
+}
+
+/// What stands after the letter, in the argument that begins at `start`. Goes after it.
 #[tactic(auto, unfolding(crate::specs::Lists::list_at))]
-#[inline(always)]
-pub(crate) fn take_list(here: Cursor<'_>, start: usize) -> Result<(Kind<'_>, Cursor<'_>), Broken>
-    ensures { kind_read result ≡ list_kind_at start (at here.entry) }
+#[inline(never)]
+pub(crate) fn take_list<'a>(
+    here: &mut Cursor<'a>,
+    list: &mut ListForm<'a>,
+    start: usize,
+) -> Result<(), ArgumentFault>
+    ensures { list_read result list.new (at here.new) ≡ list_at start (at here.old) }
 {
-    let (range, rest) = take_range(here, start)?;
-    let (item, rest) = take_group_if(rest, start)?;
-    let (join, rest) = take_group_if(rest, start)?;
-    Ok((Kind::List { range, item, join }, rest))
+    list.range = take_range(here, start)?;
+    list.item = take_group_if(here, start)?;
+    list.join = take_group_if(here, start)?;
+    Ok(())
 }

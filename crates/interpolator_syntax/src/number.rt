@@ -1,94 +1,87 @@
 //! Whole numbers in a format. A number is the longest run of ASCII digits and `-`.
-ghost use Rattle.std.specs.Prelude.{◌≡◌, ◌+◌, ◌^◌, ◌<◌, ◌≤◌, length, true, [], ◌∷◌};
-ghost use Rattle.std.specs.Prelude.{IfOk, IfSome, MatchOption};
-ghost use Rattle.interpolator_syntax.specs.At.{at, behind};
+ghost use Rattle.std.specs.Prelude.{◌≡◌, ◌+◌, ◌*◌, ◌^◌, ◌<◌, ◌≤◌, IfOk, MatchOption};
+ghost use Rattle.interpolator_syntax.specs.At.{at, after};
 ghost use Rattle.interpolator_syntax.specs.Classes.{in_class, front_of};
-ghost use Rattle.interpolator_syntax.specs.Numbers.{digits_behind, natural, negated, negative};
-ghost use Rattle.interpolator_syntax.specs.Numbers.{integer};
+ghost use Rattle.interpolator_syntax.specs.Numbers.{digits_or, natural, negated, integer};
 ghost use Rattle.interpolator_syntax.specs.declared.class.Class.TheVariants.{Number};
 
-use crate::class::{Class, split_first};
+use crate::class::Class;
 use crate::cursor::Cursor;
 use crate::error::NumberError;
 
-/// The first character of the run here, and what stands behind it.
-#[inline(always)]
-fn next_of_run(here: Cursor<'_>) -> Option<(char, Cursor<'_>)>
-    ensures member { IfSome result (λ r. in_class Number r.0 ≡ true) }
-    ensures run { MatchOption result (front_of (in_class Number) (at here.entry).text ≡ [])
-        (λ r. front_of (in_class Number) (at here.entry).text
-        ≡ r.0 ∷ front_of (in_class Number) (at r.1).text) }
-    ensures behind { MatchOption result (behind (in_class Number) (at here.entry) ≡ at here.entry)
-        (λ r. behind (in_class Number) (at here.entry) ≡ behind (in_class Number) (at r.1)) }
-    ensures shorter { IfSome result (λ r. length r.1.rest.now < length here.entry.rest.now) }
-{
-    let (c, rest) = split_first(here.rest)?;
-    if c != '-' && !c.is_ascii_digit() {
-        return None;
-    }
-    let behind = Cursor {
-        place: here.place + 1,
-        rest,
-    };
-    Some((c, behind))
-}
-
-/// The number of the digits of the run here, which is at most `most`. Goes behind the run, or
-/// behind the character that makes it none.
-#[inline(always)]
-fn read_digits(
-    here: Cursor<'_>,
-    most: usize,
-    overflow: NumberError,
-) -> (Result<usize, NumberError>, Cursor<'_>)
-    requires room { 9 ≤ most }
-    ensures number { result.0
-        ≡ digits_behind (most + 1) overflow 0 (front_of (in_class Number) (at here.entry).text) }
-    ensures in_range { IfOk result.0 (λ n. n ≤ most) }
-    ensures ends { IfOk result.0 (λ n. at result.1 ≡ behind (in_class Number) (at here.entry)) }
-    ensures behind { behind (in_class Number) (at result.1)
-        ≡ behind (in_class Number) (at here.entry) }
-{
-    let mut n: usize = 0;
-    let mut rest = here;
-    while let Some((c, after)) = next_of_run(rest) {
-        if c == '-' {
-            return (Err(NumberError::InvalidDigit), after);
-        }
-        let digit = c as usize - 48;
-        if n > (most - digit) / 10 {
-            return (Err(overflow), after);
-        }
-        n = n * 10 + digit;
-        rest = after;
-    }
-    (Ok(n), rest)
-}
-
-/// What stands behind the run here.
-#[inline(always)]
+/// What stands after the run that goes on here.
+#[cold]
+#[inline(never)]
 fn skip_run(here: Cursor<'_>) -> Cursor<'_>
-    ensures { at result ≡ behind (in_class Number) (at here.entry) }
+    ensures { at result ≡ after (in_class Number) (at here.entry) }
 {
     let (_, rest) = here.take_class(Class::Number);
     rest
 }
 
-/// The number that the run here spells, and what stands behind the run.
+/// A number and, after it, one digit more, where that is at most `most`.
 #[inline(always)]
-pub(crate) fn take_natural(here: Cursor<'_>) -> (Result<usize, NumberError>, Cursor<'_>)
-    ensures number { result.0 ≡ natural (front_of (in_class Number) (at here.entry).text) }
-    ensures behind { at result.1 ≡ behind (in_class Number) (at here.entry) }
+fn append_digit(n: usize, digit: usize, most: usize) -> Option<usize>
+    requires digit { digit < 10 }
+    requires room { 9 ≤ most }
+    ensures { MatchOption result (most < n * 10 + digit)
+        (λ m. (m ≡ n * 10 + digit) × (m ≤ most)) }
 {
-    match read_digits(here, usize::MAX, NumberError::PosOverflow) {
-        (Ok(n), rest) => {
-            if rest.place == here.place {
-                return (Err(NumberError::Empty), rest);
-            }
-            (Ok(n), rest)
-        }
-        (Err(kind), stop) => (Err(kind), skip_run(stop)),
+    // Mostly the number is far below: then nothing is divided.
+    if n >= most / 10 && n > (most - digit) / 10 {
+        return None;
     }
+    Some(n * 10 + digit)
+}
+
+/// The number of the digits of the run here, which is at most `most`; of none `empty`. Goes after
+/// the run.
+#[inline(always)]
+fn take_digits(
+    here: &mut Cursor<'_>,
+    most: usize,
+    empty: NumberError,
+    overflow: NumberError,
+) -> Result<usize, NumberError>
+    requires room { 9 ≤ most }
+    ensures number { result
+        ≡ digits_or empty (most + 1) overflow (front_of (in_class Number) (at here.old).text) }
+    ensures in_range { IfOk result (λ n. n ≤ most) }
+    ensures after { at here.new ≡ after (in_class Number) (at here.old) }
+{
+    let start = here.place;
+    let mut n: usize = 0;
+    while let Some(digit) = here.eat_digit() {
+        match append_digit(n, digit, most) {
+            Some(more) => n = more,
+            None => {
+                *here = skip_run(*here);
+                return Err(overflow);
+            }
+        }
+    }
+    if here.strip(b'-').is_some() {
+        *here = skip_run(*here);
+        return Err(NumberError::InvalidDigit);
+    }
+    if here.place == start {
+        return Err(empty);
+    }
+    Ok(n)
+}
+
+/// The number that the run here spells. Goes after the run.
+#[inline(always)]
+pub(crate) fn take_natural(here: &mut Cursor<'_>) -> Result<usize, NumberError>
+    ensures number { result ≡ natural (front_of (in_class Number) (at here.old).text) }
+    ensures after { at here.new ≡ after (in_class Number) (at here.old) }
+{
+    take_digits(
+        here,
+        usize::MAX,
+        NumberError::Empty,
+        NumberError::PosOverflow,
+    )
 }
 
 /// A number taken from zero, as far as an `isize` goes.
@@ -103,58 +96,27 @@ fn negate(n: usize) -> isize
     -1 - (n - 1) as isize
 }
 
-/// The number that a run spells behind its `-`. Goes behind the run, or behind the character that
-/// makes it none.
+/// The number that the run here spells, which may have a `-` in front. Goes after the run.
 #[inline(always)]
-fn read_negative(here: Cursor<'_>) -> (Result<isize, NumberError>, Cursor<'_>)
-    ensures number { result.0 ≡ negative (front_of (in_class Number) (at here.entry).text) }
-    ensures ends { IfOk result.0 (λ n. at result.1 ≡ behind (in_class Number) (at here.entry)) }
-    ensures behind { behind (in_class Number) (at result.1)
-        ≡ behind (in_class Number) (at here.entry) }
+pub(crate) fn take_integer(here: &mut Cursor<'_>) -> Result<isize, NumberError>
+    ensures number { result ≡ integer (front_of (in_class Number) (at here.old).text) }
+    ensures after { at here.new ≡ after (in_class Number) (at here.old) }
 {
-    match read_digits(here, 1 << 63, NumberError::NegOverflow) {
-        (Ok(n), rest) => {
-            if rest.place == here.place {
-                return (Err(NumberError::InvalidDigit), rest);
-            }
-            (Ok(negate(n)), rest)
-        }
-        (Err(kind), stop) => (Err(kind), stop),
+    if here.eat(b'-') {
+        let most = 1 << 63;
+        return match take_digits(
+            here,
+            most,
+            NumberError::InvalidDigit,
+            NumberError::NegOverflow,
+        ) {
+            Ok(n) => Ok(negate(n)),
+            Err(kind) => Err(kind),
+        };
     }
-}
-
-/// The number that the run here spells, which may have a `-` in front. Goes behind the run, or
-/// behind the character that makes it none.
-#[inline(always)]
-fn read_integer(here: Cursor<'_>) -> (Result<isize, NumberError>, Cursor<'_>)
-    ensures number { result.0 ≡ integer (front_of (in_class Number) (at here.entry).text) }
-    ensures ends { IfOk result.0 (λ n. at result.1 ≡ behind (in_class Number) (at here.entry)) }
-    ensures behind { behind (in_class Number) (at result.1)
-        ≡ behind (in_class Number) (at here.entry) }
-{
-    if let Some(digits) = here.strip(b'-') {
-        return read_negative(digits);
-    }
-    match read_digits(here, isize::MAX as usize, NumberError::PosOverflow) {
-        (Ok(n), rest) => {
-            if rest.place == here.place {
-                return (Err(NumberError::Empty), rest);
-            }
-            (Ok(n as isize), rest)
-        }
-        (Err(kind), stop) => (Err(kind), stop),
-    }
-}
-
-/// The number that the run here spells, which may have a `-` in front, and what stands behind the
-/// run.
-#[inline(always)]
-pub(crate) fn take_integer(here: Cursor<'_>) -> (Result<isize, NumberError>, Cursor<'_>)
-    ensures number { result.0 ≡ integer (front_of (in_class Number) (at here.entry).text) }
-    ensures behind { at result.1 ≡ behind (in_class Number) (at here.entry) }
-{
-    match read_integer(here) {
-        (Ok(n), rest) => (Ok(n), rest),
-        (Err(kind), stop) => (Err(kind), skip_run(stop)),
+    let most = isize::MAX as usize;
+    match take_digits(here, most, NumberError::Empty, NumberError::PosOverflow) {
+        Ok(n) => Ok(n as isize),
+        Err(kind) => Err(kind),
     }
 }

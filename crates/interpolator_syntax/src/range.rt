@@ -1,10 +1,10 @@
 //! A range of the indexes of a list.
 ghost use Rattle.std.specs.Prelude.{◌≡◌};
 ghost use Rattle.interpolator_syntax.specs.At.{at};
-ghost use Rattle.interpolator_syntax.specs.Ranges.{bound_if, points, range_at, part_or_broken};
-ghost use Rattle.interpolator_syntax.specs.SpecReads.{part_read};
+ghost use Rattle.interpolator_syntax.specs.Ranges.{bound_if, points, range_at};
+ghost use Rattle.interpolator_syntax.specs.SpecReads.{part_read, part_or_broken};
 
-use crate::broken::Broken;
+use crate::argument_fault::ArgumentFault;
 use crate::cursor::Cursor;
 use crate::error::ParseError;
 use crate::number::take_integer;
@@ -27,79 +27,63 @@ pub struct Range {
     pub upper: Option<isize>,
 }
 
-/// The bound that stands here, in the argument that begins at `start`.
+/// The bound that stands here, if one does, in the argument that begins at `start`.
 #[inline(always)]
-fn take_bound(here: Cursor<'_>, start: usize) -> Result<(Option<isize>, Cursor<'_>), Broken>
-    ensures { part_or_broken result ≡ bound_if start (at here.entry) }
+fn take_bound(here: &mut Cursor<'_>, start: usize) -> Result<Option<isize>, ArgumentFault>
+    ensures { part_or_broken result (at here.new) ≡ bound_if start (at here.old) }
 {
-    match here.next() {
-        None => Ok((None, here)),
-        Some((c, _)) => {
-            if !c.is_ascii_digit() && c != '-' {
-                return Ok((None, here));
-            }
-            let (number, rest) = take_integer(here);
-            match rest.next() {
-                None => Err(Broken::Text(ParseError::FormatSpecUnclosed(start))),
-                Some(_) => match number {
-                    Ok(n) => Ok((Some(n), rest)),
-                    Err(kind) => Err(Broken::Text(ParseError::RangeBound(kind, here.place))),
-                },
-            }
-        }
+    let place = here.place;
+    match here.byte() {
+        Some(b'0'..=b'9' | b'-') => {}
+        _ => return Ok(None),
+    }
+    let number = take_integer(here);
+    if here.is_at_end() {
+        return Err(ArgumentFault::Text(ParseError::FormatSpecUnclosed(start)));
+    }
+    match number {
+        Ok(n) => Ok(Some(n)),
+        Err(kind) => Err(ArgumentFault::Text(ParseError::RangeBound(kind, place))),
     }
 }
 
 /// Whether `..` or `..=` stands here, and if so, whether it is the one with `=`.
 #[inline(always)]
-fn take_points(here: Cursor<'_>) -> (Option<bool>, Cursor<'_>)
-    ensures { part_read result ≡ points (at here.entry) }
+fn take_points(here: &mut Cursor<'_>) -> Option<bool>
+    ensures { part_read (result, here.new) ≡ points (at here.old) }
 {
-    match here.strip(b'.') {
-        None => (None, here),
-        Some(second) => match second.strip(b'.') {
-            None => (None, here),
-            Some(rest) => match rest.strip(b'=') {
-                None => (Some(false), rest),
-                Some(upper) => (Some(true), upper),
-            },
-        },
-    }
+    let second = here.strip(b'.')?;
+    *here = second.strip(b'.')?;
+    Some(here.eat(b'='))
 }
 
-/// The range that stands here, in the argument that begins at `start`.
+/// The range that stands here, if one does, in the argument that begins at `start`. A bound alone
+/// is both bounds.
 #[tactic(auto, unfolding(crate::specs::Ranges::range_at))]
 #[inline(always)]
 pub(crate) fn take_range(
-    here: Cursor<'_>,
+    here: &mut Cursor<'_>,
     start: usize,
-) -> Result<(Option<Range>, Cursor<'_>), Broken>
-    ensures { part_or_broken result ≡ range_at start (at here.entry) }
+) -> Result<Option<Range>, ArgumentFault>
+    ensures { part_or_broken result (at here.new) ≡ range_at start (at here.old) }
 {
-    let (lower, rest) = take_bound(here, start)?;
-    let (inclusive, rest) = take_points(rest);
-    match inclusive {
-        None => match lower {
-            None => Ok((None, rest)),
-            Some(n) => Ok((
-                Some(Range {
-                    lower: Some(n),
-                    inclusive: true,
-                    upper: Some(n),
-                }),
-                rest,
-            )),
-        },
+    let lower = take_bound(here, start)?;
+    match take_points(here) {
         Some(inclusive) => {
-            let (upper, rest) = take_bound(rest, start)?;
-            Ok((
-                Some(Range {
-                    lower,
-                    inclusive,
-                    upper,
-                }),
-                rest,
-            ))
+            let upper = take_bound(here, start)?;
+            Ok(Some(Range {
+                lower,
+                inclusive,
+                upper,
+            }))
         }
+        None => match lower {
+            None => Ok(None),
+            Some(n) => Ok(Some(Range {
+                lower: Some(n),
+                inclusive: true,
+                upper: Some(n),
+            })),
+        },
     }
 }

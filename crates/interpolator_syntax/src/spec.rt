@@ -1,105 +1,152 @@
-//! What stands behind the colon of an argument.
-ghost use Rattle.std.specs.Prelude.{◌≡◌, ◌<◌, Result};
-ghost use Rattle.std.specs.Str.{chars};
-ghost use Rattle.interpolator_syntax.specs.At.{at};
-ghost use Rattle.interpolator_syntax.specs.Arguments.{asked_read, kind_read};
-ghost use Rattle.interpolator_syntax.specs.Readers.{letter, flag};
+//! What stands after the colon of an argument, up to what follows the letter of lists.
+ghost use Rattle.std.specs.Prelude.{◌≡◌, Ok};
+ghost use Rattle.interpolator_syntax.specs.At.{at, strip};
+ghost use Rattle.interpolator_syntax.specs.Classes.{question_mark};
+ghost use Rattle.interpolator_syntax.specs.Readers.{letter};
 ghost use Rattle.interpolator_syntax.specs.SpecTexts.{alignment_letter, sign_letter, width_at};
-ghost use Rattle.interpolator_syntax.specs.SpecTexts.{precision_at, trait_at, kind_at, spec_parts};
-ghost use Rattle.interpolator_syntax.specs.SpecTexts.{spec_behind};
-ghost use Rattle.interpolator_syntax.specs.SpecReads.{part_read, number_read, wanted_read};
+ghost use Rattle.interpolator_syntax.specs.SpecTexts.{precision_at, trait_at, trait_letter};
+ghost use Rattle.interpolator_syntax.specs.SpecTexts.{hexadecimal, plain_spec, spec_parts};
+ghost use Rattle.interpolator_syntax.specs.SpecTexts.{spec_after};
+ghost use Rattle.interpolator_syntax.specs.SpecReads.{part_read, part_or_broken, wanted_read};
+ghost use Rattle.interpolator_syntax.specs.SpecReads.{HasNoOptions, spec_options, options_left};
+ghost use Rattle.interpolator_syntax.specs.SpecReads.{spec_left};
 ghost use Rattle.interpolator_render.specs.declared.view.Alignment.TheVariants as alignments;
 ghost use Rattle.interpolator_render.specs.declared.view.Sign.TheVariants as signs;
+ghost use Rattle.interpolator_render.specs.declared.view.Trait.TheVariants as traits;
 
-use crate::argument::{Argument, Kind};
-use crate::broken::Broken;
+use crate::argument_fault::ArgumentFault;
 use crate::cursor::Cursor;
 use crate::error::ParseError;
-use crate::list::take_list;
 use crate::number::take_natural;
 use interpolator_render::{Alignment, HexDebug, Sign, Spec, Trait};
 
-/// The alignment that stands here.
+/// The alignment that stands here, if one does.
 #[inline(always)]
-fn take_alignment(here: Cursor<'_>) -> (Alignment, Cursor<'_>)
-    ensures { part_read result ≡ letter alignment_letter alignments.Unset (at here.entry) }
+fn take_alignment(here: &mut Cursor<'_>) -> Alignment
+    ensures { part_read (result, here.new)
+        ≡ letter alignment_letter alignments.Unset (at here.old) }
 {
-    match here.next() {
-        None => (Alignment::Unset, here),
-        Some(('<', rest)) => (Alignment::Left, rest),
-        Some(('^', rest)) => (Alignment::Center, rest),
-        Some(('>', rest)) => (Alignment::Right, rest),
-        Some(_) => (Alignment::Unset, here),
+    if here.eat(b'<') {
+        Alignment::Left
+    } else if here.eat(b'^') {
+        Alignment::Center
+    } else if here.eat(b'>') {
+        Alignment::Right
+    } else {
+        Alignment::Unset
     }
 }
 
-/// The sign that stands here.
+/// The sign that stands here, if one does.
 #[inline(always)]
-fn take_sign(here: Cursor<'_>) -> (Sign, Cursor<'_>)
-    ensures { part_read result ≡ letter sign_letter signs.Unset (at here.entry) }
+fn take_sign(here: &mut Cursor<'_>) -> Sign
+    ensures { part_read (result, here.new) ≡ letter sign_letter signs.Unset (at here.old) }
 {
-    match here.next() {
-        None => (Sign::Unset, here),
-        Some(('+', rest)) => (Sign::Plus, rest),
-        Some(('-', rest)) => (Sign::Minus, rest),
-        Some(_) => (Sign::Unset, here),
+    if here.eat(b'+') {
+        Sign::Plus
+    } else if here.eat(b'-') {
+        Sign::Minus
+    } else {
+        Sign::Unset
     }
 }
 
-/// Whether that ASCII character stands here.
+/// The width that stands here, if one does, in the argument that begins at `start`.
 #[inline(always)]
-fn take_flag(here: Cursor<'_>, wanted: u8) -> (bool, Cursor<'_>)
-    requires ascii { wanted < 128 }
-    ensures { part_read result ≡ flag wanted (at here.entry) }
+fn take_width(here: &mut Cursor<'_>, start: usize) -> Result<Option<usize>, ArgumentFault>
+    ensures { part_or_broken result (at here.new) ≡ width_at start (at here.old) }
 {
-    match here.strip(wanted) {
-        None => (false, here),
-        Some(rest) => (true, rest),
+    let place = here.place;
+    match here.byte() {
+        Some(b'0'..=b'9') => {}
+        _ => return Ok(None),
+    }
+    let number = take_natural(here);
+    if here.is_at_end() {
+        return Err(ArgumentFault::Text(ParseError::FormatSpecUnclosed(start)));
+    }
+    match number {
+        Ok(n) => Ok(Some(n)),
+        Err(kind) => Err(ArgumentFault::Text(ParseError::InvalidWidth(kind, place))),
     }
 }
 
-/// The width that stands here, in the argument that begins at `start`.
+/// The precision that stands here, if one does, in the argument that begins at `start`.
 #[inline(always)]
-fn take_width(here: Cursor<'_>, start: usize) -> Result<(Option<usize>, Cursor<'_>), Broken>
-    ensures { number_read result ≡ width_at start (at here.entry) }
+fn take_precision(here: &mut Cursor<'_>, start: usize) -> Result<Option<usize>, ArgumentFault>
+    ensures { part_or_broken result (at here.new) ≡ precision_at start (at here.old) }
 {
-    match here.next() {
-        None => Ok((None, here)),
-        Some((c, _)) => {
-            if !c.is_ascii_digit() {
-                return Ok((None, here));
-            }
-            let (number, rest) = take_natural(here);
-            match rest.next() {
-                None => Err(Broken::Text(ParseError::FormatSpecUnclosed(start))),
-                Some(_) => match number {
-                    Ok(n) => Ok((Some(n), rest)),
-                    Err(kind) => Err(Broken::Text(ParseError::InvalidWidth(kind, here.place))),
-                },
-            }
-        }
+    if !here.eat(b'.') {
+        return Ok(None);
+    }
+    let place = here.place;
+    let number = take_natural(here);
+    if here.is_at_end() {
+        return Err(ArgumentFault::Text(ParseError::FormatSpecUnclosed(start)));
+    }
+    match number {
+        Ok(n) => Ok(Some(n)),
+        Err(kind) => Err(ArgumentFault::Text(ParseError::InvalidPrecision(kind, place))),
     }
 }
 
-/// The precision that stands here, in the argument that begins at `start`.
+/// Sign, flags, width and precision, as many as stand here, one after the other.
 #[inline(always)]
-fn take_precision(here: Cursor<'_>, start: usize) -> Result<(Option<usize>, Cursor<'_>), Broken>
-    ensures { number_read result ≡ precision_at start (at here.entry) }
+fn take_each_option(
+    here: &mut Cursor<'_>,
+    spec: &mut Spec,
+    start: usize,
+) -> Result<(), ArgumentFault>
+    ensures { options_left start result spec.new (at here.new)
+        ≡ spec_options start spec.old (at here.old) }
 {
-    match here.strip(b'.') {
-        None => Ok((None, here)),
-        Some(digits) => {
-            let (number, rest) = take_natural(digits);
-            match rest.next() {
-                None => Err(Broken::Text(ParseError::FormatSpecUnclosed(start))),
-                Some(_) => match number {
-                    Ok(n) => Ok((Some(n), rest)),
-                    Err(kind) => {
-                        Err(Broken::Text(ParseError::InvalidPrecision(kind, digits.place)))
-                    }
-                },
-            }
-        }
+    spec.sign = take_sign(here);
+    spec.alternate = here.eat(b'#');
+    spec.zero = here.eat(b'0');
+    spec.width = take_width(here, start)?;
+    spec.precision = take_precision(here, start)?;
+    Ok(())
+}
+
+/// The same. Each of them begins with a byte up to `9`, and each letter lies above.
+#[inline(always)]
+fn take_options(here: &mut Cursor<'_>, spec: &mut Spec, start: usize) -> Result<(), ArgumentFault>
+    requires { HasNoOptions spec.old }
+    ensures { options_left start result spec.new (at here.new)
+        ≡ spec_options start spec.old (at here.old) }
+{
+    match here.byte() {
+        Some(0..=b'9') => take_each_option(here, spec, start),
+        _ => Ok(()),
+    }
+}
+
+/// The trait of a letter that stands by itself.
+#[inline(always)]
+fn trait_of(letter: u8) -> Option<Trait>
+    ensures { result ≡ trait_letter letter }
+{
+    match letter {
+        b'?' => Some(Trait::Debug),
+        b'o' => Some(Trait::Octal),
+        b'b' => Some(Trait::Binary),
+        b'e' => Some(Trait::LowerExp),
+        b'E' => Some(Trait::UpperExp),
+        b'i' => Some(Trait::Iter),
+        _ => None,
+    }
+}
+
+/// After the letter of a hexadecimal trait: debug with such numbers where a `?` stands.
+#[inline(always)]
+fn hexadecimal_or_debug(here: &mut Cursor<'_>, alone: Trait, debug: HexDebug) -> (Trait, HexDebug)
+    ensures { wanted_read (Ok result) (at here.new)
+        ≡ hexadecimal alone debug (at here.old) (strip question_mark (at here.old)) }
+{
+    if here.eat(b'?') {
+        (Trait::Debug, debug)
+    } else {
+        (alone, HexDebug::No)
     }
 }
 
@@ -107,115 +154,89 @@ fn take_precision(here: Cursor<'_>, start: usize) -> Result<(Option<usize>, Curs
 /// read.
 #[inline(always)]
 fn take_trait(
-    here: Cursor<'_>,
+    here: &mut Cursor<'_>,
     start: usize,
     flagged: bool,
-) -> Result<(Trait, HexDebug, Cursor<'_>), Broken>
-    ensures { wanted_read result ≡ trait_at start flagged (at here.entry) }
+) -> Result<(Trait, HexDebug), ArgumentFault>
+    ensures { wanted_read result (at here.new) ≡ trait_at start flagged (at here.old) }
 {
-    match here.next() {
-        None => {
-            if flagged {
-                Err(Broken::Text(ParseError::FormatSpecUnclosed(start)))
-            } else {
-                Ok((Trait::Display, HexDebug::No, here))
-            }
+    let Some(letter) = here.byte() else {
+        if flagged {
+            return Err(ArgumentFault::Text(ParseError::FormatSpecUnclosed(start)));
         }
-        Some(('}', _)) => Ok((Trait::Display, HexDebug::No, here)),
-        Some(('x', rest)) => match rest.strip(b'?') {
-            None => Ok((Trait::LowerHex, HexDebug::No, rest)),
-            Some(end) => Ok((Trait::Debug, HexDebug::Lower, end)),
-        },
-        Some(('X', rest)) => match rest.strip(b'?') {
-            None => Ok((Trait::UpperHex, HexDebug::No, rest)),
-            Some(end) => Ok((Trait::Debug, HexDebug::Upper, end)),
-        },
-        Some(('?', rest)) => Ok((Trait::Debug, HexDebug::No, rest)),
-        Some(('o', rest)) => Ok((Trait::Octal, HexDebug::No, rest)),
-        Some(('b', rest)) => Ok((Trait::Binary, HexDebug::No, rest)),
-        Some(('e', rest)) => Ok((Trait::LowerExp, HexDebug::No, rest)),
-        Some(('E', rest)) => Ok((Trait::UpperExp, HexDebug::No, rest)),
-        Some(('i', rest)) => Ok((Trait::Iter, HexDebug::No, rest)),
-        Some(('p', _)) => Err(Broken::Pointer(here.place)),
-        Some(_) => Err(Broken::Text(ParseError::Expected("}", here.place))),
+        return Ok((Trait::Display, HexDebug::No));
+    };
+    if letter == b'}' {
+        return Ok((Trait::Display, HexDebug::No));
+    }
+    if here.eat(b'x') {
+        return Ok(hexadecimal_or_debug(here, Trait::LowerHex, HexDebug::Lower));
+    }
+    if here.eat(b'X') {
+        return Ok(hexadecimal_or_debug(here, Trait::UpperHex, HexDebug::Upper));
+    }
+    match trait_of(letter) {
+        Some(wanted) => {
+            let _ = here.eat(letter);
+            Ok((wanted, HexDebug::No))
+        }
+        None => {
+            if letter == b'p' {
+                return Err(ArgumentFault::Pointer(here.place));
+            }
+            Err(ArgumentFault::Text(ParseError::Expected("}", here.place)))
+        }
     }
 }
 
-/// What is asked for under a trait whose letter was read, in the argument that begins at `start`:
-/// behind the letter of a list stands how it is written.
-#[inline(always)]
-fn take_kind(
-    here: Cursor<'_>,
-    start: usize,
-    wanted: Trait,
-) -> Result<(Kind<'_>, Cursor<'_>), Broken>
-    ensures { kind_read result ≡ kind_at start wanted (at here.entry) }
-{
-    match wanted {
-        Trait::Iter => take_list(here, start),
-        value => Ok((Kind::Value(value), here)),
-    }
-}
-
-/// The parts of a spec, in their order, of the argument that begins at `start`. Goes behind them.
+/// The parts of a spec, in their order, of the argument that begins at `start`, up to what follows
+/// the letter of a list. Goes after them.
 #[tactic(auto, unfolding(crate::specs::SpecTexts::spec_parts))]
 #[inline(always)]
-fn take_parts<'a>(
-    here: &mut Cursor<'a>,
-    argument: &mut Argument<'a>,
+fn take_parts(
+    here: &mut Cursor<'_>,
+    spec: &mut Spec,
+    slot: &mut Trait,
     start: usize,
-) -> Result<(), Broken>
-    ensures read { asked_read result argument.new (at here.new) ≡ spec_parts start (at here.old) }
-    ensures name { argument.new.name ≡ argument.old.name }
-    ensures name_place { argument.new.name_place ≡ argument.old.name_place }
+) -> Result<(), ArgumentFault>
+    requires plain { spec.old ≡ plain_spec }
+    ensures { spec_left start result spec.new slot.new (at here.new)
+        ≡ spec_parts start (at here.old) }
 {
-    let (alignment, rest) = take_alignment(*here);
-    let (sign, rest) = take_sign(rest);
-    let (alternate, rest) = take_flag(rest, b'#');
-    let (zero, rest) = take_flag(rest, b'0');
-    let (width, rest) = take_width(rest, start)?;
-    let (precision, rest) = take_precision(rest, start)?;
-    let (slot, hex_debug, rest) = take_trait(rest, start, alternate || zero)?;
-    let (kind, rest) = take_kind(rest, start, slot)?;
-    *here = rest;
-    argument.spec = Spec {
-        alignment,
-        sign,
-        alternate,
-        zero,
-        width,
-        precision,
-        hex_debug,
-    };
-    argument.kind = kind;
+    spec.alignment = take_alignment(here);
+    take_options(here, spec, start)?;
+    let (wanted, hex_debug) = take_trait(here, start, spec.alternate || spec.zero)?;
+    *slot = wanted;
+    spec.hex_debug = hex_debug;
     Ok(())
 }
 
-/// The text behind the colon of the argument that begins at `start`: what is asked for. Goes behind
-/// it.
-#[tactic(auto, unfolding(crate::specs::SpecTexts::spec_behind))]
+/// What stands after the colon of the argument that begins at `start`, up to what follows the
+/// letter of a list. Goes after it; of one character alone nothing is read.
+#[tactic(auto, unfolding(crate::specs::SpecTexts::spec_after))]
 #[inline(never)]
-pub(crate) fn take_spec<'a>(
-    here: &mut Cursor<'a>,
-    argument: &mut Argument<'a>,
+pub(crate) fn take_spec(
+    here: &mut Cursor<'_>,
+    spec: &mut Spec,
+    slot: &mut Trait,
     start: usize,
-) -> Result<(), Broken>
-    ensures read { asked_read result argument.new (at here.new) ≡ spec_behind start (at here.old) }
-    ensures name { argument.new.name ≡ argument.old.name }
-    ensures name_place { argument.new.name_place ≡ argument.old.name_place }
+) -> Result<(), ArgumentFault>
+    requires plain { spec.old ≡ plain_spec }
+    requires display { slot.old ≡ traits.Display }
+    ensures { spec_left start result spec.new slot.new (at here.new)
+        ≡ spec_after start (at here.old) }
 {
-    argument.spec = Spec::default();
-    argument.kind = Kind::Value(Trait::Display);
-    match here.next() {
+    let Some((_, second)) = here.next() else {
+        return Ok(());
+    };
+    match second.byte() {
         None => Ok(()),
-        Some((_, second)) => match second.next() {
-            None => Ok(()),
-            Some((c, _)) => {
-                if c == '<' || c == '^' || c == '>' {
-                    return Err(Broken::Text(ParseError::Fill(here.place)));
-                }
-                take_parts(here, argument, start)
-            }
-        },
+        Some(b'<' | b'^' | b'>') => Err(ArgumentFault::Text(ParseError::Fill(here.place))),
+        Some(_) => {
+            let mut rest = *here;
+            take_parts(&mut rest, spec, slot, start)?;
+            *here = rest;
+            Ok(())
+        }
     }
 }

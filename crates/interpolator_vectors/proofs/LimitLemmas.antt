@@ -12,20 +12,20 @@ use Rattle.interpolator_render.proofs.LayoutLemmas.{byte_count-chars}
 
 -- the writer took so many bytes of the text, and `rest` is to come
 pub record Taken (old : Written) (text rest : List ℕ) (taken : ℕ) (now : Written) : Type 0 where
-  pub behind : List ℕ
-  pub parts : text ≡ behind ++ rest
-  pub behind_valid : IsUtf8 behind
+  pub after : List ℕ
+  pub parts : text ≡ after ++ rest
+  pub after_valid : IsUtf8 after
   pub rest_valid : IsUtf8 rest
-  pub counted : taken ≡ length behind
-  pub appended : now.text ≡ old.text ++ chars behind
+  pub counted : taken ≡ length after
+  pub appended : now.text ≡ old.text ++ chars after
   pub same_flag : now.refused ≡ old.refused
-  pub only_empty : old.refused ≡ true → behind ≡ []
+  pub only_empty : old.refused ≡ true → after ≡ []
 
 pub taken_none : (old : Written) (text : List ℕ) → IsUtf8 text → Taken old text text 0 old
 taken_none old text u = record {
-  behind = [];
+  after = [];
   parts = refl;
-  behind_valid = IsUtf8-nil;
+  after_valid = IsUtf8-nil;
   rest_valid = u;
   counted = refl;
   appended = rw chars-nil (sym (append-nil old.text));
@@ -40,38 +40,38 @@ pub taken_more : (old now new : Written) (text rest after : List ℕ) (taken c :
     → Taken old text after (taken + size) new
 taken_more old now new text rest after taken c size z e k a =
     let s = scalar_first rest after c k.rest_valid e in
-    let more : chars (k.behind ++ encode_utf8 c) ≡ chars k.behind ++ (c ∷ []) =
-    chars-append k.behind (encode_utf8 c) k.behind_valid
-    ∙ ap (λ (x : List ℕ). chars k.behind ++ x) (chars-encode c s) in
+    let more : chars (k.after ++ encode_utf8 c) ≡ chars k.after ++ (c ∷ []) =
+    chars-append k.after (encode_utf8 c) k.after_valid
+    ∙ ap (λ (x : List ℕ). chars k.after ++ x) (chars-encode c s) in
     record {
-      behind = k.behind ++ encode_utf8 c;
-      parts = k.parts ∙ (ap (λ (x : List ℕ). k.behind ++ x) e
-          ∙ sym (append_assoc k.behind (encode_utf8 c) after));
-      behind_valid = IsUtf8-append k.behind (encode_utf8 c) k.behind_valid (IsUtf8-encode c s);
+      after = k.after ++ encode_utf8 c;
+      parts = k.parts ∙ (ap (λ (x : List ℕ). k.after ++ x) e
+          ∙ sym (append_assoc k.after (encode_utf8 c) after));
+      after_valid = IsUtf8-append k.after (encode_utf8 c) k.after_valid (IsUtf8-encode c s);
       rest_valid = IsUtf8-past_char rest after c k.rest_valid e;
-      counted = let n = length-append k.behind (encode_utf8 c) in let m = k.counted in
+      counted = let n = length-append k.after (encode_utf8 c) in let m = k.counted in
           omega (arith, z);
       appended = a.appended ∙ (ap (λ (x : List ℕ). x ++ (c ∷ [])) k.appended
-          ∙ (append_assoc old.text (chars k.behind) (c ∷ [])
+          ∙ (append_assoc old.text (chars k.after) (c ∷ [])
           ∙ ap (λ (x : List ℕ). old.text ++ x) (sym more)));
       same_flag = a.same_flag ∙ k.same_flag;
       only_empty = λ h. let n = ap length (a.only_empty (k.same_flag ∙ h)) in absurd (omega arith);
     }
 
--- how far the text goes behind what was taken
+-- how far the text goes after what was taken
 pub taken_fits : (old now : Written) (text rest after : List ℕ) (taken c : ℕ)
     → rest ≡ encode_utf8 c ++ after → Taken old text rest taken now
     → taken + (length (encode_utf8 c) + length after) ≡ length text
 taken_fits old now text rest after taken c e k =
-    let n = length-append k.behind rest in let m = length-append (encode_utf8 c) after in
+    let n = length-append k.after rest in let m = length-append (encode_utf8 c) after in
     let p = ap length k.parts in let q = ap length e in let t = k.counted in omega arith
 
 -- the whole text was taken
 pub taken_whole : (old now : Written) (text rest : List ℕ) (taken : ℕ) → rest ≡ []
     → Taken old text rest taken now → Appends old (chars text) now
 taken_whole old now text rest taken e k =
-    let all : text ≡ k.behind = k.parts ∙ (ap (λ (x : List ℕ). k.behind ++ x) e
-    ∙ append-nil k.behind) in
+    let all : text ≡ k.after = k.parts ∙ (ap (λ (x : List ℕ). k.after ++ x) e
+    ∙ append-nil k.after) in
     record {
       appended = rw all k.appended;
       same_flag = k.same_flag;
@@ -93,14 +93,14 @@ taken_part old now new text rest after taken c n e k r =
     let none = none_of_one c r.part.beginning r.part.rest r.part.parts r.part.not_whole in
     record {
       part = record {
-        beginning = chars k.behind;
+        beginning = chars k.after;
         rest = chars rest;
-        parts = ap chars k.parts ∙ chars-append k.behind rest k.behind_valid;
+        parts = ap chars k.parts ∙ chars-append k.after rest k.after_valid;
         not_whole = rw (chars_past_char rest after c k.rest_valid e) (omega arith);
         appended = r.part.appended ∙ (ap (λ (x : List ℕ). now.text ++ x) none
             ∙ (append-nil now.text ∙ k.appended));
         flag_set = r.part.flag_set;
         none_after_refusal = λ h. ap chars (k.only_empty h) ∙ chars-nil;
       };
-      counted = k.counted ∙ sym (byte_count-chars k.behind k.behind_valid);
+      counted = k.counted ∙ sym (byte_count-chars k.after k.after_valid);
     }

@@ -2,12 +2,12 @@
 
 pub(crate) mod rows;
 
-use crate::formats::told::told_by;
+use crate::tables::told::told_by;
 use interpolator::{Argument, Group, Kind, Range, parse_argument};
 use rows::{Bounds, Inner, LISTS, Listing, READ, REFUSED, Reading, Refusal};
 use std::process::Abort;
 
-/// The argument that starts at a byte of the text, and the byte behind its spec.
+/// The argument that starts at a byte of the text, and the byte after its spec.
 fn argument_at<'a>(rt: &impl Abort, text: &'a str, start: usize) -> (Argument<'a>, usize) {
     assert!(rt;
         text.is_char_boundary(start),

@@ -23,11 +23,15 @@ mod lists_of_users;
 #[cfg(test)]
 mod long;
 #[cfg(test)]
+mod many_names;
+#[cfg(test)]
 mod pairs;
 #[cfg(test)]
 mod parts;
 #[cfg(test)]
 mod render;
+#[cfg(test)]
+mod tables;
 #[cfg(test)]
 mod users;
 #[cfg(test)]

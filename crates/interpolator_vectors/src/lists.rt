@@ -5,52 +5,13 @@ mod long;
 mod memory;
 mod rows;
 
-use crate::formats::held::{filled, map_of};
-use crate::formats::{gives, gives_in_room};
+use crate::tables::{Call, give, give_in_room, gives};
 use interpolator::{Formattable, View};
-use rows::{BROKEN, CUTS, HeldList, ListRoomTable, ListTable, NESTED, ROOM, WRITTEN};
+use rows::{BROKEN, CUTS, NESTED, ROOM, WRITTEN};
 use std::alloc::Global;
 use std::collections::HashMap;
 use std::process::Abort;
 use std::test::Fail;
-
-/// The items of a list.
-fn items_of<'a>(
-    alloc: Global,
-    list: &HeldList<'a>,
-) -> Result<Vec<Formattable<'a, View<'a>>>, Fail> {
-    let (_, slots, views) = *list;
-    let mut items = Vec::new(alloc);
-    for view in views {
-        items.push(filled(slots, view))?;
-    }
-    Ok(items)
-}
-
-/// The items of each list.
-fn all_items<'a>(
-    alloc: Global,
-    lists: &[HeldList<'a>],
-) -> Result<Vec<Vec<Formattable<'a, View<'a>>>>, Fail> {
-    let mut all = Vec::new(alloc);
-    for list in lists {
-        all.push(items_of(alloc, list)?)?;
-    }
-    Ok(all)
-}
-
-/// The rows are given in their context.
-fn give(rt: &impl Abort, alloc: Global, table: &ListTable<'_>) -> Result<(), Fail> {
-    let all = all_items(alloc, table.lists)?;
-    let mut map = map_of(alloc, table.values)?;
-    for ((name, _, _), items) in table.lists.iter().zip(&all) {
-        map.insert(*name, Formattable::iter(items))?;
-    }
-    for row in table.rows {
-        gives(rt, alloc, row, &map);
-    }
-    Ok(())
-}
 
 #[test]
 fn lists_are_written(rt: HostRuntime) -> Result<(), Fail> {
@@ -76,23 +37,10 @@ fn cuts_of_lists(rt: HostRuntime) -> Result<(), Fail> {
     Ok(())
 }
 
-/// The rows of writers with little room are given in their context.
-fn give_in_room(rt: &impl Abort, alloc: Global, table: &ListRoomTable<'_>) -> Result<(), Fail> {
-    let all = all_items(alloc, table.lists)?;
-    let mut map = map_of(alloc, table.values)?;
-    for ((name, _, _), items) in table.lists.iter().zip(&all) {
-        map.insert(*name, Formattable::iter(items))?;
-    }
-    for row in table.rows {
-        gives_in_room(rt, alloc, row, &map)?;
-    }
-    Ok(())
-}
-
 #[test]
 fn limited_writers_hold_beginnings_of_lists(rt: HostRuntime) -> Result<(), Fail> {
     for table in &ROOM {
-        give_in_room(&rt, rt.alloc(), table)?;
+        give_in_room(&rt, rt.alloc(), Call::Text, table)?;
     }
     Ok(())
 }

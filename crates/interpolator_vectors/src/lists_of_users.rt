@@ -27,7 +27,7 @@ fn users_write_lists(rt: HostRuntime) -> Result<(), Fail> {
     Ok(())
 }
 
-/// A list of lists: the outer group has a sign, so that it goes on behind the `)` of the inner one.
+/// A list of lists: the outer group has a sign, so that it goes on after the `)` of the inner one.
 fn table<'a>(alloc: Global, rows: &'a [Formattable<'a, u64>]) -> Result<String, Error> {
     Pairs(&[("rows", Formattable::iter(rows))]).format(alloc, "{rows:i#({:i({:>4})})#(\n)}")
 }

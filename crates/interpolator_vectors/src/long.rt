@@ -2,9 +2,9 @@
 
 use crate::counting::Counting;
 use crate::formats::own::Nowhere;
-use crate::formats::told::{Told, told_by};
 use crate::limited::Limited;
 use crate::parts::parts_fit;
+use crate::tables::told::{Told, told_by};
 use interpolator::{
     Error, Formattable, Interpolate, ParseError, TextBuffer, TextWrite, Trait, View, iwriteln,
     write_parts,
@@ -18,8 +18,10 @@ use std::test::Fail;
 /// `t` the text `é"`. Worked by hand from the rules of pieces and of rendering in
 /// docs/DEFINITIONS.md.
 #[rattlefmt::skip]
-const FORMATS: [(&str, usize, &str); 15] = [
+const FORMATS: [(&str, usize, &str); 17] = [
     ("a", 100_000, "a"),
+    ("a", 1_000_000, "a"),
+    ("a{{", 200_000, "a{"),
     ("é", 50_000, "é"),
     ("}}", 50_000, "}"),
     ("{{", 50_000, "{"),
@@ -36,9 +38,9 @@ const FORMATS: [(&str, usize, &str); 15] = [
     ("{t:?}", 1_000, "\"é\\\"\""),
 ];
 
-/// A part of a format, how often it stands there, what each of them prints, what stands behind
+/// A part of a format, how often it stands there, what each of them prints, what stands after
 /// them, and what is answered, where `n` is 7. Worked by hand from the rules of outcomes in
-/// docs/DEFINITIONS.md: a fault stands behind all that the parts print.
+/// docs/DEFINITIONS.md: a fault stands after all that the parts print.
 #[rattlefmt::skip]
 const FAULTS: [(&str, usize, &str, &str, Told<'static>); 4] = [
     ("a", 100_000, "a", "{q}", Told::MissingValue("q", 100_001)),
@@ -61,16 +63,17 @@ const ROOMS: [(usize, usize); 8] = [
 ];
 
 /// A part of a name, and how often it stands there. By the rules of arguments in
-/// docs/DEFINITIONS.md it is found where it is held, and missing behind its brace where it is not.
+/// docs/DEFINITIONS.md it is found where it is held, and missing after its brace where it is not.
 const NAMES: [(&str, usize); 4] = [("a", 1_000), ("é", 1_000), ("a{", 1_000), ("n", 100_000)];
 
 /// A part of a text, how often it stands there, a format, what stands in front of it, how often the
-/// part is printed, and what stands behind. Worked by hand from the rules of rendering in
+/// part is printed, and what stands after. Worked by hand from the rules of rendering in
 /// docs/DEFINITIONS.md.
 #[rattlefmt::skip]
-const TEXTS: [(&str, usize, &str, &str, usize, &str); 7] = [
+const TEXTS: [(&str, usize, &str, &str, usize, &str); 8] = [
     ("a", 1_000, "{t}", "", 1_000, ""),
     ("a", 100_000, "{t}", "", 100_000, ""),
+    ("a", 1_000_000, "{t}", "", 1_000_000, ""),
     ("é", 50_000, "<{t}>", "<", 50_000, ">"),
     ("é", 50_000, "{t:?}", "\"", 50_000, "\""),
     ("日", 1_000, "{t:.999}", "", 999, ""),
@@ -157,11 +160,11 @@ fn long_formats(rt: HostRuntime) -> Result<(), Fail> {
 }
 
 #[test]
-fn faults_behind_long_texts(rt: HostRuntime) -> Result<(), Fail> {
+fn faults_after_long_texts(rt: HostRuntime) -> Result<(), Fail> {
     let alloc = rt.alloc();
-    for (part, count, printed, behind, told) in FAULTS {
+    for (part, count, printed, after, told) in FAULTS {
         let parts = repeated(alloc, part, count)?;
-        let format = between(alloc, parts.as_str(), behind, "")?;
+        let format = between(alloc, parts.as_str(), after, "")?;
         let text = repeated(alloc, printed, count)?;
         let mut out = TextBuffer::new(alloc);
         let answer = written(alloc, &mut out, format.as_str(), "");
@@ -309,7 +312,7 @@ fn goes_in_one_call(
     Ok(())
 }
 
-// The places of a value behind its spec and of a literal that was not appended, by the rules of
+// The places of a value after its spec and of a literal that was not appended, by the rules of
 // docs/DEFINITIONS.md.
 #[test]
 fn long_texts_in_one_call(rt: HostRuntime) -> Result<(), Fail> {

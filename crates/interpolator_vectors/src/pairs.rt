@@ -1,6 +1,6 @@
 //! Rows of pairs as a context.
 
-use crate::formats::told::{Told, answers, told_by};
+use crate::tables::told::{Told, answers, told_by};
 use interpolator::{Context, Formattable, Interpolate, Pairs};
 
 /// Formats over the pairs `n` 1, `nn` 2, the empty name 3, `é` 4 and `n` 5, and what they print.
@@ -17,7 +17,7 @@ const FOUND: [(&str, &str); 7] = [
 ];
 
 /// Formats over the same pairs, and the name that is missing. Worked by hand, as the rows above;
-/// the argument starts behind its brace, at 1.
+/// the argument starts after its brace, at 1.
 #[rattlefmt::skip]
 const ABSENT: [(&str, &str); 6] = [
     ("{nnn}", "nnn"),

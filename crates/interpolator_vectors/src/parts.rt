@@ -2,13 +2,13 @@
 ghost use Rattle.std.specs.Prelude.{◌<◌, ◌^◌, IsTrue};
 ghost use Rattle.interpolator.specs.Meaning.Parts.{bytes_of};
 
-use crate::formats::told::{Told, told_by};
+use crate::tables::told::{Told, told_by};
 use interpolator::{Formattable, Interpolate, Pairs, ParseError, TextBuffer, seam, write_parts};
 use std::alloc::Global;
 use std::process::Abort;
 use std::test::Fail;
 
-/// Two texts, and whether the second may stand behind the first. Worked by hand from the rules of
+/// Two texts, and whether the second may stand after the first. Worked by hand from the rules of
 /// seams in docs/DEFINITIONS.md.
 #[rattlefmt::skip]
 const SEAMS: [(&str, &str, bool); 31] = [
@@ -133,7 +133,7 @@ fn many_parts_are_written(rt: HostRuntime) -> Result<(), Fail> {
     give(&rt, alloc, parts.as_slice(), text.as_str(), Told::Done)
 }
 
-// The name that is missing behind long parts is long, too: by the rules of parts in
+// The name that is missing after long parts is long, too: by the rules of parts in
 // docs/DEFINITIONS.md.
 #[test]
 fn long_parts_are_written(rt: HostRuntime) -> Result<(), Fail> {

@@ -6,7 +6,7 @@ use std::alloc::Global;
 use std::process::ExitCode;
 use std::{env, fs, io};
 
-/// A letter for each line behind the first, which has the names of the fields.
+/// A letter for each line after the first, which has the names of the fields.
 fn merged(alloc: Global, template: &str, table: &str) -> Result<String, Error> {
     let mut out = TextBuffer::new(alloc);
     let mut lines = table.lines();

@@ -186,15 +186,15 @@ fn asking(alloc: Global, count: usize) -> Result<String, AllocError> {
     Ok(format)
 }
 
-// The numbers from 1 to 100 add up to 5,050.
+// The numbers from 1 to 1,000 add up to 500,500.
 #[test]
 fn many_words_are_run(rt: HostRuntime) -> Result<(), Fail> {
     let alloc = rt.alloc();
-    let line = many_words(alloc, 100)?;
+    let line = many_words(alloc, 1_000)?;
     let mut out = Vec::new(alloc);
     let mut err = Vec::new(alloc);
     assert_eq!(rt; answer(alloc, line.as_slice(), &mut out, &mut err), 0);
-    let text = text_of(alloc, &[("a", 5_050), ("\n", 1)])?;
+    let text = text_of(alloc, &[("a", 500_500), ("\n", 1)])?;
     assert!(rt; out.as_slice() == text.as_str().as_bytes());
     assert!(rt; err.is_empty());
     Ok(())

@@ -1,15 +1,18 @@
-//! Tests of the lines that are written, of the flush behind each, and of writers that refuse.
+//! Tests of the lines that are written, of the flush after each, and of writers that refuse.
 
-use crate::run::{complain, run, usage};
-use interpolator::ContextMap;
+use crate::run::{complain, report, run, usage};
+use interpolator::{ContextMap, Error};
 use std::alloc::Global;
 use std::io;
 use std::io::{ErrorKind, Write};
+use std::process::Abort;
 use std::test::Fail;
 
 const USAGE: &str = "usage: ifmt FORMAT [NAME=TEXT | NAME:=NUMBER | NAME[]=ITEM,ITEM..]\n";
 
 const NO_Q: &str = "specified value not in context `q` at 2\n";
+
+const OUT_OF_MEMORY: &str = "out of memory\n";
 
 const NO_END: &str = "error while parsing input: Format spec at 3 is nether closed with a `}`\n";
 
@@ -61,14 +64,16 @@ impl Write for Spy {
 enum Call {
     Text,
     Fault,
+    OutOfMemory,
     Complain,
     Usage,
 }
 
 /// Each call, and its status where no write is refused.
-const CALLS: [(Call, u8); 4] = [
+const CALLS: [(Call, u8); 5] = [
     (Call::Text, 0),
     (Call::Fault, 1),
+    (Call::OutOfMemory, 1),
     (Call::Complain, 2),
     (Call::Usage, 2),
 ];
@@ -83,6 +88,7 @@ fn status_of(alloc: Global, call: Call, to: &mut Spy, other: &mut Spy) -> u8 {
     match call {
         Call::Text => run_on(alloc, "Hi", to, other),
         Call::Fault => run_on(alloc, "{q}", other, to),
+        Call::OutOfMemory => report(Err(Error::NoMemory), other, to),
         Call::Complain => complain("a", to),
         Call::Usage => usage(to),
     }
@@ -107,6 +113,11 @@ fn lines_are_written_whole(rt: HostRuntime) -> Result<(), Fail> {
         assert_eq!(rt; out.as_slice(), text.as_bytes(), "{format}");
         assert_eq!(rt; err.as_slice(), fault.as_bytes(), "{format}");
     }
+    let mut out = Vec::new(alloc);
+    let mut err = Vec::new(alloc);
+    assert_eq!(rt; report(Err(Error::NoMemory), &mut out, &mut err), 1);
+    assert!(rt; out.is_empty());
+    assert_eq!(rt; err.as_slice(), OUT_OF_MEMORY.as_bytes());
     let mut err = Vec::new(alloc);
     assert_eq!(rt; complain("a", &mut err), 2);
     assert_eq!(rt; err.as_slice(), "bad word: a\n".as_bytes());
@@ -116,8 +127,31 @@ fn lines_are_written_whole(rt: HostRuntime) -> Result<(), Fail> {
     Ok(())
 }
 
+/// The status of a run, of which `rt try --test --fail-alloc` may refuse one allocation: of the text,
+/// which is told, or of what a writer holds, which refuses then.
+fn status_of_a_run(rt: &impl Abort, alloc: Global) -> u8 {
+    let mut out = Vec::new(alloc);
+    let mut err = Vec::new(alloc);
+    let status = run_on(alloc, "Hi", &mut out, &mut err);
+    match status {
+        0 => assert_eq!(rt; out.as_slice(), "Hi\n".as_bytes()),
+        1 => assert_eq!(rt; err.as_slice(), OUT_OF_MEMORY.as_bytes()),
+        _ => assert_eq!(rt; status, 3),
+    }
+    assert!(rt; out.is_empty() || err.is_empty());
+    status
+}
+
+// A run is answered: at once or, where memory was refused, when it is asked again.
 #[test]
-fn each_line_is_flushed_behind_its_end(rt: HostRuntime) {
+fn refused_memory_is_told(rt: HostRuntime) {
+    let alloc = rt.alloc();
+    let done = status_of_a_run(&rt, alloc) == 0 || status_of_a_run(&rt, alloc) == 0;
+    assert!(rt; done);
+}
+
+#[test]
+fn each_line_is_flushed_after_its_end(rt: HostRuntime) {
     for (call, wanted) in CALLS {
         let mut to = Spy::new(0);
         let mut other = Spy::new(0);

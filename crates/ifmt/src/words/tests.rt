@@ -1,6 +1,9 @@
 //! Tests of the words.
 
 use crate::words::{Word, classify, items};
+use std::alloc::{AllocError, Global};
+use std::process::Abort;
+use std::test::Fail;
 
 /// The name `n` with the least and the greatest number of 128 bits, and one past either.
 const LEAST: &str = "n:=-170141183460469231731687303715884105728";
@@ -87,6 +90,39 @@ fn words_mean_what_they_say(rt: HostRuntime) {
     for word in BAD {
         assert_eq!(rt; classify(word), Word::Bad, "{word}");
     }
+}
+
+/// A part of a list's text, how often it stands there, the rest of the text, and how many items that
+/// makes, each as long as the last: by hand, from the same rule.
+const LONG: [(&str, usize, &str, usize); 4] = [
+    ("a,", 9_999, "a", 10_000),
+    (",", 9_999, "", 10_000),
+    ("éé,", 999, "éé", 1_000),
+    ("a", 1_000_000, "", 1),
+];
+
+/// A part of a text so often, and the rest.
+fn long_text(alloc: Global, part: &str, count: usize, rest: &str) -> Result<String, AllocError> {
+    let mut text = String::new(alloc);
+    for _ in 0..count {
+        text.push_str(part)?;
+    }
+    text.push_str(rest)?;
+    Ok(text)
+}
+
+#[test]
+fn long_lists_are_split_at_commas(rt: HostRuntime) -> Result<(), Fail> {
+    let alloc = rt.alloc();
+    for (part, count, rest, wanted) in LONG {
+        let text = long_text(alloc, part, count, rest)?;
+        let parts = items(alloc, text.as_str())?;
+        assert_eq!(rt; parts.len(), wanted, "of {part}");
+        for item in &parts {
+            assert!(rt; wanted == 1 || *item == rest, "of {part}");
+        }
+    }
+    Ok(())
 }
 
 #[test]

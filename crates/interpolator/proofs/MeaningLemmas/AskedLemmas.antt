@@ -10,7 +10,7 @@ use Rattle.interpolator_render.specs.Views.{Shown}
 use Rattle.interpolator_render.specs.Written.{Written}
 use Rattle.interpolator_syntax.specs.At.{At}
 use Rattle.interpolator_syntax.specs.Faults.{Answer}
-use Rattle.interpolator.specs.Trees.{Tree}
+use Rattle.interpolator.specs.Slots.{Slots}
 use Rattle.interpolator.specs.Meaning.AskedNames.{asked_names, AgreeOn}
 use Rattle.interpolator.specs.Meaning.Environments.{Environment, is_among, within, inner_or, kept}
 use Rattle.interpolator.specs.Meaning.Environments.{cut}
@@ -42,7 +42,7 @@ among_kept n own (x ∷ xs) =
     (λ h. ap (λ y. is_among y own) ((bytes_eq-Decides n x).0 h))
 
 module _ {X : Type 0} where
-  within_kept : (own : Option (List (List ℕ))) (finds : List ℕ → Option (Tree X))
+  within_kept : (own : Option (List (List ℕ))) (finds : List ℕ → Option (Slots X))
       (names : List (List ℕ)) (n : List ℕ) → is_among n names ≡ true
       → within own finds n ≡ within (Some (kept own names)) finds n
   within_kept None finds names n h = rw h refl
@@ -50,7 +50,7 @@ module _ {X : Type 0} where
       sym (ap (λ t. cond t (finds n) None)
       (among_kept n own names ∙ ap (λ m. m && is_among n own) h))
 
-  inner_same : (o : Option (Tree X)) (f g : List ℕ → Option (Tree X)) (n : List ℕ) → f n ≡ g n
+  inner_same : (o : Option (Slots X)) (f g : List ℕ → Option (Slots X)) (n : List ℕ) → f n ≡ g n
       → inner_or o f n ≡ inner_or o g n
   inner_same None f g n h = h
   inner_same (Some t) f g [] h = refl

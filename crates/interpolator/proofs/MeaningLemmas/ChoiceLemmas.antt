@@ -47,7 +47,7 @@ map-chosen f range xs =
     let taken = take places.1 xs in
     rw (length-map xs f, take-map f places.1 xs, drop-map f places.0 taken) refl
 
--- a list is what stands before two places in it, between them and behind them
+-- a list is what stands before two places in it, between them and after them
 split_at : {A : Type 0} (i j : ℕ) (xs : List A) → i ≤ j → j ≤ length xs
     → (front back : List A) × (xs ≡ front ++ (drop i (take j xs) ++ back))
     × (length front ≡ i) × (length front + length (drop i (take j xs)) ≡ j)

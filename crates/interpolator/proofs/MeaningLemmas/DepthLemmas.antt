@@ -47,7 +47,8 @@ deep_names (suc n) (suc m) a h k =
     pieces_alike a (asked_within n) (asked_within m)
     (λ b l. deep_names n m b (omega (arith, h, l)) (omega (arith, k, l))) (pieces a) (pieces_in a)
 
-asked_pieces : (a : At) → asked_names a ≡ pieces_ask asked_names (pieces a)
+-- the names that a text asks are those of its pieces
+pub asked_pieces : (a : At) → asked_names a ≡ pieces_ask asked_names (pieces a)
 unfolding asked_names
 asked_pieces a =
     pieces_alike a (asked_within (length a.text)) asked_names

@@ -15,14 +15,14 @@ use Rattle.interpolator_syntax.specs.At.{Placed, placed_at, text_of}
 use Rattle.interpolator_syntax.specs.Arguments.{Argument}
 use Rattle.interpolator_syntax.specs.Lists.{ListAsked}
 use Rattle.interpolator_syntax.specs.Faults.{Fault, parse, iter}
-use Rattle.interpolator.specs.Trees.{Tree}
+use Rattle.interpolator.specs.Slots.{Slots}
 use Rattle.interpolator.specs.Meaning.Choices.{chosen_items}
 use Rattle.interpolator.specs.Meaning.Environments.{Environment}
 use Rattle.interpolator.specs.Meaning.ListArguments.{FindsList, AllFinish, joined_texts, FirstFault}
 use Rattle.interpolator.specs.Meaning.ListArguments.{in_item, in_join, written, unpadded}
-use Rattle.interpolator.specs.Meaning.Meanings.{Meaning, nothing, fault_alone, joined, items_behind}
+use Rattle.interpolator.specs.Meaning.Meanings.{Meaning, nothing, fault_alone, joined, items_after}
 use Rattle.interpolator.specs.Meaning.Meanings.{forbids_list, made_whole, padded_list, items_mean}
-use Rattle.interpolator_syntax.proofs.TestLemmas.{none_some}
+use Rattle.interpolator_syntax.proofs.CaseLemmas.{none_some}
 
 -- ---- padding
 
@@ -49,7 +49,7 @@ nothing_padded spec q =
       | Some width ↦ λ e. ap (placed_at q) (padded_nothing spec ∙ rw e refl)
     ] refl
 
--- ---- one meaning behind another
+-- ---- one meaning after another
 
 -- the second is written where the first has no fault
 joined_finishes :
@@ -57,7 +57,7 @@ joined_finishes :
     → (m.fault ≡ None) × (k.fault ≡ None) × ((joined m k).text ≡ m.text ++ k.text)
 joined_finishes m k h = grind arith
 
--- a fault is that of the first, or that of the second behind the first
+-- a fault is that of the first, or that of the second after the first
 abbrev FailsFirst : Meaning → Placed → Fault → Type 0
 FailsFirst m text f = (m.fault ≡ Some f) × (text ≡ m.text)
 
@@ -76,12 +76,12 @@ module _ {A : Type 0} (join : Meaning) (item : A → Meaning) where
   after_join y = join.text ++ (item y).text
 
   -- the join and the texts of a list that is not empty
-  texts_behind :
+  texts_after :
       (front : List A) (z : A)
       → join.text ++ joined_texts join item (front ++ (z ∷ []))
       ≡ flat_map after_join (front ++ (z ∷ []))
-  texts_behind [] z = sym (append_assoc join.text (item z).text [])
-  texts_behind (w ∷ front) z =
+  texts_after [] z = sym (append_assoc join.text (item z).text [])
+  texts_after (w ∷ front) z =
       sym (append_assoc join.text (item w).text (flat_map after_join (front ++ (z ∷ []))))
 
   abbrev Finishes : List A → Type 0
@@ -89,11 +89,11 @@ module _ {A : Type 0} (join : Meaning) (item : A → Meaning) where
       (items_mean join item xs).fault ≡ None
       → AllFinish join item xs × ((items_mean join item xs).text ≡ joined_texts join item xs)
 
-  finish_behind : (x : A) (xs : List A) → Finishes xs → Finishes (x ∷ xs)
-  finish_behind x [] further h = let first = joined_finishes (item x) nothing h in
+  finish_after : (x : A) (xs : List A) → Finishes xs → Finishes (x ∷ xs)
+  finish_after x [] further h = let first = joined_finishes (item x) nothing h in
       ((first.0, tt), first.2)
-  finish_behind x (y ∷ ys) further h =
-      let first = joined_finishes (item x) (items_behind join item (y ∷ ys)) h in
+  finish_after x (y ∷ ys) further h =
+      let first = joined_finishes (item x) (items_after join item (y ∷ ys)) h in
       let second = joined_finishes join (items_mean join item (y ∷ ys)) first.1 in
       let rest = further second.1 in (
         (first.0, rest.0),
@@ -106,7 +106,15 @@ module _ {A : Type 0} (join : Meaning) (item : A → Meaning) where
       (xs : List A) → (items_mean join item xs).fault ≡ None
       → AllFinish join item xs × ((items_mean join item xs).text ≡ joined_texts join item xs)
   items_finish [] h = (tt, refl)
-  items_finish (x ∷ xs) h = finish_behind x xs (items_finish xs) h
+  items_finish (x ∷ xs) h = finish_after x xs (items_finish xs) h
+
+  -- with a second item the join is written too
+  pub join_finishes :
+      (x y : A) (more : List A) → (items_mean join item (x ∷ y ∷ more)).fault ≡ None
+      → join.fault ≡ None
+  join_finishes x y more h =
+      let first = joined_finishes (item x) (items_after join item (y ∷ more)) h in
+      (joined_finishes join (items_mean join item (y ∷ more)) first.1).0
 
   -- the first fault of some items
   abbrev Fails : List A → Fault → Type 0
@@ -122,7 +130,7 @@ module _ {A : Type 0} (join : Meaning) (item : A → Meaning) where
     by_rest xs text i j (in_item front z back split finish none fails is) =
         in_item (x ∷ front) z back (ap (λ ys. x ∷ ys) split) (i, finish) (inr j) fails
         (ap (λ ys. (item x).text ++ ys)
-        (ap (λ ys. join.text ++ ys) is ∙ texts_behind front z))
+        (ap (λ ys. join.text ++ ys) is ∙ texts_after front z))
     by_rest xs text i j (in_join z y back split none fails is) =
         absurd (none_some (sym j ∙ fails))
 
@@ -136,14 +144,14 @@ module _ {A : Type 0} (join : Meaning) (item : A → Meaning) where
     by_join y ys text rest i t further (inr k) =
         rw (t, k.2) (by_rest (y ∷ ys) _ i k.0 (further k.1))
 
-    fail_behind :
+    fail_after :
         (xs : List A) (text : Placed) → Fails xs f
-        → FailsFirst (item x) text f ⊎ FailsSecond (item x) (items_behind join item xs) text f
+        → FailsFirst (item x) text f ⊎ FailsSecond (item x) (items_after join item xs) text f
         → FirstFault join item (x ∷ xs) f text
-    fail_behind xs text further (inl k) =
+    fail_after xs text further (inl k) =
         in_item [] x xs refl tt (inl refl) k.0 (k.1 ∙ sym (append-nil (item x).text))
-    fail_behind [] text further (inr k) = absurd (none_some k.1)
-    fail_behind (y ∷ ys) text further (inr k) =
+    fail_after [] text further (inr k) = absurd (none_some k.1)
+    fail_after (y ∷ ys) text further (inr k) =
         by_join y ys text _ k.0 k.2 further
         (joined_fails join (items_mean join item (y ∷ ys)) f k.1)
 
@@ -152,8 +160,8 @@ module _ {A : Type 0} (join : Meaning) (item : A → Meaning) where
       → FirstFault join item xs f (items_mean join item xs).text
   items_fail [] f h = absurd (none_some h)
   items_fail (x ∷ xs) f h =
-      fail_behind x f xs _ (items_fail xs f)
-      (joined_fails (item x) (items_behind join item xs) f h)
+      fail_after x f xs _ (items_fail xs f)
+      (joined_fails (item x) (items_after join item xs) f h)
 
 -- ---- list arguments
 
@@ -163,7 +171,7 @@ of_list_means spec q m =
     cond (forbids_list spec) (fault_alone (parse (iter q))) (padded_list spec q m)
 
 module _ {X : Type 0} (shows : X → Trait → Spec → Shown) (e : Environment X) (start q : ℕ)
-    (x : Argument) (l : ListAsked) (ts : List (Tree X)) (f : FindsList e x l ts) where
+    (x : Argument) (l : ListAsked) (ts : List (Slots X)) (f : FindsList e x l ts) where
   list_is : written shows e start x q ≡ of_list_means x.spec q (unpadded shows e l q ts)
   list_is = rw (f.gives, f.asked, f.listed) refl
 

@@ -1,4 +1,4 @@
--- Lists: how long their groups are, and what writing the items one behind the other leaves.
+-- Lists: how long their groups are, and what writing the items one after the other leaves.
 use Rattle.std.proofs.Common.{◌≡◌, refl, ◌∙◌, ap, arith, ℕ, ◌+◌, ◌<◌, ◌≤◌, max, Bool, false, cond}
 use Rattle.std.proofs.Common.{List, ◌∷◌, map, drop, length, get_or, Option, None, Some, is_some, Ok}
 use Rattle.std.proofs.lemmas.List.{drop_more, drop_all}
@@ -11,11 +11,11 @@ use Rattle.interpolator_syntax.specs.Lists.{ListAsked}
 use Rattle.interpolator_syntax.specs.SpecTexts.{Kind, of_value, of_list}
 use Rattle.interpolator_syntax.specs.Arguments.{Argument, argument_at}
 use Rattle.interpolator_syntax.specs.Faults.{Answer}
-use Rattle.interpolator.specs.Trees.{Tree}
+use Rattle.interpolator.specs.Slots.{Slots}
 use Rattle.interpolator.specs.Meaning.Choices.{chosen_items}
 use Rattle.interpolator.specs.Meaning.Environments.{Environment}
-use Rattle.interpolator.specs.Meaning.Lists.{whole_means}
-use Rattle.interpolator.specs.Meaning.Meanings.{Meaning, items_behind, forbids_list, chosen_means}
+use Rattle.interpolator.specs.Meaning.Lists.{padded_list_means}
+use Rattle.interpolator.specs.Meaning.Meanings.{Meaning, items_after, forbids_list, chosen_means}
 use Rattle.interpolator.specs.Meaning.Meanings.{list_means, item_means, join_means, means}
 use Rattle.interpolator.specs.Meaning.Sinks.{SinkState, Evaluates, Writes, seen}
 use Rattle.interpolator.specs.declared.meaning.sink.Sink as code_sink
@@ -50,7 +50,7 @@ kind_within (of_value t) a h = omega arith
 kind_within (of_list l) a h =
     omega (arith, group_within l.item a h.item, group_within l.join a h.join)
 
--- no group has more characters than what stands behind the argument's brace
+-- no group has more characters than what stands after the argument's brace
 pub groups_within : (a : At) (x : Argument) (q : At) → argument_at a ≡ Ok (x, q)
     → kind_size x.kind ≤ length a.text
 groups_within a x q h = kind_within x.kind a (argument_in a x q h)
@@ -59,15 +59,15 @@ groups_within a x q h = kind_within x.kind a (argument_in a x q h)
 
 -- the items of a list, one by one
 module _ {F X W : Type 0} (shows : X → Trait → Spec → Shown) (written : W → Written)
-    (e : Environment X) (asked : ListAsked) (place : ℕ) (tree : F → Tree X) (xs : List F) where
+    (e : Environment X) (asked : ListAsked) (place : ℕ) (tree : F → Slots X) (xs : List F) where
   abbrev Join : Meaning
   Join = join_means shows (means shows) e asked.join
 
   abbrev One : F → Meaning
   One x = item_means shows (means shows) e place asked.item (tree x)
 
-  abbrev Behind : List F → Meaning
-  Behind ys = items_behind Join (item_means shows (means shows) e place asked.item) (map tree ys)
+  abbrev After : List F → Meaning
+  After ys = items_after Join (item_means shows (means shows) e place asked.item) (map tree ys)
 
   abbrev All : Meaning
   All = chosen_means shows (means shows) e asked place (map tree xs)
@@ -79,38 +79,38 @@ module _ {F X W : Type 0} (shows : X → Trait → Spec → Shown) (written : W 
 
     -- the join in front of an item ends the run
     pub join_fault : (q : Answer) → Writes written Join s t (Some q)
-        → Writes written (Behind (drop i xs)) s t (Some q)
+        → Writes written (After (drop i xs)) s t (Some q)
     join_fault q o =
         record { evaluates = rw next_item (fault_first _ _ _ _ q o.evaluates); same = o.same }
 
     -- an item ends the run
     pub item_fault : (u : code_sink.Sink W) (q : Answer) → Writes written Join s t None
-        → Writes written (One x) t u (Some q) → Writes written (Behind (drop i xs)) s u (Some q)
+        → Writes written (One x) t u (Some q) → Writes written (After (drop i xs)) s u (Some q)
     item_fault u q j o = record {
       evaluates =
           rw next_item (and_then _ _ _ _ _ _ j.evaluates (fault_first _ _ _ _ q o.evaluates));
       same = same_then s t u j.same o.same;
     }
 
-    -- an item is done, and the items behind it follow
+    -- an item is done, and the items after it follow
     pub item_runs : (u : code_sink.Sink W) (new : SinkState) (r : Option Answer)
         → Writes written Join s t None → Writes written (One x) t u None
-        → Evaluates (Behind (drop (i + 1) xs)) (seen written u) new r
-        → Evaluates (Behind (drop i xs)) (seen written s) new r
+        → Evaluates (After (drop (i + 1) xs)) (seen written u) new r
+        → Evaluates (After (drop i xs)) (seen written s) new r
     item_runs u new r j o k =
         rw next_item (and_then _ _ _ _ _ _ j.evaluates (and_then _ _ _ _ _ _ o.evaluates k))
 
   -- no item is left
   pub items_end : (i : ℕ) (s : code_sink.Sink W) → length xs ≤ i
-      → Writes written (Behind (drop i xs)) s s None
+      → Writes written (After (drop i xs)) s s None
   items_end i s h =
       record { evaluates = rw (drop_all i xs h) (nothing_done _); same = same_sink s }
 
   module _ (x : F) (rest : List F) (s t : code_sink.Sink W) (split : xs ≡ x ∷ rest) where
-    -- the first item is done, and the items behind it follow
+    -- the first item is done, and the items after it follow
     pub first_runs :
         (u : SinkState) (r : Option Answer) → Writes written (One x) s t None
-        → Evaluates (Behind (drop 0 rest)) (seen written t) u r
+        → Evaluates (After (drop 0 rest)) (seen written t) u r
         → Evaluates All (seen written s) u r
     first_runs u r o k = rw split (and_then _ _ _ _ u r o.evaluates k)
 
@@ -123,7 +123,7 @@ module _ {F X W : Type 0} (shows : X → Trait → Spec → Shown) (written : W 
 -- a list under a spec that it may have, by what its chosen items come to
 module _ {X : Type 0} (shows : X → Trait → Spec → Shown)
     (run : Environment X → At → Meaning) (e : Environment X) where
-  module _ {F W : Type 0} (written : W → Written) (tree : F → Tree X) (l : ListAsked)
+  module _ {F W : Type 0} (written : W → Written) (tree : F → Slots X) (l : ListAsked)
       (spec : Spec) (q : ℕ) (xs ys : List F) (s u : code_sink.Sink W) (r : Option Answer)
       (may : forbids_list spec ≡ false) (chosen : ys ≡ chosen_items l.range xs) where
     same_items : map tree ys ≡ chosen_items l.range (map tree xs)
@@ -132,7 +132,7 @@ module _ {X : Type 0} (shows : X → Trait → Spec → Shown)
     -- under a width its text is made whole, and else written item by item
     pub list_writes : (wide : Bool) → is_some spec.width ≡ wide
         → (let all = chosen_means shows run e l q (map tree ys) in
-        Writes written (cond wide (whole_means spec q all) all) s u r)
+        Writes written (cond wide (padded_list_means spec q all) all) s u r)
         → Writes written (list_means shows run e l spec q (Some (map tree xs))) s u r
     list_writes wide w o =
         record { evaluates = rw (may, w, ← same_items) o.evaluates; same = o.same }

@@ -9,7 +9,7 @@ use Rattle.interpolator_render.specs.declared.view.Trait.{Trait}
 use Rattle.interpolator_render.specs.declared.view.Spec.{Spec}
 use Rattle.interpolator_render.specs.Views.{Shown}
 use Rattle.interpolator_syntax.specs.At.{At, placed_from, size, strip}
-use Rattle.interpolator_syntax.specs.Classes.{front_of, behind_of, in_class, is_brace, open_brace}
+use Rattle.interpolator_syntax.specs.Classes.{front_of, after_of, in_class, is_brace, open_brace}
 use Rattle.interpolator_syntax.specs.Classes.{close_brace}
 use Rattle.interpolator.specs.Meaning.Environments.{Environment}
 use Rattle.interpolator_syntax.specs.Faults.{Fault}
@@ -21,7 +21,7 @@ use Rattle.interpolator.specs.Meaning.Meanings.{Meaning, nothing, text_alone, or
 use Rattle.interpolator.specs.Meaning.Meanings.{piece_means, pieces_mean, token_means, means}
 use Rattle.interpolator_syntax.specs.declared.class.Class.TheVariants.{Literal}
 use Rattle.interpolator.proofs.MeaningLemmas.DepthLemmas.{means_pieces}
-use Rattle.interpolator_syntax.proofs.PieceLemmas.{behind_shorter, piece_begins, pieces_none}
+use Rattle.interpolator_syntax.proofs.PieceLemmas.{after_shorter, piece_begins, pieces_none}
 use Rattle.interpolator_syntax.proofs.PieceLemmas.{pieces_next, OptionWithin, strip_within}
 use Rattle.interpolator_syntax.proofs.PieceLemmas.{argument_from_within, literal_step}
 use Rattle.std.proofs.lemmas.Bool.{cond_both}
@@ -58,7 +58,7 @@ module _ {X : Type 0} (shows : X → Trait → Spec → Shown) (e : Environment 
       means_pieces shows e (record { place = p; text = [] })
       ∙ ap (pieces_mean shows (means shows) e) (pieces_none p)
 
-  -- the first piece, and then what stands behind it
+  -- the first piece, and then what stands after it
   pub means_next : (p c : ℕ) (cs : List ℕ)
       → means shows e (record { place = p; text = c ∷ cs })
       ≡ joined (piece_means shows (means shows) e p (piece_from p c (past p c cs)).piece.kind)
@@ -82,7 +82,7 @@ module _ {X : Type 0} (shows : X → Trait → Spec → Shown) (e : Environment 
       (means shows e
       (record {
         place = p + size (front_of (in_class Literal) cs);
-        text = behind_of
+        text = after_of
             (in_class Literal) cs;
       }))
 
@@ -97,7 +97,7 @@ module _ {X : Type 0} (shows : X → Trait → Spec → Shown) (e : Environment 
       ∙ sym (joined_assoc (text_alone ((c, p) ∷ []))
       (text_alone (placed_from (p + len_utf8 c) front)) _))
 
-  -- a run of literals, and then what stands behind it
+  -- a run of literals, and then what stands after it
   means_literals : (p : ℕ) (cs : List ℕ) → IsRun p cs
   means_literals p [] = let none : p + 0 ≡ p = omega arith in rw none (sym (joined_none _))
   means_literals p (c ∷ cs) = one_more p c cs (is_brace c) refl (means_literals (p + len_utf8 c) cs)
@@ -108,7 +108,7 @@ module _ {X : Type 0} (shows : X → Trait → Spec → Shown) (e : Environment 
   abbrev ThenScanned : ℕ → Token × At → Meaning
   ThenScanned p x = joined (token_means shows e p x.0 x.1) (means shows e (past_token x.0 x.1))
 
-  -- the argument behind a brace means the same wherever the brace stands
+  -- the argument after a brace means the same wherever the brace stands
   argument_first : (p : ℕ) (b : At) → Then p (argument_from p b) ≡ ThenScanned p (argument, b)
   unfolding argument_from
   argument_first p b = grind arith
@@ -123,7 +123,7 @@ module _ {X : Type 0} (shows : X → Trait → Spec → Shown) (e : Environment 
   closed_by p b (Some rest) = refl
   closed_by p b None = refl
 
-  -- what the scan hands on first, and then what stands behind it
+  -- what the scan hands on first, and then what stands after it
   abbrev Leads : At → Option (Token × At) → Type 0
   Leads a None = means shows e a ≡ nothing
   Leads a (Some x) = means shows e a ≡ ThenScanned a.place x
@@ -149,7 +149,7 @@ module _ {X : Type 0} (shows : X → Trait → Spec → Shown) (e : Environment 
   pub means_end : (a : At) → first_token a ≡ None → means shows e a ≡ nothing
   means_end a h = subst (Leads a) h (leads_at a.place a.text)
 
--- what stands behind what the scan hands on has fewer characters
+-- what stands after what the scan hands on has fewer characters
 abbrev ScanShorter : ℕ → Option (Token × At) → Type 0
 ScanShorter n None = Unit {0}
 ScanShorter n (Some x) = length x.1.text < n
@@ -172,18 +172,18 @@ scan_shorter_at p (c ∷ cs) =
     let a : At = record { place = p; text = c ∷ cs } in
     let n = length (c ∷ cs) in
     let b = past p c cs in
-    let behind = λ (d : ℕ). strip_within d (p + len_utf8 c) cs (length cs) (omega arith) in
+    let after = λ (d : ℕ). strip_within d (p + len_utf8 c) cs (length cs) (omega arith) in
     cond_both (eqb c open_brace) _ _ (λ o. ScanShorter n (scan_by a o))
-    (λ e. open_shorter n b _ (omega arith) (behind open_brace))
+    (λ e. open_shorter n b _ (omega arith) (after open_brace))
     (λ e. cond_both (eqb c close_brace) _ _ (λ o. ScanShorter n (no_open_scan a o))
-    (λ d. close_shorter n b _ (omega arith) (behind close_brace))
-    (λ d. rw (e, d) (omega (arith, behind_shorter (in_class Literal) cs))))
+    (λ d. close_shorter n b _ (omega arith) (after close_brace))
+    (λ d. rw (e, d) (omega (arith, after_shorter (in_class Literal) cs))))
 
 pub token_shorter : (a : At) (x : Token × At) → first_token a ≡ Some x
     → length x.1.text < length a.text
 token_shorter a x h = subst (ScanShorter (length a.text)) h (scan_shorter_at a.place a.text)
 
--- what stands behind its argument has no more
+-- what stands after its argument has no more
 past_within : (x : Token) (b : At) → length (past_token x b).text ≤ length b.text
 past_within argument b = argument_from_within b.place b
 past_within x b = omega arith

@@ -1,4 +1,4 @@
--- One outcome behind another.
+-- One outcome after another.
 use Rattle.std.proofs.Common.{◌≡◌, refl, sym, ◌∙◌, ap, ◌+◌, List, ◌++◌, map, length}
 use Rattle.std.proofs.Common.{Option, None, Some, option_map, inl, inr, append_assoc, length-append}
 use Rattle.std.proofs.lemmas.List.{map-append, length-map}
@@ -30,7 +30,7 @@ Contains-map :
     {A B : Type 0} (f : A → B) (xs : List A) (x : A) → Contains xs x → Contains (map f xs) (f x)
 Contains-map f xs x h = let k = h.1 in (h.0, rw length-map k, get_or-map f xs h.0 x ∙ ap f h.2)
 
--- behind a meaning that was finished without a fault
+-- after a meaning that was finished without a fault
 pub after_finished :
     (m k : Meaning) (old mid new : Written) (answer : Option Answer) → Finished m old mid None
     → Outcome k mid new answer → Outcome (joined m k) old new answer

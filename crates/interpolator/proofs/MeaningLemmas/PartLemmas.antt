@@ -23,7 +23,7 @@ use Rattle.interpolator.specs.declared.parts.Ending.{Ending}
 use Rattle.interpolator.specs.declared.parts.Ending.TheVariants.{Settled, EmptySpec, Open}
 use Rattle.interpolator.specs.declared.meaning.sink.Sink as code_sink
 use Rattle.interpolator_syntax.proofs.LocalityLemmas.{stands, size-append}
-use Rattle.interpolator_syntax.proofs.TestLemmas.{none_some, in_both}
+use Rattle.interpolator_syntax.proofs.CaseLemmas.{none_some, in_both}
 use Rattle.interpolator_syntax.proofs.PieceLemmas.{pieces_none}
 use Rattle.interpolator.proofs.SeamLemmas.{Leaves, pieces_append, both_close}
 use Rattle.interpolator.proofs.MeaningLemmas.DepthLemmas.{means_pieces}
@@ -32,14 +32,14 @@ use Rattle.interpolator.proofs.MeaningLemmas.SinkLemmas.{and_then, fault_first, 
 use Rattle.interpolator.proofs.MeaningLemmas.SinkLemmas.{same_sink}
 use Rattle.interpolator_render.specs.Written.{Written}
 
-nothing_last : (m : Meaning) → joined m nothing ≡ m
+pub nothing_last : (m : Meaning) → joined m nothing ≡ m
 nothing_last m = by_fault m.fault refl
   where
     by_fault : (o : Option Fault) → m.fault ≡ o → or_fault o m nothing ≡ m
     by_fault (Some f) e = refl
     by_fault None e = rw (append-nil m.text, append-nil m.memory_points, ← e) refl
 
-zero_and : (n : ℕ) → 0 + n ≡ n
+pub zero_and : (n : ℕ) → 0 + n ≡ n
 zero_and n = omega arith
 
 module _ {X : Type 0} (shows : X → Trait → Spec → Shown) (e : Environment X) where
@@ -51,7 +51,7 @@ module _ {X : Type 0} (shows : X → Trait → Spec → Shown) (e : Environment 
       let first = piece_means shows (means shows) e x.place x.kind in
       ap (joined first) (pieces_mean_append xs ys) ∙ sym (joined_assoc first _ _)
 
-  -- what two texts mean, one behind the other
+  -- what two texts mean, one after the other
   means_both :
       (p : ℕ) (cs more : List ℕ) → Leaves (ending (stands p cs)) more
       → means shows e (stands p (cs ++ more))
@@ -63,27 +63,27 @@ module _ {X : Type 0} (shows : X → Trait → Spec → Shown) (e : Environment 
       let split = pieces_append (length cs) p cs more (omega arith) h in
       rw (at (stands p (cs ++ more)), split, at a, at b) (pieces_mean_append (pieces a) (pieces b))
 
-  means_next : (before part : List ℕ) → Leaves (ending (outermost before)) part
+  pub means_next : (before part : List ℕ) → Leaves (ending (outermost before)) part
       → joined (means shows e (outermost before)) (means shows e (stands (size before) part))
       ≡ means shows e (outermost (before ++ part))
   means_next before part h =
       rw zero_and at (sym (means_both 0 before part h))
 
-  compose_behind :
+  compose_after :
       (before part : List ℕ) (parts : List (List ℕ)) → ending (outermost before) ≢ Open
       → CleanBehind before (part ∷ parts) → FrontsClose (size before) (part ∷ parts)
       → joined (means shows e (outermost before)) (parts_mean shows e (size before) (part ∷ parts))
       ≡ means shows e (outermost (before ++ joined_text (part ∷ parts)))
-  compose_behind before part [] h clean close =
+  compose_after before part [] h clean close =
       rw (nothing_last (means shows e (stands (size before) part)), append-nil part)
       (means_next before part (h, clean.0))
-  compose_behind before part (next ∷ parts) h clean close =
+  compose_after before part (next ∷ parts) h clean close =
       let here = means shows e (stands (size before) part) in
       let there = size-append before part in
       let rest = λ (n : ℕ). parts_mean shows e n (next ∷ parts) in
       let closes = both_close 0 before part (h, clean.0) (rw zero_and close.0) in
       let more =
-      compose_behind (before ++ part) next parts closes clean.1 (rw there close.1) in
+      compose_after (before ++ part) next parts closes clean.1 (rw there close.1) in
       sym (joined_assoc (means shows e (outermost before)) here (rest (size before + size part)))
       ∙ ap (λ m. joined m (rest (size before + size part))) (means_next before part (h, clean.0))
       ∙ (rw (there, append_assoc) at more)
@@ -96,7 +96,7 @@ module _ {X : Type 0} (shows : X → Trait → Spec → Shown) (e : Environment 
       let settled : ending (outermost []) ≢ Open = rw (pieces_none 0) (λ d. cc) in
       let all = parts_mean shows e 0 (part ∷ parts) in
       sym (joined_none all) ∙ ap (λ m. joined m all) (sym (means_none shows e 0))
-      ∙ compose_behind [] part parts settled clean close
+      ∙ compose_after [] part parts settled clean close
 
   -- ---- a text without fault
 
@@ -135,14 +135,14 @@ module _ {X : Type 0} (shows : X → Trait → Spec → Shown) (e : Environment 
   -- ---- runs
 
   module _ {W : Type 0} (written : W → Written) (p : ℕ) (parts : List (Bor (List ℕ))) where
-    module _ (part : Bor (List ℕ)) (behind : List (Bor (List ℕ))) (split : parts ≡ part ∷ behind)
+    module _ (part : Bor (List ℕ)) (after : List (Bor (List ℕ))) (split : parts ≡ part ∷ after)
         (s t : code_sink.Sink W) where
       abbrev Here : Option Answer → Type 0
       Here r = Writes written (means shows e (stands p (chars part.now))) s t r
 
       pub part_runs :
           (q : ℕ) (u : SinkState) (answer : Option Answer) → q ≡ p + size (chars part.now)
-          → Here None → Evaluates (parts_mean shows e q (texts_of behind)) (seen written t) u answer
+          → Here None → Evaluates (parts_mean shows e q (texts_of after)) (seen written t) u answer
           → Evaluates (parts_mean shows e p (texts_of parts)) (seen written s) u answer
       part_runs q u answer h o k =
           rw (split, ← h) (and_then _ _ _ _ u answer o.evaluates k)

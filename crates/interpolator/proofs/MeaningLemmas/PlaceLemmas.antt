@@ -14,7 +14,7 @@ use Rattle.interpolator_syntax.specs.Faults.{Fault, Answer, fault, PlaceWithin, 
 use Rattle.interpolator.specs.Meaning.Meanings.{Meaning, or_fault, joined, made_whole, padded_list}
 use Rattle.interpolator.specs.Meaning.Meanings.{inside, means_within, means}
 use Rattle.interpolator.specs.Meaning.Outcomes.{Outcome}
-use Rattle.interpolator_syntax.proofs.TestLemmas.{in_both}
+use Rattle.interpolator_syntax.proofs.CaseLemmas.{in_both}
 use Rattle.interpolator_syntax.proofs.SizeLemmas.{pieces_in}
 use Rattle.interpolator.proofs.MeaningLemmas.RelatedLemmas.{StandsWithin, Within, stands-at, Kept}
 use Rattle.interpolator.proofs.MeaningLemmas.RelatedLemmas.{nothing_within, ends_within, agree_self}

@@ -1,10 +1,8 @@
 -- What a writer leaves of a text whose characters have places.
-use Rattle.std.proofs.Common.{◌≡◌, refl, ◌∙◌, ap, ℕ, suc, ◌+◌, ◌*◌, ◌<◌, ◌≤◌, List, [], ◌∷◌}
-use Rattle.std.proofs.Common.{◌++◌, length, None, Some, inl, inr, arith, sym, subst}
-use Rattle.std.proofs.lemmas.List.{append-nil, map-append}
-use Rattle.std.proofs.lemmas.Str.{len_utf8_ascii}
+use Rattle.std.proofs.Common.{◌≡◌, refl, ◌∙◌, ap, ℕ, ◌+◌, ◌<◌, List, [], ◌∷◌}
+use Rattle.std.proofs.Common.{◌++◌, length, None, Some, inl, inr, arith, subst}
+use Rattle.std.proofs.lemmas.List.{map-append}
 use Rattle.std.specs.Char.{len_utf8}
-use Rattle.std.specs.Str.{IsAscii}
 use Rattle.std.specs.Prelude.{Ok, Err}
 use Rattle.interpolator_render.specs.declared.view.Spec.{Spec}
 use Rattle.interpolator_render.specs.declared.view.Trait.{Trait}
@@ -14,11 +12,9 @@ use Rattle.interpolator_render.specs.Padding.{padded_text, displayed_text}
 use Rattle.interpolator_render.specs.Texts.{ViewText, has_text, Renders}
 use Rattle.interpolator_render.specs.Written.{Written, Appends, AppendsBeginning, Refuses}
 use Rattle.interpolator_syntax.specs.At.{Placed, text_of, placed_at, placed_from, size}
-use Rattle.interpolator_syntax.specs.Doubled.{placed_by_two, AreBraces}
 use Rattle.interpolator_syntax.specs.Faults.{fault, fmt}
 use Rattle.interpolator.specs.Meaning.Meanings.{text_alone, view_means}
 use Rattle.interpolator.specs.Meaning.Outcomes.{Outcome}
-use Rattle.interpolator_syntax.proofs.DoubledLemmas.{braces_ascii}
 use Rattle.interpolator_syntax.proofs.LocalityLemmas.{size-append}
 use Rattle.interpolator_syntax.proofs.CharacterLemmas.{length-encodes}
 
@@ -77,7 +73,7 @@ refused_at p =
     refused (placed_at p) (text_of-placed_at p) (λ xs. p)
     (λ front c rest. (placed_at p rest, map-append (λ c. (c, p)) front (c ∷ rest)))
 
--- one behind the other
+-- one after the other
 pub wrote_from : (p : ℕ) (cs : List ℕ) (old new : Written) → Appends old cs new
     → Outcome (text_alone (placed_from p cs)) old new None
 wrote_from p cs old new h = inl (record { all = rw (text_of-placed_from p cs) h; told = refl })
@@ -92,54 +88,12 @@ refused_from p cs taken old new h =
     (refused (placed_from p) (text_of-placed_from p) (λ xs. p + size xs)
     (λ front c rest. (back front c rest, placed_from-append p front (c ∷ rest))) cs old new h.part)
 
--- braces that stand doubled, one pair behind the other
-text_of-by_two : (p : ℕ) (cs : List ℕ) → text_of (placed_by_two p cs) ≡ cs
-text_of-by_two p [] = refl
-text_of-by_two p (c ∷ cs) = ap (λ xs. c ∷ xs) (text_of-by_two (p + 2) cs)
-
-by_two-append : (p : ℕ) (xs ys : List ℕ)
-    → placed_by_two p (xs ++ ys) ≡ placed_by_two p xs ++ placed_by_two (p + 2 * length xs) ys
-by_two-append p [] ys = let e : p + 0 ≡ p = omega arith in rw e refl
-by_two-append p (c ∷ cs) ys =
-    let e : p + 2 * suc (length cs) ≡ p + 2 + 2 * length cs = omega arith in
-    rw e (ap (λ xs. (c, p) ∷ xs) (by_two-append (p + 2) cs ys))
-
-pub wrote_by_two : (p : ℕ) (cs : List ℕ) (old new : Written) → Appends old cs new
-    → Outcome (text_alone (placed_by_two p cs)) old new None
-wrote_by_two p cs old new h = inl (record { all = rw (text_of-by_two p cs) h; told = refl })
-
--- braces have one byte each
-size_of_braces : (cs rest : List ℕ) → IsAscii (cs ++ rest) → size cs ≡ length cs
-size_of_braces [] rest low = refl
-size_of_braces (c ∷ cs) rest low =
-    omega (arith, len_utf8_ascii c (low 0), size_of_braces cs rest (λ k. low (suc k)))
-
-pub refused_by_two :
-    (p : ℕ) (cs : List ℕ) (taken : ℕ) (old new : Written) → AreBraces cs → Refuses old cs taken new
-    → Outcome (text_alone (placed_by_two p cs)) old new (Some (fault (fmt (p + 2 * taken))))
-refused_by_two p cs taken old new all h =
-    let low = subst IsAscii h.part.parts (braces_ascii cs all) in
-    let count : taken ≡ length h.part.beginning =
-    h.counted ∙ length-encodes h.part.beginning ∙ size_of_braces h.part.beginning h.part.rest low in
-    let back = λ (xs : List ℕ) (c : ℕ) (rest : List ℕ).
-    placed_by_two (p + 2 * length xs + 2) rest in
-    rw count
-    (refused (placed_by_two p) (text_of-by_two p) (λ xs. p + 2 * length xs)
-    (λ front c rest. (back front c rest, by_two-append p front (c ∷ rest))) cs old new h.part)
-
 -- a writer takes less of a refused text than all of it
 pub taken_fits :
     (cs : List ℕ) (taken : ℕ) (old new : Written) → Refuses old cs taken new → taken < size cs + 1
 taken_fits cs taken old new h =
     let whole = ap size h.part.parts ∙ size-append h.part.beginning h.part.rest in
     let part = h.counted ∙ length-encodes h.part.beginning in omega arith
-
-pub taken_of_braces :
-    (cs : List ℕ) (taken : ℕ) (old new : Written) → AreBraces cs → Refuses old cs taken new
-    → taken ≤ length cs
-taken_of_braces cs taken old new all h =
-    let low = subst IsAscii (sym (append-nil cs)) (braces_ascii cs all) in
-    omega (arith, taken_fits cs taken old new h, size_of_braces cs [] low)
 
 -- a view was written whole, or refused
 pub view_wrote :

@@ -15,11 +15,11 @@ use Rattle.interpolator_syntax.specs.Arguments.{Argument}
 use Rattle.interpolator_syntax.specs.Pieces.{Piece, PieceKind, closed, unclosed, broken}
 use Rattle.interpolator_syntax.specs.Faults.{Fault, fault, fault_place, PlaceWithin, parse}
 use Rattle.interpolator_syntax.specs.Faults.{expected}
-use Rattle.interpolator.specs.Trees.{Tree, slots, items, slot_at}
+use Rattle.interpolator.specs.Slots.{Slots, values_of, items, slot_at}
 use Rattle.interpolator.specs.Meaning.Choices.{chosen_items}
 use Rattle.interpolator.specs.Meaning.Environments.{Environment, given, bind}
 use Rattle.interpolator.specs.Meaning.Meanings.{Meaning, nothing, joined, view_means, value_means}
-use Rattle.interpolator.specs.Meaning.Meanings.{forbids_list, padded_list, inside, items_behind}
+use Rattle.interpolator.specs.Meaning.Meanings.{forbids_list, padded_list, inside, items_after}
 use Rattle.interpolator.specs.Meaning.Meanings.{items_mean, item_means, join_means, list_means}
 use Rattle.interpolator.specs.Meaning.Meanings.{kind_means, found_means, piece_means, pieces_mean}
 use Rattle.interpolator.specs.Meaning.AskedNames.{without_empty, group_asks, kind_asks, piece_asks}
@@ -68,12 +68,12 @@ module _ {X : Type 0} where
   agree_self e (name ∷ names) = (refl, agree_self e names)
 
   -- a name that is not empty means the same with any inner value
-  bound_same : (e : Environment X) (t : Tree X) (c : ℕ) (cs : List ℕ)
+  pub bound_same : (e : Environment X) (t : Slots X) (c : ℕ) (cs : List ℕ)
       → given (bind e t) (c ∷ cs) ≡ given e (c ∷ cs)
   bound_same e t c cs = grind arith
 
   -- so environments that agree but for the empty name do so with the same inner value
-  agree_bound : (e d : Environment X) (t : Tree X) (names : List (List ℕ))
+  agree_bound : (e d : Environment X) (t : Slots X) (names : List (List ℕ))
       → AgreeOn e d (without_empty names) → AgreeOn (bind e t) (bind d t) names
   agree_bound e d t [] h = tt
   agree_bound e d t ([] ∷ names) h = (refl, agree_bound e d t names h)
@@ -104,14 +104,14 @@ module _ (n : ℕ) (R : Meaning → Meaning → Type 0) (kept : Kept n R) where
 
   module _ {A : Type 0} (j k : Meaning) (f g : A → Meaning) (joins : R j k)
       (each : (x : A) → R (f x) (g x)) where
-    behind_related : (xs : List A) → R (items_behind j f xs) (items_behind k g xs)
-    behind_related [] = kept.alone _ (nothing_within n)
-    behind_related (x ∷ xs) =
-        kept.both _ _ _ _ joins (kept.both _ _ _ _ (each x) (behind_related xs))
+    after_related : (xs : List A) → R (items_after j f xs) (items_after k g xs)
+    after_related [] = kept.alone _ (nothing_within n)
+    after_related (x ∷ xs) =
+        kept.both _ _ _ _ joins (kept.both _ _ _ _ (each x) (after_related xs))
 
     items_related : (xs : List A) → R (items_mean j f xs) (items_mean k g xs)
     items_related [] = kept.alone _ (nothing_within n)
-    items_related (x ∷ xs) = kept.both _ _ _ _ (each x) (behind_related xs)
+    items_related (x ∷ xs) = kept.both _ _ _ _ (each x) (after_related xs)
 
 module _ {X : Type 0} (shows : X → Trait → Spec → Shown) (a : At) (R : Meaning → Meaning → Type 0)
     (kept : Kept (a.place + size a.text) R) (run other : Environment X → At → Meaning)
@@ -122,13 +122,13 @@ module _ {X : Type 0} (shows : X → Trait → Spec → Shown) (a : At) (R : Mea
   abbrev n : ℕ
   n = a.place + size a.text
 
-  item_related : (q : ℕ) (o : Option Group) (item : Tree X) → q ≤ n → GroupIfIn o a
+  item_related : (q : ℕ) (o : Option Group) (item : Slots X) → q ≤ n → GroupIfIn o a
       → AgreeOn e d (without_empty (group_asks asked_names o))
       → R (item_means shows run e q o item) (item_means shows other d q o item)
   item_related q (Some g) item l h k =
       same (bind e item) (bind d item) g h (agree_bound e d item (asked_names (inside g)) k)
   item_related q None item l h k =
-      value_related n R kept shows traits.Display plain_spec q (slot_at traits.Display (slots item))
+      value_related n R kept shows traits.Display plain_spec q (slot_at traits.Display (values_of item))
       l
 
   join_related : (o : Option Group) → GroupIfIn o a → AgreeOn e d (group_asks asked_names o)
@@ -136,7 +136,7 @@ module _ {X : Type 0} (shows : X → Trait → Spec → Shown) (a : At) (R : Mea
   join_related (Some g) h k = same e d g h k
   join_related None h k = kept.alone _ (nothing_within n)
 
-  list_related : (l : ListAsked) (spec : Spec) (q : ℕ) (o : Option (List (Tree X))) → q ≤ n
+  list_related : (l : ListAsked) (spec : Spec) (q : ℕ) (o : Option (List (Slots X))) → q ≤ n
       → ListIn l a → AgreeOn e d (kind_asks asked_names (of_list l))
       → R (list_means shows run e l spec q o) (list_means shows other d l spec q o)
   list_related l spec q None b h k = kept.alone _ (ends_within n _ [] b)
@@ -151,14 +151,14 @@ module _ {X : Type 0} (shows : X → Trait → Spec → Shown) (a : At) (R : Mea
       (λ item. item_related q l.item item b h.item agree.0)
       (chosen_items l.range ts)))
 
-  kind_related : (kind : Kind) (spec : Spec) (q : ℕ) (found : Tree X) → q ≤ n → KindIn kind a
+  kind_related : (kind : Kind) (spec : Spec) (q : ℕ) (found : Slots X) → q ≤ n → KindIn kind a
       → AgreeOn e d (kind_asks asked_names kind)
       → R (kind_means shows run e kind spec q found) (kind_means shows other d kind spec q found)
   kind_related (of_value t) spec q found b h k =
-      value_related n R kept shows t spec q (slot_at t (slots found)) b
+      value_related n R kept shows t spec q (slot_at t (values_of found)) b
   kind_related (of_list l) spec q found b h k = list_related l spec q (items found) b h k
 
-  found_related : (start : ℕ) (x : Argument) (q : ℕ) (o : Option (Tree X)) → ArgumentIn start x q a
+  found_related : (start : ℕ) (x : Argument) (q : ℕ) (o : Option (Slots X)) → ArgumentIn start x q a
       → AgreeOn e d (kind_asks asked_names x.kind)
       → R (found_means shows run e start x q o) (found_means shows other d start x q o)
   found_related start x q None h k = kept.alone _ (ends_within n _ _ h.starts)

@@ -1,24 +1,25 @@
 -- The outcome of a text from that of what the scan hands on first, and of the rest; and that of an
 -- argument from that of its value.
-use Rattle.std.proofs.Common.{◌≡◌, refl, sym, Option, None, Some, Ok, Err, codes}
+use Rattle.std.proofs.Common.{◌≡◌, ◌∙◌, refl, sym, Option, None, Some, Ok, Err, codes}
 use Rattle.interpolator_render.specs.declared.view.Trait.{Trait}
 use Rattle.interpolator_render.specs.declared.view.Spec.{Spec}
 use Rattle.interpolator_render.specs.Views.{Shown}
-use Rattle.interpolator_syntax.specs.Arguments.{Argument, argument_at}
-use Rattle.interpolator_syntax.specs.At.{At, strip}
+use Rattle.interpolator_syntax.specs.Arguments.{Argument, argument_at, argument_after, asked_at}
+use Rattle.interpolator_syntax.specs.Arguments.{named_argument, plain_argument}
+use Rattle.interpolator_syntax.specs.SpecTexts.{Asked}
+use Rattle.interpolator_syntax.specs.declared.argument.ArgumentName.{ArgumentName}
+use Rattle.interpolator_syntax.specs.At.{At, at, strip}
 use Rattle.interpolator_syntax.specs.Classes.{close_brace}
 use Rattle.interpolator.specs.Meaning.Environments.{Environment}
 use Rattle.interpolator_syntax.specs.Faults.{Fault, Answer, fault, parse, expected}
 use Rattle.interpolator.specs.Meaning.Meanings.{argument_means, argument_from_means, piece_means}
-use Rattle.interpolator.specs.Meaning.Meanings.{token_means, means, text_alone}
+use Rattle.interpolator.specs.Meaning.Meanings.{token_means, means}
 use Rattle.interpolator_syntax.specs.Pieces.{argument_from, argument_step}
 use Rattle.interpolator_syntax.specs.Tokens.{Token, first_token, past_token}
-use Rattle.interpolator.specs.Meaning.Copies.{copied}
 use Rattle.interpolator.specs.Meaning.Sinks.{SinkState, Evaluates, Writes, seen}
 use Rattle.interpolator.specs.declared.meaning.sink.Sink as code_sink
 use Rattle.interpolator.proofs.MeaningLemmas.SinkLemmas.{and_then, fault_first, nothing_done, ended}
 use Rattle.interpolator.proofs.MeaningLemmas.SinkLemmas.{same_sink}
-use Rattle.interpolator.proofs.MeaningLemmas.CopyLemmas.{means_copied}
 use Rattle.interpolator.proofs.MeaningLemmas.MeaningLemmas.{means_first, means_end}
 use Rattle.interpolator_render.specs.Written.{Written}
 
@@ -90,27 +91,18 @@ module _ {X W : Type 0} (shows : X → Trait → Spec → Shown) (written : W �
       same = o.same;
     }
 
--- what is copied up to the next argument, and what stands there
-module _ {X W : Type 0} (shows : X → Trait → Spec → Shown) (written : W → Written)
-    (e : Environment X) (a : At) (s t : code_sink.Sink W) where
-  abbrev Copies : Option Answer → Type 0
-  Copies r = Writes written (text_alone (copied a).text) s t r
-
-  pub copy_runs :
-      (rest : At) (u : SinkState) (answer : Option Answer) → rest ≡ (copied a).rest → Copies None
-      → Evaluates (means shows e rest) (seen written t) u answer
-      → Evaluates (means shows e a) (seen written s) u answer
-  copy_runs rest u answer r o k =
-      rw (means_copied shows e a, sym r) (and_then _ _ _ _ u answer o.evaluates k)
-
-  pub copy_refused : (q : Answer) → Copies (Some q) → Writes written (means shows e a) s t (Some q)
-  copy_refused q o = record {
-    evaluates = rw (means_copied shows e a) (fault_first _ _ _ _ q o.evaluates);
-    same = o.same;
-  }
-
--- what stands behind an argument that is closed
+-- what stands after an argument that is closed
 pub closed_rest : (a : At) (x : Argument) (q rest : At) → argument_at a ≡ Ok (x, q)
     → strip close_brace q ≡ Some rest → (argument_from a.place a).rest ≡ rest
 unfolding argument_from
 closed_rest a x q rest h d = rw (h, d) refl
+
+-- an argument whose name was read, by what is asked after it
+module _ (a : At) (n : ArgumentName)
+    (named : argument_at a ≡ argument_after a.place (plain_argument n) (at n.end)) where
+  pub asked_ok : (asked : Asked) (q : At) → Ok (asked, q) ≡ asked_at a.place (at n.end)
+      → argument_at a ≡ Ok (named_argument n asked, q)
+  asked_ok asked q h = named ∙ rw (sym h) refl
+
+  pub asked_broken : (f : Fault) → Err f ≡ asked_at a.place (at n.end) → argument_at a ≡ Err f
+  asked_broken f h = named ∙ rw (sym h) refl

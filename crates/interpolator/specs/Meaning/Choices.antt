@@ -18,7 +18,7 @@ bound_or n absent (Some bound) = bound_in n bound
 abbrev pub lower_in : (n : ℕ) → Range → ℕ
 lower_in n range = bound_or n 0 range.lower
 
--- the index behind the last item of a range, as its bound reads
+-- the index after the last item of a range, as its bound reads
 abbrev pub upper_in : (n : ℕ) → Range → ℕ
 upper_in n range = bound_or n n range.upper + (if range.inclusive then 1 else 0)
 

@@ -1,25 +1,16 @@
--- How a list is written, as the code has it.
-use Rattle.std.specs.Prelude.{ℕ, Option, None, option_map}
+-- Lists: what an argument asks for as the code has it, and a text that is made whole.
+use Rattle.std.specs.Prelude.{ℕ}
 use Rattle.interpolator_render.specs.declared.view.Spec.{Spec}
 use Rattle.interpolator_syntax.specs.At.{text_of}
-use Rattle.interpolator_syntax.specs.Groups.{group_of}
-use Rattle.interpolator_syntax.specs.Lists.{ListAsked}
+use Rattle.interpolator_syntax.specs.Arguments.{list_of}
+use Rattle.interpolator_syntax.specs.SpecTexts.{Asked, of_list}
+use Rattle.interpolator_syntax.specs.declared.argument.Asked as code_asked
 use Rattle.interpolator.specs.Meaning.Meanings.{Meaning, made_whole}
-use Rattle.interpolator.specs.declared.meaning.list.Groups.{Groups}
-use Rattle.interpolator_syntax.specs.declared.range.Range.{Range}
 
--- a range and these texts, as an argument asks for them
-abbrev pub list_asked : Option Range → Groups → ListAsked
-list_asked range groups = record {
-  range = range;
-  item = option_map group_of groups.item;
-  join = option_map group_of groups.join;
-}
-
--- these texts for a list all of whose items are written
-abbrev pub all_asked : Groups → ListAsked
-all_asked groups = list_asked None groups
+-- a list in that form, under that spec
+abbrev pub list_under : code_asked.Asked → Asked
+list_under x = record { spec = x.spec; kind = of_list (list_of x.list) }
 
 -- a list whose text is made whole and padded, by what its items mean
-abbrev pub whole_means : Spec → (q : ℕ) → Meaning → Meaning
-whole_means spec q m = made_whole spec q m.fault (text_of m.text)
+abbrev pub padded_list_means : Spec → (end : ℕ) → Meaning → Meaning
+padded_list_means spec end m = made_whole spec end m.fault (text_of m.text)

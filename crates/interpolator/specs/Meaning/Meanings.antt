@@ -17,10 +17,11 @@ use Rattle.interpolator_syntax.specs.SpecTexts.{Kind, of_value, of_list, plain_s
 use Rattle.interpolator_syntax.specs.Arguments.{Argument}
 use Rattle.interpolator_syntax.specs.Pieces.{Piece, PieceKind, literal, doubled, lone_close, closed}
 use Rattle.interpolator_syntax.specs.Pieces.{unclosed, broken, argument_from, pieces}
-use Rattle.interpolator_syntax.specs.Tokens.{Token, literals, brace, argument}
+use Rattle.interpolator_syntax.specs.Tokens.{Token, literals, argument}
+use Rattle.interpolator_syntax.specs.Tokens.{doubled as doubled_token, lone_close as lone_token}
 use Rattle.interpolator_syntax.specs.Faults.{Fault, missing_value, missing_trait_impl, fmt, parse}
 use Rattle.interpolator_syntax.specs.Faults.{expected, iter}
-use Rattle.interpolator.specs.Trees.{Tree, slots, items, slot_at}
+use Rattle.interpolator.specs.Slots.{Slots, values_of, items, slot_at}
 use Rattle.interpolator.specs.Meaning.Choices.{chosen_items}
 use Rattle.interpolator.specs.Meaning.Environments.{Environment, given, bind}
 
@@ -47,7 +48,7 @@ fault_alone f = record { text = []; fault = Some f; memory_points = [] }
 abbrev pub fault_wanting_memory : Fault → Meaning
 fault_wanting_memory f = record { text = []; fault = Some f; memory_points = 0 ∷ [] }
 
--- one behind the other, where the first has this fault or none: memory points move by its text
+-- one after the other, where the first has this fault or none: memory points move by its text
 abbrev pub or_fault : Option Fault → Meaning → Meaning → Meaning
 or_fault (Some f) m k = m
 or_fault None m k = record {
@@ -56,21 +57,21 @@ or_fault None m k = record {
   memory_points = m.memory_points ++ map (λ n. length m.text + n) k.memory_points;
 }
 
--- the first, and behind it the second where the first has no fault
+-- the first, and after it the second where the first has no fault
 abbrev pub joined : Meaning → Meaning → Meaning
 joined m k = or_fault m.fault m k
 
--- the text of a view, each character at q
-abbrev pub view_means : Trait → (q : ℕ) → ViewText → Meaning
-view_means t q (has_text cs) = text_alone (placed_at q cs)
-view_means t q has_no_text = fault_alone (missing_trait_impl t q)
-view_means t q has_failed = fault_alone (fmt q)
+-- the text of a view, each character at end
+abbrev pub view_means : Trait → (end : ℕ) → ViewText → Meaning
+view_means t end (has_text cs) = text_alone (placed_at end cs)
+view_means t end has_no_text = fault_alone (missing_trait_impl t end)
+view_means t end has_failed = fault_alone (fmt end)
 
 -- what stands in a slot, where `shows` is what the value shows under a trait and a spec
 abbrev pub value_means : {X : Type 0} → (shows : X → Trait → Spec → Shown)
-    → Trait → Spec → (q : ℕ) → Option X → Meaning
-value_means shows t spec q None = fault_alone (missing_trait_impl t q)
-value_means shows t spec q (Some x) = view_means t q (view_text (shows x t spec) t spec)
+    → Trait → Spec → (end : ℕ) → Option X → Meaning
+value_means shows t spec end None = fault_alone (missing_trait_impl t end)
+value_means shows t spec end (Some x) = view_means t end (view_text (shows x t spec) t spec)
 
 -- a sign was asked for
 abbrev pub has_sign : Sign → Bool
@@ -82,80 +83,80 @@ has_sign signs.Minus = true
 abbrev pub forbids_list : Spec → Bool
 forbids_list spec = is_some spec.precision || (has_sign spec.sign || (spec.alternate || spec.zero))
 
--- a text that is made whole in a buffer and then padded, each character at q: memory is taken
+-- a text that is made whole in a buffer and then padded, each character at end: memory is taken
 -- first, and with a fault inside nothing of it is written
-abbrev pub made_whole : Spec → (q : ℕ) → Option Fault → List ℕ → Meaning
-made_whole spec q (Some f) cs = fault_wanting_memory f
-made_whole spec q None cs =
-    record { text = placed_at q (padded_text spec cs); fault = None; memory_points = 0 ∷ [] }
+abbrev pub made_whole : Spec → (end : ℕ) → Option Fault → List ℕ → Meaning
+made_whole spec end (Some f) cs = fault_wanting_memory f
+made_whole spec end None cs =
+    record { text = placed_at end (padded_text spec cs); fault = None; memory_points = 0 ∷ [] }
 
 -- under a spec with a width a list is made whole and padded
-abbrev pub padded_list : Spec → (q : ℕ) → Meaning → Meaning
-padded_list spec q m =
-    if is_some spec.width then made_whole spec q m.fault (text_of m.text) else m
+abbrev pub padded_list : Spec → (end : ℕ) → Meaning → Meaning
+padded_list spec end m =
+    if is_some spec.width then made_whole spec end m.fault (text_of m.text) else m
 
 -- what stands in a group, at its place
 abbrev pub inside : Group → At
 inside g = record { place = g.place; text = g.text }
 
 -- each with the join before it
-abbrev pub items_behind : {X : Type 0} → (join : Meaning) → (X → Meaning) → List X → Meaning
-items_behind join item [] = nothing
-items_behind join item (x ∷ xs) = joined join (joined (item x) (items_behind join item xs))
+abbrev pub items_after : {X : Type 0} → (join : Meaning) → (X → Meaning) → List X → Meaning
+items_after join item [] = nothing
+items_after join item (x ∷ xs) = joined join (joined (item x) (items_after join item xs))
 
 -- the items in order, and the join between two of them
 abbrev pub items_mean : {X : Type 0} → (join : Meaning) → (X → Meaning) → List X → Meaning
 items_mean join item [] = nothing
-items_mean join item (x ∷ xs) = joined (item x) (items_behind join item xs)
+items_mean join item (x ∷ xs) = joined (item x) (items_after join item xs)
 
 module _ {X : Type 0} (shows : X → Trait → Spec → Shown) where
   -- `run` is what a text within this one means
   module _ (run : Environment X → At → Meaning) (e : Environment X) where
     -- an item by its format, in which the empty name is the item; without one it is displayed
     -- plainly
-    abbrev pub item_means : (q : ℕ) → Option Group → Tree X → Meaning
-    item_means q (Some g) item = run (bind e item) (inside g)
-    item_means q None item =
-        value_means shows traits.Display plain_spec q (slot_at traits.Display (slots item))
+    abbrev pub item_means : (end : ℕ) → Option Group → Slots X → Meaning
+    item_means end (Some g) item = run (bind e item) (inside g)
+    item_means end None item =
+        value_means shows traits.Display plain_spec end (slot_at traits.Display (values_of item))
 
     -- what stands between two items means the same between any two
     abbrev pub join_means : Option Group → Meaning
     join_means (Some g) = run e (inside g)
     join_means None = nothing
 
-    -- the chosen items of a list, written one behind the other
-    abbrev pub chosen_means : ListAsked → (q : ℕ) → List (Tree X) → Meaning
-    chosen_means l q chosen = items_mean (join_means l.join) (item_means q l.item) chosen
+    -- the chosen items of a list, written one after the other
+    abbrev pub chosen_means : ListAsked → (end : ℕ) → List (Slots X) → Meaning
+    chosen_means l end chosen = items_mean (join_means l.join) (item_means end l.item) chosen
 
     -- the items of what was found, if it is a list
-    abbrev pub list_means : ListAsked → Spec → (q : ℕ) → Option (List (Tree X)) → Meaning
-    list_means l spec q None = fault_alone (missing_trait_impl traits.Iter q)
-    list_means l spec q (Some ts) =
-        if forbids_list spec then fault_alone (parse (iter q))
-        else padded_list spec q (chosen_means l q (chosen_items l.range ts))
+    abbrev pub list_means : ListAsked → Spec → (end : ℕ) → Option (List (Slots X)) → Meaning
+    list_means l spec end None = fault_alone (missing_trait_impl traits.Iter end)
+    list_means l spec end (Some ts) =
+        if forbids_list spec then fault_alone (parse (iter end))
+        else padded_list spec end (chosen_means l end (chosen_items l.range ts))
 
     -- what was found means, by what the argument asks for
-    abbrev pub kind_means : Kind → Spec → (q : ℕ) → Tree X → Meaning
-    kind_means (of_value t) spec q found = value_means shows t spec q (slot_at t (slots found))
-    kind_means (of_list l) spec q found = list_means l spec q (items found)
+    abbrev pub kind_means : Kind → Spec → (end : ℕ) → Slots X → Meaning
+    kind_means (of_value t) spec end found = value_means shows t spec end (slot_at t (values_of found))
+    kind_means (of_list l) spec end found = list_means l spec end (items found)
 
     -- what was found under the name of an argument that starts at `start`
-    abbrev pub found_means : (start : ℕ) → Argument → (q : ℕ) → Option (Tree X) → Meaning
-    found_means start x q None = fault_wanting_memory (missing_value x.name start)
-    found_means start x q (Some found) = kind_means x.kind x.spec q found
+    abbrev pub found_means : (start : ℕ) → Argument → (end : ℕ) → Option (Slots X) → Meaning
+    found_means start x end None = fault_wanting_memory (missing_value x.name start)
+    found_means start x end (Some found) = kind_means x.kind x.spec end found
 
     -- an argument means what its name gives
-    abbrev pub argument_means : (start : ℕ) → Argument → (q : ℕ) → Meaning
-    argument_means start x q = found_means start x q (given e x.name)
+    abbrev pub argument_means : (start : ℕ) → Argument → (end : ℕ) → Meaning
+    argument_means start x end = found_means start x end (given e x.name)
 
     -- what a piece at p means
     abbrev pub piece_means : (p : ℕ) → PieceKind → Meaning
     piece_means p (literal c) = text_alone ((c, p) ∷ [])
     piece_means p (doubled c) = text_alone ((c, p) ∷ [])
     piece_means p lone_close = text_alone ((close_brace, p) ∷ [])
-    piece_means p (closed start x q) = argument_means start x q
-    piece_means p (unclosed start x q) =
-        joined (argument_means start x q) (fault_alone (parse (expected (codes "}") q)))
+    piece_means p (closed start x end) = argument_means start x end
+    piece_means p (unclosed start x end) =
+        joined (argument_means start x end) (fault_alone (parse (expected (codes "}") end)))
     piece_means p (broken f) = fault_alone f
 
     -- the meanings of the pieces, joined up to the first fault
@@ -173,12 +174,13 @@ module _ {X : Type 0} (shows : X → Trait → Spec → Shown) where
   means e a = means_within (suc (length a.text)) e a
 
   module _ (e : Environment X) where
-    -- the argument that begins at b, behind its brace
+    -- the argument that begins at b, after its brace
     abbrev pub argument_from_means : At → Meaning
     argument_from_means b = piece_means means e b.place (argument_from b.place b).piece.kind
 
-    -- what the scan hands on at p, where b stands behind it
+    -- what the scan hands on at p, where b stands after it
     abbrev pub token_means : (p : ℕ) → Token → (b : At) → Meaning
     token_means p (literals cs) b = text_alone (placed_from p cs)
-    token_means p (brace c) b = text_alone ((c, p) ∷ [])
+    token_means p (doubled_token c) b = text_alone ((c, p) ∷ [])
+    token_means p lone_token b = text_alone ((close_brace, p) ∷ [])
     token_means p argument b = argument_from_means b

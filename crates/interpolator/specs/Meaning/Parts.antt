@@ -12,7 +12,7 @@ use Rattle.interpolator.specs.Meaning.Environments.{Environment}
 use Rattle.interpolator.specs.Meaning.Meanings.{Meaning, nothing, joined, means}
 use Rattle.interpolator.specs.declared.parts.Ending.TheVariants.{Open}
 
--- the parts, one behind the other
+-- the parts, one after the other
 abbrev pub joined_text : List (List ℕ) → List ℕ
 joined_text [] = []
 joined_text (part ∷ parts) = part ++ joined_text parts
@@ -34,7 +34,7 @@ module _ {X : Type 0} (shows : X → Trait → Spec → Shown) (e : Environment 
   parts_mean p (part ∷ parts) =
       joined (means shows e (from_place p part)) (parts_mean (p + size part) parts)
 
--- behind this text, the seam between all that stands before a part and the part is true
+-- after this text, the seam between all that stands before a part and the part is true
 abbrev pub CleanBehind : (before : List ℕ) → List (List ℕ) → Type 0
 CleanBehind before [] = ⊤
 CleanBehind before (part ∷ parts) =

@@ -5,8 +5,8 @@ use Rattle.interpolator_syntax.specs.Faults.{Answer, fault, missing_trait_impl, 
 use Rattle.interpolator.specs.Meaning.Meanings.{Meaning}
 use Rattle.interpolator.specs.Meaning.Outcomes.{Outcome}
 use Rattle.interpolator.specs.declared.meaning.sink.Sink as code_sink
-use Rattle.interpolator.specs.declared.meaning.sink.Unwritten.{Unwritten}
-use Rattle.interpolator.specs.declared.meaning.sink.Unwritten.TheVariants.{MissingTraitImpl, Fmt}
+use Rattle.interpolator.specs.declared.meaning.sink.WriteFault.{WriteFault}
+use Rattle.interpolator.specs.declared.meaning.sink.WriteFault.TheVariants.{MissingTraitImpl, Fmt}
 
 -- where text goes: to the writer `out`, or aside into a buffer if there is one
 pub record SinkState : Type 0 where
@@ -57,11 +57,11 @@ pub record Writes {W : Type 0} (written : W → Written) (m : Meaning)
   pub same : SameSink old new
 
 -- what the reason comes to why something was not written
-abbrev pub unwritten_answer : Unwritten → Answer
-unwritten_answer (MissingTraitImpl wanted place) = fault (missing_trait_impl wanted place)
-unwritten_answer (Fmt place) = fault (fmt place)
+abbrev pub write_fault_answer : WriteFault → Answer
+write_fault_answer (MissingTraitImpl wanted place) = fault (missing_trait_impl wanted place)
+write_fault_answer (Fmt place) = fault (fmt place)
 
 -- what a call answered that writes to a sink: nothing for `Ok`
-abbrev pub unwritten : {A : Type 0} → Result A Unwritten → Option Answer
-unwritten (Ok _) = None
-unwritten (Err reason) = Some (unwritten_answer reason)
+abbrev pub write_answered : {A : Type 0} → Result A WriteFault → Option Answer
+write_answered (Ok _) = None
+write_answered (Err reason) = Some (write_fault_answer reason)

@@ -3,7 +3,7 @@ ghost use Rattle.std.specs.Prelude.{◌≡◌, Some, OnOk};
 ghost use Rattle.std.specs.Str.{chars};
 ghost use Rattle.std.specs.Option.{unwrap_or};
 ghost use Rattle.interpolator.specs.NameMaps.{found};
-ghost use Rattle.interpolator.specs.Trees.{empty_tree, with_debug, with_display};
+ghost use Rattle.interpolator.specs.Slots.{empty_slots, with_debug, with_display};
 
 use super::*;
 use std::test::Fail;
@@ -16,7 +16,7 @@ fn merge<'a>(
     debugged: &'a u64,
 ) -> Result<(), Error>
     ensures { OnOk result (found map.new (chars name.now) ≡ Some (with_debug
-        (with_display (unwrap_or (found map.old (chars name.now)) empty_tree) shown.now)
+        (with_display (unwrap_or (found map.old (chars name.now)) empty_slots) shown.now)
         debugged.now)) }
 {
     map.entry(name)?.set_display(shown);

@@ -1,4 +1,4 @@
-//! Laws of formats that stand one behind the other, each the contract of a small function.
+//! Laws of formats that stand one after the other, each the contract of a small function.
 
 ghost use Rattle.std.specs.Prelude.{◌≡◌, ◌≢◌, ℕ, ◌+◌, ◌++◌, List, [], ◌∷◌, IsTrue, IsFalse};
 ghost use Rattle.std.specs.Prelude.{Ok, None, codes};
@@ -10,13 +10,14 @@ ghost use Rattle.interpolator_syntax.specs.Grammar.{from_place};
 ghost use Rattle.interpolator_syntax.specs.Pieces.{pieces};
 ghost use Rattle.interpolator.specs.Seams.{ends_empty_spec, ending, may_follow, seam_of};
 ghost use Rattle.interpolator.specs.Meaning.Environments.{Environment};
-ghost use Rattle.interpolator.specs.Meaning.Meanings.{means};
+ghost use Rattle.interpolator.specs.Meaning.Meanings.{joined, means};
+ghost use Rattle.interpolator.specs.Meaning.Moves.{moved_meaning};
 ghost use Rattle.interpolator.specs.Meaning.Parts.{joined_text, parts_mean, Clean, FrontsClose};
 ghost use Rattle.interpolator.specs.declared.parts.Ending.TheVariants.{Open};
 
 use interpolator_render::Value;
 
-/// The pieces of two texts, one behind the other, are those of the first and then those of the
+/// The pieces of two texts, one after the other, are those of the first and then those of the
 /// second, at its place, where the first does not end in an argument that is unclosed or broken,
 /// and the seam between the two is true.
 ///
@@ -28,8 +29,8 @@ pub fn pieces_compose()
         ≡ pieces a ++ pieces (from_place (a.place + size a.text) more) }
 {}
 
-/// A closed argument is the same whatever stands behind its `}`, unless its text ends in `:}` and
-/// what stands behind it begins with `<`, `^` or `>`.
+/// A closed argument is the same whatever stands after its `}`, unless its text ends in `:}` and
+/// what stands after it begins with `<`, `^` or `>`.
 ///
 /// So in `{x:?}` the argument is `x:?`, and it is so in `{x:?}<` too.
 pub fn closed_argument_stays()
@@ -51,15 +52,34 @@ pub fn parts_compose<V: Value>()
         → parts_mean V.shows e 0 parts ≡ means V.shows e (outermost (joined_text parts)) }
 {}
 
+/// The second of two texts means what it means by itself, with every place in text and fault moved
+/// by the byte length of the first: so where the first has no fault, the two as parts mean the text
+/// of the first and then that; and their joined text means the same, where the first does not end
+/// in an argument that is unclosed or broken and the seam between the two is true.
+///
+/// So the parts `ab` and `{q}`, where nothing stands under `q`, write `ab`, and `q` is missed at
+/// byte 3: by itself it is missed at byte 1.
+pub fn second_text_is_moved<V: Value>()
+    ensures joined { (e : Environment V) (a b : List ℕ) → ending (outermost a) ≢ Open
+        → IsTrue (seam_of a b)
+        → means V.shows e (outermost (a ++ b))
+        ≡ joined (means V.shows e (outermost a))
+        (moved_meaning (size a) (means V.shows e (outermost b))) }
+    ensures parts { (e : Environment V) (a b : List ℕ)
+        → parts_mean V.shows e 0 (a ∷ b ∷ [])
+        ≡ joined (means V.shows e (outermost a))
+        (moved_meaning (size a) (means V.shows e (outermost b))) }
+{}
+
 /// A text that means no fault in some environment ends in no argument that is unclosed or broken.
 ///
-/// So fronts without fault compose with every text behind them, but for the two seams.
+/// So fronts without fault compose with every text after them, but for the two seams.
 pub fn faultless_text_closes<V: Value>()
     ensures closes { (e : Environment V) (a : At) → (means V.shows e a).fault ≡ None
         → ending a ≢ Open }
 {}
 
-/// Where the seam is false the pieces are others: `}` and `}`, one behind the other, are one
+/// Where the seam is false the pieces are others: `}` and `}`, one after the other, are one
 /// doubled brace, and `{x:}<` is a broken argument.
 pub fn seams_are_real()
     ensures braces_seam { IsFalse (seam_of (codes "}") (codes "}")) }

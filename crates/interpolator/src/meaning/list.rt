@@ -8,15 +8,6 @@ ghost use Rattle.interpolator.specs.Meaning.Meanings.{has_sign, forbids_list, in
 use interpolator_render::{Sign, Spec};
 use interpolator_syntax::{Cursor, Group, Range};
 
-/// The texts by which a list is written.
-#[derive(Clone, Copy)]
-pub(crate) struct Groups<'t> {
-    /// The format of an item.
-    pub(crate) item: Option<Group<'t>>,
-    /// The format of what stands between two items.
-    pub(crate) join: Option<Group<'t>>,
-}
-
 /// The beginning of a group's text.
 #[inline(always)]
 pub(crate) fn inside(group: Group<'_>) -> Cursor<'_>

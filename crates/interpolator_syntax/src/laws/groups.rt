@@ -6,9 +6,9 @@ ghost use Rattle.interpolator_syntax.specs.Groups.{Group, group_at};
 ghost use Rattle.interpolator_syntax.specs.GroupGrammar.{IsGroup, IsNoGroup};
 ghost use Rattle.interpolator_syntax.specs.Faults.{Fault};
 
-/// A group is what opens it, its text and what closes it, one behind the other: all the signs `#`
+/// A group is what opens it, its text and what closes it, one after the other: all the signs `#`
 /// that stand there and a `(`; the text; and a `)` with as many signs. No `)` of the text has that
-/// many signs right behind it, so a group ends where it first can. Only such a text is a group, and
+/// many signs right after it, so a group ends where it first can. Only such a text is a group, and
 /// no other group begins at its place.
 ///
 /// So the text of `(a)#)` is `a`, that of `#(a)#)#` is `a` and that of `##(a)#)##` is `a)#`.
@@ -20,9 +20,9 @@ pub fn group_is_its_parts()
 {}
 
 /// Where no group begins, the fault is of one of three kinds: the text ends with the signs, and the
-/// fault names the byte behind the opening brace; or another character than `(` stands behind the
-/// signs, and the fault names its place; or no `)` has as many signs behind it, and the fault names
-/// the byte behind the opening brace.
+/// fault names the byte after the opening brace; or another character than `(` stands after the
+/// signs, and the fault names its place; or no `)` has as many signs after it, and the fault names
+/// the byte after the opening brace.
 ///
 /// So in `{l:i##a` a `(` is expected at byte 6, and in `{l:i#(a)` the argument that starts at byte
 /// 1 is not closed.

@@ -8,12 +8,12 @@ ghost use Rattle.interpolator_syntax.specs.ListGrammar.{IsRange, IsNoRange, IsLi
 ghost use Rattle.interpolator_syntax.specs.Faults.{Fault};
 ghost use Rattle.interpolator_syntax.specs.declared.range.Range.{Range};
 
-/// A range is its parts, one behind the other, each where its first character stands:
+/// A range is its parts, one after the other, each where its first character stands:
 ///
 /// 1. a lower bound: where a digit or a `-` stands, the longest run of digits and `-`, which is an
 ///    integer
 /// 2. `..=`, or `..` where no `=` follows
-/// 3. behind these points an upper bound, as the lower one
+/// 3. after these points an upper bound, as the lower one
 ///
 /// A bound without points is both bounds, and the item at it is written. Where neither a bound nor
 /// points stand there is no range, and nothing is read. Only such a text is a range.
@@ -40,13 +40,13 @@ pub fn range_is_refused_otherwise()
         → range_at start a ≡ Err fault }
 {}
 
-/// How a list is written stands behind its letter as three parts, one behind the other, each of
+/// How a list is written stands after its letter as three parts, one after the other, each of
 /// which may be absent: a range; a group, the format of an item; and a group, the join. A group is
 /// there exactly where a `(` or a `#` stands, so the first group is always the item's. Only such a
 /// text asks for a list.
 ///
-/// So behind the `i` of `{l:i1..({:>4})(, )}` stand the range `1..`, the item format `{:>4}` and
-/// the join `, `; behind that of `{l:i( )}` an item format alone; and behind that of `{l:i}`
+/// So after the `i` of `{l:i1..({:>4})(, )}` stand the range `1..`, the item format `{:>4}` and
+/// the join `, `; after that of `{l:i( )}` an item format alone; and after that of `{l:i}`
 /// nothing.
 pub fn list_is_its_parts()
     ensures is { (start : ℕ) (a q : At) (list : ListAsked) → list_at start a ≡ Ok (list, q)

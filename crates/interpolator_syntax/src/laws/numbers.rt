@@ -29,7 +29,7 @@ pub fn number_is_refused_otherwise()
         → natural text ≡ Err kind }
 {}
 
-/// An integer is a number below 2^63, or a `-` and, behind it, a number of at most 2^63, which is
+/// An integer is a number below 2^63, or a `-` and, after it, a number of at most 2^63, which is
 /// taken from zero. Only such a text is one.
 ///
 /// So `-007` is -7, `-0` is 0, and `-9223372036854775808` is the least.
@@ -38,9 +38,9 @@ pub fn integer_is_its_sign_and_digits()
     ensures only { (text : List ℕ) (z : ℤ) → IsInteger text z → integer text ≡ Ok z }
 {}
 
-/// Any other text is no integer. Where a `-` stands in front, what is behind it decides, as with
+/// Any other text is no integer. Where a `-` stands in front, what is after it decides, as with
 /// numbers of at most 2^63, but too great a value is `NegOverflow`. Where none does, the whole text
-/// decides, as with numbers below 2^63. A `-` with nothing behind it is no sign.
+/// decides, as with numbers below 2^63. A `-` with nothing after it is no sign.
 ///
 /// So `-`, `--1` and `1-` are `InvalidDigit`, `9223372036854775808` is `PosOverflow`, and
 /// `-9223372036854775809` is `NegOverflow`.

@@ -1,16 +1,21 @@
 //! Laws of the pieces of a format text, each the contract of a small function.
 
-ghost use Rattle.std.specs.Prelude.{◌≡◌, List, flat_map};
+ghost use Rattle.std.specs.Prelude.{◌≡◌, ◌↔◌, ℕ, ◌++◌, List, [], flat_map, None, Some};
+ghost use Rattle.interpolator_syntax.specs.Arguments.{Argument};
 ghost use Rattle.interpolator_syntax.specs.At.{At};
+ghost use Rattle.interpolator_syntax.specs.Faults.{Fault};
+ghost use Rattle.interpolator_syntax.specs.Grammar.{IsPieces, IsClosed, IsUnclosed, IsBroken};
+ghost use Rattle.interpolator_syntax.specs.PieceGrammar.{ClosedStands, UnclosedStands};
+ghost use Rattle.interpolator_syntax.specs.PieceGrammar.{BrokenStands, token_pieces};
 ghost use Rattle.interpolator_syntax.specs.Pieces.{Piece, pieces};
-ghost use Rattle.interpolator_syntax.specs.Grammar.{IsPieces};
+ghost use Rattle.interpolator_syntax.specs.Tokens.{Token, first_token, past_token};
 
 /// The texts of the pieces, joined, are the text: no character is lost, and none is read twice.
 pub fn pieces_join()
     ensures joined { (a : At) → flat_map (λ x. x.text) (pieces a) ≡ a.text }
 {}
 
-/// The pieces of a text are the one list of pieces that stand one behind the other, each at its
+/// The pieces of a text are the one list of pieces that stand one after the other, each at its
 /// place in bytes, and each of the first of these kinds that its place allows:
 ///
 /// 1. a doubled brace, `{{` or `}}`
@@ -24,4 +29,25 @@ pub fn pieces_join()
 pub fn pieces_are_the_one_list()
     ensures is { (a : At) → IsPieces a (pieces a) }
     ensures only { (a : At) (xs : List Piece) → IsPieces a xs → xs ≡ pieces a }
+{}
+
+/// A piece that begins with a brace stands by the relation of arguments: it is closed exactly where
+/// an argument stands after its brace, up to the closing one; unclosed exactly where one stands
+/// there and no closing brace after it; and broken exactly where none stands there, for the reason
+/// of the relation.
+///
+/// What the scan hands on, run after run, is the pieces: a run of literals is as many pieces, and a
+/// doubled brace, a lone one or an argument is one; and then come the pieces of what stands after it.
+///
+/// So of `ab{{{x}` the scan hands on `ab`, a doubled brace and an argument, which are four pieces.
+pub fn pieces_stand_by_the_grammar()
+    ensures closed { (p start end : ℕ) (x : Argument) (text rest : List ℕ)
+        → IsClosed p start x end text rest ↔ ClosedStands p start x end text rest }
+    ensures unclosed { (p start end : ℕ) (x : Argument) (text rest : List ℕ)
+        → IsUnclosed p start x end text rest ↔ UnclosedStands p start x end text rest }
+    ensures broken { (p : ℕ) (f : Fault) (text rest : List ℕ)
+        → IsBroken p f text rest ↔ BrokenStands p f text rest }
+    ensures runs { (a b : At) (t : Token) → first_token a ≡ Some (t, b)
+        → pieces a ≡ token_pieces a.place t b ++ pieces (past_token t b) }
+    ensures end { (a : At) → first_token a ≡ None → pieces a ≡ [] }
 {}

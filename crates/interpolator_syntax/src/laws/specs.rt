@@ -2,11 +2,11 @@
 
 ghost use Rattle.std.specs.Prelude.{◌≡◌, ℕ, Ok, Err};
 ghost use Rattle.interpolator_syntax.specs.At.{At};
-ghost use Rattle.interpolator_syntax.specs.SpecTexts.{Asked, spec_behind};
+ghost use Rattle.interpolator_syntax.specs.SpecTexts.{Asked, spec_after};
 ghost use Rattle.interpolator_syntax.specs.SpecGrammar.{IsSpec, IsNoSpec};
 ghost use Rattle.interpolator_syntax.specs.Faults.{Fault};
 
-/// The text behind a colon is a spec exactly where its parts stand one behind the other, each where
+/// The text after a colon is a spec exactly where its parts stand one after the other, each where
 /// its first character stands:
 ///
 /// 1. an alignment: `<`, `^` or `>`
@@ -14,9 +14,9 @@ ghost use Rattle.interpolator_syntax.specs.Faults.{Fault};
 /// 3. `#`
 /// 4. `0`
 /// 5. a width: where a digit stands, the longest run of digits and `-`, which is a number
-/// 6. a precision: where a `.` stands, the same behind it
+/// 6. a precision: where a `.` stands, the same after it
 /// 7. a trait: `?`, `x?`, `X?`, `o`, `x`, `X`, `b`, `e`, `E` or `i`, or nothing in front of a `}`
-/// 8. behind `i`, how a list is written: a range, where a bound or `..` stands, and up to two
+/// 8. after `i`, how a list is written: a range, where a bound or `..` stands, and up to two
 ///    groups, the format of an item and the join, each where a `(` or a `#` stands
 ///
 /// A text of at most one character is not read, and asks for plain display.
@@ -25,10 +25,10 @@ ghost use Rattle.interpolator_syntax.specs.Faults.{Fault};
 /// and `>6i1..({})(,)}` asks for the list from its second item on, with `{}` for an item and `,`
 /// between two.
 pub fn spec_is_its_parts()
-    ensures is { (start : ℕ) (a q : At) (asked : Asked) → spec_behind start a ≡ Ok (asked, q)
+    ensures is { (start : ℕ) (a q : At) (asked : Asked) → spec_after start a ≡ Ok (asked, q)
         → IsSpec start a asked q }
     ensures only { (start : ℕ) (a q : At) (asked : Asked) → IsSpec start a asked q
-        → spec_behind start a ≡ Ok (asked, q) }
+        → spec_after start a ≡ Ok (asked, q) }
 {}
 
 /// Where no spec stands, the fault is that of the first part that does not stand, from the left:
@@ -36,20 +36,20 @@ pub fn spec_is_its_parts()
 /// - an alignment as the second character would make the first a fill
 /// - a width or a precision that ends with the text leaves the argument unclosed, and one that is
 ///   no number is named by the place where its run begins
-/// - the end of the text, where a trait may stand, leaves the argument unclosed behind `#` or `0`
+/// - the end of the text, where a trait may stand, leaves the argument unclosed after `#` or `0`
 /// - `p` is an option that is not supported, and any other character that begins no trait stands
 ///   where a `}` is expected
-/// - behind `i`, a bound that ends with the text leaves the argument unclosed, and one that is no
+/// - after `i`, a bound that ends with the text leaves the argument unclosed, and one that is no
 ///   integer is named by the place where its run begins
 /// - a group whose signs end the text, or that nothing closes, leaves the argument unclosed, and
-///   another character than `(` behind its signs stands where a `(` is expected
+///   another character than `(` after its signs stands where a `(` is expected
 ///
 /// So the fault of `{a:x<}` is `Fill(3)`, of `{a:1-2}` it is `InvalidWidth(InvalidDigit, 3)`, of
 /// `{a:55` it is `FormatSpecUnclosed(1)`, of `{a:5y}` it is `Expected("}", 4)`, and of `{a:i#b}` it
 /// is `Expected("(", 5)`.
 pub fn spec_is_refused_otherwise()
-    ensures is { (start : ℕ) (a : At) (fault : Fault) → spec_behind start a ≡ Err fault
+    ensures is { (start : ℕ) (a : At) (fault : Fault) → spec_after start a ≡ Err fault
         → IsNoSpec start a fault }
     ensures only { (start : ℕ) (a : At) (fault : Fault) → IsNoSpec start a fault
-        → spec_behind start a ≡ Err fault }
+        → spec_after start a ≡ Err fault }
 {}

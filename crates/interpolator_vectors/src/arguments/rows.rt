@@ -1,10 +1,10 @@
 //! The rows of `parse_argument`.
 
-use crate::formats::told::Told;
+use crate::tables::told::Told;
 use interpolator::{Alignment, HexDebug, NumberError, ParseError, Sign, Spec, Trait};
 
 /// A text, the byte at which its argument starts, and what is read: the name at its place, the spec
-/// and the trait, and the byte behind the spec.
+/// and the trait, and the byte after the spec.
 pub(crate) struct Reading<'a> {
     pub(crate) text: &'a str,
     pub(crate) start: usize,
@@ -31,7 +31,7 @@ pub(crate) struct Inner<'a> {
 }
 
 /// A text whose argument, which starts at byte `start`, asks for a list: the name at its place, the
-/// spec, the parts of the list, and the byte behind them.
+/// spec, the parts of the list, and the byte after them.
 #[derive(Clone, Copy)]
 pub(crate) struct Listing<'a> {
     pub(crate) text: &'a str,

@@ -1,7 +1,7 @@
 //! Contexts of the tests' own.
 ghost use Rattle.std.specs.Prelude.{Some, None, unwrap_or, ◌==◌, if◌then◌else◌, codes};
 ghost use Rattle.std.specs.Str.{chars};
-ghost use Rattle.interpolator.specs.Trees.{tree_of};
+ghost use Rattle.interpolator.specs.Slots.{slots_of};
 ghost use Rattle.interpolator_render.specs.Views.{some_text, nothing_implemented};
 
 use interpolator::{Context, Formattable, Interpolate, Spec, Trait, Value, View};
@@ -15,7 +15,7 @@ pub(crate) struct Everywhere<'a, V> {
 impl<'a, V: Value> Context for Everywhere<'a, V> {
     type Object = V;
 
-    ghost finds = { λ context name. Some (tree_of context.value) };
+    ghost finds = { λ context name. Some (slots_of context.value) };
 
     fn get(&self, _key: &str) -> Option<Formattable<'_, V>> {
         Some(self.value)

@@ -1,35 +1,9 @@
-//! Rows of formats: what they hold, and those with plain names.
+//! Rows of formats with plain names.
 
-use super::held::{Held, Slots};
-use super::told::Told;
+use crate::tables::held::{Held, Slots};
+use crate::tables::told::Told;
+use crate::tables::{RoomRow, RoomTable, Row, Table};
 use interpolator::{Bits, ParseError, Trait, View};
-
-/// A format, what is written of it, and what is answered.
-pub(crate) struct Row<'a> {
-    pub(crate) format: &'a str,
-    pub(crate) text: &'a str,
-    pub(crate) told: Told<'a>,
-}
-
-/// Rows with one context.
-pub(crate) struct Table<'a> {
-    pub(crate) values: &'a [Held<'a>],
-    pub(crate) rows: &'a [Row<'a>],
-}
-
-/// A format, how many characters the writer takes, what it then holds, and what is answered.
-pub(crate) struct RoomRow<'a> {
-    pub(crate) format: &'a str,
-    pub(crate) room: usize,
-    pub(crate) text: &'a str,
-    pub(crate) told: Told<'a>,
-}
-
-/// Rows of writers with little room, and with one context.
-pub(crate) struct RoomTable<'a> {
-    pub(crate) values: &'a [Held<'a>],
-    pub(crate) rows: &'a [RoomRow<'a>],
-}
 
 #[rattlefmt::skip]
 const NAMES: &[Held<'static>] = &[
@@ -50,6 +24,7 @@ const NAMES: &[Held<'static>] = &[
 #[rattlefmt::skip]
 pub(crate) const PLAIN: Table<'static> = Table {
     values: NAMES,
+    lists: &[],
     rows: &[
         Row { format: "", text: "", told: Told::Done },
         Row { format: "{{a}} and }", text: "{a} and }", told: Told::Done },
@@ -91,6 +66,7 @@ pub(crate) const PLAIN: Table<'static> = Table {
 #[rattlefmt::skip]
 pub(crate) const PLAIN_ROOM: RoomTable<'static> = RoomTable {
     values: NAMES,
+    lists: &[],
     rows: &[
         RoomRow { format: "abcdef", room: 3, text: "abc", told: Told::Fmt(3) },
         RoomRow { format: "abécdef", room: 3, text: "abé", told: Told::Fmt(4) },

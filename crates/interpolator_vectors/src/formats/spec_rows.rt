@@ -1,8 +1,8 @@
 //! Rows of formats with specs.
 
-use super::held::Slots;
-use super::rows::{RoomRow, RoomTable, Row, Table};
-use super::told::Told;
+use crate::tables::held::Slots;
+use crate::tables::told::Told;
+use crate::tables::{RoomRow, RoomTable, Row, Table};
 use interpolator::{Bits, NumberError, ParseError, Trait, View};
 
 /// Texts and numbers by their specs. Worked by hand from the rules of specs and of rendering in
@@ -17,6 +17,7 @@ pub(crate) const WRITTEN: [Table<'static>; 10] = [
             ("plain", &[Slots::Integer], View::Plain("{x}")),
             ("failed", &[Slots::Integer], View::Failed),
         ],
+        lists: &[],
         rows: &[
             Row { format: "{value:+05}", text: "+0012", told: Told::Done },
             Row { format: "{x:5}", text: "    1", told: Told::Done },
@@ -28,12 +29,14 @@ pub(crate) const WRITTEN: [Table<'static>; 10] = [
     },
     Table {
         values: &[("v", &[Slots::Integer], View::Unsigned(42))],
+        lists: &[],
         rows: &[
             Row { format: "{v:b} {v:?} {v:} {v:e} {v:x} {v:o} {v:E} {v:X}", text: "101010 42 42 4.2e1 2a 52 4.2E1 2A", told: Told::Done },
         ],
     },
     Table {
         values: &[("v", &[Slots::Integer], View::Signed(-1, Bits::B8))],
+        lists: &[],
         rows: &[
             Row { format: "{v:#010x};{v:+x};{v:^7};{v:<#6o};", text: "0x000000ff;+ff;  -1   ;0o377 ;", told: Told::Done },
         ],
@@ -47,6 +50,7 @@ pub(crate) const WRITTEN: [Table<'static>; 10] = [
             ("e", &[Slots::Integer], View::Unsigned(1500)),
             ("f", &[Slots::Integer], View::Unsigned(1234)),
         ],
+        lists: &[],
         rows: &[
             Row { format: "{a:.2e}", text: "2.00e3", told: Told::Done },
             Row { format: "{b:.2e}", text: "1.98e3", told: Told::Done },
@@ -58,6 +62,7 @@ pub(crate) const WRITTEN: [Table<'static>; 10] = [
     },
     Table {
         values: &[("t", &[Slots::DebugDisplay], View::Text("é\"a"))],
+        lists: &[],
         rows: &[
             Row { format: "{t:.2}/{t:5}/{t:>05}/{t:?}", text: "é\"/é\"a  /  é\"a/\"é\\\"a\"", told: Told::Done },
         ],
@@ -67,6 +72,7 @@ pub(crate) const WRITTEN: [Table<'static>; 10] = [
             ("u", &[Slots::Integer], View::Unsigned(u128::MAX)),
             ("i", &[Slots::Integer], View::Signed(i128::MIN, Bits::B128)),
         ],
+        lists: &[],
         rows: &[
             Row { format: "{u:e}", text: "3.40282366920938463463374607431768211455e38", told: Told::Done },
             Row { format: "{i:x}", text: "80000000000000000000000000000000", told: Told::Done },
@@ -78,6 +84,7 @@ pub(crate) const WRITTEN: [Table<'static>; 10] = [
             ("b", &[Slots::DebugDisplay], View::Truth(true)),
             ("c", &[Slots::DebugDisplay], View::Character('\'')),
         ],
+        lists: &[],
         rows: &[
             Row { format: "{v:#x?} {v:X?} {b:6?}/{c:?}", text: "0xff FF true  /'\\''", told: Told::Done },
             Row { format: "{v:#x}", text: "0xff", told: Told::Done },
@@ -92,6 +99,7 @@ pub(crate) const WRITTEN: [Table<'static>; 10] = [
             ("h", &[Slots::LowerHex, Slots::UpperHex], View::Unsigned(169)),
             ("o", &[Slots::Octal], View::Unsigned(16)),
         ],
+        lists: &[],
         rows: &[
             Row { format: "{a}{a:?}", text: "\"\"", told: Told::Done },
             Row { format: "{b:?} {b:b}", text: "10 1010", told: Told::Done },
@@ -108,12 +116,13 @@ pub(crate) const WRITTEN: [Table<'static>; 10] = [
             ("d", &[Slots::Display], View::Text("display")),
             ("e", &[Slots::Debug], View::Text("debug")),
         ],
+        lists: &[],
         rows: &[
             Row { format: "{a}, {b:?}", text: "10, \"test\"", told: Told::Done },
             Row { format: "{d} {e:?}", text: "display \"debug\"", told: Told::Done },
         ],
     },
-    // A width of 0, flags that do nothing, precisions in characters, braces in names and behind.
+    // A width of 0, flags that do nothing, precisions in characters, braces in names and after.
     Table {
         values: &[
             ("x", &[Slots::Display], View::Unsigned(1)),
@@ -124,6 +133,7 @@ pub(crate) const WRITTEN: [Table<'static>; 10] = [
             ("i", &[Slots::Integer], View::Signed(-1, Bits::B8)),
             ("n", &[Slots::Integer], View::Signed(-1234, Bits::B16)),
         ],
+        lists: &[],
         rows: &[
             Row { format: "{x:0}{x:00}{x:<00}{x:-0}", text: "1111", told: Told::Done },
             Row { format: "{x:}}", text: "1}", told: Told::Done },
@@ -138,7 +148,7 @@ pub(crate) const WRITTEN: [Table<'static>; 10] = [
     },
 ];
 
-/// Faults of specs and behind them. Worked by hand from the rules of specs, meaning and faults in
+/// Faults of specs and after them. Worked by hand from the rules of specs, meaning and faults in
 /// docs/DEFINITIONS.md.
 #[rattlefmt::skip]
 pub(crate) const BROKEN: [Table<'static>; 3] = [
@@ -148,6 +158,7 @@ pub(crate) const BROKEN: [Table<'static>; 3] = [
             ("n", &[], View::Unsigned(1)),
             ("t", &[Slots::Binary], View::Text("a")),
         ],
+        lists: &[],
         rows: &[
             Row { format: "{x:}<", text: "", told: Told::Parse(ParseError::Fill(3)) },
             Row { format: "{x:5<}", text: "", told: Told::Parse(ParseError::Fill(3)) },
@@ -167,6 +178,7 @@ pub(crate) const BROKEN: [Table<'static>; 3] = [
     },
     Table {
         values: &[("x", &[Slots::Integer], View::Unsigned(10))],
+        lists: &[],
         rows: &[
             Row { format: "{x:b", text: "10", told: Told::Parse(ParseError::Expected("}", 3)) },
             Row { format: "{x:+x", text: "+a", told: Told::Parse(ParseError::Expected("}", 5)) },
@@ -176,15 +188,17 @@ pub(crate) const BROKEN: [Table<'static>; 3] = [
     },
     Table {
         values: &[("x", &[Slots::Debug], View::Unsigned(1))],
+        lists: &[],
         rows: &[Row { format: "{x:?y}", text: "1", told: Told::Parse(ParseError::Expected("}", 4)) }],
     },
 ];
 
-/// One format, cut behind each of its characters. Worked by hand from the rules of arguments and
+/// One format, cut after each of its characters. Worked by hand from the rules of arguments and
 /// specs in docs/DEFINITIONS.md.
 #[rattlefmt::skip]
 pub(crate) const CUTS: Table<'static> = Table {
     values: &[("x", &[Slots::Integer], View::Unsigned(10))],
+    lists: &[],
     rows: &[
         Row { format: "", text: "", told: Told::Done },
         Row { format: "{", text: "", told: Told::Parse(ParseError::FormatSpecUnclosed(1)) },
@@ -206,6 +220,7 @@ pub(crate) const CUTS: Table<'static> = Table {
 pub(crate) const ROOM: [RoomTable<'static>; 3] = [
     RoomTable {
         values: &[("v", &[Slots::Integer], View::Unsigned(12))],
+        lists: &[],
         rows: &[
             RoomRow { format: "{v:5}x", room: 3, text: "   ", told: Told::Fmt(4) },
             RoomRow { format: "a{v:>4}b", room: 0, text: "", told: Told::Fmt(0) },
@@ -219,6 +234,7 @@ pub(crate) const ROOM: [RoomTable<'static>; 3] = [
     },
     RoomTable {
         values: &[("v", &[Slots::Integer], View::Unsigned(7))],
+        lists: &[],
         rows: &[
             RoomRow { format: "{v:.18446744073709551615e}", room: 5, text: "7.000", told: Told::Fmt(25) },
             RoomRow { format: "{v:18446744073709551615}", room: 2, text: "  ", told: Told::Fmt(23) },
@@ -227,6 +243,7 @@ pub(crate) const ROOM: [RoomTable<'static>; 3] = [
     },
     RoomTable {
         values: &[("x", &[Slots::Display], View::Unsigned(1))],
+        lists: &[],
         rows: &[RoomRow { format: "{x:00018446744073709551615}", room: 2, text: "00", told: Told::Fmt(26) }],
     },
 ];
@@ -245,6 +262,7 @@ pub(crate) const ASKED: Table<'static> = Table {
         ("E", &[Slots::UpperExp], View::Unsigned(42)),
         ("X", &[Slots::UpperHex], View::Unsigned(42)),
     ],
+    lists: &[],
     rows: &[
         Row { format: "{d}", text: "42", told: Told::Done },
         Row { format: "{d:#}", text: "42", told: Told::Done },
@@ -274,6 +292,7 @@ pub(crate) const ASKED_IN_VAIN: Table<'static> = Table {
         ("E", &[Slots::Debug, Slots::Display, Slots::Binary, Slots::LowerExp, Slots::LowerHex, Slots::Octal, Slots::UpperHex], View::Unsigned(42)),
         ("X", &[Slots::Debug, Slots::Display, Slots::Binary, Slots::LowerExp, Slots::LowerHex, Slots::Octal, Slots::UpperExp], View::Unsigned(42)),
     ],
+    lists: &[],
     rows: &[
         Row { format: "{d}", text: "", told: Told::MissingTraitImpl(Trait::Display, 2) },
         Row { format: "{d:#}", text: "", told: Told::MissingTraitImpl(Trait::Display, 4) },

@@ -1,6 +1,6 @@
 //! Lists in lists, to a depth of 32.
 
-use crate::formats::told::{Told, told_by};
+use crate::tables::told::{Told, told_by};
 use interpolator::{Error, Formattable, Interpolate, Pairs, TextBuffer};
 use std::alloc::{AllocError, Global};
 use std::process::Abort;

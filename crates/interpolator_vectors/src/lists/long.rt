@@ -1,14 +1,14 @@
 //! Lists of many items, and of long groups.
 
-use crate::formats::told::{Told, told_by};
-use interpolator::{Formattable, Interpolate, Pairs, TextBuffer};
+use crate::tables::told::{Told, told_by};
+use interpolator::{Formattable, Interpolate, Pairs, ParseError, TextBuffer, Trait};
 use std::alloc::Global;
 use std::test::Fail;
 
 /// How many times the digits stand in the lists.
 const TIMES: usize = 10_000;
 
-/// This beginning, and behind it the digits, so often.
+/// This beginning, and after it the digits, so often.
 fn digits(alloc: Global, beginning: &str) -> Result<String, Fail> {
     let mut text = String::from_str(alloc, beginning)?;
     for _ in 0..TIMES {
@@ -26,14 +26,18 @@ fn long_lists(rt: HostRuntime) -> Result<(), Fail> {
         items.push(Formattable::display(&values[place % values.len()]))?;
     }
     for (format, beginning) in [("{l:i}", ""), ("{l:>100003i}", "   ")] {
-        let text = Pairs(&[("l", Formattable::iter(&items))]).format(rt.alloc(), format)?;
+        let pairs = Pairs(&[("l", Formattable::iter(&items))]);
         let wanted = digits(rt.alloc(), beginning)?;
+        let text = pairs.format(rt.alloc(), format)?;
         assert!(rt; text.as_str() == wanted.as_str(), "at {format}");
+        let mut out = TextBuffer::new(rt.alloc());
+        pairs.write_to(rt.alloc(), &mut out, format)?;
+        assert!(rt; out.as_str() == wanted.as_str(), "at {format}");
     }
     Ok(())
 }
 
-/// What stands in front of a group's long text and behind it, the parts of what is written, and what
+/// What stands in front of a group's long text and after it, the parts of what is written, and what
 /// is answered.
 struct LongGroup {
     front: &'static str,
@@ -45,13 +49,17 @@ struct LongGroup {
 /// Worked by hand from the rules of lists and outcomes in docs/DEFINITIONS.md, over the list of 1
 /// and 5, where `a` stands 2,000 times between the format's front and its end.
 #[rattlefmt::skip]
-const GROUPS: [LongGroup; 6] = [
+const GROUPS: [LongGroup; 10] = [
     LongGroup { front: "{l:i(", end: ")}", text: &[("a", 4_000)], told: Told::Done },
     LongGroup { front: "{l:4002i(", end: ")}", text: &[("a", 4_000), (" ", 2)], told: Told::Done },
     LongGroup { front: "{l:>4003i(", end: "{})}", text: &[(" ", 1), ("a", 2_000), ("1", 1), ("a", 2_000), ("5", 1)], told: Told::Done },
     LongGroup { front: "{l:>2003i({})(", end: ")}", text: &[(" ", 1), ("1", 1), ("a", 2_000), ("5", 1)], told: Told::Done },
     LongGroup { front: "{l:i(", end: "{q})}", text: &[("a", 2_000)], told: Told::MissingValue("q", 2_006) },
     LongGroup { front: "{l:9i(", end: "{q})}", text: &[], told: Told::MissingValue("q", 2_007) },
+    LongGroup { front: "{l:9i(", end: "{:b})}", text: &[], told: Told::MissingTraitImpl(Trait::Binary, 2_009) },
+    LongGroup { front: "{l:9i(", end: "{:y})}", text: &[], told: Told::Parse(ParseError::Expected("}", 2_008)) },
+    LongGroup { front: "{l:9i(", end: "{:+i})}", text: &[], told: Told::MissingTraitImpl(Trait::Iter, 2_010) },
+    LongGroup { front: "{l:3i}{l:9i(", end: "{l:+i})}", text: &[("15 ", 1)], told: Told::Parse(ParseError::Iter(2_017)) },
 ];
 
 /// Appends a text, so often.

@@ -1,26 +1,9 @@
 //! The lists of rows, and the rows of formats that ask them.
 
-use crate::formats::held::{Held, Slots};
-use crate::formats::rows::{RoomRow, Row};
-use crate::formats::told::Told;
+use crate::tables::held::{HeldList, Slots};
+use crate::tables::told::Told;
+use crate::tables::{RoomRow, RoomTable, Row, Table};
 use interpolator::{NumberError, ParseError, Trait, View};
-
-/// A name, the slots that each item of its list fills, and the values of the items.
-pub(crate) type HeldList<'a> = (&'a str, &'a [Slots], &'a [View<'a>]);
-
-/// Rows with one context, of values and of lists.
-pub(crate) struct ListTable<'a> {
-    pub(crate) values: &'a [Held<'a>],
-    pub(crate) lists: &'a [HeldList<'a>],
-    pub(crate) rows: &'a [Row<'a>],
-}
-
-/// Rows of writers with little room, and with one context.
-pub(crate) struct ListRoomTable<'a> {
-    pub(crate) values: &'a [Held<'a>],
-    pub(crate) lists: &'a [HeldList<'a>],
-    pub(crate) rows: &'a [RoomRow<'a>],
-}
 
 /// The list of 1 and 5, which are displayed alone.
 const NUMBERS: HeldList<'static> = (
@@ -32,9 +15,9 @@ const NUMBERS: HeldList<'static> = (
 /// The Rust crate's own rows of lists, and others, worked by hand from the rules of ranges, groups,
 /// lists and places in docs/DEFINITIONS.md.
 #[rattlefmt::skip]
-pub(crate) const WRITTEN: [ListTable<'static>; 11] = [
+pub(crate) const WRITTEN: [Table<'static>; 11] = [
     // The next two contexts differ in names that the format does not ask.
-    ListTable {
+    Table {
         values: &[
             ("b", &[Slots::Display], View::Text("b")),
             ("c", &[Slots::Display], View::Text("c")),
@@ -44,7 +27,7 @@ pub(crate) const WRITTEN: [ListTable<'static>; 11] = [
             Row { format: "{a:i({}{b})({c})}", text: "1bc2b", told: Told::Done },
         ],
     },
-    ListTable {
+    Table {
         values: &[
             ("b", &[Slots::Display], View::Text("b")),
             ("c", &[Slots::Display], View::Text("c")),
@@ -56,7 +39,7 @@ pub(crate) const WRITTEN: [ListTable<'static>; 11] = [
             Row { format: "{a:i({}{b})({c})}", text: "1bc2b", told: Told::Done },
         ],
     },
-    ListTable {
+    Table {
         values: &[],
         lists: &[NUMBERS],
         rows: &[
@@ -92,7 +75,7 @@ pub(crate) const WRITTEN: [ListTable<'static>; 11] = [
             Row { format: "{h:i..-0}{h:i-0..}{h:i-01}", text: "155", told: Told::Done },
         ],
     },
-    ListTable {
+    Table {
         values: &[],
         lists: &[NUMBERS],
         rows: &[
@@ -106,9 +89,10 @@ pub(crate) const WRITTEN: [ListTable<'static>; 11] = [
             Row { format: "{h:>5i2..({z})({z})}|", text: "     |", told: Told::Done },
             Row { format: "{h:i({:>4})}{h:>8i({:4})}", text: "   1   5   1   5", told: Told::Done },
             Row { format: "{h:^9i(é{}é)(…)}|", text: " é1é…é5é |", told: Told::Done },
+            Row { format: "ab{h:6i}cd{h:>4i({})}{h:3i}", text: "ab15    cd  1515 ", told: Told::Done },
         ],
     },
-    ListTable {
+    Table {
         values: &[("x", &[Slots::Display], View::Text("?!"))],
         lists: &[("list", &[Slots::Display], &[View::Text("hi"), View::Text("ho")])],
         rows: &[
@@ -116,7 +100,7 @@ pub(crate) const WRITTEN: [ListTable<'static>; 11] = [
             Row { format: "{list:i({})({x})}", text: "hi?!ho", told: Told::Done },
         ],
     },
-    ListTable {
+    Table {
         values: &[("outside", &[Slots::Display], View::Character('!'))],
         lists: &[("items", &[Slots::Display], &[View::Text("hello"), View::Text("hi"), View::Text("hey")])],
         rows: &[
@@ -128,12 +112,12 @@ pub(crate) const WRITTEN: [ListTable<'static>; 11] = [
             Row { format: "{items:i({:>6.2}{outside})(,)}", text: "    he!,    hi!,    he!", told: Told::Done },
         ],
     },
-    ListTable {
+    Table {
         values: &[],
         lists: &[("list", &[Slots::Debug], &[View::Text("a"), View::Unsigned(1)])],
         rows: &[Row { format: "{list:i({:?})(,)}", text: "\"a\",1", told: Told::Done }],
     },
-    ListTable {
+    Table {
         values: &[],
         lists: &[
             ("list", &[Slots::Display], &[View::Text("a"), View::Unsigned(1)]),
@@ -146,7 +130,7 @@ pub(crate) const WRITTEN: [ListTable<'static>; 11] = [
             Row { format: "{l:i({:?})(, )}", text: "\"a\", \"b\"", told: Told::Done },
         ],
     },
-    ListTable {
+    Table {
         values: &[],
         lists: &[
             ("two", &[Slots::Integer], &[View::Unsigned(2), View::Unsigned(1)]),
@@ -159,7 +143,7 @@ pub(crate) const WRITTEN: [ListTable<'static>; 11] = [
         ],
     },
     // The width counts characters, of the items and of the join.
-    ListTable {
+    Table {
         values: &[("x", &[Slots::Display], View::Text("ü"))],
         lists: &[("u", &[Slots::Display], &[View::Text("é"), View::Text("日本")])],
         rows: &[
@@ -170,7 +154,7 @@ pub(crate) const WRITTEN: [ListTable<'static>; 11] = [
         ],
     },
     // The join has the context's own empty name, and the item format that of the item.
-    ListTable {
+    Table {
         values: &[
             ("", &[Slots::Display], View::Unsigned(9)),
             ("e", &[Slots::Display], View::Unsigned(7)),
@@ -184,10 +168,10 @@ pub(crate) const WRITTEN: [ListTable<'static>; 11] = [
     },
 ];
 
-/// Faults of lists, in them and behind them. Worked by hand, as the rows above.
+/// Faults of lists, in them and after them. Worked by hand, as the rows above.
 #[rattlefmt::skip]
-pub(crate) const BROKEN: [ListTable<'static>; 6] = [
-    ListTable {
+pub(crate) const BROKEN: [Table<'static>; 7] = [
+    Table {
         values: &[("x", &[Slots::Integer], View::Unsigned(1)), ("n", &[], View::Unsigned(1))],
         lists: &[NUMBERS, ("none", &[Slots::Display], &[])],
         rows: &[
@@ -212,7 +196,7 @@ pub(crate) const BROKEN: [ListTable<'static>; 6] = [
             Row { format: "{none:i}{none:i({z})({z})}{none:3i({z})({z})}|", text: "   |", told: Told::Done },
         ],
     },
-    ListTable {
+    Table {
         values: &[],
         lists: &[NUMBERS],
         rows: &[
@@ -227,7 +211,7 @@ pub(crate) const BROKEN: [ListTable<'static>; 6] = [
         ],
     },
     // Text stands before a fault inside, but not where the list is padded.
-    ListTable {
+    Table {
         values: &[],
         lists: &[NUMBERS],
         rows: &[
@@ -252,7 +236,23 @@ pub(crate) const BROKEN: [ListTable<'static>; 6] = [
             Row { format: "{h:i({:i})}", text: "", told: Told::MissingTraitImpl(Trait::Iter, 8) },
         ],
     },
-    ListTable {
+    // A fault inside a padded list is told as itself.
+    Table {
+        values: &[],
+        lists: &[NUMBERS],
+        rows: &[
+            Row { format: "ab{h:6i({}{:b})}", text: "ab", told: Told::MissingTraitImpl(Trait::Binary, 13) },
+            Row { format: "{h:5i({:y})}", text: "", told: Told::Parse(ParseError::Expected("}", 8)) },
+            Row { format: "{h:5i({:+i})}", text: "", told: Told::MissingTraitImpl(Trait::Iter, 10) },
+            Row { format: "{h:5i({:>5)}", text: "", told: Told::Parse(ParseError::FormatSpecUnclosed(7)) },
+            Row { format: "{h:5i({:)}", text: "", told: Told::Parse(ParseError::Expected("}", 8)) },
+            Row { format: "{h:5i({}{:?<})}", text: "", told: Told::Parse(ParseError::Fill(10)) },
+            Row { format: "ab{h:6i({}{:p})}", text: "ab", told: Told::UnsupportedOption("p", "pointer", 12) },
+            Row { format: "{h:9i({})({h:x})}", text: "", told: Told::MissingTraitImpl(Trait::LowerHex, 14) },
+            Row { format: "{h:4i}{h:5i({:y})}", text: "15  ", told: Told::Parse(ParseError::Expected("}", 14)) },
+        ],
+    },
+    Table {
         values: &[],
         lists: &[
             ("b", &[Slots::Binary], &[View::Unsigned(1)]),
@@ -265,7 +265,7 @@ pub(crate) const BROKEN: [ListTable<'static>; 6] = [
             Row { format: "{g:i({}{:x})}", text: "a", told: Told::MissingTraitImpl(Trait::LowerHex, 10) },
         ],
     },
-    ListTable {
+    Table {
         values: &[],
         lists: &[("f", &[Slots::Display], &[View::Unsigned(1), View::Failed, View::Unsigned(2)])],
         rows: &[
@@ -276,7 +276,7 @@ pub(crate) const BROKEN: [ListTable<'static>; 6] = [
             Row { format: "a{f:9i0({})(,)}{f:i2..}", text: "a1        2", told: Told::Done },
         ],
     },
-    ListTable {
+    Table {
         values: &[],
         lists: &[("items", &[Slots::Display], &[View::Text("hello"), View::Text("hi"), View::Text("hey")])],
         rows: &[
@@ -289,9 +289,9 @@ pub(crate) const BROKEN: [ListTable<'static>; 6] = [
     },
 ];
 
-/// One format, cut behind its characters. Worked by hand, as the rows above.
+/// One format, cut after its characters. Worked by hand, as the rows above.
 #[rattlefmt::skip]
-pub(crate) const CUTS: [ListTable<'static>; 1] = [ListTable {
+pub(crate) const CUTS: [Table<'static>; 1] = [Table {
     values: &[],
     lists: &[NUMBERS],
     rows: &[
@@ -318,7 +318,7 @@ pub(crate) const CUTS: [ListTable<'static>; 1] = [ListTable {
 /// Writers with little room. Worked by hand from the rules of lists, places and outcomes in
 /// docs/DEFINITIONS.md.
 #[rattlefmt::skip]
-pub(crate) const ROOM: [ListRoomTable<'static>; 1] = [ListRoomTable {
+pub(crate) const ROOM: [RoomTable<'static>; 1] = [RoomTable {
     values: &[],
     lists: &[NUMBERS, ("f", &[Slots::Display], &[View::Unsigned(1), View::Failed])],
     rows: &[
@@ -346,7 +346,7 @@ pub(crate) const ROOM: [ListRoomTable<'static>; 1] = [ListRoomTable {
 /// A name `o` whose list has one item, which is displayed as `A` and has the list of 1 and 2.
 /// Worked by hand, as the rows above.
 #[rattlefmt::skip]
-pub(crate) const NESTED: [Row<'static>; 23] = [
+pub(crate) const NESTED: [Row<'static>; 28] = [
     Row { format: "{o:i#({:i({})({})})#}", text: "1A2", told: Told::Done },
     Row { format: "{o:i#({:>4i({})})#}", text: "  12", told: Told::Done },
     Row { format: "{o:i#({:i({z})})#}", text: "", told: Told::MissingValue("z", 11) },
@@ -370,4 +370,9 @@ pub(crate) const NESTED: [Row<'static>; 23] = [
     Row { format: "{o:i##(a{:i#(b{:i(c)#})##}", text: "ab", told: Told::Parse(ParseError::FormatSpecUnclosed(15)) },
     Row { format: "{o:i#({:i)#}", text: "A", told: Told::Parse(ParseError::Expected("}", 8)) },
     Row { format: "{o:i#({:>i)#}", text: "12", told: Told::Parse(ParseError::Expected("}", 10)) },
+    Row { format: "{o:5i({:+i})}", text: "", told: Told::Parse(ParseError::Iter(10)) },
+    Row { format: "{o:9i({:.3i})}", text: "", told: Told::Parse(ParseError::Iter(11)) },
+    Row { format: "ab{o:9i({}{:+i})}", text: "ab", told: Told::Parse(ParseError::Iter(14)) },
+    Row { format: "{o:9i#({:4i({}{:b})})#}", text: "", told: Told::MissingTraitImpl(Trait::Binary, 17) },
+    Row { format: "{o:9i#(a{:4i({:y})})#}", text: "", told: Told::Parse(ParseError::Expected("}", 15)) },
 ];

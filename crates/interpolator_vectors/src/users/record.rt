@@ -1,7 +1,7 @@
 //! A record that is a context: its fields are found by their names.
 ghost use Rattle.std.specs.Prelude.{Some, None, if◌then◌else◌, codes};
 ghost use Rattle.std.specs.Str.{bytes_eq, encode_utf8_all};
-ghost use Rattle.interpolator.specs.Trees.{empty_tree, with_debug_display};
+ghost use Rattle.interpolator.specs.Slots.{empty_slots, with_debug_display};
 
 use interpolator::{Context, Error, Formattable, Interpolate, View};
 use std::alloc::Global;
@@ -19,9 +19,9 @@ impl<'a> Context for Entry<'a> {
 
     ghost finds = { λ entry name.
         if bytes_eq (encode_utf8_all name) (codes "level")
-        then Some (with_debug_display empty_tree entry.level)
+        then Some (with_debug_display empty_slots entry.level)
         else if bytes_eq (encode_utf8_all name) (codes "line")
-        then Some (with_debug_display empty_tree entry.line)
+        then Some (with_debug_display empty_slots entry.line)
         else None };
 
     fn get(&self, key: &str) -> Option<Formattable<'_, View<'a>>> {

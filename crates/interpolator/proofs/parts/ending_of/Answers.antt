@@ -3,16 +3,16 @@ use Rattle.interpolator_syntax.specs.At.{at}
 use Rattle.interpolator.proofs.EndingLemmas.{ending_step, ending_smaller, ending_done}
 use Rattle.interpolator.proofs.parts.ending_of.Goals as goal
 
-pub loop-piece-smaller : goal.loop-piece-smaller
-loop-piece-smaller c =
-    ending_smaller (at c.loop-piece.here) _ _ (sym c.in-Some.ensures.token)
-    c.past_piece.ensures.rest
+pub loop-token-smaller : goal.loop-token-smaller
+loop-token-smaller c =
+    ending_smaller (at c.loop-token.here) _ _ (sym c.in-Some.ensures.token)
+    c.past_token.ensures.rest
 
-pub loop-piece-preserved : goal.loop-piece-preserved
-loop-piece-preserved c =
-    ending_step (at c.loop-piece.here) _ _ _ _ _ (sym c.in-Some.ensures.token)
-    c.past_piece.ensures.ending c.past_piece.ensures.rest c.loop-piece.invariant
+pub loop-token-preserved : goal.loop-token-preserved
+loop-token-preserved c =
+    ending_step (at c.loop-token.here) _ _ _ _ _ (sym c.in-Some.ensures.token)
+    c.past_token.ensures.ending c.past_token.ensures.rest c.loop-token.invariant
 
 pub returns : goal.returns
 returns c =
-    ending_done (at c.loop-piece.here) _ _ (sym c.in_default.ensures.token) c.loop-piece.invariant
+    ending_done (at c.loop-token.here) _ _ (sym c.in_default.ensures.token) c.loop-token.invariant

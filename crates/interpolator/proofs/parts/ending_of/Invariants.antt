@@ -4,9 +4,9 @@ use Rattle.interpolator_syntax.specs.Pieces.{pieces}
 use Rattle.interpolator.specs.Seams.{ending, last_ending}
 use Rattle.interpolator.proofs.parts.ending_of.Given as goal
 
--- how the rest ends, behind what was read, is how the whole text ends
-abbrev pub invariant-loop-piece : goal.invariant-loop-piece
-invariant-loop-piece l = last_ending l.ending (pieces (at l.here)) ≡ ending (at l.fn.text)
+-- how the rest ends, after what was read, is how the whole text ends
+abbrev pub invariant-loop-token : goal.invariant-loop-token
+invariant-loop-token l = last_ending l.ending (pieces (at l.here)) ≡ ending (at l.fn.text)
 
-abbrev pub decreases-loop-piece : goal.decreases-loop-piece
-decreases-loop-piece l = length (pieces (at l.here))
+abbrev pub decreases-loop-token : goal.decreases-loop-token
+decreases-loop-token l = length (pieces (at l.here))

@@ -34,7 +34,7 @@ loop-part-preserved g c =
     record {
       so_far =
           λ new answer o. c.loop-part.invariant.so_far new answer
-          (part_runs _ _ _ _ _ _ _ split _ _ _ _ _ c.in-Ok.ensures.behind c.in-Ok.ensures.writes
+          (part_runs _ _ _ _ _ _ _ split _ _ _ _ _ c.in-Ok.ensures.after c.in-Ok.ensures.writes
           o);
       same = same_then _ _ _ c.loop-part.invariant.same c.in-Ok.ensures.writes.same;
       fits = omega (arith, ap bytes_of split, c.loop-part.invariant.fits, c.in-Ok.ensures.bytes);

@@ -5,7 +5,7 @@ use Rattle.interpolator.specs.Meaning.Scopes.{environment_of}
 use Rattle.interpolator.specs.Meaning.Sinks.{SinkState, Evaluates, SameSink, seen}
 use Rattle.interpolator.proofs.parts.write_each.Given as goal
 
--- what the parts that are left come to, behind what was written, is what all parts come to
+-- what the parts that are left come to, after what was written, is what all parts come to
 abbrev pub invariant-loop-part : goal.invariant-loop-part
 invariant-loop-part g l =
     let meaning = parts_mean g.C.Object.Value.shows (environment_of g.C.Context.finds l.scope) in

@@ -5,8 +5,8 @@ use Rattle.interpolator_syntax.proofs.CharacterLemmas.{size-chars}
 use Rattle.interpolator.proofs.MeaningLemmas.PlaceLemmas.{outcome_lies_from}
 use Rattle.interpolator.proofs.parts.write_part.Goals as goal
 
-pub returns-in-Ok-clause-behind : goal.returns-in-Ok-clause-behind
-returns-in-Ok-clause-behind g c =
+pub returns-in-Ok-clause-after : goal.returns-in-Ok-clause-after
+returns-in-Ok-clause-after g c =
     ap (λ (n : ℕ). c.args.place + n) (sym (size-chars c.args.part.now c.utf8.part))
 
 pub returns-in-Err-clause-place : goal.returns-in-Err-clause-place

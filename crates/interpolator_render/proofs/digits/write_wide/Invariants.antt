@@ -1,15 +1,16 @@
-use Rattle.std.proofs.Common.{◌≡◌, ◌≤◌, length, drop, map, ◌++◌}
-use Rattle.std.specs.Fmt.{digit_glyph}
-use Rattle.std.specs.Int.Digits.{digits_of}
+use Rattle.std.proofs.Common.{◌≡◌, ◌≤◌, ◌+◌, length, drop, take, ◌++◌}
+use Rattle.interpolator_render.specs.Digits.{digit_text}
 use Rattle.interpolator_render.proofs.digits.write_wide.Given as goal
 
 abbrev pub invariant-loop-rest : goal.invariant-loop-rest
 invariant-loop-rest l = record {
-  place : l.at ≤ 128;
+  place : l.at ≤ l.end;
   size : length l.out ≡ 128;
-  room : length (digits_of l.base l.rest) ≤ l.at;
-  written : map (digit_glyph l.upper) (digits_of l.base l.rest) ++ drop l.at l.out
-      ≡ map (digit_glyph l.upper) (digits_of l.base l.n);
+  begins : l.at + length (digit_text l.base l.upper l.n)
+      ≡ l.end + length (digit_text l.base l.upper l.rest);
+  written : digit_text l.base l.upper l.rest ++ drop l.at l.out ≡ digit_text l.base l.upper l.n
+      ++ drop l.end l.initial.out;
+  front : take l.at l.out ≡ take l.at l.initial.out;
 }
 
 abbrev pub decreases-loop-rest : goal.decreases-loop-rest

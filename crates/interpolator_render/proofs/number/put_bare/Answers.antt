@@ -1,6 +1,6 @@
 use Rattle.std.proofs.Common.{arith}
 use Rattle.interpolator_render.proofs.DigitLemmas.{one_alone, pair_alone}
-use Rattle.interpolator_render.proofs.LineLemmas.{few_decimals}
+use Rattle.interpolator_render.proofs.DigitBufferLemmas.{few_decimals}
 use Rattle.interpolator_render.proofs.number.put_bare.Goals as goal
 
 pub returns-then-n-lt10 : goal.returns-then-n-lt10
@@ -18,4 +18,4 @@ returns-then-n-lt100 g c =
 
 pub put_decimal-requires : goal.put_decimal-requires
 put_decimal-requires g c = let few = few_decimals c.args.n c.ranges.n.fits in
-    rw c.new-line.ensures (omega arith)
+    rw c.new-buffer.ensures (omega arith)

@@ -6,4 +6,4 @@ pub returns-in-None : goal.returns-in-None
 returns-in-None c =
     let rest = c.skip_blocks-rest in
     found_nowhere _ c.args.bytes.now rest.result.now (rest.ensures.shorter, rest.ensures.first)
-    (sym c.byte_position.ensures ∙ c.in-None.is)
+    (sym c.byte_position-2.ensures ∙ c.in-None.is)

@@ -1,5 +1,5 @@
 use Rattle.std.proofs.Common.{ℕ, ◌||◌, eqb}
-use Rattle.interpolator_syntax.proofs.ByteLemmas.{one_block_less, same_through}
+use Rattle.interpolator_syntax.proofs.ByteLemmas.{one_block_less}
 use Rattle.interpolator_syntax.proofs.class.skip_blocks.Goals as goal
 
 pub returns-in-Some-clause-first : goal.returns-in-Some-clause-first
@@ -15,13 +15,3 @@ loop-rest-preserved c =
     let test = λ (b : ℕ). eqb b c.args.first || eqb b c.args.second in
     one_block_less test c.args.bytes.now c.loop-rest.rest.now c.split_at-in-loop-rest.result.1.now
     16 16 c.loop-rest.invariant c.in_default.ensures c.split_at-in-loop-rest.ensures.back
-
-pub loop-rest-preserved-then-bytes-rest-eq0 : goal.loop-rest-preserved-then-bytes-rest-eq0
-loop-rest-preserved-then-bytes-rest-eq0 c =
-    let test = λ (b : ℕ). eqb b c.args.first || eqb b c.args.second in
-    let behind = c.split_at-in-loop-rest in
-    let strides = c.skip_strides-rest in
-    same_through test c.args.bytes.now behind.result.1.now strides.result.now
-    (one_block_less test c.args.bytes.now c.loop-rest.rest.now behind.result.1.now 16 16
-    c.loop-rest.invariant c.in_default.ensures behind.ensures.back)
-    (strides.ensures.shorter, strides.ensures.first)

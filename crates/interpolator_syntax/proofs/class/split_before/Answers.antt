@@ -1,6 +1,6 @@
 use Rattle.std.proofs.Common.{◌∙◌, ap}
 use Rattle.std.specs.Str.{chars}
-use Rattle.interpolator_syntax.proofs.ByteLemmas.{cut_boundary, chars_front, chars_behind}
+use Rattle.interpolator_syntax.proofs.ByteLemmas.{cut_boundary, chars_front, chars_after}
 use Rattle.interpolator_syntax.proofs.class.split_before.Goals as goal
 
 pub split_at-requires : goal.split_at-requires
@@ -15,8 +15,8 @@ returns-clause-front c = ap chars c.split_at.ensures.front
     (chars_front c.args.first c.args.second c.requires.first c.requires.second c.args.text.now
     c.utf8.text)
 
-pub returns-clause-behind : goal.returns-clause-behind
-returns-clause-behind c = ap chars c.split_at.ensures.back
+pub returns-clause-after : goal.returns-clause-after
+returns-clause-after c = ap chars c.split_at.ensures.back
     ∙ rw (c.bytes_before.ensures, c.as_bytes.ensures.value)
-    (chars_behind c.args.first c.args.second c.requires.first c.requires.second c.args.text.now
+    (chars_after c.args.first c.args.second c.requires.first c.requires.second c.args.text.now
     c.utf8.text)

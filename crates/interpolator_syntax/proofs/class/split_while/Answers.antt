@@ -11,7 +11,7 @@ loop-after-preserved c =
     let first = c.in-Some.ensures.bytes in (
       IsUtf8-past_char rest after first.0 c.loop-after.invariant.0 first.1,
       rest_more c.args.text.now rest after first.0 c.loop-after.invariant.1 first.1,
-      c.loop-after.invariant.2 ∙ c.in-Some.ensures.behind,
+      c.loop-after.invariant.2 ∙ c.in-Some.ensures.after,
     )
 
 pub split_at-requires : goal.split_at-requires
@@ -24,4 +24,4 @@ returns-clause-front c =
     front_at_rest (in_class c.args.class) c.args.text.now c.split_at.result.0.now
     c.loop-after.rest.now
     c.utf8.text c.loop-after.invariant.0 c.loop-after.invariant.1 c.split_at.ensures.front
-    (c.loop-after.invariant.2 ∙ c.in_default.ensures.behind)
+    (c.loop-after.invariant.2 ∙ c.in_default.ensures.after)

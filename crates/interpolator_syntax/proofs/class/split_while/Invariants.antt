@@ -2,14 +2,14 @@ use Rattle.std.proofs.Common.{◌≡◌, ◌++◌, length, ℕ, List}
 use denote.Text.{Utf8}
 use denote.Shadow.{shadow}
 use Rattle.std.specs.Str.{chars}
-use Rattle.interpolator_syntax.specs.Classes.{in_class, behind_of}
+use Rattle.interpolator_syntax.specs.Classes.{in_class, after_of}
 use Rattle.interpolator_syntax.proofs.class.split_while.Given as goal
 
 abbrev pub invariant-loop-after : goal.invariant-loop-after
 invariant-loop-after l =
     shadow (Utf8 l.rest)
     × ((front : List ℕ) × (l.text ≡ front ++ l.rest))
-    × (behind_of (in_class l.class) (chars l.text) ≡ behind_of (in_class l.class) (chars l.rest))
+    × (after_of (in_class l.class) (chars l.text) ≡ after_of (in_class l.class) (chars l.rest))
 
 abbrev pub decreases-loop-after : goal.decreases-loop-after
 decreases-loop-after l = length l.rest

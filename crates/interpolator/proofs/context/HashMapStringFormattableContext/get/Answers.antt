@@ -2,12 +2,12 @@
 use Rattle.std.proofs.Common.{ap, ◌∙◌}
 use Rattle.std.specs.Option.{option_map}
 use Rattle.std.proofs.lemmas.Str.{encodes-chars}
-use Rattle.interpolator.specs.Trees.{tree_of}
+use Rattle.interpolator.specs.Slots.{slots_of}
 use Rattle.interpolator.proofs.context.HashMapStringFormattableContext.get.Goals as goal
 
 pub returns : goal.returns
 returns g c = record {
   found =
-      rw (encodes-chars c.args.key.now c.utf8.key) (ap (option_map tree_of) (c.copied.ensures
+      rw (encodes-chars c.args.key.now c.utf8.key) (ap (option_map slots_of) (c.copied.ensures
       ∙ c.get-found.ensures.value));
 }

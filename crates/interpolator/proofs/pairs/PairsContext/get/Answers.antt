@@ -2,14 +2,14 @@
 use Rattle.std.proofs.Common.{ap}
 use Rattle.std.specs.Option.{option_map}
 use Rattle.std.proofs.lemmas.Str.{encodes-chars}
-use Rattle.interpolator.specs.Trees.{tree_of}
+use Rattle.interpolator.specs.Slots.{slots_of}
 use Rattle.interpolator.proofs.pairs.PairsContext.get.Goals as goal
 
 pub returns-in-Some : goal.returns-in-Some
 returns-in-Some g c =
     record {
       found =
-          rw (encodes-chars c.args.key.now c.utf8.key) (ap (option_map tree_of)
+          rw (encodes-chars c.args.key.now c.utf8.key) (ap (option_map slots_of)
           c.in-Some.ensures);
     }
 
@@ -17,6 +17,6 @@ pub returns-in-None : goal.returns-in-None
 returns-in-None g c =
     record {
       found =
-          rw (encodes-chars c.args.key.now c.utf8.key) (ap (option_map tree_of)
+          rw (encodes-chars c.args.key.now c.utf8.key) (ap (option_map slots_of)
           c.in-None.ensures);
     }

@@ -3,10 +3,10 @@ use Rattle.std.proofs.Common.{rules, false, ◌≡◌, ◌++◌, arith, sym, ◌
 use Rattle.std.specs.Prelude.{codes}
 use Rattle.std.proofs.lemmas.List.{take_all}
 use Rattle.interpolator_render.specs.declared.view.Trait.TheVariants.{Binary}
-use Rattle.interpolator.specs.Trees.{tree_of}
+use Rattle.interpolator.specs.Slots.{slots_of}
 use Rattle.interpolator.specs.SlotNames.{slot_name, is_filled, slot_order, filled_names}
 use Rattle.interpolator.proofs.SlotNameLemmas.{names_of, one_more, none_more, no_name-more}
-use Rattle.interpolator.proofs.SlotNameLemmas.{no_name, opened, name_written, written_behind}
+use Rattle.interpolator.proofs.SlotNameLemmas.{no_name, opened, name_written, written_after}
 use Rattle.interpolator.proofs.SlotNameLemmas.{closed}
 use Rattle.interpolator.proofs.slot_names.FormattableDebug.fmt.Goals as goal
 use Rattle.interpolator.proofs.slot_names.FormattableDebug.fmt.Goals.{then-has+in_ok-write_name}
@@ -14,7 +14,7 @@ use Rattle.interpolator.proofs.slot_names.FormattableDebug.fmt.Goals.{else-has}
 
 pub loop-slot-preserved : goal.loop-slot-preserved
 loop-slot-preserved g c =
-    let filled = is_filled (tree_of c.args.self.now) in
+    let filled = is_filled (slots_of c.args.self.now) in
     let index = c.loop-slot.slot-index in
     let names = names_of filled (take index slot_order) in
     let name = slot_name (get_or slot_order index Binary) in
@@ -39,9 +39,9 @@ loop-slot-preserved g c =
 pub returns-else-is_first-clause-styled : goal.returns-else-is_first-clause-styled
 returns-else-is_first-clause-styled g c = λ flush ok.
     let front = codes "Formattable" in
-    let names = filled_names (tree_of c.args.self.now) in
+    let names = filled_names (slots_of c.args.self.now) in
     let passed : take c.loop-slot.slot-index slot_order ≡ slot_order =
     take_all c.loop-slot.slot-index slot_order (omega (arith, c.loop-slot-test.false)) in
     let named : false ≡ no_name names = search rules in
-    written_behind g.W.Write.write_str_gives _ c.loop-slot.f _ (front ++ opened names) _ _
+    written_after g.W.Write.write_str_gives _ c.loop-slot.f _ (front ++ opened names) _ _
     (search rules) (search rules) (closed front names (sym named))

@@ -1,0 +1,173 @@
+-- A row that grows at its front or at its end.
+use Rattle.std.proofs.Common.{append_assoc, ◌≡◌, ℕ, Bool, ◌<◌, ◌≤◌, ◌-◌, ◌+◌, ◌^◌, List, [], ◌∷◌}
+use Rattle.std.proofs.Common.{◌++◌, length, take, drop, set, replicate, slice_range, refl, sym, ◌∙◌}
+use Rattle.std.proofs.Common.{ap, arith, length-append, drop-drop, take-take, take-append-drop}
+use Rattle.std.proofs.Common.{length-take-le, unwrap_or, IsAscii, take-add, false}
+use Rattle.std.proofs.lemmas.List.{length-replicate, take-replicate, drop-replicate, drop-append-le}
+use Rattle.std.proofs.lemmas.List.{drop-set}
+use Rattle.std.proofs.lemmas.Str.{IsAscii-take, IsAscii-drop, IsAscii-append}
+use Rattle.std.proofs.Math.Seq.{take-append-add, drop-append-add}
+use Rattle.std.proofs.Math.Nat.{pow-le-pow_left}
+use Rattle.interpolator_render.specs.declared.number_form.Radix.{Radix}
+use Rattle.interpolator_render.specs.declared.number_form.Radix.TheVariants.{Decimal, Binary as InBinary}
+use Rattle.interpolator_render.specs.declared.number_form.Radix.TheVariants.{Octal as InOctal}
+use Rattle.interpolator_render.specs.declared.number_form.Radix.TheVariants.{LowerHex as InLowerHex}
+use Rattle.interpolator_render.specs.declared.number_form.Radix.TheVariants.{UpperHex as InUpperHex}
+use Rattle.interpolator_render.specs.declared.view.Spec.{Spec}
+use Rattle.interpolator_render.specs.Digits.{digit_text}
+use Rattle.interpolator_render.specs.Numbers.{base_of, is_upper}
+use Rattle.interpolator_render.specs.Padding.{fill_of, IsNumberRow}
+use Rattle.interpolator_render.proofs.DigitLemmas.{length-digit_text-le}
+use Rattle.interpolator_render.specs.DigitBuffers.{Buffered, IsBuffered, buffered, grown, grown_after}
+use Rattle.interpolator_render.proofs.LayoutLemmas.{IsAscii-replicate}
+
+-- a piece stands in front of the text, and nothing else has changed
+pub row_grows : (old new piece : List ℕ) (fill from start end : ℕ) (row : Buffered) → start ≤ end →
+    from + length piece ≡ start → drop from new ≡ piece ++ drop start old →
+    buffered old fill start end ≡ row → buffered new fill from end ≡ grown piece row
+row_grows old new piece fill from start end row h s e v =
+    let place : from ≡ start - length piece = omega arith in
+    let long : end - from ≡ length piece + (end - start) = omega arith in
+    let text : slice_range new from end ≡ piece ++ slice_range old start end =
+    ap (λ (x : List ℕ). take (end - from) x) e
+    ∙ (ap (λ (k : ℕ). take k (piece ++ drop start old)) long
+    ∙ take-append-add piece (drop start old) (end - start)) in
+    rw (← v, text, ← place) refl
+
+pub IsBuffered-grows : (old new piece : List ℕ) (fill from start end : ℕ) → IsAscii piece →
+    from + length piece ≡ start → take from new ≡ take from old →
+    drop from new ≡ piece ++ drop start old →
+    IsBuffered old fill start end → IsBuffered new fill from end
+IsBuffered-grows old new piece fill from start end a s t e row =
+    let high = row.ordered in
+    let first : take from old ≡ take from (take start old) = sym
+    (take-take from start old (omega arith)) in
+    record {
+      ordered = omega arith;
+      within = row.within;
+      fill_ascii = row.fill_ascii;
+      ascii = rw (← take-append-drop from new, t, e)
+          (IsAscii-append (take from old) (piece ++ drop start old)
+          (IsAscii-take old from row.ascii) (IsAscii-append piece (drop start old) a
+          (IsAscii-drop old start row.ascii)));
+      filled_before = t ∙ (first ∙ (ap (take from) row.filled_before
+          ∙ take-replicate from start fill (omega arith)));
+      filled_after =
+          let there : from + (length piece + (end - start)) ≡ end = omega arith in
+          let here : start + (end - start) ≡ end = omega arith in
+          ap (λ (k : ℕ). drop k new) (sym there)
+          ∙ (sym (drop-drop (length piece + (end - start)) from new)
+          ∙ (ap (drop (length piece + (end - start))) e
+          ∙ (drop-append-add piece (drop start old) (end - start)
+          ∙ (drop-drop (end - start) start old
+          ∙ (ap (λ (k : ℕ). drop k old) here ∙ row.filled_after)))));
+    }
+
+-- one byte more
+pub byte_in_front : (old : List ℕ) (start byte : ℕ) → 1 ≤ start → start ≤ length old →
+    drop (start - 1) (set old (start - 1) byte) ≡ (byte ∷ []) ++ drop start old
+byte_in_front old start byte h l = let n : start - 1 + 1 ≡ start = omega arith in
+    drop-set old (start - 1) byte (omega arith) ∙ ap (λ (k : ℕ). byte ∷ drop k old) n
+
+-- copies of the fill stand in front of the text already
+pub copies_in_front : (old : List ℕ) (fill count start end : ℕ) → count ≤ start →
+    start ≤ length old → IsBuffered old fill start end → drop (start - count) old ≡ replicate count fill
+    ++ drop start old
+copies_in_front old fill count start end h l row =
+    let size = length-take-le start old l in
+    let rest : start - (start - count) ≡ count = omega arith in
+    ap (drop (start - count)) (sym (take-append-drop start old))
+    ∙ (drop-append-le (start - count) (take start old) (drop start old) (omega arith)
+    ∙ ap (λ (x : List ℕ). x ++ drop start old)
+    (ap (drop (start - count)) row.filled_before
+    ∙ (drop-replicate (start - count) start fill ∙ ap (λ (k : ℕ). replicate k fill) rest)))
+
+-- and after it
+pub row_grows_after : (old : List ℕ) (fill count start end : ℕ) → end + count ≤ 128 →
+    IsBuffered old fill start end →
+    buffered old fill start (end + count) ≡ grown_after (replicate count fill)
+    (buffered old fill start end)
+row_grows_after old fill count start end h row =
+    let high = row.ordered in
+    let n = length-replicate count fill in
+    let there : start + (end - start) ≡ end = omega arith in
+    let long : end + count - start ≡ end - start + count = omega arith in
+    let room : 128 - (end + count) ≡ 128 - end - length (replicate count fill) = omega arith in
+    let after : take count (drop (end - start) (drop start old)) ≡ replicate count fill =
+    ap (take count) (drop-drop (end - start) start old
+    ∙ (ap (λ (k : ℕ). drop k old) there ∙ row.filled_after))
+    ∙ take-replicate count (128 - end) fill (omega arith) in
+    let text : slice_range old start (end + count) ≡ slice_range old start end
+    ++ replicate count fill =
+    ap (λ (k : ℕ). take k (drop start old)) long
+    ∙ (take-add (end - start) count (drop start old)
+    ∙ ap (λ (x : List ℕ). slice_range old start end ++ x) after) in
+    rw (text, room) refl
+
+pub IsBuffered-grows_after : (old : List ℕ) (fill count start end : ℕ) → end + count ≤ 128 →
+    IsBuffered old fill start end → IsBuffered old fill start (end + count)
+IsBuffered-grows_after old fill count start end h row = record {
+  ordered = let high = row.ordered in omega arith;
+  within = h;
+  fill_ascii = row.fill_ascii;
+  ascii = row.ascii;
+  filled_before = row.filled_before;
+  filled_after = sym (drop-drop count end old)
+      ∙ (ap (drop count) row.filled_after ∙ (drop-replicate count (128 - end) fill
+      ∙ ap (λ (k : ℕ). replicate k fill) (let e : 128 - end - count
+      ≡ 128 - (end + count) = omega arith in e)));
+}
+
+-- an empty row
+pub new_row : (fill : ℕ) → fill < 128 → IsBuffered (replicate 128 fill) fill 88 88
+new_row fill a = record {
+  ordered = omega arith;
+  within = omega arith;
+  fill_ascii = a;
+  ascii = IsAscii-replicate 128 fill a;
+  filled_before = take-replicate 88 128 fill (omega arith);
+  filled_after = drop-replicate 88 128 fill;
+}
+
+pub base_from_2 : (radix : Radix) → 2 ≤ base_of radix
+base_from_2 Decimal = omega arith
+base_from_2 InBinary = omega arith
+base_from_2 InOctal = omega arith
+base_from_2 InLowerHex = omega arith
+base_from_2 InUpperHex = omega arith
+
+-- a number below 2 ^ 64 has at most 64 digits
+pub short_digits : (base n : ℕ) (upper : Bool) → 2 ≤ base → n < 2 ^ 64 →
+    length (digit_text base upper n) ≤ 64
+short_digits base n upper b s = let wide : 2 ^ 64 ≤ base ^ 64 = pow-le-pow_left b 64 in
+    length-digit_text-le base 64 n upper b (omega arith) (omega arith)
+
+-- for the digits of 64 bits in base ten
+pub few_decimals : (n : ℕ) → n < 2 ^ 64 → length (digit_text 10 false n) ≤ 64
+few_decimals n s = short_digits 10 n false (omega arith) s
+
+-- the digits of 64 bits alone in a row
+pub number_row : (spec : Spec) (radix : Radix) (n : ℕ) (empty row : Buffered) (fill : ℕ) →
+    unwrap_or spec.width 0 ≤ 40 → n < 2 ^ 64 → fill ≡ fill_of spec →
+    empty ≡ record { before = 88; text = []; after = 40; fill = fill } →
+    row ≡ grown (digit_text (base_of radix) (is_upper radix) n) empty → IsNumberRow spec row
+number_row spec radix n empty row fill w s f e r =
+    let base = base_of radix in
+    let few = short_digits base n (is_upper radix) (base_from_2 radix) s in
+    let size = length-append (digit_text base (is_upper radix) n) [] in
+    rw (r, e) (record {
+      narrow = w;
+      fill = f;
+      before = omega arith;
+      front = omega arith;
+      after = refl;
+    })
+
+-- one piece in front of another
+pub grown_twice : (first second : List ℕ) (row : Buffered) → grown first (grown second row)
+    ≡ grown (first ++ second) row
+grown_twice first second row =
+    let size = length-append first second in
+    let room : row.before - length second - length first
+    ≡ row.before - length (first ++ second) = omega arith in
+    rw (room, append_assoc first second row.text) refl

@@ -1,0 +1,165 @@
+-- Exponent form in a row: digits with their point, zeros, and the exponent after its mark.
+use Rattle.std.proofs.Common.{◌≡◌, ℕ, ◌<◌, ◌≤◌, ◌+◌, ◌/◌, ◌^◌, false}
+use Rattle.std.proofs.Common.{Bool, List, [], ◌∷◌, ◌++◌, length, drop, replicate, refl, sym}
+use Rattle.std.proofs.Common.{◌∙◌, ap, arith, append-nil, append_assoc, length-append}
+use Rattle.std.proofs.Common.{Option, unwrap_or}
+use Rattle.std.specs.Fmt.{digit_glyph}
+use Rattle.std.proofs.lemmas.Bool.Decides.{nat_tests}
+use Rattle.std.proofs.lemmas.List.{length-replicate}
+use Rattle.interpolator_render.specs.Digits.{digit_text}
+use Rattle.interpolator_render.specs.declared.view.Spec.{Spec}
+use Rattle.interpolator_render.specs.Padding.{fill_of, IsNumberRow}
+use Rattle.interpolator_render.specs.Exponent.{exponent_tail, exponent_text, leading, pointed}
+use Rattle.interpolator_render.specs.Exponent.{scientific, shown_text}
+use Rattle.interpolator_render.specs.DigitBuffers.{Buffered, grown}
+use Rattle.interpolator_render.proofs.DigitLemmas.{digit_count_step, length-digit_text-le}
+use Rattle.interpolator_render.proofs.DigitLemmas.{digit_text_some, low_count, one_count}
+use Rattle.interpolator_render.proofs.DigitBufferLemmas.{grown_twice}
+
+-- ---- room
+
+pub two_digits : (n : ℕ) → n ≤ 39 → length (digit_text 10 false n) ≤ 2
+two_digits n h = length-digit_text-le 10 2 n false (omega arith) (omega arith) (omega arith)
+
+pub ruleset tail_steps = (two_digits, grown_twice)
+
+pub decimal_digits : (n : ℕ) → n < 2 ^ 128 → length (digit_text 10 false n) ≤ 39
+decimal_digits n h = length-digit_text-le 10 39 n false (omega arith) (omega arith) (omega arith)
+
+-- room for point and first digit
+pub ruleset leading_counts = (decimal_digits, low_count)
+
+-- ---- the point
+
+length-leading : (digits after : List ℕ) → length (leading digits after) ≤ length digits + 1
+length-leading [] after = omega arith
+length-leading (first ∷ []) [] = omega arith
+length-leading (first ∷ []) (next ∷ after) = omega arith
+length-leading (first ∷ second ∷ more) after = omega arith
+
+-- what stands before the zeros, and the zeros, are the digits with their point
+leading_then : (digits after : List ℕ) → 0 < length digits →
+    leading digits after ++ after ≡ pointed (digits ++ after)
+leading_then [] after h = absurd (omega arith)
+leading_then (first ∷ []) [] h = refl
+leading_then (first ∷ []) (next ∷ after) h = refl
+leading_then (first ∷ second ∷ more) after h = refl
+
+leading_more : (digits after : List ℕ) (first : ℕ) → digits ≡ first ∷ drop 1 digits →
+    1 < length digits + length after → leading digits after ≡ first ∷ 46 ∷ drop 1 digits
+leading_more [] after first e h = absurd (omega (arith, ap length e))
+leading_more (x ∷ []) [] first e h = absurd (omega arith)
+leading_more (x ∷ []) (next ∷ after) first e h = ap (λ (l : List ℕ). leading l (next ∷ after)) e
+leading_more (x ∷ second ∷ more) after first e h = ap (λ (l : List ℕ). leading l after) e
+
+leading_alone : (digits after : List ℕ) (first : ℕ) → digits ≡ first ∷ drop 1 digits →
+    length digits + length after ≡ 1 → leading digits after ≡ first ∷ []
+leading_alone [] after first e h = absurd (omega (arith, ap length e))
+leading_alone (x ∷ []) [] first e h = ap (λ (l : List ℕ). leading l []) e
+leading_alone (x ∷ []) (next ∷ after) first e h = absurd (omega arith)
+leading_alone (x ∷ second ∷ more) after first e h = absurd (omega arith)
+
+-- how many digits a number has
+pub more_digits : (n : ℕ) → 10 ≤ n → 1 < length (digit_text 10 false n)
+more_digits n h = let step = digit_count_step 10 n false (omega arith) h in
+    let some = digit_text_some 10 (n / 10) false (omega arith) in omega arith
+
+pub small_glyph : (d : ℕ) → d < 10 → digit_glyph false d ≡ 48 + d
+small_glyph d h = grind (arith, nat_tests)
+
+-- ---- the pieces, in the order in which they are written
+
+pub leading_pieces : (digits after : List ℕ) (first : ℕ) (row low point all : Buffered) →
+    first < 10 → digits ≡ digit_glyph false first ∷ drop 1 digits →
+    1 < length digits + length after → low ≡ grown (drop 1 digits) row →
+    point ≡ grown (46 ∷ []) low → all ≡ grown ((48 + first) ∷ []) point →
+    all ≡ grown (leading digits after) row
+leading_pieces digits after first row low point all h e more a b c =
+    let leads : digits ≡ (48 + first) ∷ drop 1 digits = rw (small_glyph first h) at e in
+    rw (leading_more digits after (48 + first) leads more, c, b, a)
+    (ap (grown ((48 + first) ∷ [])) (grown_twice (46 ∷ []) (drop 1 digits) row)
+    ∙ grown_twice ((48 + first) ∷ []) (46 ∷ drop 1 digits) row)
+
+pub alone_pieces : (digits after : List ℕ) (first : ℕ) (row low all : Buffered) → first < 10 →
+    digits ≡ digit_glyph false first ∷ drop 1 digits → length digits + length after ≡ 1 →
+    low ≡ grown (drop 1 digits) row → all ≡ grown ((48 + first) ∷ []) low →
+    all ≡ grown (leading digits after) row
+alone_pieces digits after first row low all h e single a b =
+    let leads : digits ≡ (48 + first) ∷ drop 1 digits = rw (small_glyph first h) at e in
+    let none : drop 1 digits ≡ [] = nothing_left digits (omega arith) in
+    rw (leading_alone digits after (48 + first) leads single, b, a)
+    (grown_twice ((48 + first) ∷ []) (drop 1 digits) row
+    ∙ ap (λ (x : List ℕ). grown ((48 + first) ∷ x) row) none)
+  where
+    nothing_left : (text : List ℕ) → length text ≤ 1 → drop 1 text ≡ []
+    nothing_left [] h = refl
+    nothing_left (x ∷ []) h = refl
+    nothing_left (x ∷ y ∷ more) h = absurd (omega arith)
+
+pub shown_pieces : (upper : Bool) (digits zeros exponent : ℕ) (row tail padded all : Buffered) →
+    tail ≡ grown (exponent_tail upper exponent) row → padded ≡ grown (replicate zeros 48) tail →
+    all ≡ grown (leading (digit_text 10 false digits) (replicate zeros 48)) padded →
+    all ≡ grown (shown_text upper digits zeros exponent) row
+shown_pieces upper digits zeros exponent row tail padded all a b c =
+    let head = leading (digit_text 10 false digits) (replicate zeros 48) in
+    let whole = leading_then (digit_text 10 false digits) (replicate zeros 48)
+    (digit_text_some 10 digits false (omega arith)) in
+    rw (c, b, a) (ap (grown head)
+    (grown_twice (replicate zeros 48) (exponent_tail upper exponent) row)
+    ∙ (grown_twice head (replicate zeros 48 ++ exponent_tail upper exponent) row
+    ∙ ap (λ (x : List ℕ). grown x row) (sym (append_assoc head (replicate zeros 48) _)
+    ∙ ap (λ (x : List ℕ). x ++ exponent_tail upper exponent) whole)))
+
+-- ---- the whole
+
+-- an exponent form alone in a row
+pub exponent_row : (spec : Spec) (digits zeros exponent : ℕ) (upper : Bool) (empty row : Buffered)
+    (fill : ℕ) → unwrap_or spec.width 0 ≤ 40 → digits < 2 ^ 128 → zeros ≤ 40 → exponent ≤ 39 →
+    fill ≡ fill_of spec → empty ≡ record { before = 88; text = []; after = 40; fill = fill } →
+    row ≡ grown (shown_text upper digits zeros exponent) empty → IsNumberRow spec row
+exponent_row spec digits zeros exponent upper empty row fill w d z s f e r =
+    let few = decimal_digits digits d in
+    let two = two_digits exponent s in
+    let n = length-replicate {A = ℕ} zeros 48 in
+    let head = leading (digit_text 10 false digits) (replicate zeros 48) in
+    let point = length-leading (digit_text 10 false digits) (replicate zeros 48) in
+    let whole = leading_then (digit_text 10 false digits) (replicate zeros 48)
+    (digit_text_some 10 digits false (omega arith)) in
+    let body = ap length whole in
+    let parts = length-append head (replicate zeros 48) in
+    let text = length-append (pointed (digit_text 10 false digits ++ replicate zeros 48))
+    (exponent_tail upper exponent) in
+    let size = length-append (shown_text upper digits zeros exponent) [] in
+    rw (r, e) (record {
+      narrow = w;
+      fill = f;
+      before = omega arith;
+      front = omega arith;
+      after = refl;
+    })
+
+-- head, zeros and tail are the whole
+pub exponent_parts : (upper : Bool) (digits count exponent : ℕ) (head tail : List ℕ) →
+    head ≡ leading (digit_text 10 false digits) (replicate count 48) →
+    tail ≡ exponent_tail upper exponent →
+    head ++ (replicate count 48 ++ tail) ≡ shown_text upper digits count exponent
+exponent_parts upper digits count exponent head tail h t =
+    let whole = leading_then (digit_text 10 false digits) (replicate count 48)
+    (digit_text_some 10 digits false (omega arith)) in
+    rw (h, t) (sym (append_assoc (leading (digit_text 10 false digits) (replicate count 48))
+    (replicate count 48) (exponent_tail upper exponent))
+    ∙ ap (λ (x : List ℕ). x ++ exponent_tail upper exponent) whole)
+
+-- a text alone in a row
+pub grown_alone : (text : List ℕ) (row empty : Buffered) → empty.text ≡ [] →
+    row ≡ grown text empty → row.text ≡ text
+grown_alone text row empty e r = ap (λ (x : Buffered). x.text) r
+    ∙ (ap (λ (x : List ℕ). text ++ x) e ∙ append-nil text)
+
+-- which the exponent form of a number is
+pub shown_exponent : (upper : Bool) (precision : Option ℕ) (n digits count exponent : ℕ) →
+    digit_text 10 false digits ++ replicate count 48 ≡ (scientific precision n).digits →
+    exponent ≡ (scientific precision n).exponent →
+    shown_text upper digits count exponent ≡ exponent_text upper precision n
+unfolding exponent_text
+shown_exponent upper precision n digits count exponent d e = rw (d, e) refl

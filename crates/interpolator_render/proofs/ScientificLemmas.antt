@@ -1,0 +1,46 @@
+-- What exponent form shows of a number, found by powers of ten and by remainders.
+use Rattle.std.proofs.Common.{◌≡◌, ◌≢◌, ℕ, ◌<◌, ◌≤◌, ◌+◌, ◌/◌, ◌%◌, ◌^◌, false}
+use Rattle.std.proofs.Common.{get_or, refl, sym, arith, inl, inr, eqb, eqb→eq}
+use Rattle.std.proofs.Common.{eq-zero-or-pos}
+use Rattle.std.specs.Fmt.{digit_glyph}
+use Rattle.interpolator_render.specs.declared.scientific.TheConstants.{POWERS}
+use Rattle.interpolator_render.specs.Digits.{digit_text}
+use Rattle.interpolator_render.specs.Exponent.{exponent_of, trimmed}
+use Rattle.interpolator_render.proofs.CountLemmas.{digits_between}
+use Rattle.interpolator_render.proofs.DigitLemmas.{digit_text_some, digit_text_step, digit_text_one}
+use Rattle.interpolator_render.proofs.DigitLemmas.{one_count}
+use Rattle.interpolator_render.proofs.DigitTableLemmas.{at_below}
+use Rattle.interpolator_render.proofs.ExponentLemmas.{trimmed_zero, trimmed_other}
+use Rattle.interpolator_render.proofs.LawLemmas.{glyph_some}
+
+-- the table of powers
+pub power_at : (i : ℕ) → i ≤ 38 → get_or POWERS i 0 ≡ 10 ^ i
+power_at i h = eqb→eq _ _ (at_below (λ n. eqb (get_or POWERS n 0) (10 ^ n)) 39 i tt (omega arith))
+
+-- the exponent between two powers
+pub exponent_found : (n e : ℕ) → (0 < e → 10 ^ e ≤ n) → n < 10 ^ (e + 1) → e ≡ exponent_of n
+exponent_found n e low high = elim (eq-zero-or-pos e) [
+  | inl none ↦ let few : n < 10 = rw none at high in
+      let one = one_count 10 n false (omega arith) few in omega arith
+  | inr some ↦ let count = digits_between n e (low some) high in omega arith
+]
+
+-- ---- the zeros at the end
+
+pub trim_zero : (n : ℕ) → 10 ≤ n → n % 10 ≡ 0 → trimmed (digit_text 10 false (n / 10))
+    ≡ trimmed (digit_text 10 false n)
+trim_zero n h z = rw (digit_text_step 10 n false (omega arith) h, z)
+    (sym (trimmed_zero (digit_text 10 false (n / 10))
+    (digit_text_some 10 (n / 10) false (omega arith))))
+
+pub trim_done : (n : ℕ) → 10 ≤ n → n % 10 ≢ 0 →
+    digit_text 10 false n ≡ trimmed (digit_text 10 false n)
+trim_done n h z = let some : 0 < n % 10 = omega (arith, z) in
+    rw (digit_text_step 10 n false (omega arith) h)
+    (sym (trimmed_other (digit_text 10 false (n / 10)) (digit_glyph false (n % 10))
+    (glyph_some (n % 10) false some)))
+
+pub trim_short : (n : ℕ) → n < 10 → digit_text 10 false n ≡ trimmed (digit_text 10 false n)
+trim_short n h = rw (digit_text_one 10 n false (omega arith) h) refl
+
+pub ruleset trims = (trim_zero, trim_done, trim_short)

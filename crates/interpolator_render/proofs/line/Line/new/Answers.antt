@@ -1,5 +1,0 @@
-use Rattle.interpolator_render.proofs.LineLemmas.{new_row}
-use Rattle.interpolator_render.proofs.line.Line.new.Goals as goal
-
-pub invariant_of-result : goal.invariant_of-result
-invariant_of-result c = new_row c.args.fill c.requires

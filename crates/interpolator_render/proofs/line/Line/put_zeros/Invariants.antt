@@ -1,9 +1,0 @@
-use Rattle.std.proofs.Common.{◌≡◌, ◌≤◌, ◌-◌, replicate}
-use Rattle.interpolator_render.specs.Rows.{grown}
-use Rattle.interpolator_render.proofs.line.Line.put_zeros.Given as goal
-
-abbrev pub invariant-loop-done : goal.invariant-loop-done
-invariant-loop-done l = (l.done ≤ l.count) × (l.self ≡ grown (replicate l.done 48) l.initial.self)
-
-abbrev pub decreases-loop-done : goal.decreases-loop-done
-decreases-loop-done l = l.count - l.done

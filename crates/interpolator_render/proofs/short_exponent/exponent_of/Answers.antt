@@ -1,7 +1,0 @@
-use Rattle.std.proofs.Common.{arith}
-use Rattle.interpolator_render.proofs.ShortExponentLemmas.{exponent_found}
-use Rattle.interpolator_render.proofs.short_exponent.exponent_of.Goals as goal
-
-pub returns-else-power-n-clause-value : goal.returns-else-power-n-clause-value
-returns-else-power-n-clause-value c = exponent_found c.args.n c.loop-exponent.exponent
-    c.loop-exponent.invariant.1 (omega arith)

@@ -1,0 +1,181 @@
+//! The arithmetic of exponent form: the digits that are shown, and the exponent.
+ghost use Rattle.std.specs.Prelude.{◌≡◌, ◌+◌, ◌/◌, ◌%◌, ◌^◌, ◌<◌, ◌≤◌, ◌++◌, false, replicate};
+ghost use Rattle.std.specs.Prelude.{unwrap_or};
+ghost use Rattle.interpolator_render.specs.Characters.{zero_digit};
+ghost use Rattle.interpolator_render.specs.Digits.{digit_text};
+ghost use Rattle.interpolator_render.specs.Exponent.{exponent_of, nearest, rounded, scientific};
+ghost use Rattle.interpolator_render.specs.Exponent.{trimmed};
+
+/// The powers of ten below 2 ^ 128.
+static POWERS: [u128; 39] = [
+    1,
+    10,
+    100,
+    1_000,
+    10_000,
+    100_000,
+    1_000_000,
+    10_000_000,
+    100_000_000,
+    1_000_000_000,
+    10_000_000_000,
+    100_000_000_000,
+    1_000_000_000_000,
+    10_000_000_000_000,
+    100_000_000_000_000,
+    1_000_000_000_000_000,
+    10_000_000_000_000_000,
+    100_000_000_000_000_000,
+    1_000_000_000_000_000_000,
+    10_000_000_000_000_000_000,
+    100_000_000_000_000_000_000,
+    1_000_000_000_000_000_000_000,
+    10_000_000_000_000_000_000_000,
+    100_000_000_000_000_000_000_000,
+    1_000_000_000_000_000_000_000_000,
+    10_000_000_000_000_000_000_000_000,
+    100_000_000_000_000_000_000_000_000,
+    1_000_000_000_000_000_000_000_000_000,
+    10_000_000_000_000_000_000_000_000_000,
+    100_000_000_000_000_000_000_000_000_000,
+    1_000_000_000_000_000_000_000_000_000_000,
+    10_000_000_000_000_000_000_000_000_000_000,
+    100_000_000_000_000_000_000_000_000_000_000,
+    1_000_000_000_000_000_000_000_000_000_000_000,
+    10_000_000_000_000_000_000_000_000_000_000_000,
+    100_000_000_000_000_000_000_000_000_000_000_000,
+    1_000_000_000_000_000_000_000_000_000_000_000_000,
+    10_000_000_000_000_000_000_000_000_000_000_000_000,
+    100_000_000_000_000_000_000_000_000_000_000_000_000,
+];
+
+/// What exponent form shows of a number: the digits of `digits`, then `zeros` zeros, and the
+/// exponent of the first digit.
+#[derive(Clone, Copy)]
+pub(crate) struct Shown {
+    pub(crate) digits: u128,
+    pub(crate) zeros: usize,
+    pub(crate) exponent: usize,
+}
+
+#[tactic(auto, using(crate::proofs::ScientificLemmas::power_at))]
+#[inline(always)]
+fn power(exponent: usize) -> u128
+    requires { exponent ≤ 38 }
+    ensures { result ≡ 10 ^ exponent }
+{
+    POWERS[exponent]
+}
+
+/// Quotient and remainder.
+///
+/// Numbers that fit 64 bits are divided as `u64`, which costs a fraction of a division of `u128`.
+#[inline(always)]
+fn divided(n: u128, unit: u128) -> (u128, u128)
+    requires { 0 < unit }
+    ensures quotient { result.0 ≡ n / unit }
+    ensures remainder { result.1 ≡ n % unit }
+{
+    if n <= 0xffff_ffff_ffff_ffff && unit <= 0xffff_ffff_ffff_ffff {
+        let (n, unit) = (n as u64, unit as u64);
+        ((n / unit) as u128, (n % unit) as u128)
+    } else {
+        (n / unit, n % unit)
+    }
+}
+
+/// The exponent of the first digit.
+#[tactic(auto, using(crate::proofs::ScientificLemmas::exponent_found))]
+#[inline(always)]
+fn exponent_of(n: u128) -> usize
+    ensures value { result ≡ exponent_of n }
+    ensures small { result ≤ 38 }
+{
+    let mut exponent = 0;
+    while exponent < 38 && power(exponent + 1) <= n {
+        exponent += 1;
+    }
+    exponent
+}
+
+/// The number nearest to `n / unit`, of two the even one.
+#[inline(always)]
+fn nearest(n: u128, unit: u128) -> u128
+    requires { 2 ≤ unit }
+    ensures { result ≡ nearest n unit }
+{
+    let (low, rest) = divided(n, unit);
+    let other = unit - rest;
+    if rest < other {
+        low
+    } else if other < rest {
+        low + 1
+    } else {
+        low + low % 2
+    }
+}
+
+/// A number without the zeros at its end.
+#[tactic(auto, using(crate::proofs::ScientificLemmas::trims))]
+#[inline(always)]
+fn trimmed(n: u128) -> u128
+    ensures { digit_text 10 false result ≡ trimmed (digit_text 10 false n) }
+{
+    let mut rest = n;
+    while rest >= 10 && divided(rest, 10).1 == 0 {
+        rest = divided(rest, 10).0;
+    }
+    rest
+}
+
+/// A number with more than `places` digits after the first, rounded to `places` of them.
+#[tactic(auto, using(crate::proofs::ExponentLemmas::pow_more))]
+#[inline(always)]
+fn rounded(n: u128, places: usize, exponent: usize) -> Shown
+    requires exponent { exponent ≡ exponent_of n }
+    requires low { exponent ≤ 38 }
+    requires fewer { places < exponent }
+    ensures digits { digit_text 10 false result.digits ≡ (rounded places n exponent).digits }
+    ensures zeros { result.zeros ≡ 0 }
+    ensures exponent { result.exponent ≡ (rounded places n exponent).exponent }
+{
+    let mantissa = nearest(n, power(exponent - places));
+    if mantissa == power(places + 1) {
+        Shown {
+            digits: power(places),
+            zeros: 0,
+            exponent: exponent + 1,
+        }
+    } else {
+        Shown {
+            digits: mantissa,
+            zeros: 0,
+            exponent,
+        }
+    }
+}
+
+/// What exponent form shows of a number at a precision.
+#[tactic(auto, using(crate::proofs::ExponentLemmas::scientific_steps))]
+#[inline(always)]
+pub(crate) fn shown_of(n: u128, precision: Option<usize>) -> Shown
+    ensures digits { digit_text 10 false result.digits ++ replicate result.zeros zero_digit
+        ≡ (scientific precision n).digits }
+    ensures exponent { result.exponent ≡ (scientific precision n).exponent }
+    ensures small { result.exponent ≤ 39 }
+{
+    let exponent = exponent_of(n);
+    match precision {
+        None => Shown {
+            digits: trimmed(n),
+            zeros: 0,
+            exponent,
+        },
+        Some(places) if places < exponent => rounded(n, places, exponent),
+        Some(places) => Shown {
+            digits: n,
+            zeros: places - exponent,
+            exponent,
+        },
+    }
+}

@@ -1,0 +1,98 @@
+-- What the scan hands on first, in pieces, and then the pieces of what stands after it.
+use Rattle.std.proofs.Common.{◌≡◌, ℕ, ◌+◌, Bool, true, false, eqb, List, [], ◌∷◌, ◌++◌}
+use Rattle.std.proofs.Common.{arith, refl, ap, ◌∙◌, subst, Option, Some, None, eqb-true}
+use Rattle.std.specs.Char.{len_utf8}
+use Rattle.std.proofs.lemmas.Bool.{cond_both}
+use Rattle.interpolator_syntax.specs.At.{At, size}
+use Rattle.interpolator_syntax.specs.Classes.{front_of, after_of, in_class, is_brace, open_brace}
+use Rattle.interpolator_syntax.specs.Classes.{close_brace}
+use Rattle.interpolator_syntax.specs.PieceGrammar.{literal_pieces, token_pieces}
+use Rattle.interpolator_syntax.specs.Pieces.{Piece, literal, Step, argument_from}
+use Rattle.interpolator_syntax.specs.Pieces.{open_step, close_step, past, pieces}
+use Rattle.interpolator_syntax.specs.Tokens.{Token, open_scan, close_scan, no_open_scan}
+use Rattle.interpolator_syntax.specs.Tokens.{scan_by, first_token, past_token}
+use Rattle.interpolator_syntax.specs.declared.class.Class.TheVariants.{Literal}
+use Rattle.interpolator_syntax.proofs.LocalityLemmas.{stands}
+use Rattle.interpolator_syntax.proofs.LongestLemmas.{at_same}
+use Rattle.interpolator_syntax.proofs.PieceLemmas.{literal_step, pieces_none, pieces_next}
+
+-- the first piece of a text, and those of what stands after it
+abbrev of_step : Step → List Piece
+of_step s = s.piece ∷ pieces s.rest
+
+-- what the scan hands on at p, and then the pieces of what stands after it
+abbrev of_scan : ℕ → Option (Token × At) → List Piece
+of_scan p None = []
+of_scan p (Some x) = token_pieces p x.0 x.1 ++ pieces (past_token x.0 x.1)
+
+-- what stands after an argument is the same wherever its brace stands
+any_rest : (q p : ℕ) (b : At) → (argument_from q b).rest ≡ (argument_from p b).rest
+unfolding argument_from
+any_rest q p b = grind arith
+
+scans_open : (p : ℕ) (cs : List ℕ) (o : Option At)
+    → of_step (open_step p (past p open_brace cs) o)
+    ≡ of_scan p (Some (open_scan (past p open_brace cs) o))
+scans_open p cs (Some rest) = refl
+scans_open p cs None =
+    let b = past p open_brace cs in
+    ap (λ r. (argument_from p b).piece ∷ pieces r) (any_rest p b.place b)
+
+scans_close : (p : ℕ) (cs : List ℕ) (o : Option At)
+    → of_step (close_step p (past p close_brace cs) o)
+    ≡ of_scan p (Some (close_scan (past p close_brace cs) o))
+scans_close p cs (Some rest) = refl
+scans_close p cs None = refl
+
+-- ---- a run of literals
+
+abbrev IsRun : ℕ → List ℕ → Type 0
+IsRun p cs =
+    pieces (stands p cs)
+    ≡ literal_pieces p (front_of (in_class Literal) cs)
+    ++ pieces (stands (p + size (front_of (in_class Literal) cs)) (after_of (in_class Literal) cs))
+
+at_end : (p : ℕ) (cs : List ℕ) → pieces (stands p cs) ≡ pieces (stands (p + 0) cs)
+at_end p cs = ap pieces (at_same (omega arith) refl)
+
+run_of : (p c : ℕ) (cs : List ℕ) (t : Bool) → is_brace c ≡ t → IsRun (p + len_utf8 c) cs
+    → IsRun p (c ∷ cs)
+run_of p c cs true h k = rw h (at_end p (c ∷ cs))
+run_of p c cs false h k =
+    let front = front_of (in_class Literal) cs in
+    let rest = after_of (in_class Literal) cs in
+    let one : Piece = record { place = p; text = c ∷ []; kind = literal c } in
+    let first = pieces_next p c cs ∙ ap of_step (literal_step p c (past p c cs) h) in
+    let there : stands (p + len_utf8 c + size front) rest ≡ stands (p + (len_utf8 c + size front)) rest =
+    at_same (omega arith) refl in
+    rw h (first ∙ ap (λ xs. one ∷ xs) (k
+    ∙ ap (λ b. literal_pieces (p + len_utf8 c) front ++ pieces b) there))
+
+run_is : (p : ℕ) (cs : List ℕ) → IsRun p cs
+run_is p [] = at_end p []
+run_is p (c ∷ cs) = run_of p c cs (is_brace c) refl (run_is (p + len_utf8 c) cs)
+
+-- ---- what the scan hands on
+
+abbrev Hands : At → Option (Token × At) → Type 0
+Hands a o = pieces a ≡ of_scan a.place o
+
+hands_at : (p : ℕ) (cs : List ℕ) → Hands (stands p cs) (first_token (stands p cs))
+unfolding first_token
+hands_at p [] = pieces_none p
+hands_at p (c ∷ cs) =
+    let a = stands p (c ∷ cs) in
+    cond_both (eqb c open_brace) _ _ (λ o. Hands a (scan_by a o))
+    (λ e. rw (eqb-true c open_brace e)
+    (pieces_next p open_brace cs ∙ scans_open p cs _))
+    (λ n. cond_both (eqb c close_brace) _ _ (λ o. Hands a (no_open_scan a o))
+    (λ e. rw (eqb-true c close_brace e)
+    (pieces_next p close_brace cs ∙ scans_close p cs _))
+    (λ d. run_is p (c ∷ cs)))
+
+pub hands_on : (a : At) (x : Token) (b : At) → first_token a ≡ Some (x, b)
+    → pieces a ≡ token_pieces a.place x b ++ pieces (past_token x b)
+hands_on a x b h = subst (Hands a) h (hands_at a.place a.text)
+
+pub hands_nothing : (a : At) → first_token a ≡ None → pieces a ≡ []
+hands_nothing a h = subst (Hands a) h (hands_at a.place a.text)

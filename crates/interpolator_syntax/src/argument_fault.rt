@@ -1,0 +1,24 @@
+//! Why no argument can be read.
+ghost use Rattle.std.specs.Prelude.{◌≡◌, ◌+◌};
+ghost use Rattle.interpolator_syntax.specs.Faults.{answer_of, argument_fault_of, fault};
+
+use crate::error::{Error, ParseError};
+
+/// Why no argument can be read. It is small and copied, as an `Error` is not.
+#[derive(Clone, Copy)]
+pub enum ArgumentFault {
+    /// The text is refused.
+    Text(ParseError),
+    /// A pointer is asked for, by a letter at this place.
+    Pointer(usize),
+}
+
+/// The fault as a caller gets it.
+pub fn error_of(broken: ArgumentFault) -> Error
+    ensures { answer_of result ≡ fault (argument_fault_of broken) }
+{
+    match broken {
+        ArgumentFault::Text(error) => Error::Parse(error),
+        ArgumentFault::Pointer(place) => Error::UnsupportedOption("p", "pointer", place),
+    }
+}

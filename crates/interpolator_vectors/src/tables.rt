@@ -1,0 +1,146 @@
+//! Tables of rows of formats, and what gives their rows: one context for each table.
+
+pub(crate) mod held;
+pub(crate) mod told;
+
+use crate::limited::Limited;
+use held::{Held, HeldList, all_items, map_of};
+use interpolator::{Formattable, Interpolate, TextBuffer, TextWrite, View};
+use std::alloc::Global;
+use std::collections::HashMap;
+use std::process::Abort;
+use std::test::Fail;
+use told::{Told, answers, told_by};
+
+/// A format, what is written of it, and what is answered.
+pub(crate) struct Row<'a> {
+    pub(crate) format: &'a str,
+    pub(crate) text: &'a str,
+    pub(crate) told: Told<'a>,
+}
+
+/// A format, how many characters the writer takes, what it then holds, and what is answered.
+pub(crate) struct RoomRow<'a> {
+    pub(crate) format: &'a str,
+    pub(crate) room: usize,
+    pub(crate) text: &'a str,
+    pub(crate) told: Told<'a>,
+}
+
+/// Rows with one context, of values and of lists.
+pub(crate) struct Table<'a> {
+    pub(crate) values: &'a [Held<'a>],
+    pub(crate) lists: &'a [HeldList<'a>],
+    pub(crate) rows: &'a [Row<'a>],
+}
+
+/// Rows of writers with little room, with one context.
+pub(crate) struct RoomTable<'a> {
+    pub(crate) values: &'a [Held<'a>],
+    pub(crate) lists: &'a [HeldList<'a>],
+    pub(crate) rows: &'a [RoomRow<'a>],
+}
+
+/// How a format is written.
+#[derive(Clone, Copy)]
+pub(crate) enum Call {
+    Text,
+    Line,
+}
+
+/// The row is given by every way to write or make a text.
+pub(crate) fn gives<'a>(
+    rt: &impl Abort,
+    alloc: Global,
+    row: &Row<'_>,
+    map: &HashMap<&'a str, Formattable<'a, View<'a>>>,
+) {
+    let mut out = TextBuffer::new(alloc);
+    let answer = map.write_to(alloc, &mut out, row.format);
+    assert_eq!(rt; told_by(&answer), row.told, "at {}", row.format);
+    assert_eq!(rt; out.as_str(), row.text, "at {}", row.format);
+    assert!(rt; !out.refused(), "at {}", row.format);
+    answers(
+        rt,
+        map.format(alloc, row.format),
+        row.told,
+        row.text,
+        row.format,
+    );
+}
+
+/// The row is given by a writer that takes no more than its room.
+fn gives_in_room<'a>(
+    rt: &impl Abort,
+    alloc: Global,
+    call: Call,
+    row: &RoomRow<'_>,
+    map: &HashMap<&'a str, Formattable<'a, View<'a>>>,
+) -> Result<(), Fail> {
+    let mut out = Limited::new(alloc, row.room)?;
+    let answer = match call {
+        Call::Text => map.write_to(alloc, &mut out, row.format),
+        Call::Line => map.write_line_to(alloc, &mut out, row.format),
+    };
+    assert_eq!(rt;
+        told_by(&answer),
+        row.told,
+        "at {} in {}",
+        row.format,
+        row.room
+    );
+    assert_eq!(rt; out.as_str(), row.text, "at {} in {}", row.format, row.room);
+    Ok(())
+}
+
+/// The rows are given.
+fn give_rows<'a>(
+    rt: &impl Abort,
+    alloc: Global,
+    rows: &[Row<'_>],
+    map: &HashMap<&'a str, Formattable<'a, View<'a>>>,
+) {
+    for row in rows {
+        gives(rt, alloc, row, map);
+    }
+}
+
+/// The rows of writers with little room are given.
+fn give_rows_in_room<'a>(
+    rt: &impl Abort,
+    alloc: Global,
+    call: Call,
+    rows: &[RoomRow<'_>],
+    map: &HashMap<&'a str, Formattable<'a, View<'a>>>,
+) -> Result<(), Fail> {
+    for row in rows {
+        gives_in_room(rt, alloc, call, row, map)?;
+    }
+    Ok(())
+}
+
+/// The rows of a table are given in its context.
+pub(crate) fn give(rt: &impl Abort, alloc: Global, table: &Table<'_>) -> Result<(), Fail> {
+    let all = all_items(alloc, table.lists)?;
+    let mut map = map_of(alloc, table.values)?;
+    for ((name, _, _), items) in table.lists.iter().zip(&all) {
+        map.insert(*name, Formattable::iter(items))?;
+    }
+    give_rows(rt, alloc, table.rows, &map);
+    Ok(())
+}
+
+/// The rows of a table of writers with little room are given in its context.
+pub(crate) fn give_in_room(
+    rt: &impl Abort,
+    alloc: Global,
+    call: Call,
+    table: &RoomTable<'_>,
+) -> Result<(), Fail> {
+    let all = all_items(alloc, table.lists)?;
+    let mut map = map_of(alloc, table.values)?;
+    for ((name, _, _), items) in table.lists.iter().zip(&all) {
+        map.insert(*name, Formattable::iter(items))?;
+    }
+    give_rows_in_room(rt, alloc, call, table.rows, &map)
+}
