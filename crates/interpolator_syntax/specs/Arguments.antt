@@ -125,7 +125,7 @@ abbrev pub with_end : Result (Argument × At) Fault → Result (Argument × ℕ)
 with_end (Ok w) = Ok (w.0, w.1.place)
 with_end (Err f) = Err f
 
--- what a caller is told of an argument; no fault of it is want of memory
+-- what a caller is told of an argument; no fault of it is refused memory
 abbrev pub argument_told : Result (code_argument.Argument × ℕ) Error
     → Result (Argument × ℕ) Answer
 argument_told (Ok w) = Ok (argument_of w.0, w.1)

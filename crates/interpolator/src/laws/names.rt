@@ -47,7 +47,7 @@ pub fn asked_names_are_those_of_the_arguments()
 /// where they show the same text under each trait and spec, or the same lack of one; and lists
 /// where their items are, one by one. Where nothing refuses, the two then have one outcome.
 ///
-/// So two contexts that hold the text `Ann` in two buffers are not told apart, nor are they by a
+/// So two contexts that hold the text `Ann` in two buffers are equal here, and so are they for a
 /// name that is not asked.
 pub fn equal_values_mean_the_same<V: Value, W: Value>()
     ensures meaning { (e : Environment V) (d : Environment W) (a : At)

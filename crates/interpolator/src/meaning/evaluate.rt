@@ -59,7 +59,7 @@ pub(crate) fn write_text<'a, W: TextWrite, C: Context>(
 }
 
 /// Writes what the argument means that begins here, after its brace. Returns what follows its
-/// closing brace. A name alone is told apart, since the compiler then knows what is asked of it.
+/// closing brace. A name alone has a branch of its own: there the compiler knows what is asked of it.
 #[cycle(evaluate)]
 #[inline(always)]
 fn write_argument<'t, 'a, W: TextWrite, C: Context>(
@@ -75,20 +75,31 @@ fn write_argument<'t, 'a, W: TextWrite, C: Context>(
     let named = take_name(here);
     match named.end.strip(b'}') {
         Some(after) => {
-            let spec = Spec::default();
-            write_value(
-                sink,
-                scope,
-                here.place,
-                named,
-                Trait::Display,
-                spec,
-                named.end.place,
-            )?;
+            write_alone(sink, scope, here.place, named)?;
             Ok(after)
         }
         None => write_asked(sink, scope, here, named),
     }
+}
+
+/// Writes the value of a name alone, for an argument that starts at `start`.
+#[inline(always)]
+fn write_alone<'a, W: TextWrite, C: Context>(
+    sink: &mut Sink<'_, W>,
+    scope: &Scope<'a, C, C::Object>,
+    start: usize,
+    named: ArgumentName<'_>,
+) -> Result<(), Error>
+    ensures writes { Writes W.written
+        (argument_means C.Object.shows (means C.Object.shows) (environment_of C.finds scope.now)
+        start (plain_argument named.entry) named.entry.end.place)
+        sink.old sink.new (answered result) }
+{
+    let Some(value) = scope.value(named.name, Trait::Display) else {
+        return Err(scope.missing(named.name, start));
+    };
+    sink.put_value(value, Trait::Display, &Spec::default(), named.end.place)?;
+    Ok(())
 }
 
 /// The same for an argument with that name and more after it.
@@ -140,7 +151,7 @@ fn write_named<'a, W: TextWrite, C: Context>(
 {
     match asked.slot {
         Trait::Iter => write_list(sink, scope, start, named, asked, end),
-        t => write_value(sink, scope, start, named, t, asked.spec, end),
+        t => write_value(sink, scope, start, named, t, &asked.spec, end),
     }
 }
 
@@ -153,18 +164,18 @@ fn write_value<'a, W: TextWrite, C: Context>(
     start: usize,
     named: ArgumentName<'_>,
     t: Trait,
-    spec: Spec,
+    spec: &Spec,
     end: usize,
 ) -> Result<(), Error>
     ensures writes { Writes W.written
         (argument_means C.Object.shows (means C.Object.shows) (environment_of C.finds scope.now)
-        start (named_argument named.entry (record { spec = spec; kind = of_value t })) end)
+        start (named_argument named.entry (record { spec = spec.now; kind = of_value t })) end)
         sink.old sink.new (answered result) }
 {
     let Some(value) = scope.value(named.name, t) else {
         return Err(scope.missing(named.name, start));
     };
-    sink.put_value(value, t, &spec, end)?;
+    sink.put_value(value, t, spec, end)?;
     Ok(())
 }
 

@@ -322,31 +322,29 @@ write_asked-returns-in-None-clause-writes g t c =
     unclosed_writes g.C.Object.Value.shows _ e (at c.args.here) _ _ read _ _
     (sym c.in-None.ensures) c.in_ok-write_named.ensures.writes
 
-pub write_argument-returns-in_err-write_value-in-Some-clause-writes :
-    goal.write_argument-returns-in_err-write_value-in-Some-clause-writes
-write_argument-returns-in_err-write_value-in-Some-clause-writes g t c =
+pub write_argument-returns-in_err-write_alone-in-Some-clause-writes :
+    goal.write_argument-returns-in_err-write_alone-in-Some-clause-writes
+write_argument-returns-in_err-write_alone-in-Some-clause-writes g t c =
     let e = environment_of g.C.Context.finds c.args.scope.now in
     let err = err_from_is_err_and c.from_residual.result c.from_residual.ensures.1 in
-    let plain : c.default-spec.result ≡ plain_spec = search rules in
     rw (err.1, err.2) (value_fault_writes g.C.Object.Value.shows _ e (at c.args.here)
     (plain_argument c.take_name-named.result) (at c.take_name-named.result.end)
     (read_alone (at c.args.here) c.take_name-named.result _ c.take_name-named.ensures.read
-    (sym c.in-Some.ensures)) _ _ _ (rw plain at c.in_err-write_value-in-Some.ensures.writes))
+    (sym c.in-Some.ensures)) _ _ _ c.in_err-write_alone-in-Some.ensures.writes)
 
-pub write_argument-returns-in_ok-write_value-in-Some-clause-writes :
-    goal.write_argument-returns-in_ok-write_value-in-Some-clause-writes
-write_argument-returns-in_ok-write_value-in-Some-clause-writes g t c =
+pub write_argument-returns-in_ok-write_alone-in-Some-clause-writes :
+    goal.write_argument-returns-in_ok-write_alone-in-Some-clause-writes
+write_argument-returns-in_ok-write_alone-in-Some-clause-writes g t c =
     let e = environment_of g.C.Context.finds c.args.scope.now in
-    let plain : c.default-spec.result ≡ plain_spec = search rules in
     closed_writes g.C.Object.Value.shows _ e (at c.args.here)
     (plain_argument c.take_name-named.result) (at c.take_name-named.result.end)
     (read_alone (at c.args.here) c.take_name-named.result _ c.take_name-named.ensures.read
     (sym c.in-Some.ensures)) _ _ _ (sym c.in-Some.ensures)
-    (rw plain at c.in_ok-write_value-in-Some.ensures.writes)
+    c.in_ok-write_alone-in-Some.ensures.writes
 
-pub write_argument-returns-in_ok-write_value-in-Some-clause-rest :
-    goal.write_argument-returns-in_ok-write_value-in-Some-clause-rest
-write_argument-returns-in_ok-write_value-in-Some-clause-rest g t c =
+pub write_argument-returns-in_ok-write_alone-in-Some-clause-rest :
+    goal.write_argument-returns-in_ok-write_alone-in-Some-clause-rest
+write_argument-returns-in_ok-write_alone-in-Some-clause-rest g t c =
     sym (closed_rest (at c.args.here) (plain_argument c.take_name-named.result)
     (at c.take_name-named.result.end) _
     (read_alone (at c.args.here) c.take_name-named.result _ c.take_name-named.ensures.read
