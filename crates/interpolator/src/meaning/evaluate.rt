@@ -59,7 +59,7 @@ pub(crate) fn write_text<'a, W: TextWrite, C: Context>(
 }
 
 /// Writes what the argument means that begins here, after its brace. Returns what follows its
-/// closing brace. A name alone has a branch of its own: there the compiler knows what is asked of it.
+/// closing brace. A name alone has a function of its own: there the compiler knows what is asked.
 #[cycle(evaluate)]
 #[inline(always)]
 fn write_argument<'t, 'a, W: TextWrite, C: Context>(
@@ -102,7 +102,8 @@ fn write_alone<'a, W: TextWrite, C: Context>(
     Ok(())
 }
 
-/// The same for an argument with that name and more after it.
+/// Writes what the argument means that begins here and has that name, with more after it. Returns
+/// what follows its closing brace.
 #[cycle(evaluate)]
 #[inline(always)]
 fn write_asked<'t, 'a, W: TextWrite, C: Context>(
