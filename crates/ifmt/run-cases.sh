@@ -76,6 +76,14 @@ all_cases() {
     wrong 'bad word: n:=x' '{n}' 'a=b' 'n:=x'
     wrong "$usage"
     wrong "$usage" '{q}' $'q=\xff'
+    # what README says of first errors
+    fault 'trait `Display` not implemented, used by format argument at 2' '{l}' 'l[]=a,b'
+    text 'a, b' '{l:i({})(, )}' 'l[]=a,b'
+    fault 'trait `LowerHex` not implemented, used by format argument at 5' '{n:#x}' 'n=255'
+    text '0xff' '{n:#x}' 'n:=255'
+    text ', , ' '{l:i(, )}' 'l[]=a,b'
+    fault 'error while parsing input: Expected `}` at 9' '{l:i(({}))}' 'l[]=a,b'
+    text '(a)(b)' '{l:i#(({}))#}' 'l[]=a,b'
     case_of closed file 3 '' '' 'Hi'
     case_of full file 3 '' '' 'Hi'
     case_of closed file 1 '' $'specified value not in context `q` at 1\n' '{q}'
