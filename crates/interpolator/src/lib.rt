@@ -39,8 +39,8 @@ pub use context_map::{ContextMap, NameMap};
 pub use escaping::escape;
 pub use interpolate::Interpolate;
 pub use interpolator_render::{
-    Alignment, Bits, HexDebug, Refusal, RenderFault, Sign, Spec, TextBuffer, TextWrite, Trait,
-    Value, View, pad, render,
+    Alignment, Bits, Bounded, HexDebug, Refusal, RenderFault, Sign, Spec, TextBuffer, TextWrite,
+    Trait, Value, View, pad, render,
 };
 pub use interpolator_syntax::{
     Argument, Error, Group, Kind, NumberError, ParseError, Range, parse_argument,

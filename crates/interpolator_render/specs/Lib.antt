@@ -1,5 +1,6 @@
 -- The definitions that the contracts cite.
 pub mod Written
+pub mod Bounds
 pub mod Views
 pub mod Characters
 pub mod Layout

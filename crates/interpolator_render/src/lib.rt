@@ -4,8 +4,9 @@
 //! [`Trait`] says in which way (display, debug, a base, an exponent form), and a [`Spec`] with which
 //! flags, to which width and at which precision, as the text after the colon of a format string
 //! does in Rust. [`render`] appends the text of a view to a writer, and [`pad`] a text as display
-//! shows it. A writer is any type with [`TextWrite`]; [`TextBuffer`] is one over a `String`. A type
-//! of one's own becomes writable by [`Value`], which says what it shows.
+//! shows it. A writer is any type with [`TextWrite`]; [`TextBuffer`] is one over a `String`, and
+//! [`Bounded`] one that takes at most so many bytes. A type of one's own becomes writable by
+//! [`Value`], which says what it shows.
 //!
 //! ```text
 //! let mut out = TextBuffer::new(rt.alloc());
@@ -16,9 +17,10 @@
 //!
 //! The contracts pin the texts. Read on at [`render`], at the laws of [`laws`], and in the
 //! definitions of `specs/`, of which `Texts` is the first. Nothing here takes memory but a
-//! `TextBuffer`, from the allocator that it was made with.
+//! `TextBuffer` and a `Bounded`, each from the allocator that it was made with.
 #![tactic(auto)]
 
+mod bounded;
 mod characters;
 mod conversions;
 mod digit_buffer;
@@ -39,6 +41,7 @@ mod text_write;
 mod value;
 mod view;
 
+pub use bounded::Bounded;
 pub use rendering::{pad, render};
 pub use text_buffer::TextBuffer;
 pub use text_write::{Refusal, TextWrite};

@@ -90,7 +90,7 @@ impl TextBuffer {
 
 /// Appends a text to a buffer's, or sets the flag and changes nothing else.
 #[inline(always)]
-fn append(held: &mut String, refused: &mut bool, text: &str) -> Result<(), Refusal>
+pub(crate) fn append(held: &mut String, refused: &mut bool, text: &str) -> Result<(), Refusal>
     ensures ok { OnOk result ((string_bytes held.new ≡ string_bytes held.old ++ text.now)
         × (refused.old ≡ false) × (refused.new ≡ false)) }
     ensures err { OnErr result ((string_bytes held.new ≡ string_bytes held.old)
@@ -114,7 +114,7 @@ fn append(held: &mut String, refused: &mut bool, text: &str) -> Result<(), Refus
 
 /// The same of a character.
 #[inline(always)]
-fn append_char(held: &mut String, refused: &mut bool, c: char) -> Result<(), Refusal>
+pub(crate) fn append_char(held: &mut String, refused: &mut bool, c: char) -> Result<(), Refusal>
     ensures ok { OnOk result ((string_bytes held.new ≡ string_bytes held.old ++ encode_utf8 c)
         × (refused.old ≡ false) × (refused.new ≡ false)) }
     ensures err { OnErr result ((string_bytes held.new ≡ string_bytes held.old)

@@ -3,6 +3,8 @@
 
 #[cfg(test)]
 mod arguments;
+#[cfg(test)]
+mod bounded;
 pub mod cells;
 #[cfg(test)]
 mod choices;

@@ -1,0 +1,68 @@
+use Rattle.std.proofs.Common.{◌≡◌, ◌-◌, ap, sym, refl, ◌∙◌, length, arith, rules, string_bytes}
+use Rattle.std.proofs.Common.{chars}
+use Rattle.std.proofs.lemmas.Str.{IsUtf8-string_bytes, encodes-chars}
+use Rattle.interpolator_render.specs.Bounds.{BoundedText, bounded_writer}
+use Rattle.interpolator_render.proofs.WrittenLemmas.{appends_nothing, buffer_writes, chars_nonempty}
+use Rattle.interpolator_render.proofs.BoundLemmas.{refused_under_bound, within_after, within_bound}
+use Rattle.interpolator_render.proofs.BoundLemmas.{beginning_refused, refused_over_bound}
+use Rattle.interpolator_render.proofs.BoundLemmas.{within_beginning}
+use Rattle.interpolator_render.proofs.bounded.BoundedTextWrite.write_str.Goals as goal
+
+pub returns-then-is_empty-clause-written : goal.returns-then-is_empty-clause-written
+returns-then-is_empty-clause-written c = appends_nothing _ _ (search rules)
+
+pub returns-then-is_empty-clause-within : goal.returns-then-is_empty-clause-within
+returns-then-is_empty-clause-within c =
+    within_bound _ (string_bytes c.self.inside.text) _ _ _ (IsUtf8-string_bytes c.self.inside.text)
+    c.self.view_is c.self.invariant
+
+pub returns-then-text-left-clause-written : goal.returns-then-text-left-clause-written
+returns-then-text-left-clause-written c = let put = c.append in
+    buffer_writes _ (string_bytes c.self.inside.text) _ c.args.text.now _ c.self.inside.refused _
+    put.result (IsUtf8-string_bytes c.self.inside.text) (ap bounded_writer c.self.view_is) refl
+    (chars_nonempty c.args.text.now c.utf8.text (search rules)) put.ensures.ok put.ensures.err
+    put.ensures.taken
+
+pub returns-then-text-left-clause-why : goal.returns-then-text-left-clause-why
+returns-then-text-left-clause-why c = let put = c.append in
+    let held : c.len.result ≡ length (string_bytes c.self.inside.text) = search rules in
+    let within = c.self.invariant in
+    let fits = c.if-text-left.true in
+    refused_under_bound _ _ (string_bytes c.self.inside.text) _ c.self.inside.refused _ _ _ _
+    (length c.args.text.now) put.result (IsUtf8-string_bytes c.self.inside.text)
+    (ap length (sym (encodes-chars c.args.text.now c.utf8.text))) c.self.view_is (omega arith)
+    put.ensures.err put.ensures.full
+
+pub returns-then-text-left-clause-within : goal.returns-then-text-left-clause-within
+returns-then-text-left-clause-within c = let put = c.append in
+    let held : c.len.result ≡ length (string_bytes c.self.inside.text) = search rules in
+    let within = c.self.invariant in
+    let fits = c.if-text-left.true in
+    within_after (string_bytes c.self.inside.text) c.args.text.now _ c.self.inside.refused _ _
+    put.result (IsUtf8-string_bytes put.new.held) (omega arith) put.ensures.ok put.ensures.err
+
+pub returns-clause-written : goal.returns-clause-written
+returns-clause-written c = let put = c.append_beginning in
+    let over = c.if-text-left.false in let fits = put.ensures.fits in
+    beginning_refused _ _ (string_bytes c.self.inside.text) c.args.text.now put.result.taken
+    (IsUtf8-string_bytes c.self.inside.text) c.utf8.text
+    (sym (ap (λ (b : BoundedText). b.text) c.self.view_is)) (ap chars put.ensures.bytes)
+    put.ensures.flag put.ensures.boundary (omega arith)
+    (λ h. put.ensures.none (ap (λ (b : BoundedText). b.refused) c.self.view_is ∙ h))
+
+pub returns-clause-why : goal.returns-clause-why
+returns-clause-why c = let put = c.append_beginning in
+    let held : c.len.result ≡ length (string_bytes c.self.inside.text) = search rules in
+    let within = c.self.invariant in
+    refused_over_bound _ (string_bytes c.self.inside.text) _ c.args.text.now
+    c.self.inside.refused _ _ _ _ put.result.taken _ (IsUtf8-string_bytes c.self.inside.text)
+    c.utf8.text c.self.view_is put.ensures.bytes (omega arith) put.ensures.boundary
+    put.ensures.fits (omega arith) put.ensures.longest
+
+pub returns-clause-within : goal.returns-clause-within
+returns-clause-within c = let put = c.append_beginning in
+    let held : c.len.result ≡ length (string_bytes c.self.inside.text) = search rules in
+    let within = c.self.invariant in
+    within_beginning (string_bytes c.self.inside.text) _ c.args.text.now _ put.result.taken
+    (c.self.inside.most - c.len.result) (IsUtf8-string_bytes put.new.held) put.ensures.bytes
+    (omega arith) put.ensures.fits (omega arith)
