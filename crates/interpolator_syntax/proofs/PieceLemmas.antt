@@ -6,15 +6,7 @@ use Rattle.std.proofs.lemmas.List.{append_cancel_right}
 use Rattle.interpolator_syntax.specs.At.{At, at, strip, strip_of}
 use Rattle.interpolator_syntax.specs.Classes.{after_of, open_brace, close_brace, is_brace}
 use Rattle.interpolator_syntax.specs.Arguments.{Argument, argument_at, argument_after}
-use Rattle.interpolator_syntax.specs.Arguments.{plain_argument, asked_at, asked_read, list_of}
-use Rattle.interpolator_syntax.specs.Arguments.{argument_read, kind_of_asked, kind_under}
-use Rattle.interpolator_syntax.specs.SpecTexts.{of_value, of_list}
-use Rattle.interpolator_syntax.specs.declared.argument.Asked.{Asked}
-use Rattle.interpolator_syntax.specs.declared.argument_fault.ArgumentFault.{ArgumentFault}
-use Rattle.interpolator_render.specs.declared.view.Trait.{Trait}
-use Rattle.interpolator_render.specs.declared.view.Trait.TheVariants.{Binary, Debug, Display}
-use Rattle.interpolator_render.specs.declared.view.Trait.TheVariants.{LowerExp, LowerHex, Octal}
-use Rattle.interpolator_render.specs.declared.view.Trait.TheVariants.{UpperExp, UpperHex, Iter}
+use Rattle.interpolator_syntax.specs.Arguments.{plain_argument}
 use Rattle.interpolator_syntax.specs.declared.argument.ArgumentName.{ArgumentName}
 use Rattle.interpolator_syntax.specs.Pieces.{Step, argument_from, piece_from, past, pieces_within}
 use Rattle.interpolator_syntax.specs.Pieces.{pieces, step, literal, argument_or_broken, text_up_to}
@@ -119,30 +111,3 @@ pub read_alone : (a : At) (n : ArgumentName) (r : At)
     → argument_at a ≡ argument_after a.place (plain_argument n) (at n.end)
     → strip close_brace (at n.end) ≡ Some r → argument_at a ≡ Ok (plain_argument n, at n.end)
 read_alone a n r named closed = named ∙ rw closed refl
-
--- what is asked after a name, where no closing brace follows it
-pub read_asked :
-    (a : At) (n : ArgumentName) (result : Result (Unit {0}) ArgumentFault) (x : Asked) (q : At)
-    → argument_at a ≡ argument_after a.place (plain_argument n) (at n.end)
-    → asked_read result x q ≡ asked_at a.place (at n.end)
-    → argument_read n result x q ≡ argument_at a
-read_asked a n (Ok u) x q named read = sym (named ∙ rw (sym read) refl)
-read_asked a n (Err broken) x q named read = sym (named ∙ rw (sym read) refl)
-
--- `Iter` asks for a list, and each other trait for a value
-pub asks_list : (x : Asked) → x.slot ≡ Iter → kind_of_asked x ≡ of_list (list_of x.list)
-asks_list x e = rw e refl
-
-pub asks_value : (x : Asked) → ¬ (x.slot ≡ Iter) → kind_of_asked x ≡ of_value x.slot
-asks_value x other = by_slot x.slot other
-  where
-    by_slot : (t : Trait) → ¬ (t ≡ Iter) → kind_under t (list_of x.list) ≡ of_value t
-    by_slot Iter h = absurd (h refl)
-    by_slot Binary h = refl
-    by_slot Debug h = refl
-    by_slot Display h = refl
-    by_slot LowerExp h = refl
-    by_slot LowerHex h = refl
-    by_slot Octal h = refl
-    by_slot UpperExp h = refl
-    by_slot UpperHex h = refl

@@ -1,13 +1,12 @@
 -- What is written to a sink, one after another.
 use Rattle.std.proofs.Common.{◌≡◌, refl, ◌∙◌, ℕ, List, [], Option, None, Some, option_map, false}
-use Rattle.std.proofs.Common.{inl, inr, arith, ◌⊎◌}
+use Rattle.std.proofs.Common.{inl, inr, arith}
 use Rattle.interpolator_render.specs.declared.view.Spec.{Spec}
 use Rattle.interpolator_render.proofs.LayoutLemmas.{appends_none}
 use Rattle.interpolator_render.specs.Written.{Written}
 use Rattle.interpolator_syntax.specs.At.{text_of}
 use Rattle.interpolator_syntax.specs.Faults.{Fault, Answer, fault, no_memory}
 use Rattle.interpolator.specs.Meaning.Meanings.{Meaning, nothing, fault_alone, made_whole, joined}
-use Rattle.interpolator.specs.Meaning.Meanings.{fault_wanting_memory}
 use Rattle.interpolator.specs.Meaning.Outcomes.{Outcome}
 use Rattle.interpolator.specs.Meaning.Sinks.{SameSink, SinkState, sink_state, target, StaysBy}
 use Rattle.interpolator.specs.Meaning.Sinks.{Evaluates, Writes, seen}
@@ -73,29 +72,6 @@ same_sink s = record { out = refl; aside = refl }
 
 pub same_then : {W : Type 0} (s t u : code_sink.Sink W) → SameSink s t → SameSink t u → SameSink s u
 same_then s t u h k = record { out = k.out ∙ h.out; aside = k.aside ∙ h.aside }
-
--- a fault that takes memory, or none was had
-pub wanting_memory :
-    {W : Type 0} (written : W → Written) (f : Fault) (s : code_sink.Sink W) (answer : Answer)
-    → (answer ≡ fault f) ⊎ (answer ≡ no_memory)
-    → Writes written (fault_wanting_memory f) s s (Some answer)
-wanting_memory written f s answer (inl told) =
-    record { evaluates = rw told (stops _ _ _ refl refl); same = same_sink s }
-wanting_memory written f s answer (inr told) = record {
-  evaluates = record {
-    outcome =
-        inr (inr (record {
-          front = [];
-          back = [];
-          split = refl;
-          point = (0, omega arith, refl);
-          begun = appends_none (target (seen written s));
-          told = rw told refl;
-        }));
-    other = stays_same (seen written s).aside (seen written s).out;
-  };
-  same = same_sink s;
-}
 
 -- after what was written so far, with which the whole goes on
 pub goes_on :
