@@ -11,7 +11,7 @@ use Rattle.std.proofs.lemmas.List.{replicate-append-replicate, length-replicate,
 use Rattle.std.proofs.lemmas.Grind.{flat_map-append}
 use Rattle.interpolator_render.specs.declared.text_write.Refusal.{Refusal}
 use Rattle.interpolator_render.specs.Written.{Written, byte_count, Appends, AppendsBeginning}
-use Rattle.interpolator_render.specs.Written.{Refuses, RefusesLong, Puts, Writes}
+use Rattle.interpolator_render.specs.Written.{Refuses, RefusesLong, RefusesWhole, Puts, Writes}
 
 -- nothing was written
 pub appends_none : (a : Written) → Appends a [] a
@@ -184,3 +184,19 @@ bytes_of_character c = let n = length-append (encode_utf8 c) [] in let k = lengt
 
 -- for one call of a writer
 pub ruleset one_write = (puts_from_write, byte_count-chars, bytes_of_character, chars-IsAscii)
+
+-- a text that is not empty was refused whole
+pub refused_whole : (a b : Written) (t : List ℕ) (r : Refusal) → 0 < length t
+    → RefusesWhole a r.taken b → Puts a t (Err r) b
+refused_whole a b t r l h = record {
+  part = record {
+    beginning = [];
+    rest = t;
+    parts = refl;
+    not_whole = l;
+    appended = rw h.1 (sym (append-nil a.text));
+    flag_set = rw h.1 refl;
+    none_after_refusal = λ _. refl;
+  };
+  counted = rw h.0 refl;
+}

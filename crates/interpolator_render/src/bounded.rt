@@ -1,7 +1,7 @@
 //! A writer over a `String` that takes at most so many bytes.
 ghost use Rattle.std.specs.Prelude.{◌≡◌, ℕ, ◌+◌, ◌<◌, ◌≤◌, ◌++◌, ◌∷◌, [], ◌⊎◌, true, false};
 ghost use Rattle.std.specs.Prelude.{length, take, string_bytes, string_capacity};
-ghost use Rattle.std.specs.Prelude.{MatchResult, OnErr};
+ghost use Rattle.std.specs.Prelude.{MatchResult, OnErr, Some};
 ghost use Rattle.std.specs.Str.{chars, IsCharBoundary};
 ghost use Rattle.interpolator_render.specs.Written.{Appends, Refuses};
 ghost use Rattle.interpolator_render.specs.Bounds.{bounded_writer, bytes_left};
@@ -163,5 +163,11 @@ impl TextWrite for Bounded {
 
     fn refused(&self) -> bool {
         self.refused
+    }
+
+    fn room(&self) -> Option<usize>
+        ensures left { result ≡ Some (bytes_left self.now) }
+    {
+        Some(self.left())
     }
 }

@@ -98,6 +98,7 @@ fn put_copies<W: TextWrite>(out: &mut W, c: char, run: &str, count: usize) -> Re
     if count <= RUN {
         return put_few(out, c, run, count);
     }
+    out.reserve(count)?;
     put_runs(out, c, run, count)
 }
 

@@ -4,7 +4,7 @@ ghost use Rattle.std.specs.Prelude.{encode_utf8, string_bytes, string_capacity};
 ghost use Rattle.std.specs.Prelude.{MatchResult, OnOk, OnErr};
 ghost use Rattle.std.specs.Str.{chars};
 ghost use Rattle.interpolator_render.specs.Written.{Appends, Refuses, RefusesWhole};
-ghost use Rattle.interpolator_render.specs.Written.{as_writer, MayRefuse};
+ghost use Rattle.interpolator_render.specs.Written.{as_writer, byte_count, MayRefuse};
 
 use crate::text_write::{Refusal, TextWrite};
 use std::alloc::Global;
@@ -172,5 +172,20 @@ impl TextWrite for TextBuffer {
 
     fn refused(&self) -> bool {
         self.refused
+    }
+
+    fn reserve(&mut self, bytes: usize) -> Result<(), Refusal>
+        ensures written { MatchResult result (λ _. as_writer self.new ≡ as_writer self.old)
+            (λ refusal. RefusesWhole (as_writer self.old) refusal.taken (as_writer self.new)) }
+        ensures full { OnErr result (self.old.room < byte_count self.old.text + bytes) }
+        ensures room { self.old.room ≤ self.new.room }
+    {
+        match self.text.reserve(bytes) {
+            Ok(()) => Ok(()),
+            Err(_) => {
+                self.refused = true;
+                Err(Refusal { taken: 0 })
+            }
+        }
     }
 }

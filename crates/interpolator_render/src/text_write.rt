@@ -1,7 +1,7 @@
 //! Writers of text, which may refuse what they are given.
 ghost use Rattle.std.specs.Prelude.{◌≡◌, ◌∷◌, [], MatchResult};
 ghost use Rattle.std.specs.Str.{chars};
-ghost use Rattle.interpolator_render.specs.Written.{Written, Appends, Refuses};
+ghost use Rattle.interpolator_render.specs.Written.{Written, Appends, Refuses, RefusesWhole};
 
 /// A writer's refusal: it did not take the whole of a text.
 #[derive(Clone, Copy, Debug, PartialEq, Eq)]
@@ -35,4 +35,22 @@ pub trait TextWrite {
     /// Whether the writer has refused a text.
     fn refused(&self) -> bool
         ensures { result ≡ (written self.now).refused };
+
+    /// Makes room for so many bytes of a text that comes next, or refuses that text whole. A writer
+    /// that knows of no such thing answers `Ok`, and refuses the text itself where it has to.
+    ///
+    /// So a width of more spaces than there is memory for is answered before any of them is written.
+    #[inline(always)]
+    fn reserve(&mut self, _bytes: usize) -> Result<(), Refusal>
+        ensures { MatchResult result (λ _. written self.new ≡ written self.old)
+            (λ refusal. RefusesWhole (written self.old) refusal.taken (written self.new)) }
+    {
+        Ok(())
+    }
+
+    /// How many bytes the writer could still take at most, if it knows. A text that is made in a
+    /// buffer before it is written gets no more memory than this.
+    fn room(&self) -> Option<usize> {
+        None
+    }
 }

@@ -17,6 +17,7 @@ pub mod GrammarPieceLemmas
 pub mod GrammarSpecLemmas
 pub mod GrammarTraitLemmas
 pub mod GroupLemmas
+pub mod GuardLemmas
 pub mod ListReaderLemmas
 pub mod LocalityLemmas
 pub mod LongestLemmas

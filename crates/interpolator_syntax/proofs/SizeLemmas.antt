@@ -1,7 +1,7 @@
 -- The pieces of a text, and the groups of its arguments, lie in it; the groups are shorter.
 use Rattle.std.proofs.Common.{◌≡◌, ℕ, ◌+◌, ◌<◌, ◌≤◌, eqb, List, [], ◌∷◌, ◌++◌, length, arith}
 use Rattle.std.proofs.Common.{refl, ap, append_assoc, Result, Ok, Err, Option, Some, None, ◌||◌}
-use Rattle.std.proofs.Common.{subst}
+use Rattle.std.proofs.Common.{subst, sym, ◌∙◌}
 use Rattle.std.specs.Prelude.{⊤}
 use Rattle.std.proofs.lemmas.List.{append-nil, length-append}
 use Rattle.interpolator_render.specs.declared.view.Trait.{Trait}
@@ -13,7 +13,7 @@ use Rattle.interpolator_syntax.specs.Classes.{is_alignment, close_brace, open_br
 use Rattle.interpolator_syntax.specs.Classes.{open_bracket, zero_digit}
 use Rattle.interpolator_syntax.specs.Readers.{span, Reader, on, ◌>>=◌, give, here}
 use Rattle.interpolator_syntax.specs.Groups.{Group, group_at, if_bracket, group_if}
-use Rattle.interpolator_syntax.specs.GroupGrammar.{IsGroup}
+use Rattle.interpolator_syntax.specs.GroupGrammar.{IsGroup, open_text, close_text}
 use Rattle.interpolator_syntax.specs.Lists.{ListAsked, list_at}
 use Rattle.interpolator_syntax.specs.SpecTexts.{Kind, of_value, of_list, Asked, alignment_letter}
 use Rattle.interpolator_syntax.specs.SpecTexts.{sign_letter, kind_at, spec_parts}
@@ -40,8 +40,12 @@ use Rattle.interpolator_syntax.proofs.CaseLemmas.{in_both}
 
 -- ---- groups in a text
 
--- a group lies in the text at a, and is shorter
+-- a group stands in the text at a, at its place, and is shorter
 pub record GroupIn (g : Group) (a : At) : Type 0 where
+  pub front : List ℕ
+  pub back : List ℕ
+  pub split : a.text ≡ front ++ (g.text ++ back)
+  pub place : g.place ≡ a.place + size front
   pub shorter : length g.text < length a.text
   pub lies : g.place + size g.text ≤ a.place + size a.text
 
@@ -63,6 +67,12 @@ KindIn (of_list l) a = ListIn l a
 -- what lies after a front of a text lies in the text
 group_grows : (g : Group) (a b : At) → Takes a b → GroupIn g b → GroupIn g a
 group_grows g a b t h = record {
+  front = t.front ++ h.front;
+  back = h.back;
+  split =
+      t.split ∙ ap (λ xs. t.front ++ xs) h.split
+      ∙ sym (append_assoc t.front h.front (g.text ++ h.back));
+  place = omega (arith, h.place, t.place, size-append t.front h.front);
   shorter = omega (arith, h.shorter, takes_shorter a b t);
   lies = omega (arith, h.lies, takes_reaches _ a b t refl);
 }
@@ -80,6 +90,10 @@ kind_grows (of_list l) a b t h = record {
 
 group_in : (b : At) (g : Group) (q : At) → IsGroup b g q → GroupIn g b
 group_in b g q h = record {
+  front = open_text h.k;
+  back = close_text h.k ++ q.text;
+  split = h.split;
+  place = h.place;
   shorter = omega (arith, ap length h.split, length-append {A = ℕ});
   lies = omega (arith, h.place, ap size h.split, size-append);
 }

@@ -8,6 +8,7 @@ ghost use Rattle.interpolator_syntax.specs.Arguments.{argument_at, argument_afte
 ghost use Rattle.interpolator_syntax.specs.Arguments.{IsPlain, asked_at, asked_read, taken_read};
 ghost use Rattle.interpolator_syntax.specs.Arguments.{kind_of, kind_of_asked, argument_told};
 ghost use Rattle.interpolator_syntax.specs.Arguments.{answering, with_end, from_byte};
+ghost use Rattle.interpolator_syntax.specs.Arguments.{argument_of, named_argument, asked_of};
 
 use crate::argument_fault::{ArgumentFault, error_of};
 use crate::class::Class;
@@ -185,6 +186,18 @@ fn kind_asked(asked: Asked<'_>) -> Kind<'_>
     }
 }
 
+/// An argument that was read, as [`parse_argument`] answers it.
+pub fn argument_of<'a>(taken: &TakenArgument<'a>) -> Argument<'a>
+    ensures { argument_of result ≡ named_argument taken.now.name (asked_of taken.now.asked) }
+{
+    Argument {
+        name: taken.name.name,
+        name_place: taken.name.place,
+        spec: taken.asked.spec,
+        kind: kind_asked(taken.asked),
+    }
+}
+
 /// Reads the argument that starts at byte `start` of the text, after its opening brace.
 ///
 /// Answers the argument, and the byte after its spec, where its closing brace should stand. No
@@ -210,14 +223,6 @@ pub fn parse_argument(text: &str, start: usize) -> Result<(Argument<'_>, usize),
     let (_, rest) = text.split_at(start);
     match take_argument(Cursor { place: start, rest }) {
         Err(fault) => Err(error_of(fault)),
-        Ok(taken) => {
-            let argument = Argument {
-                name: taken.name.name,
-                name_place: taken.name.place,
-                spec: taken.asked.spec,
-                kind: kind_asked(taken.asked),
-            };
-            Ok((argument, taken.end.place))
-        }
+        Ok(taken) => Ok((argument_of(&taken), taken.end.place)),
     }
 }

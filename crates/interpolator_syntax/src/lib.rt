@@ -34,8 +34,8 @@ mod token;
 mod unstyled;
 
 pub use argument::{
-    Argument, ArgumentName, Asked, Kind, TakenArgument, parse_argument, take_argument, take_asked,
-    take_name,
+    Argument, ArgumentName, Asked, Kind, TakenArgument, argument_of, parse_argument, take_argument,
+    take_asked, take_name,
 };
 pub use argument_fault::{ArgumentFault, error_of};
 pub use bracket::text_before;

@@ -1,0 +1,205 @@
+-- Where the groups of an argument begin: after a `:` and the letter of a list, in the text.
+use Rattle.std.proofs.Common.{◌≡◌, ℕ, ◌+◌, ◌≤◌, List, ◌∷◌, [], ◌++◌, length, arith, ap}
+use Rattle.std.proofs.Common.{Bool, subst, sym, ◌∙◌, Ok, Option, Some, None, inl, inr, append_assoc}
+use Rattle.std.specs.Prelude.{⊤}
+use Rattle.std.proofs.lemmas.List.{length-append}
+use Rattle.interpolator_render.specs.declared.view.Trait.{Trait}
+use Rattle.interpolator_render.specs.declared.view.Trait.TheVariants as traits
+use Rattle.interpolator_render.specs.declared.view.Alignment.TheVariants as alignments
+use Rattle.interpolator_render.specs.declared.view.HexDebug.{HexDebug}
+use Rattle.interpolator_render.specs.declared.view.HexDebug.TheVariants as hex_debugs
+use Rattle.interpolator_render.specs.declared.view.Sign.TheVariants as signs
+use Rattle.interpolator_syntax.specs.At.{At}
+use Rattle.interpolator_syntax.specs.Classes.{hash, zero_digit, colon}
+use Rattle.interpolator_syntax.specs.Arguments.{Argument, argument_at}
+use Rattle.interpolator_syntax.specs.ArgumentGrammar.{Asks, asked}
+use Rattle.interpolator_syntax.specs.Groups.{Group}
+use Rattle.interpolator_syntax.specs.GroupGrammar.{IsGroup}
+use Rattle.interpolator_syntax.specs.GrammarParts.{Part, Lies}
+use Rattle.interpolator_syntax.specs.ListGrammar.{group_there, IsList}
+use Rattle.interpolator_syntax.specs.Lists.{ListAsked}
+use Rattle.interpolator_syntax.specs.Readers.{Reader}
+use Rattle.interpolator_syntax.specs.SpecGrammar.{kind, parts, shown, trait_text, IsSpec}
+use Rattle.interpolator_syntax.specs.SpecTexts.{Kind, of_value, of_list, Asked, Wanted}
+use Rattle.interpolator_syntax.specs.SpecTexts.{alignment_letter, sign_letter}
+use Rattle.interpolator_syntax.proofs.CaseLemmas.{none_some, some_same}
+use Rattle.interpolator_syntax.proofs.GrammarArgumentLemmas.{argument_is}
+use Rattle.interpolator_syntax.proofs.GrammarGroupLemmas.{only_group}
+use Rattle.interpolator_syntax.proofs.GrammarListLemmas.{only_range}
+use Rattle.interpolator_syntax.proofs.GrammarOptionLemmas.{agrees_width, agrees_precision}
+use Rattle.interpolator_syntax.proofs.GrammarPartLemmas.{Agrees, agrees_letter, agrees_flag}
+use Rattle.interpolator_syntax.proofs.ListReaderLemmas.{reads_range, reads_group}
+use Rattle.interpolator_syntax.proofs.LocalityLemmas.{Takes, takes_none, takes_then, Reads}
+use Rattle.interpolator_syntax.proofs.LocalityLemmas.{size-append, takes_shorter}
+use Rattle.interpolator_syntax.proofs.ReaderLemmas.{reads_width, reads_precision}
+use Rattle.interpolator_syntax.proofs.SimpleReaderLemmas.{reads_letter, reads_flag}
+
+-- a group begins in the text at a, after that many characters of it or more
+pub record BeginsAfter (n : ℕ) (g : Group) (a : At) : Type 0 where
+  pub opens : At
+  pub closed : At
+  pub is : IsGroup opens g closed
+  pub takes : Takes a opens
+  pub far : n + length opens.text ≤ length a.text
+
+-- so it does, where it stands
+abbrev pub GroupAfter : (n : ℕ) → Option Group → At → Type 0
+GroupAfter n None a = ⊤
+GroupAfter n (Some g) a = BeginsAfter n g a
+
+-- the groups of what an argument asks for
+abbrev pub KindAfter : (n : ℕ) → Kind → At → Type 0
+KindAfter n (of_value t) a = ⊤
+KindAfter n (of_list l) a = GroupAfter n l.item a × GroupAfter n l.join a
+
+-- ---- what stands after a front
+
+-- it is no longer
+no_longer : (a b : At) → Takes a b → 0 + length b.text ≤ length a.text
+no_longer a b t = omega (arith, takes_shorter a b t)
+
+module _ (m n : ℕ) (a b : At) (t : Takes a b) (far : n + length b.text ≤ length a.text) where
+  group_grows : (o : Option Group) → GroupAfter m o b → GroupAfter (m + n) o a
+  group_grows None h = tt
+  group_grows (Some g) h = record {
+    opens = h.opens;
+    closed = h.closed;
+    is = h.is;
+    takes = takes_then a b h.opens t h.takes;
+    far = omega (arith, h.far, far);
+  }
+
+  kind_grows : (k : Kind) → KindAfter m k b → KindAfter (m + n) k a
+  kind_grows (of_value t) h = tt
+  kind_grows (of_list l) h = (group_grows l.item h.0, group_grows l.join h.1)
+
+-- what a part takes is a front of the text, as what its reader takes
+part_takes : {A : Type 0} (start : ℕ) (read : Reader A) (part : Part A) → Agrees read part
+    → Reads start read → (a : At) (x : A) (q : At) → part.is a x q → Takes a q
+part_takes start read part h r a x q is = r.takes a x q (h.only a q x is)
+
+lies_takes : (a : At) (cs : List ℕ) (q : At) → Lies a cs q → Takes a q
+lies_takes a cs q h = record { front = cs; split = h.split; place = h.place }
+
+-- ---- lists
+
+module _ (start : ℕ) where
+  group_after : (a : At) (o : Option Group) (q : At) → (group_there start).is a o q
+      → Takes a q × GroupAfter 0 o a
+  group_after a o q (inl h) =
+      let is = h.1.2 in
+      rw (h.1.3.0, h.1.3.1) (
+        (reads_group start).takes a h.1.0 h.1.1 (only_group start a h.1.0 h.1.1 is),
+        record {
+          opens = a;
+          closed = h.1.1;
+          is = is;
+          takes = takes_none a;
+          far = omega arith;
+        },
+      )
+  group_after a o q (inr h) = rw (h.1, h.2) (takes_none a, tt)
+
+  list_after : (a : At) (l : ListAsked) (q : At) → IsList start a l q → KindAfter 0 (of_list l) a
+  list_after a l q h =
+      let item = h.3 in
+      let join = item.3 in
+      let t = (reads_range start).takes a h.0 h.1 (only_range start a h.1 h.0 h.2) in
+      let first = group_after h.1 item.0 item.1 item.2 in
+      let second = group_after item.1 join.0 join.1 join.2 in
+      let u = takes_then a h.1 item.1 t first.0 in
+      rw join.3.0 (
+        group_grows 0 0 a h.1 t (no_longer a h.1 t) item.0 first.1,
+        group_grows 0 0 a item.1 u (no_longer a item.1 u) join.0 second.1,
+      )
+
+  -- ---- specs
+
+  kind_after : (slot : Trait) (a : At) (k : Kind) (q : At) → (kind start slot).is a k q
+      → KindAfter 0 k a
+  kind_after traits.Iter a k q h = rw h.3.0 (list_after a h.0 h.1 h.2)
+  kind_after slot a k q h = rw h.0 tt
+
+  -- the letter of a list is one character
+  list_letter : (hex : HexDebug) (cs : List ℕ) → trait_text traits.Iter hex ≡ Some cs
+      → length cs ≡ 1
+  list_letter hex_debugs.No cs e = ap length (sym (some_same e))
+  list_letter hex_debugs.Lower cs e = absurd (none_some e)
+  list_letter hex_debugs.Upper cs e = absurd (none_some e)
+
+  lettered_after : (slot : Trait) (hex : HexDebug) (a b : At) (cs : List ℕ) (k : Kind) (q : At)
+      → trait_text slot hex ≡ Some cs → Lies a cs b → (kind start slot).is b k q → KindAfter 1 k a
+  lettered_after traits.Iter hex a b cs k q e l h =
+      let t = lies_takes a cs b l in
+      let one = list_letter hex cs e in
+      kind_grows 0 1 a b t (omega (arith, one, ap length l.split, length-append cs b.text)) k
+      (kind_after traits.Iter b k q h)
+  lettered_after slot hex a b cs k q e l h = rw h.0 tt
+
+  shown_after : (flagged : Bool) (a : At) (x : Wanted) (b : At) (k : Kind) (q : At)
+      → (shown start flagged).is a x b → (kind start x.slot).is b k q → KindAfter 1 k a
+  shown_after flagged a x b k q (inl w) h =
+      rw (subst (λ (y : Wanted). (kind start y.slot).is b k q) w.1 h).0 tt
+  shown_after flagged a x b k q (inr w) h =
+      lettered_after x.slot x.hex_debug a b w.0 k q w.1 w.2 h
+
+  parts_after : (a : At) (x : Asked) (q : At) → (parts start).is a x q → KindAfter 1 x.kind a
+  parts_after a x q h =
+      let sign = h.3 in
+      let alternate = sign.3 in
+      let zero = alternate.3 in
+      let width = zero.3 in
+      let precision = width.3 in
+      let wanted = precision.3 in
+      let asked = wanted.3 in
+      let t =
+      takes_then a h.1 sign.1
+      (part_takes start _ _ (agrees_letter alignment_letter alignments.Unset)
+      (reads_letter start alignment_letter alignments.Unset) a h.0 h.1 h.2)
+      (part_takes start _ _ (agrees_letter sign_letter signs.Unset)
+      (reads_letter start sign_letter signs.Unset) h.1 sign.0 sign.1 sign.2) in
+      let u =
+      takes_then sign.1 alternate.1 zero.1
+      (part_takes start _ _ (agrees_flag hash) (reads_flag start hash) sign.1 alternate.0
+      alternate.1 alternate.2)
+      (part_takes start _ _ (agrees_flag zero_digit) (reads_flag start zero_digit) alternate.1
+      zero.0 zero.1 zero.2) in
+      let v =
+      takes_then zero.1 width.1 precision.1
+      (part_takes start _ _ (agrees_width start) (reads_width start) zero.1 width.0 width.1
+      width.2)
+      (part_takes start _ _ (agrees_precision start) (reads_precision start) width.1 precision.0
+      precision.1 precision.2) in
+      let all =
+      takes_then a sign.1 precision.1 t (takes_then sign.1 zero.1 precision.1 u v) in
+      rw asked.3.0
+      (kind_grows 1 0 a precision.1 all (no_longer a precision.1 all) asked.0
+      (shown_after _ precision.1 wanted.0 wanted.1 asked.0 asked.1 wanted.2 asked.2))
+
+  spec_after : (a : At) (x : Asked) (q : At) → IsSpec start a x q → KindAfter 1 x.kind a
+  spec_after a x q (inl h) = rw h.1 tt
+  spec_after a x q (inr h) = parts_after a x q h.3
+
+  -- ---- arguments
+
+  asks_after : (a : At) (x : Asked) (q : At) → Asks start a x q → KindAfter 2 x.kind a
+  asks_after a x q (inl h) = rw h.1 tt
+  asks_after a x q (inr h) =
+      let t = lies_takes a (colon ∷ []) h.0 h.1 in
+      kind_grows 1 1 a h.0 t (omega (arith, ap length h.1.split)) x.kind (spec_after h.0 x q h.2)
+
+-- the groups of an argument begin after two characters or more
+pub argument_after : (a : At) (x : Argument) (q : At) → argument_at a ≡ Ok (x, q)
+    → KindAfter 2 x.kind a
+argument_after a x q e =
+    let h = argument_is a q x e in
+    let front = h.named.spaces ++ x.name in
+    let t : Takes a h.after = record {
+      front = front;
+      split =
+          h.named.white.split ∙ sym (append_assoc h.named.spaces x.name h.after.text);
+      place =
+          omega (arith, h.named.name_place, h.named.end_place, size-append h.named.spaces x.name);
+    } in
+    kind_grows 2 0 a h.after t (no_longer a h.after t) x.kind
+    (asks_after a.place h.after (asked x) q h.asks)
