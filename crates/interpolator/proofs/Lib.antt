@@ -7,3 +7,4 @@ pub mod LoanLemmas
 pub mod SeamLemmas
 pub mod SlotNameLemmas
 pub mod SlotLemmas
+pub mod TemplateLemmas

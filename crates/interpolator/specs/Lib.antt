@@ -7,6 +7,7 @@ pub use Rattle.interpolator_syntax.specs.Faults
 pub use Rattle.interpolator_syntax.specs.FaultTexts
 pub mod Meaning
 pub mod Slots
+pub mod Template
 pub mod SlotNames
 pub mod Seams
 pub mod Contexts

@@ -17,6 +17,7 @@ use crate::line::iwriteln;
 use crate::pairs::Pairs;
 use crate::parts::write_parts;
 use crate::slots::Formattable;
+use crate::template::Template;
 use crate::writing::{format, write};
 use interpolator_render::{TextWrite, Value};
 use interpolator_syntax::Error;
@@ -115,6 +116,47 @@ pub trait Interpolate: Context {
     {
         write_parts(alloc, out, parts, self)
     }
+
+    /// Writes what the template means, as [`Template::write`] does.
+    ///
+    /// # Errors
+    ///
+    /// The format's first fault; `Fmt` where the writer refuses; `NoMemory`.
+    fn write_template_to<W: TextWrite>(
+        &self,
+        alloc: Global,
+        out: &mut W,
+        template: &Template,
+    ) -> Result<(), Error>
+        ensures outcome { Outcome
+            (means Self.Object.shows (environment (Self.finds self.now))
+            (outermost (chars template.now)))
+            (W.written out.old) (W.written out.new) (answered result) }
+        ensures asked { let a = outermost (chars template.now) in Outcome
+            (means Self.Object.shows (cut (environment (Self.finds self.now)) (asked_names a)) a)
+            (W.written out.old) (W.written out.new) (answered result) }
+        ensures place { PlaceWithin (length template.now) (answered result) }
+    {
+        template.write(alloc, out, self)
+    }
+
+    /// The text that the template means, in a new `String`.
+    ///
+    /// # Errors
+    ///
+    /// The format's first fault, or `NoMemory`.
+    fn format_template(&self, alloc: Global, template: &Template) -> Result<String, Error>
+        ensures formats { Formats
+            (means Self.Object.shows (environment (Self.finds self.now))
+            (outermost (chars template.now)))
+            result }
+        ensures asked { let a = outermost (chars template.now) in Formats
+            (means Self.Object.shows (cut (environment (Self.finds self.now)) (asked_names a)) a)
+            result }
+        ensures place { PlaceWithin (length template.now) (answered result) }
+    {
+        template.format(alloc, self)
+    }
 }
 
 impl<'a, V: Value> Interpolate for HashMap<String, Formattable<'a, V>> {}
@@ -165,5 +207,26 @@ impl<'k, 'a, V: Value> Interpolate for HashMap<&'k str, Formattable<'a, V>> {
             of: PhantomData,
         };
         write_parts(alloc, out, parts, &names)
+    }
+
+    fn write_template_to<W: TextWrite>(
+        &self,
+        alloc: Global,
+        out: &mut W,
+        template: &Template,
+    ) -> Result<(), Error> {
+        let names = ByNames {
+            map: self,
+            of: PhantomData,
+        };
+        template.write(alloc, out, &names)
+    }
+
+    fn format_template(&self, alloc: Global, template: &Template) -> Result<String, Error> {
+        let names = ByNames {
+            map: self,
+            of: PhantomData,
+        };
+        template.format(alloc, &names)
     }
 }

@@ -32,6 +32,7 @@ mod pairs;
 mod parts;
 mod slot_names;
 mod slots;
+mod template;
 mod writing;
 
 pub use context::Context;
@@ -50,4 +51,6 @@ pub use meaning::list::chosen;
 pub use pairs::Pairs;
 pub use parts::{seam, write_parts};
 pub use slots::Formattable;
-pub use writing::{format, write};
+pub use template::Template;
+pub use template::piece::{Piece, PieceKind};
+pub use writing::{check, format, write};

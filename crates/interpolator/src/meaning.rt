@@ -4,3 +4,5 @@ pub(crate) mod evaluate;
 pub(crate) mod list;
 pub(crate) mod scope;
 pub(crate) mod sink;
+pub(crate) mod tree;
+pub(crate) mod value;

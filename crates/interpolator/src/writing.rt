@@ -1,19 +1,26 @@
 //! Formats: text and values in, the formatted text or one located fault out.
 
-ghost use Rattle.std.specs.Prelude.{◌≡◌, ◌≤◌, [], false, length, IfOk};
+ghost use Rattle.std.specs.Prelude.{◌≡◌, ◌≤◌, ◌⊎◌, [], false, length, IfOk, Some, option_map};
 ghost use Rattle.std.specs.Str.{chars};
 ghost use Rattle.interpolator_syntax.specs.At.{outermost};
 ghost use Rattle.interpolator.specs.Meaning.AskedNames.{asked_names};
 ghost use Rattle.interpolator.specs.Meaning.Environments.{environment, cut};
-ghost use Rattle.interpolator_syntax.specs.Faults.{answered, PlaceWithin};
+ghost use Rattle.interpolator_syntax.specs.Faults.{answered, fault, no_memory, PlaceWithin};
 ghost use Rattle.interpolator.specs.Meaning.Meanings.{means};
 ghost use Rattle.interpolator.specs.Meaning.Outcomes.{Outcome, Formats};
+ghost use Rattle.interpolator.specs.Template.NodeChecks.{first_fault, text_faults};
+ghost use Rattle.interpolator.specs.Template.Nodes.{nodes};
+ghost use Rattle.interpolator.specs.Template.Stored.{nodes_of};
 ghost use Rattle.interpolator_render.specs.Written.{as_writer};
 
 use crate::context::Context;
 use crate::meaning::evaluate::write_text;
 use crate::meaning::scope::Scope;
 use crate::meaning::sink::Sink;
+use crate::meaning::tree::run_pieces;
+use crate::template::check::check_pieces;
+use crate::template::parse::parse_pieces;
+use crate::template::piece::Piece;
 use interpolator_render::{TextBuffer, TextWrite};
 use interpolator_syntax::{Cursor, Error};
 use std::alloc::{AllocError, Global};
@@ -94,12 +101,68 @@ fn buffer_for(alloc: Global, format: &str) -> Result<TextBuffer, AllocError>
     Ok(TextBuffer::from_string(text))
 }
 
+/// Writes what the stored pieces of a format mean in the context.
+pub(crate) fn write_pieces<W: TextWrite, C: Context>(
+    alloc: Global,
+    out: &mut W,
+    format: &str,
+    pieces: &[Piece],
+    context: &C,
+) -> Result<(), Error>
+    requires pieces { nodes_of format.now pieces.now ≡ nodes (outermost (chars format.now)) }
+    ensures outcome { Outcome
+        (means C.Object.shows (environment (C.finds context.now)) (outermost (chars format.now)))
+        (W.written out.old) (W.written out.new) (answered result) }
+    ensures asked { let a = outermost (chars format.now) in Outcome
+        (means C.Object.shows (cut (environment (C.finds context.now)) (asked_names a)) a)
+        (W.written out.old) (W.written out.new) (answered result) }
+    ensures place { PlaceWithin (length format.now) (answered result) }
+{
+    let mut aside = None;
+    let mut sink = Sink {
+        out,
+        aside: &mut aside,
+    };
+    let answer = run_pieces(&mut sink, &Scope::outermost(alloc, context), format, pieces);
+    let Sink { out: _, aside: _ } = sink;
+    answer
+}
+
+/// The text that the stored pieces of a format mean in the context, in a new `String`.
+pub(crate) fn format_pieces<C: Context>(
+    alloc: Global,
+    format: &str,
+    pieces: &[Piece],
+    context: &C,
+) -> Result<String, Error>
+    requires pieces { nodes_of format.now pieces.now ≡ nodes (outermost (chars format.now)) }
+    ensures formats { Formats
+        (means C.Object.shows (environment (C.finds context.now)) (outermost (chars format.now)))
+        result }
+    ensures asked { let a = outermost (chars format.now) in Formats
+        (means C.Object.shows (cut (environment (C.finds context.now)) (asked_names a)) a) result }
+    ensures place { PlaceWithin (length format.now) (answered result) }
+{
+    let mut out = buffer_for(alloc, format)?;
+    let answer = write_pieces(alloc, &mut out, format, pieces, context);
+    if out.refused() {
+        return Err(Error::NoMemory);
+    }
+    answer?;
+    Ok(out.into_string())
+}
+
 /// The format's text in a new `String`.
+///
+/// The format is read into its pieces first, which then are written. A text that is written once
+/// into a buffer takes less by [`write`], and one that is written often by a
+/// [`Template`](crate::Template).
 ///
 /// # Errors
 ///
 /// Those of `write` over the same format and context, where `Fmt` means that a value failed; and
-/// `NoMemory` where the text, or the room that is taken for it at the beginning, finds no memory.
+/// `NoMemory` where the text, the room that is taken for it at the beginning, or the pieces of the
+/// format find no memory.
 ///
 /// # Example
 ///
@@ -114,11 +177,39 @@ pub fn format<C: Context>(alloc: Global, format: &str, context: &C) -> Result<St
         (means C.Object.shows (cut (environment (C.finds context.now)) (asked_names a)) a) result }
     ensures place { PlaceWithin (length format.now) (answered result) }
 {
-    let mut out = buffer_for(alloc, format)?;
-    let answer = write(alloc, &mut out, format, context);
-    if out.refused() {
-        return Err(Error::NoMemory);
-    }
-    answer?;
-    Ok(out.into_string())
+    let start = Cursor {
+        place: 0,
+        rest: format,
+    };
+    let pieces = parse_pieces(alloc, start)?;
+    format_pieces(alloc, format, &pieces, context)
+}
+
+/// Tells the first fault that a format has whatever its context is, as
+/// [`Template::check`](crate::Template::check) does of a format that was read.
+///
+/// Where it answers `Ok`, no context makes the format answer `Parse` or `UnsupportedOption`.
+///
+/// # Errors
+///
+/// `Parse` and `UnsupportedOption`, each at its place in the text; and `NoMemory` where the pieces of
+/// the format find no memory.
+///
+/// # Example
+///
+/// ```text
+/// check(alloc, "{a:i({z)}{b")?    // Err(Parse(FormatSpecUnclosed(6)))
+/// ```
+pub fn check(alloc: Global, text: &str) -> Result<(), Error>
+    ensures first { (answered result
+        ≡ option_map fault (first_fault (text_faults (outermost (chars text.now)))))
+        ⊎ (answered result ≡ Some no_memory) }
+    ensures place { PlaceWithin (length text.now) (answered result) }
+{
+    let start = Cursor {
+        place: 0,
+        rest: text,
+    };
+    let pieces = parse_pieces(alloc, start)?;
+    check_pieces(&pieces)
 }

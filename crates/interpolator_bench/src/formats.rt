@@ -1,7 +1,8 @@
 //! Formats whose context is made once.
 
 use crate::failure::Failure;
-use interpolator::{ContextMap, Formattable, Interpolate, Value, View};
+use crate::uses::{How, repeat_format};
+use interpolator::{Formattable, View};
 use std::alloc::{AllocError, Global};
 use std::collections::HashMap;
 
@@ -44,7 +45,7 @@ const TEXTS: [&str; 18] = [
 ];
 
 /// A layout of log lines, over texts and a number.
-pub fn log_line(alloc: Global, repeats: u32) -> Result<String, Failure> {
+pub fn log_line(alloc: Global, how: How, repeats: u32) -> Result<String, Failure> {
     let time = View::Text("2024-05-17T12:34:56Z");
     let level = View::Text("INFO");
     let module = View::Text("store::index");
@@ -56,41 +57,43 @@ pub fn log_line(alloc: Global, repeats: u32) -> Result<String, Failure> {
     context.insert("module", Formattable::display(&module))?;
     context.insert("message", Formattable::display(&message))?;
     context.insert("line", Formattable::integer(&line))?;
-    repeat_format(alloc, LAYOUT, &context, repeats)
+    repeat_format(alloc, how, LAYOUT, &context, repeats)
 }
 
 /// Thirty-two short names, of numbers.
-pub fn number_names(alloc: Global, repeats: u32) -> Result<String, Failure> {
+pub fn number_names(alloc: Global, how: How, repeats: u32) -> Result<String, Failure> {
     let format = names_format(alloc, &NUMBER_NAMES)?;
     let mut context = HashMap::new(alloc);
     for (name, number) in NUMBER_NAMES.iter().zip(&NUMBERS) {
         context.insert(*name, Formattable::integer(number))?;
     }
-    repeat_format(alloc, format.as_str(), &context, repeats)
+    repeat_format(alloc, how, format.as_str(), &context, repeats)
 }
 
 /// Eighteen names, of texts.
-pub fn text_names(alloc: Global, repeats: u32) -> Result<String, Failure> {
+pub fn text_names(alloc: Global, how: How, repeats: u32) -> Result<String, Failure> {
     let format = names_format(alloc, &TEXT_NAMES)?;
     let mut context = HashMap::new(alloc);
     for (name, text) in TEXT_NAMES.iter().zip(&TEXTS) {
         context.insert(*name, Formattable::display(text))?;
     }
-    repeat_format(alloc, format.as_str(), &context, repeats)
+    repeat_format(alloc, how, format.as_str(), &context, repeats)
 }
 
 /// So many copies of a text, as a format that asks no name.
-pub fn copies(alloc: Global, piece: &str, count: u32, repeats: u32) -> Result<String, Failure> {
+pub fn copies(
+    alloc: Global,
+    how: How,
+    piece: &str,
+    count: u32,
+    repeats: u32,
+) -> Result<String, Failure> {
     let mut format = String::new(alloc);
     for _ in 0..count {
         format.push_str(piece)?;
     }
-    let context: ContextMap<'_, u32> = ContextMap::new(alloc);
-    let mut text = String::new(alloc);
-    for _ in 0..repeats {
-        text = context.format(alloc, format.as_str())?;
-    }
-    Ok(text)
+    let context: HashMap<&str, Formattable<'_, u32>> = HashMap::new(alloc);
+    repeat_format(alloc, how, format.as_str(), &context, repeats)
 }
 
 // A format that asks each name, and has a space after it.
@@ -102,18 +105,4 @@ fn names_format(alloc: Global, names: &[&str]) -> Result<String, AllocError> {
         format.push_str("} ")?;
     }
     Ok(format)
-}
-
-/// Formats so often, each time into a new text. Gives the last.
-pub fn repeat_format<V: Value>(
-    alloc: Global,
-    format: &str,
-    context: &HashMap<&str, Formattable<'_, V>>,
-    repeats: u32,
-) -> Result<String, Failure> {
-    let mut text = String::new(alloc);
-    for _ in 0..repeats {
-        text = context.format(alloc, format)?;
-    }
-    Ok(text)
 }

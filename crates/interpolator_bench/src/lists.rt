@@ -1,7 +1,7 @@
 //! Lists: numbers with an item format and a join, many items, and lists in lists.
 
 use crate::failure::Failure;
-use crate::formats::repeat_format;
+use crate::uses::{How, repeat_format};
 use interpolator::Formattable;
 use std::alloc::{AllocError, Global};
 use std::collections::HashMap;
@@ -10,32 +10,40 @@ use std::collections::HashMap;
 const DEPTH: usize = 32;
 
 /// A list of the numbers below a bound, asked by this format under the name `n`.
-pub fn numbers(alloc: Global, count: u32, format: &str, repeats: u32) -> Result<String, Failure> {
+pub fn numbers(
+    alloc: Global,
+    how: How,
+    count: u32,
+    format: &str,
+    repeats: u32,
+) -> Result<String, Failure> {
     let values = (0..count).collect::<Vec<u32>>(alloc)?;
     let mut items = Vec::new(alloc);
     for value in &values {
         items.push(Formattable::integer(value))?;
     }
-    repeat_list(alloc, Formattable::iter(&items), format, repeats)
+    repeat_list(alloc, how, Formattable::iter(&items), format, repeats)
 }
 
 // Formats a list under the name `n`.
 fn repeat_list(
     alloc: Global,
+    how: How,
     list: Formattable<'_, u32>,
     format: &str,
     repeats: u32,
 ) -> Result<String, Failure> {
     let mut context = HashMap::new(alloc);
     context.insert("n", list)?;
-    repeat_format(alloc, format, &context, repeats)
+    repeat_format(alloc, how, format, &context, repeats)
 }
 
 /// A number in a list of one item, in a list of one item, and so on.
-pub fn nested(alloc: Global, repeats: u32) -> Result<String, Failure> {
+pub fn nested(alloc: Global, how: How, repeats: u32) -> Result<String, Failure> {
     let format = nested_format(alloc)?;
     repeat_nested(
         alloc,
+        how,
         Formattable::integer(&7u32),
         DEPTH,
         format.as_str(),
@@ -71,6 +79,7 @@ fn put_signs(format: &mut String, count: usize) -> Result<(), AllocError> {
 // Formats under the empty name the value, so deep in lists of one item.
 fn repeat_nested(
     alloc: Global,
+    how: How,
     value: Formattable<'_, u32>,
     depth: usize,
     format: &str,
@@ -79,8 +88,15 @@ fn repeat_nested(
     if depth == 0 {
         let mut context = HashMap::new(alloc);
         context.insert("", value)?;
-        return repeat_format(alloc, format, &context, repeats);
+        return repeat_format(alloc, how, format, &context, repeats);
     }
     let items = [value];
-    repeat_nested(alloc, Formattable::iter(&items), depth - 1, format, repeats)
+    repeat_nested(
+        alloc,
+        how,
+        Formattable::iter(&items),
+        depth - 1,
+        format,
+        repeats,
+    )
 }

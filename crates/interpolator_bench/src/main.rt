@@ -3,6 +3,7 @@
 
 mod checksum;
 mod command;
+mod documents;
 mod failure;
 mod formats;
 mod lists;
@@ -10,7 +11,7 @@ mod merge;
 mod renders;
 mod rows;
 mod spec_formats;
-mod templates;
+mod uses;
 mod workloads;
 
 use checksum::checksum_of;
@@ -19,7 +20,7 @@ use failure::Failure;
 use std::process::ExitCode;
 use std::rt::Env;
 use std::{env, io};
-use workloads::Workload;
+use workloads::{ALL, Workload};
 
 const FAULT: u8 = 1;
 
@@ -57,7 +58,7 @@ fn run(rt: &(impl Print + AllocGlobal), command: Command) -> Result<(), Failure>
     match workload {
         Some(workload) => report(rt, workload, repeats),
         None => {
-            for workload in Workload::ALL {
+            for workload in ALL {
                 report(rt, workload, repeats)?;
             }
             Ok(())
@@ -91,7 +92,7 @@ fn complain(rt: &impl Eprint, failure: &Failure) -> io::Result<()> {
 
 fn usage(rt: &impl Eprint) -> io::Result<()> {
     eprint!(rt; "usage: interpolator_bench WORKLOAD REPEATS, a workload being all")?;
-    for workload in Workload::ALL {
+    for workload in ALL {
         let name = workload.name();
         eprint!(rt; ", {name}")?;
     }

@@ -3,7 +3,7 @@
 //! A merge by another kind of context is a variant of `Kind`, over the same records.
 
 use crate::failure::Failure;
-use interpolator::{Error, Formattable, Interpolate, Pairs, TextBuffer, View};
+use interpolator::{Error, Formattable, Interpolate, Pairs, Template, TextBuffer, View};
 use std::alloc::Global;
 use std::collections::HashMap;
 
@@ -29,45 +29,62 @@ struct Record {
 
 /// The kind of context that each letter gets.
 #[derive(Clone, Copy)]
-enum Kind {
+pub enum Kind {
     HashMap,
     Pairs,
 }
 
-/// The letters of all records, by a `HashMap` for each.
-pub fn by_hash_map(alloc: Global, repeats: u32) -> Result<String, Failure> {
-    repeat_letters(alloc, Kind::HashMap, repeats)
+/// The letters of all records, by `write_to`.
+pub fn by_text(alloc: Global, kind: Kind, repeats: u32) -> Result<String, Failure> {
+    repeat_letters(alloc, kind, None, repeats)
 }
 
-/// The letters of all records, by `Pairs` for each.
-pub fn by_pairs(alloc: Global, repeats: u32) -> Result<String, Failure> {
-    repeat_letters(alloc, Kind::Pairs, repeats)
+/// The letters of all records, by a template that was parsed once.
+pub fn by_template(alloc: Global, kind: Kind, repeats: u32) -> Result<String, Failure> {
+    let letter = Template::parse(alloc, LETTER)?;
+    repeat_letters(alloc, kind, Some(&letter), repeats)
 }
 
-// Writes all letters, so often anew in the same buffer. Gives the last text.
-fn repeat_letters(alloc: Global, kind: Kind, repeats: u32) -> Result<String, Failure> {
+// Writes all letters, so often anew in the same buffer, by the template if there is one. Gives the
+// last text.
+fn repeat_letters(
+    alloc: Global,
+    kind: Kind,
+    letter: Option<&Template>,
+    repeats: u32,
+) -> Result<String, Failure> {
     let mut text = String::new(alloc);
     for _ in 0..repeats {
         text.clear();
-        text = put_letters(alloc, text, kind)?;
+        text = put_letters(alloc, text, kind, letter)?;
     }
     Ok(text)
 }
 
 // Appends the letters of all records.
-fn put_letters(alloc: Global, text: String, kind: Kind) -> Result<String, Error> {
+fn put_letters(
+    alloc: Global,
+    text: String,
+    kind: Kind,
+    letter: Option<&Template>,
+) -> Result<String, Error> {
     let mut out = TextBuffer::from_string(text);
     for order in 0..RECORDS {
         let record = record_of(order);
         match kind {
-            Kind::HashMap => put_by_hash_map(alloc, &mut out, &record)?,
-            Kind::Pairs => put_by_pairs(alloc, &mut out, &record)?,
+            Kind::HashMap => put_by_hash_map(alloc, &mut out, letter, &record)?,
+            Kind::Pairs => put_by_pairs(alloc, &mut out, letter, &record)?,
         }
     }
     Ok(out.into_string())
 }
 
-fn put_by_hash_map(alloc: Global, out: &mut TextBuffer, record: &Record) -> Result<(), Error> {
+fn put_by_hash_map(
+    alloc: Global,
+    out: &mut TextBuffer,
+    letter: Option<&Template>,
+    record: &Record,
+) -> Result<(), Error> {
     let name = View::Text(record.name);
     let city = View::Text(record.city);
     let goods = View::Text(record.goods);
@@ -79,10 +96,18 @@ fn put_by_hash_map(alloc: Global, out: &mut TextBuffer, record: &Record) -> Resu
     context.insert("goods", Formattable::display(&goods))?;
     context.insert("count", Formattable::integer(&count))?;
     context.insert("order", Formattable::integer(&order))?;
-    context.write_to(alloc, out, LETTER)
+    match letter {
+        Some(letter) => context.write_template_to(alloc, out, letter),
+        None => context.write_to(alloc, out, LETTER),
+    }
 }
 
-fn put_by_pairs(alloc: Global, out: &mut TextBuffer, record: &Record) -> Result<(), Error> {
+fn put_by_pairs(
+    alloc: Global,
+    out: &mut TextBuffer,
+    letter: Option<&Template>,
+    record: &Record,
+) -> Result<(), Error> {
     let values = [
         View::Text(record.name),
         View::Text(record.city),
@@ -90,14 +115,17 @@ fn put_by_pairs(alloc: Global, out: &mut TextBuffer, record: &Record) -> Result<
         View::Unsigned(u128::from(record.count)),
         View::Unsigned(u128::from(record.order)),
     ];
-    Pairs(&[
+    let context = [
         ("name", Formattable::display(&values[0])),
         ("city", Formattable::display(&values[1])),
         ("goods", Formattable::display(&values[2])),
         ("count", Formattable::integer(&values[3])),
         ("order", Formattable::integer(&values[4])),
-    ])
-    .write_to(alloc, out, LETTER)
+    ];
+    match letter {
+        Some(letter) => Pairs(&context).write_template_to(alloc, out, letter),
+        None => Pairs(&context).write_to(alloc, out, LETTER),
+    }
 }
 
 // The record of an order: each field goes round its values.

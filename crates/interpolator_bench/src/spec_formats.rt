@@ -1,7 +1,7 @@
 //! Formats with specs: the values and the specs of the renderer's workloads, by name.
 
 use crate::failure::Failure;
-use crate::formats::repeat_format;
+use crate::uses::{How, repeat_format};
 use interpolator::{Formattable, Value, View};
 use std::alloc::{AllocError, Global};
 use std::collections::HashMap;
@@ -9,39 +9,46 @@ use std::collections::HashMap;
 const NAMES: [&str; 6] = ["a", "b", "c", "d", "e", "f"];
 
 /// Whole numbers under mixes of sign, zero flag, width and alignment.
-pub fn specs(alloc: Global, repeats: u32) -> Result<String, Failure> {
+pub fn specs(alloc: Global, how: How, repeats: u32) -> Result<String, Failure> {
     let specs = ["", ":+", ":6", ":06", ":+08", ":<8", ":^9", ":>+12"];
-    repeat_specs(alloc, &[0i64, 7, -42, 12345], &specs, repeats)
+    repeat_specs(alloc, how, &[0i64, 7, -42, 12345], &specs, repeats)
 }
 
 /// Whole numbers in bases two, eight and sixteen.
-pub fn radix(alloc: Global, repeats: u32) -> Result<String, Failure> {
+pub fn radix(alloc: Global, how: How, repeats: u32) -> Result<String, Failure> {
     let specs = [":b", ":o", ":x", ":X", ":#b", ":#o", ":#010x", ":8X"];
-    repeat_specs(alloc, &[5u32, 255, 4096, 48879], &specs, repeats)
+    repeat_specs(alloc, how, &[5u32, 255, 4096, 48879], &specs, repeats)
 }
 
 /// Whole numbers in exponent form.
-pub fn exponents(alloc: Global, repeats: u32) -> Result<String, Failure> {
+pub fn exponents(alloc: Global, how: How, repeats: u32) -> Result<String, Failure> {
     let specs = [":e", ":E", ":.2e", ":+12.3E"];
-    repeat_specs(alloc, &[7u64, 1200, 123456, 987654321], &specs, repeats)
+    repeat_specs(
+        alloc,
+        how,
+        &[7u64, 1200, 123456, 987654321],
+        &specs,
+        repeats,
+    )
 }
 
 /// Texts, most of them not ASCII, cut and padded.
-pub fn padded_texts(alloc: Global, repeats: u32) -> Result<String, Failure> {
+pub fn padded_texts(alloc: Global, how: How, repeats: u32) -> Result<String, Failure> {
     let texts = ["é", "naïve", "smörgåsbord", "日本語", "Привет", "plain"];
-    repeat_specs(alloc, &texts, &[":12", ":>16", ":^10.4"], repeats)
+    repeat_specs(alloc, how, &texts, &[":12", ":>16", ":^10.4"], repeats)
 }
 
 /// A text and a number under widths of 1,000.
-pub fn wide(alloc: Global, repeats: u32) -> Result<String, Failure> {
+pub fn wide(alloc: Global, how: How, repeats: u32) -> Result<String, Failure> {
     let values = [View::Text("wide"), View::Unsigned(42)];
     let specs = [":1000", ":<1000", ":^1000", ":>1000", ":01000"];
-    repeat_specs(alloc, &values, &specs, repeats)
+    repeat_specs(alloc, how, &values, &specs, repeats)
 }
 
 // Formats each value, at most six of them, under each spec, so often. Gives the last text.
 fn repeat_specs<V: Value>(
     alloc: Global,
+    how: How,
     values: &[V],
     specs: &[&str],
     repeats: u32,
@@ -52,7 +59,7 @@ fn repeat_specs<V: Value>(
         put_specs(&mut format, name, specs)?;
         context.insert(*name, Formattable::integer(value))?;
     }
-    repeat_format(alloc, format.as_str(), &context, repeats)
+    repeat_format(alloc, how, format.as_str(), &context, repeats)
 }
 
 // Appends what asks a name under each spec, with a space after each.

@@ -1,7 +1,9 @@
 //! The table of workloads.
 
 use crate::failure::Failure;
-use crate::{formats, lists, merge, renders, spec_formats, templates};
+use crate::merge::{self, Kind};
+use crate::uses::How;
+use crate::{documents, formats, lists, renders, spec_formats};
 use std::alloc::Global;
 
 /// Sixty-four bytes that stand for themselves.
@@ -16,31 +18,51 @@ const COPIES_64K: u32 = 1024;
 /// How many times sixty-four bytes are 1 MiB.
 const COPIES_1M: u32 = 16 * COPIES_64K;
 
-/// What is made again and again. A new one is a variant, a place in `ALL`, a name and a function.
+/// What is made again and again. A new one is a line of `ALL`.
 #[derive(Clone, Copy)]
-pub enum Workload {
+pub struct Workload(&'static str, Task);
+
+/// How a workload makes its text.
+#[derive(Clone, Copy)]
+enum Task {
+    /// A format is used.
+    Use(How, Shape),
+    /// Letters are written by `write_to`.
+    Merge(Kind),
+    /// Letters are written by a template.
+    MergeByTemplate(Kind),
+    /// Values are rendered.
+    Render(Rows),
+}
+
+/// A format and its context.
+#[derive(Clone, Copy)]
+enum Shape {
     LogLine,
     NumberNames,
     TextNames,
-    JsonTemplate,
+    Json,
     Letter4K,
     TableRow,
     Braces64K,
     Literal64K,
     Braces1M,
     Literal1M,
-    Merge,
-    MergePairs,
-    FormatSpecs,
-    FormatRadix,
-    FormatExponents,
-    FormatPaddedTexts,
-    FormatWide,
+    Specs,
+    Radix,
+    Exponents,
+    PaddedTexts,
+    Wide,
     List,
     AngledList,
     LongList,
     LongPaddedList,
     NestedLists,
+}
+
+/// Values under forms.
+#[derive(Clone, Copy)]
+enum Rows {
     Specs,
     Radix,
     Exponents,
@@ -51,119 +73,149 @@ pub enum Workload {
     SixteenHex,
 }
 
-impl Workload {
-    /// Every workload, in the order in which `all` runs them.
-    pub const ALL: [Workload; 30] = [
-        Workload::LogLine,
-        Workload::NumberNames,
-        Workload::TextNames,
-        Workload::JsonTemplate,
-        Workload::Letter4K,
-        Workload::TableRow,
-        Workload::Braces64K,
-        Workload::Literal64K,
-        Workload::Braces1M,
-        Workload::Literal1M,
-        Workload::Merge,
-        Workload::MergePairs,
-        Workload::FormatSpecs,
-        Workload::FormatRadix,
-        Workload::FormatExponents,
-        Workload::FormatPaddedTexts,
-        Workload::FormatWide,
-        Workload::List,
-        Workload::AngledList,
-        Workload::LongList,
-        Workload::LongPaddedList,
-        Workload::NestedLists,
-        Workload::Specs,
-        Workload::Radix,
-        Workload::Exponents,
-        Workload::PaddedTexts,
-        Workload::Wide,
-        Workload::LongDigits,
-        Workload::SixtyBits,
-        Workload::SixteenHex,
-    ];
+/// Every workload, in the order in which `all` runs them.
+#[rattlefmt::skip]
+pub const ALL: [Workload; 72] = [
+    Workload("log-line", Task::Use(How::Format, Shape::LogLine)),
+    Workload("names-32-numbers", Task::Use(How::Format, Shape::NumberNames)),
+    Workload("names-18-texts", Task::Use(How::Format, Shape::TextNames)),
+    Workload("json-template", Task::Use(How::Format, Shape::Json)),
+    Workload("letter-4k", Task::Use(How::Format, Shape::Letter4K)),
+    Workload("table-row", Task::Use(How::Format, Shape::TableRow)),
+    Workload("braces-64k", Task::Use(How::Format, Shape::Braces64K)),
+    Workload("literal-64k", Task::Use(How::Format, Shape::Literal64K)),
+    Workload("braces-1m", Task::Use(How::Format, Shape::Braces1M)),
+    Workload("literal-1m", Task::Use(How::Format, Shape::Literal1M)),
+    Workload("merge-10000", Task::Merge(Kind::HashMap)),
+    Workload("merge-10000-pairs", Task::Merge(Kind::Pairs)),
+    Workload("format-specs", Task::Use(How::Format, Shape::Specs)),
+    Workload("format-radix", Task::Use(How::Format, Shape::Radix)),
+    Workload("format-exponents", Task::Use(How::Format, Shape::Exponents)),
+    Workload("format-padded-texts", Task::Use(How::Format, Shape::PaddedTexts)),
+    Workload("format-wide", Task::Use(How::Format, Shape::Wide)),
+    Workload("list-1000", Task::Use(How::Format, Shape::List)),
+    Workload("list-1000-angled", Task::Use(How::Format, Shape::AngledList)),
+    Workload("list-100000", Task::Use(How::Format, Shape::LongList)),
+    Workload("list-100000-padded", Task::Use(How::Format, Shape::LongPaddedList)),
+    Workload("lists-32-deep", Task::Use(How::Format, Shape::NestedLists)),
+    Workload("write-log-line", Task::Use(How::Write, Shape::LogLine)),
+    Workload("write-names-32-numbers", Task::Use(How::Write, Shape::NumberNames)),
+    Workload("write-names-18-texts", Task::Use(How::Write, Shape::TextNames)),
+    Workload("write-json", Task::Use(How::Write, Shape::Json)),
+    Workload("write-letter-4k", Task::Use(How::Write, Shape::Letter4K)),
+    Workload("write-table-row", Task::Use(How::Write, Shape::TableRow)),
+    Workload("write-braces-64k", Task::Use(How::Write, Shape::Braces64K)),
+    Workload("write-literal-64k", Task::Use(How::Write, Shape::Literal64K)),
+    Workload("write-specs", Task::Use(How::Write, Shape::Specs)),
+    Workload("write-radix", Task::Use(How::Write, Shape::Radix)),
+    Workload("write-exponents", Task::Use(How::Write, Shape::Exponents)),
+    Workload("write-padded-texts", Task::Use(How::Write, Shape::PaddedTexts)),
+    Workload("write-wide", Task::Use(How::Write, Shape::Wide)),
+    Workload("write-list-1000", Task::Use(How::Write, Shape::List)),
+    Workload("write-list-1000-angled", Task::Use(How::Write, Shape::AngledList)),
+    Workload("write-lists-32-deep", Task::Use(How::Write, Shape::NestedLists)),
+    Workload("template-log-line", Task::Use(How::Template, Shape::LogLine)),
+    Workload("template-names-32-numbers", Task::Use(How::Template, Shape::NumberNames)),
+    Workload("template-names-18-texts", Task::Use(How::Template, Shape::TextNames)),
+    Workload("template-json", Task::Use(How::Template, Shape::Json)),
+    Workload("template-letter-4k", Task::Use(How::Template, Shape::Letter4K)),
+    Workload("template-table-row", Task::Use(How::Template, Shape::TableRow)),
+    Workload("template-braces-64k", Task::Use(How::Template, Shape::Braces64K)),
+    Workload("template-literal-64k", Task::Use(How::Template, Shape::Literal64K)),
+    Workload("template-specs", Task::Use(How::Template, Shape::Specs)),
+    Workload("template-radix", Task::Use(How::Template, Shape::Radix)),
+    Workload("template-exponents", Task::Use(How::Template, Shape::Exponents)),
+    Workload("template-padded-texts", Task::Use(How::Template, Shape::PaddedTexts)),
+    Workload("template-wide", Task::Use(How::Template, Shape::Wide)),
+    Workload("template-list-1000", Task::Use(How::Template, Shape::List)),
+    Workload("template-list-1000-angled", Task::Use(How::Template, Shape::AngledList)),
+    Workload("template-lists-32-deep", Task::Use(How::Template, Shape::NestedLists)),
+    Workload("template-merge-10000", Task::MergeByTemplate(Kind::HashMap)),
+    Workload("template-merge-10000-pairs", Task::MergeByTemplate(Kind::Pairs)),
+    Workload("parse-log-line", Task::Use(How::Parse, Shape::LogLine)),
+    Workload("parse-names-32-numbers", Task::Use(How::Parse, Shape::NumberNames)),
+    Workload("parse-letter-4k", Task::Use(How::Parse, Shape::Letter4K)),
+    Workload("parse-literal-64k", Task::Use(How::Parse, Shape::Literal64K)),
+    Workload("parse-literal-1m", Task::Use(How::Parse, Shape::Literal1M)),
+    Workload("parse-specs", Task::Use(How::Parse, Shape::Specs)),
+    Workload("parse-list-1000", Task::Use(How::Parse, Shape::List)),
+    Workload("parse-lists-32-deep", Task::Use(How::Parse, Shape::NestedLists)),
+    Workload("render-specs", Task::Render(Rows::Specs)),
+    Workload("render-radix", Task::Render(Rows::Radix)),
+    Workload("render-exponents", Task::Render(Rows::Exponents)),
+    Workload("render-padded-texts", Task::Render(Rows::PaddedTexts)),
+    Workload("render-wide", Task::Render(Rows::Wide)),
+    Workload("render-long-digits", Task::Render(Rows::LongDigits)),
+    Workload("render-60-bits", Task::Render(Rows::SixtyBits)),
+    Workload("render-16-hex", Task::Render(Rows::SixteenHex)),
+];
 
-    /// The word that asks for it.
+impl Workload {
+    /// Its name on the command line.
     pub fn name(self) -> &'static str {
-        match self {
-            Workload::LogLine => "log-line",
-            Workload::NumberNames => "names-32-numbers",
-            Workload::TextNames => "names-18-texts",
-            Workload::JsonTemplate => "json-template",
-            Workload::Letter4K => "letter-4k",
-            Workload::TableRow => "table-row",
-            Workload::Braces64K => "braces-64k",
-            Workload::Literal64K => "literal-64k",
-            Workload::Braces1M => "braces-1m",
-            Workload::Literal1M => "literal-1m",
-            Workload::Merge => "merge-10000",
-            Workload::MergePairs => "merge-10000-pairs",
-            Workload::FormatSpecs => "format-specs",
-            Workload::FormatRadix => "format-radix",
-            Workload::FormatExponents => "format-exponents",
-            Workload::FormatPaddedTexts => "format-padded-texts",
-            Workload::FormatWide => "format-wide",
-            Workload::List => "list-1000",
-            Workload::AngledList => "list-1000-angled",
-            Workload::LongList => "list-100000",
-            Workload::LongPaddedList => "list-100000-padded",
-            Workload::NestedLists => "lists-32-deep",
-            Workload::Specs => "render-specs",
-            Workload::Radix => "render-radix",
-            Workload::Exponents => "render-exponents",
-            Workload::PaddedTexts => "render-padded-texts",
-            Workload::Wide => "render-wide",
-            Workload::LongDigits => "render-long-digits",
-            Workload::SixtyBits => "render-60-bits",
-            Workload::SixteenHex => "render-16-hex",
-        }
+        self.0
     }
 
     /// Makes its text so often, and gives the last one; of no repeats the empty text.
     pub fn run(self, alloc: Global, repeats: u32) -> Result<String, Failure> {
+        match self.1 {
+            Task::Use(how, shape) => shape.repeat(alloc, how, repeats),
+            Task::Merge(kind) => merge::by_text(alloc, kind, repeats),
+            Task::MergeByTemplate(kind) => merge::by_template(alloc, kind, repeats),
+            Task::Render(rows) => rows.repeat(alloc, repeats),
+        }
+    }
+}
+
+impl Shape {
+    // Uses the format so often.
+    fn repeat(self, alloc: Global, how: How, repeats: u32) -> Result<String, Failure> {
         match self {
-            Workload::LogLine => formats::log_line(alloc, repeats),
-            Workload::NumberNames => formats::number_names(alloc, repeats),
-            Workload::TextNames => formats::text_names(alloc, repeats),
-            Workload::JsonTemplate => templates::json(alloc, repeats),
-            Workload::Letter4K => templates::letter(alloc, repeats),
-            Workload::TableRow => templates::table_row(alloc, repeats),
-            Workload::Braces64K => formats::copies(alloc, BRACES, COPIES_64K, repeats),
-            Workload::Literal64K => formats::copies(alloc, LITERAL, COPIES_64K, repeats),
-            Workload::Braces1M => formats::copies(alloc, BRACES, COPIES_1M, repeats),
-            Workload::Literal1M => formats::copies(alloc, LITERAL, COPIES_1M, repeats),
-            Workload::Merge => merge::by_hash_map(alloc, repeats),
-            Workload::MergePairs => merge::by_pairs(alloc, repeats),
-            Workload::FormatSpecs => spec_formats::specs(alloc, repeats),
-            Workload::FormatRadix => spec_formats::radix(alloc, repeats),
-            Workload::FormatExponents => spec_formats::exponents(alloc, repeats),
-            Workload::FormatPaddedTexts => spec_formats::padded_texts(alloc, repeats),
-            Workload::FormatWide => spec_formats::wide(alloc, repeats),
-            Workload::List => lists::numbers(alloc, 1_000, "{n:i({})(, )}", repeats),
-            Workload::AngledList => lists::numbers(alloc, 1_000, "{n:i(<{}>)}", repeats),
-            Workload::LongList => lists::numbers(alloc, 100_000, "{n:i({} )}", repeats),
-            Workload::LongPaddedList => {
-                lists::numbers(alloc, 100_000, "{n:>600000i({} )}", repeats)
+            Shape::LogLine => formats::log_line(alloc, how, repeats),
+            Shape::NumberNames => formats::number_names(alloc, how, repeats),
+            Shape::TextNames => formats::text_names(alloc, how, repeats),
+            Shape::Json => documents::json(alloc, how, repeats),
+            Shape::Letter4K => documents::letter(alloc, how, repeats),
+            Shape::TableRow => documents::table_row(alloc, how, repeats),
+            Shape::Braces64K => formats::copies(alloc, how, BRACES, COPIES_64K, repeats),
+            Shape::Literal64K => formats::copies(alloc, how, LITERAL, COPIES_64K, repeats),
+            Shape::Braces1M => formats::copies(alloc, how, BRACES, COPIES_1M, repeats),
+            Shape::Literal1M => formats::copies(alloc, how, LITERAL, COPIES_1M, repeats),
+            Shape::Specs => spec_formats::specs(alloc, how, repeats),
+            Shape::Radix => spec_formats::radix(alloc, how, repeats),
+            Shape::Exponents => spec_formats::exponents(alloc, how, repeats),
+            Shape::PaddedTexts => spec_formats::padded_texts(alloc, how, repeats),
+            Shape::Wide => spec_formats::wide(alloc, how, repeats),
+            Shape::List => lists::numbers(alloc, how, 1_000, "{n:i({})(, )}", repeats),
+            Shape::AngledList => lists::numbers(alloc, how, 1_000, "{n:i(<{}>)}", repeats),
+            Shape::LongList => lists::numbers(alloc, how, 100_000, "{n:i({} )}", repeats),
+            Shape::LongPaddedList => {
+                lists::numbers(alloc, how, 100_000, "{n:>600000i({} )}", repeats)
             }
-            Workload::NestedLists => lists::nested(alloc, repeats),
-            Workload::Specs => renders::specs(alloc, repeats),
-            Workload::Radix => renders::radix(alloc, repeats),
-            Workload::Exponents => renders::exponents(alloc, repeats),
-            Workload::PaddedTexts => renders::padded_texts(alloc, repeats),
-            Workload::Wide => renders::wide(alloc, repeats),
-            Workload::LongDigits => renders::long_digits(alloc, repeats),
-            Workload::SixtyBits => renders::sixty_bits(alloc, repeats),
-            Workload::SixteenHex => renders::sixteen_hex(alloc, repeats),
+            Shape::NestedLists => lists::nested(alloc, how, repeats),
+        }
+    }
+}
+
+impl Rows {
+    // Renders the values so often.
+    fn repeat(self, alloc: Global, repeats: u32) -> Result<String, Failure> {
+        match self {
+            Rows::Specs => renders::specs(alloc, repeats),
+            Rows::Radix => renders::radix(alloc, repeats),
+            Rows::Exponents => renders::exponents(alloc, repeats),
+            Rows::PaddedTexts => renders::padded_texts(alloc, repeats),
+            Rows::Wide => renders::wide(alloc, repeats),
+            Rows::LongDigits => renders::long_digits(alloc, repeats),
+            Rows::SixtyBits => renders::sixty_bits(alloc, repeats),
+            Rows::SixteenHex => renders::sixteen_hex(alloc, repeats),
         }
     }
 }
 
 /// The workload of a name.
 pub fn workload_of(name: &str) -> Option<Workload> {
-    for workload in Workload::ALL {
+    for workload in ALL {
         if workload.name() == name {
             return Some(workload);
         }

@@ -8,7 +8,7 @@ use crate::counting::Counting;
 use crate::limited::Limited;
 use crate::tables::told::{Told, told_by};
 use crate::tables::{Call, give, give_in_room};
-use interpolator::{Formattable, Interpolate, TextBuffer, Trait, format, write};
+use interpolator::{Formattable, Interpolate, Template, TextBuffer, Trait, format, write};
 use own::{Everywhere, Nowhere, OnlyFive};
 use rows::{PLAIN, PLAIN_ROOM};
 use spec_rows::{ASKED, ASKED_IN_VAIN, BROKEN, CUTS, ROOM, WRITTEN};
@@ -74,6 +74,35 @@ fn contexts_of_ones_own(rt: HostRuntime) -> Result<(), Fail> {
     };
     let mut out = TextBuffer::new(rt.alloc());
     let answer = context.write_to(rt.alloc(), &mut out, "{v:5}{v}");
+    assert_eq!(rt; told_by(&answer), Told::MissingTraitImpl(Trait::Display, 7));
+    assert_eq!(rt; out.as_str(), "w5   ");
+    Ok(())
+}
+
+// The rows above, by templates.
+#[test]
+fn templates_in_contexts_of_ones_own(rt: HostRuntime) -> Result<(), Fail> {
+    let alloc = rt.alloc();
+    let name = "Ann";
+    let context = Everywhere {
+        value: Formattable::display(&name),
+    };
+    let template = Template::parse(alloc, "{a}, {b} and {}")?;
+    let text = context.format_template(alloc, &template)?;
+    assert_eq!(rt; text.as_str(), "Ann, Ann and Ann");
+    let mut out = TextBuffer::new(alloc);
+    let answer = Template::parse(alloc, "a{b}")?.write(alloc, &mut out, &Nowhere);
+    assert_eq!(rt; told_by(&answer), Told::MissingValue("b", 2));
+    assert_eq!(rt; out.as_str(), "a");
+    let mut out = TextBuffer::new(alloc);
+    Template::parse(alloc, "{{}}")?.write(alloc, &mut out, &Nowhere)?;
+    assert_eq!(rt; out.as_str(), "{}");
+    let context = Everywhere {
+        value: Formattable::display(&OnlyFive),
+    };
+    let mut out = TextBuffer::new(alloc);
+    let template = Template::parse(alloc, "{v:5}{v}")?;
+    let answer = context.write_template_to(alloc, &mut out, &template);
     assert_eq!(rt; told_by(&answer), Told::MissingTraitImpl(Trait::Display, 7));
     assert_eq!(rt; out.as_str(), "w5   ");
     Ok(())

@@ -15,6 +15,8 @@ mod fault_texts;
 #[cfg(test)]
 mod formats;
 #[cfg(test)]
+mod hostile;
+#[cfg(test)]
 mod limited;
 #[cfg(test)]
 mod lines;
@@ -22,6 +24,8 @@ mod lines;
 mod lists;
 #[cfg(test)]
 mod lists_of_users;
+#[cfg(test)]
+mod loading;
 #[cfg(test)]
 mod long;
 #[cfg(test)]
@@ -34,6 +38,8 @@ mod parts;
 mod render;
 #[cfg(test)]
 mod tables;
+#[cfg(test)]
+mod templates;
 #[cfg(test)]
 mod users;
 #[cfg(test)]

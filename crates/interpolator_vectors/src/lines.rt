@@ -4,8 +4,9 @@ use crate::limited::Limited;
 use crate::tables::held::Slots;
 use crate::tables::told::{Told, answers, told_by};
 use crate::tables::{Call, RoomRow, RoomTable, give_in_room};
+use crate::templates::given::{Given, write_given};
 use interpolator::{
-    Bits, Error, Formattable, Interpolate, Pairs, TextBuffer, View, escape, iwriteln, write,
+    Bits, Error, Formattable, Interpolate, Pairs, Template, TextBuffer, View, escape, iwriteln,
 };
 use std::alloc::Global;
 use std::process::Abort;
@@ -81,11 +82,11 @@ const ESCAPED: [(&str, &str); 9] = [
     ("more than sixteen bytes{ and a brace }", "more than sixteen bytes{{ and a brace }}"),
 ];
 
-/// What a format gives with nothing under any name.
-fn written(alloc: Global, format: &str) -> Result<String, Error> {
+/// What a format or a template gives with nothing under any name.
+fn written(alloc: Global, given: Given<'_>) -> Result<String, Error> {
     let pairs: [(&str, Formattable<'_, u64>); 0] = [];
     let mut out = TextBuffer::new(alloc);
-    write(alloc, &mut out, format, &Pairs(&pairs))?;
+    write_given(alloc, &mut out, given, Pairs(&pairs))?;
     Ok(out.into_string())
 }
 
@@ -94,7 +95,10 @@ fn doubled_braces_give_the_text_back(rt: HostRuntime) -> Result<(), Fail> {
     for (text, doubled) in ESCAPED {
         let format = escape(rt.alloc(), text)?;
         assert_eq!(rt; format.as_str(), doubled, "at {text}");
-        answers(&rt, written(rt.alloc(), doubled), Told::Done, text, doubled);
+        let template = Template::parse(rt.alloc(), doubled)?;
+        for given in [Given::Text(doubled), Given::Template(&template)] {
+            answers(&rt, written(rt.alloc(), given), Told::Done, text, doubled);
+        }
     }
     Ok(())
 }
@@ -144,8 +148,11 @@ fn long_texts_are_doubled(rt: HostRuntime) -> Result<(), Fail> {
         let doubled = repeated(alloc, doubled)?;
         let format = escape(alloc, text.as_str())?;
         assert!(rt; format.as_str() == doubled.as_str(), "at {part}");
-        let written = written(alloc, format.as_str())?;
-        assert!(rt; written.as_str() == text.as_str(), "at {part}");
+        let template = Template::parse(alloc, format.as_str())?;
+        for given in [Given::Text(format.as_str()), Given::Template(&template)] {
+            let written = written(alloc, given)?;
+            assert!(rt; written.as_str() == text.as_str(), "at {part}");
+        }
     }
     Ok(())
 }

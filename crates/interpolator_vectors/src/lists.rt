@@ -50,7 +50,7 @@ fn give_list(rt: &impl Abort, alloc: Global, list: Formattable<'_, View<'_>>) ->
     let mut map = HashMap::new(alloc);
     map.insert("o", list)?;
     for row in &NESTED {
-        gives(rt, alloc, row, &map);
+        gives(rt, alloc, row, &map)?;
     }
     Ok(())
 }

@@ -1,13 +1,14 @@
 //! Long formats, names and texts: none is refused, and none wants more memory than there is.
 
+mod parts;
+
 use crate::counting::Counting;
-use crate::formats::own::Nowhere;
 use crate::limited::Limited;
-use crate::parts::parts_fit;
-use crate::tables::told::{Told, told_by};
+use crate::tables::told::{Told, answers, told_by};
+use crate::templates::given::{Given, format_given};
 use interpolator::{
-    Error, Formattable, Interpolate, ParseError, TextBuffer, TextWrite, Trait, View, iwriteln,
-    write_parts,
+    Error, Formattable, Interpolate, Pairs, ParseError, Template, TextBuffer, TextWrite, Trait,
+    View,
 };
 use std::alloc::{AllocError, Global};
 use std::collections::HashMap;
@@ -98,35 +99,45 @@ fn between(alloc: Global, front: &str, text: &str, end: &str) -> Result<String, 
     Ok(whole)
 }
 
-/// Writes the format, where `n` is 7 and `t` a text.
-fn written<W: TextWrite>(alloc: Global, out: &mut W, format: &str, t: &str) -> Result<(), Error> {
+/// Writes the format or the template, where `n` is 7 and `t` a text.
+fn written<W: TextWrite>(
+    alloc: Global,
+    out: &mut W,
+    given: Given<'_>,
+    t: &str,
+) -> Result<(), Error> {
     let n = View::Unsigned(7);
     let t = View::Text(t);
     let mut context = HashMap::new(alloc);
     context.insert("n", Formattable::display(&n))?;
     context.insert("t", Formattable::debug_display(&t))?;
-    context.write_to(alloc, out, format)
+    match given {
+        Given::Text(format) => context.write_to(alloc, out, format),
+        Given::Template(template) => context.write_template_to(alloc, out, template),
+    }
 }
 
-/// The format's text, where `n` is 7 and `t` a text.
-fn made(alloc: Global, format: &str, t: &str) -> Result<String, Error> {
+/// The text of the format or the template, where `n` is 7 and `t` a text.
+fn made(alloc: Global, given: Given<'_>, t: &str) -> Result<String, Error> {
     let n = View::Unsigned(7);
     let t = View::Text(t);
     let mut context = HashMap::new(alloc);
     context.insert("n", Formattable::display(&n))?;
     context.insert("t", Formattable::debug_display(&t))?;
-    context.format(alloc, format)
+    match given {
+        Given::Text(format) => context.format(alloc, format),
+        Given::Template(template) => context.format_template(alloc, template),
+    }
 }
 
-/// The format's text, where the name alone stands for 7.
-fn made_of_name(alloc: Global, format: &str, name: &str) -> Result<String, Error> {
-    let seven = 7u64;
-    let mut context = HashMap::new(alloc);
-    context.insert(name, Formattable::display(&seven))?;
-    context.format(alloc, format)
+/// The text of the format or the template, where the name alone stands for 7.
+fn made_of_name(alloc: Global, given: Given<'_>, name: &str) -> Result<String, Error> {
+    let pairs = [(name, Formattable::display(&7u64))];
+    format_given(alloc, given, Pairs(&pairs))
 }
 
-/// The format is written and made, where `n` is 7 and `t` the text. It is told by its part.
+/// The format is written and made, where `n` is 7 and `t` the text, and so is its template. It is
+/// told by its part.
 fn prints(
     rt: &impl Abort,
     alloc: Global,
@@ -135,15 +146,18 @@ fn prints(
     text: &str,
     part: &str,
 ) -> Result<(), Fail> {
-    let mut out = TextBuffer::new(alloc);
-    let answer = written(alloc, &mut out, format, t);
-    assert_eq!(rt; told_by(&answer), Told::Done, "at {part}");
-    assert!(rt; out.as_str() == text, "at {part}");
-    let made = made(alloc, format, t);
-    assert_eq!(rt; told_by(&made), Told::Done, "at {part}");
-    match made {
-        Ok(made) => assert!(rt; made.as_str() == text, "at {part}"),
-        Err(_error) => {}
+    let template = Template::parse(alloc, format)?;
+    for given in [Given::Text(format), Given::Template(&template)] {
+        let mut out = TextBuffer::new(alloc);
+        let answer = written(alloc, &mut out, given, t);
+        assert_eq!(rt; told_by(&answer), Told::Done, "at {part}");
+        assert!(rt; out.as_str() == text, "at {part}");
+        let made = made(alloc, given, t);
+        assert_eq!(rt; told_by(&made), Told::Done, "at {part}");
+        match made {
+            Ok(made) => assert!(rt; made.as_str() == text, "at {part}"),
+            Err(_error) => {}
+        }
     }
     Ok(())
 }
@@ -166,12 +180,15 @@ fn faults_after_long_texts(rt: HostRuntime) -> Result<(), Fail> {
         let parts = repeated(alloc, part, count)?;
         let format = between(alloc, parts.as_str(), after, "")?;
         let text = repeated(alloc, printed, count)?;
-        let mut out = TextBuffer::new(alloc);
-        let answer = written(alloc, &mut out, format.as_str(), "");
-        assert_eq!(rt; told_by(&answer), told, "at {part}");
-        assert!(rt; out.as_str() == text.as_str(), "at {part}");
-        let made = made(alloc, format.as_str(), "");
-        assert_eq!(rt; told_by(&made), told, "at {part}");
+        let template = Template::parse(alloc, format.as_str())?;
+        for given in [Given::Text(format.as_str()), Given::Template(&template)] {
+            let mut out = TextBuffer::new(alloc);
+            let answer = written(alloc, &mut out, given, "");
+            assert_eq!(rt; told_by(&answer), told, "at {part}");
+            assert!(rt; out.as_str() == text.as_str(), "at {part}");
+            let made = made(alloc, given, "");
+            assert_eq!(rt; told_by(&made), told, "at {part}");
+        }
     }
     Ok(())
 }
@@ -181,83 +198,15 @@ fn doubled_braces_are_refused_at_their_places(rt: HostRuntime) -> Result<(), Fai
     let alloc = rt.alloc();
     let format = repeated(alloc, "{{}}", 50)?;
     let text = repeated(alloc, "{}", 50)?;
-    for (room, place) in ROOMS {
-        let mut out = Limited::new(alloc, room)?;
-        let answer = written(alloc, &mut out, format.as_str(), "");
-        assert_eq!(rt; told_by(&answer), Told::Fmt(place), "at room {room}");
-        assert_eq!(rt; out.as_str().len(), room, "at room {room}");
-        assert!(rt; text.as_str().starts_with(out.as_str()), "at room {room}");
-    }
-    Ok(())
-}
-
-/// Writes the format as a line and then as a part, where `n` is 7 and `t` a text.
-fn written_otherwise(
-    alloc: Global,
-    out: &mut TextBuffer,
-    format: &str,
-    t: &str,
-) -> Result<(), Error> {
-    let n = View::Unsigned(7);
-    let t = View::Text(t);
-    let mut context = HashMap::new(alloc);
-    context.insert("n", Formattable::display(&n))?;
-    context.insert("t", Formattable::debug_display(&t))?;
-    context.write_line_to(alloc, out, format)?;
-    let parts = [format];
-    if parts_fit(&parts) {
-        context.write_parts_to(alloc, out, &parts)?;
-    }
-    Ok(())
-}
-
-#[test]
-fn long_formats_as_lines_and_as_parts(rt: HostRuntime) -> Result<(), Fail> {
-    let alloc = rt.alloc();
-    for (part, count, printed) in FORMATS {
-        let format = repeated(alloc, part, count)?;
-        let text = repeated(alloc, printed, count)?;
-        let text = between(alloc, text.as_str(), "\n", text.as_str())?;
-        let mut out = TextBuffer::new(alloc);
-        let answer = written_otherwise(alloc, &mut out, format.as_str(), "é\"");
-        assert_eq!(rt; told_by(&answer), Told::Done, "at {part}");
-        assert!(rt; out.as_str() == text.as_str(), "at {part}");
-    }
-    Ok(())
-}
-
-/// What a format is answered with as a line, where nothing is under any name.
-fn line_of_nothing(alloc: Global, format: &str) -> Result<(), Error> {
-    let mut out = TextBuffer::new(alloc);
-    iwriteln(alloc, &mut out, format, &Nowhere)
-}
-
-/// The same as a part.
-fn part_of_nothing(alloc: Global, format: &str) -> Result<(), Error> {
-    let mut out = TextBuffer::new(alloc);
-    let parts = [format];
-    if parts_fit(&parts) {
-        return write_parts(alloc, &mut out, &parts, &Nowhere);
-    }
-    Ok(())
-}
-
-#[test]
-fn long_names_are_missing_in_lines_and_parts(rt: HostRuntime) -> Result<(), Fail> {
-    let alloc = rt.alloc();
-    for (part, count) in NAMES {
-        let name = repeated(alloc, part, count)?;
-        let format = between(alloc, "{", name.as_str(), "}")?;
-        let line = line_of_nothing(alloc, format.as_str());
-        assert!(rt;
-            told_by(&line) == Told::MissingValue(name.as_str(), 1),
-            "at {part}"
-        );
-        let parts = part_of_nothing(alloc, format.as_str());
-        assert!(rt;
-            told_by(&parts) == Told::MissingValue(name.as_str(), 1),
-            "at {part}"
-        );
+    let template = Template::parse(alloc, format.as_str())?;
+    for given in [Given::Text(format.as_str()), Given::Template(&template)] {
+        for (room, place) in ROOMS {
+            let mut out = Limited::new(alloc, room)?;
+            let answer = written(alloc, &mut out, given, "");
+            assert_eq!(rt; told_by(&answer), Told::Fmt(place), "at room {room}");
+            assert_eq!(rt; out.as_str().len(), room, "at room {room}");
+            assert!(rt; text.as_str().starts_with(out.as_str()), "at room {room}");
+        }
     }
     Ok(())
 }
@@ -268,13 +217,16 @@ fn long_names(rt: HostRuntime) -> Result<(), Fail> {
     for (part, count) in NAMES {
         let name = repeated(alloc, part, count)?;
         let format = between(alloc, "{", name.as_str(), "}")?;
-        let found = made_of_name(alloc, format.as_str(), name.as_str());
-        assert_eq!(rt; told_by(&found), Told::Done, "at {part}");
-        let absent = made_of_name(alloc, format.as_str(), "");
-        assert!(rt;
-            told_by(&absent) == Told::MissingValue(name.as_str(), 1),
-            "at {part}"
-        );
+        let template = Template::parse(alloc, format.as_str())?;
+        for given in [Given::Text(format.as_str()), Given::Template(&template)] {
+            let found = made_of_name(alloc, given, name.as_str());
+            answers(&rt, found, Told::Done, "7", part);
+            let absent = made_of_name(alloc, given, "");
+            assert!(rt;
+                told_by(&absent) == Told::MissingValue(name.as_str(), 1),
+                "at {part}"
+            );
+        }
     }
     Ok(())
 }
@@ -296,17 +248,17 @@ fn long_texts(rt: HostRuntime) -> Result<(), Fail> {
 fn goes_in_one_call(
     rt: &impl Abort,
     alloc: Global,
-    format: &str,
+    given: Given<'_>,
     long: &str,
     place: usize,
 ) -> Result<(), Fail> {
     let mut out = Counting::new(alloc);
-    let answer = written(alloc, &mut out, format, long);
+    let answer = written(alloc, &mut out, given, long);
     assert_eq!(rt; told_by(&answer), Told::Done, "at place {place}");
     assert!(rt; out.as_str() == long, "at place {place}");
     assert_eq!(rt; out.calls, 1, "at place {place}");
     let mut out = Limited::new(alloc, 99_999)?;
-    let answer = written(alloc, &mut out, format, long);
+    let answer = written(alloc, &mut out, given, long);
     assert_eq!(rt; told_by(&answer), Told::Fmt(place), "at place {place}");
     assert_eq!(rt; out.as_str().len(), 99_999, "at place {place}");
     Ok(())
@@ -321,6 +273,10 @@ fn long_texts_in_one_call(rt: HostRuntime) -> Result<(), Fail> {
     let mut out = TextBuffer::new(alloc);
     assert_eq!(rt; out.write_str(long.as_str()), Ok(()));
     assert!(rt; out.as_str() == long.as_str());
-    goes_in_one_call(&rt, alloc, "{t}", long.as_str(), 2)?;
-    goes_in_one_call(&rt, alloc, long.as_str(), long.as_str(), 99_999)
+    for (format, place) in [("{t}", 2), (long.as_str(), 99_999)] {
+        goes_in_one_call(&rt, alloc, Given::Text(format), long.as_str(), place)?;
+        let template = Template::parse(alloc, format)?;
+        goes_in_one_call(&rt, alloc, Given::Template(&template), long.as_str(), place)?;
+    }
+    Ok(())
 }

@@ -1,7 +1,7 @@
 //! Maps of many names, of long ones and of the empty one: none is refused.
 
 use crate::tables::told::{Told, answers};
-use interpolator::{ContextMap, Formattable, Interpolate};
+use interpolator::{ContextMap, Formattable, Interpolate, Template};
 use std::alloc::{AllocError, Global};
 use std::process::Abort;
 use std::test::Fail;
@@ -12,6 +12,21 @@ const COUNT: usize = 5_000;
 /// The numbers below the count, which are the names in decimal, too.
 fn numbers(alloc: Global) -> Result<Vec<usize>, AllocError> {
     (0..COUNT).collect(alloc)
+}
+
+/// The format gives the text over the map, and so does its template.
+fn gives(
+    rt: &impl Abort,
+    alloc: Global,
+    map: &ContextMap<'_, usize>,
+    format: &str,
+    text: &str,
+) -> Result<(), Fail> {
+    answers(rt, map.format(alloc, format), Told::Done, text, format);
+    let template = Template::parse(alloc, format)?;
+    let made = map.format_template(alloc, &template);
+    answers(rt, made, Told::Done, text, format);
+    Ok(())
 }
 
 /// Each number is found under its name, displayed and debugged.
@@ -25,8 +40,7 @@ fn finds_each(
     for number in numbers {
         let format = format!(in alloc; "{{{number}}} {{{number}:?}}")?;
         let text = format!(in alloc; "{number} {number}")?;
-        let made = map.format(alloc, format.as_str());
-        answers(rt, made, Told::Done, text.as_str(), format.as_str());
+        gives(rt, alloc, map, format.as_str(), text.as_str())?;
     }
     Ok(())
 }
@@ -59,26 +73,25 @@ fn many_names_are_entered(rt: HostRuntime) -> Result<(), Fail> {
 #[test]
 fn the_empty_name_is_put_and_entered(rt: HostRuntime) -> Result<(), Fail> {
     let alloc = rt.alloc();
-    let values = [7u64, 8];
+    let values = [7, 8];
     let mut map = ContextMap::new(alloc);
     map.put("", Formattable::display(&values[0]))?;
     assert_eq!(rt; map.len(), 1);
-    answers(&rt, map.format(alloc, "<{}>"), Told::Done, "<7>", "<{}>");
+    gives(&rt, alloc, &map, "<{}>", "<7>")?;
     map.put("", Formattable::display(&values[1]))?;
     assert_eq!(rt; map.len(), 1);
-    answers(&rt, map.format(alloc, "<{}>"), Told::Done, "<8>", "<{}>");
+    gives(&rt, alloc, &map, "<{}>", "<8>")?;
     let mut map = ContextMap::new(alloc);
     map.entry("")?.set_display(&values[0]);
     map.entry("")?.set_debug(&values[1]);
     assert_eq!(rt; map.len(), 1);
-    answers(&rt, map.format(alloc, "{}{:?}"), Told::Done, "78", "{}{:?}");
-    Ok(())
+    gives(&rt, alloc, &map, "{}{:?}", "78")
 }
 
 #[test]
 fn long_names_are_put_and_entered(rt: HostRuntime) -> Result<(), Fail> {
     let alloc = rt.alloc();
-    let seven = 7u64;
+    let seven = 7;
     let mut name = String::new(alloc);
     for _ in 0..100_000 {
         name.push('a')?;
@@ -89,7 +102,5 @@ fn long_names_are_put_and_entered(rt: HostRuntime) -> Result<(), Fail> {
     map.put(name.as_str(), Formattable::display(&seven))?;
     map.entry(other.as_str())?.set_display(&seven);
     assert_eq!(rt; map.len(), 2);
-    let text = map.format(alloc, format.as_str())?;
-    assert_eq!(rt; text.as_str(), "77");
-    Ok(())
+    gives(&rt, alloc, &map, format.as_str(), "77")
 }

@@ -1,7 +1,9 @@
 //! Rows of pairs as a context.
 
 use crate::tables::told::{Told, answers, told_by};
-use interpolator::{Context, Formattable, Interpolate, Pairs};
+use crate::templates::given::{Given, format_given};
+use interpolator::{Context, Formattable, Pairs, Template};
+use std::test::Fail;
 
 /// Formats over the pairs `n` 1, `nn` 2, the empty name 3, `é` 4 and `n` 5, and what they print.
 /// Worked by hand from the rules of contexts and of arguments in docs/DEFINITIONS.md.
@@ -29,7 +31,8 @@ const ABSENT: [(&str, &str); 6] = [
 ];
 
 #[test]
-fn the_last_pair_of_a_name_stands(rt: HostRuntime) {
+fn the_last_pair_of_a_name_stands(rt: HostRuntime) -> Result<(), Fail> {
+    let alloc = rt.alloc();
     let values = [1u64, 2, 3, 4, 5];
     let pairs = [
         ("n", Formattable::display(&values[0])),
@@ -39,21 +42,32 @@ fn the_last_pair_of_a_name_stands(rt: HostRuntime) {
         ("n", Formattable::display(&values[4])),
     ];
     for (format, text) in FOUND {
-        let made = Pairs(&pairs).format(rt.alloc(), format);
-        answers(&rt, made, Told::Done, text, format);
+        let template = Template::parse(alloc, format)?;
+        for given in [Given::Text(format), Given::Template(&template)] {
+            let made = format_given(alloc, given, Pairs(&pairs));
+            answers(&rt, made, Told::Done, text, format);
+        }
     }
     for (format, name) in ABSENT {
-        let made = Pairs(&pairs).format(rt.alloc(), format);
-        assert_eq!(rt; told_by(&made), Told::MissingValue(name, 1), "at {format}");
+        let template = Template::parse(alloc, format)?;
+        for given in [Given::Text(format), Given::Template(&template)] {
+            let made = format_given(alloc, given, Pairs(&pairs));
+            assert_eq!(rt; told_by(&made), Told::MissingValue(name, 1), "at {format}");
+        }
     }
+    Ok(())
 }
 
 #[test]
-fn no_pairs_have_no_name(rt: HostRuntime) {
+fn no_pairs_have_no_name(rt: HostRuntime) -> Result<(), Fail> {
     let pairs: [(&str, Formattable<'_, u64>); 0] = [];
-    let made = Pairs(&pairs).format(rt.alloc(), "{{none}}");
-    answers(&rt, made, Told::Done, "{none}", "{{none}}");
+    let template = Template::parse(rt.alloc(), "{{none}}")?;
+    for given in [Given::Text("{{none}}"), Given::Template(&template)] {
+        let made = format_given(rt.alloc(), given, Pairs(&pairs));
+        answers(&rt, made, Told::Done, "{none}", "{{none}}");
+    }
     for name in ["", "n"] {
         assert!(rt; Context::get(&Pairs(&pairs), name).is_none(), "at `{name}`");
     }
+    Ok(())
 }

@@ -3,7 +3,9 @@ ghost use Rattle.std.specs.Prelude.{◌<◌, ◌^◌, IsTrue};
 ghost use Rattle.interpolator.specs.Meaning.Parts.{bytes_of};
 
 use crate::tables::told::{Told, told_by};
-use interpolator::{Formattable, Interpolate, Pairs, ParseError, TextBuffer, seam, write_parts};
+use interpolator::{
+    Formattable, Interpolate, Pairs, ParseError, Template, TextBuffer, seam, write_parts,
+};
 use std::alloc::Global;
 use std::process::Abort;
 use std::test::Fail;
@@ -82,7 +84,8 @@ pub(crate) fn parts_fit(parts: &[&str]) -> bool
     true
 }
 
-/// The parts give the text and what is told, by the function and by the method.
+/// The parts give the text and what is told, by the function and by the method. One alone does so
+/// by its template, too.
 fn give(
     rt: &impl Abort,
     alloc: Global,
@@ -101,6 +104,14 @@ fn give(
         let answer = context.write_parts_to(alloc, &mut out, parts);
         assert_eq!(rt; told_by(&answer), told, "{parts:?}");
         assert_eq!(rt; out.as_str(), text, "{parts:?}");
+    }
+    if let [part] = parts {
+        let template = Template::parse(alloc, part)?;
+        let mut out = TextBuffer::new(alloc);
+        let context = Pairs(&[("x", Formattable::display(&1u64))]);
+        let answer = context.write_template_to(alloc, &mut out, &template);
+        assert_eq!(rt; told_by(&answer), told, "{part}");
+        assert_eq!(rt; out.as_str(), text, "{part}");
     }
     Ok(())
 }

@@ -5,7 +5,7 @@ pub(crate) mod told;
 
 use crate::limited::Limited;
 use held::{Held, HeldList, all_items, map_of};
-use interpolator::{Formattable, Interpolate, TextBuffer, TextWrite, View};
+use interpolator::{Error, Formattable, Interpolate, Template, TextBuffer, TextWrite, View};
 use std::alloc::Global;
 use std::collections::HashMap;
 use std::process::Abort;
@@ -41,7 +41,7 @@ pub(crate) struct RoomTable<'a> {
     pub(crate) rows: &'a [RoomRow<'a>],
 }
 
-/// How a format is written.
+/// How a format is written: as a text, also by its template, or as a line.
 #[derive(Clone, Copy)]
 pub(crate) enum Call {
     Text,
@@ -54,7 +54,7 @@ pub(crate) fn gives<'a>(
     alloc: Global,
     row: &Row<'_>,
     map: &HashMap<&'a str, Formattable<'a, View<'a>>>,
-) {
+) -> Result<(), Fail> {
     let mut out = TextBuffer::new(alloc);
     let answer = map.write_to(alloc, &mut out, row.format);
     assert_eq!(rt; told_by(&answer), row.told, "at {}", row.format);
@@ -67,6 +67,44 @@ pub(crate) fn gives<'a>(
         row.text,
         row.format,
     );
+    gives_by_template(rt, alloc, row, map)
+}
+
+/// Whether this is a fault of the format itself, which it has in every context.
+fn is_of_the_text(told: Told<'_>) -> bool {
+    matches!(told, Told::Parse(_) | Told::UnsupportedOption(_, _, _))
+}
+
+/// The row is given by the template of its format, which is read whether it is broken or not.
+fn gives_by_template<'a>(
+    rt: &impl Abort,
+    alloc: Global,
+    row: &Row<'_>,
+    map: &HashMap<&'a str, Formattable<'a, View<'a>>>,
+) -> Result<(), Fail> {
+    let template = Template::parse(alloc, row.format)?;
+    assert_eq!(rt; template.text(), row.format);
+    if is_of_the_text(row.told) {
+        assert!(rt; template.check().is_err(), "at the check of {}", row.format);
+    }
+    let mut out = TextBuffer::new(alloc);
+    let answer = map.write_template_to(alloc, &mut out, &template);
+    assert_eq!(rt;
+        told_by(&answer),
+        row.told,
+        "at the template of {}",
+        row.format
+    );
+    assert_eq!(rt; out.as_str(), row.text, "at the template of {}", row.format);
+    assert!(rt; !out.refused(), "at the template of {}", row.format);
+    answers(
+        rt,
+        map.format_template(alloc, &template),
+        row.told,
+        row.text,
+        row.format,
+    );
+    Ok(())
 }
 
 /// The row is given by a writer that takes no more than its room.
@@ -82,15 +120,37 @@ fn gives_in_room<'a>(
         Call::Text => map.write_to(alloc, &mut out, row.format),
         Call::Line => map.write_line_to(alloc, &mut out, row.format),
     };
+    holds(rt, row, &out, &answer);
+    match call {
+        Call::Text => gives_in_room_by_template(rt, alloc, row, map),
+        Call::Line => Ok(()),
+    }
+}
+
+/// The row is given by its format's template and a writer that takes no more than its room.
+fn gives_in_room_by_template<'a>(
+    rt: &impl Abort,
+    alloc: Global,
+    row: &RoomRow<'_>,
+    map: &HashMap<&'a str, Formattable<'a, View<'a>>>,
+) -> Result<(), Fail> {
+    let template = Template::parse(alloc, row.format)?;
+    let mut out = Limited::new(alloc, row.room)?;
+    let answer = map.write_template_to(alloc, &mut out, &template);
+    holds(rt, row, &out, &answer);
+    Ok(())
+}
+
+/// The writer holds what the row says, and this was answered.
+fn holds(rt: &impl Abort, row: &RoomRow<'_>, out: &Limited, answer: &Result<(), Error>) {
     assert_eq!(rt;
-        told_by(&answer),
+        told_by(answer),
         row.told,
         "at {} in {}",
         row.format,
         row.room
     );
     assert_eq!(rt; out.as_str(), row.text, "at {} in {}", row.format, row.room);
-    Ok(())
 }
 
 /// The rows are given.
@@ -99,10 +159,11 @@ fn give_rows<'a>(
     alloc: Global,
     rows: &[Row<'_>],
     map: &HashMap<&'a str, Formattable<'a, View<'a>>>,
-) {
+) -> Result<(), Fail> {
     for row in rows {
-        gives(rt, alloc, row, map);
+        gives(rt, alloc, row, map)?;
     }
+    Ok(())
 }
 
 /// The rows of writers with little room are given.
@@ -126,8 +187,7 @@ pub(crate) fn give(rt: &impl Abort, alloc: Global, table: &Table<'_>) -> Result<
     for ((name, _, _), items) in table.lists.iter().zip(&all) {
         map.insert(*name, Formattable::iter(items))?;
     }
-    give_rows(rt, alloc, table.rows, &map);
-    Ok(())
+    give_rows(rt, alloc, table.rows, &map)
 }
 
 /// The rows of a table of writers with little room are given in its context.

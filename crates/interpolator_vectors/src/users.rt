@@ -6,7 +6,8 @@ mod log;
 mod record;
 
 use interpolator::{
-    Bits, ContextMap, Error, Formattable, Interpolate, Pairs, Spec, TextBuffer, Trait, Value, View,
+    Bits, ContextMap, Error, Formattable, Interpolate, Pairs, Spec, Template, TextBuffer, Trait,
+    Value, View,
 };
 use std::alloc::Global;
 use std::collections::HashMap;
@@ -19,11 +20,11 @@ struct Guest<'a> {
     city: &'a str,
 }
 
-/// A letter for each row, by pairs: with no map and no memory.
+/// A letter for each row, by pairs and a template that was read once: with no map and no memory.
 fn letters(
     alloc: Global,
     out: &mut TextBuffer,
-    template: &str,
+    template: &Template,
     guests: &[Guest<'_>],
 ) -> Result<(), Error> {
     for guest in guests {
@@ -31,7 +32,7 @@ fn letters(
             ("name", Formattable::display(&guest.name)),
             ("city", Formattable::display(&guest.city)),
         ])
-        .write_to(alloc, out, template)?;
+        .write_template_to(alloc, out, template)?;
     }
     Ok(())
 }
@@ -201,13 +202,15 @@ fn users_write_pairs(rt: HostRuntime) -> Result<(), Fail> {
         },
     ];
     let mut out = TextBuffer::new(alloc);
-    letters(alloc, &mut out, "Hello {name}, how is {city}?\n", &guests)?;
+    let letter = Template::parse(alloc, "Hello {name}, how is {city}?\n")?;
+    letters(alloc, &mut out, &letter, &guests)?;
     assert_eq!(rt;
         out.as_str(),
         "Hello Ann, how is Oslo?\nHello Béla, how is Győr?\n"
     );
     let mut columns = TextBuffer::new(alloc);
-    letters(alloc, &mut columns, "{name:>6}|{city:.2}\n", &guests)?;
+    let row = Template::parse(alloc, "{name:>6}|{city:.2}\n")?;
+    letters(alloc, &mut columns, &row, &guests)?;
     assert_eq!(rt; columns.as_str(), "   Ann|Os\n  Béla|Gy\n");
     assert_eq!(rt; apples(alloc, "Ann", -7)?.as_str(), "Ann has {-7} apples");
     assert_eq!(rt;

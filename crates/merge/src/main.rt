@@ -1,13 +1,15 @@
 //! `merge TEMPLATE TABLE`: a letter for each row of the table.
 #![tactic(auto)]
 
-use interpolator::{ContextMap, Error, Formattable, Interpolate, TextBuffer};
+use interpolator::{ContextMap, Error, Formattable, Interpolate, Template, TextBuffer};
 use std::alloc::Global;
 use std::process::ExitCode;
 use std::{env, fs, io};
 
-/// A letter for each line after the first, which has the names of the fields.
+/// A letter for each line after the first, which has the names of the fields. The template is read
+/// once.
 fn merged(alloc: Global, template: &str, table: &str) -> Result<String, Error> {
+    let template = Template::parse(alloc, template)?;
     let mut out = TextBuffer::new(alloc);
     let mut lines = table.lines();
     let Some(header) = lines.next() else {
@@ -20,7 +22,7 @@ fn merged(alloc: Global, template: &str, table: &str) -> Result<String, Error> {
         for (name, field) in names.iter().zip(&fields) {
             context.put(name, Formattable::debug_display(field))?;
         }
-        context.write_to(alloc, &mut out, template)?;
+        context.write_template_to(alloc, &mut out, &template)?;
     }
     Ok(out.into_string())
 }
@@ -66,7 +68,10 @@ mod tests {
             merged(rt.alloc(), template, table)?.as_str(),
             "Dear Ann,\nyour \"bike\" costs      120 EUR.\n\nDear Zoë,\nyour \"{x}\" costs        7 EUR.\n\n"
         );
-        assert_eq!(rt; merged(rt.alloc(), template, "name,item")?.as_str(), "");
+        for table in ["", "name,item"] {
+            assert_eq!(rt; merged(rt.alloc(), template, table)?.as_str(), "");
+            assert_eq!(rt; merged(rt.alloc(), "{name", table)?.as_str(), "");
+        }
         match merged(rt.alloc(), "{name}: {price}", "name,price\nAnn\n") {
             Err(Error::MissingValue(name, 9)) => assert_eq!(rt; name.as_str(), "price"),
             _ => assert!(rt; false, "the row has no price"),

@@ -1,7 +1,7 @@
 -- What a text means, by its pieces: neither how deep groups may be nested counts, as long as it is
 -- deep enough, nor what an environment gives under names that the text does not ask.
 use Rattle.std.proofs.Common.{◌≡◌, ℕ, zero, suc, ◌<◌, List, [], ◌∷◌, length, arith, refl, ap}
-use Rattle.std.proofs.Common.{Option, Some, None, subst}
+use Rattle.std.proofs.Common.{Option, Some, None, subst, sym, ◌∙◌}
 use Rattle.interpolator_render.specs.declared.view.Trait.{Trait}
 use Rattle.interpolator_render.specs.declared.view.Spec.{Spec}
 use Rattle.interpolator_render.specs.Views.{Shown}
@@ -18,7 +18,33 @@ use Rattle.interpolator.specs.Meaning.AskedNames.{group_asks, kind_asks, piece_a
 use Rattle.interpolator.specs.Meaning.AskedNames.{pieces_ask, asked_within, asked_names, AgreeOn}
 use Rattle.interpolator.proofs.MeaningLemmas.RelatedLemmas.{Kept, pieces_related, agree_self}
 
--- ---- the names of a text are those of its pieces, at any depth that is deep enough
+-- ---- what is gathered from a text by a step that runs over its groups as over texts: any depth
+-- that is deep enough gives the same
+
+module _ {Y : Type 0} (step : (At → Y) → At → Y) (within : ℕ → At → Y)
+    (deeper : (n : ℕ) (a : At) → within (suc n) a ≡ step (within n) a)
+    (same : (run other : At → Y) (a : At)
+    → ((b : At) → length b.text < length a.text → run b ≡ other b)
+    → step run a ≡ step other a) where
+  deep_same : (n m : ℕ) (a : At) → length a.text < n → length a.text < m → within n a ≡ within m a
+  deep_same zero m a h k = absurd (omega (arith, h))
+  deep_same (suc n) zero a h k = absurd (omega (arith, k))
+  deep_same (suc n) (suc m) a h k =
+      deeper n a
+      ∙ same (within n) (within m) a
+      (λ b l. deep_same n m b (omega (arith, h, l)) (omega (arith, k, l)))
+      ∙ sym (deeper m a)
+
+  -- it is the step over what is gathered from the groups
+  pub by_groups : (a : At)
+      → within (suc (length a.text)) a ≡ step (λ b. within (suc (length b.text)) b) a
+  by_groups a =
+      let n = length a.text in
+      deeper n a
+      ∙ same (within n) (λ b. within (suc (length b.text)) b) a
+      (λ b l. deep_same n (suc (length b.text)) b l (omega arith))
+
+-- ---- the names of a text are those of its pieces
 
 module _ (a : At) (run other : At → List (List ℕ))
     (same : (b : At) → length b.text < length a.text → run b ≡ other b) where
@@ -39,21 +65,12 @@ module _ (a : At) (run other : At → List (List ℕ))
   pieces_alike [] h = refl
   pieces_alike (x ∷ xs) h = rw (piece_alike x.kind h.0, pieces_alike xs h.2) refl
 
-deep_names : (n m : ℕ) (a : At) → length a.text < n → length a.text < m
-    → asked_within n a ≡ asked_within m a
-deep_names zero m a h k = absurd (omega (arith, h))
-deep_names (suc n) zero a h k = absurd (omega (arith, k))
-deep_names (suc n) (suc m) a h k =
-    pieces_alike a (asked_within n) (asked_within m)
-    (λ b l. deep_names n m b (omega (arith, h, l)) (omega (arith, k, l))) (pieces a) (pieces_in a)
-
 -- the names that a text asks are those of its pieces
 pub asked_pieces : (a : At) → asked_names a ≡ pieces_ask asked_names (pieces a)
 unfolding asked_names
 asked_pieces a =
-    pieces_alike a (asked_within (length a.text)) asked_names
-    (λ b l. deep_names (length a.text) (suc (length b.text)) b l (omega arith)) (pieces a)
-    (pieces_in a)
+    by_groups (λ run b. pieces_ask run (pieces b)) asked_within (λ n b. refl)
+    (λ run other b same. pieces_alike b run other same (pieces b) (pieces_in b)) a
 
 -- ---- any depth that is deep enough
 

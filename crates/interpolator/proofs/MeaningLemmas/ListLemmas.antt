@@ -1,6 +1,6 @@
 -- Lists: how long their groups are, and what writing the items one after the other leaves.
-use Rattle.std.proofs.Common.{◌≡◌, refl, ◌∙◌, ap, arith, ℕ, ◌+◌, ◌<◌, ◌≤◌, max, Bool, false, cond}
-use Rattle.std.proofs.Common.{List, ◌∷◌, map, drop, length, get_or, Option, None, Some, is_some, Ok}
+use Rattle.std.proofs.Common.{◌≡◌, refl, arith, ℕ, ◌+◌, ◌<◌, ◌≤◌, max}
+use Rattle.std.proofs.Common.{List, ◌∷◌, map, drop, length, get_or, Option, None, Some, Ok}
 use Rattle.std.proofs.lemmas.List.{drop_more, drop_all}
 use Rattle.interpolator_render.specs.declared.view.Spec.{Spec}
 use Rattle.interpolator_render.specs.declared.view.Trait.{Trait}
@@ -12,14 +12,11 @@ use Rattle.interpolator_syntax.specs.SpecTexts.{Kind, of_value, of_list}
 use Rattle.interpolator_syntax.specs.Arguments.{Argument, argument_at}
 use Rattle.interpolator_syntax.specs.Faults.{Answer}
 use Rattle.interpolator.specs.Slots.{Slots}
-use Rattle.interpolator.specs.Meaning.Choices.{chosen_items}
 use Rattle.interpolator.specs.Meaning.Environments.{Environment}
-use Rattle.interpolator.specs.Meaning.Lists.{padded_list_means}
-use Rattle.interpolator.specs.Meaning.Meanings.{Meaning, items_after, forbids_list, chosen_means}
-use Rattle.interpolator.specs.Meaning.Meanings.{list_means, item_means, join_means, means}
+use Rattle.interpolator.specs.Meaning.Meanings.{Meaning, items_after, chosen_means}
+use Rattle.interpolator.specs.Meaning.Meanings.{item_means, join_means, means}
 use Rattle.interpolator.specs.Meaning.Sinks.{SinkState, Evaluates, Writes, seen}
 use Rattle.interpolator.specs.declared.meaning.sink.Sink as code_sink
-use Rattle.interpolator.proofs.MeaningLemmas.ChoiceLemmas.{map-chosen}
 use Rattle.interpolator.proofs.MeaningLemmas.SinkLemmas.{and_then, fault_first, nothing_done}
 use Rattle.interpolator.proofs.MeaningLemmas.SinkLemmas.{same_sink, same_then}
 use Rattle.interpolator_syntax.proofs.SizeLemmas.{GroupIfIn, KindIn, argument_in}
@@ -119,20 +116,3 @@ module _ {F X W : Type 0} (shows : X → Trait → Spec → Shown) (written : W 
         → Writes written All s t (Some q)
     first_fault q o =
         record { evaluates = rw split (fault_first _ _ _ _ q o.evaluates); same = o.same }
-
--- a list under a spec that it may have, by what its chosen items come to
-module _ {X : Type 0} (shows : X → Trait → Spec → Shown)
-    (run : Environment X → At → Meaning) (e : Environment X) where
-  module _ {F W : Type 0} (written : W → Written) (tree : F → Slots X) (l : ListAsked)
-      (spec : Spec) (q : ℕ) (xs ys : List F) (s u : code_sink.Sink W) (r : Option Answer)
-      (may : forbids_list spec ≡ false) (chosen : ys ≡ chosen_items l.range xs) where
-    same_items : map tree ys ≡ chosen_items l.range (map tree xs)
-    same_items = ap (map tree) chosen ∙ map-chosen tree l.range xs
-
-    -- under a width its text is made whole, and else written item by item
-    pub list_writes : (wide : Bool) → is_some spec.width ≡ wide
-        → (let all = chosen_means shows run e l q (map tree ys) in
-        Writes written (cond wide (padded_list_means spec q all) all) s u r)
-        → Writes written (list_means shows run e l spec q (Some (map tree xs))) s u r
-    list_writes wide w o =
-        record { evaluates = rw (may, w, ← same_items) o.evaluates; same = o.same }

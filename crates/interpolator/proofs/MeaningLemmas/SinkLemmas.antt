@@ -24,7 +24,7 @@ stays (Some _) (Some _) None x y z h k = k
 stays None (Some _) c x y z h k = absurd h
 stays (Some _) None c x y z h k = absurd h
 
-stays_same : (a : Option Written) (x : Written) → StaysBy a a x x
+pub stays_same : (a : Option Written) (x : Written) → StaysBy a a x x
 stays_same None x = tt
 stays_same (Some b) x = refl
 

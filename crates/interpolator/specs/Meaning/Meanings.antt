@@ -21,6 +21,7 @@ use Rattle.interpolator_syntax.specs.Tokens.{Token, literals, argument}
 use Rattle.interpolator_syntax.specs.Tokens.{doubled as doubled_token, lone_close as lone_token}
 use Rattle.interpolator_syntax.specs.Faults.{Fault, missing_value, missing_trait_impl, fmt, parse}
 use Rattle.interpolator_syntax.specs.Faults.{expected, iter}
+use Rattle.interpolator_syntax.specs.declared.range.Range.{Range}
 use Rattle.interpolator.specs.Slots.{Slots, values_of, items, slot_at}
 use Rattle.interpolator.specs.Meaning.Choices.{chosen_items}
 use Rattle.interpolator.specs.Meaning.Environments.{Environment, given, bind}
@@ -109,6 +110,21 @@ abbrev pub items_mean : {X : Type 0} → (join : Meaning) → (X → Meaning) �
 items_mean join item [] = nothing
 items_mean join item (x ∷ xs) = joined (item x) (items_after join item xs)
 
+-- what was found under the name of an argument that starts at `start`, by what a value means
+abbrev pub under_name : {X : Type 0} → (name : List ℕ) → (start : ℕ) → (X → Meaning) → Option X
+    → Meaning
+under_name name start means None = fault_wanting_memory (missing_value name start)
+under_name name start means (Some found) = means found
+
+-- the items of what was found, if it is a list, of which a range chooses some, where this is what
+-- the join and an item mean
+abbrev pub listed_means : {X : Type 0} → Option Range → Spec → (end : ℕ) → (join : Meaning)
+    → (item : X → Meaning) → Option (List X) → Meaning
+listed_means range spec end join item None = fault_alone (missing_trait_impl traits.Iter end)
+listed_means range spec end join item (Some ts) =
+    if forbids_list spec then fault_alone (parse (iter end))
+    else padded_list spec end (items_mean join item (chosen_items range ts))
+
 module _ {X : Type 0} (shows : X → Trait → Spec → Shown) where
   -- `run` is what a text within this one means
   module _ (run : Environment X → At → Meaning) (e : Environment X) where
@@ -130,10 +146,7 @@ module _ {X : Type 0} (shows : X → Trait → Spec → Shown) where
 
     -- the items of what was found, if it is a list
     abbrev pub list_means : ListAsked → Spec → (end : ℕ) → Option (List (Slots X)) → Meaning
-    list_means l spec end None = fault_alone (missing_trait_impl traits.Iter end)
-    list_means l spec end (Some ts) =
-        if forbids_list spec then fault_alone (parse (iter end))
-        else padded_list spec end (chosen_means l end (chosen_items l.range ts))
+    list_means l spec end = listed_means l.range spec end (join_means l.join) (item_means end l.item)
 
     -- what was found means, by what the argument asks for
     abbrev pub kind_means : Kind → Spec → (end : ℕ) → Slots X → Meaning
@@ -142,8 +155,7 @@ module _ {X : Type 0} (shows : X → Trait → Spec → Shown) where
 
     -- what was found under the name of an argument that starts at `start`
     abbrev pub found_means : (start : ℕ) → Argument → (end : ℕ) → Option (Slots X) → Meaning
-    found_means start x end None = fault_wanting_memory (missing_value x.name start)
-    found_means start x end (Some found) = kind_means x.kind x.spec end found
+    found_means start x end = under_name x.name start (kind_means x.kind x.spec end)
 
     -- an argument means what its name gives
     abbrev pub argument_means : (start : ℕ) → Argument → (end : ℕ) → Meaning

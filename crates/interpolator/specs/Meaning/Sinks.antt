@@ -1,6 +1,7 @@
 -- What is written to a sink: a writer, or a buffer in its stead.
 use Rattle.std.specs.Prelude.{◌≡◌, Option, None, Some, option_map, ⊤, Result, Ok, Err}
-use Rattle.interpolator_render.specs.Written.{Written, as_writer}
+use Rattle.interpolator_render.specs.Written.{Written}
+use Rattle.interpolator_render.specs.Bounds.{bounded_writer}
 use Rattle.interpolator_syntax.specs.Faults.{Answer, fault, missing_trait_impl, fmt}
 use Rattle.interpolator.specs.Meaning.Meanings.{Meaning}
 use Rattle.interpolator.specs.Meaning.Outcomes.{Outcome}
@@ -43,7 +44,7 @@ sink_state out aside = record { out = out; aside = aside }
 
 -- what is known of a sink, where `written` is what is known of its writer
 abbrev pub seen : {W : Type 0} → (W → Written) → code_sink.Sink W → SinkState
-seen written s = sink_state (written s.out.now) (option_map as_writer s.aside.now)
+seen written s = sink_state (written s.out.now) (option_map bounded_writer s.aside.now)
 
 -- it holds the same two references
 pub record SameSink {W : Type 0} (old new : code_sink.Sink W) : Type 0 where

@@ -4,7 +4,6 @@ ghost use Rattle.interpolator_syntax.specs.At.{at, strip};
 ghost use Rattle.interpolator_syntax.specs.Classes.{close_brace};
 ghost use Rattle.interpolator_syntax.specs.Arguments.{argument_at, argument_after, plain_argument};
 ghost use Rattle.interpolator_syntax.specs.Arguments.{named_argument, asked_of, list_of};
-ghost use Rattle.interpolator_syntax.specs.SpecTexts.{of_value};
 ghost use Rattle.interpolator_syntax.specs.Groups.{group_of};
 ghost use Rattle.interpolator_syntax.specs.Faults.{answered};
 ghost use Rattle.interpolator.specs.Meaning.Meanings.{means, argument_means, argument_from_means};
@@ -16,11 +15,12 @@ ghost use Rattle.interpolator.specs.Meaning.Sinks.{Writes};
 ghost use Rattle.interpolator.specs.Slots.{slots_of};
 
 use crate::context::Context;
-use crate::meaning::list::{choose, forbids_list, inside};
+use crate::meaning::list::inside;
 use crate::meaning::scope::Scope;
 use crate::meaning::sink::Sink;
+use crate::meaning::value::{chosen_list, write_value};
 use crate::slots::Formattable;
-use interpolator_render::{Spec, TextBuffer, TextWrite, Trait};
+use interpolator_render::{Bounded, Spec, TextWrite, Trait};
 use interpolator_syntax::{
     ArgumentName, Asked, Cursor, Error, Group, ListForm, ParseError, Token, error_of, next_token,
     take_asked, take_name,
@@ -95,11 +95,16 @@ fn write_alone<'a, W: TextWrite, C: Context>(
         start (plain_argument named.entry) named.entry.end.place)
         sink.old sink.new (answered result) }
 {
-    let Some(value) = scope.value(named.name, Trait::Display) else {
-        return Err(scope.missing(named.name, start));
-    };
-    sink.put_value(value, Trait::Display, &Spec::default(), named.end.place)?;
-    Ok(())
+    let spec = Spec::default();
+    write_value(
+        sink,
+        scope,
+        start,
+        named.name,
+        Trait::Display,
+        &spec,
+        named.end.place,
+    )
 }
 
 /// Writes what the argument means that begins here and has that name, with more after it. Returns
@@ -152,32 +157,8 @@ fn write_named<'a, W: TextWrite, C: Context>(
 {
     match asked.slot {
         Trait::Iter => write_list(sink, scope, start, named, asked, end),
-        t => write_value(sink, scope, start, named, t, &asked.spec, end),
+        t => write_value(sink, scope, start, named.name, t, &asked.spec, end),
     }
-}
-
-/// Writes the value under a name, for an argument that starts at `start` and whose spec ends at
-/// `end`.
-#[inline(always)]
-fn write_value<'a, W: TextWrite, C: Context>(
-    sink: &mut Sink<'_, W>,
-    scope: &Scope<'a, C, C::Object>,
-    start: usize,
-    named: ArgumentName<'_>,
-    t: Trait,
-    spec: &Spec,
-    end: usize,
-) -> Result<(), Error>
-    ensures writes { Writes W.written
-        (argument_means C.Object.shows (means C.Object.shows) (environment_of C.finds scope.now)
-        start (named_argument named.entry (record { spec = spec.now; kind = of_value t })) end)
-        sink.old sink.new (answered result) }
-{
-    let Some(value) = scope.value(named.name, t) else {
-        return Err(scope.missing(named.name, start));
-    };
-    sink.put_value(value, t, spec, end)?;
-    Ok(())
 }
 
 /// Writes the list under a name, for an argument that starts at `start` and whose spec ends at
@@ -197,17 +178,8 @@ fn write_list<'a, W: TextWrite, C: Context>(
         start (named_argument named.entry (list_under asked.now)) end)
         sink.old sink.new (answered result) }
 {
-    let Some(found) = scope.items(named.name) else {
-        return Err(scope.missing(named.name, start));
-    };
-    let Some(items) = found else {
-        return Err(Error::MissingTraitImpl(Trait::Iter, end));
-    };
     let spec = &asked.spec;
-    if forbids_list(spec) {
-        return Err(Error::Parse(ParseError::Iter(end)));
-    }
-    let items = choose(items, asked.list.range);
+    let items = chosen_list(scope, start, named.name, asked.list.range, spec, end)?;
     if spec.width.is_some() {
         write_padded_list(sink, scope, items, &asked.list, spec, end)
     } else {
@@ -232,7 +204,7 @@ fn write_padded_list<'a, W: TextWrite, C: Context>(
         (list_of form.now) end (map slots_of items.now)))
         sink.old sink.new (answered result) }
 {
-    let mut made = Some(TextBuffer::new(scope.alloc()));
+    let mut made = Some(Bounded::new(scope.alloc(), sink.room()));
     let mut inner = Sink {
         out: &mut *sink.out,
         aside: &mut made,

@@ -11,9 +11,7 @@ ghost use Rattle.interpolator.specs.Meaning.Meanings.{text_alone, view_means, va
 ghost use Rattle.interpolator.specs.Meaning.Outcomes.{Outcome};
 ghost use Rattle.interpolator.specs.Meaning.Sinks.{Writes, write_answered, write_fault_answer};
 
-use interpolator_render::{
-    RenderFault, Spec, TextBuffer, TextWrite, Trait, Value, View, pad, render,
-};
+use interpolator_render::{Bounded, RenderFault, Spec, TextWrite, Trait, Value, View, pad, render};
 use interpolator_syntax::Error;
 use std::fmt;
 
@@ -111,7 +109,7 @@ fn write_padded<W: TextWrite>(
 /// Where text goes: to the writer, or aside into a buffer if there is one.
 pub(crate) struct Sink<'s, W> {
     pub(crate) out: &'s mut W,
-    pub(crate) aside: &'s mut Option<TextBuffer>,
+    pub(crate) aside: &'s mut Option<Bounded>,
 }
 
 impl<'s, W: TextWrite> Sink<'s, W> {
@@ -156,6 +154,15 @@ impl<'s, W: TextWrite> Sink<'s, W> {
             None => write_padded(&mut *self.out, text, spec, place),
             Some(buffer) => write_padded(buffer, text, spec, place),
         }
+    }
+
+    /// How many bytes it could still take at most.
+    pub(crate) fn room(&self) -> usize {
+        let room = match &*self.aside {
+            None => self.out.room(),
+            Some(buffer) => buffer.room(),
+        };
+        room.unwrap_or(usize::MAX)
     }
 
     /// What stands in a slot, under a trait and a spec, each character at one place.

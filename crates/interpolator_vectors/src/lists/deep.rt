@@ -1,15 +1,19 @@
 //! Lists in lists, to a depth of 32.
 
 use crate::tables::told::{Told, told_by};
-use interpolator::{Error, Formattable, Interpolate, Pairs, TextBuffer};
+use crate::templates::are_names;
+use crate::templates::given::{Given, write_given};
+use interpolator::{Error, Formattable, Pairs, Piece, Template, TextBuffer};
 use std::alloc::{AllocError, Global};
 use std::process::Abort;
 use std::test::Fail;
 
-/// What stands before a list's signs, and innermost; what is written; and what is answered.
+/// What stands before a list's signs, and innermost; the names that are asked; what is written; and
+/// what is answered.
 struct Deep<'a> {
     open: &'a str,
     innermost: &'a str,
+    names: &'a [&'a str],
     text: &'a str,
     told: Told<'a>,
 }
@@ -22,12 +26,12 @@ const DEPTH: usize = 32;
 /// 31 * 16 = 624 characters, or with a width of 32 * 5 + 31 * 16 = 656.
 #[rattlefmt::skip]
 const ROWS: [Deep<'static>; 6] = [
-    Deep { open: "{:i", innermost: "{}", text: "7", told: Told::Done },
-    Deep { open: "{:i", innermost: "{z}", text: "", told: Told::MissingValue("z", 625) },
-    Deep { open: "{:i", innermost: "a{}b{z}", text: "a7b", told: Told::MissingValue("z", 629) },
-    Deep { open: "{:3i", innermost: "{}", text: "7  ", told: Told::Done },
-    Deep { open: "{:3i", innermost: "a{}b{z}", text: "", told: Told::MissingValue("z", 661) },
-    Deep { open: "{:3i", innermost: "{:>4}", text: "   7", told: Told::Done },
+    Deep { open: "{:i", innermost: "{}", names: &[""], text: "7", told: Told::Done },
+    Deep { open: "{:i", innermost: "{z}", names: &["", "z"], text: "", told: Told::MissingValue("z", 625) },
+    Deep { open: "{:i", innermost: "a{}b{z}", names: &["", "z"], text: "a7b", told: Told::MissingValue("z", 629) },
+    Deep { open: "{:3i", innermost: "{}", names: &[""], text: "7  ", told: Told::Done },
+    Deep { open: "{:3i", innermost: "a{}b{z}", names: &["", "z"], text: "", told: Told::MissingValue("z", 661) },
+    Deep { open: "{:3i", innermost: "{:>4}", names: &[""], text: "   7", told: Told::Done },
 ];
 
 /// Appends so many signs.
@@ -61,28 +65,44 @@ fn write_nested(
     out: &mut TextBuffer,
     value: Formattable<'_, u64>,
     depth: usize,
-    format: &str,
+    given: Given<'_>,
 ) -> Result<(), Error> {
     if depth == 0 {
-        return Pairs(&[("", value)]).write_to(alloc, out, format);
+        return write_given(alloc, out, given, Pairs(&[("", value)]));
     }
     let items = [value];
-    write_nested(alloc, out, Formattable::iter(&items), depth - 1, format)
+    write_nested(alloc, out, Formattable::iter(&items), depth - 1, given)
+}
+
+/// How many levels of lists stand in one another, up to twice as many as the rows have.
+fn levels(pieces: &[Piece]) -> usize {
+    let mut here = pieces;
+    for passed in 0..2 * DEPTH {
+        let [piece] = here else {
+            return passed;
+        };
+        match &piece.item {
+            Some(item) => here = item.as_slice(),
+            None => return passed,
+        }
+    }
+    2 * DEPTH
 }
 
 /// The row is given.
 fn gives(rt: &impl Abort, alloc: Global, row: &Deep<'_>) -> Result<(), Fail> {
     let format = nested_format(alloc, row.open, row.innermost)?;
-    let mut out = TextBuffer::new(alloc);
-    let answer = write_nested(
-        alloc,
-        &mut out,
-        Formattable::display(&7u64),
-        DEPTH,
-        format.as_str(),
-    );
-    assert_eq!(rt; told_by(&answer), row.told, "at {}", format);
-    assert_eq!(rt; out.as_str(), row.text, "at {}", format);
+    let template = Template::parse(alloc, format.as_str())?;
+    let names = template.names(alloc)?;
+    assert!(rt; are_names(&names, row.names), "at {}", format);
+    assert_eq!(rt; levels(template.pieces()), DEPTH, "at {}", format);
+    for given in [Given::Text(format.as_str()), Given::Template(&template)] {
+        let mut out = TextBuffer::new(alloc);
+        let value = Formattable::display(&7u64);
+        let answer = write_nested(alloc, &mut out, value, DEPTH, given);
+        assert_eq!(rt; told_by(&answer), row.told, "at {}", format);
+        assert_eq!(rt; out.as_str(), row.text, "at {}", format);
+    }
     Ok(())
 }
 

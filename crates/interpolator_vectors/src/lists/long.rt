@@ -1,7 +1,7 @@
 //! Lists of many items, and of long groups.
 
 use crate::tables::told::{Told, told_by};
-use interpolator::{Formattable, Interpolate, Pairs, ParseError, TextBuffer, Trait};
+use interpolator::{Formattable, Interpolate, Pairs, ParseError, Template, TextBuffer, Trait};
 use std::alloc::Global;
 use std::test::Fail;
 
@@ -33,6 +33,9 @@ fn long_lists(rt: HostRuntime) -> Result<(), Fail> {
         let mut out = TextBuffer::new(rt.alloc());
         pairs.write_to(rt.alloc(), &mut out, format)?;
         assert!(rt; out.as_str() == wanted.as_str(), "at {format}");
+        let template = Template::parse(rt.alloc(), format)?;
+        let text = pairs.format_template(rt.alloc(), &template)?;
+        assert!(rt; text.as_str() == wanted.as_str(), "at {format}");
     }
     Ok(())
 }
@@ -90,12 +93,14 @@ fn long_groups(rt: HostRuntime) -> Result<(), Fail> {
     for row in &GROUPS {
         let format = parts(alloc, &[(row.front, 1), ("a", 2_000), (row.end, 1)])?;
         let wanted = parts(alloc, row.text)?;
+        let pairs = Pairs(&[("l", Formattable::iter(&items))]);
         let mut out = TextBuffer::new(alloc);
-        let answer = Pairs(&[("l", Formattable::iter(&items))]).write_to(
-            alloc,
-            &mut out,
-            format.as_str(),
-        );
+        let answer = pairs.write_to(alloc, &mut out, format.as_str());
+        assert_eq!(rt; told_by(&answer), row.told, "at {}", row.front);
+        assert!(rt; out.as_str() == wanted.as_str(), "at {}", row.front);
+        let template = Template::parse(alloc, format.as_str())?;
+        let mut out = TextBuffer::new(alloc);
+        let answer = pairs.write_template_to(alloc, &mut out, &template);
         assert_eq!(rt; told_by(&answer), row.told, "at {}", row.front);
         assert!(rt; out.as_str() == wanted.as_str(), "at {}", row.front);
     }

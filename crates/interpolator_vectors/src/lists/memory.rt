@@ -5,7 +5,8 @@
 
 use crate::limited::Limited;
 use crate::tables::told::{Told, answers, told_by};
-use interpolator::{Formattable, Interpolate, Pairs, ParseError, Trait};
+use crate::templates::given::{Given, format_given, parsed, write_given};
+use interpolator::{Error, Formattable, Pairs, ParseError, Trait};
 use std::alloc::Global;
 use std::process::Abort;
 use std::test::Fail;
@@ -49,11 +50,17 @@ fn is_one_of(text: &str, texts: &[&str]) -> bool {
 
 /// Whether the row is given by a writer. Else memory was refused, and nothing of the argument that
 /// wants it was written.
-fn is_written(rt: &impl Abort, alloc: Global, pairs: Pairs<'_, u64>, row: &Wanting<'_>) -> bool {
+fn is_written(
+    rt: &impl Abort,
+    alloc: Global,
+    pairs: Pairs<'_, u64>,
+    row: &Wanting<'_>,
+    given: Given<'_>,
+) -> bool {
     let Ok(mut out) = Limited::new(alloc, 300) else {
         return false;
     };
-    let answer = pairs.write_to(alloc, &mut out, row.format);
+    let answer = write_given(alloc, &mut out, given, pairs);
     if told_by(&answer) == Told::NoMemory {
         assert!(rt;
             is_one_of(out.as_str(), row.before),
@@ -69,8 +76,14 @@ fn is_written(rt: &impl Abort, alloc: Global, pairs: Pairs<'_, u64>, row: &Wanti
 }
 
 /// Whether the row is given as a text of its own. Else memory was refused.
-fn is_made(rt: &impl Abort, alloc: Global, pairs: Pairs<'_, u64>, row: &Wanting<'_>) -> bool {
-    let made = pairs.format(alloc, row.format);
+fn is_made(
+    rt: &impl Abort,
+    alloc: Global,
+    pairs: Pairs<'_, u64>,
+    row: &Wanting<'_>,
+    given: Given<'_>,
+) -> bool {
+    let made = format_given(alloc, given, pairs);
     if told_by(&made) == Told::NoMemory {
         return false;
     }
@@ -79,28 +92,44 @@ fn is_made(rt: &impl Abort, alloc: Global, pairs: Pairs<'_, u64>, row: &Wanting<
 }
 
 /// The row is given: at once or, where memory was refused, when it is asked again.
-fn gives(rt: &impl Abort, alloc: Global, pairs: Pairs<'_, u64>, row: &Wanting<'_>) {
-    let written = is_written(rt, alloc, pairs, row) || is_written(rt, alloc, pairs, row);
+fn gives(
+    rt: &impl Abort,
+    alloc: Global,
+    pairs: Pairs<'_, u64>,
+    row: &Wanting<'_>,
+    given: Given<'_>,
+) {
+    let written = is_written(rt, alloc, pairs, row, given)
+        || is_written(rt, alloc, pairs, row, given);
     assert!(rt; written, "at {}", row.format);
-    let made = is_made(rt, alloc, pairs, row) || is_made(rt, alloc, pairs, row);
+    let made = is_made(rt, alloc, pairs, row, given) || is_made(rt, alloc, pairs, row, given);
     assert!(rt; made, "at {}", row.format);
 }
 
-/// The rows are given over a list, and over a list of one item which has that list.
-fn give_wanting(rt: &impl Abort, alloc: Global, numbers: Formattable<'_, u64>) {
+/// The rows are given over a list, and over a list of one item which has that list: by their
+/// formats and by the templates of these.
+fn give_wanting(
+    rt: &impl Abort,
+    alloc: Global,
+    numbers: Formattable<'_, u64>,
+) -> Result<(), Error> {
     let outer = [numbers];
     for row in &WANTING {
         let pairs = Pairs(&[("h", numbers), ("o", Formattable::iter(&outer))]);
-        gives(rt, alloc, pairs, row);
+        gives(rt, alloc, pairs, row, Given::Text(row.format));
+        let template = parsed(rt, alloc, row.format)?;
+        gives(rt, alloc, pairs, row, Given::Template(&template));
     }
+    Ok(())
 }
 
 #[test]
-fn padded_lists_are_written_or_want_memory(rt: HostRuntime) {
+fn padded_lists_are_written_or_want_memory(rt: HostRuntime) -> Result<(), Fail> {
     let values = [1u64, 5];
     let numbers = [
         Formattable::display(&values[0]),
         Formattable::display(&values[1]),
     ];
-    give_wanting(&rt, rt.alloc(), Formattable::iter(&numbers));
+    give_wanting(&rt, rt.alloc(), Formattable::iter(&numbers))?;
+    Ok(())
 }

@@ -1,14 +1,14 @@
-//! Messages by key, whose formats come from a catalogue.
+//! Messages by key, whose templates stand in a catalogue.
 
-use interpolator::{ContextMap, Error, Formattable, Interpolate, View};
+use interpolator::{ContextMap, Error, Formattable, Interpolate, Template, View};
 use std::alloc::{AllocError, Global};
 use std::collections::HashMap;
 use std::test::Fail;
 
-/// Formats under keys.
+/// Templates under keys: each format is read once.
 #[derive(Drop)]
 struct Catalogue {
-    formats: HashMap<String, String>,
+    templates: HashMap<String, Template>,
     alloc: Global,
 }
 
@@ -34,15 +34,15 @@ impl From<AllocError> for MessageError {
 impl Catalogue {
     fn new(alloc: Global) -> Catalogue {
         Catalogue {
-            formats: HashMap::new(alloc),
+            templates: HashMap::new(alloc),
             alloc,
         }
     }
 
-    fn add(&mut self, key: &str, format: &str) -> Result<(), AllocError> {
+    fn add(&mut self, key: &str, format: &str) -> Result<(), Error> {
         let key = String::from_str(self.alloc, key)?;
-        let format = String::from_str(self.alloc, format)?;
-        self.formats.insert(key, format)?;
+        let template = Template::parse(self.alloc, format)?;
+        self.templates.insert(key, template)?;
         Ok(())
     }
 
@@ -53,10 +53,10 @@ impl Catalogue {
         key: &str,
         values: &ContextMap<'_, View<'_>>,
     ) -> Result<String, MessageError> {
-        let Some(format) = self.formats.get(key) else {
+        let Some(template) = self.templates.get(key) else {
             return Err(MessageError::NoSuchKey);
         };
-        let message = values.format(self.alloc, format.as_str())?;
+        let message = values.format_template(self.alloc, template)?;
         Ok(message)
     }
 }

@@ -1,6 +1,6 @@
 //! A layout for log lines: a map for each record.
 
-use interpolator::{Error, Formattable, Interpolate, TextBuffer, View};
+use interpolator::{Error, Formattable, Interpolate, Template, TextBuffer, View};
 use std::alloc::Global;
 use std::collections::HashMap;
 use std::test::Fail;
@@ -13,10 +13,20 @@ struct Record<'a> {
     message: &'a str,
 }
 
-/// All records, each as the layout says.
-fn laid_out(alloc: Global, layout: &str, records: &[Record<'_>]) -> Result<String, Error> {
-    let mut out = TextBuffer::new(alloc);
-    for record in records {
+/// How a record is laid out, by a template that is read once.
+#[derive(Drop)]
+struct Layout {
+    line: Template,
+}
+
+impl Layout {
+    fn new(alloc: Global, line: &str) -> Result<Layout, Error> {
+        let line = Template::parse(alloc, line)?;
+        Ok(Layout { line })
+    }
+
+    /// Writes a record.
+    fn write(&self, alloc: Global, out: &mut TextBuffer, record: &Record<'_>) -> Result<(), Error> {
         let level = View::from(record.level);
         let line = View::from(record.line);
         let message = View::from(record.message);
@@ -24,7 +34,16 @@ fn laid_out(alloc: Global, layout: &str, records: &[Record<'_>]) -> Result<Strin
         context.insert("level", Formattable::debug_display(&level))?;
         context.insert("line", Formattable::integer(&line))?;
         context.insert("message", Formattable::debug_display(&message))?;
-        context.write_to(alloc, &mut out, layout)?;
+        context.write_template_to(alloc, out, &self.line)
+    }
+}
+
+/// All records, each as the layout says.
+fn laid_out(alloc: Global, layout: &str, records: &[Record<'_>]) -> Result<String, Error> {
+    let layout = Layout::new(alloc, layout)?;
+    let mut out = TextBuffer::new(alloc);
+    for record in records {
+        layout.write(alloc, &mut out, record)?;
     }
     Ok(out.into_string())
 }

@@ -3,7 +3,7 @@ ghost use Rattle.std.specs.Prelude.{Some, None, if◌then◌else◌, codes};
 ghost use Rattle.std.specs.Str.{bytes_eq, encode_utf8_all};
 ghost use Rattle.interpolator.specs.Slots.{empty_slots, with_debug_display};
 
-use interpolator::{Context, Error, Formattable, Interpolate, View};
+use interpolator::{Context, Error, Formattable, Interpolate, Template, View};
 use std::alloc::Global;
 use std::test::Fail;
 
@@ -35,6 +35,15 @@ impl<'a> Context for Entry<'a> {
 
 impl<'a> Interpolate for Entry<'a> {}
 
+/// A record as a layout says that was read once.
+fn logged_by(alloc: Global, level: &str, line: u32, layout: &Template) -> Result<String, Error> {
+    let entry = Entry {
+        level: View::from(level),
+        line: View::from(line),
+    };
+    entry.format_template(alloc, layout)
+}
+
 /// A record as a layout says.
 fn logged(alloc: Global, level: &str, line: u32, layout: &str) -> Result<String, Error> {
     let entry = Entry {
@@ -51,6 +60,10 @@ fn fields_by_name(rt: HostRuntime) -> Result<(), Fail> {
         logged(rt.alloc(), "INFO", 7, "[{level}] {line:>3}")?.as_str(),
         "[INFO]   7"
     );
+    let layout = Template::parse(rt.alloc(), "[{level}] {line:>3}")?;
+    for (level, line, text) in [("INFO", 7, "[INFO]   7"), ("WARN", 1234, "[WARN] 1234")] {
+        assert_eq!(rt; logged_by(rt.alloc(), level, line, &layout)?.as_str(), text);
+    }
     for absent in ["{Level}", "{leve}", "{}", "{line }"] {
         assert!(rt;
             matches!(

@@ -2,7 +2,7 @@ use Rattle.std.proofs.Common.{◌≡◌, ◌≤◌, ◌<◌, refl, sym, arith, r
 use Rattle.std.proofs.Common.{false}
 use Rattle.std.specs.Str.{chars}
 use Rattle.std.proofs.lemmas.Result.{err_from_is_err_and}
-use Rattle.interpolator_render.specs.Written.{as_writer}
+use Rattle.interpolator_render.specs.Bounds.{bounded_writer}
 use Rattle.interpolator_syntax.specs.At.{at}
 use Rattle.interpolator_syntax.specs.Arguments.{plain_argument}
 use Rattle.interpolator_syntax.specs.SpecTexts.{plain_spec}
@@ -10,13 +10,14 @@ use Rattle.interpolator_syntax.specs.Tokens.{literals, doubled, lone_close, argu
 use Rattle.interpolator_syntax.proofs.PieceLemmas.{read_alone}
 use Rattle.interpolator.specs.Slots.{slots_of}
 use Rattle.interpolator_syntax.specs.Arguments.{list_of, kind_of_asked}
-use Rattle.interpolator.specs.Meaning.Meanings.{means}
+use Rattle.interpolator.specs.Meaning.Meanings.{means, item_means, join_means}
 use Rattle.interpolator.specs.Meaning.Scopes.{environment_of}
 use Rattle.interpolator.proofs.MeaningLemmas.SinkLemmas.{same_then, goes_on, whole_refused}
 use Rattle.interpolator.proofs.MeaningLemmas.SinkLemmas.{whole_fault}
 use Rattle.interpolator.proofs.MeaningLemmas.MeaningLemmas.{scan_shorter, token_shorter}
-use Rattle.interpolator.proofs.MeaningLemmas.ListLemmas.{kind_size, groups_within, list_writes}
-use Rattle.interpolator.proofs.MeaningLemmas.LookUpLemmas.{list_found}
+use Rattle.interpolator.proofs.MeaningLemmas.ListLemmas.{kind_size, groups_within}
+use Rattle.interpolator.proofs.MeaningLemmas.LookUpLemmas.{not_chosen_writes, chosen_writes}
+use Rattle.interpolator.proofs.MeaningLemmas.LookUpLemmas.{value_asked}
 use Rattle.interpolator.proofs.MeaningLemmas.ListLemmas.{first_runs, first_fault}
 use Rattle.interpolator.proofs.MeaningLemmas.ListLemmas.{item_runs, join_fault, item_fault}
 use Rattle.interpolator.proofs.MeaningLemmas.ListLemmas.{items_end}
@@ -116,19 +117,12 @@ write_padded_list-returns-then-refused g t c =
     let made : c.write_items-answer.new.sink.aside.now ≡ Some c.in-Some.buffer = search rules in
     record {
       writes = record {
-        evaluates = whole_refused c.args.spec.now c.args.end _ _ _ (as_writer c.new.result)
-            (as_writer c.in-Some.buffer) _ _
+        evaluates = whole_refused c.args.spec.now c.args.end _ _ _ (bounded_writer c.new.result)
+            (bounded_writer c.in-Some.buffer) _ _
             (rw made at c.write_items-answer.ensures.writes.evaluates);
         same = record { out = refl; aside = refl };
       };
     }
-
-pub write_padded_list-returns-in_err-put_padded-in-Some :
-    goal.write_padded_list-returns-in_err-put_padded-in-Some
-write_padded_list-returns-in_err-put_padded-in-Some g t c =
-    let residual = c.from_residual-in_err-put_padded-in-Some in
-    let err = err_from_is_err_and residual.result residual.ensures.1 in
-    rw (err.1, err.2) (search rules)
 
 pub write_item-returns-in_err-put_value-in-None :
     goal.write_item-returns-in_err-put_value-in-None
@@ -145,8 +139,8 @@ write_padded_list-returns-in_err-answer-in-Some g t c =
     let made : c.write_items-answer.new.sink.aside.now ≡ Some c.in-Some.buffer = search rules in
     rw (err.1, err.2) (record {
       writes = record {
-        evaluates = whole_fault c.args.spec.now c.args.end _ _ _ (as_writer c.new.result)
-            (as_writer c.in-Some.buffer) _ _ (search rules)
+        evaluates = whole_fault c.args.spec.now c.args.end _ _ _ (bounded_writer c.new.result)
+            (bounded_writer c.in-Some.buffer) _ _ (search rules)
             (rw made at c.in_err-answer-in-Some.ensures.writes.evaluates);
         same = record { out = refl; aside = refl };
       };
@@ -350,26 +344,51 @@ write_argument-returns-in_ok-write_alone-in-Some-clause-rest g t c =
     (read_alone (at c.args.here) c.take_name-named.result _ c.take_name-named.ensures.read
     (sym c.in-Some.ensures)) (sym c.in-Some.ensures))
 
+pub write_named-returns-in_default : goal.write_named-returns-in_default
+write_named-returns-in_default g t c =
+    let asked = c.args.asked.now in
+    let value = value_asked asked.slot (list_of asked.list) c.in_default.not-Iter in
+    rw value (record { writes = c.write_value.ensures.writes })
+
+pub write_list-returns-in_err-items : goal.write_list-returns-in_err-items
+write_list-returns-in_err-items g t c =
+    let shows = g.C.Object.Value.shows in
+    let e = environment_of g.C.Context.finds c.args.scope.now in
+    let form = list_of c.args.asked.now.list in
+    let err = err_from_is_err_and c.from_residual.result c.from_residual.ensures.1 in
+    rw (err.1, err.2) (record {
+      writes =
+          not_chosen_writes e (chars c.args.named.name.now) c.args.start form.range
+          c.args.asked.now.spec c.args.end g.W.TextWrite.written
+          (join_means shows (means shows) e form.join)
+          (item_means shows (means shows) e c.args.end form.item) _ _
+          c.in_err-items.ensures.chosen;
+    })
+
 pub write_list-returns-then-is_some : goal.write_list-returns-then-is_some
 write_list-returns-then-is_some g t c =
     let shows = g.C.Object.Value.shows in
     let e = environment_of g.C.Context.finds c.args.scope.now in
     let form = list_of c.args.asked.now.list in
-    let list = list_writes shows (means shows) e _ slots_of form c.args.asked.now.spec c.args.end
-    c.in-Some-found.items.now c.choose-items.result.now _ _ _ (search rules)
-    c.choose-items.ensures true (search rules) c.write_padded_list.ensures.writes in
-    let found = list_found shows (means shows) e (chars c.args.named.name.now) c.args.named.place
-    c.args.start c.args.end c.args.asked.now.spec form _ c.in-Some.ensures in
-    record { writes = record { evaluates = rw (found, c.in-Some-found.is) list.evaluates; same = list.same } }
+    record {
+      writes =
+          chosen_writes e (chars c.args.named.name.now) c.args.start form.range
+          c.args.asked.now.spec c.args.end g.W.TextWrite.written
+          (join_means shows (means shows) e form.join)
+          (item_means shows (means shows) e c.args.end form.item) _ _ _ _
+          c.in_ok-items.ensures.chosen true (search rules) c.write_padded_list.ensures.writes;
+    }
 
 pub write_list-returns-else-is_some : goal.write_list-returns-else-is_some
 write_list-returns-else-is_some g t c =
     let shows = g.C.Object.Value.shows in
     let e = environment_of g.C.Context.finds c.args.scope.now in
     let form = list_of c.args.asked.now.list in
-    let list = list_writes shows (means shows) e _ slots_of form c.args.asked.now.spec c.args.end
-    c.in-Some-found.items.now c.choose-items.result.now _ _ _ (search rules)
-    c.choose-items.ensures false (search rules) c.write_items.ensures.writes in
-    let found = list_found shows (means shows) e (chars c.args.named.name.now) c.args.named.place
-    c.args.start c.args.end c.args.asked.now.spec form _ c.in-Some.ensures in
-    record { writes = record { evaluates = rw (found, c.in-Some-found.is) list.evaluates; same = list.same } }
+    record {
+      writes =
+          chosen_writes e (chars c.args.named.name.now) c.args.start form.range
+          c.args.asked.now.spec c.args.end g.W.TextWrite.written
+          (join_means shows (means shows) e form.join)
+          (item_means shows (means shows) e c.args.end form.item) _ _ _ _
+          c.in_ok-items.ensures.chosen false (search rules) c.write_items.ensures.writes;
+    }

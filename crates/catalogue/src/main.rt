@@ -1,0 +1,60 @@
+//! `catalogue FILE KEY [NAME=TEXT..]`: the message under a key, of a file whose messages are all
+//! checked first.
+//!
+//! A line of the file is `key = format`. Blank lines, and those that begin with `#`, are passed over.
+//! Each fault is told with the file, the line and the column of its character, and then no message
+//! is written.
+#![tactic(auto)]
+
+mod messages;
+
+use messages::{Answer, look_up};
+use std::process::ExitCode;
+use std::{env, fs, io};
+
+const FAULT: u8 = 1;
+
+const BAD_USE: u8 = 2;
+
+const REFUSED: u8 = 3;
+
+/// The file, its text, the key, and the words that give values.
+#[derive(Drop)]
+struct Asked {
+    words: Vec<String>,
+    text: String,
+}
+
+fn words_and_text(rt: &HostRuntime) -> io::Result<Asked> {
+    let words = env::args(rt)?.skip(1).collect::<Vec<String>>(rt.alloc())?;
+    let [file, _, ..] = words.as_slice() else {
+        return Err(io::Error::from(io::ErrorKind::InvalidInput));
+    };
+    let text = fs::read_to_string(rt, file.as_str())?;
+    Ok(Asked { words, text })
+}
+
+fn main(rt: HostRuntime) -> ExitCode {
+    let Ok(asked) = words_and_text(&rt) else {
+        return ExitCode::from(BAD_USE);
+    };
+    let [file, key, values @ ..] = asked.words.as_slice() else {
+        return ExitCode::from(BAD_USE);
+    };
+    let text = asked.text.as_str();
+    let told = match look_up(rt.alloc(), file.as_str(), text, key.as_str(), values) {
+        Ok(Answer::Message(message)) => match println!(&rt; "{message}") {
+            Ok(()) => return ExitCode::SUCCESS,
+            Err(_) => return ExitCode::from(REFUSED),
+        },
+        Ok(Answer::Faults(faults)) => eprint!(&rt; "{faults}"),
+        Err(error) => eprintln!(&rt; "{error}"),
+    };
+    match told {
+        Ok(()) => ExitCode::from(FAULT),
+        Err(_) => ExitCode::from(REFUSED),
+    }
+}
+
+#[cfg(test)]
+mod tests;

@@ -1,0 +1,25 @@
+-- The lemmas of formats that are read once.
+pub mod AllArgumentLemmas
+pub mod CheckLawLemmas
+pub mod CheckLemmas
+pub mod CheckPlaceLemmas
+pub mod ContiguousLemmas
+pub mod DeepLemmas
+pub mod DepthLemmas
+pub mod ExtentLemmas
+pub mod FaultLemmas
+pub mod LackLawLemmas
+pub mod LackLemmas
+pub mod NodeLemmas
+pub mod NodeMeaningLemmas
+pub mod NodeNameLemmas
+pub mod ParseLemmas
+pub mod PartLemmas
+pub mod PlainLemmas
+pub mod RunLemmas
+pub mod SplitLemmas
+pub mod StoredLemmas
+pub mod StoredNameLemmas
+pub mod WholeLemmas
+pub mod WholePieceLemmas
+pub mod WithinLemmas

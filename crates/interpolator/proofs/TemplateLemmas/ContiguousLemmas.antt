@@ -1,0 +1,211 @@
+-- The nodes of a text stand one after the other, and those of a group in their argument.
+use Rattle.std.proofs.Common.{◌≡◌, ℕ, ◌+◌, ◌<◌, ◌≤◌, length, arith, refl, ap, ◌∙◌, sym}
+use Rattle.std.proofs.Common.{inl, inr, subst, Option, Some, None, Result, Ok, Err}
+use Rattle.std.specs.Prelude.{⊤, flat_map}
+use Rattle.interpolator_render.specs.declared.view.Trait.{Trait}
+use Rattle.interpolator_render.specs.declared.view.Trait.TheVariants as traits
+use Rattle.interpolator_syntax.specs.ArgumentGrammar.{Asks, asked}
+use Rattle.interpolator_syntax.specs.Arguments.{Argument, argument_at}
+use Rattle.interpolator_syntax.specs.At.{At, size, strip}
+use Rattle.interpolator_syntax.specs.Classes.{close_brace}
+use Rattle.interpolator_syntax.specs.Faults.{Fault}
+use Rattle.interpolator_syntax.specs.GroupGrammar.{IsGroup}
+use Rattle.interpolator_syntax.specs.Groups.{Group}
+use Rattle.interpolator_syntax.specs.ListGrammar.{group_there, IsList}
+use Rattle.interpolator_syntax.specs.Lists.{ListAsked}
+use Rattle.interpolator_syntax.specs.Pieces.{Piece, argument_from, argument_or_broken}
+use Rattle.interpolator_syntax.specs.Pieces.{argument_step}
+use Rattle.interpolator_syntax.specs.SpecGrammar.{kind, parts, IsSpec}
+use Rattle.interpolator_syntax.specs.SpecTexts.{Kind, of_value, of_list, Asked}
+use Rattle.interpolator_syntax.specs.Tokens.{Token, argument, first_token, past_token}
+use Rattle.interpolator.specs.Meaning.Meanings.{inside}
+use Rattle.interpolator.specs.Template.Nodes.{as_forest, group_branch, item_branch, join_branch}
+use Rattle.interpolator.specs.Template.Nodes.{piece_node, token_node, nodes}
+use Rattle.interpolator.specs.Template.Splits.{node_place, node_end, Contiguous, GroupsInside}
+use Rattle.interpolator.specs.Template.Splits.{GroupInside}
+use Rattle.interpolator_syntax.proofs.GrammarArgumentLemmas.{argument_is}
+use Rattle.interpolator_syntax.proofs.LocalityLemmas.{takes_reaches, size-append}
+use Rattle.interpolator_syntax.proofs.PieceLemmas.{strip_after}
+use Rattle.interpolator_syntax.proofs.ReaderLemmas.{argument_takes}
+use Rattle.interpolator_syntax.proofs.ScanLemmas.{hands_nothing}
+use Rattle.interpolator_syntax.proofs.SizeLemmas.{GroupIfIn, KindIn, argument_in}
+use Rattle.interpolator.proofs.MeaningLemmas.MeaningLemmas.{scan_shorter, token_shorter}
+use Rattle.interpolator.proofs.TemplateLemmas.NodeLemmas.{by_length, argument_kind, nodes_first}
+use Rattle.interpolator.proofs.TemplateLemmas.NodeLemmas.{nodes_none}
+use Rattle.interpolator.proofs.TemplateLemmas.SplitLemmas.{texts}
+use Rattle.interpolator.proofs.TemplateLemmas.WithinLemmas.{handed_on, scan_taken}
+
+-- ---- groups end in front of what stands after their argument
+
+-- a group, if there is one, ends at n or in front of it
+abbrev GroupBefore : ℕ → Option Group → Type 0
+GroupBefore n None = ⊤
+GroupBefore n (Some g) = g.place + size g.text ≤ n
+
+abbrev KindBefore : ℕ → Kind → Type 0
+KindBefore n (of_value t) = ⊤
+KindBefore n (of_list l) = GroupBefore n l.item × GroupBefore n l.join
+
+group_later : (o : Option Group) (m n : ℕ) → m ≤ n → GroupBefore m o → GroupBefore n o
+group_later None m n h k = tt
+group_later (Some g) m n h k = omega (arith, h, k)
+
+group_ends : (a : At) (g : Group) (q : At) → IsGroup a g q
+    → (a.place ≤ q.place) × (g.place + size g.text ≤ q.place)
+group_ends a g q h = (omega (arith, h.place, h.end_place), omega (arith, h.end_place, size-append))
+
+group_before : (start : ℕ) (a : At) (o : Option Group) (q : At) → (group_there start).is a o q
+    → (a.place ≤ q.place) × GroupBefore q.place o
+group_before start a o q (inl h) =
+    rw (h.1.3.0, h.1.3.1) (group_ends a h.1.0 h.1.1 h.1.2)
+group_before start a o q (inr h) = rw (h.1, h.2) (omega arith, tt)
+
+list_before : (start : ℕ) (a : At) (l : ListAsked) (q : At) → IsList start a l q
+    → KindBefore q.place (of_list l)
+list_before start a l q h =
+    let item = h.3 in
+    let join = item.3 in
+    let first = group_before start h.1 item.0 item.1 item.2 in
+    let second = group_before start item.1 join.0 join.1 join.2 in
+    rw (join.3.0, join.3.1) (group_later item.0 item.1.place join.1.place second.0 first.1, second.1)
+
+kind_before : (start : ℕ) (slot : Trait) (a : At) (k : Kind) (q : At) → (kind start slot).is a k q
+    → KindBefore q.place k
+kind_before start traits.Iter a k q h =
+    rw (h.3.0, h.3.1) (list_before start a h.0 h.1 h.2)
+kind_before start slot a k q h = rw h.0 tt
+
+parts_before : (start : ℕ) (a : At) (x : Asked) (q : At) → (parts start).is a x q
+    → KindBefore q.place x.kind
+parts_before start a x q h =
+    let shown = h.3.3.3.3.3.3 in
+    let end = shown.3 in
+    rw (end.3.0, end.3.1) (kind_before start shown.0.slot shown.1 end.0 end.1 end.2)
+
+spec_before : (start : ℕ) (a : At) (x : Asked) (q : At) → IsSpec start a x q
+    → KindBefore q.place x.kind
+spec_before start a x q (inl h) = rw h.1 tt
+spec_before start a x q (inr h) = parts_before start a x q h.3
+
+asks_before : (start : ℕ) (a : At) (x : Asked) (q : At) → Asks start a x q
+    → KindBefore q.place x.kind
+asks_before start a x q (inl h) = rw h.1 tt
+asks_before start a x q (inr h) = spec_before start h.0 x q h.2
+
+-- the groups of an argument end where it does, or in front of that
+argument_before : (a : At) (x : Argument) (q : At) → argument_at a ≡ Ok (x, q)
+    → KindBefore q.place x.kind
+argument_before a x q e =
+    let h = argument_is a q x e in asks_before a.place h.after (asked x) q h.asks
+
+-- ---- and lie in it
+
+-- the nodes of a text reach from its beginning to its end
+abbrev Reaches : At → Type 0
+Reaches a = Contiguous a.place (as_forest (nodes a)) (a.place + size a.text)
+
+-- those of each shorter text do
+abbrev ShorterReach : At → Type 0
+ShorterReach a = (b : At) → length b.text < length a.text → Reaches b
+
+module _ (p end : ℕ) (b : At) (start : p < b.place) (more : ShorterReach b) where
+  one_inside : (o : Option Group) → GroupIfIn o b → GroupBefore end o
+      → GroupInside p end (group_branch nodes o)
+  one_inside None h k = tt
+  one_inside (Some g) h k =
+      (g.place, g.place + size g.text, omega (arith, start, h.place), k, more (inside g) h.shorter)
+
+  both_inside : (k : Kind) → KindIn k b → KindBefore end k
+      → GroupInside p end (item_branch nodes k) × GroupInside p end (join_branch nodes k)
+  both_inside (of_value t) h k = (tt, tt)
+  both_inside (of_list l) h k = (one_inside l.item h.item k.0, one_inside l.join h.join k.1)
+
+kind_later : (k : Kind) (m n : ℕ) → m ≤ n → KindBefore m k → KindBefore n k
+kind_later (of_value t) m n h k = tt
+kind_later (of_list l) m n h k = (group_later l.item m n h k.0, group_later l.join m n h k.1)
+
+module _ (p : ℕ) (b : At) (start : p < b.place) (more : ShorterReach b) where
+  kind_inside : (end : ℕ) (x : Argument) (q : At) → argument_at b ≡ Ok (x, q) → q.place ≤ end
+      → GroupInside p end (item_branch nodes x.kind) × GroupInside p end (join_branch nodes x.kind)
+  kind_inside end x q e l =
+      both_inside p end b start more x.kind (argument_in b x q e)
+      (kind_later x.kind q.place end l (argument_before b x q e))
+
+  step_inside : (x : Argument) (q : At) (o : Option At) → argument_at b ≡ Ok (x, q)
+      → strip close_brace q ≡ o
+      → (let s = argument_step b.place b x q o in
+      GroupsInside (piece_node nodes p s.rest.place s.piece.kind))
+  step_inside x q None e d =
+      kind_inside (b.place + size b.text) x q e
+      (omega (arith, takes_reaches _ b q (argument_takes b x q e) refl))
+  step_inside x q (Some rest) e d =
+      kind_inside rest.place x q e (omega (arith, (strip_after close_brace q.place q.text rest d).1))
+
+  answer_inside : (r : Result (Argument × At) Fault) → argument_at b ≡ r
+      → (let s = argument_or_broken b.place b r in
+      GroupsInside (piece_node nodes p s.rest.place s.piece.kind))
+  answer_inside (Ok w) e = step_inside w.0 w.1 (strip close_brace w.1) e refl
+  answer_inside (Err f) e = (tt, tt)
+
+  argument_inside : GroupsInside (token_node nodes p argument b)
+  unfolding argument_from
+  argument_inside = answer_inside (argument_at b) refl
+
+token_inside : (a : At) (t : Token) (b : At) → first_token a ≡ Some (t, b) → ShorterReach a
+    → GroupsInside (token_node nodes a.place t b)
+token_inside a argument b e more =
+    let place = (handed_on a (argument, b) e).size in
+    let shorter = token_shorter a (argument, b) e in
+    argument_inside a.place b (omega (arith, place))
+    (λ c l. more c (omega (arith, l, shorter)))
+token_inside a t b e more = (tt, tt)
+
+-- ---- one after the other
+
+-- the node of an argument, or of a broken one, stands where it is said to
+argument_stands : (p end : ℕ) (b : At)
+    → (let x = piece_node nodes p end (argument_from b.place b).piece.kind in
+    (node_place x ≡ p) × (node_end x ≡ end))
+argument_stands p end b =
+    argument_kind (λ k. (node_place (piece_node nodes p end k) ≡ p)
+    × (node_end (piece_node nodes p end k) ≡ end)) b
+    (λ start x q h. ((refl, refl), (refl, refl)), λ f. (refl, refl))
+
+token_stands : (p : ℕ) (t : Token) (b : At)
+    → (node_place (token_node nodes p t b) ≡ p)
+    × (node_end (token_node nodes p t b) ≡ (past_token t b).place)
+token_stands p argument b = argument_stands p (argument_from b.place b).rest.place b
+token_stands p t b = (refl, refl)
+
+nothing_left : (a : At) → first_token a ≡ None → a.place ≡ a.place + size a.text
+nothing_left a e =
+    let none = sym (texts a) ∙ ap (flat_map (λ (x : Piece). x.text)) (hands_nothing a e) in
+    omega (arith, ap size none)
+
+-- the nodes of a text do so, where those of each shorter text do
+first_reaches : (a : At) (w : Token × At) → first_token a ≡ Some w → ShorterReach a → Reaches a
+first_reaches a w e more =
+    let rest = past_token w.0 w.1 in
+    let end = a.place + size a.text in
+    let reach = takes_reaches _ a rest (scan_taken a w e) refl in
+    let after = subst (λ n. Contiguous rest.place (as_forest (nodes rest)) n) reach
+    (more rest (scan_shorter a _ w e refl)) in
+    let there = token_stands a.place w.0 w.1 in
+    subst (λ xs. Contiguous a.place (as_forest xs) end) (sym (nodes_first a w.1 w.0 e)) (
+      there.0,
+      token_inside a w.0 w.1 e more,
+      subst (λ p. Contiguous p (as_forest (nodes rest)) end) (sym there.1) after,
+    )
+
+pub nodes_contiguous : (a : At)
+    → Contiguous a.place (as_forest (nodes a)) (a.place + size a.text)
+nodes_contiguous = by_length Reaches step
+  where
+    step : (a : At) → ShorterReach a → Reaches a
+    step a more = by_token (first_token a) refl
+      where
+        by_token : (o : Option (Token × At)) → first_token a ≡ o → Reaches a
+        by_token None e =
+            subst (λ xs. Contiguous a.place (as_forest xs) (a.place + size a.text))
+            (sym (nodes_none a e)) (nothing_left a e)
+        by_token (Some w) e = first_reaches a w e more

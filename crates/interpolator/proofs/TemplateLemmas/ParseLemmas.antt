@@ -1,0 +1,317 @@
+-- What is stored of a text that is read: of one piece, of an argument, and of all that was read.
+use Rattle.std.proofs.Common.{◌≡◌, ℕ, suc, ◌+◌, ◌<◌, ◌≤◌, List, [], ◌∷◌, ◌++◌, length, arith, refl, ap}
+use Rattle.std.proofs.Common.{◌∙◌, sym, subst, Option, Some, None, Result, Ok, Err, append_assoc}
+use Rattle.std.proofs.lemmas.List.{append-nil}
+use Rattle.std.specs.Prelude.{option_map}
+use Rattle.std.specs.Global.{Vec, Box}
+use Rattle.std.specs.Str.{chars, IsUtf8}
+use Rattle.interpolator_render.specs.declared.view.Trait.{Trait}
+use Rattle.interpolator_syntax.specs.At.{At, at, size, strip, after, all_after, outermost}
+use Rattle.interpolator_syntax.specs.Arguments.{Argument, argument, argument_at, asked_at}
+use Rattle.interpolator_syntax.specs.Arguments.{named_argument, asked_of, kind_of_asked, taken_read}
+use Rattle.interpolator_syntax.specs.Arguments.{list_of}
+use Rattle.interpolator_syntax.specs.Classes.{close_brace, in_class, front_of}
+use Rattle.interpolator_syntax.specs.Faults.{Fault}
+use Rattle.interpolator_syntax.specs.Groups.{Group, group_of}
+use Rattle.interpolator_syntax.specs.Pieces.{argument_from, argument_step, takes_all, broken}
+use Rattle.interpolator_syntax.specs.Readers.{on, give}
+use Rattle.interpolator_syntax.specs.SpecTexts.{Asked, of_value, of_list}
+use Rattle.interpolator_syntax.specs.Tokens.{Token, literals, doubled, lone_close}
+use Rattle.interpolator_syntax.specs.Tokens.{first_token, past_token}
+use Rattle.interpolator_syntax.specs.declared.argument.TakenArgument.{TakenArgument}
+use Rattle.interpolator_syntax.specs.declared.class.Class.TheVariants.{WhiteSpace, Name}
+use Rattle.interpolator_syntax.specs.declared.range.Range.{Range}
+use Rattle.interpolator_syntax.proofs.CaseLemmas.{err_ok}
+use Rattle.interpolator_syntax.proofs.CharacterLemmas.{size-chars, chars_of_end}
+use Rattle.interpolator_syntax.proofs.LocalityLemmas.{Takes, stands, takes_then}
+use Rattle.interpolator_syntax.proofs.LocalityLemmas.{takes_shorter, takes_reaches}
+use Rattle.interpolator_syntax.proofs.LongestLemmas.{at_same}
+use Rattle.interpolator_syntax.proofs.ReaderLemmas.{argument_takes}
+use Rattle.interpolator_syntax.proofs.SizeLemmas.{GroupIfIn, KindIn, ListIn, argument_in}
+use Rattle.interpolator.specs.Meaning.Meanings.{inside}
+use Rattle.interpolator.specs.Template.Nodes.{Node, node, Branch, no_branch, Held, written, valued}
+use Rattle.interpolator.specs.Template.Nodes.{bare_of, nodes, piece_node}
+use Rattle.interpolator.specs.Template.Nodes.{token_node, group_branch, item_branch, join_branch}
+use Rattle.interpolator.specs.Template.Reading.{taken_step, ending_kind, ending_rest}
+use Rattle.interpolator.specs.Template.Stored.{Within, StandFor, Pushed, GroupStands}
+use Rattle.interpolator.specs.Template.Stored.{part, name_part}
+use Rattle.interpolator.specs.Template.Stored.{node_of, nodes_of, branch_of, stored_held, range_of}
+use Rattle.interpolator.specs.declared.template.piece.Form.TheVariants as forms
+use Rattle.interpolator.specs.declared.template.piece.Piece.{Piece}
+use Rattle.interpolator.specs.declared.template.piece.PieceKind as told
+use Rattle.interpolator.specs.declared.template.piece.PieceKind.TheVariants.{Literal, Doubled}
+use Rattle.interpolator.specs.declared.template.piece.PieceKind.TheVariants.{LoneClose}
+use Rattle.interpolator.proofs.MeaningLemmas.ListLemmas.{list_size, groups_within}
+use Rattle.interpolator.proofs.TemplateLemmas.NodeLemmas.{nodes_first, nodes_none}
+use Rattle.interpolator.proofs.TemplateLemmas.PartLemmas.{part_lies, name_lies}
+use Rattle.interpolator.proofs.TemplateLemmas.StoredLemmas.{nodes_of_push}
+use Rattle.interpolator.proofs.TemplateLemmas.WithinLemmas.{within_then, after_front, front_within}
+use Rattle.interpolator.proofs.TemplateLemmas.WithinLemmas.{group_stands, written_text, handed_on}
+use Rattle.interpolator.proofs.TemplateLemmas.WithinLemmas.{name_within, scan_taken}
+
+-- ---- what stands after all of a text
+
+-- no byte is left after as many as the text has
+pub all_skipped : (p : ℕ) (bs rest : List ℕ) → IsUtf8 bs → length rest ≡ 0
+    → stands (p + length bs) (chars rest) ≡ all_after (stands p (chars bs))
+all_skipped p bs rest u e = rw (chars_of_end rest e, size-chars bs u) refl
+
+-- after a front of the text that is the same
+ends_same : (a q : At) → Takes a q → all_after q ≡ all_after a
+ends_same a q t = at_same (takes_reaches _ a q t refl) refl
+
+-- what stands after an argument, by how it ends
+pub ending_is : (p : ℕ) (a : At) (x : Argument) (q : At) (o : Option At) → argument_at a ≡ Ok (x, q)
+    → ending_rest q o ≡ (argument_step p a x q o).rest
+ending_is p a x q None e = ends_same a q (argument_takes a x q e)
+ending_is p a x q (Some rest) e = refl
+
+-- ---- texts
+
+-- a byte stands between where a doubled brace begins and where it ends
+pub doubled_ends : (a b : At) (c : ℕ) → first_token a ≡ Some (doubled c, b) → a.place + 1 < b.place
+doubled_ends a b c e = omega (arith, (handed_on a (doubled c, b) e).size.1)
+
+module _ (bs : List ℕ) (u : IsUtf8 bs) (a : At) (w : Within (outermost (chars bs)) a) where
+  written_part :
+      (x : Token) (b : At) (to : ℕ) → first_token a ≡ Some (x, b)
+      → to ≡ a.place + size (written_text x) → part bs a.place to ≡ Some (written_text x)
+  written_part x b to e t =
+      let h = handed_on a (x, b) e in
+      let here = within_then _ a _ w (front_within a (written_text x) h.more h.begins) in
+      part_lies bs a.place (written_text x) to u here t
+
+  abbrev TextNode : (end : ℕ) → told.PieceKind → (to : ℕ) → Node
+  TextNode end kind to =
+      node a.place end kind (option_map (λ cs. written a.place cs) (part bs a.place to))
+      no_branch no_branch
+
+  literals_node : (cs : List ℕ) (b : At) → first_token a ≡ Some (literals cs, b)
+      → TextNode b.place Literal b.place ≡ token_node nodes a.place (literals cs) b
+  literals_node cs b e =
+      rw (written_part (literals cs) b b.place e (handed_on a (literals cs, b) e).size) refl
+
+  doubled_node : (c : ℕ) (b : At) → first_token a ≡ Some (doubled c, b)
+      → TextNode b.place Doubled (a.place + 1) ≡ token_node nodes a.place (doubled c) b
+  doubled_node c b e =
+      let one = (handed_on a (doubled c, b) e).size.0 in
+      rw (written_part (doubled c) b (a.place + 1) e (omega (arith, one))) refl
+
+  lone_node : (b : At) → first_token a ≡ Some (lone_close, b)
+      → TextNode b.place LoneClose b.place ≡ token_node nodes a.place lone_close b
+  lone_node b e =
+      let one = (handed_on a (lone_close, b) e).size in
+      rw (written_part lone_close b b.place e (omega (arith, one))) refl
+
+-- ---- arguments
+
+-- the name of an argument stands in its text, after what stands before it
+record NameStands (a : At) (x : Argument) : Type 0 where
+  pub within : Within a (stands x.name_place x.name)
+  pub after : a.place ≤ x.name_place
+
+module _ (a : At) where
+  abbrev From : At
+  From = after (in_class WhiteSpace) a
+
+  abbrev Named : Asked → Argument
+  Named asked = argument (front_of (in_class Name) From.text) From.place asked
+
+  by_asked :
+      (x : Argument) (q : At) (r : Result (Asked × At) Fault)
+      → on r (λ asked. give (Named asked)) ≡ Ok (x, q) → NameStands a x
+  by_asked x q (Ok v) h =
+      let same : (Named v.0, v.1) ≡ (x, q) = cc in
+      subst (NameStands a) (ap (λ (r : Argument × At). r.0) same) (record { within = name_within a; after = omega arith })
+  by_asked x q (Err f) h = absurd (err_ok h)
+
+  name_stands : (x : Argument) (q : At) → argument_at a ≡ Ok (x, q) → NameStands a x
+  unfolding argument_at
+  name_stands x q e = by_asked x q (asked_at a.place (after (in_class Name) From)) e
+
+-- the node of an argument, by what is held of it and by its groups
+argument_stands :
+    (place : ℕ) (b : At) (x : Argument) (q : At) (o : Option At) (held : Option Held)
+    (item join : Branch) → held ≡ Some (valued b.place x.name x.spec (bare_of x.kind) q.place)
+    → item ≡ item_branch nodes x.kind → join ≡ join_branch nodes x.kind
+    → (let s = argument_step b.place b x q o in
+    node place s.rest.place (ending_kind o) held item join
+    ≡ piece_node nodes place s.rest.place s.piece.kind)
+argument_stands place b x q None held item join h i j = rw (h, i, j) refl
+argument_stands place b x q (Some rest) held item join h i j = rw (h, i, j) refl
+
+-- an argument that was read after a brace at `place`
+module _ (place : ℕ) (b : At) (t : TakenArgument) (start : b.place ≡ place + 1)
+    (read : taken_read (Ok t) ≡ argument_at b)
+    (name_end : t.name.end.place ≡ t.name.place + size (chars t.name.name.now)) where
+  abbrev taken : Argument
+  taken = named_argument t.name (asked_of t.asked)
+
+  begins_after : b.place ≡ suc place
+  begins_after = omega (arith, start)
+
+  module _ (bs : List ℕ) (u : IsUtf8 bs) (w : Within (outermost (chars bs)) b) where
+    taken_name : name_part bs place t.name.place
+        t.name.end.place ≡ Some taken.name
+    taken_name =
+        let n = name_stands b taken (at t.end) (sym read) in
+        name_lies bs place t.name.place taken.name t.name.end.place u
+        (within_then _ b _ w n.within) name_end (omega (arith, n.after, start))
+
+    value_held : (slot : Trait) → kind_of_asked t.asked ≡ of_value slot
+        → stored_held bs place t.name.place t.name.end.place t.end.place t.asked.spec
+        (forms.Value slot)
+        ≡ Some (valued b.place taken.name taken.spec (bare_of taken.kind) t.end.place)
+    value_held slot k = rw (taken_name, k, begins_after) refl
+
+    list_held : (range : Option (Box Range)) → range_of range ≡ t.asked.list.range
+        → kind_of_asked t.asked ≡ of_list (list_of t.asked.list)
+        → stored_held bs place t.name.place t.name.end.place t.end.place t.asked.spec
+        (forms.List range)
+        ≡ Some (valued b.place taken.name taken.spec (bare_of taken.kind) t.end.place)
+    list_held range r k = rw (taken_name, k, begins_after, r) refl
+
+    group_is : (o : Option Group) (xs : Option (Vec Piece)) → GroupIfIn o b → GroupStands xs o
+        → branch_of bs xs ≡ group_branch nodes o
+    group_is None xs h g = rw g refl
+    group_is (Some g) xs h k = k bs u (within_then _ b (inside g) w (group_stands b g h))
+
+    groups_in : kind_of_asked t.asked ≡ of_list (list_of t.asked.list)
+        → ListIn (list_of t.asked.list) b
+    groups_in k = subst (λ kind. KindIn kind b) k (argument_in b taken (at t.end) (sym read))
+
+  abbrev Taken : Node
+  Taken = let s = taken_step b t in piece_node nodes place s.rest.place s.piece.kind
+
+  module _ (old new : List Piece) (piece : Piece) (end : ℕ) (kind : told.PieceKind)
+      (ends : end ≡ (taken_step b t).rest.place) (is : kind ≡ ending_kind (option_map at t.rest))
+      (added : new ≡ old ++ (piece ∷ [])) where
+    pub value_pushed :
+        (slot : Trait) → kind_of_asked t.asked ≡ of_value slot
+        → ((bs : List ℕ) → node_of bs piece
+        ≡ node place end kind (stored_held bs place t.name.place t.name.end.place t.end.place
+        t.asked.spec (forms.Value slot)) no_branch no_branch)
+        → Pushed old new Taken b
+    value_pushed slot k n = record {
+      piece = piece;
+      added = added;
+      stands = λ bs u w.
+          n bs
+          ∙ rw (ends, is) (argument_stands place b taken (at t.end) (option_map at t.rest) _ _ _
+          (value_held bs u w slot k) (rw k refl) (rw k refl));
+    }
+
+    pub list_pushed :
+        (range : Option (Box Range)) (item join : Option (Vec Piece))
+        → kind_of_asked t.asked ≡ of_list (list_of t.asked.list)
+        → range_of range ≡ t.asked.list.range
+        → GroupStands item (option_map group_of t.asked.list.item)
+        → GroupStands join (option_map group_of t.asked.list.join)
+        → ((bs : List ℕ) → node_of bs piece
+        ≡ node place end kind (stored_held bs place t.name.place t.name.end.place t.end.place
+        t.asked.spec (forms.List range)) (branch_of bs item) (branch_of bs join))
+        → Pushed old new Taken b
+    list_pushed range item join k r i j n = record {
+      piece = piece;
+      added = added;
+      stands = λ bs u w.
+          let groups = groups_in bs u w k in
+          n bs
+          ∙ rw (ends, is) (argument_stands place b taken (at t.end) (option_map at t.rest) _ _ _
+          (list_held bs u w range r k) (rw k (group_is bs u w _ item groups.item i))
+          (rw k (group_is bs u w _ join groups.join j)));
+    }
+
+-- its groups are no longer than its text
+pub list_within : (b : At) (t : TakenArgument) → taken_read (Ok t) ≡ argument_at b
+    → kind_of_asked t.asked ≡ of_list (list_of t.asked.list)
+    → list_size (list_of t.asked.list) ≤ length b.text
+list_within b t read k =
+    rw k at (groups_within b (named_argument t.name (asked_of t.asked)) (at t.end) (sym read))
+
+-- the argument from its brace on, where it was read
+pub taken_is : (b : At) (t : TakenArgument) → taken_read (Ok t) ≡ argument_at b
+    → option_map at t.rest ≡ strip close_brace (at t.end) → argument_from b.place b ≡ taken_step b t
+unfolding argument_from
+taken_is b t e r = rw (← e, ← r) refl
+
+-- and where it is broken
+pub broken_is : (b : At) (f : Fault) → Err f ≡ argument_at b
+    → argument_from b.place b ≡ takes_all b.place b (broken f)
+unfolding argument_from
+broken_is b f e = rw (← e) refl
+
+-- ---- all that was read
+
+-- `here` stands after a front of the text, and what was stored, and what stands here, are the
+-- pieces of the whole text
+pub record Reading (text : At) (stored : List Piece) (here : At) : Type 0 where
+  pub taken : Takes text here
+  pub so_far :
+      (bs : List ℕ) → IsUtf8 bs → Within (outermost (chars bs)) text
+      → nodes_of bs stored ++ nodes here ≡ nodes text
+
+module _ (text a : At) (stored : List Piece) (reading : Reading text stored a) where
+  -- what is left is no longer than the text
+  pub left_within : length a.text ≤ length text.text
+  left_within = takes_shorter text a reading.taken
+
+  -- what the scan hands on is stored, whose text begins at c
+  pub reads_on :
+      (b : At) (x : Token) (c rest : At) (new : List Piece) → first_token a ≡ Some (x, b)
+      → Within a c → Pushed stored new (token_node nodes a.place x b) c → rest ≡ past_token x b
+      → Reading text new rest
+  reads_on b x c rest new e k p r = record {
+    taken = takes_then text a rest reading.taken (rw r (scan_taken a (x, b) e));
+    so_far = λ bs u w.
+        ap (λ ys. nodes_of bs ys ++ nodes rest) p.added
+        ∙ ap (λ ys. ys ++ nodes rest) (nodes_of_push bs stored p.piece)
+        ∙ append_assoc (nodes_of bs stored) (node_of bs p.piece ∷ []) (nodes rest)
+        ∙ ap (λ n. nodes_of bs stored ++ (n ∷ nodes rest))
+        (p.stands bs u (within_then _ a c (within_then _ text a w (after_front text a
+        reading.taken)) k))
+        ∙ ap (λ r. nodes_of bs stored ++ (token_node nodes a.place x b ∷ nodes r)) r
+        ∙ ap (λ ns. nodes_of bs stored ++ ns) (sym (nodes_first a b x e))
+        ∙ reading.so_far bs u w;
+  }
+
+  -- nothing is left
+  pub all_read : first_token a ≡ None → StandFor stored text
+  all_read e = λ bs u w.
+      sym (append-nil (nodes_of bs stored))
+      ∙ ap (λ ns. nodes_of bs stored ++ ns) (sym (nodes_none a e)) ∙ reading.so_far bs u w
+
+-- a text that the scan hands on is stored as a piece that is written as it stands
+module _ (a b : At) (old new : List Piece) (piece : Piece) (added : new ≡ old ++ (piece ∷ [])) where
+  abbrev Stores : (end : ℕ) → told.PieceKind → (to : ℕ) → Type 0
+  Stores end kind to =
+      (bs : List ℕ) → node_of bs piece
+      ≡ node a.place end kind (option_map (λ cs. written a.place cs) (part bs a.place to))
+      no_branch no_branch
+
+  pub literals_pushed :
+      (cs : List ℕ) → first_token a ≡ Some (literals cs, b) → Stores b.place Literal b.place
+      → Pushed old new (token_node nodes a.place (literals cs) b) a
+  literals_pushed cs e n = record {
+    piece = piece;
+    added = added;
+    stands = λ bs u w. n bs ∙ literals_node bs u a w cs b e;
+  }
+
+  pub doubled_pushed :
+      (c : ℕ) → first_token a ≡ Some (doubled c, b) → Stores b.place Doubled (a.place + 1)
+      → Pushed old new (token_node nodes a.place (doubled c) b) a
+  doubled_pushed c e n = record {
+    piece = piece;
+    added = added;
+    stands = λ bs u w. n bs ∙ doubled_node bs u a w c b e;
+  }
+
+  pub lone_pushed :
+      first_token a ≡ Some (lone_close, b) → Stores b.place LoneClose b.place
+      → Pushed old new (token_node nodes a.place lone_close b) a
+  lone_pushed e n = record {
+    piece = piece;
+    added = added;
+    stands = λ bs u w. n bs ∙ lone_node bs u a w b e;
+  }

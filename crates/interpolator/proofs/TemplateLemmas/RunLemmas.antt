@@ -1,0 +1,311 @@
+-- What running stored pieces needs of them: where their text is cut out, what they hold, and the
+-- outcome of pieces from that of the first and of the rest.
+use Rattle.std.proofs.Common.{◌≡◌, ◌∙◌, refl, sym, add-one, arith, ℕ, suc, ◌+◌, ◌-◌, ◌<◌, ◌≤◌}
+use Rattle.std.proofs.Common.{Bool, true, false, not, ◌&&◌, nat_lt, List, ◌∷◌, length, take}
+use Rattle.std.proofs.Common.{drop, map, get_or, Option, None, Some, IsSome, option_map}
+use Rattle.std.proofs.lemmas.List.{drop_more, drop_all}
+use Rattle.std.specs.Global.{Box}
+use Rattle.std.specs.Prelude.{if◌then◌else◌}
+use Rattle.std.specs.Str.{chars, IsUtf8, IsCharBoundary}
+use Rattle.interpolator_render.specs.declared.view.Trait.{Trait}
+use Rattle.interpolator_render.specs.declared.view.Trait.TheVariants as traits
+use Rattle.interpolator_render.specs.declared.view.Spec.{Spec}
+use Rattle.interpolator_render.specs.Views.{Shown}
+use Rattle.interpolator_render.specs.Written.{Written}
+use Rattle.interpolator_syntax.specs.At.{At, outermost, placed_from}
+use Rattle.interpolator_syntax.specs.Faults.{Fault, Answer, fault, argument_fault_of}
+use Rattle.interpolator_syntax.specs.SpecTexts.{plain_spec}
+use Rattle.interpolator_syntax.specs.declared.argument_fault.ArgumentFault.{ArgumentFault}
+use Rattle.interpolator_syntax.specs.declared.range.Range.{Range}
+use Rattle.interpolator.specs.Meaning.Environments.{Environment, given}
+use Rattle.interpolator.specs.Meaning.Meanings.{Meaning, text_alone, under_name}
+use Rattle.interpolator.specs.Meaning.Meanings.{items_after, items_mean, means}
+use Rattle.interpolator.specs.Meaning.Outcomes.{Outcome}
+use Rattle.interpolator.specs.Meaning.Sinks.{SinkState, sink_state, Evaluates, Writes, seen}
+use Rattle.interpolator.specs.Template.Nodes.{Held, written, valued, refused, Bare}
+use Rattle.interpolator.specs.Template.Nodes.{bare_value, bare_list, as_forest, nodes}
+use Rattle.interpolator.specs.Template.NodeMeanings.{and_closed, bare_means, held_means}
+use Rattle.interpolator.specs.Template.Stored.{may_cut, part, range_of, held_of}
+use Rattle.interpolator.specs.Template.Stored.{nodes_of, StandFor}
+use Rattle.interpolator.specs.Template.Stored.{forest_whole}
+use Rattle.interpolator.specs.Template.StoredMeanings.{stored_part, stored_name, unclosed_fault}
+use Rattle.interpolator.specs.Template.StoredMeanings.{unclosed_fault_of, stored_pieces_mean}
+use Rattle.interpolator.specs.Template.StoredMeanings.{stored_piece_means, stored_join_means}
+use Rattle.interpolator.specs.Template.StoredMeanings.{stored_item_means}
+use Rattle.interpolator.specs.declared.meaning.sink.Sink as code_sink
+use Rattle.interpolator.specs.declared.template.piece.Form.TheVariants as forms
+use Rattle.interpolator.specs.declared.template.piece.Piece.{Piece}
+use Rattle.interpolator.specs.declared.template.piece.Piece.TheViews.{out-Piece}
+use Rattle.interpolator.specs.declared.template.piece.PieceKind.{PieceKind}
+use Rattle.interpolator.specs.declared.template.piece.PieceKind.TheVariants as kinds
+use Rattle.interpolator.proofs.MeaningLemmas.SinkLemmas.{and_then, fault_first, nothing_done, ended}
+use Rattle.interpolator.proofs.MeaningLemmas.SinkLemmas.{same_sink, same_then, at_out}
+use Rattle.interpolator.proofs.TemplateLemmas.NodeMeaningLemmas.{nodes_mean}
+use Rattle.interpolator.proofs.TemplateLemmas.StoredLemmas.{node_of_out}
+use Rattle.interpolator.proofs.TemplateLemmas.WholeLemmas.{nodes_whole}
+use Rattle.interpolator.proofs.TemplateLemmas.WithinLemmas.{within_same}
+
+-- ---- where a text may be cut
+
+cut_boundary : (bs : List ℕ) (i : ℕ) → may_cut bs i ≡ true → IsCharBoundary bs i
+cut_boundary bs i h = grind arith
+
+all_three : (a b c : Bool) (x : List ℕ) → IsSome (if a && (b && c) then Some x else None)
+    → (a ≡ true) × (b ≡ true) × (c ≡ true)
+all_three true true true x h = (refl, refl, refl)
+all_three true true false x h = absurd (cc)
+all_three true false c x h = absurd (cc)
+all_three false b c x h = absurd (cc)
+
+-- both ends of a part are places where its text may be cut, in that order
+pub record Cut (bs : List ℕ) (from to : ℕ) : Type 0 where
+  pub order : from ≤ to
+  pub first : IsCharBoundary bs from
+  pub last : IsCharBoundary bs to
+  pub cut : part bs from to ≡ Some (chars (take (to - from) (drop from bs)))
+
+pub cut_of : (bs : List ℕ) (from to : ℕ) → IsSome (part bs from to) → Cut bs from to
+unfolding part
+cut_of bs from to h =
+    let (a, b, c) = all_three (not (nat_lt to from)) (may_cut bs from) (may_cut bs to) _ h in
+    record {
+      order = grind arith;
+      first = cut_boundary bs from b;
+      last = cut_boundary bs to c;
+      cut = rw (a, b, c) refl;
+    }
+
+-- ---- what a stored piece holds that fits its text
+
+some_of : {A B : Type 0} (f : A → B) (o : Option A) → IsSome (option_map f o) → IsSome o
+some_of f None h = h
+some_of f (Some x) h = refl
+
+module _ (bs : List ℕ) (x : Piece) where
+  -- a text that is written
+  pub text_fits : (out-Piece x).form ≡ forms.Text → IsSome (held_of bs x)
+      → IsSome (stored_part bs x)
+  text_fits form h = some_of _ (stored_part bs x) (rw form at h)
+
+  -- a name, of each kind of argument
+  pub name_fits : (out-Piece x).form ≡ forms.Name → IsSome (held_of bs x)
+      → IsSome (stored_name bs x)
+  name_fits form h = some_of _ (stored_name bs x) (rw form at h)
+
+  pub value_fits : (t : Trait) → (out-Piece x).form ≡ forms.Value t → IsSome (held_of bs x)
+      → IsSome (stored_name bs x)
+  value_fits t form h = some_of _ (stored_name bs x) (rw form at h)
+
+  pub list_fits : (range : Option (Box Range)) → (out-Piece x).form ≡ forms.List range
+      → IsSome (held_of bs x) → IsSome (stored_name bs x)
+  list_fits range form h = some_of _ (stored_name bs x) (rw form at h)
+
+  pub text_held : (cs : List ℕ) → (out-Piece x).form ≡ forms.Text → Some cs ≡ stored_part bs x
+      → held_of bs x ≡ Some (written (out-Piece x).from cs)
+  text_held cs form h = rw (form, ← h) refl
+
+  pub broken_held : (f : Box ArgumentFault) → (out-Piece x).form ≡ forms.Broken f
+      → held_of bs x ≡ Some (refused (argument_fault_of f.value))
+  broken_held f form = rw form refl
+
+  module _ (start : ℕ) (name : List ℕ) (first : start ≡ (out-Piece x).place + 1)
+      (is : Some name ≡ stored_name bs x) where
+    abbrev Valued : Spec → Bare → Option Held
+    Valued spec bare = Some (valued start name spec bare (out-Piece x).spec_end)
+
+    begins : suc (out-Piece x).place ≡ start
+    begins = sym (first ∙ add-one (out-Piece x).place)
+
+    pub name_held : (out-Piece x).form ≡ forms.Name
+        → held_of bs x ≡ Valued plain_spec (bare_value traits.Display)
+    name_held form = rw (form, ← is, begins) refl
+
+    pub value_held : (t : Trait) → (out-Piece x).form ≡ forms.Value t
+        → held_of bs x ≡ Valued (out-Piece x).spec (bare_value t)
+    value_held t form = rw (form, ← is, begins) refl
+
+    pub list_held : (range : Option (Box Range)) → (out-Piece x).form ≡ forms.List range
+        → held_of bs x ≡ Valued (out-Piece x).spec (bare_list (range_of range))
+    list_held range form = rw (form, ← is, begins) refl
+
+-- ---- the outcome of one piece
+
+module _ {W : Type 0} (into : W → Written) (m : Meaning) (s t : code_sink.Sink W) (end : ℕ) where
+  -- what is closed, or not, after a fault
+  closed_fault : (kind : PieceKind) (q : Answer) → Writes into m s t (Some q)
+      → Writes into (and_closed kind end m) s t (Some q)
+  closed_fault kinds.Literal q o = o
+  closed_fault kinds.Doubled q o = o
+  closed_fault kinds.LoneClose q o = o
+  closed_fault kinds.Closed q o = o
+  closed_fault kinds.Unclosed q o =
+      record { evaluates = fault_first _ _ _ _ q o.evaluates; same = o.same }
+  closed_fault kinds.Broken q o = o
+
+  -- the same where all was written before
+  closed_done : (kind : PieceKind) → Writes into m s t None
+      → Writes into (and_closed kind end m) s t (option_map fault (unclosed_fault_of kind end))
+  closed_done kinds.Literal o = o
+  closed_done kinds.Doubled o = o
+  closed_done kinds.LoneClose o = o
+  closed_done kinds.Closed o = o
+  closed_done kinds.Unclosed o =
+      record { evaluates = and_then _ _ _ _ _ _ o.evaluates (ended _ _); same = o.same }
+  closed_done kinds.Broken o = o
+
+module _ {X W : Type 0} (shows : X → Trait → Spec → Shown) (into : W → Written)
+    (e : Environment X) (bs : List ℕ) where
+  module _ (x : Piece) (s t : code_sink.Sink W) where
+    abbrev Means : Meaning
+    Means = stored_piece_means shows e bs x
+
+    means_held : (h : Held) → held_of bs x ≡ Some h
+        → Means ≡ held_means shows e (out-Piece x).kind h (stored_join_means shows e bs x)
+        (stored_item_means shows e bs x)
+    means_held h is = rw (node_of_out bs x, is) refl
+
+    -- a text that is written
+    pub text_writes : (r : Option Answer) (from : ℕ) (cs : List ℕ)
+        → held_of bs x ≡ Some (written from cs)
+        → Writes into (text_alone (placed_from from cs)) s t r → Writes into Means s t r
+    text_writes r from cs is o =
+        record { evaluates = rw (means_held (written from cs) is) o.evaluates; same = o.same }
+
+    -- what could not be read
+    pub fault_writes : (f : Fault) → held_of bs x ≡ Some (refused f)
+        → Writes into Means s s (Some (fault f))
+    fault_writes f is =
+        record { evaluates = rw (means_held (refused f) is) (ended f _); same = same_sink s }
+
+    -- an argument
+    module _ (start : ℕ) (name : List ℕ) (spec : Spec) (bare : Bare)
+        (is : held_of bs x ≡ Some (valued start name spec bare (out-Piece x).spec_end)) where
+      abbrev Value : Meaning
+      Value =
+          under_name name start
+          (bare_means shows bare spec (out-Piece x).spec_end (stored_join_means shows e bs x)
+          (stored_item_means shows e bs x (out-Piece x).spec_end))
+          (given e name)
+
+      -- whose value ends the run
+      pub argument_fault : (q : Answer) → Writes into Value s t (Some q)
+          → Writes into Means s t (Some q)
+      argument_fault q o =
+          let c = closed_fault into Value s t (out-Piece x).spec_end (out-Piece x).kind q o in
+          record { evaluates = rw (means_held _ is) c.evaluates; same = c.same }
+
+      -- whose value was written
+      pub argument_writes : (r : Option Answer) → r ≡ option_map fault (unclosed_fault x)
+          → Writes into Value s t None → Writes into Means s t r
+      argument_writes r told o =
+          let c = closed_done into Value s t (out-Piece x).spec_end (out-Piece x).kind o in
+          record { evaluates = rw (means_held _ is, told) c.evaluates; same = c.same }
+
+  -- ---- the outcome of pieces
+
+  module _ (xs : List Piece) (i : ℕ) where
+    abbrev After : ℕ → Meaning
+    After n = stored_pieces_mean shows e bs (drop n xs)
+
+    -- no piece is left
+    pub pieces_end : (s : code_sink.Sink W) → length xs ≤ i → Writes into (After i) s s None
+    pieces_end s h =
+        record { evaluates = rw (drop_all i xs h) (nothing_done _); same = same_sink s }
+
+    module _ (s t : code_sink.Sink W) (x : Piece) (h : i < length xs) (is : x ≡ get_or xs i x)
+      where
+        next_piece : drop i xs ≡ x ∷ drop (i + 1) xs
+        next_piece = rw (drop_more xs i x h, ← is) refl
+
+        -- a piece ends the run
+        pub piece_fault : (q : Answer) → Writes into (stored_piece_means shows e bs x) s t (Some q)
+            → Writes into (After i) s t (Some q)
+        piece_fault q o =
+            record { evaluates = rw next_piece (fault_first _ _ _ _ q o.evaluates); same = o.same }
+
+        -- a piece is done, and the pieces after it follow
+        pub piece_runs : (u : SinkState) (r : Option Answer)
+            → Writes into (stored_piece_means shows e bs x) s t None
+            → Evaluates (After (i + 1)) (seen into t) u r → Evaluates (After i) (seen into s) u r
+        piece_runs u r o k = rw next_piece (and_then _ _ _ _ u r o.evaluates k)
+
+-- ---- the items of a list, one by one
+
+module _ {F X W : Type 0} (into : W → Written) (join : Meaning) (item : X → Meaning)
+    (slots : F → X) where
+  abbrev ItemsAfter : List F → Meaning
+  ItemsAfter ys = items_after join item (map slots ys)
+
+  module _ (xs : List F) (i : ℕ) (x : F) (h : i < length xs) (is : x ≡ get_or xs i x)
+      (s t : code_sink.Sink W) where
+    next_item : map slots (drop i xs) ≡ slots x ∷ map slots (drop (i + 1) xs)
+    next_item = rw (drop_more xs i x h, ← is) refl
+
+    -- the join in front of an item ends the run
+    pub join_fault : (q : Answer) → Writes into join s t (Some q)
+        → Writes into (ItemsAfter (drop i xs)) s t (Some q)
+    join_fault q o =
+        record { evaluates = rw next_item (fault_first _ _ _ _ q o.evaluates); same = o.same }
+
+    -- an item ends the run
+    pub item_fault : (u : code_sink.Sink W) (q : Answer) → Writes into join s t None
+        → Writes into (item (slots x)) t u (Some q)
+        → Writes into (ItemsAfter (drop i xs)) s u (Some q)
+    item_fault u q j o = record {
+      evaluates =
+          rw next_item (and_then _ _ _ _ _ _ j.evaluates (fault_first _ _ _ _ q o.evaluates));
+      same = same_then s t u j.same o.same;
+    }
+
+    -- an item is done, and the items after it follow
+    pub item_runs : (u : code_sink.Sink W) (new : SinkState) (r : Option Answer)
+        → Writes into join s t None → Writes into (item (slots x)) t u None
+        → Evaluates (ItemsAfter (drop (i + 1) xs)) (seen into u) new r
+        → Evaluates (ItemsAfter (drop i xs)) (seen into s) new r
+    item_runs u new r j o k =
+        rw next_item (and_then _ _ _ _ _ _ j.evaluates (and_then _ _ _ _ _ _ o.evaluates k))
+
+  -- no item is left
+  pub items_end : (xs : List F) (i : ℕ) (s : code_sink.Sink W) → length xs ≤ i
+      → Writes into (ItemsAfter (drop i xs)) s s None
+  items_end xs i s h =
+      record { evaluates = rw (drop_all i xs h) (nothing_done _); same = same_sink s }
+
+  module _ (xs : List F) (x : F) (rest : List F) (s t : code_sink.Sink W)
+      (split : xs ≡ x ∷ rest) where
+    -- the first item is done, and the items after it follow
+    pub first_runs : (u : SinkState) (r : Option Answer) → Writes into (item (slots x)) s t None
+        → Evaluates (ItemsAfter (drop 0 rest)) (seen into t) u r
+        → Evaluates (items_mean join item (map slots xs)) (seen into s) u r
+    first_runs u r o k = rw split (and_then _ _ _ _ u r o.evaluates k)
+
+    -- the first item ends the run
+    pub first_fault : (q : Answer) → Writes into (item (slots x)) s t (Some q)
+        → Writes into (items_mean join item (map slots xs)) s t (Some q)
+    first_fault q o =
+        record { evaluates = rw split (fault_first _ _ _ _ q o.evaluates); same = o.same }
+
+-- ---- the pieces of a whole text
+
+module _ (bs : List ℕ) (xs : List Piece) (a : At) (same : nodes_of bs xs ≡ nodes a) where
+  -- they fit it
+  pub text_whole : forest_whole (as_forest (nodes_of bs xs)) ≡ true
+  text_whole = rw same (nodes_whole a)
+
+  -- and what is written for them is what the text means
+  pub text_outcome :
+      {X : Type 0} (shows : X → Trait → Spec → Shown) (e f : Environment X) (old new : Written)
+      (aside : Option Written) (answer : Option Answer) → f ≡ e
+      → Evaluates (stored_pieces_mean shows f bs xs) (sink_state old None) (sink_state new aside)
+      answer
+      → Outcome (means shows e a) old new answer
+  text_outcome shows e f old new aside answer is o =
+      let mean : stored_pieces_mean shows f bs xs ≡ means shows e a =
+      rw (same, is) (nodes_mean shows e a) in
+      rw mean at (at_out _ old new aside answer o)
+
+-- the pieces that stand for a whole format are its own
+pub format_stands :
+    (bs : List ℕ) (xs : List Piece) → IsUtf8 bs → StandFor xs (outermost (chars bs))
+    → nodes_of bs xs ≡ nodes (outermost (chars bs))
+format_stands bs xs utf8 stand = stand bs utf8 (within_same (outermost (chars bs)))

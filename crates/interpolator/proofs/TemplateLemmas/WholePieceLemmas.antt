@@ -1,0 +1,94 @@
+-- What is known of a stored piece that fits its text, of pieces in order, and of a piece's groups.
+use denote.Param.Weighed.{most}
+use Rattle.std.proofs.Common.{◌≡◌, refl, ap, arith, ℕ, zero, suc, ◌<◌, ◌≤◌, Bool, true, false, ◌&&◌}
+use Rattle.std.proofs.Common.{List, [], ◌∷◌, length, drop, get_or, Option, None, Some, IsSome}
+use Rattle.std.proofs.lemmas.List.{drop_more}
+use Rattle.std.specs.Global.{Vec}
+use Rattle.interpolator.specs.Template.Nodes.{Branch, Held, node, as_forest}
+use Rattle.interpolator.specs.Template.Stored.{held_of, node_of, nodes_of, branch_of}
+use Rattle.interpolator.specs.Template.Stored.{node_whole, branch_whole, forest_whole}
+use Rattle.interpolator.specs.declared.template.piece.Piece.{Piece}
+use Rattle.interpolator.specs.declared.template.piece.Piece.TheViews.{out-Piece, size-Piece}
+use Rattle.interpolator.specs.declared.template.piece.Piece.TheViews.{size_is-Piece}
+use Rattle.interpolator.specs.declared.template.piece.PieceKind.{PieceKind}
+use Rattle.interpolator.proofs.TemplateLemmas.StoredLemmas.{node_of_out}
+
+-- what it holds is known, and so is that of its groups
+pub record FitsText (bs : List ℕ) (x : Piece) : Type 0 where
+  pub held : IsSome (held_of bs x)
+  pub item : branch_whole (branch_of bs (out-Piece x).item) ≡ true
+  pub join : branch_whole (branch_of bs (out-Piece x).join) ≡ true
+
+pub both : (a b : Bool) → (a && b) ≡ true → (a ≡ true) × (b ≡ true)
+both true b h = (refl, h)
+both false b h = absurd (cc)
+
+node_parts :
+    (place end : ℕ) (kind : PieceKind) (held : Option Held) (item join : Branch)
+    → node_whole (node place end kind held item join) ≡ true
+    → IsSome held × (branch_whole item ≡ true) × (branch_whole join ≡ true)
+node_parts place end kind None item join h = absurd (cc)
+node_parts place end kind (Some x) item join h =
+    let (i, j) = both (branch_whole item) (branch_whole join) h in (refl, i, j)
+
+pub fits_text : (bs : List ℕ) (x : Piece) → node_whole (node_of bs x) ≡ true → FitsText bs x
+fits_text bs x h =
+    let y = out-Piece x in
+    let (held, item, join) = node_parts y.place y.end y.kind (held_of bs x) (branch_of bs y.item)
+    (branch_of bs y.join) (rw (node_of_out bs x) at h) in
+    record { held = held; item = item; join = join }
+
+-- each of stored pieces
+pub piece_whole :
+    (bs : List ℕ) (xs : List Piece) (i : ℕ) (x : Piece)
+    → forest_whole (as_forest (nodes_of bs xs)) ≡ true → i < length xs → x ≡ get_or xs i x
+    → node_whole (node_of bs x) ≡ true
+piece_whole bs xs i x h l is =
+    let left = rest_whole xs i h in
+    (both (node_whole (node_of bs x)) _ (rw (drop_more xs i x l, ← is) at left)).0
+  where
+    rest_whole : (ys : List Piece) (n : ℕ) → forest_whole (as_forest (nodes_of bs ys)) ≡ true
+        → forest_whole (as_forest (nodes_of bs (drop n ys))) ≡ true
+    rest_whole ys zero w = w
+    rest_whole [] (suc n) w = refl
+    rest_whole (y ∷ ys) (suc n) w =
+        rest_whole ys n (both (node_whole (node_of bs y)) (forest_whole (as_forest (nodes_of bs ys))) w).1
+
+-- none is greater than the greatest
+pub most_at :
+    {X : Type 0} (size : X → ℕ) (xs : List X) (i : ℕ) (x : X) → i < length xs
+    → x ≡ get_or xs i x → size x ≤ most size xs
+most_at size [] i x l is = absurd (omega arith)
+most_at size (y ∷ ys) zero x l is = let same : size x ≡ size y = ap size is in omega (arith, same)
+most_at size (y ∷ ys) (suc i) x l is = omega (arith, most_at size ys i x (omega arith) is)
+
+group_whole :
+    (bs : List ℕ) (group : Option (Vec Piece)) (v : Vec Piece) (xs : List Piece)
+    → branch_whole (branch_of bs group) ≡ true → group ≡ Some v → xs ≡ v.items
+    → forest_whole (as_forest (nodes_of bs xs)) ≡ true
+group_whole bs group v xs h is same = rw same (rw is at h)
+
+-- the pieces of a group, which are whole, and fewer than their piece has
+pub record InGroup (bs : List ℕ) (x : Piece) (xs : List Piece) : Type 0 where
+  pub whole : forest_whole (as_forest (nodes_of bs xs)) ≡ true
+  pub smaller : most size-Piece xs < size-Piece x
+
+module _ (bs : List ℕ) (x : Piece) (v : Vec Piece) (xs : List Piece) (same : xs ≡ v.items)
+    (h : node_whole (node_of bs x) ≡ true) where
+  item_smaller : (out-Piece x).item ≡ Some v → most size-Piece v.items < size-Piece x
+  item_smaller is = let size = rw is at (size_is-Piece x) in omega (arith, size)
+
+  join_smaller : (out-Piece x).join ≡ Some v → most size-Piece v.items < size-Piece x
+  join_smaller is = let size = rw is at (size_is-Piece x) in omega (arith, size)
+
+  pub in_item : (out-Piece x).item ≡ Some v → InGroup bs x xs
+  in_item is = record {
+    whole = group_whole bs (out-Piece x).item v xs (fits_text bs x h).item is same;
+    smaller = rw same (item_smaller is);
+  }
+
+  pub in_join : (out-Piece x).join ≡ Some v → InGroup bs x xs
+  in_join is = record {
+    whole = group_whole bs (out-Piece x).join v xs (fits_text bs x h).join is same;
+    smaller = rw same (join_smaller is);
+  }

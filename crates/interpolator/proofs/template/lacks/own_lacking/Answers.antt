@@ -1,0 +1,15 @@
+use Rattle.interpolator.proofs.TemplateLemmas.StoredNameLemmas.{asked_part, asked_held}
+use Rattle.interpolator.proofs.template.lacks.own_lacking.Goals as goal
+
+pub text_of-requires : goal.text_of-requires
+text_of-requires g c = record {
+  fits = asked_part c.args.text.now c.args.piece.now c.in_default.not-Text c.in_default.not-Broken
+      c.requires.whole;
+}
+
+pub returns-in_default : goal.returns-in_default
+returns-in_default g c =
+    let held =
+    asked_held c.args.text.now c.args.piece.now c.in_default.not-Text c.in_default.not-Broken
+    c.requires.whole c.args.in_item _ c.text_of.ensures.text in
+    rw (← held) c.lacking_name.ensures

@@ -1,0 +1,164 @@
+use Rattle.std.proofs.Common.{◌≡◌, ◌∙◌, refl, sym, ap, arith, option_map}
+use Rattle.std.proofs.Common.{Some}
+use Rattle.std.specs.Str.{chars}
+use Rattle.interpolator_syntax.specs.At.{At, at}
+use Rattle.interpolator_syntax.specs.Arguments.{named_argument, asked_of}
+use Rattle.interpolator_syntax.specs.Tokens.{literals, doubled, lone_close, argument, first_token}
+use Rattle.interpolator.proofs.MeaningLemmas.MeaningLemmas.{scan_shorter, token_shorter}
+use Rattle.interpolator.proofs.TemplateLemmas.WithinLemmas.{handed_on, after_front, within_same}
+use Rattle.interpolator.proofs.TemplateLemmas.ParseLemmas.{ending_is, list_pushed, list_within}
+use Rattle.interpolator.proofs.TemplateLemmas.ParseLemmas.{taken_is, broken_is, doubled_ends}
+use Rattle.interpolator.proofs.TemplateLemmas.ParseLemmas.{literals_pushed, doubled_pushed}
+use Rattle.interpolator.proofs.TemplateLemmas.ParseLemmas.{lone_pushed, left_within}
+use Rattle.interpolator.proofs.TemplateLemmas.ParseLemmas.{reads_on, all_read}
+use Rattle.interpolator.proofs.template.parse.+parse.Goals as goal
+
+pub parse_pieces-overflow_add-here : goal.parse_pieces-overflow_add-here
+parse_pieces-overflow_add-here t c =
+    let token : first_token (at c.loop-token.here) ≡ Some (doubled c.in-Doubled.field-0, at c.in-Some.rest) =
+    rw c.in-Doubled.is at (sym c.in-Some.ensures.token) in
+    let ends = doubled_ends (at c.loop-token.here) (at c.in-Some.rest) c.in-Doubled.field-0 token in
+    omega (arith, ends, c.in-Some.rest.fits)
+
+pub parse_pieces-push_argument-requires : goal.parse_pieces-push_argument-requires
+parse_pieces-push_argument-requires t c =
+    let text = at c.args.text in
+    let here = at c.loop-token.here in
+    let token : first_token here ≡ Some (argument, at c.in-Some.rest) =
+    rw c.in-Argument.is at (sym c.in-Some.ensures.token) in
+    let left = left_within text here c.loop-token.pieces.items c.loop-token.invariant in (
+      omega (arith, token_shorter here (argument, at c.in-Some.rest) token, left),
+      (handed_on here (argument, at c.in-Some.rest) token).size,
+    )
+
+pub parse_pieces-loop-token-smaller-in_ok-push_piece-in-Literals :
+    goal.parse_pieces-loop-token-smaller-in_ok-push_piece-in-Literals
+parse_pieces-loop-token-smaller-in_ok-push_piece-in-Literals t c =
+    token_shorter (at c.loop-token.here) _ (sym c.in-Some.ensures.token)
+
+pub parse_pieces-loop-token-preserved-in_ok-push_piece-in-Literals :
+    goal.parse_pieces-loop-token-preserved-in_ok-push_piece-in-Literals
+parse_pieces-loop-token-preserved-in_ok-push_piece-in-Literals t c =
+    let text = at c.args.text in
+    let here = at c.loop-token.here in
+    let rest = at c.in-Some.rest in
+    let old = c.loop-token.pieces.items in
+    let cs = chars c.in-Literals.field-0.now in
+    let token : first_token here ≡ Some (literals cs, rest) =
+    rw c.in-Literals.is at (sym c.in-Some.ensures.token) in
+    reads_on text here old c.loop-token.invariant rest (literals cs) here rest _ token
+    (within_same here)
+    (literals_pushed here rest old _ c.text_piece-piece.result
+    c.in_ok-push_piece-in-Literals.ensures cs token c.text_piece-piece.ensures.node) refl
+
+pub parse_pieces-loop-token-smaller-in_ok-push_piece-in-Doubled :
+    goal.parse_pieces-loop-token-smaller-in_ok-push_piece-in-Doubled
+parse_pieces-loop-token-smaller-in_ok-push_piece-in-Doubled t c =
+    token_shorter (at c.loop-token.here) _ (sym c.in-Some.ensures.token)
+
+pub parse_pieces-loop-token-preserved-in_ok-push_piece-in-Doubled :
+    goal.parse_pieces-loop-token-preserved-in_ok-push_piece-in-Doubled
+parse_pieces-loop-token-preserved-in_ok-push_piece-in-Doubled t c =
+    let text = at c.args.text in
+    let here = at c.loop-token.here in
+    let rest = at c.in-Some.rest in
+    let old = c.loop-token.pieces.items in
+    let brace = c.in-Doubled.field-0 in
+    let token : first_token here ≡ Some (doubled brace, rest) =
+    rw c.in-Doubled.is at (sym c.in-Some.ensures.token) in
+    reads_on text here old c.loop-token.invariant rest (doubled brace) here rest _ token
+    (within_same here)
+    (doubled_pushed here rest old _ c.text_piece-piece-in-Doubled.result
+    c.in_ok-push_piece-in-Doubled.ensures brace token
+    c.text_piece-piece-in-Doubled.ensures.node) refl
+
+pub parse_pieces-loop-token-smaller-in_ok-push_piece-in-LoneClose :
+    goal.parse_pieces-loop-token-smaller-in_ok-push_piece-in-LoneClose
+parse_pieces-loop-token-smaller-in_ok-push_piece-in-LoneClose t c =
+    token_shorter (at c.loop-token.here) _ (sym c.in-Some.ensures.token)
+
+pub parse_pieces-loop-token-preserved-in_ok-push_piece-in-LoneClose :
+    goal.parse_pieces-loop-token-preserved-in_ok-push_piece-in-LoneClose
+parse_pieces-loop-token-preserved-in_ok-push_piece-in-LoneClose t c =
+    let text = at c.args.text in
+    let here = at c.loop-token.here in
+    let rest = at c.in-Some.rest in
+    let old = c.loop-token.pieces.items in
+    let token : first_token here ≡ Some (lone_close, rest) =
+    rw c.in-LoneClose.is at (sym c.in-Some.ensures.token) in
+    reads_on text here old c.loop-token.invariant rest lone_close here rest _ token
+    (within_same here)
+    (lone_pushed here rest old _ c.text_piece-piece-in-LoneClose.result
+    c.in_ok-push_piece-in-LoneClose.ensures token
+    c.text_piece-piece-in-LoneClose.ensures.node) refl
+
+pub parse_pieces-loop-token-smaller : goal.parse_pieces-loop-token-smaller
+parse_pieces-loop-token-smaller t c =
+    scan_shorter (at c.loop-token.here) _ (argument, at c.in-Some.rest)
+    (rw c.in-Argument.is at (sym c.in-Some.ensures.token))
+    c.in_ok-here-in-Argument.ensures.rest
+
+pub parse_pieces-loop-token-preserved : goal.parse_pieces-loop-token-preserved
+parse_pieces-loop-token-preserved t c =
+    let here = at c.loop-token.here in
+    let begin = at c.in-Some.rest in
+    let token : first_token here ≡ Some (argument, begin) =
+    rw c.in-Argument.is at (sym c.in-Some.ensures.token) in
+    reads_on (at c.args.text) here c.loop-token.pieces.items c.loop-token.invariant begin argument
+    begin (at c.in_ok-here-in-Argument.here) _ token
+    (after_front here begin (handed_on here (argument, begin) token).takes)
+    c.in_ok-here-in-Argument.ensures.pushed c.in_ok-here-in-Argument.ensures.rest
+
+pub parse_pieces-returns : goal.parse_pieces-returns
+parse_pieces-returns t c =
+    record {
+      stand =
+          all_read (at c.args.text) (at c.loop-token.here) c.loop-token.pieces.items
+          c.loop-token.invariant (sym c.in_default.ensures.token);
+    }
+
+pub push_argument-returns-in-Ok-clause-rest : goal.push_argument-returns-in-Ok-clause-rest
+push_argument-returns-in-Ok-clause-rest t c =
+    rw (taken_is (at c.args.here) c.in-Ok.taken c.in-Ok.ensures.read c.in-Ok.ensures.rest)
+    c.push_taken.ensures.rest
+
+pub push_argument-returns-in-Ok-clause-pushed : goal.push_argument-returns-in-Ok-clause-pushed
+push_argument-returns-in-Ok-clause-pushed t c =
+    rw (taken_is (at c.args.here) c.in-Ok.taken c.in-Ok.ensures.read c.in-Ok.ensures.rest)
+    c.push_taken.ensures.pushed
+
+pub push_argument-returns-in-Err-clause-rest : goal.push_argument-returns-in-Err-clause-rest
+push_argument-returns-in-Err-clause-rest t c =
+    rw (broken_is (at c.args.here) _ c.in-Err.ensures.read) c.push_broken.ensures.rest
+
+pub push_argument-returns-in-Err-clause-pushed : goal.push_argument-returns-in-Err-clause-pushed
+push_argument-returns-in-Err-clause-pushed t c =
+    rw (broken_is (at c.args.here) _ c.in-Err.ensures.read) c.push_broken.ensures.pushed
+
+pub push_list-parse_group-requires : goal.push_list-parse_group-requires
+push_list-parse_group-requires t c =
+    omega (arith, list_within (at c.args.here) c.args.taken.now c.requires.read c.requires.asked)
+
+pub push_list-parse_group-requires-2 : goal.push_list-parse_group-requires-2
+push_list-parse_group-requires-2 t c =
+    omega (arith, list_within (at c.args.here) c.args.taken.now c.requires.read c.requires.asked)
+
+pub push_list-returns-clause-rest : goal.push_list-returns-clause-rest
+push_list-returns-clause-rest t c =
+    let taken = c.args.taken.now in
+    c.ending-kind.ensures.rest
+    ∙ ending_is c.args.here.place (at c.args.here)
+    (named_argument taken.name (asked_of taken.asked)) (at taken.end) (option_map at taken.rest)
+    (sym c.requires.read)
+
+pub push_list-returns-clause-pushed : goal.push_list-returns-clause-pushed
+push_list-returns-clause-pushed t c =
+    let here = at c.args.here in
+    let taken = c.args.taken.now in
+    let rest = ending_is c.args.here.place here (named_argument taken.name (asked_of taken.asked))
+    (at taken.end) (option_map at taken.rest) (sym c.requires.read) in
+    list_pushed c.args.place here taken c.requires.start c.requires.read c.requires.name_end _ _
+    c.argument_piece-piece.result _ _ (ap (λ (a : At). a.place) (c.ending-kind.ensures.rest ∙ rest))
+    c.ending-kind.ensures.kind c.in_ok-push_piece.ensures c.in_ok-range.range c.in_ok-item.item
+    c.in_ok-join.join c.requires.asked c.in_ok-range.ensures c.in_ok-item.ensures.stands
+    c.in_ok-join.ensures.stands c.argument_piece-piece.ensures.node

@@ -1,0 +1,55 @@
+-- How wide and how deep a format is.
+use Rattle.std.specs.Prelude.{ℕ, suc, max, Option, Some, unwrap_or}
+use Rattle.interpolator_render.specs.declared.view.Spec.{Spec}
+use Rattle.interpolator.specs.Template.Nodes.{Node, node, Branch, no_branch, branch}
+use Rattle.interpolator.specs.Template.Nodes.{Forest, no_nodes, nodes_and}
+use Rattle.interpolator.specs.Template.Nodes.{Held, valued}
+use Rattle.interpolator.specs.declared.template.piece.Form.{Form}
+use Rattle.interpolator.specs.declared.template.piece.Form.TheVariants as forms
+use Rattle.interpolator.specs.declared.template.piece.Piece.{Piece}
+use Rattle.interpolator.specs.declared.template.piece.Piece.TheViews.{out-Piece}
+
+-- the width or the precision of a spec, whichever is greater, and 0 where neither is set
+abbrev pub spec_extent : Spec → ℕ
+spec_extent spec = max (unwrap_or spec.width 0) (unwrap_or spec.precision 0)
+
+-- the same of what a piece holds
+abbrev pub held_extent : Option Held → ℕ
+held_extent (Some (valued start name spec bare end)) = spec_extent spec
+held_extent _ = 0
+
+-- what a stored piece asks by itself
+abbrev pub form_extent : Spec → Form → ℕ
+form_extent spec (forms.Value t) = spec_extent spec
+form_extent spec (forms.List range) = spec_extent spec
+form_extent spec _ = 0
+
+abbrev pub stored_extent : Piece → ℕ
+stored_extent x = form_extent (out-Piece x).spec (out-Piece x).form
+
+abbrev mutual
+  -- the greatest width or precision of a piece and of those in its groups
+  pub node_extent : Node → ℕ
+  node_extent (node place end kind held item join) =
+      max (held_extent held) (max (branch_extent item) (branch_extent join))
+
+  pub branch_extent : Branch → ℕ
+  branch_extent no_branch = 0
+  branch_extent (branch xs) = forest_extent xs
+
+  pub forest_extent : Forest → ℕ
+  forest_extent no_nodes = 0
+  forest_extent (nodes_and x xs) = max (node_extent x) (forest_extent xs)
+
+abbrev mutual
+  -- how many groups stand in one another, at most
+  pub node_depth : Node → ℕ
+  node_depth (node place end kind held item join) = max (branch_depth item) (branch_depth join)
+
+  pub branch_depth : Branch → ℕ
+  branch_depth no_branch = 0
+  branch_depth (branch xs) = suc (forest_depth xs)
+
+  pub forest_depth : Forest → ℕ
+  forest_depth no_nodes = 0
+  forest_depth (nodes_and x xs) = max (node_depth x) (forest_depth xs)

@@ -1,0 +1,65 @@
+//! Laws of what can be known of a format before it is written, each the contract of a small
+//! function.
+
+ghost use Rattle.std.specs.Prelude.{◌≡◌, ◌≢◌, ◌↔◌, ℕ, List, Option, None, Some, Contains, codes};
+ghost use Rattle.interpolator_syntax.specs.At.{At, outermost};
+ghost use Rattle.interpolator_syntax.specs.Faults.{Fault, parse, unclosed, missing_value};
+ghost use Rattle.interpolator.specs.Slots.{Slots};
+ghost use Rattle.interpolator.specs.Meaning.AskedNames.{asked_names};
+ghost use Rattle.interpolator.specs.Meaning.Environments.{Environment, environment};
+ghost use Rattle.interpolator.specs.Meaning.Meanings.{means};
+ghost use Rattle.interpolator.specs.Template.NodeChecks.{first_fault, text_faults, IsOfText};
+ghost use Rattle.interpolator.specs.Template.NodeChecks.{ForestHas, FirstFaulty};
+ghost use Rattle.interpolator.specs.Template.NodeLacks.{first_lacking};
+ghost use Rattle.interpolator.specs.Template.Nodes.{as_forest, nodes};
+
+use interpolator_render::Value;
+
+/// A fault of the text, `Parse` or `UnsupportedOption`, that a format has in some environment is one
+/// of those that it has by itself. So a format in which a check finds none answers neither of the
+/// two, whatever its context is.
+///
+/// So `{a:i({z)}` is checked to have an unclosed argument at byte 6, and in a context with an empty
+/// list under `a` it is written all the same.
+pub fn a_format_that_checks_has_no_fault_of_its_own<V: Value>()
+    ensures among { (e : Environment V) (a : At) (f : Fault) → (means V.shows e a).fault ≡ Some f
+        → IsOfText f → Contains (text_faults a) f }
+    ensures none { (e : Environment V) (a : At) → first_fault (text_faults a) ≡ None
+        → (f : Fault) → (means V.shows e a).fault ≡ Some f → ¬ (IsOfText f) }
+{}
+
+/// The faults that a format has by itself are those of its pieces, at any depth of groups: what is
+/// wrong with an argument, what the spec of a list asks and may not, and that an argument is not
+/// closed. The first is the first of some piece, and no piece before it has any. Each is a fault of
+/// a text.
+///
+/// So of `{a:i({z)}{b` the first is that `{z` is not closed.
+pub fn a_fault_of_its_own_is_that_of_some_piece()
+    ensures listed { (a : At) (f : Fault) → Contains (text_faults a) f
+        ↔ ForestHas f (as_forest (nodes a)) }
+    ensures first { (a : At) (f : Fault) → first_fault (text_faults a) ≡ Some f
+        → FirstFaulty f (nodes a) }
+    ensures none { (a : At) → first_fault (text_faults a) ≡ None
+        ↔ ((f : Fault) → ¬ (ForestHas f (as_forest (nodes a)))) }
+    ensures of_text { (a : At) (f : Fault) → Contains (text_faults a) f → IsOfText f }
+    ensures value { first_fault (text_faults (outermost (codes "{a:i({z)}{b")))
+        ≡ Some (parse (unclosed 6)) }
+{}
+
+/// Where a format misses a value, its name is one that it asks, and the context has nothing under
+/// it. So a context that lacks none of the names misses no value; and what it is said to lack is a
+/// name that the format asks and the context has nothing under.
+///
+/// So `{a}{b}` in a context that has `a` alone is said to lack `b`.
+pub fn a_context_that_lacks_nothing_misses_no_value<V: Value>()
+    ensures missed { (finds : List ℕ → Option (Slots V)) (a : At) (name : List ℕ) (place : ℕ)
+        → (means V.shows (environment finds) a).fault ≡ Some (missing_value name place)
+        → Contains (asked_names a) name × (finds name ≡ None) }
+    ensures none { (finds : List ℕ → Option (Slots V)) (a : At)
+        → first_lacking (environment finds) (asked_names a) ≡ None
+        → (name : List ℕ) (place : ℕ)
+        → (means V.shows (environment finds) a).fault ≢ Some (missing_value name place) }
+    ensures lacks { (finds : List ℕ → Option (Slots V)) (a : At) (name : List ℕ)
+        → first_lacking (environment finds) (asked_names a) ≡ Some name
+        → Contains (asked_names a) name × (finds name ≡ None) }
+{}

@@ -1,0 +1,76 @@
+//! Laws of the tree of a text, which a format that was read once keeps, each the contract of a small
+//! function.
+
+ghost use Rattle.std.specs.Prelude.{◌≡◌, ◌↔◌, ◌+◌, [], ◌∷◌, None, Some, Ok, IsTrue, codes};
+ghost use Rattle.interpolator_render.specs.declared.view.Trait.TheVariants as traits;
+ghost use Rattle.interpolator_syntax.specs.At.{At, size, outermost};
+ghost use Rattle.interpolator_syntax.specs.Groups.{Group};
+ghost use Rattle.interpolator_syntax.specs.SpecTexts.{plain_spec};
+ghost use Rattle.interpolator.specs.Meaning.Meanings.{inside};
+ghost use Rattle.interpolator.specs.Template.Nodes.{node, branch, as_forest, valued, bare_value};
+ghost use Rattle.interpolator.specs.Template.Nodes.{bare_list};
+ghost use Rattle.interpolator.specs.Template.Nodes.{no_branch, text_node, group_branch, nodes};
+ghost use Rattle.interpolator.specs.Template.Splits.{nodes_alone, merged, split_again};
+ghost use Rattle.interpolator.specs.Template.Splits.{NoTwoLiterals, Contiguous};
+ghost use Rattle.interpolator.specs.declared.template.piece.PieceKind.TheVariants.{Literal, Doubled};
+ghost use Rattle.interpolator.specs.declared.template.piece.PieceKind.TheVariants.{Closed};
+
+use crate::template::piece::PieceKind;
+use std::alloc::AllocError;
+
+/// The tree of a text is its pieces, of which neighbouring literals are one node. Split into its
+/// characters again, it is the pieces: each at its place and of its kind, of an argument the name,
+/// the spec, what it asks for and its end, and of a broken one the fault. Under an argument stand
+/// the trees of the texts of its groups, so that all this holds at every depth.
+///
+/// So the four pieces of `ab{{{x}` are three nodes: the literals `ab`, a doubled brace and an
+/// argument; and `{l:i(c{d})}` is one node, under which stand the literal `c` and an argument.
+pub fn nodes_are_the_pieces()
+    ensures merged { (a : At) → nodes a ≡ merged (nodes_alone a) }
+    ensures split { (a : At) → split_again (nodes a) ≡ nodes_alone a }
+    ensures value { nodes (outermost (codes "ab{{{x}"))
+        ≡ text_node 0 2 Literal (codes "ab") ∷ text_node 2 4 Doubled (codes "{")
+        ∷ node 4 7 Closed (Some (valued 5 (codes "x") plain_spec (bare_value traits.Display) 6))
+        no_branch no_branch ∷ [] }
+    ensures depth { nodes (outermost (codes "{l:i(c{d})}"))
+        ≡ node 0 11 Closed (Some (valued 1 (codes "l") plain_spec (bare_list None) 10))
+        (branch (as_forest (text_node 5 6 Literal (codes "c")
+        ∷ node 6 9 Closed (Some (valued 7 (codes "d") plain_spec (bare_value traits.Display) 8))
+        no_branch no_branch ∷ []))) no_branch ∷ [] }
+{}
+
+/// No two neighbours in the tree of a text are both literals.
+///
+/// So `ab}c` is the literals `ab`, a lone brace and the literal `c`.
+pub fn no_two_literals_are_neighbours()
+    ensures { (a : At) → NoTwoLiterals (nodes a) }
+{}
+
+/// The first node of a text begins where the text begins, each of the others where the one before it
+/// ends, and the last ends where the text ends. The nodes of a group do so in the text of the group,
+/// which stands at its place in the format, in its argument: after the first byte of the argument,
+/// and up to its end at most. So it is at every depth.
+///
+/// So in `ab{l:i(c{d})}` the nodes stand from byte 0 to 2 and from there to 13, and those of the
+/// item format from 7 to 8 and from there to 11.
+pub fn nodes_stand_one_after_the_other()
+    ensures places { (a : At)
+        → Contiguous a.place (as_forest (nodes a)) (a.place + size a.text) }
+    ensures groups { (g : Group)
+        → (group_branch nodes (Some g) ≡ branch (as_forest (nodes (inside g))))
+        × Contiguous g.place (as_forest (nodes (inside g))) (g.place + size g.text) }
+{}
+
+/// Two kinds of pieces are equal exactly where they are the same variant.
+pub fn equal_piece_kinds(left: PieceKind, right: PieceKind) -> bool
+    ensures { IsTrue result ↔ (left ≡ right) }
+{
+    left == right
+}
+
+/// The clone of a kind of pieces is the same variant.
+pub fn clone_of_piece_kind(original: &PieceKind) -> Result<PieceKind, AllocError>
+    ensures { result ≡ Ok original.now }
+{
+    original.clone()
+}

@@ -1,0 +1,73 @@
+//! The value and the list under a name, for formats as texts and for those that were read once.
+ghost use Rattle.std.specs.Prelude.{◌≡◌, IfOk, MatchResult, false, map};
+ghost use Rattle.std.specs.Str.{chars};
+ghost use Rattle.interpolator_syntax.specs.Faults.{answered};
+ghost use Rattle.interpolator.specs.Meaning.Environments.{given};
+ghost use Rattle.interpolator.specs.Meaning.Lists.{IsChosen, IsNotChosen};
+ghost use Rattle.interpolator.specs.Meaning.Meanings.{under_name, value_means, forbids_list};
+ghost use Rattle.interpolator.specs.Meaning.Scopes.{environment_of};
+ghost use Rattle.interpolator.specs.Meaning.Sinks.{Writes};
+ghost use Rattle.interpolator.specs.Slots.{slots_of, slot_at, values_of};
+
+use crate::context::Context;
+use crate::meaning::list::{choose, forbids_list};
+use crate::meaning::scope::Scope;
+use crate::meaning::sink::Sink;
+use crate::slots::Formattable;
+use interpolator_render::{Spec, TextWrite, Trait};
+use interpolator_syntax::{Error, ParseError, Range};
+
+/// Writes the value under a name, for an argument that starts at `start` and whose spec ends at
+/// `end`.
+#[inline(always)]
+pub(crate) fn write_value<'a, W: TextWrite, C: Context>(
+    sink: &mut Sink<'_, W>,
+    scope: &Scope<'a, C, C::Object>,
+    start: usize,
+    name: &str,
+    t: Trait,
+    spec: &Spec,
+    end: usize,
+) -> Result<(), Error>
+    ensures writes { Writes W.written
+        (under_name (chars name.now) start
+        (λ found. value_means C.Object.shows t spec.now end (slot_at t (values_of found)))
+        (given (environment_of C.finds scope.now) (chars name.now)))
+        sink.old sink.new (answered result) }
+{
+    let Some(value) = scope.value(name, t) else {
+        return Err(scope.missing(name, start));
+    };
+    sink.put_value(value, t, spec, end)?;
+    Ok(())
+}
+
+/// The items that a range chooses of the list under a name, for an argument that starts at `start`
+/// and whose spec ends at `end`.
+#[inline(always)]
+pub(crate) fn chosen_list<'a, C: Context>(
+    scope: &Scope<'a, C, C::Object>,
+    start: usize,
+    name: &str,
+    range: Option<Range>,
+    spec: &Spec,
+    end: usize,
+) -> Result<&'a [Formattable<'a, C::Object>], Error>
+    ensures chosen { MatchResult result
+        (λ items. IsChosen (environment_of C.finds scope.now) (chars name.now) start range spec.now
+        end (map slots_of items.now))
+        (λ error. IsNotChosen (environment_of C.finds scope.now) (chars name.now) start range
+        spec.now end error) }
+    ensures allowed { IfOk result (λ _. forbids_list spec.now ≡ false) }
+{
+    let Some(found) = scope.items(name) else {
+        return Err(scope.missing(name, start));
+    };
+    let Some(items) = found else {
+        return Err(Error::MissingTraitImpl(Trait::Iter, end));
+    };
+    if forbids_list(spec) {
+        return Err(Error::Parse(ParseError::Iter(end)));
+    }
+    Ok(choose(items, range))
+}

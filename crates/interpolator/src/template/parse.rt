@@ -1,0 +1,304 @@
+//! Reads a format into its pieces.
+ghost use Rattle.std.specs.Prelude.{◌≡◌, ◌+◌, ℕ, List, [], ◌∷◌, ◌++◌, IfOk, Ok, option_map};
+ghost use Rattle.std.specs.Str.{chars};
+ghost use Rattle.interpolator_render.specs.declared.view.Trait.TheVariants as traits;
+ghost use Rattle.interpolator_syntax.specs.At.{at, size, all_after};
+ghost use Rattle.interpolator_syntax.specs.Arguments.{argument_at, taken_read, kind_of_asked};
+ghost use Rattle.interpolator_syntax.specs.Arguments.{list_of};
+ghost use Rattle.interpolator_syntax.specs.Faults.{argument_fault_of};
+ghost use Rattle.interpolator_syntax.specs.Groups.{group_of};
+ghost use Rattle.interpolator_syntax.specs.Pieces.{argument_from, broken};
+ghost use Rattle.interpolator_syntax.specs.SpecTexts.{of_value, of_list, plain_spec};
+ghost use Rattle.interpolator_syntax.specs.Tokens.{argument};
+ghost use Rattle.interpolator.specs.Template.Nodes.{nodes, node, no_branch, written, piece_node};
+ghost use Rattle.interpolator.specs.Template.Nodes.{token_node};
+ghost use Rattle.interpolator.specs.Template.Stored.{StandFor, Pushed, GroupStands, part, node_of};
+ghost use Rattle.interpolator.specs.Template.Stored.{stored_held, branch_of, range_of};
+ghost use Rattle.interpolator.specs.declared.template.piece.Form.TheVariants as forms;
+ghost use Rattle.interpolator.specs.Template.Reading.{taken_step, ending_kind, ending_rest};
+
+use crate::meaning::list::inside;
+use crate::template::piece::{Form, Piece, PieceKind};
+use interpolator_render::{Spec, Trait};
+use interpolator_syntax::{
+    ArgumentFault, Cursor, Group, Range, TakenArgument, Token, next_token, take_argument,
+};
+use std::alloc::{AllocError, Global};
+
+/// A piece that is written as it stands, from its first byte up to `to`.
+fn text_piece(place: usize, end: usize, kind: PieceKind, to: usize) -> Piece
+    ensures node { (bs : List ℕ) → node_of bs result
+        ≡ node place end kind (option_map (λ cs. written place cs) (part bs place to))
+        no_branch no_branch }
+{
+    Piece {
+        place,
+        end,
+        kind,
+        item: None,
+        join: None,
+        from: place,
+        to,
+        spec_end: to,
+        spec: Spec::default(),
+        form: Form::Text,
+    }
+}
+
+/// An argument that was read.
+fn argument_piece(
+    place: usize,
+    end: usize,
+    kind: PieceKind,
+    taken: &TakenArgument<'_>,
+    form: Form,
+    item: Option<Vec<Piece>>,
+    join: Option<Vec<Piece>>,
+) -> Piece
+    ensures node { (bs : List ℕ) → node_of bs result
+        ≡ node place end kind (stored_held bs place taken.now.name.place taken.now.name.end.place
+        taken.now.end.place taken.now.asked.spec form) (branch_of bs item) (branch_of bs join) }
+{
+    Piece {
+        place,
+        end,
+        kind,
+        item,
+        join,
+        from: taken.name.place,
+        to: taken.name.end.place,
+        spec_end: taken.end.place,
+        spec: taken.asked.spec,
+        form,
+    }
+}
+
+/// A range in a box of its own, since few lists have one.
+fn boxed(alloc: Global, range: Option<Range>) -> Result<Option<Box<Range>>, AllocError>
+    ensures { IfOk result (λ b. range_of b ≡ range) }
+{
+    match range {
+        Some(range) => Ok(Some(Box::new(alloc, range)?)),
+        None => Ok(None),
+    }
+}
+
+/// Adds a piece.
+fn push_piece(pieces: &mut Vec<Piece>, piece: Piece) -> Result<(), AllocError>
+    ensures { IfOk result (λ _. pieces.new.items ≡ pieces.old.items ++ (piece ∷ [])) }
+{
+    pieces.reserve(1)?;
+    pieces.push_reserved(piece);
+    Ok(())
+}
+
+/// What stands after all of the text.
+pub(crate) fn skip_all(here: Cursor<'_>) -> Cursor<'_>
+    ensures { at result ≡ all_after (at here.entry) }
+{
+    let (_, rest) = here.rest.split_at(here.rest.len());
+    Cursor {
+        place: here.place + here.rest.len(),
+        rest,
+    }
+}
+
+/// How an argument ends, and what stands after it.
+pub(crate) fn ending<'t>(taken: &TakenArgument<'t>) -> (PieceKind, Cursor<'t>)
+    ensures kind { result.0 ≡ ending_kind (option_map at taken.now.rest) }
+    ensures rest { at result.1 ≡ ending_rest (at taken.now.end) (option_map at taken.now.rest) }
+{
+    match taken.rest {
+        Some(rest) => (PieceKind::Closed, rest),
+        None => (PieceKind::Unclosed, skip_all(taken.end)),
+    }
+}
+
+/// The pieces of a text.
+#[cycle(parse)]
+pub(crate) fn parse_pieces(alloc: Global, text: Cursor<'_>) -> Result<Vec<Piece>, AllocError>
+    ensures stand { IfOk result (λ pieces. StandFor pieces.items (at text.entry)) }
+{
+    let mut pieces = Vec::new(alloc);
+    let mut here = text;
+    while let Some((token, rest)) = next_token(here) {
+        here = match token {
+            Token::Literals(_) => {
+                let piece = text_piece(here.place, rest.place, PieceKind::Literal, rest.place);
+                push_piece(&mut pieces, piece)?;
+                rest
+            }
+            Token::Doubled(_) => {
+                let piece = text_piece(here.place, rest.place, PieceKind::Doubled, here.place + 1);
+                push_piece(&mut pieces, piece)?;
+                rest
+            }
+            Token::LoneClose => {
+                let piece = text_piece(here.place, rest.place, PieceKind::LoneClose, rest.place);
+                push_piece(&mut pieces, piece)?;
+                rest
+            }
+            Token::Argument => push_argument(alloc, &mut pieces, here.place, rest)?,
+        };
+    }
+    Ok(pieces)
+}
+
+/// Adds the argument that begins here, after its brace at `place`, or its fault. Returns what stands
+/// after it.
+#[cycle(parse)]
+fn push_argument<'t>(
+    alloc: Global,
+    pieces: &mut Vec<Piece>,
+    place: usize,
+    here: Cursor<'t>,
+) -> Result<Cursor<'t>, AllocError>
+    requires start { here.place ≡ place + 1 }
+    ensures rest { IfOk result (λ r. at r ≡ (argument_from here.entry.place (at here.entry)).rest) }
+    ensures pushed { IfOk result (λ _. Pushed pieces.old.items pieces.new.items
+        (token_node nodes place argument (at here.entry)) (at here.entry)) }
+{
+    match take_argument(here) {
+        Ok(taken) => push_taken(alloc, pieces, place, here, &taken),
+        Err(fault) => push_broken(alloc, pieces, place, here, fault),
+    }
+}
+
+/// Adds the argument that was read, whose text begins here.
+#[cycle(parse)]
+fn push_taken<'t>(
+    alloc: Global,
+    pieces: &mut Vec<Piece>,
+    place: usize,
+    here: Cursor<'t>,
+    taken: &TakenArgument<'t>,
+) -> Result<Cursor<'t>, AllocError>
+    requires start { here.place ≡ place + 1 }
+    requires read { taken_read (Ok taken.now) ≡ argument_at (at here) }
+    requires name_end { taken.now.name.end.place ≡ taken.now.name.place + size (chars taken.now.name.name.now) }
+    ensures rest { IfOk result (λ r. at r ≡ (taken_step (at here.entry) taken.now).rest) }
+    ensures pushed { let s = taken_step (at here.entry) taken.now in
+        IfOk result (λ _. Pushed pieces.old.items pieces.new.items
+        (piece_node nodes place s.rest.place s.piece.kind) (at here.entry)) }
+{
+    match taken.asked.slot {
+        Trait::Iter => push_list(alloc, pieces, place, here, taken),
+        t => push_value(pieces, place, here, taken, t),
+    }
+}
+
+/// How a value is written: by its name alone where its spec ends where its name ends.
+fn value_form(taken: &TakenArgument<'_>, t: Trait) -> Form
+    requires plain { taken.now.end.place ≡ taken.now.name.end.place
+        → (t ≡ traits.Display) × (taken.now.asked.spec ≡ plain_spec) }
+    ensures held { (bs : List ℕ) (place from to end : ℕ) →
+        stored_held bs place from to end taken.now.asked.spec result
+        ≡ stored_held bs place from to end taken.now.asked.spec (forms.Value t) }
+{
+    if taken.end.place == taken.name.end.place {
+        Form::Name
+    } else {
+        Form::Value(t)
+    }
+}
+
+/// Adds an argument that asks for a value.
+fn push_value<'t>(
+    pieces: &mut Vec<Piece>,
+    place: usize,
+    here: Cursor<'t>,
+    taken: &TakenArgument<'t>,
+    t: Trait,
+) -> Result<Cursor<'t>, AllocError>
+    requires start { here.place ≡ place + 1 }
+    requires read { taken_read (Ok taken.now) ≡ argument_at (at here) }
+    requires name_end { taken.now.name.end.place ≡ taken.now.name.place + size (chars taken.now.name.name.now) }
+    requires asked { kind_of_asked taken.now.asked ≡ of_value t }
+    ensures rest { IfOk result (λ r. at r ≡ (taken_step (at here.entry) taken.now).rest) }
+    ensures pushed { let s = taken_step (at here.entry) taken.now in
+        IfOk result (λ _. Pushed pieces.old.items pieces.new.items
+        (piece_node nodes place s.rest.place s.piece.kind) (at here.entry)) }
+{
+    let (kind, rest) = ending(taken);
+    let form = value_form(taken, t);
+    let piece = argument_piece(place, rest.place, kind, taken, form, None, None);
+    push_piece(pieces, piece)?;
+    Ok(rest)
+}
+
+/// Adds an argument that asks for a list, and the pieces of its groups.
+#[cycle(parse)]
+fn push_list<'t>(
+    alloc: Global,
+    pieces: &mut Vec<Piece>,
+    place: usize,
+    here: Cursor<'t>,
+    taken: &TakenArgument<'t>,
+) -> Result<Cursor<'t>, AllocError>
+    requires start { here.place ≡ place + 1 }
+    requires read { taken_read (Ok taken.now) ≡ argument_at (at here) }
+    requires name_end { taken.now.name.end.place ≡ taken.now.name.place + size (chars taken.now.name.name.now) }
+    requires asked { kind_of_asked taken.now.asked ≡ of_list (list_of taken.now.asked.list) }
+    ensures rest { IfOk result (λ r. at r ≡ (taken_step (at here.entry) taken.now).rest) }
+    ensures pushed { let s = taken_step (at here.entry) taken.now in
+        IfOk result (λ _. Pushed pieces.old.items pieces.new.items
+        (piece_node nodes place s.rest.place s.piece.kind) (at here.entry)) }
+{
+    let item = parse_group(alloc, taken.asked.list.item)?;
+    let join = parse_group(alloc, taken.asked.list.join)?;
+    let range = boxed(alloc, taken.asked.list.range)?;
+    let (kind, rest) = ending(taken);
+    let piece = argument_piece(
+        place,
+        rest.place,
+        kind,
+        taken,
+        Form::List(range),
+        item,
+        join,
+    );
+    push_piece(pieces, piece)?;
+    Ok(rest)
+}
+
+/// The pieces of a group, where there is one.
+#[cycle(parse)]
+fn parse_group(alloc: Global, group: Option<Group<'_>>) -> Result<Option<Vec<Piece>>, AllocError>
+    ensures stands { IfOk result (λ xs. GroupStands xs (option_map group_of group.entry)) }
+{
+    match group {
+        None => Ok(None),
+        Some(group) => Ok(Some(parse_pieces(alloc, inside(group))?)),
+    }
+}
+
+/// Adds the fault of an argument that cannot be read, whose text begins here.
+#[cold]
+fn push_broken<'t>(
+    alloc: Global,
+    pieces: &mut Vec<Piece>,
+    place: usize,
+    here: Cursor<'t>,
+    fault: ArgumentFault,
+) -> Result<Cursor<'t>, AllocError>
+    ensures rest { IfOk result (λ r. at r ≡ all_after (at here.entry)) }
+    ensures pushed { IfOk result (λ _. Pushed pieces.old.items pieces.new.items
+        (piece_node nodes place (all_after (at here.entry)).place
+        (broken (argument_fault_of fault))) (at here.entry)) }
+{
+    let rest = skip_all(here);
+    let piece = Piece {
+        place,
+        end: rest.place,
+        kind: PieceKind::Broken,
+        item: None,
+        join: None,
+        from: place,
+        to: place,
+        spec_end: place,
+        spec: Spec::default(),
+        form: Form::Broken(Box::new(alloc, fault)?),
+    };
+    push_piece(pieces, piece)?;
+    Ok(rest)
+}

@@ -1,0 +1,70 @@
+//! The pieces of a format that was read once.
+
+use interpolator_render::{Spec, Trait};
+use interpolator_syntax::{ArgumentFault, Range};
+
+/// What a piece of a format is.
+#[derive(Clone, Copy, Debug, PartialEq, Eq)]
+pub enum PieceKind {
+    /// Characters that are no braces, as many as stand side by side.
+    Literal,
+    /// A doubled brace, of which one is written.
+    Doubled,
+    /// A closing brace by itself, which is written.
+    LoneClose,
+    /// An argument with its closing brace.
+    Closed,
+    /// An argument without a closing brace. It ends where its text ends.
+    Unclosed,
+    /// What cannot be read as an argument. It ends where its text ends.
+    Broken,
+}
+
+/// How a piece is written.
+#[derive(Drop)]
+pub(crate) enum Form {
+    /// Its bytes from `from` up to `to`.
+    Text,
+    /// The value under its name, displayed plainly.
+    Name,
+    /// The value under its name, under a trait and its spec.
+    Value(Trait),
+    /// The list under its name, or some of its items.
+    List(Option<Box<Range>>),
+    /// Not at all: it is a fault.
+    Broken(Box<ArgumentFault>),
+}
+
+/// A piece of a format: where it stands and what it is, and under a list argument the pieces of
+/// its groups.
+///
+/// Places count bytes from the beginning of the format, also those of pieces in groups.
+///
+/// # Example
+///
+/// ```text
+/// // of the template of `a}}{h:i({z)}`
+/// let pieces = template.pieces();
+/// // pieces[0]: Literal from 0 to 1; pieces[1]: Doubled from 1 to 3;
+/// // pieces[2]: Closed from 3 to 12, with the item format's piece: Broken from 8 to 10
+/// ```
+#[derive(Drop)]
+pub struct Piece {
+    /// Its first byte.
+    pub place: usize,
+    /// The byte after its last.
+    pub end: usize,
+    /// What it is.
+    pub kind: PieceKind,
+    /// The pieces of a list's item format; none where no such group was read.
+    pub item: Option<Vec<Piece>>,
+    /// The pieces of a list's join; none where no such group was read.
+    pub join: Option<Vec<Piece>>,
+    // the text that is written, or the name: its first byte, and the byte after its last
+    pub(crate) from: usize,
+    pub(crate) to: usize,
+    // the byte after the argument's spec
+    pub(crate) spec_end: usize,
+    pub(crate) spec: Spec,
+    pub(crate) form: Form,
+}
