@@ -153,6 +153,3 @@ impl<'a, V: Value> Context for NameMap<Formattable<'a, V>> {
         copied(self.find(key))
     }
 }
-
-#[cfg(test)]
-mod tests;

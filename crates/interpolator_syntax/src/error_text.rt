@@ -142,6 +142,3 @@ fn write_unsupported<W: fmt::Write>(
         format_args!("option `{option}` is not supported without feature `{feature}` at {place}"),
     )
 }
-
-#[cfg(test)]
-mod tests;

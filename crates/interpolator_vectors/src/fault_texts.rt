@@ -191,10 +191,30 @@ fn slots_are_named_under_options(rt: HostRuntime) -> Result<(), Fail> {
     let items: [Formattable<'_, u64>; 0] = [];
     for (held, text) in [
         (Formattable::default(), "Formattable"),
+        (Formattable::debug(&1), "Formattable(debug)"),
+        (Formattable::display(&1), "Formattable(display)"),
+        (Formattable::binary(&1), "Formattable(binary)"),
+        (Formattable::lower_exp(&1), "Formattable(lower_exp)"),
+        (Formattable::lower_hex(&1), "Formattable(lower_hex)"),
+        (Formattable::octal(&1), "Formattable(octal)"),
         (Formattable::upper_exp(&1), "Formattable(upper_exp)"),
+        (Formattable::upper_hex(&1), "Formattable(upper_hex)"),
+        (Formattable::iter(&items), "Formattable(iter)"),
         (
             Formattable::debug_display(&1),
             "Formattable(debug, display)",
+        ),
+        (
+            Formattable::display(&1).and_debug(&1),
+            "Formattable(debug, display)",
+        ),
+        (
+            Formattable::float(&1).and_iter(&items),
+            "Formattable(debug, display, lower_exp, upper_exp, iter)",
+        ),
+        (
+            Formattable::integer(&1),
+            "Formattable(debug, display, binary, lower_exp, lower_hex, octal, upper_exp, upper_hex)",
         ),
         (
             Formattable::iter(&items).and_integer(&1),

@@ -9,9 +9,13 @@ pub mod cells;
 #[cfg(test)]
 mod choices;
 #[cfg(test)]
+mod contexts;
+#[cfg(test)]
 mod counting;
 #[cfg(test)]
 mod fault_texts;
+#[cfg(test)]
+mod faults;
 #[cfg(test)]
 mod formats;
 #[cfg(test)]

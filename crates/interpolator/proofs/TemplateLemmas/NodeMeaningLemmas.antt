@@ -1,6 +1,6 @@
 -- The pieces of a text mean what the text means.
 use Rattle.std.proofs.Common.{◌≡◌, ◌∙◌, ℕ, ◌<◌, length, refl, ap, sym, Option, Some, None, arith}
-use Rattle.std.proofs.Common.{codes}
+use Rattle.std.proofs.Common.{codes, List, [], ◌∷◌, ◌++◌}
 use Rattle.std.proofs.Math.Path.{fun_ext}
 use Rattle.interpolator_render.specs.declared.view.Trait.{Trait}
 use Rattle.interpolator_render.specs.declared.view.Spec.{Spec}
@@ -17,12 +17,14 @@ use Rattle.interpolator.specs.Meaning.Environments.{Environment, given, bind}
 use Rattle.interpolator.specs.Meaning.Meanings.{joined, fault_alone, inside, under_name}
 use Rattle.interpolator.specs.Meaning.Meanings.{listed_means, item_means, join_means, kind_means}
 use Rattle.interpolator.specs.Meaning.Meanings.{piece_means, token_means, means}
-use Rattle.interpolator.specs.Template.Nodes.{as_forest, group_branch, item_branch, join_branch}
+use Rattle.interpolator.specs.Template.Nodes.{Node, as_forest, group_branch, item_branch}
+use Rattle.interpolator.specs.Template.Nodes.{join_branch}
 use Rattle.interpolator.specs.Template.Nodes.{bare_of, piece_node, token_node, nodes}
 use Rattle.interpolator.specs.Template.NodeMeanings.{bare_means, node_means, join_branch_means}
 use Rattle.interpolator.specs.Template.NodeMeanings.{item_branch_means, forest_means}
 use Rattle.interpolator.proofs.MeaningLemmas.MeaningLemmas.{token_shorter, scan_shorter}
-use Rattle.interpolator.proofs.MeaningLemmas.MeaningLemmas.{means_first, means_end}
+use Rattle.interpolator.proofs.MeaningLemmas.MeaningLemmas.{means_first, means_end, joined_none}
+use Rattle.interpolator.proofs.MeaningLemmas.MeaningLemmas.{joined_assoc}
 use Rattle.interpolator.proofs.TemplateLemmas.NodeLemmas.{by_length, argument_kind, nodes_first}
 use Rattle.interpolator.proofs.TemplateLemmas.NodeLemmas.{nodes_none}
 use Rattle.interpolator_syntax.proofs.SizeLemmas.{GroupIfIn, KindIn}
@@ -102,3 +104,13 @@ pub nodes_mean : {X : Type 0} (shows : X → Trait → Spec → Shown) (e : Envi
     → forest_means shows e (as_forest (nodes a)) ≡ means shows e a
 nodes_mean shows e a =
     by_length (Alike shows) (λ b shorter e. alike_by shows b shorter e (first_token b) refl) a e
+
+-- the meaning of pieces and others after them
+pub forest_joined :
+    {X : Type 0} (shows : X → Trait → Spec → Shown) (e : Environment X) (xs ys : List Node)
+    → forest_means shows e (as_forest (xs ++ ys))
+    ≡ joined (forest_means shows e (as_forest xs)) (forest_means shows e (as_forest ys))
+forest_joined shows e [] ys = sym (joined_none _)
+forest_joined shows e (x ∷ xs) ys =
+    ap (joined (node_means shows e x)) (forest_joined shows e xs ys)
+    ∙ sym (joined_assoc (node_means shows e x) _ _)

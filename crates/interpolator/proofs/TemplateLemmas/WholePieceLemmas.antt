@@ -1,10 +1,10 @@
 -- What is known of a stored piece that fits its text, of pieces in order, and of a piece's groups.
 use denote.Param.Weighed.{most}
 use Rattle.std.proofs.Common.{◌≡◌, refl, ap, arith, ℕ, zero, suc, ◌<◌, ◌≤◌, Bool, true, false, ◌&&◌}
-use Rattle.std.proofs.Common.{List, [], ◌∷◌, length, drop, get_or, Option, None, Some, IsSome}
+use Rattle.std.proofs.Common.{List, [], ◌∷◌, ◌++◌, length, drop, get_or, Option, None, Some, IsSome}
 use Rattle.std.proofs.lemmas.List.{drop_more}
 use Rattle.std.specs.Global.{Vec}
-use Rattle.interpolator.specs.Template.Nodes.{Branch, Held, node, as_forest}
+use Rattle.interpolator.specs.Template.Nodes.{Node, Branch, Held, node, as_forest}
 use Rattle.interpolator.specs.Template.Stored.{held_of, node_of, nodes_of, branch_of}
 use Rattle.interpolator.specs.Template.Stored.{node_whole, branch_whole, forest_whole}
 use Rattle.interpolator.specs.declared.template.piece.Piece.{Piece}
@@ -37,6 +37,14 @@ fits_text bs x h =
     let (held, item, join) = node_parts y.place y.end y.kind (held_of bs x) (branch_of bs y.item)
     (branch_of bs y.join) (rw (node_of_out bs x) at h) in
     record { held = held; item = item; join = join }
+
+-- pieces that follow others fit their text as all do
+pub rest_fits :
+    (xs ys : List Node) → forest_whole (as_forest (xs ++ ys)) ≡ true
+    → forest_whole (as_forest ys) ≡ true
+rest_fits [] ys h = h
+rest_fits (x ∷ xs) ys h =
+    rest_fits xs ys (both (node_whole x) (forest_whole (as_forest (xs ++ ys))) h).1
 
 -- each of stored pieces
 pub piece_whole :

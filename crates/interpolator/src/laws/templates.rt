@@ -1,21 +1,27 @@
 //! Laws of the tree of a text, which a format that was read once keeps, each the contract of a small
 //! function.
 
-ghost use Rattle.std.specs.Prelude.{◌≡◌, ◌↔◌, ◌+◌, [], ◌∷◌, None, Some, Ok, IsTrue, codes};
+ghost use Rattle.std.specs.Prelude.{◌≡◌, ◌↔◌, ◌+◌, [], ◌∷◌, ◌++◌, drop, true};
+ghost use Rattle.std.specs.Prelude.{List, None, Some, Ok, IsTrue, codes};
 ghost use Rattle.interpolator_render.specs.declared.view.Trait.TheVariants as traits;
 ghost use Rattle.interpolator_syntax.specs.At.{At, size, outermost};
 ghost use Rattle.interpolator_syntax.specs.Groups.{Group};
 ghost use Rattle.interpolator_syntax.specs.SpecTexts.{plain_spec};
-ghost use Rattle.interpolator.specs.Meaning.Meanings.{inside};
+ghost use Rattle.interpolator.specs.Meaning.Environments.{Environment};
+ghost use Rattle.interpolator.specs.Meaning.Meanings.{inside, joined, means};
+ghost use Rattle.interpolator.specs.Template.NodeMeanings.{forest_means};
+ghost use Rattle.interpolator.specs.Template.Nodes.{Node};
 ghost use Rattle.interpolator.specs.Template.Nodes.{node, branch, as_forest, valued, bare_value};
 ghost use Rattle.interpolator.specs.Template.Nodes.{bare_list};
 ghost use Rattle.interpolator.specs.Template.Nodes.{no_branch, text_node, group_branch, nodes};
+ghost use Rattle.interpolator.specs.Template.Stored.{forest_whole};
 ghost use Rattle.interpolator.specs.Template.Splits.{nodes_alone, merged, split_again};
 ghost use Rattle.interpolator.specs.Template.Splits.{NoTwoLiterals, Contiguous};
 ghost use Rattle.interpolator.specs.declared.template.piece.PieceKind.TheVariants.{Literal, Doubled};
 ghost use Rattle.interpolator.specs.declared.template.piece.PieceKind.TheVariants.{Closed};
 
 use crate::template::piece::PieceKind;
+use interpolator_render::Value;
 use std::alloc::AllocError;
 
 /// The tree of a text is its pieces, of which neighbouring literals are one node. Split into its
@@ -59,6 +65,21 @@ pub fn nodes_stand_one_after_the_other()
     ensures groups { (g : Group)
         → (group_branch nodes (Some g) ≡ branch (as_forest (nodes (inside g))))
         × Contiguous g.place (as_forest (nodes (inside g))) (g.place + size g.text) }
+{}
+
+/// Any pieces that follow others fit the text as these do, so that writing may begin at each of
+/// them. All mean what the first ones mean, and then what the rest means, at its places.
+///
+/// So the pieces of `a{x}b` from the second on mean what the text `{x}b` means at byte 1.
+pub fn rest_of_the_pieces_is_written<V: Value>()
+    ensures fits { (xs ys : List Node) → forest_whole (as_forest (xs ++ ys)) ≡ true
+        → forest_whole (as_forest ys) ≡ true }
+    ensures means { (e : Environment V) (xs ys : List Node)
+        → forest_means V.shows e (as_forest (xs ++ ys))
+        ≡ joined (forest_means V.shows e (as_forest xs)) (forest_means V.shows e (as_forest ys)) }
+    ensures value { (e : Environment V)
+        → forest_means V.shows e (as_forest (drop 1 (nodes (outermost (codes "a{x}b")))))
+        ≡ means V.shows e (record { place = 1; text = codes "{x}b" }) }
 {}
 
 /// Two kinds of pieces are equal exactly where they are the same variant.

@@ -267,6 +267,3 @@ fn run_join<'a, W: TextWrite, C: Context>(
         None => Ok(()),
     }
 }
-
-#[cfg(test)]
-mod tests;

@@ -1,12 +1,32 @@
-//! What a map keeps, and what refused memory leaves.
+//! What maps keep and find as contexts, and what refused memory leaves.
 ghost use Rattle.std.specs.Prelude.{◌≡◌, Some, OnOk};
 ghost use Rattle.std.specs.Str.{chars};
 ghost use Rattle.std.specs.Option.{unwrap_or};
 ghost use Rattle.interpolator.specs.NameMaps.{found};
 ghost use Rattle.interpolator.specs.Slots.{empty_slots, with_debug, with_display};
 
-use super::*;
+use interpolator::{Context, ContextMap, Error, Formattable};
+use std::alloc::{AllocError, Global};
+use std::collections::HashMap;
 use std::test::Fail;
+
+/// The name that is there, and two that are not.
+const NAMES: [(&str, bool); 3] = [("n", true), ("", false), ("nn", false)];
+
+#[test]
+fn maps_find_their_names(rt: HostRuntime) -> Result<(), Fail> {
+    let alloc = rt.alloc();
+    let value = 7u64;
+    let mut lent = HashMap::new(alloc);
+    lent.insert("n", Formattable::display(&value))?;
+    let mut owned = HashMap::new(alloc);
+    owned.insert(String::from_str(alloc, "n")?, Formattable::display(&value))?;
+    for (name, is_found) in NAMES {
+        assert_eq!(rt; Context::get(&lent, name).is_some(), is_found);
+        assert_eq!(rt; Context::get(&owned, name).is_some(), is_found);
+    }
+    Ok(())
+}
 
 // Fills two slots of one name, in two calls.
 fn merge<'a>(
