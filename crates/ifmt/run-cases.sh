@@ -1,6 +1,7 @@
 #!/usr/bin/env bash
 # Runs the built program on command lines, and compares what it writes to both streams and its
-# status with what docs/DEFINITIONS.md says, worked out by hand.
+# status with what docs/DEFINITIONS.md says, worked out by hand. Then it runs the lines `$ ifmt ..` of
+# README.md, and compares what is written with the lines that stand there.
 #
 # usage: run-cases.sh [PROGRAM..]
 #
@@ -9,6 +10,7 @@
 set -u
 
 usage='usage: ifmt FORMAT [NAME=TEXT | NAME:=NUMBER | NAME[]=ITEM,ITEM..]'
+here=$(cd "$(dirname "$0")" && pwd)
 passed=0
 failed=0
 
@@ -69,6 +71,8 @@ all_cases() {
     text 'Hi Ann' 'Hi {who}' 'who=Ann'
     text '{}     é|0xff|-7' '{{}}{name:>6}|{n:#x}|{m}' 'name=é' 'n:=255' 'm:=-7'
     text '<a>, <b>' '{l:i(<{}>)(, )}' 'l[]=a,b'
+    text '***255' '{n:*>6}' 'n:=255'
+    text 'Hello Ann, {n} is    -7 }' 'Hello {name}, {{n}} is {n:>5} }' 'name=Ann' 'n:=-7'
     text '' ''
     fault 'specified value not in context `q` at 2' 'a{q}'
     fault 'error while parsing input: Format spec at 3 is nether closed with a `}`' 'é{'
@@ -76,14 +80,6 @@ all_cases() {
     wrong 'bad word: n:=x' '{n}' 'a=b' 'n:=x'
     wrong "$usage"
     wrong "$usage" '{q}' $'q=\xff'
-    # what README says of first errors
-    fault 'trait `Display` not implemented, used by format argument at 2' '{l}' 'l[]=a,b'
-    text 'a, b' '{l:i({})(, )}' 'l[]=a,b'
-    fault 'trait `LowerHex` not implemented, used by format argument at 5' '{n:#x}' 'n=255'
-    text '0xff' '{n:#x}' 'n:=255'
-    text ', , ' '{l:i(, )}' 'l[]=a,b'
-    fault 'error while parsing input: Expected `}` at 9' '{l:i(({}))}' 'l[]=a,b'
-    text '(a)(b)' '{l:i#(({}))#}' 'l[]=a,b'
     case_of closed file 3 '' '' 'Hi'
     case_of full file 3 '' '' 'Hi'
     case_of closed file 1 '' $'specified value not in context `q` at 1\n' '{q}'
@@ -93,10 +89,40 @@ all_cases() {
     case_of file closed 0 $'Hi\n' '' 'Hi'
 }
 
+# example TEXT WORD..: the program on the words writes this text, to either stream.
+example() {
+    timeout 60 "$program" "${@:2}" >"$room/out" 2>&1
+    if [[ $(held "$room/out") == "${1}x" ]]; then
+        passed=$((passed + 1))
+    else
+        fail "${*:2} of README: another text than there"
+    fi
+}
+
+# The examples of README: a line `$ ifmt WORD..` of a block `console`, and the text after it.
+readme_cases() {
+    local line call='' text='' count=0
+    while IFS= read -r line; do
+        if [[ $line == '$ ifmt '* || $line == end ]]; then
+            if [[ -n $call ]]; then
+                eval "example \"\$text\" $call"
+                count=$((count + 1))
+            fi
+            call=${line#'$ ifmt '}
+            text=''
+        else
+            text+=$line$'\n'
+        fi
+    done < <(awk '/^```console$/ { on = 1; next } /^```$/ { on = 0 } on; END { print "end" }' \
+        "$here/../../README.md")
+    if [[ $count -eq 0 ]]; then
+        fail "README has no example"
+    fi
+}
+
 if [[ $# -gt 0 ]]; then
     programs=("$@")
 else
-    here=$(cd "$(dirname "$0")" && pwd)
     programs=("$here/out/ifmt")
     if [[ -e "$here/out/ifmt.by-rattle" ]]; then
         programs+=("$here/out/ifmt.by-rattle")
@@ -108,6 +134,7 @@ trap 'rm -rf -- "$room"' EXIT
 for program in "${programs[@]}"; do
     if [[ -x $program ]]; then
         all_cases
+        readme_cases
     else
         fail 'no such program: rt ci and rt run build it'
     fi

@@ -1,94 +1,27 @@
 -- How a text ends, as the scan finds it.
-use Rattle.std.proofs.Common.{◌≡◌, ◌≢◌, ℕ, ◌+◌, ◌<◌, true, false, eqb, List, [], ◌∷◌, ◌++◌, length}
-use Rattle.std.proofs.Common.{take, ◌-◌, arith, refl, ap, ◌∙◌, sym, subst, Ok, Err, Option, Some}
-use Rattle.std.proofs.Common.{None, append_assoc, length-append, eqb-true}
-use Rattle.std.specs.Prelude.{◌&&◌, ◌==◌}
+use Rattle.std.proofs.Common.{◌≡◌, ℕ, ◌+◌, ◌<◌, true, false, eqb, List, [], ◌∷◌, ◌++◌, length}
+use Rattle.std.proofs.Common.{arith, refl, ap, ◌∙◌, sym, subst, Ok, Err, Option, Some}
+use Rattle.std.proofs.Common.{None, length-append, eqb-true}
 use Rattle.std.specs.Char.{len_utf8}
-use Rattle.std.specs.Str.{chars, IsUtf8, encode_utf8_all}
-use Rattle.std.proofs.lemmas.List.{append_cancel_right}
-use Rattle.std.proofs.lemmas.Str.{encode_ascii, encodes-chars, encodes-append, chars-nil}
+use Rattle.std.specs.Str.{chars}
+use Rattle.std.proofs.lemmas.Str.{chars-nil}
 use Rattle.interpolator_syntax.specs.At.{At, size, after, strip}
 use Rattle.interpolator_syntax.specs.Classes.{front_of, after_of, in_class, is_brace, open_brace}
-use Rattle.interpolator_syntax.specs.Classes.{close_brace, colon}
+use Rattle.interpolator_syntax.specs.Classes.{close_brace}
 use Rattle.interpolator_syntax.specs.Arguments.{Argument, argument_at}
 use Rattle.interpolator_syntax.specs.Faults.{Fault}
 use Rattle.interpolator_syntax.specs.Pieces.{Piece, literal, step, Step, argument_from, open_step}
 use Rattle.interpolator_syntax.specs.Pieces.{close_step, past, pieces}
 use Rattle.interpolator_syntax.specs.Tokens.{Token, first_token, past_token, open_scan, close_scan}
 use Rattle.interpolator_syntax.specs.Tokens.{no_open_scan, scan_by}
-use Rattle.interpolator.specs.Seams.{ends_empty_spec, closed_ending, piece_ending}
-use Rattle.interpolator.specs.Seams.{last_ending, token_ending}
+use Rattle.interpolator.specs.Seams.{piece_ending, last_ending, token_ending}
 use Rattle.interpolator_syntax.specs.declared.class.Class.TheVariants.{Literal}
 use Rattle.interpolator.specs.declared.parts.Ending.{Ending}
-use Rattle.interpolator.specs.declared.parts.Ending.TheVariants.{Settled, EmptySpec, Open}
-use Rattle.interpolator_syntax.proofs.CharacterLemmas.{chars_of_next}
-use Rattle.interpolator_syntax.proofs.GroupLemmas.{chars_of_cut}
+use Rattle.interpolator.specs.declared.parts.Ending.TheVariants.{Settled, Open}
 use Rattle.interpolator_syntax.proofs.LocalityLemmas.{stands}
-use Rattle.interpolator_syntax.proofs.ReaderLemmas.{argument_takes}
-use Rattle.interpolator_syntax.proofs.PieceLemmas.{closed_text}
-use Rattle.interpolator_syntax.proofs.PieceLemmas.{pieces_none, pieces_next, strip_after}
+use Rattle.interpolator_syntax.proofs.PieceLemmas.{pieces_none, pieces_next}
 use Rattle.interpolator_syntax.proofs.PieceLemmas.{literal_step}
 use Rattle.std.proofs.lemmas.Bool.{cond_both}
-use Rattle.interpolator_syntax.proofs.CaseLemmas.{head_same, tail_same}
-
--- ---- `:}` at the end of a text
-
-pub ends_append :
-    (cs : List ℕ) (c d : ℕ)
-    → ends_empty_spec (cs ++ (c ∷ d ∷ [])) ≡ (c == colon && d == close_brace)
-ends_append [] c d = refl
-ends_append (x ∷ []) c d = refl
-ends_append (x ∷ y ∷ []) c d = refl
-ends_append (x ∷ y ∷ z ∷ zs) c d = ends_append (y ∷ z ∷ zs) c d
-
--- a text that does not end in a colon, with a closing brace after it
-no_colon :
-    (x : ℕ) (cs : List ℕ) → ((front : List ℕ) → x ∷ cs ≢ front ++ (colon ∷ []))
-    → ends_empty_spec (x ∷ (cs ++ (close_brace ∷ []))) ≡ false
-no_colon x [] h = grind (arith, eqb-true, h [])
-no_colon x (y ∷ []) h = no_colon y [] (λ front e. h (x ∷ front) (ap (λ cs. x ∷ cs) e))
-no_colon x (y ∷ z ∷ zs) h = no_colon y (z ∷ zs) (λ front e. h (x ∷ front) (ap (λ cs. x ∷ cs) e))
-
-no_colon_in_braces :
-    (cs : List ℕ) → ((front : List ℕ) → cs ≢ front ++ (colon ∷ []))
-    → ends_empty_spec (open_brace ∷ (cs ++ (close_brace ∷ []))) ≡ false
-no_colon_in_braces cs h = no_colon open_brace cs other
-  where
-    other : (front : List ℕ) → open_brace ∷ cs ≢ front ++ (colon ∷ [])
-    other [] e = let same : open_brace ≡ colon = head_same e in omega (arith, same)
-    other (x ∷ front) e = h front (tail_same e)
-
-colon_in_braces :
-    (front : List ℕ)
-    → ends_empty_spec (open_brace ∷ ((front ++ (colon ∷ [])) ++ (close_brace ∷ []))) ≡ true
-colon_in_braces front =
-    rw (append_assoc front (colon ∷ []) (close_brace ∷ []))
-    (ends_append (open_brace ∷ front) colon close_brace)
-
-colon_byte : encode_utf8_all (colon ∷ []) ≡ colon ∷ []
-colon_byte = ap (λ bs. bs ++ []) (encode_ascii colon (omega arith))
-
--- a text whose last byte is a colon, and one whose last byte is not
-colon_bytes :
-    (bs front : List ℕ) → IsUtf8 bs → bs ≡ front ++ (colon ∷ [])
-    → (cs : List ℕ) × (chars bs ≡ cs ++ (colon ∷ []))
-colon_bytes bs front u e =
-    let is_text : IsUtf8 (colon ∷ []) = (colon ∷ [], (refl, colon_byte)) in
-    let one : chars (colon ∷ []) ≡ colon ∷ [] =
-    chars_of_next (colon ∷ []) [] colon is_text (sym colon_byte)
-    ∙ ap (λ cs. colon ∷ cs) chars-nil in
-    let cut = chars_of_cut bs (colon ∷ []) _ u is_text (front, e) refl in (
-      chars (take (length bs - 1) bs),
-      sym cut
-          ∙ ap (λ cs. chars (take (length bs - 1) bs) ++ cs) one,
-    )
-
-colon_chars :
-    (bs front : List ℕ) → IsUtf8 bs → chars bs ≡ front ++ (colon ∷ [])
-    → bs ≡ encode_utf8_all front ++ (colon ∷ [])
-colon_chars bs front u e =
-    sym (encodes-chars bs u) ∙ ap encode_utf8_all e ∙ encodes-append front (colon ∷ [])
-    ∙ ap (λ bs. encode_utf8_all front ++ bs) colon_byte
 
 -- ---- what the scan hands on, in pieces
 
@@ -239,44 +172,11 @@ ending_done a e whole h k = sym (ap (last_ending e) (scanned_end a h)) ∙ k
 
 -- ---- how an argument ends
 
-module _ (text rest bs front : List ℕ) (u : IsUtf8 bs) (whole : chars bs ++ chars rest ≡ chars text)
-    (e : chars text ≡ front ++ chars rest) where
-  same_front : chars bs ≡ front
-  same_front = append_cancel_right (chars bs) front (chars rest) (whole ∙ e)
-
-  -- the text in front of the closing brace ends in no colon
-  pub ends_settled : ((f : List ℕ) → bs ≢ f ++ (colon ∷ []))
-      → Settled ≡ closed_ending (open_brace ∷ (front ++ (close_brace ∷ [])))
-  ends_settled h =
-      let ends =
-      no_colon_in_braces front (λ f k. h (encode_utf8_all f) (colon_chars bs f u (same_front
-      ∙ k))) in
-      rw ends refl
-
-  -- it ends in one
-  pub ends_empty : (f : List ℕ) → bs ≡ f ++ (colon ∷ [])
-      → EmptySpec ≡ closed_ending (open_brace ∷ (front ++ (close_brace ∷ [])))
-  ends_empty f h =
-      let cut = colon_bytes bs f u h in
-      let ends =
-      ap (λ cs. ends_empty_spec (open_brace ∷ (cs ++ (close_brace ∷ [])))) (sym same_front
-      ∙ cut.1) ∙ colon_in_braces cut.0 in
-      rw ends refl
-
 module _ (a : At) (x : Argument) (q : At) (h : argument_at a ≡ Ok (x, q)) where
-  pub closed_ends :
-      (rest : At) (e : Ending) → strip close_brace q ≡ Some rest
-      → ((front : List ℕ) → a.text ≡ front ++ q.text → e
-      ≡ closed_ending (open_brace ∷ (front ++ (close_brace ∷ []))))
-      → e ≡ piece_ending (argument_from a.place a).piece
+  pub closed_ends : (rest : At) → strip close_brace q ≡ Some rest
+      → Settled ≡ piece_ending (argument_from a.place a).piece
   unfolding argument_from
-  closed_ends rest e d ends =
-      let front = argument_takes a x q h in
-      let whole =
-      front.split ∙ ap (λ cs. front.front ++ cs) (strip_after close_brace q.place q.text rest d).0
-      in
-      rw (h, d) (ends front.front front.split
-      ∙ ap closed_ending (sym (closed_text a rest front.front whole)))
+  closed_ends rest d = rw (h, d) refl
 
   pub closed_after : (rest : At) → strip close_brace q ≡ Some rest
       → pieces rest ≡ pieces (argument_from a.place a).rest

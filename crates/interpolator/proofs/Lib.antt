@@ -2,8 +2,10 @@
 pub mod MeaningLemmas
 pub mod EndingLemmas
 pub mod EscapeLemmas
+pub mod FieldNameLemmas
 pub mod LineLemmas
 pub mod LoanLemmas
+pub mod RowLemmas
 pub mod SeamLemmas
 pub mod SlotNameLemmas
 pub mod SlotLemmas

@@ -5,30 +5,22 @@ use Rattle.std.proofs.Common.{Err, Option, Some, None, inl, length-append}
 use Rattle.std.specs.Prelude.{not}
 use Rattle.std.specs.Char.{len_utf8}
 use Rattle.std.proofs.lemmas.List.{take-append-le}
-use Rattle.interpolator_syntax.specs.At.{At, size, strip, strip_of, after}
-use Rattle.interpolator_syntax.specs.Classes.{in_class, open_brace, close_brace, colon}
-use Rattle.interpolator_syntax.specs.SpecTexts.{begins_alignment, spec_after}
+use Rattle.interpolator_syntax.specs.At.{At, size, strip, strip_of}
+use Rattle.interpolator_syntax.specs.Classes.{open_brace, close_brace}
 use Rattle.interpolator_syntax.specs.Arguments.{Argument, argument_at}
 use Rattle.interpolator_syntax.specs.Faults.{Fault}
-use Rattle.interpolator_syntax.specs.Pieces.{Piece, Step, closed, step, text_up_to, argument_step}
+use Rattle.interpolator_syntax.specs.Pieces.{Piece, Step, closed, step, argument_step}
 use Rattle.interpolator_syntax.specs.Pieces.{argument_or_broken, argument_from, open_step}
 use Rattle.interpolator_syntax.specs.Pieces.{close_step, piece_from, past, pieces}
-use Rattle.interpolator.specs.Seams.{ends_empty_spec, closed_ending, piece_ending}
-use Rattle.interpolator.specs.Seams.{last_ending, ending, begins_close, may_follow}
-use Rattle.interpolator_syntax.specs.declared.class.Class.TheVariants.{WhiteSpace, Name}
+use Rattle.interpolator.specs.Seams.{piece_ending, last_ending, ending, begins_close, may_follow}
 use Rattle.interpolator.specs.declared.parts.Ending.{Ending}
 use Rattle.interpolator.specs.declared.parts.Ending.TheVariants.{Settled, Open}
-use Rattle.interpolator_syntax.proofs.CaseLemmas.{none_some, tail_same}
-use Rattle.interpolator_syntax.proofs.LocalityLemmas.{stands, with_more, takes_then}
-use Rattle.interpolator_syntax.proofs.LocalityLemmas.{takes_after, Guarded}
-use Rattle.interpolator_syntax.proofs.ReaderLemmas.{name_end, NoFillBehind, argument_takes}
-use Rattle.interpolator_syntax.proofs.ReaderLemmas.{argument_same}
-use Rattle.interpolator_syntax.proofs.GrammarLemmas.{same_ok}
+use Rattle.interpolator_syntax.proofs.CaseLemmas.{none_some}
+use Rattle.interpolator_syntax.proofs.LocalityLemmas.{stands, with_more, Guarded}
+use Rattle.interpolator_syntax.proofs.ReaderLemmas.{argument_takes, argument_same}
 use Rattle.interpolator_syntax.proofs.GrammarPieceLemmas.{step_reaches}
 use Rattle.interpolator_syntax.proofs.PieceLemmas.{piece_within, pieces_none, pieces_next}
 use Rattle.interpolator_syntax.proofs.PieceLemmas.{strip_after}
-use Rattle.interpolator.proofs.EndingLemmas.{ends_append}
-use Rattle.interpolator_syntax.proofs.PieceLemmas.{closed_text}
 
 -- a text after one that ends so leaves its pieces as they are
 abbrev pub Leaves : Ending → List ℕ → Type 0
@@ -57,32 +49,12 @@ no_close p (d ∷ ds) h = rw h refl
 
 -- ---- arguments
 
--- the text after a brace, where its name is followed by `:}` and no more
-reads_empty :
-    (a : At) (x : Argument) (q : At) → argument_at a ≡ Ok (x, q)
-    → (name_end a).text ≡ colon ∷ close_brace ∷ [] → q.text ≡ close_brace ∷ []
-unfolding argument_at spec_after
-reads_empty a x q e h =
-    let read = rw h at e in ap (λ (m : At). m.text) (sym (same_ok read).1)
-
--- a closed argument is the same whatever comes after it, but for an alignment after `:}`
+-- a closed argument is the same whatever comes after it
 pub closed_same :
     (a : At) (more : List ℕ) (x : Argument) (q : At) (rest : List ℕ) → argument_at a ≡ Ok (x, q)
-    → q.text ≡ close_brace ∷ rest
-    → (rest ≡ [] → ends_empty_spec a.text ≡ true → begins_alignment more ≡ false)
-    → argument_at (with_more a more) ≡ Ok (x, with_more q more)
-closed_same a more x q rest e closes h =
-    argument_same a more x q e (subst Guarded (sym closes) (inl refl)) no_fill
-  where
-    no_fill : NoFillBehind (name_end a) more
-    no_fill k =
-        let b = after (in_class WhiteSpace) a in
-        let front =
-        takes_then a b (name_end a) (takes_after (in_class WhiteSpace) a)
-        (takes_after (in_class Name) b) in
-        let whole = front.split ∙ ap (λ cs. front.front ++ cs) k in
-        let same : close_brace ∷ rest ≡ close_brace ∷ [] = sym closes ∙ reads_empty a x q e k in
-        h (tail_same same) (ap ends_empty_spec whole ∙ ends_append front.front colon close_brace)
+    → q.text ≡ close_brace ∷ rest → argument_at (with_more a more) ≡ Ok (x, with_more q more)
+closed_same a more x q rest e closes =
+    argument_same a more x q e (subst Guarded (sym closes) (inl refl))
 
 -- ---- pieces
 
@@ -104,38 +76,16 @@ cut_more cs r more h =
     omega (arith, h, length-append cs more, length-append r more) in
     ap (λ k. take k (cs ++ more)) n ∙ take-append-le (length cs - length r) cs more (omega arith)
 
--- the text of an argument after which nothing stands
-last_text :
-    (b r : At) (front : List ℕ) → b.text ≡ front ++ (close_brace ∷ r.text) → r.text ≡ []
-    → text_up_to b r ≡ open_brace ∷ b.text
-last_text b r front e none =
-    closed_text b r front e
-    ∙ sym (ap (λ cs. open_brace ∷ cs) (e ∙ ap (λ cs. front ++ (close_brace ∷ cs)) none))
-
-ends_after : (c : ℕ) (cs : List ℕ) → ends_empty_spec cs ≡ true → ends_empty_spec (c ∷ cs) ≡ true
-ends_after c [] h = absurd (cc)
-ends_after c (x ∷ []) h = absurd (cc)
-ends_after c (x ∷ y ∷ ys) h = h
-
-empty_leaves : (text more : List ℕ) → ends_empty_spec text ≡ true
-    → Leaves (closed_ending text) more → begins_alignment more ≡ false
-empty_leaves text more h k =
-    let j = rw h at k in not_true (begins_alignment more) j.1
-
 module _ (p : ℕ) (b : At) (more : List ℕ) where
   closed_more :
       (x : Argument) (q r : At) → argument_at b ≡ Ok (x, q) → strip close_brace q ≡ Some r
-      → Goes (argument_step p b x q (Some r)) more
       → argument_or_broken p (with_more b more) (argument_at (with_more b more))
       ≡ step_more (argument_step p b x q (Some r)) more
-  closed_more x q r e d g =
+  closed_more x q r e d =
       let front = argument_takes b x q e in
       let closes = (strip_after close_brace q.place q.text r d).0 in
       let whole = front.split ∙ ap (λ cs. front.front ++ cs) closes in
-      let same = closed_same b more x q r.text e closes (λ none ends.
-      empty_leaves (open_brace ∷ b.text) more (ends_after open_brace b.text ends)
-      (subst (λ text. Leaves (closed_ending text) more) (last_text b r front.front whole none)
-      (g none))) in
+      let same = closed_same b more x q r.text e closes in
       let shorter : length r.text ≤ length (open_brace ∷ b.text) =
       omega (arith, ap length whole, length-append front.front (close_brace ∷ r.text)) in
       rw (same, strip_more close_brace q.place q.text more r d)
@@ -155,7 +105,7 @@ module _ (p : ℕ) (b : At) (more : List ℕ) where
           → argument_or_broken p (with_more b more) (argument_at (with_more b more))
           ≡ step_more (argument_step p b w.0 w.1 o) more
       by_close None d k = never more (k refl)
-      by_close (Some r) d k = closed_more w.0 w.1 r e d k
+      by_close (Some r) d k = closed_more w.0 w.1 r e d
 
   argument_from_more : Goes (argument_from p b) more
       → argument_from p (with_more b more) ≡ step_more (argument_from p b) more

@@ -13,3 +13,4 @@ pub mod Seams
 pub mod Contexts
 pub mod NameMaps
 pub mod Escaping
+pub mod Rows

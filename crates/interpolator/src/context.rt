@@ -21,6 +21,12 @@ pub trait Context {
     ghost finds: { Self → List ℕ → Option (Slots Self.Object) };
 
     /// What stands under a name, or `None`. It takes no memory.
+    ///
+    /// ```text
+    /// let context = Pairs(&[("n", Formattable::display(&n))]);
+    /// context.get("n").is_some()    // true
+    /// context.get("m").is_some()    // false
+    /// ```
     fn get(&self, key: &str) -> Option<Formattable<'_, Self::Object>>
         ensures found { option_map slots_of result ≡ finds self.now (chars key.now) };
 }

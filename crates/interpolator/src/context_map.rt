@@ -18,10 +18,12 @@ use std::marker::PhantomData;
 /// A context that is built name by name: each name stands for a [`Formattable`].
 ///
 /// ```text
+/// let name = View::from("Ann");
+/// let words = View::from(12u32);
 /// let mut map = ContextMap::new(alloc);
-/// map.put("count", Formattable::integer(&count))?;
-/// map.entry("name")?.set_display(name);
-/// map.entry("name")?.set_debug(name);      // both slots are filled now
+/// map.put("name", Formattable::debug_display(&name))?;
+/// map.put("words", Formattable::integer(&words))?;
+/// map.format(alloc, "{name:?}: {words} words")?    // "Ann": 12 words
 /// ```
 pub type ContextMap<'a, V> = NameMap<Formattable<'a, V>>;
 
@@ -47,7 +49,7 @@ impl<T> NameMap<T> {
         }
     }
 
-    /// How many names the map has.
+    /// How many names the map has: after `put` of `a`, of `b` and of `a` again, 2.
     pub fn len(&self) -> usize
         ensures { result ≡ name_count self.now }
     {
@@ -114,6 +116,12 @@ impl<T: Default + Drop> NameMap<T> {
     /// # Errors
     ///
     /// `NoMemory`, only for an absent name. The map is then as it was.
+    ///
+    /// ```text
+    /// let mut map: ContextMap<'_, u64> = ContextMap::new(alloc);
+    /// map.entry("n")?.set_display(&7);
+    /// map.entry("n")?.set_binary(&7);    // both slots are filled now
+    /// ```
     pub fn entry(&mut self, name: &str) -> Result<&mut T, Error>
         ensures* writes_back { sem 𝓛 (LendsEntry T.row self.entry (chars name.now) result) }
         ensures value { IfOk result (λ lent.
@@ -128,6 +136,8 @@ impl<T: Default + Drop> NameMap<T> {
     }
 
     /// Puts a value under a name, in place of the one that stood there. The other names stay.
+    ///
+    /// A list goes so, too: `map.put("l", Formattable::iter(&items))?`.
     ///
     /// # Errors
     ///

@@ -35,6 +35,10 @@ pub trait Interpolate: Context {
     /// # Errors
     ///
     /// The format's first fault, or `NoMemory`.
+    ///
+    /// ```text
+    /// context.format(alloc, "{n:>3}")?    // of 7 under `n`: "  7"
+    /// ```
     fn format(&self, alloc: Global, text: &str) -> Result<String, Error>
         ensures formats { Formats
             (means Self.Object.shows (environment (Self.finds self.now))
@@ -53,6 +57,10 @@ pub trait Interpolate: Context {
     /// # Errors
     ///
     /// The format's first fault; `Fmt` where the writer refuses; `NoMemory`.
+    ///
+    /// ```text
+    /// context.write_to(alloc, &mut out, "{n};")?    // of 7 under `n`, appends "7;"
+    /// ```
     fn write_to<W: TextWrite>(&self, alloc: Global, out: &mut W, text: &str) -> Result<(), Error>
         ensures outcome { Outcome
             (means Self.Object.shows (environment (Self.finds self.now))
@@ -71,6 +79,10 @@ pub trait Interpolate: Context {
     /// # Errors
     ///
     /// Those of `write_to`; `Fmt` at place 0 where the writer refuses the newline alone.
+    ///
+    /// ```text
+    /// context.write_line_to(alloc, &mut out, "{n}")?    // of 7 under `n`, appends "7\n"
+    /// ```
     fn write_line_to<W: TextWrite>(
         &self,
         alloc: Global,
@@ -96,6 +108,10 @@ pub trait Interpolate: Context {
     /// # Errors
     ///
     /// The first fault of the parts; `Fmt` where the writer refuses; `NoMemory`.
+    ///
+    /// ```text
+    /// context.write_parts_to(alloc, &mut out, &["{n}", "-{n}"])?    // of 7, appends "7-7"
+    /// ```
     fn write_parts_to<W: TextWrite>(
         &self,
         alloc: Global,
@@ -122,6 +138,11 @@ pub trait Interpolate: Context {
     /// # Errors
     ///
     /// The format's first fault; `Fmt` where the writer refuses; `NoMemory`.
+    ///
+    /// ```text
+    /// let template = Template::parse(alloc, "{n:>3}")?;
+    /// context.write_template_to(alloc, &mut out, &template)?;    // of 7, appends "  7"
+    /// ```
     fn write_template_to<W: TextWrite>(
         &self,
         alloc: Global,
@@ -145,6 +166,10 @@ pub trait Interpolate: Context {
     /// # Errors
     ///
     /// The format's first fault, or `NoMemory`.
+    ///
+    /// ```text
+    /// context.format_template(alloc, &template)?    // of `{n:>3}` and 7: "  7"
+    /// ```
     fn format_template(&self, alloc: Global, template: &Template) -> Result<String, Error>
         ensures formats { Formats
             (means Self.Object.shows (environment (Self.finds self.now))

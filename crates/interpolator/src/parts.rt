@@ -1,13 +1,10 @@
 //! Formats in parts: which may stand one after the other, and what they write.
-ghost use Rattle.std.specs.Prelude.{◌≡◌, ◌+◌, ◌^◌, ◌<◌, ◌++◌, ℕ, List, [], ◌∷◌, length};
-ghost use Rattle.std.specs.Prelude.{IfOk};
+ghost use Rattle.std.specs.Prelude.{◌≡◌, ◌+◌, ◌^◌, ◌<◌, length, IfOk};
 ghost use Rattle.std.specs.Str.{chars};
 ghost use Rattle.interpolator_syntax.specs.At.{at, size, outermost};
-ghost use Rattle.interpolator_syntax.specs.Classes.{open_brace, close_brace};
 ghost use Rattle.interpolator_syntax.specs.Pieces.{pieces, argument_from};
 ghost use Rattle.interpolator_syntax.specs.Tokens.{token_of, past_token};
-ghost use Rattle.interpolator.specs.Seams.{closed_ending, piece_ending};
-ghost use Rattle.interpolator.specs.Seams.{ending, seam_of, token_ending};
+ghost use Rattle.interpolator.specs.Seams.{ending, piece_ending, seam_of, token_ending};
 ghost use Rattle.interpolator_syntax.specs.Grammar.{from_place};
 ghost use Rattle.interpolator_syntax.specs.Faults.{answered, PlaceWithin};
 ghost use Rattle.interpolator.specs.Meaning.Environments.{environment};
@@ -23,7 +20,7 @@ use crate::meaning::evaluate::write_text;
 use crate::meaning::scope::Scope;
 use crate::meaning::sink::Sink;
 use interpolator_render::TextWrite;
-use interpolator_syntax::{Cursor, Error, Token, next_token, take_argument, text_before};
+use interpolator_syntax::{Cursor, Error, Token, next_token, take_argument};
 use std::alloc::Global;
 
 /// How a text ends, as far as the text after it can change its last piece.
@@ -33,24 +30,8 @@ pub(crate) enum Ending {
     Settled,
     /// In a lone `}`, which a second one would double.
     LoneClose,
-    /// In a closed argument with an empty spec, `:}`. An alignment after it would make the `}` a
-    /// fill.
-    EmptySpec,
     /// In an argument that is unclosed or broken, which takes all that stands after it.
     Open,
-}
-
-/// How a closed argument ends, whose text from after its brace on is given, and what stands from
-/// its closing brace on.
-fn closed_ending(text: &str, rest: &str) -> Ending
-    requires { (front : List ℕ) × (chars text.now ≡ front ++ chars rest.now) }
-    ensures { (front : List ℕ) → chars text.now ≡ front ++ chars rest.now
-        → result ≡ closed_ending (open_brace ∷ (front ++ (close_brace ∷ []))) }
-{
-    match text_before(text, rest).strip_suffix(':') {
-        Some(_) => Ending::EmptySpec,
-        None => Ending::Settled,
-    }
 }
 
 /// How the argument ends that begins here, after its brace, and what stands after it.
@@ -66,7 +47,7 @@ fn argument_ending(here: Cursor<'_>) -> (Ending, Cursor<'_>)
     };
     match take_argument(here) {
         Ok(taken) => match taken.rest {
-            Some(after) => (closed_ending(here.rest, taken.end.rest), after),
+            Some(after) => (Ending::Settled, after),
             None => (Ending::Open, nothing),
         },
         Err(_) => (Ending::Open, nothing),
@@ -102,17 +83,15 @@ fn ending_of(text: Cursor<'_>) -> Ending
 /// Tests whether one format may stand after another, so that the pieces of `a` stay what they are
 /// by themselves.
 ///
-/// It is false in two cases: `a` ends in a lone `}` and `b` begins with one, so that the two would
-/// be read as a doubled brace; or `a` ends in a closed argument whose spec is empty, `:}`, and `b`
-/// begins with `<`, `^` or `>`, so that the argument's `}` would be read as a fill. No memory is
-/// taken.
+/// It is false in one case: `a` ends in a lone `}` and `b` begins with one, so that the two would be
+/// read as a doubled brace. No memory is taken.
 ///
 /// # Example
 ///
 /// ```text
 /// seam("{x}", "}")  // true
 /// seam("}", "}")    // false: `}}` is one brace
-/// seam("{x:}", "<") // false: `{x:}<` is refused
+/// seam("{x:}", "<") // true
 /// ```
 pub fn seam(a: &str, b: &str) -> bool
     ensures { result ≡ seam_of (chars a.now) (chars b.now) }
@@ -120,7 +99,6 @@ pub fn seam(a: &str, b: &str) -> bool
     let first = b.chars().next();
     match ending_of(Cursor { place: 0, rest: a }) {
         Ending::LoneClose => first != Some('}'),
-        Ending::EmptySpec => first != Some('<') && first != Some('^') && first != Some('>'),
         Ending::Settled => true,
         Ending::Open => true,
     }

@@ -72,6 +72,8 @@ impl<'a, V> Default for Formattable<'a, V> {
 #[tactic(auto, using(crate::proofs::SlotLemmas::slots_layers))]
 impl<'a, V> Formattable<'a, V> {
     /// Fills the debug and display slots.
+    ///
+    /// After `slots.set_debug_display(&n)` of 255: `{n} {n:?}` is `255 255`.
     pub fn set_debug_display(&mut self, value: &'a V)
         ensures { slots_of self.new ≡ with_debug_display (slots_of self.old) value.now }
     {
@@ -83,6 +85,8 @@ impl<'a, V> Formattable<'a, V> {
     }
 
     /// Fills the debug slot.
+    ///
+    /// After `slots.set_debug(&n)` of 255: `{n:?}` is `255`.
     pub fn set_debug(&mut self, value: &'a V)
         ensures { slots_of self.new ≡ with_debug (slots_of self.old) value.now }
     {
@@ -90,6 +94,8 @@ impl<'a, V> Formattable<'a, V> {
     }
 
     /// Fills the display slot.
+    ///
+    /// After `slots.set_display(&n)` of 255: `{n:>5}` is `  255`.
     pub fn set_display(&mut self, value: &'a V)
         ensures { slots_of self.new ≡ with_display (slots_of self.old) value.now }
     {
@@ -97,6 +103,8 @@ impl<'a, V> Formattable<'a, V> {
     }
 
     /// Fills the eight slots of the formatting traits.
+    ///
+    /// After `slots.set_integer(&n)` of 255: `{n:#x}` is `0xff`.
     pub fn set_integer(&mut self, value: &'a V)
         ensures { slots_of self.new ≡ with_integer (slots_of self.old) value.now }
     {
@@ -114,6 +122,8 @@ impl<'a, V> Formattable<'a, V> {
     }
 
     /// Fills the debug, display, lower_exp and upper_exp slots.
+    ///
+    /// After `slots.set_float(&n)` of 255: `{n:.1e}` is `2.6e2`.
     pub fn set_float(&mut self, value: &'a V)
         ensures { slots_of self.new ≡ with_float (slots_of self.old) value.now }
     {
@@ -127,6 +137,8 @@ impl<'a, V> Formattable<'a, V> {
     }
 
     /// Fills the binary slot.
+    ///
+    /// After `slots.set_binary(&n)` of 255: `{n:b}` is `11111111`.
     pub fn set_binary(&mut self, value: &'a V)
         ensures { slots_of self.new ≡ with_binary (slots_of self.old) value.now }
     {
@@ -134,6 +146,8 @@ impl<'a, V> Formattable<'a, V> {
     }
 
     /// Fills the lower_exp slot.
+    ///
+    /// After `slots.set_lower_exp(&n)` of 255: `{n:e}` is `2.55e2`.
     pub fn set_lower_exp(&mut self, value: &'a V)
         ensures { slots_of self.new ≡ with_lower_exp (slots_of self.old) value.now }
     {
@@ -141,6 +155,8 @@ impl<'a, V> Formattable<'a, V> {
     }
 
     /// Fills the lower_hex slot.
+    ///
+    /// After `slots.set_lower_hex(&n)` of 255: `{n:x}` is `ff`.
     pub fn set_lower_hex(&mut self, value: &'a V)
         ensures { slots_of self.new ≡ with_lower_hex (slots_of self.old) value.now }
     {
@@ -148,6 +164,8 @@ impl<'a, V> Formattable<'a, V> {
     }
 
     /// Fills the octal slot.
+    ///
+    /// After `slots.set_octal(&n)` of 255: `{n:o}` is `377`.
     pub fn set_octal(&mut self, value: &'a V)
         ensures { slots_of self.new ≡ with_octal (slots_of self.old) value.now }
     {
@@ -155,6 +173,8 @@ impl<'a, V> Formattable<'a, V> {
     }
 
     /// Fills the upper_exp slot.
+    ///
+    /// After `slots.set_upper_exp(&n)` of 255: `{n:E}` is `2.55E2`.
     pub fn set_upper_exp(&mut self, value: &'a V)
         ensures { slots_of self.new ≡ with_upper_exp (slots_of self.old) value.now }
     {
@@ -162,6 +182,8 @@ impl<'a, V> Formattable<'a, V> {
     }
 
     /// Fills the upper_hex slot.
+    ///
+    /// After `slots.set_upper_hex(&n)` of 255: `{n:X}` is `FF`.
     pub fn set_upper_hex(&mut self, value: &'a V)
         ensures { slots_of self.new ≡ with_upper_hex (slots_of self.old) value.now }
     {
@@ -169,6 +191,8 @@ impl<'a, V> Formattable<'a, V> {
     }
 
     /// Fills the iter slot: the items of a list.
+    ///
+    /// After `slots.set_iter(&items)` of 255 twice: `{n:i({})(, )}` is `255, 255`.
     pub fn set_iter(&mut self, value: &'a [Formattable<'a, V>])
         ensures { slots_of self.new ≡ with_iter (slots_of self.old) (map slots_of value.now) }
     {

@@ -59,6 +59,30 @@ pub fn padded_texts(alloc: Global, repeats: u32) -> Result<String, Failure> {
     repeat_rows(alloc, &texts, &forms, repeats)
 }
 
+/// The same texts and widths, filled with a character.
+pub fn filled_texts(alloc: Global, fill: char, repeats: u32) -> Result<String, Failure> {
+    let filled = Form::of(Trait::Display).filled(fill);
+    let forms = [
+        filled.aligned(Alignment::Left).width(12),
+        filled.aligned(Alignment::Right).width(16),
+        filled.aligned(Alignment::Center).width(10).precision(4),
+    ];
+    let texts = ["é", "naïve", "smörgåsbord", "日本語", "Привет", "plain"];
+    repeat_rows(alloc, &texts, &forms, repeats)
+}
+
+/// A text and a number under widths of 1,000, filled with a character of two bytes.
+pub fn wide_accents(alloc: Global, repeats: u32) -> Result<String, Failure> {
+    let wide = Form::of(Trait::Display).filled('é').width(1000);
+    let forms = [
+        wide.aligned(Alignment::Left),
+        wide.aligned(Alignment::Center),
+        wide.aligned(Alignment::Right),
+    ];
+    let values = [View::Text("wide"), View::Unsigned(42)];
+    repeat_rows(alloc, &values, &forms, repeats)
+}
+
 /// A text and a number under widths of 1,000.
 pub fn wide(alloc: Global, repeats: u32) -> Result<String, Failure> {
     let wide = Form::of(Trait::Display).width(1000);

@@ -27,6 +27,14 @@ impl Form {
         })
     }
 
+    /// Filled with a character.
+    pub fn filled(self, fill: char) -> Form {
+        self.under(Spec {
+            fill: Some(fill),
+            ..self.spec
+        })
+    }
+
     /// With a sign before numbers that are not negative, too.
     pub fn plus(self) -> Form {
         self.under(Spec {

@@ -52,7 +52,10 @@ enum Shape {
     Radix,
     Exponents,
     PaddedTexts,
+    StarredTexts,
+    AccentedTexts,
     Wide,
+    WideAccents,
     List,
     AngledList,
     LongList,
@@ -67,7 +70,10 @@ enum Rows {
     Radix,
     Exponents,
     PaddedTexts,
+    StarredTexts,
+    AccentedTexts,
     Wide,
+    WideAccents,
     LongDigits,
     SixtyBits,
     SixteenHex,
@@ -75,7 +81,7 @@ enum Rows {
 
 /// Every workload, in the order in which `all` runs them.
 #[rattlefmt::skip]
-pub const ALL: [Workload; 72] = [
+pub const ALL: [Workload; 81] = [
     Workload("log-line", Task::Use(How::Format, Shape::LogLine)),
     Workload("names-32-numbers", Task::Use(How::Format, Shape::NumberNames)),
     Workload("names-18-texts", Task::Use(How::Format, Shape::TextNames)),
@@ -148,6 +154,15 @@ pub const ALL: [Workload; 72] = [
     Workload("render-long-digits", Task::Render(Rows::LongDigits)),
     Workload("render-60-bits", Task::Render(Rows::SixtyBits)),
     Workload("render-16-hex", Task::Render(Rows::SixteenHex)),
+    Workload("write-starred-texts", Task::Use(How::Write, Shape::StarredTexts)),
+    Workload("write-accented-texts", Task::Use(How::Write, Shape::AccentedTexts)),
+    Workload("write-wide-accents", Task::Use(How::Write, Shape::WideAccents)),
+    Workload("template-starred-texts", Task::Use(How::Template, Shape::StarredTexts)),
+    Workload("template-accented-texts", Task::Use(How::Template, Shape::AccentedTexts)),
+    Workload("template-wide-accents", Task::Use(How::Template, Shape::WideAccents)),
+    Workload("render-starred-texts", Task::Render(Rows::StarredTexts)),
+    Workload("render-accented-texts", Task::Render(Rows::AccentedTexts)),
+    Workload("render-wide-accents", Task::Render(Rows::WideAccents)),
 ];
 
 impl Workload {
@@ -185,7 +200,10 @@ impl Shape {
             Shape::Radix => spec_formats::radix(alloc, how, repeats),
             Shape::Exponents => spec_formats::exponents(alloc, how, repeats),
             Shape::PaddedTexts => spec_formats::padded_texts(alloc, how, repeats),
+            Shape::StarredTexts => spec_formats::starred_texts(alloc, how, repeats),
+            Shape::AccentedTexts => spec_formats::accented_texts(alloc, how, repeats),
             Shape::Wide => spec_formats::wide(alloc, how, repeats),
+            Shape::WideAccents => spec_formats::wide_accents(alloc, how, repeats),
             Shape::List => lists::numbers(alloc, how, 1_000, "{n:i({})(, )}", repeats),
             Shape::AngledList => lists::numbers(alloc, how, 1_000, "{n:i(<{}>)}", repeats),
             Shape::LongList => lists::numbers(alloc, how, 100_000, "{n:i({} )}", repeats),
@@ -205,7 +223,10 @@ impl Rows {
             Rows::Radix => renders::radix(alloc, repeats),
             Rows::Exponents => renders::exponents(alloc, repeats),
             Rows::PaddedTexts => renders::padded_texts(alloc, repeats),
+            Rows::StarredTexts => renders::filled_texts(alloc, '*', repeats),
+            Rows::AccentedTexts => renders::filled_texts(alloc, 'é', repeats),
             Rows::Wide => renders::wide(alloc, repeats),
+            Rows::WideAccents => renders::wide_accents(alloc, repeats),
             Rows::LongDigits => renders::long_digits(alloc, repeats),
             Rows::SixtyBits => renders::sixty_bits(alloc, repeats),
             Rows::SixteenHex => renders::sixteen_hex(alloc, repeats),

@@ -16,7 +16,7 @@ use Rattle.interpolator_render.specs.declared.number_form.Radix.TheVariants.{Upp
 use Rattle.interpolator_render.specs.declared.view.Spec.{Spec}
 use Rattle.interpolator_render.specs.Digits.{digit_text}
 use Rattle.interpolator_render.specs.Numbers.{base_of, is_upper}
-use Rattle.interpolator_render.specs.Padding.{fill_of, IsNumberRow}
+use Rattle.interpolator_render.specs.Padding.{IsNumberRow, number_fill}
 use Rattle.interpolator_render.proofs.DigitLemmas.{length-digit_text-le}
 use Rattle.interpolator_render.specs.DigitBuffers.{Buffered, IsBuffered, buffered, grown, grown_after}
 use Rattle.interpolator_render.proofs.LayoutLemmas.{IsAscii-replicate}
@@ -148,7 +148,7 @@ few_decimals n s = short_digits 10 n false (omega arith) s
 
 -- the digits of 64 bits alone in a row
 pub number_row : (spec : Spec) (radix : Radix) (n : ℕ) (empty row : Buffered) (fill : ℕ) →
-    unwrap_or spec.width 0 ≤ 40 → n < 2 ^ 64 → fill ≡ fill_of spec →
+    unwrap_or spec.width 0 ≤ 40 → n < 2 ^ 64 → fill ≡ number_fill spec →
     empty ≡ record { before = 88; text = []; after = 40; fill = fill } →
     row ≡ grown (digit_text (base_of radix) (is_upper radix) n) empty → IsNumberRow spec row
 number_row spec radix n empty row fill w s f e r =

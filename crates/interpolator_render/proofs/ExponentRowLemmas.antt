@@ -8,7 +8,7 @@ use Rattle.std.proofs.lemmas.Bool.Decides.{nat_tests}
 use Rattle.std.proofs.lemmas.List.{length-replicate}
 use Rattle.interpolator_render.specs.Digits.{digit_text}
 use Rattle.interpolator_render.specs.declared.view.Spec.{Spec}
-use Rattle.interpolator_render.specs.Padding.{fill_of, IsNumberRow}
+use Rattle.interpolator_render.specs.Padding.{IsNumberRow, number_fill}
 use Rattle.interpolator_render.specs.Exponent.{exponent_tail, exponent_text, leading, pointed}
 use Rattle.interpolator_render.specs.Exponent.{scientific, shown_text}
 use Rattle.interpolator_render.specs.DigitBuffers.{Buffered, grown}
@@ -115,7 +115,7 @@ shown_pieces upper digits zeros exponent row tail padded all a b c =
 -- an exponent form alone in a row
 pub exponent_row : (spec : Spec) (digits zeros exponent : ℕ) (upper : Bool) (empty row : Buffered)
     (fill : ℕ) → unwrap_or spec.width 0 ≤ 40 → digits < 2 ^ 128 → zeros ≤ 40 → exponent ≤ 39 →
-    fill ≡ fill_of spec → empty ≡ record { before = 88; text = []; after = 40; fill = fill } →
+    fill ≡ number_fill spec → empty ≡ record { before = 88; text = []; after = 40; fill = fill } →
     row ≡ grown (shown_text upper digits zeros exponent) empty → IsNumberRow spec row
 exponent_row spec digits zeros exponent upper empty row fill w d z s f e r =
     let few = decimal_digits digits d in

@@ -22,7 +22,7 @@ use Rattle.interpolator_render.specs.Digits.{digit_text}
 use Rattle.interpolator_render.specs.Exponent.{exponent_of, nearest, trimmed, less_zeros, IsNearest}
 use Rattle.interpolator_render.specs.Exponent.{distance}
 use Rattle.interpolator_render.specs.Numbers.{twos_complement, remainder}
-use Rattle.interpolator_render.specs.Padding.{missing_to, spaces_before, between_spaces}
+use Rattle.interpolator_render.specs.Padding.{between_fill, fill_before, fill_of, missing_to}
 use Rattle.interpolator_render.specs.Padding.{padded_number, padded_text, displayed_text}
 use Rattle.interpolator_render.specs.Views.{bit_count}
 use Rattle.interpolator_render.specs.Written.{Written, Appends}
@@ -203,20 +203,21 @@ pub ruleset trimmed_laws = (trimmed_tail, trimmed_last)
 
 -- ---- padding
 
-length-between : (before after : ℕ) (text : List ℕ) → length (between_spaces before after text)
+length-between : (fill before after : ℕ) (text : List ℕ) →
+    length (between_fill fill before after text)
     ≡ before + length text + after
-length-between before after text =
-    rw (length-append, length-append, length-replicate {A = ℕ} before 32)
-    (let n = length-replicate {A = ℕ} after 32 in omega arith)
+length-between fill before after text =
+    rw (length-append, length-append, length-replicate {A = ℕ} before fill)
+    (let n = length-replicate {A = ℕ} after fill in omega arith)
 
 pub padded_text_count : (spec : Spec) (text : List ℕ) → length (padded_text spec text)
     ≡ max (unwrap_or spec.width 0) (length text)
 unfolding padded_text
 padded_text_count spec text =
     let missing = missing_to spec (length text) in
-    let before = spaces_before spec.alignment missing 0 in
+    let before = fill_before spec.alignment missing 0 in
     let within = before_within spec.alignment missing 0 (omega arith) in
-    let size = length-between before (missing - before) text in omega arith
+    let size = length-between (fill_of spec) before (missing - before) text in omega arith
 
 length-zeros_between : (front body : List ℕ) (missing : ℕ) →
     length (front ++ (replicate missing 48 ++ body)) ≡ length front + length body + missing
@@ -229,12 +230,13 @@ pub padded_number_count : (spec : Spec) (front body : List ℕ) →
 unfolding padded_number
 padded_number_count spec front body =
     let missing = missing_to spec (length front + length body) in
-    let before = spaces_before spec.alignment missing missing in
+    let before = fill_before spec.alignment missing missing in
     let within = before_within spec.alignment missing missing (omega arith) in
     elim (cases_Bool spec.zero) [
       | inl z ↦ rw z (let size = length-zeros_between front body missing in omega arith)
-      | inr z ↦ rw z (let size = length-between before (missing - before) (front ++ body) in
-          let whole = length-append front body in omega arith)
+      | inr z ↦ rw z (let whole = length-append front body in
+          let size = length-between (fill_of spec) before (missing - before) (front ++ body) in
+          omega arith)
     ]
 
 pub ruleset padded_laws = (padded_text_count, padded_number_count)

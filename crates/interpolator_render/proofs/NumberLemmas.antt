@@ -11,13 +11,13 @@ use Rattle.interpolator_render.specs.declared.view.Sign.TheVariants.{Unset as No
 use Rattle.interpolator_render.specs.declared.view.Spec.{Spec}
 use Rattle.interpolator_render.specs.Digits.{digit_text}
 use Rattle.interpolator_render.specs.Numbers.{front_text, number_text}
-use Rattle.interpolator_render.specs.Padding.{fill_of, missing_to, padded_number, spaces_before}
-use Rattle.interpolator_render.specs.Padding.{IsNumberLayout}
+use Rattle.interpolator_render.specs.Padding.{fill_of, missing_to, number_fill, padded_number}
+use Rattle.interpolator_render.specs.Padding.{fill_before, IsNumberLayout}
 use Rattle.std.proofs.lemmas.Bool.{cases_Bool}
 
 -- what stands before a text is a part of what is missing
 pub before_within : (alignment : Alignment) (missing unset : ℕ) → unset ≤ missing →
-    spaces_before alignment missing unset ≤ missing
+    fill_before alignment missing unset ≤ missing
 before_within Left missing unset h = omega arith
 before_within Right missing unset h = omega arith
 before_within Center missing unset h = omega arith
@@ -34,9 +34,9 @@ pub number_parts : (spec : Spec) (sign prefix head tail : List ℕ)
     count ≡ min (length (sign ++ prefix) + length (head ++ (replicate trailing 48 ++ tail)))
     (2 ^ 64 - 1) →
     IsNumberLayout spec count before padding after →
-    replicate before 32 ++ (sign ++ (prefix
+    replicate before (fill_of spec) ++ (sign ++ (prefix
     ++ (replicate padding 48 ++ (head ++ (replicate trailing 48
-    ++ (tail ++ (replicate after 32 ++ [])))))))
+    ++ (tail ++ (replicate after (fill_of spec) ++ [])))))))
     ≡ padded_number spec (sign ++ prefix) (head ++ (replicate trailing 48 ++ tail))
 unfolding padded_number
 number_parts spec sign prefix head tail count before padding trailing after n l =
@@ -44,27 +44,27 @@ number_parts spec sign prefix head tail count before padding trailing after n l 
     elim (cases_Bool spec.zero) [
       | inl z ↦ let f = l.zeroed z in rw (z, f.0, f.1, f.2, ← same)
           (simp (append-nil, append_assoc))
-      | inr z ↦ let f = l.spaced z in rw (z, f.2, f.0, f.1, ← same)
+      | inr z ↦ let f = l.filled z in rw (z, f.2, f.0, f.1, ← same)
           (simp (append-nil, append_assoc))
     ]
 
 -- a number under the zero flag, written from its end to its front
 pub zero_padded : (spec : Spec) (front body : List ℕ) (missing fill : ℕ) → spec.zero ≡ true →
-    fill ≡ fill_of spec → missing ≡ missing_to spec (length front + length body) →
+    fill ≡ number_fill spec → missing ≡ missing_to spec (length front + length body) →
     front ++ (replicate missing fill ++ body) ≡ padded_number spec front body
 unfolding padded_number
 zero_padded spec front body missing fill z f e = rw (f, e, z) refl
 
 -- and another
-pub space_padded : (spec : Spec) (front body : List ℕ) (missing before fill : ℕ) →
-    spec.zero ≡ false → fill ≡ fill_of spec →
+pub fill_padded : (spec : Spec) (front body : List ℕ) (missing before fill : ℕ) →
+    spec.zero ≡ false → fill ≡ number_fill spec →
     missing ≡ missing_to spec (length front + length body) →
-    before ≡ spaces_before spec.alignment missing missing →
+    before ≡ fill_before spec.alignment missing missing →
     (replicate before fill ++ (front ++ body)) ++ replicate (missing - before) fill
     ≡ padded_number spec front body
 unfolding padded_number
-space_padded spec front body missing before fill z f e b = rw (b, f, e, z)
-    (append_assoc (replicate _ 32) (front ++ body) _)
+fill_padded spec front body missing before fill z f e b = rw (b, f, e, z)
+    (append_assoc (replicate _ (fill_of spec)) (front ++ body) _)
 
 -- and a number as wide as its width, or wider
 pub nothing_padded : (spec : Spec) (front body : List ℕ) → spec.zero ≡ false →
@@ -72,7 +72,7 @@ pub nothing_padded : (spec : Spec) (front body : List ℕ) → spec.zero ≡ fal
 unfolding padded_number
 nothing_padded spec front body z m =
     let none = before_within spec.alignment 0 0 (omega arith) in
-    let all : spaces_before spec.alignment 0 0 ≡ 0 = omega arith in
+    let all : fill_before spec.alignment 0 0 ≡ 0 = omega arith in
     rw (z, ← m, all) (sym (append-nil (front ++ body)))
 
 -- a number of which no more is asked than its digits

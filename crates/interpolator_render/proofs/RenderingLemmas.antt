@@ -8,7 +8,7 @@ use Rattle.interpolator_render.specs.declared.view.RenderFault.{RenderFault}
 use Rattle.interpolator_render.specs.declared.view.Spec.{Spec}
 use Rattle.interpolator_render.specs.declared.view.Trait.{Trait}
 use Rattle.interpolator_render.specs.Numbers.{number_form, number_text, has_minus, magnitude}
-use Rattle.interpolator_render.specs.Padding.{displayed_text, padded_text, spaces_before}
+use Rattle.interpolator_render.specs.Padding.{displayed_text, padded_text, fill_before}
 use Rattle.interpolator_render.specs.Texts.{ViewText, has_text, Renders, render_answer, view_text}
 use Rattle.interpolator_render.specs.Views.{signed_number, unsigned_number}
 use Rattle.interpolator_render.specs.Written.{Written, Puts}
@@ -20,7 +20,7 @@ pub displayed_as_it_is : (spec : Spec) (text : List ℕ) → spec.precision ≡ 
 unfolding padded_text
 displayed_as_it_is spec text p w =
     let none = before_within spec.alignment 0 0 (omega arith) in
-    let all : spaces_before spec.alignment 0 0 ≡ 0 = omega arith in
+    let all : fill_before spec.alignment 0 0 ≡ 0 = omega arith in
     let missing : 0 - length text ≡ 0 = omega arith in
     rw (p, w, missing, all) (append-nil text)
 

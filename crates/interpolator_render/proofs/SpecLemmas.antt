@@ -16,12 +16,12 @@ use Rattle.std.proofs.lemmas.Bool.Decides.{nat_tests}
 -- what a derived `==` of two specs computes
 abbrev pub same_fields : Spec → Spec → Bool
 same_fields left right =
-    sameb alignments left.alignment right.alignment &&
+    option_eq eqb left.fill right.fill && (sameb alignments left.alignment right.alignment &&
     (sameb signs left.sign right.sign &&
     (beq left.alternate right.alternate && (beq left.zero right.zero
     && (option_eq eqb left.width right.width &&
     (option_eq eqb left.precision right.precision && sameb hex_debugs left.hex_debug
-    right.hex_debug)))))
+    right.hex_debug))))))
 
 both_true : (a b : Bool) → (a && b) ≡ true → (a ≡ true) × (b ≡ true)
 both_true a b e = grind arith
@@ -38,8 +38,9 @@ option_same a b e = grind (arith, eqb-true)
 option_refl : (a : Option ℕ) → option_eq eqb a a ≡ true
 option_refl a = grind (arith, nat_tests)
 
-abbrev made : Alignment → Sign → Bool → Bool → Option ℕ → Option ℕ → HexDebug → Spec
-made alignment sign alternate zero_flag width precision hex_debug = record {
+abbrev made : Option ℕ → Alignment → Sign → Bool → Bool → Option ℕ → Option ℕ → HexDebug → Spec
+made fill alignment sign alternate zero_flag width precision hex_debug = record {
+  fill = fill;
   alignment = alignment;
   sign = sign;
   alternate = alternate;
@@ -49,22 +50,24 @@ made alignment sign alternate zero_flag width precision hex_debug = record {
   hex_debug = hex_debug;
 }
 
-joined : (left right : Spec) → left.alignment ≡ right.alignment → left.sign ≡ right.sign →
+joined : (left right : Spec) → left.fill ≡ right.fill → left.alignment ≡ right.alignment →
+    left.sign ≡ right.sign →
     left.alternate ≡ right.alternate → left.zero ≡ right.zero →
     left.width ≡ right.width → left.precision ≡ right.precision → left.hex_debug ≡ right.hex_debug →
     left ≡ right
-joined left right a s t z w p h =
-    let same : made left.alignment left.sign left.alternate left.zero left.width left.precision
-    left.hex_debug
-    ≡ made right.alignment right.sign right.alternate right.zero right.width right.precision
-    right.hex_debug = rw (a, s, t, z, w, p, h) refl in same
+joined left right l a s t z w p h =
+    let same : made left.fill left.alignment left.sign left.alternate left.zero left.width
+    left.precision left.hex_debug
+    ≡ made right.fill right.alignment right.sign right.alternate right.zero right.width
+    right.precision right.hex_debug = rw (l, a, s, t, z, w, p, h) refl in same
 
 pub same_from_fields : (left right : Spec) → same_fields left right ≡ true → left ≡ right
 same_from_fields left right e =
-    let a = both_true _ _ e in let b = both_true _ _ a.1 in let c = both_true _ _ b.1 in
-    let d = both_true _ _ c.1 in
+    let l = both_true _ _ e in let a = both_true _ _ l.1 in let b = both_true _ _ a.1 in
+    let c = both_true _ _ b.1 in let d = both_true _ _ c.1 in
     let f = both_true _ _ d.1 in let g = both_true _ _ f.1 in
-    joined left right (same_true alignments (search rules) left.alignment right.alignment a.0)
+    joined left right (option_same left.fill right.fill l.0)
+    (same_true alignments (search rules) left.alignment right.alignment a.0)
     (same_true signs (search rules) left.sign right.sign b.0)
     (beq_same left.alternate right.alternate c.0) (beq_same left.zero right.zero d.0)
     (option_same left.width right.width f.0)
@@ -76,5 +79,6 @@ fields_from_same spec =
     let a = true_same alignments spec.alignment spec.alignment refl in
     let s = true_same signs spec.sign spec.sign refl in
     let d = true_same hex_debugs spec.hex_debug spec.hex_debug refl in
-    let w = option_refl spec.width in let p = option_refl spec.precision in
-    rw (a, s, beq_refl spec.alternate, beq_refl spec.zero, w, p, d) refl
+    let l = option_refl spec.fill in let w = option_refl spec.width in
+    let p = option_refl spec.precision in
+    rw (l, a, s, beq_refl spec.alternate, beq_refl spec.zero, w, p, d) refl

@@ -12,53 +12,57 @@ use Rattle.interpolator_render.specs.DigitBuffers.{Buffered}
 abbrev pub missing_to : Spec → ℕ → ℕ
 missing_to spec count = unwrap_or spec.width 0 - count
 
--- how many of the missing spaces stand before a text: `unset` of them without alignment
-abbrev pub spaces_before : Alignment → ℕ → ℕ → ℕ
-spaces_before Left missing unset = 0
-spaces_before Right missing unset = missing
-spaces_before Center missing unset = missing / 2
-spaces_before Unset missing unset = unset
+-- the character that pads: a space where the spec names none
+abbrev pub fill_of : Spec → ℕ
+fill_of spec = unwrap_or spec.fill space
 
--- a text between spaces
-abbrev pub between_spaces : ℕ → ℕ → List ℕ → List ℕ
-between_spaces before after text = replicate before space ++ (text ++ replicate after space)
+-- how many of the missing characters stand before a text: `unset` of them without alignment
+abbrev pub fill_before : Alignment → ℕ → ℕ → ℕ
+fill_before Left missing unset = 0
+fill_before Right missing unset = missing
+fill_before Center missing unset = missing / 2
+fill_before Unset missing unset = unset
+
+-- a text between copies of a character
+abbrev pub between_fill : ℕ → ℕ → ℕ → List ℕ → List ℕ
+between_fill fill before after text = replicate before fill ++ (text ++ replicate after fill)
 
 -- a number, whose front is its sign and prefix: padded with zeros after the front under the zero
--- flag, else with spaces, on its left without alignment
+-- flag, else with the fill, on its left without alignment
 unfoldable pub padded_number : Spec → List ℕ → List ℕ → List ℕ
 padded_number spec front body =
     let missing = missing_to spec (length front + length body) in
-    let before = spaces_before spec.alignment missing missing in
+    let before = fill_before spec.alignment missing missing in
     if spec.zero then front ++ (replicate missing zero_digit ++ body)
-    else between_spaces before (missing - before) (front ++ body)
+    else between_fill (fill_of spec) before (missing - before) (front ++ body)
 
--- any other text: padded with spaces, on its right without alignment
+-- any other text: padded with the fill, on its right without alignment
 unfoldable pub padded_text : Spec → List ℕ → List ℕ
 padded_text spec text =
     let missing = missing_to spec (length text) in
-    let before = spaces_before spec.alignment missing 0 in
-    between_spaces before (missing - before) text
+    let before = fill_before spec.alignment missing 0 in
+    between_fill (fill_of spec) before (missing - before) text
 
 -- a text as display shows it: cut to the precision, then padded to the width
 abbrev pub displayed_text : Spec → List ℕ → List ℕ
 displayed_text spec text = padded_text spec (cut spec.precision text)
 
--- how a number of `count` characters is padded: spaces before, zeros, spaces after
+-- how a number of `count` characters is padded: copies of the fill before, zeros, and copies after
 pub record IsNumberLayout (spec : Spec) (count before zeros after : ℕ) : Type 0 where
   pub width_fits : unwrap_or spec.width 0 < 2 ^ 64
   pub zeroed : spec.zero ≡ true → (before ≡ 0) × (zeros ≡ missing_to spec count) × (after ≡ 0)
-  pub spaced : spec.zero ≡ false →
-      (before ≡ spaces_before spec.alignment (missing_to spec count) (missing_to spec count))
+  pub filled : spec.zero ≡ false →
+      (before ≡ fill_before spec.alignment (missing_to spec count) (missing_to spec count))
       × (zeros ≡ 0) × (after ≡ missing_to spec count - before)
 
 -- the character that pads a number
-abbrev pub fill_of : Spec → ℕ
-fill_of spec = if spec.zero then zero_digit else space
+abbrev pub number_fill : Spec → ℕ
+number_fill spec = if spec.zero then zero_digit else fill_of spec
 
 -- a row that holds a number's body alone, with room for what comes before and after it
 pub record IsNumberRow (spec : Spec) (row : Buffered) : Type 0 where
   pub narrow : unwrap_or spec.width 0 ≤ 40
-  pub fill : row.fill ≡ fill_of spec
+  pub fill : row.fill ≡ number_fill spec
   pub before : row.before + length row.text ≡ 88
   pub front : length row.text ≤ 85
   pub after : row.after ≡ 40

@@ -4,7 +4,7 @@ ghost use Rattle.interpolator_render.specs.Characters.{zero_digit};
 ghost use Rattle.interpolator_render.specs.Digits.{digit_text};
 ghost use Rattle.interpolator_render.specs.Exponent.{exponent_tail, leading, mark, shown_text};
 ghost use Rattle.interpolator_render.specs.Numbers.{number_text, sign_text};
-ghost use Rattle.interpolator_render.specs.Padding.{padded_number};
+ghost use Rattle.interpolator_render.specs.Padding.{number_fill, padded_number};
 ghost use Rattle.interpolator_render.specs.DigitBuffers.{grown};
 ghost use Rattle.interpolator_render.specs.Written.{Puts};
 
@@ -12,7 +12,7 @@ use crate::digit_buffer::{BUFFER_WIDTH, DigitBuffer};
 use crate::layout::put_ascii;
 use crate::number_form::NumberForm;
 use crate::number_parts::{NumberParts, put_padded, sign_str};
-use crate::number_row::{fill_byte, put_around};
+use crate::number_row::{fill_byte, fits_buffer, put_around};
 use crate::scientific::{Shown, shown_of};
 use crate::text_write::{Refusal, TextWrite};
 use crate::view::Spec;
@@ -81,6 +81,7 @@ fn put_in_row<W: TextWrite>(
     shown: Shown,
 ) -> Result<(), Refusal>
     requires narrow { unwrap_or spec.now.width 0 ≤ 40 }
+    requires ascii { number_fill spec.now < 128 }
     requires small { shown.exponent ≤ 39 }
     requires few { shown.zeros ≤ 40 }
     ensures { Puts (W.written out.old) (padded_number spec.now (sign_text negative spec.now.sign)
@@ -132,7 +133,7 @@ pub(crate) fn put_exponent<W: TextWrite>(
         result (W.written out.new) }
 {
     let shown = shown_of(n, spec.precision);
-    if spec.width.unwrap_or(0) <= BUFFER_WIDTH && shown.zeros <= BUFFER_WIDTH {
+    if shown.zeros <= BUFFER_WIDTH && fits_buffer(spec) {
         put_in_row(out, upper, spec, negative, shown)
     } else {
         put_in_parts(out, upper, spec, negative, shown)

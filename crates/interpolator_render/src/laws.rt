@@ -170,6 +170,7 @@ pub fn equal_specs(one: Spec, other: Spec) -> bool
 
 /// By default nothing is set.
 pub fn default_spec() -> Spec
+    ensures fill { result.fill ≡ None }
     ensures alignment { result.alignment ≡ Alignment.Unset }
     ensures sign { result.sign ≡ Sign.Unset }
     ensures flags { (result.alternate ≡ false) × (result.zero ≡ false) }

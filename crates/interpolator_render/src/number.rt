@@ -1,18 +1,19 @@
 //! Whole numbers, written by their digits or in exponent form.
-ghost use Rattle.std.specs.Prelude.{◌≡◌, ◌≤◌, false, true, ℕ, length, unwrap_or};
+ghost use Rattle.std.specs.Prelude.{◌≡◌, ◌<◌, ◌≤◌, false, true, ℕ, length, unwrap_or};
 ghost use Rattle.interpolator_render.specs.DigitBuffers.{grown};
 ghost use Rattle.interpolator_render.specs.Digits.{digit_text};
 ghost use Rattle.interpolator_render.specs.Numbers.{base_of, is_upper, number_text};
+ghost use Rattle.interpolator_render.specs.Padding.{number_fill};
 ghost use Rattle.interpolator_render.specs.Written.{Puts};
 
-use crate::digit_buffer::{BUFFER_WIDTH, DigitBuffer};
+use crate::digit_buffer::DigitBuffer;
 use crate::digit_tables::pair_digits;
 use crate::digits::{ascii_str, digit_str};
 use crate::exponent::put_exponent;
 use crate::layout::{put_ascii, put_char};
 use crate::number_form::{NumberForm, Radix};
 use crate::number_parts::{NumberParts, put_padded, sign_str};
-use crate::number_row::{fill_byte, put_around};
+use crate::number_row::{fill_byte, fits_buffer, put_around};
 use crate::text_write::{Refusal, TextWrite};
 use crate::view::{Sign, Spec};
 
@@ -68,6 +69,7 @@ fn put_short<W: TextWrite>(
     n: u64,
 ) -> Result<(), Refusal>
     requires narrow { unwrap_or spec.now.width 0 ≤ 40 }
+    requires ascii { number_fill spec.now < 128 }
     ensures { Puts (W.written out.old)
         (number_text (NumberForm.Digits radix) spec.now negative n)
         result (W.written out.new) }
@@ -91,7 +93,7 @@ fn put_digits<W: TextWrite>(
         (number_text (NumberForm.Digits radix) spec.now negative n)
         result (W.written out.new) }
 {
-    if n <= 0xffff_ffff_ffff_ffff && spec.width.unwrap_or(0) <= BUFFER_WIDTH {
+    if n <= 0xffff_ffff_ffff_ffff && fits_buffer(spec) {
         put_short(out, radix, spec, negative, n as u64)
     } else {
         put_long(out, radix, spec, negative, n)

@@ -5,7 +5,7 @@ ghost use Rattle.interpolator_render.specs.Numbers.{IsShortAscii, sign_text};
 ghost use Rattle.interpolator_render.specs.Padding.{IsNumberLayout, padded_number};
 ghost use Rattle.interpolator_render.specs.Written.{Puts};
 
-use crate::layout::{Part, put_parts, spaces_before};
+use crate::layout::{Part, fill_before, fill_char, put_parts};
 use crate::text_write::{Refusal, TextWrite};
 use crate::view::{Sign, Spec};
 
@@ -22,7 +22,7 @@ pub(crate) struct NumberParts<'t> {
     pub(crate) tail: &'t str,
 }
 
-/// The spaces and zeros that pad a number.
+/// The zeros that pad a number, and the copies of the fill on both sides.
 #[derive(Clone, Copy)]
 struct NumberLayout {
     before: usize,
@@ -58,7 +58,7 @@ fn number_layout(spec: &Spec, count: usize) -> NumberLayout
             after: 0,
         };
     }
-    let before = spaces_before(spec.alignment, missing, missing);
+    let before = fill_before(spec.alignment, missing, missing);
     NumberLayout {
         before,
         zeros: 0,
@@ -87,17 +87,18 @@ pub(crate) fn put_padded<W: TextWrite>(
 {
     let short = number.sign.len() + number.prefix.len() + number.head.len() + number.tail.len();
     let layout = number_layout(spec, number.zeros.saturating_add(short));
+    let fill = fill_char(spec);
     put_parts(
         out,
         &[
-            Part::Spaces(layout.before),
+            Part::Copies(fill, layout.before),
             Part::Text(number.sign),
             Part::Text(number.prefix),
-            Part::Zeros(layout.zeros),
+            Part::Copies('0', layout.zeros),
             Part::Text(number.head),
-            Part::Zeros(number.zeros),
+            Part::Copies('0', number.zeros),
             Part::Text(number.tail),
-            Part::Spaces(layout.after),
+            Part::Copies(fill, layout.after),
         ],
     )
 }

@@ -1,22 +1,39 @@
 //! Sign, prefix and padding of a number, in the buffer that holds its digits.
-ghost use Rattle.std.specs.Prelude.{◌≡◌, ◌<◌, ◌≤◌, length};
+ghost use Rattle.std.specs.Prelude.{◌≡◌, ◌<◌, ◌≤◌, length, true, unwrap_or};
 ghost use Rattle.interpolator_render.specs.DigitBuffers.{grown};
 ghost use Rattle.interpolator_render.specs.Numbers.{front_text, prefix_of, sign_text};
-ghost use Rattle.interpolator_render.specs.Padding.{fill_of, IsNumberRow, padded_number};
+ghost use Rattle.interpolator_render.specs.Padding.{IsNumberRow, number_fill, padded_number};
 
-use crate::digit_buffer::DigitBuffer;
-use crate::layout::spaces_before;
+use crate::digit_buffer::{BUFFER_WIDTH, DigitBuffer};
+use crate::layout::{fill_before, fill_char};
 use crate::number_form::{NumberForm, Radix};
 use crate::number_parts::sign_str;
 use crate::view::{Sign, Spec};
 
 /// What pads a number.
 #[inline(always)]
-pub(crate) fn fill_byte(spec: &Spec) -> u8
-    ensures value { result ≡ fill_of spec.now }
-    ensures ascii { result < 128 }
+fn number_fill(spec: &Spec) -> char
+    ensures { result ≡ number_fill spec.now }
 {
-    if spec.zero { b'0' } else { b' ' }
+    if spec.zero { '0' } else { fill_char(spec) }
+}
+
+/// Whether a number's padding has room in a buffer: a short one of bytes.
+#[inline(always)]
+pub(crate) fn fits_buffer(spec: &Spec) -> bool
+    ensures narrow { result ≡ true → unwrap_or spec.now.width 0 ≤ 40 }
+    ensures ascii { result ≡ true → number_fill spec.now < 128 }
+{
+    spec.width.unwrap_or(0) <= BUFFER_WIDTH && number_fill(spec).is_ascii()
+}
+
+/// What pads a number in a buffer.
+#[inline(always)]
+pub(crate) fn fill_byte(spec: &Spec) -> u8
+    requires { number_fill spec.now < 128 }
+    ensures { result ≡ number_fill spec.now }
+{
+    number_fill(spec) as u8
 }
 
 #[inline(always)]
@@ -95,7 +112,7 @@ pub(crate) fn put_around(buffer: &mut DigitBuffer, form: NumberForm, spec: &Spec
         if missing == 0 {
             return;
         }
-        let before = spaces_before(spec.alignment, missing, missing);
+        let before = fill_before(spec.alignment, missing, missing);
         buffer.pad_before(before);
         buffer.pad_after(missing - before);
     }

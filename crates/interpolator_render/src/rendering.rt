@@ -11,16 +11,16 @@ ghost use Rattle.interpolator_render.specs.Views.{IsInRange, shown_by};
 ghost use Rattle.interpolator_render.specs.Written.{Puts};
 
 use crate::characters::cut;
-use crate::layout::{put_between, put_text, spaces_before};
+use crate::layout::{fill_before, fill_char, put_between, put_text};
 use crate::number::{put_natural, put_number};
 use crate::number_form::{NumberForm, number_form, sign_and_magnitude};
 use crate::quoting::put_quoted;
 use crate::text_write::{Refusal, TextWrite};
 use crate::view::{RenderFault, Spec, Trait, View};
 
-/// Writes a text as display does: its first characters, as many as the precision says, and spaces
-/// up to the width, after it unless the alignment says otherwise. Sign, `#` and the zero flag do
-/// nothing. Width and precision count characters. The call takes no memory of its own.
+/// Writes a text as display does: its first characters, as many as the precision says, and copies
+/// of the fill up to the width, after it unless the alignment says otherwise. Sign, `#` and the
+/// zero flag do nothing. Width and precision count characters. The call takes no memory of its own.
 ///
 /// # Errors
 ///
@@ -52,8 +52,8 @@ fn put_cut<W: TextWrite>(out: &mut W, text: &str, spec: &Spec) -> Result<(), Ref
         (W.written out.new) }
 {
     let (shown, missing) = cut(text, spec.precision, spec.width);
-    let before = spaces_before(spec.alignment, missing, 0);
-    put_between(out, shown, before, missing - before)
+    let before = fill_before(spec.alignment, missing, 0);
+    put_between(out, shown, fill_char(spec), before, missing - before)
 }
 
 fn truth_str(truth: bool) -> &'static str

@@ -15,6 +15,16 @@ pub struct Refusal {
 /// A call that answers `Ok` has taken its whole text. One that answers `Err` has taken the first
 /// `taken` bytes of it and has set the writer's flag, `refused`. While the flag stands, the writer
 /// takes the empty text alone, and no write clears it. An empty text is never refused.
+///
+/// ```text
+/// let mut out = TextBuffer::new(alloc);
+/// out.write_str("né")?;
+/// out.write_char('!')?;
+/// out.reserve(100)?;
+/// out.as_str()       // "né!"
+/// out.refused()      // false
+/// out.room()         // None: it is not bounded
+/// ```
 pub trait TextWrite {
     // the characters taken so far, and whether a text was refused
     ghost written: { Self → Written };
@@ -39,7 +49,7 @@ pub trait TextWrite {
     /// Makes room for so many bytes of a text that comes next, or refuses that text whole. A writer
     /// that knows of no such thing answers `Ok`, and refuses the text itself where it has to.
     ///
-    /// So a width of more spaces than there is memory for is answered before any of them is written.
+    /// So a padding that there is no memory for is refused before any of it is written.
     #[inline(always)]
     fn reserve(&mut self, _bytes: usize) -> Result<(), Refusal>
         ensures { MatchResult result (λ _. written self.new ≡ written self.old)

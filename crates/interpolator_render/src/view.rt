@@ -23,17 +23,17 @@ pub enum Trait {
     Iter,
 }
 
-/// Where a text stands between the spaces that bring it to its width.
+/// Where a text stands between the copies of the fill that bring it to its width.
 #[derive(Clone, Copy, Debug, Default, PartialEq, Eq)]
 pub enum Alignment {
     /// Numbers on the right, all else on the left.
     #[default]
     Unset,
-    /// All spaces after the text.
+    /// All copies after the text.
     Left,
-    /// Half of the spaces, rounded down, before the text.
+    /// Half of the copies, rounded down, before the text.
     Center,
-    /// All spaces before the text.
+    /// All copies before the text.
     Right,
 }
 
@@ -76,20 +76,30 @@ pub enum Bits {
     B128,
 }
 
-/// The flags, width and precision under which a value is written. By default nothing is set.
+/// The fill, flags, width and precision under which a value is written. By default nothing is set.
 ///
 /// ```text
 /// let spec = Spec { zero: true, width: Some(6), ..Spec::default() };   // as `{:06}`
 /// ```
 #[derive(Clone, Copy, PartialEq, Eq, Debug, Default)]
 pub struct Spec {
-    /// Where the text stands between its spaces.
+    /// What pads a value to its width; a space where there is none. It counts as one character,
+    /// however many bytes it has.
+    ///
+    /// ```text
+    /// let padded = Spec { fill: Some('é'), width: Some(4), ..Spec::default() };
+    /// let spec = Spec { alignment: Alignment::Right, ..padded };      // as `{:é>4}`
+    /// render(&mut out, View::Unsigned(12), Trait::Display, &spec)     // appends "éé12"
+    /// ```
+    pub fill: Option<char>,
+    /// Where the text stands between the copies of its fill.
     pub alignment: Alignment,
     /// `+` or `-`.
     pub sign: Sign,
     /// `#`: a prefix before numbers in base two, eight and sixteen.
     pub alternate: bool,
-    /// `0`: numbers are padded with zeros after their sign and prefix, whatever the alignment.
+    /// `0`: numbers are padded with zeros after their sign and prefix, whatever fill and alignment
+    /// are.
     pub zero: bool,
     /// The least number of characters.
     pub width: Option<usize>,

@@ -5,6 +5,7 @@ use Rattle.std.specs.Prelude.{◌||◌}
 use Rattle.std.specs.Char.{is_ascii_digit}
 use Rattle.interpolator_render.specs.declared.view.Trait.{Trait}
 use Rattle.interpolator_render.specs.declared.view.Trait.TheVariants as traits
+use Rattle.interpolator_render.specs.declared.view.Alignment.{Alignment}
 use Rattle.interpolator_render.specs.declared.view.Alignment.TheVariants as alignments
 use Rattle.interpolator_render.specs.declared.view.Sign.TheVariants as signs
 use Rattle.interpolator_syntax.specs.At.{At}
@@ -21,7 +22,8 @@ use Rattle.interpolator_syntax.specs.GroupGrammar.{IsNoGroup, ends as signs_end,
 use Rattle.interpolator_syntax.specs.ListGrammar.{bound, points, upper, range, opens_group, group}
 use Rattle.interpolator_syntax.specs.ListGrammar.{group_there, list}
 use Rattle.interpolator_syntax.specs.NumberGrammar.{Spelling, naturals, integers}
-use Rattle.interpolator_syntax.specs.SpecGrammar.{width, precision, shown, kind, parts, IsNoSpec}
+use Rattle.interpolator_syntax.specs.SpecGrammar.{width, precision, shown, kind, from_sign, fill}
+use Rattle.interpolator_syntax.specs.SpecGrammar.{parts, IsNoSpec}
 use Rattle.interpolator_syntax.specs.declared.error.NumberError.{NumberError}
 use Rattle.interpolator_syntax.specs.declared.class.Class.{Class}
 use Rattle.interpolator_syntax.specs.declared.class.Class.TheVariants.{Number}
@@ -134,20 +136,27 @@ module _ (start : ℕ) where
     such = λ a f s. (refuses_number naturals invalid_precision start).such s.0 f s.2;
   }
 
-  refuses_parts : Refuses (parts start)
-  refuses_parts =
-      refuses_then (refuses_letter alignment_letter alignments.Unset) (λ alignment.
+  refuses_from_sign : (filled : Option ℕ) (alignment : Alignment)
+      → Refuses (from_sign start filled alignment)
+  refuses_from_sign filled alignment =
       refuses_then (refuses_letter sign_letter signs.Unset) (λ sign.
       refuses_then (refuses_flag hash) (λ alternate.
       refuses_then (refuses_flag zero_digit) (λ zero.
       refuses_then refuses_width (λ width.
       refuses_then refuses_precision (λ precision.
       refuses_then (refuses_shown (alternate || zero)) (λ shown.
-      refuses_then (refuses_kind shown.slot) (λ kind. refuses_ends _))))))))
+      refuses_then (refuses_kind shown.slot) (λ kind. refuses_ends _)))))))
+
+  refuses_fill : Refuses fill
+  refuses_fill = record { such = λ a f s. it_is f _ s.2 tt }
+
+  refuses_parts : Refuses (parts start)
+  refuses_parts =
+      refuses_then refuses_fill (λ filled.
+      refuses_then (refuses_letter alignment_letter alignments.Unset) (refuses_from_sign filled))
 
   no_spec_for : (a : At) (f : Fault) → IsNoSpec start a f → IsArgumentFault f
-  no_spec_for a f (inl s) = it_is f _ s.3 tt
-  no_spec_for a f (inr s) = refuses_parts.such a f s.3
+  no_spec_for a f s = refuses_parts.such a f s.1
 
   asks_nothing_for : (a : At) (f : Fault) → AsksNothing start a f → IsArgumentFault f
   asks_nothing_for a f (inl s) = it_is f _ s.1 tt

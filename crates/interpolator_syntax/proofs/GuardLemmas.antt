@@ -5,6 +5,7 @@ use Rattle.std.specs.Prelude.{⊤}
 use Rattle.std.proofs.lemmas.List.{length-append}
 use Rattle.interpolator_render.specs.declared.view.Trait.{Trait}
 use Rattle.interpolator_render.specs.declared.view.Trait.TheVariants as traits
+use Rattle.interpolator_render.specs.declared.view.Alignment.{Alignment}
 use Rattle.interpolator_render.specs.declared.view.Alignment.TheVariants as alignments
 use Rattle.interpolator_render.specs.declared.view.HexDebug.{HexDebug}
 use Rattle.interpolator_render.specs.declared.view.HexDebug.TheVariants as hex_debugs
@@ -19,7 +20,8 @@ use Rattle.interpolator_syntax.specs.GrammarParts.{Part, Lies}
 use Rattle.interpolator_syntax.specs.ListGrammar.{group_there, IsList}
 use Rattle.interpolator_syntax.specs.Lists.{ListAsked}
 use Rattle.interpolator_syntax.specs.Readers.{Reader}
-use Rattle.interpolator_syntax.specs.SpecGrammar.{kind, parts, shown, trait_text, IsSpec}
+use Rattle.interpolator_syntax.specs.SpecGrammar.{kind, from_sign, fill, parts, shown, trait_text}
+use Rattle.interpolator_syntax.specs.SpecGrammar.{IsSpec}
 use Rattle.interpolator_syntax.specs.SpecTexts.{Kind, of_value, of_list, Asked, Wanted}
 use Rattle.interpolator_syntax.specs.SpecTexts.{alignment_letter, sign_letter}
 use Rattle.interpolator_syntax.proofs.CaseLemmas.{none_some, some_same}
@@ -143,42 +145,52 @@ module _ (start : ℕ) where
   shown_after flagged a x b k q (inr w) h =
       lettered_after x.slot x.hex_debug a b w.0 k q w.1 w.2 h
 
-  parts_after : (a : At) (x : Asked) (q : At) → (parts start).is a x q → KindAfter 1 x.kind a
-  parts_after a x q h =
-      let sign = h.3 in
-      let alternate = sign.3 in
+  from_sign_after : (filled : Option ℕ) (alignment : Alignment) (a : At) (x : Asked) (q : At)
+      → (from_sign start filled alignment).is a x q → KindAfter 1 x.kind a
+  from_sign_after filled alignment a x q h =
+      let alternate = h.3 in
       let zero = alternate.3 in
       let width = zero.3 in
       let precision = width.3 in
       let wanted = precision.3 in
       let asked = wanted.3 in
       let t =
-      takes_then a h.1 sign.1
-      (part_takes start _ _ (agrees_letter alignment_letter alignments.Unset)
-      (reads_letter start alignment_letter alignments.Unset) a h.0 h.1 h.2)
+      takes_then a h.1 zero.1
       (part_takes start _ _ (agrees_letter sign_letter signs.Unset)
-      (reads_letter start sign_letter signs.Unset) h.1 sign.0 sign.1 sign.2) in
-      let u =
-      takes_then sign.1 alternate.1 zero.1
-      (part_takes start _ _ (agrees_flag hash) (reads_flag start hash) sign.1 alternate.0
-      alternate.1 alternate.2)
+      (reads_letter start sign_letter signs.Unset) a h.0 h.1 h.2)
+      (takes_then h.1 alternate.1 zero.1
+      (part_takes start _ _ (agrees_flag hash) (reads_flag start hash) h.1 alternate.0 alternate.1
+      alternate.2)
       (part_takes start _ _ (agrees_flag zero_digit) (reads_flag start zero_digit) alternate.1
-      zero.0 zero.1 zero.2) in
-      let v =
+      zero.0 zero.1 zero.2)) in
+      let u =
       takes_then zero.1 width.1 precision.1
       (part_takes start _ _ (agrees_width start) (reads_width start) zero.1 width.0 width.1
       width.2)
       (part_takes start _ _ (agrees_precision start) (reads_precision start) width.1 precision.0
       precision.1 precision.2) in
-      let all =
-      takes_then a sign.1 precision.1 t (takes_then sign.1 zero.1 precision.1 u v) in
+      let all = takes_then a zero.1 precision.1 t u in
       rw asked.3.0
       (kind_grows 1 0 a precision.1 all (no_longer a precision.1 all) asked.0
       (shown_after _ precision.1 wanted.0 wanted.1 asked.0 asked.1 wanted.2 asked.2))
 
+  fill_takes : (a : At) (x : Option ℕ) (q : At) → fill.is a x q → Takes a q
+  fill_takes a x q (inl h) = lies_takes a (h.0 ∷ []) q h.1.0
+  fill_takes a x q (inr h) = rw h.2 (takes_none a)
+
+  parts_after : (a : At) (x : Asked) (q : At) → (parts start).is a x q → KindAfter 1 x.kind a
+  parts_after a x q h =
+      let aligned = h.3 in
+      let t =
+      takes_then a h.1 aligned.1 (fill_takes a h.0 h.1 h.2)
+      (part_takes start _ _ (agrees_letter alignment_letter alignments.Unset)
+      (reads_letter start alignment_letter alignments.Unset) h.1 aligned.0 aligned.1 aligned.2) in
+      kind_grows 1 0 a aligned.1 t (no_longer a aligned.1 t) x.kind
+      (from_sign_after h.0 aligned.0 aligned.1 x q aligned.3)
+
   spec_after : (a : At) (x : Asked) (q : At) → IsSpec start a x q → KindAfter 1 x.kind a
   spec_after a x q (inl h) = rw h.1 tt
-  spec_after a x q (inr h) = parts_after a x q h.3
+  spec_after a x q (inr h) = parts_after a x q h.1
 
   -- ---- arguments
 

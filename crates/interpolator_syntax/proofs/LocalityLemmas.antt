@@ -71,7 +71,7 @@ guarded_after [] cs h = h
 guarded_after (c ∷ front) cs h = inr (guarded_after front cs h)
 
 -- a closing brace after a front stands in the text
-pub takes_guards : (a q : At) → Takes a q → Guarded q.text → Guarded a.text
+takes_guards : (a q : At) → Takes a q → Guarded q.text → Guarded a.text
 takes_guards a q h guard = subst Guarded (sym h.split) (guarded_after h.front q.text guard)
 
 -- ---- what a reader keeps
@@ -108,15 +108,15 @@ module _ {A : Type 0} (start : ℕ) (f : Reader A) where
   abbrev after_it : (a : At) (more : List ℕ) → Result (A × At) Fault → Type 0
   after_it a more o = Keeps start a more o (f (with_more a more))
 
-  pub kept_takes : (a : At) → KeepsAt start f a [] → (x : A) (q : At) → f a ≡ Ok (x, q) → Takes a q
+  kept_takes : (a : At) → KeepsAt start f a [] → (x : A) (q : At) → f a ≡ Ok (x, q) → Takes a q
   kept_takes a h x q e = (subst (after_it a []) e h).0
 
-  pub kept_refuses :
+  kept_refuses :
       (a : At) → KeepsAt start f a [] → (d : Fault) → start ≤ a.place → f a ≡ Err d
       → fault_place d ≤ a.place + size a.text
   kept_refuses a h d from e = subst (after_it a []) e h from
 
-  pub kept_same :
+  kept_same :
       (a : At) (more : List ℕ) → KeepsAt start f a more → (x : A) (q : At) → f a ≡ Ok (x, q)
       → Guarded q.text → f (with_more a more) ≡ Ok (x, with_more q more)
   kept_same a more h x q e = (subst (after_it a more) e h).1

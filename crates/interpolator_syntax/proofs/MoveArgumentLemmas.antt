@@ -1,25 +1,26 @@
 -- The readers of specs and arguments at another base.
 use Rattle.std.proofs.Common.{◌≡◌, ℕ, ◌+◌, Bool, true, false, cond, eqb, List, [], ◌∷◌, refl, ap}
 use Rattle.std.proofs.Common.{◌∙◌, Result, Ok, Err, Option, Some, None, option_map, ◌||◌}
-use Rattle.std.specs.Char.{is_ascii_digit}
+use Rattle.std.specs.Char.{is_ascii_digit, len_utf8}
 use Rattle.interpolator_render.specs.declared.view.Trait.{Trait}
 use Rattle.interpolator_render.specs.declared.view.Trait.TheVariants as traits
 use Rattle.interpolator_render.specs.declared.view.HexDebug.{HexDebug}
 use Rattle.interpolator_render.specs.declared.view.HexDebug.TheVariants as hex_debugs
+use Rattle.interpolator_render.specs.declared.view.Alignment.{Alignment}
 use Rattle.interpolator_render.specs.declared.view.Alignment.TheVariants as alignments
 use Rattle.interpolator_render.specs.declared.view.Sign.TheVariants as signs
 use Rattle.interpolator_syntax.specs.At.{At, first, strip}
-use Rattle.interpolator_syntax.specs.Classes.{in_class, is_alignment, close_brace, colon, point}
-use Rattle.interpolator_syntax.specs.Classes.{question_mark, hash, zero_digit, lower_p, lower_x}
-use Rattle.interpolator_syntax.specs.Classes.{upper_x}
+use Rattle.interpolator_syntax.specs.Classes.{in_class, is_alignment, open_brace, close_brace}
+use Rattle.interpolator_syntax.specs.Classes.{colon, point, question_mark, hash, zero_digit}
+use Rattle.interpolator_syntax.specs.Classes.{lower_p, lower_x, upper_x}
 use Rattle.interpolator_syntax.specs.Numbers.{natural}
 use Rattle.interpolator_syntax.specs.Readers.{Reader, ◌>>=◌, give, here, span}
 use Rattle.interpolator_syntax.specs.SpecTexts.{Asked, alignment_letter, sign_letter}
 use Rattle.interpolator_syntax.specs.SpecTexts.{number_or, number_at, if_digit, width_at, if_point}
 use Rattle.interpolator_syntax.specs.SpecTexts.{precision_at, hexadecimal, trait_letter}
 use Rattle.interpolator_syntax.specs.SpecTexts.{lettered, trait_from, trait_first, trait_at}
-use Rattle.interpolator_syntax.specs.SpecTexts.{kind_at, spec_parts, spec_of}
-use Rattle.interpolator_syntax.specs.SpecTexts.{spec_after}
+use Rattle.interpolator_syntax.specs.SpecTexts.{kind_at, spec_from_sign, spec_from_alignment}
+use Rattle.interpolator_syntax.specs.SpecTexts.{fill_of, fill_at, spec_parts, spec_of, spec_after}
 use Rattle.interpolator_syntax.specs.Arguments.{Argument, argument, asked_by, asked_at}
 use Rattle.interpolator_syntax.specs.Arguments.{argument_parts, argument_at}
 use Rattle.interpolator_syntax.specs.Faults.{Fault, ParseFault, parse, invalid_width}
@@ -31,7 +32,9 @@ use Rattle.interpolator_syntax.specs.declared.class.Class.TheVariants.{WhiteSpac
 use Rattle.interpolator_syntax.proofs.MoveLemmas.{moved_read, Moves, stays, moves_then}
 use Rattle.interpolator_syntax.proofs.MoveLemmas.{moved_either, moved_first, first_moves, strip_moves}
 use Rattle.interpolator_syntax.proofs.MoveLemmas.{moves_here, moves_span, moves_letter, moves_flag}
-use Rattle.interpolator_syntax.proofs.MoveLemmas.{moves_run, moves_where}
+use Rattle.interpolator_syntax.proofs.MoveLemmas.{moves_run, moves_where, step_moved}
+use Rattle.interpolator_syntax.proofs.LongestLemmas.{at_same}
+use Rattle.interpolator_syntax.proofs.GrammarPartLemmas.{ok_pair}
 use Rattle.interpolator_syntax.proofs.MoveListLemmas.{moves_list}
 
 -- what is asked, with its groups moved
@@ -140,24 +143,43 @@ module _ (by : ℕ) where
       moves_then by _ (moves_list by start) (λ l. record { same = λ a. refl })
   moves_kind start slot = record { same = λ a. refl }
 
-  moves_parts : (start : ℕ) → Moves by (moved_asked by) (spec_parts start) (spec_parts (start + by))
-  unfolding spec_parts
-  moves_parts start =
-      moves_then by _ (moves_letter by alignment_letter alignments.Unset) (λ alignment.
+  moves_from_sign : (start : ℕ) (fill : Option ℕ) (alignment : Alignment)
+      → Moves by (moved_asked by) (spec_from_sign start fill alignment)
+      (spec_from_sign (start + by) fill alignment)
+  unfolding spec_from_sign
+  moves_from_sign start fill alignment =
       moves_then by _ (moves_letter by sign_letter signs.Unset) (λ sign.
       moves_then by _ (moves_flag by hash) (λ alternate.
       moves_then by _ (moves_flag by zero_digit) (λ zero.
       moves_then by _ (moves_width start) (λ width.
       moves_then by _ (moves_precision start) (λ precision.
       moves_then by _ (moves_trait start (alternate || zero)) (λ shown.
-      moves_then by _ (moves_kind start shown.slot) (λ kind. record { same = λ a. refl }))))))))
+      moves_then by _ (moves_kind start shown.slot) (λ kind. record { same = λ a. refl })))))))
+
+  fill_of_moves : (a : At) (cs : List ℕ)
+      → fill_of (moved_at by a) cs ≡ moved_read by stays (fill_of a cs)
+  fill_of_moves a [] = refl
+  fill_of_moves a (c ∷ []) = refl
+  fill_of_moves a (c ∷ d ∷ ds) =
+      moved_either by stays (is_alignment d) _ _ _ _
+      (moved_either by stays (eqb c open_brace) _ _ _ _ refl
+      (ok_pair refl (at_same (step_moved a.place by (len_utf8 c)) refl))) refl
+
+  moves_fill : Moves by stays fill_at fill_at
+  moves_fill = record { same = λ a. fill_of_moves a a.text }
+
+  moves_parts : (start : ℕ) → Moves by (moved_asked by) (spec_parts start) (spec_parts (start + by))
+  moves_parts start =
+      moves_then by (spec_from_alignment (start + by)) moves_fill (λ fill.
+      moves_then by (spec_from_sign (start + by) fill)
+      (moves_letter by alignment_letter alignments.Unset) (moves_from_sign start fill))
 
   spec_of_moves : (start : ℕ) (a : At) (cs : List ℕ)
       → spec_of (start + by) (moved_at by a) cs ≡ moved_read by (moved_asked by) (spec_of start a cs)
   spec_of_moves start a [] = refl
   spec_of_moves start a (c ∷ []) = refl
   spec_of_moves start a (c ∷ d ∷ ds) =
-      moved_either by (moved_asked by) (is_alignment d) _ _ _ _ refl ((moves_parts start).same a)
+      moved_either by (moved_asked by) (eqb c close_brace) _ _ _ _ refl ((moves_parts start).same a)
 
   moves_spec : (start : ℕ) → Moves by (moved_asked by) (spec_after start) (spec_after (start + by))
   unfolding spec_after

@@ -1,42 +1,42 @@
 -- What each reader of an argument takes, where its faults lie, and how far it looks.
-use Rattle.std.proofs.Common.{◌≡◌, ℕ, ◌+◌, ◌≤◌, Bool, false, eqb, List, [], ◌∷◌, ◌++◌, arith, refl}
-use Rattle.std.proofs.Common.{ap, ◌∙◌, sym, subst, Result, Ok, Err, Option, Some, None, inl, inr}
-use Rattle.std.proofs.Common.{◌||◌}
+use Rattle.std.proofs.Common.{◌≡◌, ℕ, ◌+◌, ◌≤◌, Bool, eqb, List, [], ◌∷◌, ◌++◌, arith, refl}
+use Rattle.std.proofs.Common.{Result, Ok, Err, Option, Some, None, inl, inr, ◌||◌}
 use Rattle.std.specs.Char.{is_ascii_digit}
 use Rattle.interpolator_render.specs.declared.view.Trait.{Trait}
 use Rattle.interpolator_render.specs.declared.view.Trait.TheVariants as traits
 use Rattle.interpolator_render.specs.declared.view.HexDebug.{HexDebug}
 use Rattle.interpolator_render.specs.declared.view.HexDebug.TheVariants as hex_debugs
+use Rattle.interpolator_render.specs.declared.view.Alignment.{Alignment}
 use Rattle.interpolator_render.specs.declared.view.Alignment.TheVariants as alignments
 use Rattle.interpolator_render.specs.declared.view.Sign.TheVariants as signs
 use Rattle.interpolator_syntax.specs.At.{At, size, strip, after}
-use Rattle.interpolator_syntax.specs.Classes.{front_of, in_class, is_alignment, close_brace, colon}
-use Rattle.interpolator_syntax.specs.Classes.{point, question_mark, hash, zero_digit, lower_p}
-use Rattle.interpolator_syntax.specs.Classes.{lower_x, upper_x}
+use Rattle.interpolator_syntax.specs.Classes.{in_class, is_alignment, open_brace, close_brace}
+use Rattle.interpolator_syntax.specs.Classes.{colon, point, question_mark, hash, zero_digit}
+use Rattle.interpolator_syntax.specs.Classes.{lower_p, lower_x, upper_x}
 use Rattle.interpolator_syntax.specs.Numbers.{natural}
-use Rattle.interpolator_syntax.specs.Readers.{on, ◌>>=◌, give, here, span, run}
-use Rattle.interpolator_syntax.specs.SpecTexts.{Asked, plain_display, alignment_letter, sign_letter}
+use Rattle.interpolator_syntax.specs.Readers.{run}
+use Rattle.interpolator_syntax.specs.SpecTexts.{plain_display, alignment_letter, sign_letter}
 use Rattle.interpolator_syntax.specs.SpecTexts.{number_or, number_at, if_digit, width_at, if_point}
 use Rattle.interpolator_syntax.specs.SpecTexts.{precision_at, wanted, hexadecimal, trait_letter}
 use Rattle.interpolator_syntax.specs.SpecTexts.{no_trait, lettered, trait_first, trait_at}
-use Rattle.interpolator_syntax.specs.SpecTexts.{spec_parts, spec_of, spec_after, begins_alignment}
-use Rattle.interpolator_syntax.specs.Arguments.{Argument, argument, asked_by, asked_at, argument_at}
+use Rattle.interpolator_syntax.specs.SpecTexts.{spec_from_sign, spec_from_alignment, fill_at}
+use Rattle.interpolator_syntax.specs.SpecTexts.{spec_of, spec_after}
+use Rattle.interpolator_syntax.specs.Arguments.{Argument, argument, asked_by, asked_at}
+use Rattle.interpolator_syntax.specs.Arguments.{argument_parts, argument_at}
 use Rattle.interpolator_syntax.specs.Faults.{Fault, ParseFault, fault_place, parse_place, parse}
 use Rattle.interpolator_syntax.specs.Faults.{unclosed}
-use Rattle.interpolator_syntax.specs.Faults.{fill, invalid_width, invalid_precision}
+use Rattle.interpolator_syntax.specs.Faults.{fill as no_fill, invalid_width, invalid_precision}
 use Rattle.interpolator_syntax.specs.declared.error.NumberError.{NumberError}
 use Rattle.interpolator_syntax.specs.declared.class.Class.TheVariants.{WhiteSpace, Name, Number}
 use Rattle.interpolator_syntax.proofs.CaseLemmas.{in_both}
-use Rattle.interpolator_syntax.proofs.LocalityLemmas.{Takes, stands, takes_none, takes_then}
-use Rattle.interpolator_syntax.proofs.LocalityLemmas.{takes_after, Guarded, takes_guards}
-use Rattle.interpolator_syntax.proofs.LocalityLemmas.{with_more, Reads, Keeps, KeepsAt}
-use Rattle.interpolator_syntax.proofs.LocalityLemmas.{kept_takes, kept_refuses, kept_same}
+use Rattle.interpolator_syntax.proofs.LocalityLemmas.{Takes, stands, takes_none, takes_one}
+use Rattle.interpolator_syntax.proofs.LocalityLemmas.{Guarded, with_more, Reads, Keeps, KeepsAt}
 use Rattle.interpolator_syntax.proofs.LocalityLemmas.{reads_by, keeps_by, keeps_stay}
 use Rattle.interpolator_syntax.proofs.LocalityLemmas.{keeps_past, keeps_unguarded, keeps_on}
 use Rattle.interpolator_syntax.proofs.LocalityLemmas.{keeps_either, keeps_then, reads_then}
 use Rattle.interpolator_syntax.proofs.LocalityLemmas.{keeps_first, keeps_strip}
-use Rattle.interpolator_syntax.proofs.SimpleReaderLemmas.{reads_give, reads_span, reads_run}
-use Rattle.interpolator_syntax.proofs.SimpleReaderLemmas.{reads_letter, reads_flag}
+use Rattle.interpolator_syntax.proofs.SimpleReaderLemmas.{reads_give, reads_here, reads_span}
+use Rattle.interpolator_syntax.proofs.SimpleReaderLemmas.{reads_run, reads_letter, reads_flag}
 use Rattle.interpolator_syntax.proofs.ListReaderLemmas.{reads_kind, reads_where}
 
 -- ---- width and precision
@@ -123,64 +123,69 @@ reads_trait start flagged =
 
 -- ---- specs
 
-pub reads_parts : (start : ℕ) → Reads start (spec_parts start)
-unfolding spec_parts
-reads_parts start =
-    reads_then (reads_letter start alignment_letter alignments.Unset) (λ alignment.
+reads_from_sign :
+    (start : ℕ) (fill : Option ℕ) (alignment : Alignment)
+    → Reads start (spec_from_sign start fill alignment)
+unfolding spec_from_sign
+reads_from_sign start fill alignment =
     reads_then (reads_letter start sign_letter signs.Unset) (λ sign.
     reads_then (reads_flag start hash) (λ alternate.
     reads_then (reads_flag start zero_digit) (λ zero.
     reads_then (reads_width start) (λ width.
     reads_then (reads_precision start) (λ precision.
     reads_then (reads_trait start (alternate || zero)) (λ shown.
-    reads_then (reads_kind start shown.slot) (λ kind. reads_give start _))))))))
+    reads_then (reads_kind start shown.slot) (λ kind. reads_give start _)))))))
 
--- an empty spec, in front of a closing brace at p
-abbrev Empty : (start p : ℕ) → Result (Asked × At) Fault → List ℕ → Type 0
-Empty start p answer more = answer ≡ Ok (plain_display, stands p (close_brace ∷ more))
+reads_from_alignment : (start : ℕ) (fill : Option ℕ) → Reads start (spec_from_alignment start fill)
+reads_from_alignment start fill =
+    reads_then (reads_letter start alignment_letter alignments.Unset) (reads_from_sign start fill)
 
-empty_spec :
-    (start p : ℕ) (more : List ℕ) → begins_alignment more ≡ false
-    → Empty start p (spec_of start (stands p (close_brace ∷ more)) (close_brace ∷ more)) more
-unfolding spec_parts
-empty_spec start p [] h = refl
-empty_spec start p (d ∷ ds) h = rw h refl
+-- where a second character stands, it decides whether the first is a fill
+keeps_fill :
+    (start p c d : ℕ) (ds more : List ℕ) → KeepsAt start fill_at (stands p (c ∷ d ∷ ds)) more
+keeps_fill start p c d ds more =
+    let a = stands p (c ∷ d ∷ ds) in
+    let none : Result (Option ℕ × At) Fault = Err (parse (no_fill p)) in
+    keeps_either start a more (is_alignment d) _ _ _ _
+    (keeps_either start a more (eqb c open_brace) none none _ _ (λ from. omega arith)
+    (takes_one p c (d ∷ ds), λ guard. refl))
+    (keeps_stay start a more None)
+
+-- what a closing brace begins is not read
+not_read :
+    (start : ℕ) (a : At) (c : ℕ) (cs : List ℕ) → c ≡ close_brace
+    → spec_of start a (c ∷ cs) ≡ Ok (plain_display, a)
+not_read start a c [] e = refl
+not_read start a c (d ∷ ds) e = rw e refl
 
 brace_alone : (c : ℕ) → Guarded (c ∷ []) → c ≡ close_brace
 brace_alone c (inl e) = e
 brace_alone c (inr guard) = absurd guard
 
--- where a `}` alone ends the text, no alignment comes after it: it would make the `}` a fill
-abbrev pub NoFill : List ℕ → List ℕ → Type 0
-NoFill cs more = cs ≡ close_brace ∷ [] → begins_alignment more ≡ false
-
-keeps_spec_of :
-    (start p : ℕ) (cs more : List ℕ) → NoFill cs more
+-- in front of a closing brace that is not passed stands no character, or the second one
+keeps_spec :
+    (start p : ℕ) (cs more : List ℕ)
     → Keeps start (stands p cs) more (spec_of start (stands p cs) cs)
     (spec_of start (stands p (cs ++ more)) (cs ++ more))
-keeps_spec_of start p [] more h =
+keeps_spec start p [] more =
     let a = stands p [] in
     keeps_unguarded start a more (Ok (plain_display, a)) _ _ (λ guard. guard)
     (keeps_stay start a more plain_display)
-keeps_spec_of start p (c ∷ []) more h = (
+keeps_spec start p (c ∷ []) more = (
   takes_none (stands p (c ∷ [])),
-  λ guard.
-      let brace = brace_alone c guard in
-      let whole = λ (n : ℕ). stands p (n ∷ more) in
-      subst (λ n. spec_of start (whole n) (n ∷ more) ≡ Ok (plain_display, whole n)) (sym brace)
-      (empty_spec start p more (h (ap (λ n. n ∷ []) brace))),
+  λ guard. not_read start (stands p (c ∷ more)) c more (brace_alone c guard),
 )
-keeps_spec_of start p (c ∷ d ∷ ds) more h =
+keeps_spec start p (c ∷ d ∷ ds) more =
     let a = stands p (c ∷ d ∷ ds) in
-    let filled : Result (Asked × At) Fault = Err (parse (fill p)) in
-    keeps_either start a more (is_alignment d) filled filled _ _ (λ from. omega arith)
-    (keeps_by start (spec_parts start) (reads_parts start) a more)
+    keeps_either start a more (eqb c close_brace) _ _ _ _ (keeps_stay start a more plain_display)
+    (keeps_then start a more (fill_at a) (fill_at (with_more a more)) (spec_from_alignment start)
+    (keeps_fill start p c d ds more)
+    (λ fill b t. keeps_by start _ (reads_from_alignment start fill) b more))
 
-keeps_spec :
-    (start : ℕ) (a : At) (more : List ℕ) → NoFill a.text more
-    → KeepsAt start (spec_after start) a more
+pub reads_spec : (start : ℕ) → Reads start (spec_after start)
 unfolding spec_after
-keeps_spec start a more h = keeps_spec_of start a.place a.text more h
+reads_spec start =
+    reads_by start (spec_after start) (λ a more. keeps_spec start a.place a.text more)
 
 -- ---- arguments
 
@@ -188,59 +193,38 @@ keeps_spec start a more h = keeps_spec_of start a.place a.text more h
 abbrev pub name_end : At → At
 name_end a = after (in_class Name) (after (in_class WhiteSpace) a)
 
--- where `:}` ends the text at a, no alignment comes after it
-abbrev pub NoFillBehind : At → List ℕ → Type 0
-NoFillBehind a more = a.text ≡ colon ∷ close_brace ∷ [] → begins_alignment more ≡ false
-
-keeps_asked :
-    (start : ℕ) (a : At) (more : List ℕ) → NoFillBehind a more
-    → KeepsAt start (asked_at start) a more
-keeps_asked start a more h =
+reads_asked : (start : ℕ) → Reads start (asked_at start)
+reads_asked start =
+    reads_by start (asked_at start) (λ a more.
     let b = with_more a more in
     keeps_strip start more close_brace a.place a.text
     (λ o. asked_by start a o (strip colon a)) (λ o. asked_by start b o (strip colon b))
     (keeps_strip start more colon a.place a.text (asked_by start a None) (asked_by start b None)
     (λ from. omega arith)
-    (λ rest e t.
-    keeps_past start a more rest _ _ _ t (λ guard. refl)
-    (keeps_spec start rest more (λ k. h (e ∙ ap (λ cs. colon ∷ cs) k)))))
-    (λ rest e t. keeps_stay start a more plain_display)
+    (λ rest e t. keeps_on start a more (spec_after start) (reads_spec start) rest t))
+    (λ rest e t. keeps_stay start a more plain_display))
 
-keeps_argument :
-    (a : At) (more : List ℕ) → NoFillBehind (name_end a) more → KeepsAt a.place argument_at a more
-unfolding argument_at
-keeps_argument a more h =
-    let start = a.place in
-    let b = after (in_class WhiteSpace) a in
-    let q = name_end a in
-    let name = front_of (in_class Name) b.text in
-    let named = takes_after (in_class Name) b in
-    let asks = λ (place : ℕ) (cs : List ℕ).
-    asked_at start >>= λ asked. give (argument cs place asked) in
-    let names = λ (spaces : List ℕ). here >>= λ place. span Name >>= asks place in
-    keeps_past start a more q _ _ _ (takes_then a b q (takes_after (in_class WhiteSpace) a) named)
-    (λ guard.
-    ap (λ answer. on answer names)
-    ((reads_span start WhiteSpace).same a more _ b refl (takes_guards b q named guard))
-    ∙ ap (λ answer. on answer (asks b.place))
-    ((reads_span start Name).same b more name q refl guard))
-    (keeps_then start q more (asked_at start q) (asked_at start (with_more q more))
-    (λ asked. give (argument name b.place asked)) (keeps_asked start q more h)
-    (λ asked end t. keeps_stay start end more (argument name b.place asked)))
+reads_argument : (start : ℕ) → Reads start (argument_parts start)
+reads_argument start =
+    reads_then (reads_span start WhiteSpace) (λ spaces.
+    reads_then (reads_here start) (λ place.
+    reads_then (reads_span start Name) (λ name.
+    reads_then (reads_asked start) (λ asked. reads_give start (argument name place asked)))))
 
 -- what an argument takes is a front of the text
 pub argument_takes : (a : At) (x : Argument) (q : At) → argument_at a ≡ Ok (x, q) → Takes a q
-argument_takes a = kept_takes a.place argument_at a (keeps_argument a [] (λ e. refl))
+unfolding argument_at
+argument_takes a = (reads_argument a.place).takes a
 
 -- why it is broken is a fault in the text
 pub argument_refuses :
     (a : At) (d : Fault) → argument_at a ≡ Err d → fault_place d ≤ a.place + size a.text
-argument_refuses a d =
-    kept_refuses a.place argument_at a (keeps_argument a [] (λ e. refl)) d (omega arith)
+unfolding argument_at
+argument_refuses a d = (reads_argument a.place).refuses a d (omega arith)
 
--- an argument is the same whatever comes after the text, but for an alignment after `:}` alone
+-- an argument in front of a closing brace is the same whatever comes after the text
 pub argument_same :
     (a : At) (more : List ℕ) (x : Argument) (q : At) → argument_at a ≡ Ok (x, q) → Guarded q.text
-    → NoFillBehind (name_end a) more → argument_at (with_more a more) ≡ Ok (x, with_more q more)
-argument_same a more x q e guard h =
-    kept_same a.place argument_at a more (keeps_argument a more h) x q e guard
+    → argument_at (with_more a more) ≡ Ok (x, with_more q more)
+unfolding argument_at
+argument_same a more = (reads_argument a.place).same a more

@@ -3,8 +3,8 @@ use Rattle.std.proofs.Common.{◌≡◌, ℕ, Bool, false, List, [], ◌∷◌, 
 use Rattle.std.proofs.Common.{Ok, Option, Some, None}
 use Rattle.interpolator_syntax.specs.At.{At, after}
 use Rattle.interpolator_syntax.specs.Classes.{front_of, after_of, in_class}
-use Rattle.interpolator_syntax.specs.Readers.{give, span, read_or_stay, letter_first, letter}
-use Rattle.interpolator_syntax.specs.Readers.{was_there, flag, run_before, run}
+use Rattle.interpolator_syntax.specs.Readers.{give, here, span, read_or_stay, letter_first}
+use Rattle.interpolator_syntax.specs.Readers.{letter, was_there, flag, run_before, run}
 use Rattle.interpolator_syntax.specs.declared.class.Class.{Class}
 use Rattle.interpolator_syntax.proofs.LocalityLemmas.{Takes, takes_after, Guarded}
 use Rattle.interpolator_syntax.proofs.LocalityLemmas.{with_more, Reads, Keeps, KeepsAt}
@@ -29,6 +29,9 @@ module _ (passes : ℕ → Bool) where
 
 pub reads_give : {A : Type 0} (start : ℕ) (x : A) → Reads start (give x)
 reads_give start x = reads_by start (give x) (λ a more. keeps_stay start a more x)
+
+pub reads_here : (start : ℕ) → Reads start here
+reads_here start = reads_by start here (λ a more. keeps_stay start a more a.place)
 
 module _ (start : ℕ) (passes : ℕ → Bool) (a : At) (more : List ℕ) where
   keeps_span :

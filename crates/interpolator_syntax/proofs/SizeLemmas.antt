@@ -6,6 +6,7 @@ use Rattle.std.specs.Prelude.{⊤}
 use Rattle.std.proofs.lemmas.List.{append-nil, length-append}
 use Rattle.interpolator_render.specs.declared.view.Trait.{Trait}
 use Rattle.interpolator_render.specs.declared.view.Trait.TheVariants as traits
+use Rattle.interpolator_render.specs.declared.view.Alignment.{Alignment}
 use Rattle.interpolator_render.specs.declared.view.Alignment.TheVariants as alignments
 use Rattle.interpolator_render.specs.declared.view.Sign.TheVariants as signs
 use Rattle.interpolator_syntax.specs.At.{At, size, first, strip}
@@ -16,8 +17,8 @@ use Rattle.interpolator_syntax.specs.Groups.{Group, group_at, if_bracket, group_
 use Rattle.interpolator_syntax.specs.GroupGrammar.{IsGroup, open_text, close_text}
 use Rattle.interpolator_syntax.specs.Lists.{ListAsked, list_at}
 use Rattle.interpolator_syntax.specs.SpecTexts.{Kind, of_value, of_list, Asked, alignment_letter}
-use Rattle.interpolator_syntax.specs.SpecTexts.{sign_letter, kind_at, spec_parts}
-use Rattle.interpolator_syntax.specs.SpecTexts.{spec_of, spec_after}
+use Rattle.interpolator_syntax.specs.SpecTexts.{sign_letter, kind_at, spec_from_sign}
+use Rattle.interpolator_syntax.specs.SpecTexts.{fill_of, fill_at, spec_parts, spec_of, spec_after}
 use Rattle.interpolator_syntax.specs.Arguments.{Argument, argument, asked_by, asked_at}
 use Rattle.interpolator_syntax.specs.Arguments.{argument_parts, argument_at}
 use Rattle.interpolator_syntax.specs.Pieces.{Piece, PieceKind, closed, unclosed, pieces, broken}
@@ -31,7 +32,7 @@ use Rattle.interpolator_syntax.specs.declared.class.Class.TheVariants.{WhiteSpac
 use Rattle.interpolator_syntax.proofs.GrammarGroupLemmas.{group_is}
 use Rattle.interpolator_syntax.proofs.ListReaderLemmas.{reads_range, reads_group}
 use Rattle.interpolator_syntax.proofs.LocalityLemmas.{size-append, Takes, stands, takes_none}
-use Rattle.interpolator_syntax.proofs.LocalityLemmas.{takes_then, takes_shorter}
+use Rattle.interpolator_syntax.proofs.LocalityLemmas.{takes_one, takes_then, takes_shorter}
 use Rattle.interpolator_syntax.proofs.LocalityLemmas.{takes_reaches, Reads}
 use Rattle.interpolator_syntax.proofs.SimpleReaderLemmas.{reads_span, reads_letter}
 use Rattle.interpolator_syntax.proofs.SimpleReaderLemmas.{reads_flag}
@@ -178,25 +179,40 @@ module _ (a : At) where
   abbrev AskedHeld : Asked → Type 0
   AskedHeld x = KindIn x.kind a
 
-  parts_hold : (start : ℕ) → Holds AskedHeld (spec_parts start)
-  unfolding spec_parts
-  parts_hold start =
+  from_sign_holds : (start : ℕ) (fill : Option ℕ) (alignment : Alignment)
+      → Holds AskedHeld (spec_from_sign start fill alignment)
+  unfolding spec_from_sign
+  from_sign_holds start fill alignment =
       let Q = AskedHeld in
-      after_any Q start _ _ (reads_letter start alignment_letter alignments.Unset) (λ alignment.
       after_any Q start _ _ (reads_letter start sign_letter signs.Unset) (λ sign.
       after_any Q start _ _ (reads_flag start hash) (λ alternate.
       after_any Q start _ _ (reads_flag start zero_digit) (λ zero.
       after_any Q start _ _ (reads_width start) (λ width.
       after_any Q start _ _ (reads_precision start) (λ precision.
       after_any Q start _ _ (reads_trait start (alternate || zero)) (λ shown.
-      then_holds KindHeld Q _ _ (kind_holds start shown.slot) (λ kind h b t. (t, h)))))))))
+      then_holds KindHeld Q _ _ (kind_holds start shown.slot) (λ kind h b t. (t, h))))))))
+
+  fill_of_holds : (p : ℕ) (cs : List ℕ) → Takes a (stands p cs)
+      → Held Any (fill_of (stands p cs) cs)
+  fill_of_holds p [] t = (t, tt)
+  fill_of_holds p (c ∷ []) t = (t, tt)
+  fill_of_holds p (c ∷ d ∷ ds) t =
+      let after = takes_then a _ _ t (takes_one p c (d ∷ ds)) in
+      in_both (Held Any) (is_alignment d) _ _
+      (in_both (Held Any) (eqb c open_brace) _ _ tt (after, tt)) (t, tt)
+
+  parts_hold : (start : ℕ) → Holds AskedHeld (spec_parts start)
+  parts_hold start =
+      then_holds Any AskedHeld fill_at _ (λ b t. fill_of_holds b.place b.text t) (λ fill u.
+      after_any AskedHeld start _ _ (reads_letter start alignment_letter alignments.Unset)
+      (from_sign_holds start fill))
 
   spec_of_holds : (start : ℕ) (b : At) (cs : List ℕ) → Takes a b
       → Held AskedHeld (spec_of start b cs)
   spec_of_holds start b [] t = (t, tt)
   spec_of_holds start b (c ∷ []) t = (t, tt)
   spec_of_holds start b (c ∷ d ∷ ds) t =
-      in_both (Held AskedHeld) (is_alignment d) _ _ tt (parts_hold start b t)
+      in_both (Held AskedHeld) (eqb c close_brace) _ _ (t, tt) (parts_hold start b t)
 
   spec_holds : (start : ℕ) → Holds AskedHeld (spec_after start)
   unfolding spec_after

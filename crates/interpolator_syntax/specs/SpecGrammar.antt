@@ -4,21 +4,22 @@ use Rattle.std.specs.Prelude.{List, [], ◌∷◌, length, Option, Some, None, c
 use Rattle.std.specs.Char.{is_ascii_digit}
 use Rattle.interpolator_render.specs.declared.view.Trait.{Trait}
 use Rattle.interpolator_render.specs.declared.view.Trait.TheVariants as traits
+use Rattle.interpolator_render.specs.declared.view.Alignment.{Alignment}
 use Rattle.interpolator_render.specs.declared.view.Alignment.TheVariants as alignments
 use Rattle.interpolator_render.specs.declared.view.Sign.TheVariants as signs
 use Rattle.interpolator_render.specs.declared.view.HexDebug.{HexDebug}
 use Rattle.interpolator_render.specs.declared.view.HexDebug.TheVariants as hex_debugs
 use Rattle.interpolator_syntax.specs.At.{At}
-use Rattle.interpolator_syntax.specs.Classes.{is_alignment, hash, zero_digit, point, close_brace}
-use Rattle.interpolator_syntax.specs.Classes.{question_mark, lower_p}
+use Rattle.interpolator_syntax.specs.Classes.{is_alignment, hash, zero_digit, point, open_brace}
+use Rattle.interpolator_syntax.specs.Classes.{close_brace, question_mark, lower_p}
 use Rattle.interpolator_syntax.specs.SpecTexts.{Kind, of_value, of_list, Asked, plain_display}
 use Rattle.interpolator_syntax.specs.SpecTexts.{Wanted, wanted, alignment_letter, sign_letter}
 use Rattle.interpolator_syntax.specs.NumberGrammar.{naturals}
 use Rattle.interpolator_syntax.specs.Grammar.{NotFirst}
 use Rattle.interpolator_syntax.specs.GrammarParts.{Part, ◌>>=◌, ends, IsFirst, Lies, letter, flag}
-use Rattle.interpolator_syntax.specs.GrammarParts.{where_first, where_after, number}
+use Rattle.interpolator_syntax.specs.GrammarParts.{FirstPasses, where_first, where_after, number}
 use Rattle.interpolator_syntax.specs.ListGrammar.{list}
-use Rattle.interpolator_syntax.specs.Faults.{Fault, parse, unclosed, expected, fill}
+use Rattle.interpolator_syntax.specs.Faults.{Fault, parse, unclosed, expected, fill as no_fill}
 use Rattle.interpolator_syntax.specs.Faults.{invalid_width, invalid_precision, unsupported_option}
 
 -- a number, where a digit stands
@@ -77,11 +78,10 @@ kind start traits.Iter =
       ends (of_list l)
 kind start t = ends (of_value t)
 
--- the parts of a spec
-abbrev pub parts : (start : ℕ) → Part Asked
-parts start =
+-- the parts of a spec from the sign on
+abbrev pub from_sign : (start : ℕ) → (fill : Option ℕ) → Alignment → Part Asked
+from_sign start fill alignment =
     do
-      alignment ← letter alignment_letter alignments.Unset
       sign ← letter sign_letter signs.Unset
       alternate ← flag hash
       zero ← flag zero_digit
@@ -91,6 +91,7 @@ parts start =
       kind ← kind start shown.slot
       ends (record {
         spec = record {
+          fill = fill;
           alignment = alignment;
           sign = sign;
           alternate = alternate;
@@ -102,21 +103,43 @@ parts start =
         kind = kind;
       })
 
--- the second character of the text is d
-abbrev pub IsSecond : (d : ℕ) → (text : List ℕ) → Type 0
-IsSecond d text = (c : ℕ) × (more : List ℕ) × (text ≡ c ∷ d ∷ more)
+-- the character c stands at a, and at q an alignment
+abbrev pub Fills : (c : ℕ) → (a q : At) → Type 0
+Fills c a q = Lies a (c ∷ []) q × FirstPasses is_alignment q.text
 
--- the text after the colon of the argument that begins at `start`: at most one character is plain
--- display, and not read; a second character that is an alignment would make the first a fill; else
--- the parts stand there
+-- no alignment stands second
+abbrev pub NoneFills : (text : List ℕ) → Type 0
+NoneFills text = (c d : ℕ) (more : List ℕ) → text ≡ c ∷ d ∷ more → IsFalse (is_alignment d)
+
+-- a fill: where an alignment stands second, the first character, which is no `{`
+abbrev pub fill : Part (Option ℕ)
+fill = record {
+  is =
+      λ a x q. ((c : ℕ) × Fills c a q × (c ≢ open_brace) × (x ≡ Some c))
+      ⊎ (NoneFills a.text × (x ≡ None) × (q ≡ a));
+  is_not = λ a f. (q : At) × Fills open_brace a q × (f ≡ parse (no_fill a.place));
+}
+
+-- the parts of a spec
+abbrev pub parts : (start : ℕ) → Part Asked
+parts start =
+    do
+      fill ← fill
+      alignment ← letter alignment_letter alignments.Unset
+      from_sign start fill alignment
+
+-- nothing is read: there is at most one character, or a `}` stands first
+abbrev pub IsUnread : (text : List ℕ) → Type 0
+IsUnread text = (length text ≤ 1) ⊎ IsFirst close_brace text
+
+-- the text after the colon of the argument that begins at `start`: plain display, where nothing is
+-- read; else the parts stand there
 abbrev pub spec : (start : ℕ) → Part Asked
 spec start = record {
   is =
-      λ a x q. ((length a.text ≤ 1) × (x ≡ plain_display) × (q ≡ a))
-      ⊎ ((d : ℕ) × IsSecond d a.text × IsFalse (is_alignment d) × (parts start).is a x q);
-  is_not =
-      λ a f. ((d : ℕ) × IsSecond d a.text × IsTrue (is_alignment d) × (f ≡ parse (fill a.place)))
-      ⊎ ((d : ℕ) × IsSecond d a.text × IsFalse (is_alignment d) × (parts start).is_not a f);
+      λ a x q. (IsUnread a.text × (x ≡ plain_display) × (q ≡ a))
+      ⊎ ((¬ IsUnread a.text) × (parts start).is a x q);
+  is_not = λ a f. (¬ IsUnread a.text) × (parts start).is_not a f;
 }
 
 -- what x asks stands after the colon, and after it what stands at q

@@ -7,10 +7,9 @@ use Rattle.interpolator_render.specs.declared.view.HexDebug.{HexDebug}
 use Rattle.interpolator_render.specs.declared.view.Sign.TheVariants as signs
 use Rattle.interpolator_render.specs.declared.view.Spec.{Spec}
 use Rattle.interpolator_syntax.specs.At.{At, at}
-use Rattle.interpolator_syntax.specs.Classes.{zero_digit, hash}
-use Rattle.interpolator_syntax.specs.Readers.{Reader, ◌>>=◌, give, letter, flag}
-use Rattle.interpolator_syntax.specs.SpecTexts.{Wanted, Asked, sign_letter, width_at, precision_at}
-use Rattle.interpolator_syntax.specs.SpecTexts.{trait_at, kind_at}
+use Rattle.interpolator_syntax.specs.Classes.{zero_digit}
+use Rattle.interpolator_syntax.specs.Readers.{Reader, ◌>>=◌, give}
+use Rattle.interpolator_syntax.specs.SpecTexts.{Wanted, Asked, trait_at, kind_at}
 use Rattle.interpolator_syntax.specs.Faults.{Fault, argument_fault_of}
 use Rattle.interpolator_syntax.specs.declared.argument_fault.ArgumentFault.{ArgumentFault}
 use Rattle.interpolator_syntax.specs.declared.cursor.Cursor.{Cursor}
@@ -50,6 +49,7 @@ kind_left start spec slot = kind_at start slot >>= λ kind. give (record { spec 
 abbrev pub trait_left : (start : ℕ) → Spec → Reader Asked
 trait_left start spec = trait_at start (spec.alternate || spec.zero) >>= λ shown.
     kind_left start (record {
+      fill = spec.fill;
       alignment = spec.alignment;
       sign = spec.sign;
       alternate = spec.alternate;
@@ -58,25 +58,6 @@ trait_left start spec = trait_at start (spec.alternate || spec.zero) >>= λ show
       precision = spec.precision;
       hex_debug = shown.hex_debug;
     }) shown.slot
-
--- what is left of a spec after its alignment
-abbrev pub spec_options : (start : ℕ) → Spec → Reader Asked
-spec_options start spec =
-    do
-      sign ← letter sign_letter signs.Unset
-      alternate ← flag hash
-      zero ← flag zero_digit
-      width ← width_at start
-      precision ← precision_at start
-      trait_left start (record {
-        alignment = spec.alignment;
-        sign = sign;
-        alternate = alternate;
-        zero = zero;
-        width = width;
-        precision = precision;
-        hex_debug = spec.hex_debug;
-      })
 
 -- none of the options is set
 pub record HasNoOptions (spec : Spec) : Type 0 where

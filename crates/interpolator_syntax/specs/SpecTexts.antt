@@ -1,8 +1,7 @@
 -- What stands after the colon of an argument.
-use Rattle.std.specs.Prelude.{ℕ, Bool, false, ◌==◌, ◌||◌, if◌then◌else◌, List, [], ◌∷◌, Option}
-use Rattle.std.specs.Prelude.{None}
-use Rattle.std.specs.Prelude.{Some, Result, Ok, Err, codes}
-use Rattle.std.specs.Char.{is_ascii_digit}
+use Rattle.std.specs.Prelude.{ℕ, ◌+◌, Bool, false, ◌==◌, ◌||◌, if◌then◌else◌, List, [], ◌∷◌}
+use Rattle.std.specs.Prelude.{Option, None, Some, Result, Ok, Err, codes}
+use Rattle.std.specs.Char.{is_ascii_digit, len_utf8}
 use Rattle.interpolator_render.specs.declared.view.Trait.{Trait}
 use Rattle.interpolator_render.specs.declared.view.Trait.TheVariants as traits
 use Rattle.interpolator_render.specs.declared.view.Spec.{Spec}
@@ -15,13 +14,13 @@ use Rattle.interpolator_render.specs.declared.view.HexDebug.TheVariants as hex_d
 use Rattle.interpolator_syntax.specs.At.{At, first, strip}
 use Rattle.interpolator_syntax.specs.Classes.{in_class, is_alignment, left_angle, caret}
 use Rattle.interpolator_syntax.specs.Classes.{right_angle, plus, minus, hash, zero_digit, point}
-use Rattle.interpolator_syntax.specs.Classes.{question_mark, close_brace, upper_x, lower_x}
-use Rattle.interpolator_syntax.specs.Classes.{upper_e, lower_e, lower_b, lower_i, lower_o}
-use Rattle.interpolator_syntax.specs.Classes.{lower_p}
+use Rattle.interpolator_syntax.specs.Classes.{question_mark, open_brace, close_brace, upper_x}
+use Rattle.interpolator_syntax.specs.Classes.{lower_x, upper_e, lower_e, lower_b, lower_i}
+use Rattle.interpolator_syntax.specs.Classes.{lower_o, lower_p}
 use Rattle.interpolator_syntax.specs.Lists.{ListAsked, list_at}
 use Rattle.interpolator_syntax.specs.Numbers.{natural}
 use Rattle.interpolator_syntax.specs.Readers.{Reader, ◌>>=◌, give, letter, flag, run}
-use Rattle.interpolator_syntax.specs.Faults.{Fault, parse, unclosed, expected, fill}
+use Rattle.interpolator_syntax.specs.Faults.{Fault, parse, unclosed, expected, fill as no_fill}
 use Rattle.interpolator_syntax.specs.Faults.{invalid_width, invalid_precision, unsupported_option}
 use Rattle.interpolator_syntax.specs.Faults.{ParseFault}
 use Rattle.interpolator_syntax.specs.declared.error.NumberError.{NumberError}
@@ -40,6 +39,7 @@ pub record Asked : Type 0 where
 -- nothing is set
 abbrev pub plain_spec : Spec
 plain_spec = record {
+  fill = None;
   alignment = alignments.Unset;
   sign = signs.Unset;
   alternate = false;
@@ -159,12 +159,11 @@ abbrev pub kind_at : (start : ℕ) → Trait → Reader Kind
 kind_at start traits.Iter = list_kind_at start
 kind_at start t = give (of_value t)
 
--- alignment, sign, `#`, `0`, width, precision, trait, each where it stands; and after the letter
--- of a list how it is written
-unfoldable pub spec_parts : (start : ℕ) → Reader Asked
-spec_parts start =
+-- sign, `#`, `0`, width, precision, trait, each where it stands; and after the letter of a list how
+-- it is written
+unfoldable pub spec_from_sign : (start : ℕ) → (fill : Option ℕ) → Alignment → Reader Asked
+spec_from_sign start fill alignment =
     do
-      alignment ← letter alignment_letter alignments.Unset
       sign ← letter sign_letter signs.Unset
       alternate ← flag hash
       zero ← flag zero_digit
@@ -174,6 +173,7 @@ spec_parts start =
       kind ← kind_at start shown.slot
       give (record {
         spec = record {
+          fill = fill;
           alignment = alignment;
           sign = sign;
           alternate = alternate;
@@ -185,18 +185,40 @@ spec_parts start =
         kind = kind;
       })
 
--- an alignment stands first
-abbrev pub begins_alignment : List ℕ → Bool
-begins_alignment [] = false
-begins_alignment (c ∷ cs) = is_alignment c
+-- an alignment, where one stands, and then from the sign on
+abbrev pub spec_from_alignment : (start : ℕ) → (fill : Option ℕ) → Reader Asked
+spec_from_alignment start fill =
+    letter alignment_letter alignments.Unset >>= spec_from_sign start fill
+
+-- the character c at a is the fill, and `rest` stands after it; a `{` there is a fault
+abbrev pub fill_or_fault : (a : At) → (c : ℕ) → (rest : At) → Result (Option ℕ × At) Fault
+fill_or_fault a c rest =
+    if c == open_brace then Err (parse (no_fill a.place)) else Ok (Some c, rest)
+
+-- the first character is a fill where an alignment stands second
+abbrev pub fill_of : (a : At) → List ℕ → Result (Option ℕ × At) Fault
+fill_of a [] = Ok (None, a)
+fill_of a (c ∷ []) = Ok (None, a)
+fill_of a (c ∷ d ∷ ds) =
+    if is_alignment d
+    then fill_or_fault a c (record { place = a.place + len_utf8 c; text = d ∷ ds })
+    else Ok (None, a)
+
+-- a fill, where one stands
+abbrev pub fill_at : Reader (Option ℕ)
+fill_at = λ a. fill_of a a.text
+
+-- a fill, where one stands, and then from the alignment on
+abbrev pub spec_parts : (start : ℕ) → Reader Asked
+spec_parts start = fill_at >>= spec_from_alignment start
 
 -- the text after the colon of the argument that begins at `start`: at most one character is not
--- read; an alignment that stands second would make the first a fill; else its parts are read
+-- read, nor is a text that begins with `}`; of any other its parts are read
 abbrev pub spec_of : (start : ℕ) → (a : At) → List ℕ → Result (Asked × At) Fault
 spec_of start a [] = Ok (plain_display, a)
 spec_of start a (c ∷ []) = Ok (plain_display, a)
 spec_of start a (c ∷ d ∷ ds) =
-    if is_alignment d then Err (parse (fill a.place)) else spec_parts start a
+    if c == close_brace then Ok (plain_display, a) else spec_parts start a
 
 -- the spec after a colon
 unfoldable pub spec_after : (start : ℕ) → Reader Asked

@@ -202,7 +202,13 @@ pub fn argument_of<'a>(taken: &TakenArgument<'a>) -> Argument<'a>
 ///
 /// Answers the argument, and the byte after its spec, where its closing brace should stand. No
 /// value is looked up, and no memory is taken: the name is a slice of the text. Places count bytes
-/// from the beginning of the text.
+/// from the beginning of the text. A fill is one character, of any number of bytes.
+///
+/// The caller proves that a character begins at `start`, or the text ends there: what
+/// `text.is_char_boundary(start)` tells. Any other `start` is refused when it is checked.
+///
+/// Two faults are left to `write`: that no closing brace stands at the answered byte, and that a
+/// list is asked for with a precision, a sign, `#` or the zero flag (`Iter`).
 ///
 /// # Errors
 ///
@@ -212,8 +218,8 @@ pub fn argument_of<'a>(taken: &TakenArgument<'a>) -> Argument<'a>
 /// # Example
 ///
 /// ```text
-/// let (argument, end) = parse_argument("{x:>8}", 1)?;
-/// // the name `x` at byte 1, display, aligned to the right, of width 8; end is 5
+/// let (argument, end) = parse_argument("{x:*>8}", 1)?;
+/// // the name `x` at byte 1, display, filled with `*`, aligned to the right, of width 8; end is 6
 /// ```
 pub fn parse_argument(text: &str, start: usize) -> Result<(Argument<'_>, usize), Error>
     requires boundary { IsCharBoundary text.now start }

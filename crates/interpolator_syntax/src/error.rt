@@ -37,7 +37,7 @@ pub enum ParseError {
     InvalidWidth(NumberError, usize),
     /// The precision that begins at this place is no `usize`.
     InvalidPrecision(NumberError, usize),
-    /// A character to fill with stands at this place, in front of an alignment.
+    /// A `{` stands as a fill character at this place, in front of an alignment.
     Fill(usize),
     /// A list is asked for with a precision, a sign, `#` or the zero flag; the place is the byte
     /// after its spec.
@@ -114,6 +114,10 @@ impl Error {
     /// # Errors
     ///
     /// `NoMemory` where that name cannot be copied.
+    ///
+    /// ```text
+    /// error.try_clone(alloc)?    // of `NoMemory`: `NoMemory`
+    /// ```
     pub fn try_clone(&self, alloc: Global) -> Result<Error, Error>
         ensures ok { IfOk result (λ copy. answer_of copy ≡ answer_of self.now) }
         ensures err { IfErr result (λ error. error ≡ NoMemory) }

@@ -1,15 +1,14 @@
 //! What stands after the colon of an argument, up to what follows the letter of lists.
-ghost use Rattle.std.specs.Prelude.{◌≡◌, Ok};
-ghost use Rattle.interpolator_syntax.specs.At.{at, strip};
+ghost use Rattle.std.specs.Prelude.{◌≡◌, Ok, Some};
+ghost use Rattle.interpolator_syntax.specs.At.{at, first, strip};
 ghost use Rattle.interpolator_syntax.specs.Classes.{question_mark};
 ghost use Rattle.interpolator_syntax.specs.Readers.{letter};
 ghost use Rattle.interpolator_syntax.specs.SpecTexts.{alignment_letter, sign_letter, width_at};
 ghost use Rattle.interpolator_syntax.specs.SpecTexts.{precision_at, trait_at, trait_letter};
-ghost use Rattle.interpolator_syntax.specs.SpecTexts.{hexadecimal, plain_spec, spec_parts};
-ghost use Rattle.interpolator_syntax.specs.SpecTexts.{spec_after};
+ghost use Rattle.interpolator_syntax.specs.SpecTexts.{hexadecimal, plain_spec, spec_from_sign};
+ghost use Rattle.interpolator_syntax.specs.SpecTexts.{fill_at, spec_from_alignment, spec_after};
 ghost use Rattle.interpolator_syntax.specs.SpecReads.{part_read, part_or_broken, wanted_read};
-ghost use Rattle.interpolator_syntax.specs.SpecReads.{HasNoOptions, spec_options, options_left};
-ghost use Rattle.interpolator_syntax.specs.SpecReads.{spec_left};
+ghost use Rattle.interpolator_syntax.specs.SpecReads.{HasNoOptions, options_left, spec_left};
 ghost use Rattle.interpolator_render.specs.declared.view.Alignment.TheVariants as alignments;
 ghost use Rattle.interpolator_render.specs.declared.view.Sign.TheVariants as signs;
 ghost use Rattle.interpolator_render.specs.declared.view.Trait.TheVariants as traits;
@@ -91,6 +90,7 @@ fn take_precision(here: &mut Cursor<'_>, start: usize) -> Result<Option<usize>, 
 }
 
 /// Sign, flags, width and precision, as many as stand here, one after the other.
+#[tactic(auto, unfolding(crate::specs::SpecTexts::spec_from_sign))]
 #[inline(always)]
 fn take_each_option(
     here: &mut Cursor<'_>,
@@ -98,7 +98,7 @@ fn take_each_option(
     start: usize,
 ) -> Result<(), ArgumentFault>
     ensures { options_left start result spec.new (at here.new)
-        ≡ spec_options start spec.old (at here.old) }
+        ≡ spec_from_sign start spec.old.fill spec.old.alignment (at here.old) }
 {
     spec.sign = take_sign(here);
     spec.alternate = here.eat(b'#');
@@ -109,11 +109,12 @@ fn take_each_option(
 }
 
 /// The same. Each of them begins with a byte up to `9`, and each letter lies above.
+#[tactic(auto, unfolding(crate::specs::SpecTexts::spec_from_sign))]
 #[inline(always)]
 fn take_options(here: &mut Cursor<'_>, spec: &mut Spec, start: usize) -> Result<(), ArgumentFault>
     requires { HasNoOptions spec.old }
     ensures { options_left start result spec.new (at here.new)
-        ≡ spec_options start spec.old (at here.old) }
+        ≡ spec_from_sign start spec.old.fill spec.old.alignment (at here.old) }
 {
     match here.byte() {
         Some(0..=b'9') => take_each_option(here, spec, start),
@@ -189,9 +190,8 @@ fn take_trait(
     }
 }
 
-/// The parts of a spec, in their order, of the argument that begins at `start`, up to what follows
-/// the letter of a list. Goes after them.
-#[tactic(auto, unfolding(crate::specs::SpecTexts::spec_parts))]
+/// The parts of a spec from the alignment on, in their order, of the argument that begins at
+/// `start`, up to what follows the letter of a list. Goes after them.
 #[inline(always)]
 fn take_parts(
     here: &mut Cursor<'_>,
@@ -199,9 +199,9 @@ fn take_parts(
     slot: &mut Trait,
     start: usize,
 ) -> Result<(), ArgumentFault>
-    requires plain { spec.old ≡ plain_spec }
+    requires plain { HasNoOptions spec.old }
     ensures { spec_left start result spec.new slot.new (at here.new)
-        ≡ spec_parts start (at here.old) }
+        ≡ spec_from_alignment start spec.old.fill (at here.old) }
 {
     spec.alignment = take_alignment(here);
     take_options(here, spec, start)?;
@@ -211,8 +211,31 @@ fn take_parts(
     Ok(())
 }
 
+/// The fill that stands here, if one does: the first character `c`, where an alignment stands
+/// `after` it. Goes after the fill.
+#[inline(always)]
+fn take_fill<'a>(
+    here: &mut Cursor<'a>,
+    c: char,
+    after: Cursor<'a>,
+) -> Result<Option<char>, ArgumentFault>
+    requires first { first (at here.old) ≡ Some (c, at after) }
+    ensures { part_or_broken result (at here.new) ≡ fill_at (at here.old) }
+{
+    match after.byte() {
+        Some(b'<' | b'^' | b'>') => {}
+        _ => return Ok(None),
+    }
+    if c == '{' {
+        return Err(ArgumentFault::Text(ParseError::Fill(here.place)));
+    }
+    *here = after;
+    Ok(Some(c))
+}
+
 /// What stands after the colon of the argument that begins at `start`, up to what follows the
-/// letter of a list. Goes after it; of one character alone nothing is read.
+/// letter of a list. Goes after it; of one character alone, and of what a `}` begins, nothing is
+/// read.
 #[tactic(auto, unfolding(crate::specs::SpecTexts::spec_after))]
 #[inline(never)]
 pub(crate) fn take_spec(
@@ -226,17 +249,15 @@ pub(crate) fn take_spec(
     ensures { spec_left start result spec.new slot.new (at here.new)
         ≡ spec_after start (at here.old) }
 {
-    let Some((_, second)) = here.next() else {
+    let Some((c, after)) = here.next() else {
         return Ok(());
     };
-    match second.byte() {
-        None => Ok(()),
-        Some(b'<' | b'^' | b'>') => Err(ArgumentFault::Text(ParseError::Fill(here.place))),
-        Some(_) => {
-            let mut rest = *here;
-            take_parts(&mut rest, spec, slot, start)?;
-            *here = rest;
-            Ok(())
-        }
+    if c == '}' || after.is_at_end() {
+        return Ok(());
     }
+    let mut rest = *here;
+    spec.fill = take_fill(&mut rest, c, after)?;
+    take_parts(&mut rest, spec, slot, start)?;
+    *here = rest;
+    Ok(())
 }

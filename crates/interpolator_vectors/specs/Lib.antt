@@ -1,2 +1,3 @@
 -- What the values of the tests show.
 pub mod Cells
+pub mod Levels

@@ -1,13 +1,15 @@
 //! Rows of formats: what is written, and what is answered.
 
+pub(crate) mod fill_rows;
 pub(crate) mod own;
-mod rows;
-mod spec_rows;
+pub(crate) mod rows;
+pub(crate) mod spec_rows;
 
 use crate::counting::Counting;
 use crate::limited::Limited;
 use crate::tables::told::{Told, told_by};
-use crate::tables::{Call, give, give_in_room};
+use crate::tables::{Call, give, give_all, give_all_in_room, give_in_room};
+use fill_rows::{FILLED, FILLED_ROOM};
 use interpolator::{Formattable, Interpolate, Template, TextBuffer, Trait, format, write};
 use own::{Everywhere, Nowhere, OnlyFive};
 use rows::{PLAIN, PLAIN_ROOM};
@@ -21,18 +23,18 @@ fn plain_names(rt: HostRuntime) -> Result<(), Fail> {
 
 #[test]
 fn specs_are_written(rt: HostRuntime) -> Result<(), Fail> {
-    for table in &WRITTEN {
-        give(&rt, rt.alloc(), table)?;
-    }
-    Ok(())
+    give_all(&rt, rt.alloc(), &WRITTEN)
 }
 
 #[test]
 fn specs_are_refused(rt: HostRuntime) -> Result<(), Fail> {
-    for table in &BROKEN {
-        give(&rt, rt.alloc(), table)?;
-    }
-    Ok(())
+    give_all(&rt, rt.alloc(), &BROKEN)
+}
+
+#[test]
+fn fills_are_written(rt: HostRuntime) -> Result<(), Fail> {
+    give_all(&rt, rt.alloc(), &FILLED)?;
+    give_in_room(&rt, rt.alloc(), Call::Text, &FILLED_ROOM)
 }
 
 #[test]
@@ -43,10 +45,7 @@ fn cuts(rt: HostRuntime) -> Result<(), Fail> {
 #[test]
 fn limited_writers_hold_beginnings(rt: HostRuntime) -> Result<(), Fail> {
     give_in_room(&rt, rt.alloc(), Call::Text, &PLAIN_ROOM)?;
-    for table in &ROOM {
-        give_in_room(&rt, rt.alloc(), Call::Text, table)?;
-    }
-    Ok(())
+    give_all_in_room(&rt, rt.alloc(), Call::Text, &ROOM)
 }
 
 #[test]

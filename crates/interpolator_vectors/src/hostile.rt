@@ -1,4 +1,13 @@
-//! Formats that ask for much: great widths, lists made whole in one another, long joins.
+//! Formats that ask for much: great widths, lists made whole in one another, long joins; cuts and
+//! joins of formats; greatest numbers; depth.
+
+pub(crate) mod cuts;
+mod depth;
+mod greatest;
+pub(crate) mod joins;
+mod memory;
+mod odd;
+mod rows;
 
 ghost use Rattle.interpolator_render.specs.Written.{as_writer};
 

@@ -20,6 +20,7 @@ mod faults;
 mod formats;
 #[cfg(test)]
 mod hostile;
+pub mod levels;
 #[cfg(test)]
 mod limited;
 #[cfg(test)]

@@ -3,7 +3,7 @@
 use crate::limited::Limited;
 use crate::tables::held::Slots;
 use crate::tables::told::{Told, answers, told_by};
-use crate::tables::{Call, RoomRow, RoomTable, give_in_room};
+use crate::tables::{Call, RoomRow, RoomTable, give_all_in_room};
 use crate::templates::given::{Given, write_given};
 use interpolator::{
     Bits, Error, Formattable, Interpolate, Pairs, Template, TextBuffer, View, escape, iwriteln,
@@ -15,7 +15,7 @@ use std::test::Fail;
 /// Worked by hand from the rules of lines and outcomes in docs/DEFINITIONS.md: the format's text,
 /// and then a newline at place 0.
 #[rattlefmt::skip]
-const LINES: [RoomTable<'static>; 2] = [
+pub(crate) const LINES: [RoomTable<'static>; 2] = [
     RoomTable {
         values: &[("a", &[Slots::Display], View::Signed(1, Bits::B32))],
         lists: &[],
@@ -44,10 +44,7 @@ const LINES: [RoomTable<'static>; 2] = [
 
 #[test]
 fn lines_end_with_a_newline(rt: HostRuntime) -> Result<(), Fail> {
-    for table in &LINES {
-        give_in_room(&rt, rt.alloc(), Call::Line, table)?;
-    }
-    Ok(())
+    give_all_in_room(&rt, rt.alloc(), Call::Line, &LINES)
 }
 
 #[test]

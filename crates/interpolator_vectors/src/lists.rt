@@ -1,11 +1,12 @@
-//! Rows of formats with lists, deep nesting, long lists, and memory that is refused.
+//! Rows of formats with lists, long lists, and memory that is refused.
 
-mod deep;
 mod long;
 mod memory;
-mod rows;
+pub(crate) mod rows;
 
-use crate::tables::{Call, give, give_in_room, gives};
+use crate::hostile::cuts::cut_rows;
+use crate::hostile::joins::join_rows;
+use crate::tables::{Call, give_all, give_all_in_room, give_rows, in_plenty};
 use interpolator::{Formattable, View};
 use rows::{BROKEN, CUTS, NESTED, ROOM, WRITTEN};
 use std::alloc::Global;
@@ -15,44 +16,32 @@ use std::test::Fail;
 
 #[test]
 fn lists_are_written(rt: HostRuntime) -> Result<(), Fail> {
-    for table in &WRITTEN {
-        give(&rt, rt.alloc(), table)?;
-    }
-    Ok(())
+    give_all(&rt, rt.alloc(), &WRITTEN)
 }
 
 #[test]
 fn lists_are_refused(rt: HostRuntime) -> Result<(), Fail> {
-    for table in &BROKEN {
-        give(&rt, rt.alloc(), table)?;
-    }
-    Ok(())
+    give_all(&rt, rt.alloc(), &BROKEN)
 }
 
 #[test]
 fn cuts_of_lists(rt: HostRuntime) -> Result<(), Fail> {
-    for table in &CUTS {
-        give(&rt, rt.alloc(), table)?;
-    }
-    Ok(())
+    give_all(&rt, rt.alloc(), &CUTS)
 }
 
 #[test]
 fn limited_writers_hold_beginnings_of_lists(rt: HostRuntime) -> Result<(), Fail> {
-    for table in &ROOM {
-        give_in_room(&rt, rt.alloc(), Call::Text, table)?;
-    }
-    Ok(())
+    give_all_in_room(&rt, rt.alloc(), Call::Text, &ROOM)
 }
 
-/// The rows of lists in lists are given over a list.
+/// The rows of lists in lists are given over a list, cut and joined.
 fn give_list(rt: &impl Abort, alloc: Global, list: Formattable<'_, View<'_>>) -> Result<(), Fail> {
     let mut map = HashMap::new(alloc);
     map.insert("o", list)?;
-    for row in &NESTED {
-        gives(rt, alloc, row, &map)?;
-    }
-    Ok(())
+    let rows = in_plenty(alloc, &NESTED)?;
+    give_rows(rt, alloc, &rows, &map)?;
+    cut_rows(rt, alloc, &rows, &map)?;
+    join_rows(rt, alloc, &rows, &map)
 }
 
 /// The rows are given over a list of one item.

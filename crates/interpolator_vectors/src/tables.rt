@@ -3,6 +3,8 @@
 pub(crate) mod held;
 pub(crate) mod told;
 
+use crate::hostile::cuts::cut_rows;
+use crate::hostile::joins::join_rows;
 use crate::limited::Limited;
 use held::{Held, HeldList, all_items, map_of};
 use interpolator::{Error, Formattable, Interpolate, Template, TextBuffer, TextWrite, View};
@@ -20,11 +22,29 @@ pub(crate) struct Row<'a> {
 }
 
 /// A format, how many characters the writer takes, what it then holds, and what is answered.
+#[derive(Clone, Copy)]
 pub(crate) struct RoomRow<'a> {
     pub(crate) format: &'a str,
     pub(crate) room: usize,
     pub(crate) text: &'a str,
     pub(crate) told: Told<'a>,
+}
+
+/// More characters than any of the rows writes.
+pub(crate) const PLENTY: usize = 1_000;
+
+/// The rows, as those of a writer that takes more than they write.
+pub(crate) fn in_plenty<'a>(alloc: Global, rows: &[Row<'a>]) -> Result<Vec<RoomRow<'a>>, Fail> {
+    let mut all = Vec::new(alloc);
+    for row in rows {
+        all.push(RoomRow {
+            format: row.format,
+            room: PLENTY,
+            text: row.text,
+            told: row.told,
+        })?;
+    }
+    Ok(all)
 }
 
 /// Rows with one context, of values and of lists.
@@ -35,6 +55,7 @@ pub(crate) struct Table<'a> {
 }
 
 /// Rows of writers with little room, with one context.
+#[derive(Clone, Copy)]
 pub(crate) struct RoomTable<'a> {
     pub(crate) values: &'a [Held<'a>],
     pub(crate) lists: &'a [HeldList<'a>],
@@ -48,11 +69,24 @@ pub(crate) enum Call {
     Line,
 }
 
+/// What is done with the rows of a table.
+#[derive(Clone, Copy)]
+pub(crate) enum Work {
+    /// They are given by every way to write or make a text.
+    Give,
+    /// They are given by a writer that takes no more than their room.
+    GiveInRoom(Call),
+    /// Their formats are cut.
+    Cut,
+    /// Their formats are joined.
+    Join,
+}
+
 /// The row is given by every way to write or make a text.
-pub(crate) fn gives<'a>(
+fn gives<'a>(
     rt: &impl Abort,
     alloc: Global,
-    row: &Row<'_>,
+    row: &RoomRow<'_>,
     map: &HashMap<&'a str, Formattable<'a, View<'a>>>,
 ) -> Result<(), Fail> {
     let mut out = TextBuffer::new(alloc);
@@ -79,7 +113,7 @@ fn is_of_the_text(told: Told<'_>) -> bool {
 fn gives_by_template<'a>(
     rt: &impl Abort,
     alloc: Global,
-    row: &Row<'_>,
+    row: &RoomRow<'_>,
     map: &HashMap<&'a str, Formattable<'a, View<'a>>>,
 ) -> Result<(), Fail> {
     let template = Template::parse(alloc, row.format)?;
@@ -108,7 +142,7 @@ fn gives_by_template<'a>(
 }
 
 /// The row is given by a writer that takes no more than its room.
-fn gives_in_room<'a>(
+pub(crate) fn gives_in_room<'a>(
     rt: &impl Abort,
     alloc: Global,
     call: Call,
@@ -142,7 +176,7 @@ fn gives_in_room_by_template<'a>(
 }
 
 /// The writer holds what the row says, and this was answered.
-fn holds(rt: &impl Abort, row: &RoomRow<'_>, out: &Limited, answer: &Result<(), Error>) {
+pub(crate) fn holds(rt: &impl Abort, row: &RoomRow<'_>, out: &Limited, answer: &Result<(), Error>) {
     assert_eq!(rt;
         told_by(answer),
         row.told,
@@ -154,10 +188,10 @@ fn holds(rt: &impl Abort, row: &RoomRow<'_>, out: &Limited, answer: &Result<(), 
 }
 
 /// The rows are given.
-fn give_rows<'a>(
+pub(crate) fn give_rows<'a>(
     rt: &impl Abort,
     alloc: Global,
-    rows: &[Row<'_>],
+    rows: &[RoomRow<'_>],
     map: &HashMap<&'a str, Formattable<'a, View<'a>>>,
 ) -> Result<(), Fail> {
     for row in rows {
@@ -180,14 +214,45 @@ fn give_rows_in_room<'a>(
     Ok(())
 }
 
-/// The rows of a table are given in its context.
-pub(crate) fn give(rt: &impl Abort, alloc: Global, table: &Table<'_>) -> Result<(), Fail> {
+/// The work is done with the rows of a table in its context.
+pub(crate) fn work_on(
+    rt: &impl Abort,
+    alloc: Global,
+    work: Work,
+    table: &RoomTable<'_>,
+) -> Result<(), Fail> {
     let all = all_items(alloc, table.lists)?;
     let mut map = map_of(alloc, table.values)?;
     for ((name, _, _), items) in table.lists.iter().zip(&all) {
         map.insert(*name, Formattable::iter(items))?;
     }
-    give_rows(rt, alloc, table.rows, &map)
+    match work {
+        Work::Give => give_rows(rt, alloc, table.rows, &map),
+        Work::GiveInRoom(call) => give_rows_in_room(rt, alloc, call, table.rows, &map),
+        Work::Cut => cut_rows(rt, alloc, table.rows, &map),
+        Work::Join => join_rows(rt, alloc, table.rows, &map),
+    }
+}
+
+/// The work is done with the rows of a table, in plenty of room.
+pub(crate) fn work_in_plenty(
+    rt: &impl Abort,
+    alloc: Global,
+    work: Work,
+    table: &Table<'_>,
+) -> Result<(), Fail> {
+    let rows = in_plenty(alloc, table.rows)?;
+    let roomy = RoomTable {
+        values: table.values,
+        lists: table.lists,
+        rows: &rows,
+    };
+    work_on(rt, alloc, work, &roomy)
+}
+
+/// The rows of a table are given in its context.
+pub(crate) fn give(rt: &impl Abort, alloc: Global, table: &Table<'_>) -> Result<(), Fail> {
+    work_in_plenty(rt, alloc, Work::Give, table)
 }
 
 /// The rows of a table of writers with little room are given in its context.
@@ -197,10 +262,26 @@ pub(crate) fn give_in_room(
     call: Call,
     table: &RoomTable<'_>,
 ) -> Result<(), Fail> {
-    let all = all_items(alloc, table.lists)?;
-    let mut map = map_of(alloc, table.values)?;
-    for ((name, _, _), items) in table.lists.iter().zip(&all) {
-        map.insert(*name, Formattable::iter(items))?;
+    work_on(rt, alloc, Work::GiveInRoom(call), table)
+}
+
+/// The rows of tables are given, each in its context.
+pub(crate) fn give_all(rt: &impl Abort, alloc: Global, tables: &[Table<'_>]) -> Result<(), Fail> {
+    for table in tables {
+        give(rt, alloc, table)?;
     }
-    give_rows_in_room(rt, alloc, call, table.rows, &map)
+    Ok(())
+}
+
+/// The rows of tables of writers with little room are given, each in its context.
+pub(crate) fn give_all_in_room(
+    rt: &impl Abort,
+    alloc: Global,
+    call: Call,
+    tables: &[RoomTable<'_>],
+) -> Result<(), Fail> {
+    for table in tables {
+        give_in_room(rt, alloc, call, table)?;
+    }
+    Ok(())
 }

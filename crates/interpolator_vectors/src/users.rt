@@ -1,9 +1,13 @@
 //! What a user writes: contexts and formats, with no proof of his own.
 
+mod calls;
 mod catalogue;
 mod cell;
+mod level;
 mod log;
 mod record;
+mod rows;
+mod slots;
 
 use interpolator::{
     Bits, ContextMap, Error, Formattable, Interpolate, Pairs, Spec, Template, TextBuffer, Trait,

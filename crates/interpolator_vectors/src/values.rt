@@ -109,6 +109,7 @@ fn texts_and_views(rt: HostRuntime) -> Result<(), Fail> {
 #[test]
 fn default_spec(rt: HostRuntime) {
     let spec = Spec {
+        fill: None,
         alignment: Alignment::Unset,
         sign: Sign::Unset,
         alternate: false,

@@ -94,18 +94,21 @@ fn status_of(alloc: Global, call: Call, to: &mut Spy, other: &mut Spy) -> u8 {
     }
 }
 
+/// A format, what `out` and `err` get, and the status.
+type Line = (&'static str, &'static str, &'static str, u8);
+
+/// The texts of the faults are those of the crate that this one ports.
+const LINES: [Line; 4] = [
+    ("Hi", "Hi\n", "", 0),
+    ("", "\n", "", 0),
+    ("a{q}", "", NO_Q, 1),
+    ("é{", "", NO_END, 1),
+];
+
 #[test]
 fn lines_are_written_whole(rt: HostRuntime) -> Result<(), Fail> {
     let alloc = rt.alloc();
-    // The format, what `out` and `err` get, and the status: the texts of the faults are those of
-    // the crate that this one ports.
-    let rows = [
-        ("Hi", "Hi\n", "", 0),
-        ("", "\n", "", 0),
-        ("a{q}", "", NO_Q, 1),
-        ("é{", "", NO_END, 1),
-    ];
-    for (format, text, fault, status) in rows {
+    for (format, text, fault, status) in LINES {
         let mut out = Vec::new(alloc);
         let mut err = Vec::new(alloc);
         let answered = run_on(alloc, format, &mut out, &mut err);
@@ -148,6 +151,37 @@ fn refused_memory_is_told(rt: HostRuntime) {
     let alloc = rt.alloc();
     let done = status_of_a_run(&rt, alloc) == 0 || status_of_a_run(&rt, alloc) == 0;
     assert!(rt; done);
+}
+
+/// Whether a run writes its line, where both writers have their room before it. Else memory was
+/// refused: for this room, or to the run, which tells it and writes no text.
+fn is_run(rt: &impl Abort, alloc: Global, line: Line) -> bool {
+    let (format, text, fault, wanted) = line;
+    let Ok(mut out) = Vec::with_capacity(alloc, 128) else {
+        return false;
+    };
+    let Ok(mut err) = Vec::with_capacity(alloc, 128) else {
+        return false;
+    };
+    let status = run_on(alloc, format, &mut out, &mut err);
+    if err.as_slice() == OUT_OF_MEMORY.as_bytes() {
+        assert_eq!(rt; status, 1, "{format}");
+        assert!(rt; out.is_empty(), "{format}");
+        return false;
+    }
+    assert_eq!(rt; status, wanted, "{format}");
+    assert_eq!(rt; out.as_slice(), text.as_bytes(), "{format}");
+    assert_eq!(rt; err.as_slice(), fault.as_bytes(), "{format}");
+    true
+}
+
+// Under one refused allocation, wherever it falls, no writer is refused.
+#[test]
+fn runs_write_their_line_or_want_memory(rt: HostRuntime) {
+    for line in LINES {
+        let done = is_run(&rt, rt.alloc(), line) || is_run(&rt, rt.alloc(), line);
+        assert!(rt; done);
+    }
 }
 
 #[test]

@@ -1,6 +1,7 @@
 //! Tests of the words.
 
 use crate::words::{Word, classify, items};
+use interpolator::Error;
 use std::alloc::{AllocError, Global};
 use std::process::Abort;
 use std::test::Fail;
@@ -125,12 +126,27 @@ fn long_lists_are_split_at_commas(rt: HostRuntime) -> Result<(), Fail> {
     Ok(())
 }
 
-#[test]
-fn lists_are_split_at_commas(rt: HostRuntime) {
-    for (text, wanted) in ITEMS {
-        match items(rt.alloc(), text) {
-            Ok(parts) => assert_eq!(rt; parts.as_slice(), wanted, "{text}"),
-            Err(_) => assert!(rt; false, "{text}"),
+/// Whether a text is split into these items. Else memory was refused.
+fn is_split(rt: &impl Abort, alloc: Global, text: &str, wanted: &[&str]) -> bool {
+    match items(alloc, text) {
+        Ok(parts) => {
+            assert_eq!(rt; parts.as_slice(), wanted, "{text}");
+            true
         }
+        Err(error) => {
+            assert!(rt; error == Error::NoMemory, "{text}");
+            false
+        }
+    }
+}
+
+// Where memory is refused, as `rt try --test --fail-alloc` does once, the items are given when they
+// are asked again.
+#[test]
+fn lists_are_split_or_want_memory(rt: HostRuntime) {
+    for (text, wanted) in ITEMS {
+        let split = is_split(&rt, rt.alloc(), text, wanted)
+            || is_split(&rt, rt.alloc(), text, wanted);
+        assert!(rt; split, "{text}");
     }
 }

@@ -8,8 +8,7 @@ use Rattle.interpolator_render.proofs.LawLemmas.{padded_text_count}
 use Rattle.interpolator_render.proofs.NumberLemmas.{before_within}
 use Rattle.interpolator_render.specs.declared.view.Trait.{Trait}
 use Rattle.interpolator_render.specs.declared.view.Spec.{Spec}
-use Rattle.interpolator_render.specs.Characters.{space}
-use Rattle.interpolator_render.specs.Padding.{missing_to, spaces_before, padded_text}
+use Rattle.interpolator_render.specs.Padding.{missing_to, fill_before, fill_of, padded_text}
 use Rattle.interpolator_render.specs.Views.{Shown}
 use Rattle.interpolator_syntax.specs.At.{Placed, placed_at, text_of}
 use Rattle.interpolator_syntax.specs.Arguments.{Argument}
@@ -26,25 +25,27 @@ use Rattle.interpolator_syntax.proofs.CaseLemmas.{none_some}
 
 -- ---- padding
 
--- an empty text, padded, is spaces alone
-padded_nothing : (spec : Spec) → padded_text spec [] ≡ replicate (unwrap_or spec.width 0) space
+-- an empty text, padded, is copies of the fill alone
+padded_nothing : (spec : Spec)
+    → padded_text spec [] ≡ replicate (unwrap_or spec.width 0) (fill_of spec)
 unfolding padded_text
 padded_nothing spec =
     let missing = missing_to spec 0 in
-    let before = spaces_before spec.alignment missing 0 in
+    let before = fill_before spec.alignment missing 0 in
     let within = before_within spec.alignment missing 0 (omega arith) in
     let all : before + (missing - before) ≡ unwrap_or spec.width 0 = omega (arith, within) in
-    replicate-append-replicate before (missing - before) space ∙ ap (λ n. replicate n space) all
+    replicate-append-replicate before (missing - before) (fill_of spec)
+    ∙ ap (λ n. replicate n (fill_of spec)) all
 
--- no text, made whole or not, is the spaces of the width
+-- no text, made whole or not, is as many copies of the fill as the width says
 nothing_padded :
     (spec : Spec) (q : ℕ)
     → (padded_list spec q nothing).text
-    ≡ placed_at q (replicate (unwrap_or spec.width 0) space)
+    ≡ placed_at q (replicate (unwrap_or spec.width 0) (fill_of spec))
 nothing_padded spec q =
     elim spec.width as (λ o. spec.width ≡ o
     → (cond (is_some o) (made_whole spec q None []) nothing).text
-    ≡ placed_at q (replicate (unwrap_or o 0) space)) [
+    ≡ placed_at q (replicate (unwrap_or o 0) (fill_of spec))) [
       | None ↦ λ e. refl
       | Some width ↦ λ e. ap (placed_at q) (padded_nothing spec ∙ rw e refl)
     ] refl
@@ -202,7 +203,7 @@ module _ {X : Type 0} (shows : X → Trait → Spec → Shown) (e : Environment 
 
     pub empty_text : (written shows e start x q).fault ≡ None
         → (written shows e start x q).text
-        ≡ placed_at q (replicate (unwrap_or x.spec.width 0) space)
+        ≡ placed_at q (replicate (unwrap_or x.spec.width 0) (fill_of x.spec))
     empty_text h =
         ap (λ (m : Meaning). m.text)
         (is_padded (succeeds h) ∙ ap (padded_list x.spec q) unpadded_is)

@@ -9,9 +9,8 @@ use Rattle.interpolator_render.specs.declared.view.Trait.{Trait}
 use Rattle.interpolator_render.specs.declared.view.Spec.{Spec}
 use Rattle.interpolator_render.specs.Views.{Shown}
 use Rattle.interpolator_syntax.specs.At.{At, size, outermost}
-use Rattle.interpolator_syntax.specs.Pieces.{PieceKind, Piece, closed, unclosed, broken, pieces}
-use Rattle.interpolator.specs.Seams.{ends_empty_spec, kind_ending, piece_ending, last_ending}
-use Rattle.interpolator.specs.Seams.{ending}
+use Rattle.interpolator_syntax.specs.Pieces.{PieceKind, Piece, unclosed, broken, pieces}
+use Rattle.interpolator.specs.Seams.{kind_ending, piece_ending, last_ending, ending}
 use Rattle.interpolator_syntax.specs.Faults.{Fault, Answer, parse, expected}
 use Rattle.interpolator.specs.Meaning.Environments.{Environment}
 use Rattle.interpolator.specs.Meaning.Meanings.{Meaning, nothing, fault_alone, or_fault, joined}
@@ -20,10 +19,10 @@ use Rattle.interpolator.specs.Meaning.Parts.{joined_text, texts_of, parts_mean, 
 use Rattle.interpolator.specs.Meaning.Parts.{FrontsClose}
 use Rattle.interpolator.specs.Meaning.Sinks.{SinkState, Evaluates, Writes, seen}
 use Rattle.interpolator.specs.declared.parts.Ending.{Ending}
-use Rattle.interpolator.specs.declared.parts.Ending.TheVariants.{Settled, EmptySpec, Open}
+use Rattle.interpolator.specs.declared.parts.Ending.TheVariants.{Settled, Open}
 use Rattle.interpolator.specs.declared.meaning.sink.Sink as code_sink
 use Rattle.interpolator_syntax.proofs.LocalityLemmas.{stands, size-append}
-use Rattle.interpolator_syntax.proofs.CaseLemmas.{none_some, in_both}
+use Rattle.interpolator_syntax.proofs.CaseLemmas.{none_some}
 use Rattle.interpolator_syntax.proofs.PieceLemmas.{pieces_none}
 use Rattle.interpolator.proofs.SeamLemmas.{Leaves, pieces_append, both_close}
 use Rattle.interpolator.proofs.MeaningLemmas.DepthLemmas.{means_pieces}
@@ -103,18 +102,15 @@ module _ {X : Type 0} (shows : X → Trait → Spec → Shown) (e : Environment 
   no_fault_first : (m k : Meaning) → (joined m k).fault ≡ None → (m.fault ≡ None) × (k.fault ≡ None)
   no_fault_first m k h = grind arith
 
-  piece_closes : (p : ℕ) (k : PieceKind) (text : List ℕ)
-      → (piece_means shows (means shows) e p k).fault ≡ None
-      → kind_ending k text ≢ Open
-  piece_closes p (closed start x q) text h =
-      in_both (λ d. d ≢ Open) (ends_empty_spec text) EmptySpec Settled (λ d. cc) (λ d. cc)
-  piece_closes p (unclosed start x q) text h =
+  piece_closes : (p : ℕ) (k : PieceKind) → (piece_means shows (means shows) e p k).fault ≡ None
+      → kind_ending k ≢ Open
+  piece_closes p (unclosed start x q) h =
       let parts =
       no_fault_first (argument_means shows (means shows) e start x q)
       (fault_alone (parse (expected (codes "}") q))) h in
       absurd (none_some (sym parts.1))
-  piece_closes p (broken f) text h = absurd (none_some (sym h))
-  piece_closes p kind text h = λ d. cc
+  piece_closes p (broken f) h = absurd (none_some (sym h))
+  piece_closes p kind h = λ d. cc
 
   pieces_close : (d : Ending) (xs : List Piece) → d ≢ Open
       → (pieces_mean shows (means shows) e xs).fault ≡ None
@@ -124,7 +120,7 @@ module _ {X : Type 0} (shows : X → Trait → Spec → Shown) (e : Environment 
       let both =
       no_fault_first (piece_means shows (means shows) e x.place x.kind)
       (pieces_mean shows (means shows) e xs) h in
-      pieces_close (piece_ending x) xs (piece_closes x.place x.kind x.text both.0) both.1
+      pieces_close (piece_ending x) xs (piece_closes x.place x.kind both.0) both.1
 
   -- a text without fault ends in no argument that is unclosed or broken
   pub faultless_closes : (a : At) → (means shows e a).fault ≡ None → ending a ≢ Open

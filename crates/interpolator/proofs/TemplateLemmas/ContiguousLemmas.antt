@@ -78,14 +78,14 @@ kind_before start slot a k q h = rw h.0 tt
 parts_before : (start : ℕ) (a : At) (x : Asked) (q : At) → (parts start).is a x q
     → KindBefore q.place x.kind
 parts_before start a x q h =
-    let shown = h.3.3.3.3.3.3 in
+    let shown = h.3.3.3.3.3.3.3 in
     let end = shown.3 in
     rw (end.3.0, end.3.1) (kind_before start shown.0.slot shown.1 end.0 end.1 end.2)
 
 spec_before : (start : ℕ) (a : At) (x : Asked) (q : At) → IsSpec start a x q
     → KindBefore q.place x.kind
 spec_before start a x q (inl h) = rw h.1 tt
-spec_before start a x q (inr h) = parts_before start a x q h.3
+spec_before start a x q (inr h) = parts_before start a x q h.1
 
 asks_before : (start : ℕ) (a : At) (x : Asked) (q : At) → Asks start a x q
     → KindBefore q.place x.kind

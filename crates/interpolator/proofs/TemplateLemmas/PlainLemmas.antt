@@ -1,5 +1,5 @@
 -- An argument whose spec ends where its name ends has none: it is displayed plainly.
-use Rattle.std.proofs.Common.{◌≡◌, ℕ, ◌+◌, ◌≤◌, List, [], ◌∷◌, arith, refl, sym, subst, Result, Ok, Err}
+use Rattle.std.proofs.Common.{◌≡◌, ℕ, ◌+◌, ◌≤◌, arith, refl, sym, subst, Result, Ok, Err}
 use Rattle.std.proofs.Common.{Option, Some, None, ap, ◌∙◌}
 use Rattle.std.specs.Prelude.{⊤}
 use Rattle.std.specs.Str.{chars}
@@ -8,16 +8,16 @@ use Rattle.interpolator_render.specs.declared.view.Trait.TheVariants as traits
 use Rattle.interpolator_syntax.specs.At.{At, at, size, strip, after}
 use Rattle.interpolator_syntax.specs.Arguments.{Argument, argument, argument_at, asked_by, asked_at}
 use Rattle.interpolator_syntax.specs.Arguments.{named_argument, asked_of, kind_of_asked, taken_read}
-use Rattle.interpolator_syntax.specs.Classes.{colon, in_class, front_of, is_alignment}
+use Rattle.interpolator_syntax.specs.Classes.{colon, in_class, front_of}
 use Rattle.interpolator_syntax.specs.Faults.{Fault}
 use Rattle.interpolator_syntax.specs.Readers.{on, give}
 use Rattle.interpolator_syntax.specs.SpecTexts.{Asked, of_value, plain_display, plain_spec}
-use Rattle.interpolator_syntax.specs.SpecTexts.{spec_of, spec_after, spec_parts}
+use Rattle.interpolator_syntax.specs.SpecTexts.{spec_after}
 use Rattle.interpolator_syntax.specs.declared.argument.TakenArgument.{TakenArgument}
 use Rattle.interpolator_syntax.specs.declared.class.Class.TheVariants.{WhiteSpace, Name}
-use Rattle.interpolator_syntax.proofs.CaseLemmas.{err_ok, in_both}
+use Rattle.interpolator_syntax.proofs.CaseLemmas.{err_ok}
 use Rattle.interpolator_syntax.proofs.PieceLemmas.{strip_after}
-use Rattle.interpolator_syntax.proofs.ReaderLemmas.{name_end, reads_parts}
+use Rattle.interpolator_syntax.proofs.ReaderLemmas.{name_end, reads_spec}
 
 -- what is read ends no earlier than p
 abbrev EndsFrom : (p : ℕ) → Result (Asked × At) Fault → Type 0
@@ -25,20 +25,10 @@ EndsFrom p (Ok w) = p ≤ w.1.place
 EndsFrom p (Err f) = ⊤
 
 -- a spec ends no earlier than it begins
-parts_end : (start : ℕ) (a : At) (r : Result (Asked × At) Fault) → spec_parts start a ≡ r
+spec_ends : (start : ℕ) (a : At) (r : Result (Asked × At) Fault) → spec_after start a ≡ r
     → EndsFrom a.place r
-parts_end start a (Ok w) e = omega (arith, ((reads_parts start).takes a w.0 w.1 e).place)
-parts_end start a (Err f) e = tt
-
-spec_of_ends : (start : ℕ) (a : At) (cs : List ℕ) → EndsFrom a.place (spec_of start a cs)
-spec_of_ends start a [] = omega arith
-spec_of_ends start a (c ∷ []) = omega arith
-spec_of_ends start a (c ∷ d ∷ ds) =
-    in_both (EndsFrom a.place) (is_alignment d) _ _ tt (parts_end start a _ refl)
-
-spec_ends : (start : ℕ) (a : At) → EndsFrom a.place (spec_after start a)
-unfolding spec_after
-spec_ends start a = spec_of_ends start a a.text
+spec_ends start a (Ok w) e = omega (arith, ((reads_spec start).takes a w.0 w.1 e).place)
+spec_ends start a (Err f) e = tt
 
 -- what is asked after a name, where what was read ends there
 asked_plain :
@@ -47,7 +37,7 @@ asked_plain :
 asked_plain start a x q (Some closed) k s e n =
     let same : (x, q) ≡ (plain_display, a) = cc in ap (λ (r : Asked × At). r.0) same
 asked_plain start a x q None (Some rest) s e n =
-    let later = subst (EndsFrom rest.place) e (spec_ends start rest) in
+    let later = spec_ends start rest (Ok (x, q)) e in
     absurd (omega (arith, later, n, (strip_after colon a.place a.text rest s).1))
 asked_plain start a x q None None s e n = absurd (err_ok e)
 

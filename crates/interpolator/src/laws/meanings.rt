@@ -2,8 +2,7 @@
 
 ghost use Rattle.std.specs.Prelude.{◌≡◌, ℕ, List, [], ◌∷◌, None, Some, false, if◌then◌else◌};
 ghost use Rattle.std.specs.Prelude.{length, max, replicate, unwrap_or};
-ghost use Rattle.interpolator_render.specs.Characters.{space};
-ghost use Rattle.interpolator_render.specs.Padding.{padded_text};
+ghost use Rattle.interpolator_render.specs.Padding.{fill_of, padded_text};
 ghost use Rattle.interpolator_syntax.specs.At.{At, outermost, placed_at, text_of};
 ghost use Rattle.interpolator_syntax.specs.Arguments.{Argument};
 ghost use Rattle.interpolator_syntax.specs.Lists.{ListAsked};
@@ -57,18 +56,18 @@ pub fn list_is_its_items_and_joins<V: Value>()
         (unpadded V.shows e l q ts).text }
 {}
 
-/// A list argument that chooses no item writes as many spaces as its width says, and without a
-/// width nothing. Its groups are not looked at, so it finds no fault in them: the one fault that it
-/// can have is that of a spec that no list may have.
+/// A list argument that chooses no item writes as many copies of its fill, or spaces, as its width
+/// says, and without a width nothing. Its groups are not looked at, so it finds no fault in them:
+/// the one fault that it can have is that of a spec that no list may have.
 ///
-/// So `{l:i2..({q})}` of a list of two items writes nothing, whatever `q` is, and `{l:4i2..}`
-/// writes four spaces.
+/// So `{l:i2..({q})}` of a list of two items writes nothing, whatever `q` is, `{l:4i2..}` writes
+/// four spaces, and `{l:*>4i2..}` writes `****`.
 pub fn list_of_no_item_is_its_padding<V: Value>()
     ensures text { (e : Environment V) (start q : ℕ) (x : Argument) (l : ListAsked)
         (ts : List (Slots V)) → FindsList e x l ts → chosen_items l.range ts ≡ []
         → (written V.shows e start x q).fault ≡ None
         → (written V.shows e start x q).text
-        ≡ placed_at q (replicate (unwrap_or x.spec.width 0) space) }
+        ≡ placed_at q (replicate (unwrap_or x.spec.width 0) (fill_of x.spec)) }
     ensures fault { (e : Environment V) (start q : ℕ) (x : Argument) (l : ListAsked)
         (ts : List (Slots V)) → FindsList e x l ts → chosen_items l.range ts ≡ []
         → (written V.shows e start x q).fault
@@ -77,7 +76,8 @@ pub fn list_of_no_item_is_its_padding<V: Value>()
 
 /// A list argument with a width that has no fault writes as many characters as the width says, or
 /// all those of its chosen items and of the joins between them where they are more: these, with
-/// spaces before and after them. Each character stands at the byte after the argument's spec.
+/// copies of its fill, or spaces, before and after them. Each character stands at the byte after the
+/// argument's spec.
 ///
 /// So `{l:>4i}` of the items 1 and 2 writes `  12`, and `{l:2i(item)}` writes `itemitem`.
 pub fn padded_list_fills_its_width<V: Value>()

@@ -5,10 +5,9 @@ ghost use Rattle.std.specs.Prelude.{Ok, None, codes};
 ghost use Rattle.interpolator_syntax.specs.At.{At, size, outermost};
 ghost use Rattle.interpolator_syntax.specs.Classes.{close_brace};
 ghost use Rattle.interpolator_syntax.specs.Arguments.{Argument, argument_at};
-ghost use Rattle.interpolator_syntax.specs.SpecTexts.{begins_alignment};
 ghost use Rattle.interpolator_syntax.specs.Grammar.{from_place};
 ghost use Rattle.interpolator_syntax.specs.Pieces.{pieces};
-ghost use Rattle.interpolator.specs.Seams.{ends_empty_spec, ending, may_follow, seam_of};
+ghost use Rattle.interpolator.specs.Seams.{ending, may_follow, seam_of};
 ghost use Rattle.interpolator.specs.Meaning.Environments.{Environment};
 ghost use Rattle.interpolator.specs.Meaning.Meanings.{joined, means};
 ghost use Rattle.interpolator.specs.Meaning.Moves.{moved_meaning};
@@ -29,14 +28,12 @@ pub fn pieces_compose()
         ≡ pieces a ++ pieces (from_place (a.place + size a.text) more) }
 {}
 
-/// A closed argument is the same whatever stands after its `}`, unless its text ends in `:}` and
-/// what stands after it begins with `<`, `^` or `>`.
+/// A closed argument is the same whatever stands after its `}`.
 ///
-/// So in `{x:?}` the argument is `x:?`, and it is so in `{x:?}<` too.
+/// So in `{x:}` the argument is `x:`, and it is so in `{x:}<` too.
 pub fn closed_argument_stays()
     ensures stays { (a q : At) (x : Argument) (rest more : List ℕ) → argument_at a ≡ Ok (x, q)
         → q.text ≡ close_brace ∷ rest
-        → (rest ≡ [] → IsTrue (ends_empty_spec a.text) → IsFalse (begins_alignment more))
         → argument_at (from_place a.place (a.text ++ more))
         ≡ Ok (x, from_place q.place (q.text ++ more)) }
 {}
@@ -73,19 +70,16 @@ pub fn second_text_is_moved<V: Value>()
 
 /// A text that means no fault in some environment ends in no argument that is unclosed or broken.
 ///
-/// So fronts without fault compose with every text after them, but for the two seams.
+/// So fronts without fault compose with every text after them, but for the one seam.
 pub fn faultless_text_closes<V: Value>()
     ensures closes { (e : Environment V) (a : At) → (means V.shows e a).fault ≡ None
         → ending a ≢ Open }
 {}
 
 /// Where the seam is false the pieces are others: `}` and `}`, one after the other, are one
-/// doubled brace, and `{x:}<` is a broken argument.
+/// doubled brace.
 pub fn seams_are_real()
     ensures braces_seam { IsFalse (seam_of (codes "}") (codes "}")) }
     ensures braces { pieces (outermost (codes "}}"))
         ≢ pieces (outermost (codes "}")) ++ pieces (from_place 1 (codes "}")) }
-    ensures fill_seam { IsFalse (seam_of (codes "{x:}") (codes "<")) }
-    ensures fill { pieces (outermost (codes "{x:}<"))
-        ≢ pieces (outermost (codes "{x:}")) ++ pieces (from_place 4 (codes "<")) }
 {}

@@ -187,7 +187,7 @@ fn write_list<'a, W: TextWrite, C: Context>(
     }
 }
 
-/// Makes the text of the items in a buffer, and then writes it with spaces up to the width.
+/// Makes the text of the items in a buffer, and then writes it padded to the width.
 #[cycle(evaluate)]
 fn write_padded_list<'a, W: TextWrite, C: Context>(
     sink: &mut Sink<'_, W>,

@@ -89,7 +89,7 @@ fn write_view<W: TextWrite>(
     }
 }
 
-/// Writes a text with spaces up to the width, each character of which stands at one place.
+/// Writes a text padded to the width, each character of which stands at one place.
 fn write_padded<W: TextWrite>(
     out: &mut W,
     text: &str,
@@ -138,7 +138,7 @@ impl<'s, W: TextWrite> Sink<'s, W> {
         }
     }
 
-    /// A text with spaces up to the width, each character at one place.
+    /// A text padded to the width, each character at one place.
     pub(crate) fn put_padded(
         &mut self,
         text: &str,

@@ -9,21 +9,23 @@ ghost use Rattle.interpolator_syntax.specs.Faults.{Fault};
 /// The text after a colon is a spec exactly where its parts stand one after the other, each where
 /// its first character stands:
 ///
-/// 1. an alignment: `<`, `^` or `>`
-/// 2. a sign: `+` or `-`
-/// 3. `#`
-/// 4. `0`
-/// 5. a width: where a digit stands, the longest run of digits and `-`, which is a number
-/// 6. a precision: where a `.` stands, the same after it
-/// 7. a trait: `?`, `x?`, `X?`, `o`, `x`, `X`, `b`, `e`, `E` or `i`, or nothing in front of a `}`
-/// 8. after `i`, how a list is written: a range, where a bound or `..` stands, and up to two
+/// 1. a fill: where an alignment stands second, the first character, which is no `{`
+/// 2. an alignment: `<`, `^` or `>`
+/// 3. a sign: `+` or `-`
+/// 4. `#`
+/// 5. `0`
+/// 6. a width: where a digit stands, the longest run of digits and `-`, which is a number
+/// 7. a precision: where a `.` stands, the same after it
+/// 8. a trait: `?`, `x?`, `X?`, `o`, `x`, `X`, `b`, `e`, `E` or `i`, or nothing in front of a `}`
+/// 9. after `i`, how a list is written: a range, where a bound or `..` stands, and up to two
 ///    groups, the format of an item and the join, each where a `(` or a `#` stands
 ///
-/// A text of at most one character is not read, and asks for plain display.
+/// A text of at most one character is not read, nor is one that begins with `}`: both ask for plain
+/// display.
 ///
-/// So `<+#08.3x?}` is a spec whose `}` is not read, `3` at the end of the format asks for no width,
-/// and `>6i1..({})(,)}` asks for the list from its second item on, with `{}` for an item and `,`
-/// between two.
+/// So `*<+#08.3x?}` is a spec whose `}` is not read, `3` at the end of the format asks for no
+/// width, nor does `}<5}`, and `>6i1..({})(,)}` asks for the list from its second item on, with
+/// `{}` for an item and `,` between two.
 pub fn spec_is_its_parts()
     ensures is { (start : ℕ) (a q : At) (asked : Asked) → spec_after start a ≡ Ok (asked, q)
         → IsSpec start a asked q }
@@ -33,7 +35,7 @@ pub fn spec_is_its_parts()
 
 /// Where no spec stands, the fault is that of the first part that does not stand, from the left:
 ///
-/// - an alignment as the second character would make the first a fill
+/// - a `{` in front of an alignment, where that stands second, would be a fill
 /// - a width or a precision that ends with the text leaves the argument unclosed, and one that is
 ///   no number is named by the place where its run begins
 /// - the end of the text, where a trait may stand, leaves the argument unclosed after `#` or `0`
@@ -44,7 +46,7 @@ pub fn spec_is_its_parts()
 /// - a group whose signs end the text, or that nothing closes, leaves the argument unclosed, and
 ///   another character than `(` after its signs stands where a `(` is expected
 ///
-/// So the fault of `{a:x<}` is `Fill(3)`, of `{a:1-2}` it is `InvalidWidth(InvalidDigit, 3)`, of
+/// So the fault of `{a:{<}` is `Fill(3)`, of `{a:1-2}` it is `InvalidWidth(InvalidDigit, 3)`, of
 /// `{a:55` it is `FormatSpecUnclosed(1)`, of `{a:5y}` it is `Expected("}", 4)`, and of `{a:i#b}` it
 /// is `Expected("(", 5)`.
 pub fn spec_is_refused_otherwise()

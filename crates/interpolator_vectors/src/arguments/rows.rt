@@ -54,6 +54,7 @@ pub(crate) struct Refusal<'a> {
 
 /// Nothing set.
 const PLAIN: Spec = Spec {
+    fill: None,
     alignment: Alignment::Unset,
     sign: Sign::Unset,
     alternate: false,
@@ -65,6 +66,7 @@ const PLAIN: Spec = Spec {
 
 /// Every part set.
 const FULL: Spec = Spec {
+    fill: Some('🦀'),
     alignment: Alignment::Right,
     sign: Sign::Plus,
     alternate: true,
@@ -77,7 +79,7 @@ const FULL: Spec = Spec {
 /// Worked by hand from the rules of arguments and specs in docs/DEFINITIONS.md; the places count
 /// bytes from the beginning of the text.
 #[rattlefmt::skip]
-pub(crate) const READ: [Reading<'static>; 20] = [
+pub(crate) const READ: [Reading<'static>; 26] = [
     Reading { text: "{x}", start: 1, name: "x", name_place: 1, spec: PLAIN, t: Trait::Display, end: 2 },
     Reading { text: "{ x }", start: 1, name: "x ", name_place: 2, spec: PLAIN, t: Trait::Display, end: 4 },
     Reading { text: "{}", start: 1, name: "", name_place: 1, spec: PLAIN, t: Trait::Display, end: 1 },
@@ -88,7 +90,13 @@ pub(crate) const READ: [Reading<'static>; 20] = [
     Reading { text: "{x:<+", start: 1, name: "x", name_place: 1, spec: Spec { alignment: Alignment::Left, sign: Sign::Plus, ..PLAIN }, t: Trait::Display, end: 5 },
     Reading { text: "{x:<}", start: 1, name: "x", name_place: 1, spec: Spec { alignment: Alignment::Left, ..PLAIN }, t: Trait::Display, end: 4 },
     Reading { text: "{x:00}", start: 1, name: "x", name_place: 1, spec: Spec { zero: true, width: Some(0), ..PLAIN }, t: Trait::Display, end: 5 },
-    Reading { text: "{x:>+#08.3X?}", start: 1, name: "x", name_place: 1, spec: FULL, t: Trait::Debug, end: 12 },
+    Reading { text: "{x:>+#08.3X?}", start: 1, name: "x", name_place: 1, spec: Spec { fill: None, ..FULL }, t: Trait::Debug, end: 12 },
+    Reading { text: "{x:🦀>+#08.3X?}", start: 1, name: "x", name_place: 1, spec: FULL, t: Trait::Debug, end: 16 },
+    Reading { text: "{x:*<5}", start: 1, name: "x", name_place: 1, spec: Spec { fill: Some('*'), alignment: Alignment::Left, width: Some(5), ..PLAIN }, t: Trait::Display, end: 6 },
+    Reading { text: "{x:*<", start: 1, name: "x", name_place: 1, spec: Spec { fill: Some('*'), alignment: Alignment::Left, ..PLAIN }, t: Trait::Display, end: 5 },
+    Reading { text: "é{ü:é^}", start: 3, name: "ü", name_place: 3, spec: Spec { fill: Some('é'), alignment: Alignment::Center, ..PLAIN }, t: Trait::Display, end: 9 },
+    Reading { text: "{x:}<5}", start: 1, name: "x", name_place: 1, spec: PLAIN, t: Trait::Display, end: 3 },
+    Reading { text: "{x::>?}", start: 1, name: "x", name_place: 1, spec: Spec { fill: Some(':'), alignment: Alignment::Right, ..PLAIN }, t: Trait::Debug, end: 6 },
     Reading { text: "{x:x?", start: 1, name: "x", name_place: 1, spec: Spec { hex_debug: HexDebug::Lower, ..PLAIN }, t: Trait::Debug, end: 5 },
     Reading { text: "{x:-x", start: 1, name: "x", name_place: 1, spec: Spec { sign: Sign::Minus, ..PLAIN }, t: Trait::LowerHex, end: 5 },
     Reading { text: "{x:18446744073709551615}", start: 1, name: "x", name_place: 1, spec: Spec { width: Some(usize::MAX), ..PLAIN }, t: Trait::Display, end: 23 },
@@ -157,13 +165,13 @@ pub(crate) const REFUSED: [Refusal<'static>; 37] = [
     Refusal { text: "{x:5-.", start: 1, told: Told::Parse(ParseError::InvalidWidth(NumberError::InvalidDigit, 3)) },
     Refusal { text: "{x:.-5}", start: 1, told: Told::Parse(ParseError::InvalidPrecision(NumberError::InvalidDigit, 4)) },
     Refusal { text: "{x:18446744073709551616}", start: 1, told: Told::Parse(ParseError::InvalidWidth(NumberError::PosOverflow, 3)) },
-    Refusal { text: "{x:*<5}", start: 1, told: Told::Parse(ParseError::Fill(3)) },
+    Refusal { text: "{x:{<5}", start: 1, told: Told::Parse(ParseError::Fill(3)) },
     Refusal { text: "{x:y}", start: 1, told: Told::Parse(ParseError::Expected("}", 3)) },
     Refusal { text: "{x:0-}", start: 1, told: Told::Parse(ParseError::Expected("}", 4)) },
     Refusal { text: "{x:>8p}", start: 1, told: Told::UnsupportedOption("p", "pointer", 5) },
     Refusal { text: "é{x", start: 3, told: Told::Parse(ParseError::FormatSpecUnclosed(3)) },
     Refusal { text: "é{ x:12", start: 3, told: Told::Parse(ParseError::FormatSpecUnclosed(3)) },
-    Refusal { text: "é{ü:é^}", start: 3, told: Told::Parse(ParseError::Fill(6)) },
+    Refusal { text: "é{ü:{^}", start: 3, told: Told::Parse(ParseError::Fill(6)) },
     Refusal { text: "é{ü:<é}", start: 3, told: Told::Parse(ParseError::Expected("}", 7)) },
     Refusal { text: "{a}{b:1-1}", start: 4, told: Told::Parse(ParseError::InvalidWidth(NumberError::InvalidDigit, 6)) },
     Refusal { text: "", start: 0, told: Told::Parse(ParseError::FormatSpecUnclosed(0)) },

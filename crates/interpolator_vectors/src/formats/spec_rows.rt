@@ -160,10 +160,7 @@ pub(crate) const BROKEN: [Table<'static>; 3] = [
         ],
         lists: &[],
         rows: &[
-            Row { format: "{x:}<", text: "", told: Told::Parse(ParseError::Fill(3)) },
-            Row { format: "{x:5<}", text: "", told: Told::Parse(ParseError::Fill(3)) },
-            Row { format: "{x:?<}", text: "", told: Told::Parse(ParseError::Fill(3)) },
-            Row { format: "{x:é<}", text: "", told: Told::Parse(ParseError::Fill(3)) },
+            Row { format: "{x:{<}", text: "", told: Told::Parse(ParseError::Fill(3)) },
             Row { format: "{x:é}", text: "", told: Told::Parse(ParseError::Expected("}", 3)) },
             Row { format: "{x:5-3}", text: "", told: Told::Parse(ParseError::InvalidWidth(NumberError::InvalidDigit, 3)) },
             Row { format: "{x:.}", text: "", told: Told::Parse(ParseError::InvalidPrecision(NumberError::Empty, 4)) },

@@ -13,11 +13,14 @@ pub(crate) struct PadRow<'a> {
 
 /// Padded texts. Worked by hand from the rules of padding in docs/DEFINITIONS.md.
 #[rattlefmt::skip]
-pub(crate) const PADDED: [PadRow<'static>; 5] = [
+pub(crate) const PADDED: [PadRow<'static>; 8] = [
     PadRow { text: "é", spec: Spec { width: Some(3), alignment: Alignment::Center, ..PLAIN }, padded: " é " },
     PadRow { text: "é", spec: Spec { width: Some(4), alignment: Alignment::Center, ..PLAIN }, padded: " é  " },
     PadRow { text: "12", spec: Spec { width: Some(5), alignment: Alignment::Right, ..PLAIN }, padded: "   12" },
     PadRow { text: "ab", spec: Spec { width: Some(4), ..PLAIN }, padded: "ab  " },
+    PadRow { text: "é", spec: Spec { fill: Some('*'), width: Some(4), alignment: Alignment::Center, ..PLAIN }, padded: "*é**" },
+    PadRow { text: "ab", spec: Spec { fill: Some('日'), width: Some(4), zero: true, ..PLAIN }, padded: "ab日日" },
+    PadRow { text: "", spec: Spec { fill: Some('🦀'), width: Some(2), alignment: Alignment::Right, ..PLAIN }, padded: "🦀🦀" },
     PadRow { text: "abc", spec: Spec { width: Some(2), alignment: Alignment::Right, ..PLAIN }, padded: "abc" },
 ];
 
@@ -45,10 +48,13 @@ pub(crate) const ENDLESS: [Row<'static>; 3] = [
 ];
 
 /// The end of a view's text, by the rules of rendering in docs/DEFINITIONS.md, and the most calls
-/// that write it: one for a part, where spaces are a part for each 64 or fewer.
+/// that write it: one for a part, where padding is a part for each 64 characters or fewer.
 #[rattlefmt::skip]
-pub(crate) const CALLS: [(Row<'static>, usize); 5] = [
+pub(crate) const CALLS: [(Row<'static>, usize); 8] = [
     (Row { view: View::Unsigned(7), t: Trait::Display, spec: Spec { width: Some(1001), ..PLAIN }, text: "   7" }, 17),
+    (Row { view: View::Unsigned(7), t: Trait::Display, spec: Spec { fill: Some('*'), alignment: Alignment::Right, width: Some(1001), ..PLAIN }, text: "***7" }, 17),
+    (Row { view: View::Unsigned(7), t: Trait::Display, spec: Spec { fill: Some('é'), alignment: Alignment::Left, width: Some(1001), ..PLAIN }, text: "éé" }, 17),
+    (Row { view: View::Text("a"), t: Trait::Display, spec: Spec { fill: Some('🦀'), alignment: Alignment::Right, width: Some(1001), ..PLAIN }, text: "🦀a" }, 17),
     (Row { view: View::Unsigned(7), t: Trait::Display, spec: PLAIN, text: "7" }, 1),
     (Row { view: View::Unsigned(42), t: Trait::LowerExp, spec: PLAIN, text: "4.2e1" }, 2),
     (Row { view: View::Text("as it is"), t: Trait::Debug, spec: PLAIN, text: "\"as it is\"" }, 3),

@@ -13,6 +13,7 @@ pub(crate) struct Row<'a> {
 
 /// Nothing set.
 pub(crate) const PLAIN: Spec = Spec {
+    fill: None,
     alignment: Alignment::Unset,
     sign: Sign::Unset,
     alternate: false,

@@ -15,6 +15,63 @@ pub(crate) enum Told<'a> {
     NoMemory,
 }
 
+/// The place of a fault of a format's text.
+fn place_of(fault: ParseError) -> usize {
+    match fault {
+        ParseError::FormatSpecUnclosed(place) => place,
+        ParseError::Expected(_, place) => place,
+        ParseError::InvalidWidth(_, place) => place,
+        ParseError::InvalidPrecision(_, place) => place,
+        ParseError::Fill(place) => place,
+        ParseError::Iter(place) => place,
+        ParseError::RangeBound(_, place) => place,
+    }
+}
+
+/// The same fault at another place.
+fn put_at(fault: ParseError, place: usize) -> ParseError {
+    match fault {
+        ParseError::FormatSpecUnclosed(_) => ParseError::FormatSpecUnclosed(place),
+        ParseError::Expected(text, _) => ParseError::Expected(text, place),
+        ParseError::InvalidWidth(number, _) => ParseError::InvalidWidth(number, place),
+        ParseError::InvalidPrecision(number, _) => ParseError::InvalidPrecision(number, place),
+        ParseError::Fill(_) => ParseError::Fill(place),
+        ParseError::Iter(_) => ParseError::Iter(place),
+        ParseError::RangeBound(number, _) => ParseError::RangeBound(number, place),
+    }
+}
+
+impl<'a> Told<'a> {
+    /// The place that is told, or 0 where none is.
+    pub(crate) fn place(self) -> usize {
+        match self {
+            Told::Done => 0,
+            Told::MissingValue(_, place) => place,
+            Told::MissingTraitImpl(_, place) => place,
+            Told::Fmt(place) => place,
+            Told::Parse(fault) => place_of(fault),
+            Told::UnsupportedOption(_, _, place) => place,
+            Told::NoMemory => 0,
+        }
+    }
+
+    /// The same, so many bytes further on.
+    pub(crate) fn moved(self, bytes: usize) -> Told<'a> {
+        let place = self.place().saturating_add(bytes);
+        match self {
+            Told::Done => Told::Done,
+            Told::MissingValue(name, _) => Told::MissingValue(name, place),
+            Told::MissingTraitImpl(t, _) => Told::MissingTraitImpl(t, place),
+            Told::Fmt(_) => Told::Fmt(place),
+            Told::Parse(fault) => Told::Parse(put_at(fault, place)),
+            Told::UnsupportedOption(option, feature, _) => {
+                Told::UnsupportedOption(option, feature, place)
+            }
+            Told::NoMemory => Told::NoMemory,
+        }
+    }
+}
+
 /// What the answer says.
 pub(crate) fn told_by<T>(answer: &Result<T, Error>) -> Told<'_> {
     match answer {

@@ -30,7 +30,7 @@ pub(crate) const NAMES: [Asking<'static>; 23] = [
     Asking { format: "{x:", names: &["x"] },
     Asking { format: "{x:+", names: &["x"] },
     Asking { format: "{x:+#", names: &[] },
-    Asking { format: "{x:5<}", names: &[] },
+    Asking { format: "{x:{<}", names: &[] },
     Asking { format: "{a}{x:y}{z}", names: &["a"] },
     Asking { format: "{a}{", names: &["a"] },
     Asking { format: "{a:i({z)}", names: &["a"] },

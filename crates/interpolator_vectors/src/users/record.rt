@@ -3,7 +3,7 @@ ghost use Rattle.std.specs.Prelude.{Some, None, if◌then◌else◌, codes};
 ghost use Rattle.std.specs.Str.{bytes_eq, encode_utf8_all};
 ghost use Rattle.interpolator.specs.Slots.{empty_slots, with_debug_display};
 
-use interpolator::{Context, Error, Formattable, Interpolate, Template, View};
+use interpolator::{Context, Error, Formattable, Interpolate, Template, View, is_name};
 use std::alloc::Global;
 use std::test::Fail;
 
@@ -25,10 +25,12 @@ impl<'a> Context for Entry<'a> {
         else None };
 
     fn get(&self, key: &str) -> Option<Formattable<'_, View<'a>>> {
-        match key {
-            "level" => Some(Formattable::debug_display(&self.level)),
-            "line" => Some(Formattable::debug_display(&self.line)),
-            _ => None,
+        if is_name(key, "level") {
+            Some(Formattable::debug_display(&self.level))
+        } else if is_name(key, "line") {
+            Some(Formattable::debug_display(&self.line))
+        } else {
+            None
         }
     }
 }

@@ -1,20 +1,14 @@
 use Rattle.std.proofs.Common.{sym}
 use Rattle.interpolator_syntax.specs.At.{at}
-use Rattle.interpolator_syntax.proofs.ReaderLemmas.{argument_takes}
 use Rattle.interpolator.proofs.EndingLemmas.{closed_ends, closed_after, unclosed_ends}
 use Rattle.interpolator.proofs.EndingLemmas.{unclosed_after, broken_ends}
 use Rattle.interpolator.proofs.EndingLemmas.{broken_after}
 use Rattle.interpolator.proofs.parts.argument_ending.Goals as goal
 
-pub closed_ending-requires : goal.closed_ending-requires
-closed_ending-requires c =
-    let front = argument_takes (at c.args.here) _ _ (sym c.in-Ok.ensures.read) in
-    (front.front, front.split)
-
 pub returns-in-Some-clause-ending : goal.returns-in-Some-clause-ending
 returns-in-Some-clause-ending c =
-    closed_ends (at c.args.here) _ _ (sym c.in-Ok.ensures.read) (at c.in-Some.after) _
-    (sym (rw c.in-Some.is at c.in-Ok.ensures.rest)) c.closed_ending.ensures
+    closed_ends (at c.args.here) _ _ (sym c.in-Ok.ensures.read) (at c.in-Some.after)
+    (sym (rw c.in-Some.is at c.in-Ok.ensures.rest))
 
 pub returns-in-Some-clause-rest : goal.returns-in-Some-clause-rest
 returns-in-Some-clause-rest c =

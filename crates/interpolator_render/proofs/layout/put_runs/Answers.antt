@@ -4,8 +4,8 @@ use Rattle.interpolator_render.proofs.layout.put_runs.Goals as goal
 
 pub returns-in-Err : goal.returns-in-Err
 returns-in-Err g c = copies_stop _ _ _ c.args.count c.loop-left.left c.min-now.result c.args.c
-    c.in-Err.refusal.taken _ c.requires.ascii (omega arith)
-    c.loop-left.invariant.0 (omega arith) (search rules) c.loop-left.invariant.1 c.in-Err.ensures
+    c.copies_len.result c.in-Err.refusal.taken _ (omega arith) c.loop-left.invariant.0
+    c.copies_len.ensures (search rules) c.loop-left.invariant.1 c.in-Err.ensures
 
 pub loop-left-preserved : goal.loop-left-preserved
 loop-left-preserved g c = let l = c.loop-left in

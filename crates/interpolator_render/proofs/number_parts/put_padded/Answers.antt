@@ -18,4 +18,4 @@ returns g c =
     rw (← number_parts c.args.spec.now number.sign.now number.prefix.now number.head.now
     number.tail.now
     _ _ _ number.zeros _ (omega arith) c.number_layout-layout.ensures)
-    (rw (sign, prefix, head, tail) at c.put_parts.ensures)
+    (rw (c.fill_char-fill.ensures, sign, prefix, head, tail) at c.put_parts.ensures)

@@ -1,7 +1,7 @@
 use Rattle.std.proofs.Common.{◌∙◌, ◌-◌, ap, replicate, length, length-append, arith}
 use Rattle.interpolator_render.specs.Numbers.{front_text}
 use Rattle.interpolator_render.specs.DigitBuffers.{Buffered, grown, grown_after}
-use Rattle.interpolator_render.proofs.NumberLemmas.{zero_padded, space_padded, nothing_padded}
+use Rattle.interpolator_render.proofs.NumberLemmas.{zero_padded, fill_padded, nothing_padded}
 use Rattle.interpolator_render.proofs.number_row.put_around.Goals as goal
 
 pub returns-then-spec : goal.returns-then-spec
@@ -22,7 +22,7 @@ returns-then-missing-eq0 c =
 pub returns-else-missing-eq0 : goal.returns-else-missing-eq0
 returns-else-missing-eq0 c =
     let front = front_text c.args.form c.args.spec.now c.args.negative in
-    let before = c.spaces_before-before.result in
+    let before = c.fill_before-before.result in
     let missing = c.saturating_sub-missing.result in
     let size = length-append front c.args.buffer.now.text in
     let text = ap (λ (r : Buffered). length r.text) c.put_front-else-spec.ensures in
@@ -30,5 +30,5 @@ returns-else-missing-eq0 c =
     ∙ (ap (λ (r : Buffered). grown_after (replicate (missing - before) r.fill) r)
     (c.pad_before-else-spec.ensures
     ∙ ap (λ (r : Buffered). grown (replicate before r.fill) r) c.put_front-else-spec.ensures)))
-    ∙ space_padded c.args.spec.now front c.args.buffer.now.text missing before c.args.buffer.now.fill
-    c.if-spec.false c.requires.fill (omega arith) c.spaces_before-before.ensures.before
+    ∙ fill_padded c.args.spec.now front c.args.buffer.now.text missing before c.args.buffer.now.fill
+    c.if-spec.false c.requires.fill (omega arith) c.fill_before-before.ensures.before

@@ -4,7 +4,7 @@ use Rattle.interpolator_syntax.specs.Groups.{group_at}
 use Rattle.interpolator_syntax.specs.Lists.{list_at}
 use Rattle.interpolator_syntax.specs.Pieces.{pieces, argument_from}
 use Rattle.interpolator_syntax.specs.Ranges.{range_at}
-use Rattle.interpolator_syntax.specs.SpecTexts.{spec_parts, spec_after}
+use Rattle.interpolator_syntax.specs.SpecTexts.{spec_from_sign, spec_after}
 use Rattle.interpolator.specs.Meaning.AskedNames.{asked_names}
 use Rattle.interpolator.specs.Template.AllArguments.{arguments_of}
 use Rattle.interpolator.proofs.TemplateLemmas.AllArgumentLemmas.{arguments_name}
@@ -14,9 +14,9 @@ pub returns-clause-names : goal.returns-clause-names
 returns-clause-names c = arguments_name
 
 pub returns-clause-arguments : goal.returns-clause-arguments
-unfolding arguments_of pieces argument_from argument_at spec_after spec_parts list_at range_at group_at
+unfolding arguments_of pieces argument_from argument_at spec_after spec_from_sign list_at range_at group_at
 returns-clause-arguments c = refl
 
 pub returns-clause-asked : goal.returns-clause-asked
-unfolding asked_names pieces argument_from argument_at spec_after spec_parts list_at range_at group_at
+unfolding asked_names pieces argument_from argument_at spec_after spec_from_sign list_at range_at group_at
 returns-clause-asked c = refl

@@ -4,7 +4,7 @@ use Rattle.interpolator_syntax.specs.Groups.{group_at}
 use Rattle.interpolator_syntax.specs.Lists.{list_at}
 use Rattle.interpolator_syntax.specs.Pieces.{argument_from}
 use Rattle.interpolator_syntax.specs.Ranges.{range_at}
-use Rattle.interpolator_syntax.specs.SpecTexts.{spec_parts, spec_after}
+use Rattle.interpolator_syntax.specs.SpecTexts.{spec_from_sign, spec_after}
 use Rattle.interpolator_syntax.specs.Tokens.{first_token}
 use Rattle.interpolator.specs.Template.Nodes.{nodes}
 use Rattle.interpolator.proofs.TemplateLemmas.CheckLawLemmas.{text_has, none_has, first_faulty}
@@ -24,5 +24,5 @@ pub returns-clause-of_text : goal.returns-clause-of_text
 returns-clause-of_text c = faults_of_text
 
 pub returns-clause-value : goal.returns-clause-value
-unfolding nodes first_token argument_from argument_at spec_after spec_parts list_at range_at group_at
+unfolding nodes first_token argument_from argument_at spec_after spec_from_sign list_at range_at group_at
 returns-clause-value c = refl

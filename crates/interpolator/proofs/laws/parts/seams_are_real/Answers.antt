@@ -9,6 +9,4 @@ unfolding pieces argument_from argument_at spec_after
 returns c = record {
   braces_seam = refl;
   braces = λ e. let n : 1 ≡ 2 = ap length e in omega (arith, n);
-  fill_seam = refl;
-  fill = λ e. let n : 1 ≡ 2 = ap length e in omega (arith, n);
 }

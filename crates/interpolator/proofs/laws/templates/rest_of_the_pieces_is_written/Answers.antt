@@ -1,4 +1,4 @@
-use Rattle.std.proofs.Common.{ap, codes}
+use Rattle.std.proofs.Common.{codes}
 use Rattle.interpolator_syntax.specs.Arguments.{argument_at}
 use Rattle.interpolator_syntax.specs.Pieces.{argument_from}
 use Rattle.interpolator_syntax.specs.SpecTexts.{spec_after}

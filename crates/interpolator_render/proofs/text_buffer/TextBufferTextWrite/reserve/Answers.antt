@@ -1,4 +1,4 @@
-use Rattle.std.proofs.Common.{ap, string_bytes, string_len, length, ◌≡◌, ◌+◌, ◌<◌}
+use Rattle.std.proofs.Common.{string_bytes, string_len, length, ◌≡◌}
 use Rattle.std.proofs.lemmas.Str.{IsUtf8-string_bytes, encodes-chars}
 use Rattle.interpolator_render.proofs.text_buffer.TextBufferTextWrite.reserve.Goals as goal
 
