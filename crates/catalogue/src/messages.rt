@@ -1,6 +1,7 @@
 //! The messages of a file, checked, and the one that is asked for.
 
-use interpolator::{ContextMap, Error, Formattable, Interpolate, ParseError, Template};
+use interpolator::{ContextMap, Error, Formattable, Interpolate, Template};
+use places::{place_of, position_of};
 use std::alloc::Global;
 
 /// What the program answers.
@@ -41,7 +42,7 @@ impl Told<'_> {
 
     /// Tells the fault of a line's format.
     fn put_fault(&mut self, alloc: Global, line: &Line<'_>, error: &Error) -> Result<(), Error> {
-        let column = column_of(line, place_of(error));
+        let column = column_of(line, place_of(error).unwrap_or(0));
         let what = format!(in alloc; "{error}")?;
         self.put(alloc, line.number, column, what.as_str())
     }
@@ -59,40 +60,10 @@ fn line_of(number: usize, text: &str) -> Option<Line<'_>> {
     })
 }
 
-/// The byte of the format at which an error is.
-fn place_of(error: &Error) -> usize {
-    match error {
-        Error::MissingTraitImpl(_, place) => *place,
-        Error::Fmt(_, place) => *place,
-        Error::MissingValue(_, place) => *place,
-        Error::UnsupportedOption(_, _, place) => *place,
-        Error::Parse(fault) => place_of_fault(*fault),
-        Error::NoMemory => 0,
-    }
-}
-
-/// The byte of the format at which it cannot be read.
-fn place_of_fault(fault: ParseError) -> usize {
-    match fault {
-        ParseError::FormatSpecUnclosed(place) => place,
-        ParseError::Expected(_, place) => place,
-        ParseError::InvalidWidth(_, place) => place,
-        ParseError::InvalidPrecision(_, place) => place,
-        ParseError::Fill(place) => place,
-        ParseError::Iter(place) => place,
-        ParseError::RangeBound(_, place) => place,
-    }
-}
-
 /// The column, from 1 on, of a byte of a line's format.
 fn column_of(line: &Line<'_>, place: usize) -> usize {
-    let mut column = line.before.saturating_add(1);
-    for (byte, _) in line.format.char_indices() {
-        if byte < place {
-            column = column.saturating_add(1);
-        }
-    }
-    column
+    line.before
+        .saturating_add(position_of(line.format, place).column)
 }
 
 /// Whether a line has no message.

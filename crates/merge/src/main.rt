@@ -1,14 +1,57 @@
 //! `merge TEMPLATE TABLE`: a letter for each row of the table.
+//!
+//! A fault is told with the line and the column of the template at which it is, and the line of the
+//! table whose letter has it. Then no letter is written.
 #![tactic(auto)]
 
 use interpolator::{ContextMap, Error, Formattable, Interpolate, Template, TextBuffer};
-use std::alloc::Global;
+use places::{place_of, position_of};
+use std::alloc::{AllocError, Global};
 use std::process::ExitCode;
 use std::{env, fs, io};
 
+/// Why there are no letters.
+#[derive(Debug, Drop)]
+struct Fault {
+    error: Error,
+    /// The line of the table whose letter has the fault, from 1 on; none where it is in no letter.
+    row: Option<usize>,
+}
+
+impl From<Error> for Fault {
+    fn from(error: Error) -> Fault {
+        Fault { error, row: None }
+    }
+}
+
+impl From<AllocError> for Fault {
+    fn from(_refused: AllocError) -> Fault {
+        Fault {
+            error: Error::NoMemory,
+            row: None,
+        }
+    }
+}
+
+/// Writes the letter of a line, whose fields have these names.
+fn write_letter(
+    alloc: Global,
+    out: &mut TextBuffer,
+    template: &Template,
+    names: &[&str],
+    line: &str,
+) -> Result<(), Error> {
+    let fields = line.split(',').collect::<Vec<&str>>(alloc)?;
+    let mut context = ContextMap::new(alloc);
+    for (name, field) in names.iter().zip(&fields) {
+        context.put(name, Formattable::debug_display(field))?;
+    }
+    context.write_template_to(alloc, out, template)
+}
+
 /// A letter for each line after the first, which has the names of the fields. The template is read
 /// once.
-fn merged(alloc: Global, template: &str, table: &str) -> Result<String, Error> {
+fn merged(alloc: Global, template: &str, table: &str) -> Result<String, Fault> {
     let template = Template::parse(alloc, template)?;
     let mut out = TextBuffer::new(alloc);
     let mut lines = table.lines();
@@ -16,39 +59,74 @@ fn merged(alloc: Global, template: &str, table: &str) -> Result<String, Error> {
         return Ok(out.into_string());
     };
     let names = header.split(',').collect::<Vec<&str>>(alloc)?;
+    let mut row = 1usize;
     for line in lines {
-        let fields = line.split(',').collect::<Vec<&str>>(alloc)?;
-        let mut context = ContextMap::new(alloc);
-        for (name, field) in names.iter().zip(&fields) {
-            context.put(name, Formattable::debug_display(field))?;
+        row = row.saturating_add(1);
+        if let Err(error) = write_letter(alloc, &mut out, &template, &names, line) {
+            let row = Some(row);
+            return Err(Fault { error, row });
         }
-        context.write_template_to(alloc, &mut out, &template)?;
     }
     Ok(out.into_string())
 }
 
-fn texts(rt: &HostRuntime) -> io::Result<(String, String)> {
+/// The files and their texts.
+#[derive(Drop)]
+struct Asked {
+    words: Vec<String>,
+    template: String,
+    table: String,
+}
+
+/// Where a fault is, in the template and in the table, and what it is.
+fn told(alloc: Global, asked: &Asked, fault: &Fault) -> Result<String, AllocError> {
+    let [template, table] = asked.words.as_slice() else {
+        return Ok(String::new(alloc));
+    };
+    let error = &fault.error;
+    let mut told = match place_of(error) {
+        Some(place) => {
+            let at = position_of(asked.template.as_str(), place);
+            format!(in alloc; "{template}:{}:{}: {error}", at.line, at.column)?
+        }
+        None => format!(in alloc; "{error}")?,
+    };
+    if let Some(row) = fault.row {
+        let of_row = format!(in alloc; ", in the letter of {table}:{row}")?;
+        told.push_str(of_row.as_str())?;
+    }
+    Ok(told)
+}
+
+fn read_files(rt: &HostRuntime) -> io::Result<Asked> {
     let words = env::args(rt)?.skip(1).collect::<Vec<String>>(rt.alloc())?;
     let [template, table] = words.as_slice() else {
         return Err(io::Error::from(io::ErrorKind::InvalidInput));
     };
     let template = fs::read_to_string(rt, template.as_str())?;
     let table = fs::read_to_string(rt, table.as_str())?;
-    Ok((template, table))
+    Ok(Asked {
+        words,
+        template,
+        table,
+    })
 }
 
 fn main(rt: HostRuntime) -> ExitCode {
-    let Ok((template, table)) = texts(&rt) else {
+    let Ok(asked) = read_files(&rt) else {
         return ExitCode::from(2);
     };
-    let told = match merged(rt.alloc(), template.as_str(), table.as_str()) {
+    let answer = match merged(rt.alloc(), asked.template.as_str(), asked.table.as_str()) {
         Ok(letters) => match rt.print(letters.as_str()) {
             Ok(()) => return ExitCode::SUCCESS,
             Err(_) => return ExitCode::from(3),
         },
-        Err(error) => eprintln!(&rt; "{error}"),
+        Err(fault) => match told(rt.alloc(), &asked, &fault) {
+            Ok(told) => eprintln!(&rt; "{told}"),
+            Err(_) => eprintln!(&rt; "{}", Error::NoMemory),
+        },
     };
-    match told {
+    match answer {
         Ok(()) => ExitCode::from(1),
         Err(_) => ExitCode::from(3),
     }
@@ -72,9 +150,40 @@ mod tests {
             assert_eq!(rt; merged(rt.alloc(), template, table)?.as_str(), "");
             assert_eq!(rt; merged(rt.alloc(), "{name", table)?.as_str(), "");
         }
-        match merged(rt.alloc(), "{name}: {price}", "name,price\nAnn\n") {
-            Err(Error::MissingValue(name, 9)) => assert_eq!(rt; name.as_str(), "price"),
-            _ => assert!(rt; false, "the row has no price"),
+        Ok(())
+    }
+
+    /// A template, a table, and what is told: by hand, from the rules of faults.
+    #[rattlefmt::skip]
+    const FAULTS: [(&str, &str, &str); 4] = [
+        ("{name}: {price}", "name,price\nAnn\n", "t:1:10: specified value not in context `price` at 9, in the letter of r:2"),
+        ("Dear\n  é {name:>8},\n{q}", "name\nAnn\nZoë\n", "t:3:2: specified value not in context `q` at 22, in the letter of r:2"),
+        ("{a} {b}", "a,b\n1,2\n3\n", "t:1:6: specified value not in context `b` at 5, in the letter of r:3"),
+        ("a\n{a:y", "a\n1\n", "t:2:4: error while parsing input: Expected `}` at 5, in the letter of r:2"),
+    ];
+
+    #[test]
+    fn places_of_faults(rt: HostRuntime) -> Result<(), Fail> {
+        let alloc = rt.alloc();
+        for (template, table, wanted) in &FAULTS {
+            let mut words = Vec::new(alloc);
+            words.push(String::from_str(alloc, "t")?)?;
+            words.push(String::from_str(alloc, "r")?)?;
+            let asked = Asked {
+                words,
+                template: String::from_str(alloc, template)?,
+                table: String::from_str(alloc, table)?,
+            };
+            match merged(alloc, template, table) {
+                Ok(_) => assert!(rt; false, "{template} has a fault"),
+                Err(fault) => {
+                    assert_eq!(rt;
+                        told(alloc, &asked, &fault)?.as_str(),
+                        *wanted,
+                        "{template}"
+                    );
+                }
+            }
         }
         Ok(())
     }

@@ -1,0 +1,2 @@
+-- Where faults stand.
+pub mod Places
