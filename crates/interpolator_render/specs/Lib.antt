@@ -4,6 +4,7 @@ pub mod Bounds
 pub mod Views
 pub mod Characters
 pub mod Layout
+pub mod Copies
 pub mod Digits
 pub mod DigitBuffers
 pub mod Exponent

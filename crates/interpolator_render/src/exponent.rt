@@ -94,6 +94,7 @@ fn put_in_row<W: TextWrite>(
 }
 
 /// Writes a number in exponent form part by part, which serves any width and precision.
+#[cold]
 #[inline(never)]
 fn put_in_parts<W: TextWrite>(
     out: &mut W,

@@ -23,6 +23,7 @@
 mod bounded;
 mod characters;
 mod conversions;
+mod copies;
 mod digit_buffer;
 mod digit_tables;
 mod digits;

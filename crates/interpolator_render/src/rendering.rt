@@ -1,5 +1,5 @@
 //! The text of a view, written.
-ghost use Rattle.std.specs.Prelude.{◌≡◌, ◌∷◌, [], ◌<◌};
+ghost use Rattle.std.specs.Prelude.{◌≡◌, ◌∷◌, [], ◌<◌, Some};
 ghost use Rattle.std.specs.Str.{chars};
 ghost use Rattle.interpolator_render.specs.Characters.{single_quote};
 ghost use Rattle.interpolator_render.specs.Padding.{displayed_text};
@@ -11,7 +11,8 @@ ghost use Rattle.interpolator_render.specs.Views.{IsInRange, shown_by};
 ghost use Rattle.interpolator_render.specs.Written.{Puts};
 
 use crate::characters::cut;
-use crate::layout::{fill_before, fill_char, put_between, put_text};
+use crate::copies::{put_between, put_between_spaces};
+use crate::layout::{fill_before, put_text};
 use crate::number::{put_natural, put_number};
 use crate::number_form::{NumberForm, number_form, sign_and_magnitude};
 use crate::quoting::put_quoted;
@@ -51,9 +52,25 @@ fn put_cut<W: TextWrite>(out: &mut W, text: &str, spec: &Spec) -> Result<(), Ref
     ensures { Puts (W.written out.old) (displayed_text spec.now (chars text.now)) result
         (W.written out.new) }
 {
+    if let Some(fill) = spec.fill {
+        return put_filled(out, text, spec, fill);
+    }
     let (shown, missing) = cut(text, spec.precision, spec.width);
     let before = fill_before(spec.alignment, missing, 0);
-    put_between(out, shown, fill_char(spec), before, missing - before)
+    put_between_spaces(out, shown, before, missing - before)
+}
+
+/// The same, filled with a character.
+#[tactic(auto, unfolding(crate::specs::Padding::padded_text))]
+#[inline(never)]
+fn put_filled<W: TextWrite>(out: &mut W, text: &str, spec: &Spec, fill: char) -> Result<(), Refusal>
+    requires { spec.now.fill ≡ Some fill }
+    ensures { Puts (W.written out.old) (displayed_text spec.now (chars text.now)) result
+        (W.written out.new) }
+{
+    let (shown, missing) = cut(text, spec.precision, spec.width);
+    let before = fill_before(spec.alignment, missing, 0);
+    put_between(out, shown, fill, before, missing - before)
 }
 
 fn truth_str(truth: bool) -> &'static str

@@ -1,0 +1,82 @@
+-- Runs of copies of a character, and what is written of them.
+use Rattle.std.proofs.Common.{◌≡◌, ℕ, zero, suc, ◌≤◌, ◌-◌, ◌+◌, ◌*◌, ◌^◌, min, ◌++◌}
+use Rattle.std.proofs.Common.{refl, sym, ◌∙◌, ap, arith, replicate, IsUtf8, chars, encode_utf8}
+use Rattle.std.proofs.Common.{encode_utf8_all, slice_range}
+use Rattle.std.specs.Str.{IsCharBoundary}
+use Rattle.std.specs.Char.{IsScalar, len_utf8}
+use Rattle.std.proofs.lemmas.Str.{IsCharBoundary-at_seam, encodes-append, chars_from_encodes}
+use Rattle.std.proofs.lemmas.Str.{IsUtf8-append, IsUtf8-encode, IsUtf8-nil, len_utf8_bounds}
+use Rattle.std.proofs.lemmas.List.{replicate-append-replicate, take_at}
+use Rattle.std.proofs.lemmas.Nat.{mul-le}
+use Rattle.interpolator_render.specs.Copies.{IsRun}
+use Rattle.interpolator_render.specs.Written.{Written, byte_count, Appends, RefusesLong}
+use Rattle.interpolator_render.specs.declared.copies.Run.{Run}
+use Rattle.interpolator_render.proofs.LayoutLemmas.{appends_both, bytes_of_copies}
+use Rattle.interpolator_render.proofs.LayoutLemmas.{refuses_in_first, refuses_in_second}
+
+-- copies of a character are UTF-8
+pub IsUtf8-copies : (n c : ℕ) → IsScalar c → IsUtf8 (encode_utf8_all (replicate n c))
+IsUtf8-copies zero c s = IsUtf8-nil
+IsUtf8-copies (suc n) c s =
+    IsUtf8-append (encode_utf8 c) (encode_utf8_all (replicate n c)) (IsUtf8-encode c s)
+    (IsUtf8-copies n c s)
+
+pub chars-copies : (n c : ℕ) → IsScalar c →
+    chars (encode_utf8_all (replicate n c)) ≡ replicate n c
+chars-copies n c s =
+    sym (chars_from_encodes (replicate n c) (encode_utf8_all (replicate n c))
+    (IsUtf8-copies n c s) refl)
+
+-- a run, cut after the first of its copies
+copies_cut : (run : Run) (count : ℕ) → count ≤ 64 → IsRun run →
+    run.copies.now
+    ≡ encode_utf8_all (replicate count run.c) ++ encode_utf8_all (replicate (64 - count) run.c)
+copies_cut run count few h =
+    let all : count + (64 - count) ≡ 64 = omega arith in
+    h.copies ∙ (ap encode_utf8_all (sym (replicate-append-replicate count (64 - count) run.c
+    ∙ ap (λ (n : ℕ). replicate n run.c) all))
+    ∙ encodes-append (replicate count run.c) (replicate (64 - count) run.c))
+
+-- the first copies of a run
+pub first_copies : (run : Run) (count : ℕ) → count ≤ 64 → IsRun run →
+    slice_range run.copies.now 0 (count * run.unit) ≡ encode_utf8_all (replicate count run.c)
+first_copies run count few h =
+    let size : count * len_utf8 run.c - 0 ≡ count * len_utf8 run.c = omega arith in
+    rw (h.unit, size, copies_cut run count few h) (take_at _ _ _ (bytes_of_copies count run.c))
+
+-- and it may be cut after them
+pub copies_boundary : (run : Run) (count : ℕ) → IsScalar run.c → count ≤ 64 → IsRun run →
+    IsCharBoundary run.copies.now (count * run.unit)
+copies_boundary run count s few h = rw (h.unit, ← bytes_of_copies count run.c)
+    (IsCharBoundary-at_seam run.copies.now _ _ (copies_cut run count few h)
+    (IsUtf8-copies _ run.c s))
+
+-- at most 64 copies have at most 256 bytes
+pub few_bytes : (count c : ℕ) → count ≤ 64 → count * len_utf8 c ≤ 256
+few_bytes count c few = mul-le count (len_utf8 c) 64 4 few (len_utf8_bounds c).1
+
+-- so many copies that are done, and so many that come
+pub copies_split : (count left k c : ℕ) → k ≤ left → left ≤ count → replicate (count - left) c
+    ++ replicate k c ≡ replicate (count - (left - k)) c
+copies_split count left k c h l = let e : count - left + k ≡ count - (left - k) = omega arith in
+    replicate-append-replicate (count - left) k c ∙ ap (λ (n : ℕ). replicate n c) e
+
+-- a piece of a run was written
+pub copies_more : (a b d : Written) (count left k c : ℕ) → k ≤ left → left ≤ count →
+    Appends a (replicate (count - left) c) b → Appends b (replicate k c) d →
+    Appends a (replicate (count - (left - k)) c) d
+copies_more a b d count left k c h l p q = rw (← copies_split count left k c h l)
+    (appends_both a b d _ _ p q)
+
+-- a piece of a run was refused
+pub copies_stop : (a b d : Written) (count left k c done taken all : ℕ) → k ≤ left → left ≤ count →
+    done ≡ min (byte_count (replicate (count - left) c)) (2 ^ 64 - 1) →
+    all ≡ min (done + taken) (2 ^ 64 - 1) →
+    Appends a (replicate (count - left) c) b → RefusesLong b (replicate k c) taken d →
+    RefusesLong a (replicate count c) all d
+copies_stop a b d count left k c done taken all m l n e p q =
+    let whole : replicate (count - (left - k)) c ++ replicate (left - k) c ≡ replicate count c =
+    replicate-append-replicate (count - (left - k)) (left - k) c
+    ∙ ap (λ (n : ℕ). replicate n c) (omega arith) in
+    rw (← whole, ← copies_split count left k c m l)
+    (refuses_in_first a d _ _ all (refuses_in_second a b d _ _ done taken all n e p q))

@@ -1,0 +1,256 @@
+//! Copies of a character, alone and on both sides of a text, written by slices.
+ghost use Rattle.std.specs.Prelude.{◌≡◌, ◌+◌, ◌-◌, ◌*◌, ◌++◌, ◌^◌, ◌<◌, ◌≤◌, min, replicate};
+ghost use Rattle.std.specs.Prelude.{encode_utf8};
+ghost use Rattle.std.specs.Char.{len_utf8};
+ghost use Rattle.std.specs.Str.{chars};
+ghost use Rattle.interpolator_render.specs.Characters.{space, zero_digit};
+ghost use Rattle.interpolator_render.specs.Copies.{IsRun};
+ghost use Rattle.interpolator_render.specs.Padding.{between_fill};
+ghost use Rattle.interpolator_render.specs.Written.{Puts, byte_count};
+
+use crate::layout::{byte_len, put_text};
+use crate::text_write::{Refusal, TextWrite};
+
+/// How many copies of a character are written by one call.
+const RUN: usize = 64;
+
+const SPACES: &str = "                                                                ";
+
+const ZEROS: &str = "0000000000000000000000000000000000000000000000000000000000000000";
+
+/// [`RUN`] copies of a character.
+#[derive(Clone, Copy)]
+struct Run<'a> {
+    c: char,
+    /// How many bytes the character has.
+    unit: usize,
+    copies: &'a str,
+}
+
+/// The bytes of `count` copies of a character, or the greatest `usize` where they are more.
+#[tactic(auto, using(crate::proofs::LayoutLemmas::bytes_of_copies))]
+#[inline(always)]
+pub(crate) fn copies_len(c: char, count: usize) -> usize
+    ensures { result ≡ min (byte_count (replicate count c)) (2 ^ 64 - 1) }
+{
+    count.saturating_mul(c.len_utf8())
+}
+
+/// Writes `count` copies, at most [`RUN`], by one call.
+#[inline(always)]
+fn put_few<W: TextWrite>(out: &mut W, run: Run<'_>, count: usize) -> Result<(), Refusal>
+    requires run { IsRun run }
+    requires few { count ≤ 64 }
+    ensures { Puts (W.written out.old) (replicate count run.entry.c) result (W.written out.new) }
+{
+    out.write_str(&run.copies[..count * run.unit])
+}
+
+/// The bytes of `count` copies of a run's character, or the greatest `usize` where they are more.
+#[tactic(auto, using(crate::proofs::LayoutLemmas::bytes_of_copies))]
+#[inline(always)]
+fn run_len(run: Run<'_>, count: usize) -> usize
+    requires { IsRun run }
+    ensures { result ≡ min (byte_count (replicate count run.entry.c)) (2 ^ 64 - 1) }
+{
+    count.saturating_mul(run.unit)
+}
+
+/// The refusal of what follows `count` copies.
+#[inline(always)]
+fn refused_after(run: Run<'_>, count: usize, refusal: Refusal) -> Refusal
+    requires { IsRun run }
+    ensures { result.taken ≡ min (min (byte_count (replicate count run.entry.c)) (2 ^ 64 - 1)
+        + refusal.taken) (2 ^ 64 - 1) }
+{
+    let taken = run_len(run, count).saturating_add(refusal.taken);
+    Refusal { taken }
+}
+
+/// Writes `count` copies, run after run. The writer may make room for all of them first.
+#[cold]
+#[inline(never)]
+fn put_runs<W: TextWrite>(out: &mut W, run: Run<'_>, count: usize) -> Result<(), Refusal>
+    requires run { IsRun run }
+    requires some { 0 < count }
+    ensures { Puts (W.written out.old) (replicate count run.entry.c) result (W.written out.new) }
+{
+    out.reserve(run_len(run, count))?;
+    let mut left = count;
+    while left > RUN {
+        if let Err(refusal) = put_few(out, run, RUN) {
+            return Err(refused_after(run, count - left, refusal));
+        }
+        left -= RUN;
+    }
+    if let Err(refusal) = put_few(out, run, left) {
+        return Err(refused_after(run, count - left, refusal));
+    }
+    Ok(())
+}
+
+/// Writes `count` copies by slices of a run, and by no call where there are none.
+#[inline(always)]
+fn put_sliced<W: TextWrite>(out: &mut W, run: Run<'_>, count: usize) -> Result<(), Refusal>
+    requires { IsRun run }
+    ensures { Puts (W.written out.old) (replicate count run.entry.c) result (W.written out.new) }
+{
+    if count == 0 {
+        return Ok(());
+    }
+    if count <= RUN {
+        return put_few(out, run, count);
+    }
+    put_runs(out, run, count)
+}
+
+/// Writes a text and `after` copies after it.
+#[inline(always)]
+fn put_before<W: TextWrite>(
+    out: &mut W,
+    text: &str,
+    run: Run<'_>,
+    after: usize,
+) -> Result<(), Refusal>
+    requires { IsRun run }
+    ensures { Puts (W.written out.old) (chars text.now ++ replicate after run.entry.c) result
+        (W.written out.new) }
+{
+    if let Err(refusal) = put_text(out, text) {
+        return Err(refusal);
+    }
+    if let Err(refusal) = put_sliced(out, run, after) {
+        let taken = byte_len(text).saturating_add(refusal.taken);
+        return Err(Refusal { taken });
+    }
+    Ok(())
+}
+
+/// Writes a text between copies.
+#[inline(always)]
+fn put_amid<W: TextWrite>(
+    out: &mut W,
+    text: &str,
+    run: Run<'_>,
+    before: usize,
+    after: usize,
+) -> Result<(), Refusal>
+    requires { IsRun run }
+    ensures { Puts (W.written out.old) (between_fill run.entry.c before after (chars text.now))
+        result (W.written out.new) }
+{
+    if let Err(refusal) = put_sliced(out, run, before) {
+        return Err(refusal);
+    }
+    if let Err(refusal) = put_before(out, text, run, after) {
+        return Err(refused_after(run, before, refusal));
+    }
+    Ok(())
+}
+
+/// Writes a text between copies of a character that has these bytes.
+#[inline(always)]
+fn put_amid_copies<W: TextWrite, const N: usize>(
+    out: &mut W,
+    text: &str,
+    c: char,
+    bytes: [u8; N],
+    before: usize,
+    after: usize,
+) -> Result<(), Refusal>
+    requires bytes { bytes ≡ encode_utf8 c }
+    requires unit { N ≡ len_utf8 c }
+    ensures { Puts (W.written out.old) (between_fill c before after (chars text.now)) result
+        (W.written out.new) }
+{
+    let copies = [bytes; RUN];
+    let run = Run {
+        c,
+        unit: N,
+        copies: unsafe { str::from_utf8_unchecked(copies.as_flattened()) },
+    };
+    put_amid(out, text, run, before, after)
+}
+
+/// Writes a text between copies of any character. The compiler knows how many bytes that has in each
+/// call.
+#[inline(always)]
+pub(crate) fn put_between<W: TextWrite>(
+    out: &mut W,
+    text: &str,
+    c: char,
+    before: usize,
+    after: usize,
+) -> Result<(), Refusal>
+    ensures { Puts (W.written out.old) (between_fill c before after (chars text.now)) result
+        (W.written out.new) }
+{
+    let mut bytes = [0u8; 4];
+    match c.encode_utf8(&mut bytes).as_bytes() {
+        [a] => put_amid_copies(out, text, c, [*a], before, after),
+        [a, b] => put_amid_copies(out, text, c, [*a, *b], before, after),
+        [a, b, d] => put_amid_copies(out, text, c, [*a, *b, *d], before, after),
+        [a, b, d, e] => put_amid_copies(out, text, c, [*a, *b, *d, *e], before, after),
+        _ => unreachable!(),
+    }
+}
+
+/// A run of spaces.
+#[inline(always)]
+fn spaces() -> Run<'static>
+    ensures run { IsRun result }
+    ensures space { result.c ≡ space }
+{
+    Run {
+        c: ' ',
+        unit: 1,
+        copies: SPACES,
+    }
+}
+
+/// A run of zeros.
+#[inline(always)]
+fn zeros() -> Run<'static>
+    ensures run { IsRun result }
+    ensures zero { result.c ≡ zero_digit }
+{
+    Run {
+        c: '0',
+        unit: 1,
+        copies: ZEROS,
+    }
+}
+
+/// Writes a text between spaces.
+#[inline(always)]
+pub(crate) fn put_between_spaces<W: TextWrite>(
+    out: &mut W,
+    text: &str,
+    before: usize,
+    after: usize,
+) -> Result<(), Refusal>
+    ensures { Puts (W.written out.old) (between_fill space before after (chars text.now)) result
+        (W.written out.new) }
+{
+    put_amid(out, text, spaces(), before, after)
+}
+
+/// Writes copies of a character that is neither a space nor a zero.
+#[inline(never)]
+fn put_other_copies<W: TextWrite>(out: &mut W, c: char, count: usize) -> Result<(), Refusal>
+    ensures { Puts (W.written out.old) (replicate count c) result (W.written out.new) }
+{
+    put_between(out, "", c, count, 0)
+}
+
+/// Writes copies of a character alone.
+#[inline(always)]
+pub(crate) fn put_copies<W: TextWrite>(out: &mut W, c: char, count: usize) -> Result<(), Refusal>
+    ensures { Puts (W.written out.old) (replicate count c) result (W.written out.new) }
+{
+    match c {
+        ' ' => put_sliced(out, spaces(), count),
+        '0' => put_sliced(out, zeros(), count),
+        _ => put_other_copies(out, c, count),
+    }
+}
