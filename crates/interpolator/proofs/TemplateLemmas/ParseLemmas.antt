@@ -6,26 +6,31 @@ use Rattle.std.specs.Prelude.{option_map}
 use Rattle.std.specs.Global.{Vec, Box}
 use Rattle.std.specs.Str.{chars, IsUtf8}
 use Rattle.interpolator_render.specs.declared.view.Trait.{Trait}
+use Rattle.interpolator_render.specs.declared.view.Trait.TheVariants as traits
 use Rattle.interpolator_syntax.specs.At.{At, at, size, strip, after, all_after, outermost}
 use Rattle.interpolator_syntax.specs.Arguments.{Argument, argument, argument_at, asked_at}
 use Rattle.interpolator_syntax.specs.Arguments.{named_argument, asked_of, kind_of_asked, taken_read}
-use Rattle.interpolator_syntax.specs.Arguments.{list_of}
+use Rattle.interpolator_syntax.specs.Arguments.{argument_after, plain_argument, list_of}
 use Rattle.interpolator_syntax.specs.Classes.{close_brace, in_class, front_of}
 use Rattle.interpolator_syntax.specs.Faults.{Fault}
 use Rattle.interpolator_syntax.specs.Groups.{Group, group_of}
 use Rattle.interpolator_syntax.specs.Pieces.{argument_from, argument_step, takes_all, broken}
 use Rattle.interpolator_syntax.specs.Readers.{on, give}
-use Rattle.interpolator_syntax.specs.SpecTexts.{Asked, of_value, of_list}
+use Rattle.interpolator_syntax.specs.SpecTexts.{Asked, of_value, of_list, plain_spec}
 use Rattle.interpolator_syntax.specs.Tokens.{Token, literals, doubled, lone_close}
+use Rattle.interpolator_syntax.specs.Tokens.{argument as argument_token}
 use Rattle.interpolator_syntax.specs.Tokens.{first_token, past_token}
+use Rattle.interpolator_syntax.specs.declared.argument.ArgumentName.{ArgumentName}
 use Rattle.interpolator_syntax.specs.declared.argument.TakenArgument.{TakenArgument}
 use Rattle.interpolator_syntax.specs.declared.class.Class.TheVariants.{WhiteSpace, Name}
+use Rattle.interpolator_syntax.specs.declared.cursor.Cursor.{Cursor}
 use Rattle.interpolator_syntax.specs.declared.range.Range.{Range}
 use Rattle.interpolator_syntax.proofs.CaseLemmas.{err_ok}
 use Rattle.interpolator_syntax.proofs.CharacterLemmas.{size-chars, chars_of_end}
 use Rattle.interpolator_syntax.proofs.LocalityLemmas.{Takes, stands, takes_then}
 use Rattle.interpolator_syntax.proofs.LocalityLemmas.{takes_shorter, takes_reaches}
 use Rattle.interpolator_syntax.proofs.LongestLemmas.{at_same}
+use Rattle.interpolator_syntax.proofs.PieceLemmas.{read_alone}
 use Rattle.interpolator_syntax.proofs.ReaderLemmas.{argument_takes}
 use Rattle.interpolator_syntax.proofs.SizeLemmas.{GroupIfIn, KindIn, ListIn, argument_in}
 use Rattle.interpolator.specs.Meaning.Meanings.{inside}
@@ -40,7 +45,7 @@ use Rattle.interpolator.specs.declared.template.piece.Form.TheVariants as forms
 use Rattle.interpolator.specs.declared.template.piece.Piece.{Piece}
 use Rattle.interpolator.specs.declared.template.piece.PieceKind as told
 use Rattle.interpolator.specs.declared.template.piece.PieceKind.TheVariants.{Literal, Doubled}
-use Rattle.interpolator.specs.declared.template.piece.PieceKind.TheVariants.{LoneClose}
+use Rattle.interpolator.specs.declared.template.piece.PieceKind.TheVariants.{LoneClose, Closed}
 use Rattle.interpolator.proofs.MeaningLemmas.ListLemmas.{list_size, groups_within}
 use Rattle.interpolator.proofs.TemplateLemmas.NodeLemmas.{nodes_first, nodes_none}
 use Rattle.interpolator.proofs.TemplateLemmas.PartLemmas.{part_lies, name_lies}
@@ -234,6 +239,41 @@ pub taken_is : (b : At) (t : TakenArgument) → taken_read (Ok t) ≡ argument_a
     → option_map at t.rest ≡ strip close_brace (at t.end) → argument_from b.place b ≡ taken_step b t
 unfolding argument_from
 taken_is b t e r = rw (← e, ← r) refl
+
+-- a name alone, as an argument that was read
+abbrev pub alone : ArgumentName → Cursor → TakenArgument
+alone n rest = record {
+  name = n;
+  asked = record {
+    slot = traits.Display;
+    spec = plain_spec;
+    list = record { range = None; item = None; join = None };
+  };
+  end = n.end;
+  rest = Some rest;
+}
+
+-- a name that a closing brace follows, after a brace at `place`
+module _ (place : ℕ) (b : At) (n : ArgumentName) (rest : Cursor)
+    (named : argument_at b ≡ argument_after b.place (plain_argument n) (at n.end))
+    (closed : Some (at rest) ≡ strip close_brace (at n.end)) where
+  alone_read : taken_read (Ok (alone n rest)) ≡ argument_at b
+  alone_read = sym (read_alone b n (at rest) named (sym closed))
+
+  pub name_rest : at rest ≡ (argument_from b.place b).rest
+  name_rest = rw (taken_is b (alone n rest) alone_read closed) refl
+
+  pub name_pushed :
+      (old new : List Piece) (piece : Piece) → new ≡ old ++ (piece ∷ []) → b.place ≡ place + 1
+      → n.end.place ≡ n.place + size (chars n.name.now)
+      → ((bs : List ℕ) → node_of bs piece
+      ≡ node place rest.place Closed (stored_held bs place n.place n.end.place n.end.place plain_spec
+      forms.Name) no_branch no_branch)
+      → Pushed old new (token_node nodes place argument_token b) b
+  name_pushed old new piece added start name_end stored =
+      rw (taken_is b (alone n rest) alone_read closed)
+      (value_pushed place b (alone n rest) start alone_read name_end old new piece rest.place Closed
+      refl refl added traits.Display refl stored)
 
 -- and where it is broken
 pub broken_is : (b : At) (f : Fault) → Err f ≡ argument_at b

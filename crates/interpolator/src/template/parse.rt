@@ -1,10 +1,10 @@
 //! Reads a format into its pieces.
-ghost use Rattle.std.specs.Prelude.{◌≡◌, ◌+◌, ℕ, List, [], ◌∷◌, ◌++◌, IfOk, Ok, option_map};
+ghost use Rattle.std.specs.Prelude.{◌≡◌, ◌+◌, ℕ, List, [], ◌∷◌, ◌++◌, IfOk, None, Ok, option_map};
 ghost use Rattle.std.specs.Str.{chars};
-ghost use Rattle.interpolator_render.specs.declared.view.Trait.TheVariants as traits;
-ghost use Rattle.interpolator_syntax.specs.At.{at, size, all_after};
+ghost use Rattle.interpolator_syntax.specs.At.{at, size, strip, all_after};
 ghost use Rattle.interpolator_syntax.specs.Arguments.{argument_at, taken_read, kind_of_asked};
-ghost use Rattle.interpolator_syntax.specs.Arguments.{list_of};
+ghost use Rattle.interpolator_syntax.specs.Arguments.{argument_after, plain_argument, list_of};
+ghost use Rattle.interpolator_syntax.specs.Classes.{close_brace};
 ghost use Rattle.interpolator_syntax.specs.Faults.{argument_fault_of};
 ghost use Rattle.interpolator_syntax.specs.Groups.{group_of};
 ghost use Rattle.interpolator_syntax.specs.Pieces.{argument_from, broken};
@@ -21,11 +21,13 @@ use crate::meaning::list::inside;
 use crate::template::piece::{Form, Piece, PieceKind};
 use interpolator_render::{Spec, Trait};
 use interpolator_syntax::{
-    ArgumentFault, Cursor, Group, Range, TakenArgument, Token, next_token, take_argument,
+    ArgumentFault, ArgumentName, Asked, Cursor, Group, Range, TakenArgument, Token, next_token,
+    take_asked, take_name,
 };
 use std::alloc::{AllocError, Global};
 
 /// A piece that is written as it stands, from its first byte up to `to`.
+#[inline(always)]
 fn text_piece(place: usize, end: usize, kind: PieceKind, to: usize) -> Piece
     ensures node { (bs : List ℕ) → node_of bs result
         ≡ node place end kind (option_map (λ cs. written place cs) (part bs place to))
@@ -45,7 +47,29 @@ fn text_piece(place: usize, end: usize, kind: PieceKind, to: usize) -> Piece
     }
 }
 
-/// An argument that was read.
+/// An argument that is a name alone, from its brace at `place` up to `end`.
+#[inline(always)]
+fn name_piece(place: usize, end: usize, named: ArgumentName<'_>) -> Piece
+    ensures node { (bs : List ℕ) → node_of bs result
+        ≡ node place end PieceKind.Closed (stored_held bs place named.entry.place
+        named.entry.end.place named.entry.end.place plain_spec forms.Name) no_branch no_branch }
+{
+    Piece {
+        place,
+        end,
+        kind: PieceKind::Closed,
+        item: None,
+        join: None,
+        from: named.place,
+        to: named.end.place,
+        spec_end: named.end.place,
+        spec: Spec::default(),
+        form: Form::Name,
+    }
+}
+
+/// An argument with a spec.
+#[inline(always)]
 fn argument_piece(
     place: usize,
     end: usize,
@@ -84,6 +108,7 @@ fn boxed(alloc: Global, range: Option<Range>) -> Result<Option<Box<Range>>, Allo
 }
 
 /// Adds a piece.
+#[inline(always)]
 fn push_piece(pieces: &mut Vec<Piece>, piece: Piece) -> Result<(), AllocError>
     ensures { IfOk result (λ _. pieces.new.items ≡ pieces.old.items ++ (piece ∷ [])) }
 {
@@ -104,6 +129,7 @@ pub(crate) fn skip_all(here: Cursor<'_>) -> Cursor<'_>
 }
 
 /// How an argument ends, and what stands after it.
+#[inline(always)]
 pub(crate) fn ending<'t>(taken: &TakenArgument<'t>) -> (PieceKind, Cursor<'t>)
     ensures kind { result.0 ≡ ending_kind (option_map at taken.now.rest) }
     ensures rest { at result.1 ≡ ending_rest (at taken.now.end) (option_map at taken.now.rest) }
@@ -114,12 +140,20 @@ pub(crate) fn ending<'t>(taken: &TakenArgument<'t>) -> (PieceKind, Cursor<'t>)
     }
 }
 
+/// For how many pieces there is room at the beginning, at most.
+const MOST_ROOM: usize = 8;
+
+/// For how many pieces of a text there is room at the beginning. Most have two bytes and more.
+fn room_for(text: Cursor<'_>) -> usize {
+    (text.rest.len() / 2 + 1).min(MOST_ROOM)
+}
+
 /// The pieces of a text.
 #[cycle(parse)]
 pub(crate) fn parse_pieces(alloc: Global, text: Cursor<'_>) -> Result<Vec<Piece>, AllocError>
     ensures stand { IfOk result (λ pieces. StandFor pieces.items (at text.entry)) }
 {
-    let mut pieces = Vec::new(alloc);
+    let mut pieces = Vec::with_capacity(alloc, room_for(text))?;
     let mut here = text;
     while let Some((token, rest)) = next_token(here) {
         here = match token {
@@ -147,6 +181,7 @@ pub(crate) fn parse_pieces(alloc: Global, text: Cursor<'_>) -> Result<Vec<Piece>
 /// Adds the argument that begins here, after its brace at `place`, or its fault. Returns what stands
 /// after it.
 #[cycle(parse)]
+#[inline(always)]
 fn push_argument<'t>(
     alloc: Global,
     pieces: &mut Vec<Piece>,
@@ -158,14 +193,54 @@ fn push_argument<'t>(
     ensures pushed { IfOk result (λ _. Pushed pieces.old.items pieces.new.items
         (token_node nodes place argument (at here.entry)) (at here.entry)) }
 {
-    match take_argument(here) {
-        Ok(taken) => push_taken(alloc, pieces, place, here, &taken),
-        Err(fault) => push_broken(alloc, pieces, place, here, fault),
+    let named = take_name(here);
+    match named.end.strip(b'}') {
+        Some(after) => {
+            let piece = name_piece(place, after.place, named);
+            push_piece(pieces, piece)?;
+            Ok(after)
+        }
+        None => push_asked(alloc, pieces, place, here, named),
     }
+}
+
+/// Adds the argument that begins here and has that name, with more after it, or its fault.
+#[cycle(parse)]
+#[inline(never)]
+fn push_asked<'t>(
+    alloc: Global,
+    pieces: &mut Vec<Piece>,
+    place: usize,
+    here: Cursor<'t>,
+    named: ArgumentName<'t>,
+) -> Result<Cursor<'t>, AllocError>
+    requires start { here.place ≡ place + 1 }
+    requires named { argument_at (at here)
+        ≡ argument_after here.place (plain_argument named) (at named.end) }
+    requires open { strip close_brace (at named.end) ≡ None }
+    requires name_end { named.end.place ≡ named.place + size (chars named.name.now) }
+    ensures rest { IfOk result (λ r. at r ≡ (argument_from here.entry.place (at here.entry)).rest) }
+    ensures pushed { IfOk result (λ _. Pushed pieces.old.items pieces.new.items
+        (token_node nodes place argument (at here.entry)) (at here.entry)) }
+{
+    let mut end = named.end;
+    let mut asked = Asked::plain();
+    match take_asked(&mut end, &mut asked, here.place) {
+        Ok(()) => {}
+        Err(fault) => return push_broken(alloc, pieces, place, here, fault),
+    }
+    let taken = TakenArgument {
+        name: named,
+        asked,
+        end,
+        rest: end.strip(b'}'),
+    };
+    push_taken(alloc, pieces, place, here, &taken)
 }
 
 /// Adds the argument that was read, whose text begins here.
 #[cycle(parse)]
+#[inline(always)]
 fn push_taken<'t>(
     alloc: Global,
     pieces: &mut Vec<Piece>,
@@ -187,22 +262,8 @@ fn push_taken<'t>(
     }
 }
 
-/// How a value is written: by its name alone where its spec ends where its name ends.
-fn value_form(taken: &TakenArgument<'_>, t: Trait) -> Form
-    requires plain { taken.now.end.place ≡ taken.now.name.end.place
-        → (t ≡ traits.Display) × (taken.now.asked.spec ≡ plain_spec) }
-    ensures held { (bs : List ℕ) (place from to end : ℕ) →
-        stored_held bs place from to end taken.now.asked.spec result
-        ≡ stored_held bs place from to end taken.now.asked.spec (forms.Value t) }
-{
-    if taken.end.place == taken.name.end.place {
-        Form::Name
-    } else {
-        Form::Value(t)
-    }
-}
-
 /// Adds an argument that asks for a value.
+#[inline(always)]
 fn push_value<'t>(
     pieces: &mut Vec<Piece>,
     place: usize,
@@ -220,7 +281,7 @@ fn push_value<'t>(
         (piece_node nodes place s.rest.place s.piece.kind) (at here.entry)) }
 {
     let (kind, rest) = ending(taken);
-    let form = value_form(taken, t);
+    let form = Form::Value(t);
     let piece = argument_piece(place, rest.place, kind, taken, form, None, None);
     push_piece(pieces, piece)?;
     Ok(rest)
@@ -228,6 +289,7 @@ fn push_value<'t>(
 
 /// Adds an argument that asks for a list, and the pieces of its groups.
 #[cycle(parse)]
+#[inline(never)]
 fn push_list<'t>(
     alloc: Global,
     pieces: &mut Vec<Piece>,
@@ -274,6 +336,7 @@ fn parse_group(alloc: Global, group: Option<Group<'_>>) -> Result<Option<Vec<Pie
 
 /// Adds the fault of an argument that cannot be read, whose text begins here.
 #[cold]
+#[inline(never)]
 fn push_broken<'t>(
     alloc: Global,
     pieces: &mut Vec<Piece>,

@@ -1,15 +1,18 @@
 use Rattle.std.proofs.Common.{◌≡◌, ◌∙◌, refl, sym, ap, arith, option_map}
-use Rattle.std.proofs.Common.{Some}
+use Rattle.std.proofs.Common.{Some, rules}
 use Rattle.std.specs.Str.{chars}
 use Rattle.interpolator_syntax.specs.At.{At, at}
 use Rattle.interpolator_syntax.specs.Arguments.{named_argument, asked_of}
 use Rattle.interpolator_syntax.specs.Tokens.{literals, doubled, lone_close, argument, first_token}
+use Rattle.interpolator_syntax.specs.declared.argument.TakenArgument.{TakenArgument}
 use Rattle.interpolator.proofs.MeaningLemmas.MeaningLemmas.{scan_shorter, token_shorter}
+use Rattle.interpolator.proofs.MeaningLemmas.RunLemmas.{asked_ok, asked_broken}
 use Rattle.interpolator.proofs.TemplateLemmas.WithinLemmas.{handed_on, after_front, within_same}
 use Rattle.interpolator.proofs.TemplateLemmas.ParseLemmas.{ending_is, list_pushed, list_within}
 use Rattle.interpolator.proofs.TemplateLemmas.ParseLemmas.{taken_is, broken_is, doubled_ends}
 use Rattle.interpolator.proofs.TemplateLemmas.ParseLemmas.{literals_pushed, doubled_pushed}
 use Rattle.interpolator.proofs.TemplateLemmas.ParseLemmas.{lone_pushed, left_within}
+use Rattle.interpolator.proofs.TemplateLemmas.ParseLemmas.{name_pushed, name_rest}
 use Rattle.interpolator.proofs.TemplateLemmas.ParseLemmas.{reads_on, all_read}
 use Rattle.interpolator.proofs.template.parse.+parse.Goals as goal
 
@@ -117,23 +120,56 @@ parse_pieces-returns t c =
           c.loop-token.invariant (sym c.in_default.ensures.token);
     }
 
-pub push_argument-returns-in-Ok-clause-rest : goal.push_argument-returns-in-Ok-clause-rest
-push_argument-returns-in-Ok-clause-rest t c =
-    rw (taken_is (at c.args.here) c.in-Ok.taken c.in-Ok.ensures.read c.in-Ok.ensures.rest)
-    c.push_taken.ensures.rest
+pub push_argument-returns-in_ok-push_piece-in-Some-clause-rest :
+    goal.push_argument-returns-in_ok-push_piece-in-Some-clause-rest
+push_argument-returns-in_ok-push_piece-in-Some-clause-rest t c =
+    name_rest c.args.place (at c.args.here) c.take_name-named.result c.in-Some.after
+    c.take_name-named.ensures.read c.in-Some.ensures
 
-pub push_argument-returns-in-Ok-clause-pushed : goal.push_argument-returns-in-Ok-clause-pushed
-push_argument-returns-in-Ok-clause-pushed t c =
-    rw (taken_is (at c.args.here) c.in-Ok.taken c.in-Ok.ensures.read c.in-Ok.ensures.rest)
-    c.push_taken.ensures.pushed
+pub push_argument-returns-in_ok-push_piece-in-Some-clause-pushed :
+    goal.push_argument-returns-in_ok-push_piece-in-Some-clause-pushed
+push_argument-returns-in_ok-push_piece-in-Some-clause-pushed t c =
+    name_pushed c.args.place (at c.args.here) c.take_name-named.result c.in-Some.after
+    c.take_name-named.ensures.read c.in-Some.ensures _ _ c.name_piece-piece.result
+    c.in_ok-push_piece-in-Some.ensures c.requires.start c.take_name-named.ensures.end_place
+    c.name_piece-piece.ensures.node
 
-pub push_argument-returns-in-Err-clause-rest : goal.push_argument-returns-in-Err-clause-rest
-push_argument-returns-in-Err-clause-rest t c =
-    rw (broken_is (at c.args.here) _ c.in-Err.ensures.read) c.push_broken.ensures.rest
+pub push_asked-returns-in-Err-clause-rest : goal.push_asked-returns-in-Err-clause-rest
+push_asked-returns-in-Err-clause-rest t c =
+    let read = asked_broken (at c.args.here) c.args.named c.requires.named _ c.in-Err.ensures in
+    rw (broken_is (at c.args.here) _ (sym read)) c.push_broken.ensures.rest
 
-pub push_argument-returns-in-Err-clause-pushed : goal.push_argument-returns-in-Err-clause-pushed
-push_argument-returns-in-Err-clause-pushed t c =
-    rw (broken_is (at c.args.here) _ c.in-Err.ensures.read) c.push_broken.ensures.pushed
+pub push_asked-returns-in-Err-clause-pushed : goal.push_asked-returns-in-Err-clause-pushed
+push_asked-returns-in-Err-clause-pushed t c =
+    let read = asked_broken (at c.args.here) c.args.named c.requires.named _ c.in-Err.ensures in
+    rw (broken_is (at c.args.here) _ (sym read)) c.push_broken.ensures.pushed
+
+pub push_asked-push_taken-requires : goal.push_asked-push_taken-requires
+push_asked-push_taken-requires t c =
+    let read = asked_ok (at c.args.here) c.args.named c.requires.named _ _ c.in-Ok.ensures in
+    (search rules, (c.requires.start, (sym read, c.requires.name_end)))
+
+pub push_asked-returns-clause-rest : goal.push_asked-returns-clause-rest
+push_asked-returns-clause-rest t c =
+    let read = asked_ok (at c.args.here) c.args.named c.requires.named _ _ c.in-Ok.ensures in
+    let taken : TakenArgument = record {
+      name = c.args.named;
+      asked = c.take_asked.new.asked;
+      end = c.take_asked.new.here;
+      rest = c.strip.result;
+    } in
+    rw (taken_is (at c.args.here) taken (sym read) c.strip.ensures) c.push_taken.ensures.rest
+
+pub push_asked-returns-clause-pushed : goal.push_asked-returns-clause-pushed
+push_asked-returns-clause-pushed t c =
+    let read = asked_ok (at c.args.here) c.args.named c.requires.named _ _ c.in-Ok.ensures in
+    let taken : TakenArgument = record {
+      name = c.args.named;
+      asked = c.take_asked.new.asked;
+      end = c.take_asked.new.here;
+      rest = c.strip.result;
+    } in
+    rw (taken_is (at c.args.here) taken (sym read) c.strip.ensures) c.push_taken.ensures.pushed
 
 pub push_list-parse_group-requires : goal.push_list-parse_group-requires
 push_list-parse_group-requires t c =

@@ -1,17 +1,8 @@
 use Rattle.std.proofs.Common.{◌∙◌, ap, sym, option_map}
 use Rattle.interpolator_syntax.specs.At.{At, at}
 use Rattle.interpolator_syntax.specs.Arguments.{named_argument, asked_of}
-use Rattle.interpolator.specs.Template.Nodes.{node, no_branch}
 use Rattle.interpolator.proofs.TemplateLemmas.ParseLemmas.{ending_is, value_pushed}
-use Rattle.interpolator.proofs.TemplateLemmas.PlainLemmas.{value_plain}
 use Rattle.interpolator.proofs.template.parse.push_value.Goals as goal
-
-pub value_form-form-requires : goal.value_form-form-requires
-value_form-form-requires c = record {
-  plain =
-      value_plain (at c.args.here) c.args.taken.now c.args.t c.requires.read c.requires.name_end
-      c.requires.asked;
-}
 
 pub returns-clause-rest : goal.returns-clause-rest
 returns-clause-rest c =
@@ -30,8 +21,4 @@ returns-clause-pushed c =
     value_pushed c.args.place here taken c.requires.start c.requires.read c.requires.name_end _ _
     c.argument_piece-piece.result _ _ (ap (λ (a : At). a.place) (c.ending-kind.ensures.rest ∙ rest))
     c.ending-kind.ensures.kind c.in_ok-push_piece.ensures c.args.t c.requires.asked
-    (λ bs.
-    c.argument_piece-piece.ensures.node bs
-    ∙ ap (λ held. node c.args.place (at c.ending-kind.result.1).place c.ending-kind.result.0 held no_branch no_branch)
-    (c.value_form-form.ensures.held bs c.args.place taken.name.place taken.name.end.place
-    taken.end.place))
+    c.argument_piece-piece.ensures.node
