@@ -2,8 +2,9 @@
 ghost use Rattle.std.specs.Prelude.{◌≡◌, ◌+◌, ℕ, List, [], ◌∷◌, ◌++◌, IfOk, None, Ok, option_map};
 ghost use Rattle.std.specs.Str.{chars};
 ghost use Rattle.interpolator_syntax.specs.At.{at, size, strip, all_after};
-ghost use Rattle.interpolator_syntax.specs.Arguments.{argument_at, taken_read, kind_of_asked};
-ghost use Rattle.interpolator_syntax.specs.Arguments.{argument_after, plain_argument, list_of};
+ghost use Rattle.interpolator_syntax.specs.Arguments.{argument_at, argument_after, plain_argument};
+ghost use Rattle.interpolator_syntax.specs.Arguments.{named_argument, asked_of, kind_of_asked};
+ghost use Rattle.interpolator_syntax.specs.Arguments.{list_of};
 ghost use Rattle.interpolator_syntax.specs.Classes.{close_brace};
 ghost use Rattle.interpolator_syntax.specs.Faults.{argument_fault_of};
 ghost use Rattle.interpolator_syntax.specs.Groups.{group_of};
@@ -13,16 +14,16 @@ ghost use Rattle.interpolator_syntax.specs.Tokens.{argument};
 ghost use Rattle.interpolator.specs.Template.Nodes.{nodes, node, no_branch, written, piece_node};
 ghost use Rattle.interpolator.specs.Template.Nodes.{token_node};
 ghost use Rattle.interpolator.specs.Template.Stored.{StandFor, Pushed, GroupStands, part, node_of};
-ghost use Rattle.interpolator.specs.Template.Stored.{stored_held, branch_of, range_of};
+ghost use Rattle.interpolator.specs.Template.Stored.{stored_held, range_of};
 ghost use Rattle.interpolator.specs.declared.template.piece.Form.TheVariants as forms;
-ghost use Rattle.interpolator.specs.Template.Reading.{taken_step, ending_kind, ending_rest};
+ghost use Rattle.interpolator.specs.Template.Reading.{ending_kind, ending_rest};
 
 use crate::meaning::list::inside;
 use crate::template::piece::{Form, Piece, PieceKind};
 use interpolator_render::{Spec, Trait};
 use interpolator_syntax::{
-    ArgumentFault, ArgumentName, Asked, Cursor, Group, Range, TakenArgument, Token, next_token,
-    take_asked, take_name,
+    ArgumentFault, ArgumentName, Asked, Cursor, Group, Range, Token, next_token, take_asked,
+    take_name,
 };
 use std::alloc::{AllocError, Global};
 
@@ -68,35 +69,6 @@ fn name_piece(place: usize, end: usize, named: ArgumentName<'_>) -> Piece
     }
 }
 
-/// An argument with a spec.
-#[inline(always)]
-fn argument_piece(
-    place: usize,
-    end: usize,
-    kind: PieceKind,
-    taken: &TakenArgument<'_>,
-    form: Form,
-    item: Option<Vec<Piece>>,
-    join: Option<Vec<Piece>>,
-) -> Piece
-    ensures node { (bs : List ℕ) → node_of bs result
-        ≡ node place end kind (stored_held bs place taken.now.name.place taken.now.name.end.place
-        taken.now.end.place taken.now.asked.spec form) (branch_of bs item) (branch_of bs join) }
-{
-    Piece {
-        place,
-        end,
-        kind,
-        item,
-        join,
-        from: taken.name.place,
-        to: taken.name.end.place,
-        spec_end: taken.end.place,
-        spec: taken.asked.spec,
-        form,
-    }
-}
-
 /// A range in a box of its own, since few lists have one.
 fn boxed(alloc: Global, range: Option<Range>) -> Result<Option<Box<Range>>, AllocError>
     ensures { IfOk result (λ b. range_of b ≡ range) }
@@ -128,24 +100,32 @@ pub(crate) fn skip_all(here: Cursor<'_>) -> Cursor<'_>
     }
 }
 
-/// How an argument ends, and what stands after it.
+/// How an argument ends whose spec ends here, and what stands after it.
 #[inline(always)]
-pub(crate) fn ending<'t>(taken: &TakenArgument<'t>) -> (PieceKind, Cursor<'t>)
-    ensures kind { result.0 ≡ ending_kind (option_map at taken.now.rest) }
-    ensures rest { at result.1 ≡ ending_rest (at taken.now.end) (option_map at taken.now.rest) }
+pub(crate) fn ending(end: Cursor<'_>) -> (PieceKind, Cursor<'_>)
+    ensures kind { result.0 ≡ ending_kind (strip close_brace (at end.entry)) }
+    ensures rest { at result.1 ≡ ending_rest (at end.entry) (strip close_brace (at end.entry)) }
 {
-    match taken.rest {
+    match end.strip(b'}') {
         Some(rest) => (PieceKind::Closed, rest),
-        None => (PieceKind::Unclosed, skip_all(taken.end)),
+        None => (PieceKind::Unclosed, skip_all(end)),
     }
 }
 
-/// For how many pieces there is room at the beginning, at most.
-const MOST_ROOM: usize = 8;
+/// For how many pieces of a format there is room at the beginning, at most.
+const MOST_ROOM: usize = 16;
 
-/// For how many pieces of a text there is room at the beginning. Most have two bytes and more.
+/// The same of a group, most of which have few pieces.
+const MOST_GROUP_ROOM: usize = 4;
+
+/// For how many pieces of a text there is room at the beginning: most have two bytes and more.
 fn room_for(text: Cursor<'_>) -> usize {
-    (text.rest.len() / 2 + 1).min(MOST_ROOM)
+    let most = if text.place == 0 {
+        MOST_ROOM
+    } else {
+        MOST_GROUP_ROOM
+    };
+    (text.rest.len() / 2 + 1).min(most)
 }
 
 /// The pieces of a text.
@@ -226,19 +206,12 @@ fn push_asked<'t>(
     let mut end = named.end;
     let mut asked = Asked::plain();
     match take_asked(&mut end, &mut asked, here.place) {
-        Ok(()) => {}
-        Err(fault) => return push_broken(alloc, pieces, place, here, fault),
+        Ok(()) => push_taken(alloc, pieces, place, here, named, &asked, end),
+        Err(fault) => push_broken(alloc, pieces, place, here, fault),
     }
-    let taken = TakenArgument {
-        name: named,
-        asked,
-        end,
-        rest: end.strip(b'}'),
-    };
-    push_taken(alloc, pieces, place, here, &taken)
 }
 
-/// Adds the argument that was read, whose text begins here.
+/// Adds the argument that begins here and has that name, of which this is asked, up to `end`.
 #[cycle(parse)]
 #[inline(always)]
 fn push_taken<'t>(
@@ -246,43 +219,55 @@ fn push_taken<'t>(
     pieces: &mut Vec<Piece>,
     place: usize,
     here: Cursor<'t>,
-    taken: &TakenArgument<'t>,
+    named: ArgumentName<'t>,
+    asked: &Asked<'t>,
+    end: Cursor<'t>,
 ) -> Result<Cursor<'t>, AllocError>
     requires start { here.place ≡ place + 1 }
-    requires read { taken_read (Ok taken.now) ≡ argument_at (at here) }
-    requires name_end { taken.now.name.end.place ≡ taken.now.name.place + size (chars taken.now.name.name.now) }
-    ensures rest { IfOk result (λ r. at r ≡ (taken_step (at here.entry) taken.now).rest) }
-    ensures pushed { let s = taken_step (at here.entry) taken.now in
-        IfOk result (λ _. Pushed pieces.old.items pieces.new.items
-        (piece_node nodes place s.rest.place s.piece.kind) (at here.entry)) }
+    requires read { argument_at (at here) ≡ Ok (named_argument named (asked_of asked.now), at end) }
+    requires name_end { named.end.place ≡ named.place + size (chars named.name.now) }
+    ensures rest { IfOk result (λ r. at r ≡ (argument_from here.entry.place (at here.entry)).rest) }
+    ensures pushed { IfOk result (λ _. Pushed pieces.old.items pieces.new.items
+        (token_node nodes place argument (at here.entry)) (at here.entry)) }
 {
-    match taken.asked.slot {
-        Trait::Iter => push_list(alloc, pieces, place, here, taken),
-        t => push_value(pieces, place, here, taken, t),
+    match asked.slot {
+        Trait::Iter => push_list(alloc, pieces, place, here, named, asked, end),
+        t => push_value(pieces, place, here, named, t, asked, end),
     }
 }
 
-/// Adds an argument that asks for a value.
+/// Adds an argument that asks for a value under a trait.
 #[inline(always)]
 fn push_value<'t>(
     pieces: &mut Vec<Piece>,
     place: usize,
     here: Cursor<'t>,
-    taken: &TakenArgument<'t>,
+    named: ArgumentName<'t>,
     t: Trait,
+    asked: &Asked<'t>,
+    end: Cursor<'t>,
 ) -> Result<Cursor<'t>, AllocError>
     requires start { here.place ≡ place + 1 }
-    requires read { taken_read (Ok taken.now) ≡ argument_at (at here) }
-    requires name_end { taken.now.name.end.place ≡ taken.now.name.place + size (chars taken.now.name.name.now) }
-    requires asked { kind_of_asked taken.now.asked ≡ of_value t }
-    ensures rest { IfOk result (λ r. at r ≡ (taken_step (at here.entry) taken.now).rest) }
-    ensures pushed { let s = taken_step (at here.entry) taken.now in
-        IfOk result (λ _. Pushed pieces.old.items pieces.new.items
-        (piece_node nodes place s.rest.place s.piece.kind) (at here.entry)) }
+    requires read { argument_at (at here) ≡ Ok (named_argument named (asked_of asked.now), at end) }
+    requires name_end { named.end.place ≡ named.place + size (chars named.name.now) }
+    requires asked { kind_of_asked asked.now ≡ of_value t }
+    ensures rest { IfOk result (λ r. at r ≡ (argument_from here.entry.place (at here.entry)).rest) }
+    ensures pushed { IfOk result (λ _. Pushed pieces.old.items pieces.new.items
+        (token_node nodes place argument (at here.entry)) (at here.entry)) }
 {
-    let (kind, rest) = ending(taken);
-    let form = Form::Value(t);
-    let piece = argument_piece(place, rest.place, kind, taken, form, None, None);
+    let (kind, rest) = ending(end);
+    let piece = Piece {
+        place,
+        end: rest.place,
+        kind,
+        item: None,
+        join: None,
+        from: named.place,
+        to: named.end.place,
+        spec_end: end.place,
+        spec: asked.spec,
+        form: Form::Value(t),
+    };
     push_piece(pieces, piece)?;
     Ok(rest)
 }
@@ -295,30 +280,34 @@ fn push_list<'t>(
     pieces: &mut Vec<Piece>,
     place: usize,
     here: Cursor<'t>,
-    taken: &TakenArgument<'t>,
+    named: ArgumentName<'t>,
+    asked: &Asked<'t>,
+    end: Cursor<'t>,
 ) -> Result<Cursor<'t>, AllocError>
     requires start { here.place ≡ place + 1 }
-    requires read { taken_read (Ok taken.now) ≡ argument_at (at here) }
-    requires name_end { taken.now.name.end.place ≡ taken.now.name.place + size (chars taken.now.name.name.now) }
-    requires asked { kind_of_asked taken.now.asked ≡ of_list (list_of taken.now.asked.list) }
-    ensures rest { IfOk result (λ r. at r ≡ (taken_step (at here.entry) taken.now).rest) }
-    ensures pushed { let s = taken_step (at here.entry) taken.now in
-        IfOk result (λ _. Pushed pieces.old.items pieces.new.items
-        (piece_node nodes place s.rest.place s.piece.kind) (at here.entry)) }
+    requires read { argument_at (at here) ≡ Ok (named_argument named (asked_of asked.now), at end) }
+    requires name_end { named.end.place ≡ named.place + size (chars named.name.now) }
+    requires asked { kind_of_asked asked.now ≡ of_list (list_of asked.now.list) }
+    ensures rest { IfOk result (λ r. at r ≡ (argument_from here.entry.place (at here.entry)).rest) }
+    ensures pushed { IfOk result (λ _. Pushed pieces.old.items pieces.new.items
+        (token_node nodes place argument (at here.entry)) (at here.entry)) }
 {
-    let item = parse_group(alloc, taken.asked.list.item)?;
-    let join = parse_group(alloc, taken.asked.list.join)?;
-    let range = boxed(alloc, taken.asked.list.range)?;
-    let (kind, rest) = ending(taken);
-    let piece = argument_piece(
+    let item = parse_group(alloc, asked.list.item)?;
+    let join = parse_group(alloc, asked.list.join)?;
+    let range = boxed(alloc, asked.list.range)?;
+    let (kind, rest) = ending(end);
+    let piece = Piece {
         place,
-        rest.place,
+        end: rest.place,
         kind,
-        taken,
-        Form::List(range),
         item,
         join,
-    );
+        from: named.place,
+        to: named.end.place,
+        spec_end: end.place,
+        spec: asked.spec,
+        form: Form::List(range),
+    };
     push_piece(pieces, piece)?;
     Ok(rest)
 }
