@@ -1,4 +1,4 @@
-use Rattle.std.proofs.Common.{◌≡◌, ◌∙◌, sym, arith, map, option_map, Some}
+use Rattle.std.proofs.Common.{◌≡◌, ◌∙◌, sym, arith, map, Some}
 use Rattle.std.proofs.lemmas.List.{append-nil}
 use Rattle.interpolator_syntax.specs.Arguments.{argument_of, named_argument, asked_of}
 use Rattle.interpolator_syntax.specs.At.{at, strip}

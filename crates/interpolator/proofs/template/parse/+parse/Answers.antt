@@ -1,7 +1,7 @@
-use Rattle.std.proofs.Common.{◌≡◌, ◌∙◌, refl, sym, ap, arith, option_map}
+use Rattle.std.proofs.Common.{◌≡◌, refl, sym, arith}
 use Rattle.std.proofs.Common.{Some, rules}
 use Rattle.std.specs.Str.{chars}
-use Rattle.interpolator_syntax.specs.At.{At, at}
+use Rattle.interpolator_syntax.specs.At.{at}
 use Rattle.interpolator_syntax.specs.Tokens.{literals, doubled, lone_close, argument, first_token}
 use Rattle.interpolator.proofs.MeaningLemmas.MeaningLemmas.{scan_shorter, token_shorter}
 use Rattle.interpolator.proofs.MeaningLemmas.RunLemmas.{asked_ok, asked_broken}
