@@ -113,7 +113,7 @@ pub(crate) fn ending(end: Cursor<'_>) -> (PieceKind, Cursor<'_>)
 }
 
 /// For how many pieces of a format there is room at the beginning, at most.
-const MOST_ROOM: usize = 16;
+const MOST_ROOM: usize = 32;
 
 /// The same of a group, most of which have few pieces.
 const MOST_GROUP_ROOM: usize = 4;
@@ -186,7 +186,7 @@ fn push_argument<'t>(
 
 /// Adds the argument that begins here and has that name, with more after it, or its fault.
 #[cycle(parse)]
-#[inline(never)]
+#[inline(always)]
 fn push_asked<'t>(
     alloc: Global,
     pieces: &mut Vec<Piece>,
