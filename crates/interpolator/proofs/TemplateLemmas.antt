@@ -15,7 +15,6 @@ pub mod NodeMeaningLemmas
 pub mod NodeNameLemmas
 pub mod ParseLemmas
 pub mod PartLemmas
-pub mod PlainLemmas
 pub mod RunLemmas
 pub mod SplitLemmas
 pub mod StoredLemmas

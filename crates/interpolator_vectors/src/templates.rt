@@ -8,6 +8,7 @@ use crate::counting::Counting;
 use crate::formats::own::{Everywhere, Nowhere};
 use crate::tables::told::{Told, told_by};
 use crate::tables::{Call, give_in_room};
+use interpolator::laws::templates::rest_of_the_pieces_is_written;
 use interpolator::{Formattable, Interpolate, Pairs, Piece, Template, TextBuffer};
 use rows::{Asking, LATE, NAMES, ROOM, Standing, TREES, Tree};
 use std::alloc::{AllocError, Global};
@@ -114,6 +115,23 @@ fn gives(
     let answer = Pairs(&[("h", list)]).write_template_to(alloc, &mut out, template);
     assert_eq!(rt; told_by(&answer), told, "at {}", template.text());
     assert_eq!(rt; out.as_str(), text, "at {}", template.text());
+}
+
+/// Worked by hand: of the three pieces `a`, `{x}` and `b` those after so many, with 1 under `x`.
+#[rattlefmt::skip]
+const TAILS: [(usize, &str); 5] = [(0, "a1b"), (1, "1b"), (2, "b"), (3, ""), (usize::MAX, "")];
+
+#[test]
+fn the_rest_of_the_pieces_is_written(rt: HostRuntime) -> Result<(), Fail> {
+    let template = Template::parse(rt.alloc(), "a{x}b")?;
+    let pairs = [("x", Formattable::display(&1u64))];
+    for (skipped, text) in TAILS {
+        let mut out = TextBuffer::new(rt.alloc());
+        let context = Pairs(&pairs);
+        rest_of_the_pieces_is_written(rt.alloc(), &mut out, &template, skipped, &context)?;
+        assert_eq!(rt; out.as_str(), text, "after {skipped}");
+    }
+    Ok(())
 }
 
 #[test]

@@ -6,26 +6,32 @@ use Rattle.std.specs.Prelude.{option_map}
 use Rattle.std.specs.Global.{Vec, Box}
 use Rattle.std.specs.Str.{chars, IsUtf8}
 use Rattle.interpolator_render.specs.declared.view.Trait.{Trait}
+use Rattle.interpolator_render.specs.declared.view.Trait.TheVariants as traits
 use Rattle.interpolator_syntax.specs.At.{At, at, size, strip, after, all_after, outermost}
 use Rattle.interpolator_syntax.specs.Arguments.{Argument, argument, argument_at, asked_at}
 use Rattle.interpolator_syntax.specs.Arguments.{named_argument, asked_of, kind_of_asked, taken_read}
-use Rattle.interpolator_syntax.specs.Arguments.{list_of}
+use Rattle.interpolator_syntax.specs.Arguments.{argument_after, plain_argument, list_of}
 use Rattle.interpolator_syntax.specs.Classes.{close_brace, in_class, front_of}
 use Rattle.interpolator_syntax.specs.Faults.{Fault}
 use Rattle.interpolator_syntax.specs.Groups.{Group, group_of}
 use Rattle.interpolator_syntax.specs.Pieces.{argument_from, argument_step, takes_all, broken}
 use Rattle.interpolator_syntax.specs.Readers.{on, give}
-use Rattle.interpolator_syntax.specs.SpecTexts.{Asked, of_value, of_list}
+use Rattle.interpolator_syntax.specs.SpecTexts.{Asked, of_value, of_list, plain_spec}
 use Rattle.interpolator_syntax.specs.Tokens.{Token, literals, doubled, lone_close}
+use Rattle.interpolator_syntax.specs.Tokens.{argument as argument_token}
 use Rattle.interpolator_syntax.specs.Tokens.{first_token, past_token}
+use Rattle.interpolator_syntax.specs.declared.argument.ArgumentName.{ArgumentName}
+use Rattle.interpolator_syntax.specs.declared.argument.Asked as code_asked
 use Rattle.interpolator_syntax.specs.declared.argument.TakenArgument.{TakenArgument}
 use Rattle.interpolator_syntax.specs.declared.class.Class.TheVariants.{WhiteSpace, Name}
+use Rattle.interpolator_syntax.specs.declared.cursor.Cursor.{Cursor}
 use Rattle.interpolator_syntax.specs.declared.range.Range.{Range}
 use Rattle.interpolator_syntax.proofs.CaseLemmas.{err_ok}
 use Rattle.interpolator_syntax.proofs.CharacterLemmas.{size-chars, chars_of_end}
 use Rattle.interpolator_syntax.proofs.LocalityLemmas.{Takes, stands, takes_then}
 use Rattle.interpolator_syntax.proofs.LocalityLemmas.{takes_shorter, takes_reaches}
 use Rattle.interpolator_syntax.proofs.LongestLemmas.{at_same}
+use Rattle.interpolator_syntax.proofs.PieceLemmas.{read_alone}
 use Rattle.interpolator_syntax.proofs.ReaderLemmas.{argument_takes}
 use Rattle.interpolator_syntax.proofs.SizeLemmas.{GroupIfIn, KindIn, ListIn, argument_in}
 use Rattle.interpolator.specs.Meaning.Meanings.{inside}
@@ -40,7 +46,7 @@ use Rattle.interpolator.specs.declared.template.piece.Form.TheVariants as forms
 use Rattle.interpolator.specs.declared.template.piece.Piece.{Piece}
 use Rattle.interpolator.specs.declared.template.piece.PieceKind as told
 use Rattle.interpolator.specs.declared.template.piece.PieceKind.TheVariants.{Literal, Doubled}
-use Rattle.interpolator.specs.declared.template.piece.PieceKind.TheVariants.{LoneClose}
+use Rattle.interpolator.specs.declared.template.piece.PieceKind.TheVariants.{LoneClose, Closed}
 use Rattle.interpolator.proofs.MeaningLemmas.ListLemmas.{list_size, groups_within}
 use Rattle.interpolator.proofs.TemplateLemmas.NodeLemmas.{nodes_first, nodes_none}
 use Rattle.interpolator.proofs.TemplateLemmas.PartLemmas.{part_lies, name_lies}
@@ -140,35 +146,33 @@ argument_stands :
 argument_stands place b x q None held item join h i j = rw (h, i, j) refl
 argument_stands place b x q (Some rest) held item join h i j = rw (h, i, j) refl
 
--- an argument that was read after a brace at `place`
-module _ (place : ℕ) (b : At) (t : TakenArgument) (start : b.place ≡ place + 1)
-    (read : taken_read (Ok t) ≡ argument_at b)
-    (name_end : t.name.end.place ≡ t.name.place + size (chars t.name.name.now)) where
+-- an argument that was read after a brace at `place`, up to `end`
+module _ (place : ℕ) (b : At) (n : ArgumentName) (x : code_asked.Asked) (end : Cursor)
+    (start : b.place ≡ place + 1)
+    (read : argument_at b ≡ Ok (named_argument n (asked_of x), at end))
+    (name_end : n.end.place ≡ n.place + size (chars n.name.now)) where
   abbrev taken : Argument
-  taken = named_argument t.name (asked_of t.asked)
+  taken = named_argument n (asked_of x)
 
   begins_after : b.place ≡ suc place
   begins_after = omega (arith, start)
 
   module _ (bs : List ℕ) (u : IsUtf8 bs) (w : Within (outermost (chars bs)) b) where
-    taken_name : name_part bs place t.name.place
-        t.name.end.place ≡ Some taken.name
+    taken_name : name_part bs place n.place n.end.place ≡ Some taken.name
     taken_name =
-        let n = name_stands b taken (at t.end) (sym read) in
-        name_lies bs place t.name.place taken.name t.name.end.place u
-        (within_then _ b _ w n.within) name_end (omega (arith, n.after, start))
+        let name = name_stands b taken (at end) read in
+        name_lies bs place n.place taken.name n.end.place u (within_then _ b _ w name.within)
+        name_end (omega (arith, name.after, start))
 
-    value_held : (slot : Trait) → kind_of_asked t.asked ≡ of_value slot
-        → stored_held bs place t.name.place t.name.end.place t.end.place t.asked.spec
-        (forms.Value slot)
-        ≡ Some (valued b.place taken.name taken.spec (bare_of taken.kind) t.end.place)
+    value_held : (slot : Trait) → kind_of_asked x ≡ of_value slot
+        → stored_held bs place n.place n.end.place end.place x.spec (forms.Value slot)
+        ≡ Some (valued b.place taken.name taken.spec (bare_of taken.kind) end.place)
     value_held slot k = rw (taken_name, k, begins_after) refl
 
-    list_held : (range : Option (Box Range)) → range_of range ≡ t.asked.list.range
-        → kind_of_asked t.asked ≡ of_list (list_of t.asked.list)
-        → stored_held bs place t.name.place t.name.end.place t.end.place t.asked.spec
-        (forms.List range)
-        ≡ Some (valued b.place taken.name taken.spec (bare_of taken.kind) t.end.place)
+    list_held : (range : Option (Box Range)) → range_of range ≡ x.list.range
+        → kind_of_asked x ≡ of_list (list_of x.list)
+        → stored_held bs place n.place n.end.place end.place x.spec (forms.List range)
+        ≡ Some (valued b.place taken.name taken.spec (bare_of taken.kind) end.place)
     list_held range r k = rw (taken_name, k, begins_after, r) refl
 
     group_is : (o : Option Group) (xs : Option (Vec Piece)) → GroupIfIn o b → GroupStands xs o
@@ -176,58 +180,114 @@ module _ (place : ℕ) (b : At) (t : TakenArgument) (start : b.place ≡ place +
     group_is None xs h g = rw g refl
     group_is (Some g) xs h k = k bs u (within_then _ b (inside g) w (group_stands b g h))
 
-    groups_in : kind_of_asked t.asked ≡ of_list (list_of t.asked.list)
-        → ListIn (list_of t.asked.list) b
-    groups_in k = subst (λ kind. KindIn kind b) k (argument_in b taken (at t.end) (sym read))
+    groups_in : kind_of_asked x ≡ of_list (list_of x.list) → ListIn (list_of x.list) b
+    groups_in k = subst (λ kind. KindIn kind b) k (argument_in b taken (at end) read)
 
-  abbrev Taken : Node
-  Taken = let s = taken_step b t in piece_node nodes place s.rest.place s.piece.kind
+  -- the argument from its brace on
+  step_is : argument_from b.place b
+      ≡ argument_step b.place b taken (at end) (strip close_brace (at end))
+  unfolding argument_from
+  step_is = rw read refl
 
-  module _ (old new : List Piece) (piece : Piece) (end : ℕ) (kind : told.PieceKind)
-      (ends : end ≡ (taken_step b t).rest.place) (is : kind ≡ ending_kind (option_map at t.rest))
+  pub rest_is : (rest : At) → rest ≡ ending_rest (at end) (strip close_brace (at end))
+      → rest ≡ (argument_from b.place b).rest
+  rest_is rest e =
+      rw step_is (e ∙ ending_is b.place b taken (at end) (strip close_brace (at end)) read)
+
+  module _ (old new : List Piece) (piece : Piece) (rest : At) (kind : told.PieceKind)
+      (ends : rest ≡ ending_rest (at end) (strip close_brace (at end)))
+      (is : kind ≡ ending_kind (strip close_brace (at end)))
       (added : new ≡ old ++ (piece ∷ [])) where
+    abbrev Taken : Node
+    Taken =
+        let s = argument_step b.place b taken (at end) (strip close_brace (at end)) in
+        piece_node nodes place s.rest.place s.piece.kind
+
+    by_parts : (held : Option Held) (item join : Branch)
+        → held ≡ Some (valued b.place taken.name taken.spec (bare_of taken.kind) end.place)
+        → item ≡ item_branch nodes taken.kind → join ≡ join_branch nodes taken.kind
+        → node place rest.place kind held item join ≡ Taken
+    by_parts held item join h i j =
+        rw (is, ends ∙ ending_is b.place b taken (at end) (strip close_brace (at end)) read)
+        (argument_stands place b taken (at end) (strip close_brace (at end)) held item join h i j)
+
     pub value_pushed :
-        (slot : Trait) → kind_of_asked t.asked ≡ of_value slot
+        (slot : Trait) → kind_of_asked x ≡ of_value slot
         → ((bs : List ℕ) → node_of bs piece
-        ≡ node place end kind (stored_held bs place t.name.place t.name.end.place t.end.place
-        t.asked.spec (forms.Value slot)) no_branch no_branch)
-        → Pushed old new Taken b
-    value_pushed slot k n = record {
-      piece = piece;
-      added = added;
-      stands = λ bs u w.
-          n bs
-          ∙ rw (ends, is) (argument_stands place b taken (at t.end) (option_map at t.rest) _ _ _
-          (value_held bs u w slot k) (rw k refl) (rw k refl));
-    }
+        ≡ node place rest.place kind (stored_held bs place n.place n.end.place end.place x.spec
+        (forms.Value slot)) no_branch no_branch)
+        → Pushed old new (token_node nodes place argument_token b) b
+    value_pushed slot k stored =
+        rw step_is (record {
+          piece = piece;
+          added = added;
+          stands = λ bs u w.
+              stored bs
+              ∙ by_parts _ _ _ (value_held bs u w slot k) (rw k refl) (rw k refl);
+        })
 
     pub list_pushed :
         (range : Option (Box Range)) (item join : Option (Vec Piece))
-        → kind_of_asked t.asked ≡ of_list (list_of t.asked.list)
-        → range_of range ≡ t.asked.list.range
-        → GroupStands item (option_map group_of t.asked.list.item)
-        → GroupStands join (option_map group_of t.asked.list.join)
+        → kind_of_asked x ≡ of_list (list_of x.list) → range_of range ≡ x.list.range
+        → GroupStands item (option_map group_of x.list.item)
+        → GroupStands join (option_map group_of x.list.join)
         → ((bs : List ℕ) → node_of bs piece
-        ≡ node place end kind (stored_held bs place t.name.place t.name.end.place t.end.place
-        t.asked.spec (forms.List range)) (branch_of bs item) (branch_of bs join))
-        → Pushed old new Taken b
-    list_pushed range item join k r i j n = record {
-      piece = piece;
-      added = added;
-      stands = λ bs u w.
-          let groups = groups_in bs u w k in
-          n bs
-          ∙ rw (ends, is) (argument_stands place b taken (at t.end) (option_map at t.rest) _ _ _
-          (list_held bs u w range r k) (rw k (group_is bs u w _ item groups.item i))
-          (rw k (group_is bs u w _ join groups.join j)));
-    }
+        ≡ node place rest.place kind (stored_held bs place n.place n.end.place end.place x.spec
+        (forms.List range)) (branch_of bs item) (branch_of bs join))
+        → Pushed old new (token_node nodes place argument_token b) b
+    list_pushed range item join k r i j stored =
+        rw step_is (record {
+          piece = piece;
+          added = added;
+          stands = λ bs u w.
+              let groups = groups_in bs u w k in
+              stored bs
+              ∙ by_parts _ _ _ (list_held bs u w range r k)
+              (rw k (group_is bs u w _ item groups.item i))
+              (rw k (group_is bs u w _ join groups.join j));
+        })
+
+-- a name alone is asked for plain display
+abbrev pub plainly : code_asked.Asked
+plainly = record {
+  slot = traits.Display;
+  spec = plain_spec;
+  list = record { range = None; item = None; join = None };
+}
+
+-- a name that a closing brace follows, after a brace at `place`
+module _ (place : ℕ) (b : At) (n : ArgumentName) (rest : At)
+    (named : argument_at b ≡ argument_after b.place (plain_argument n) (at n.end))
+    (closed : Some rest ≡ strip close_brace (at n.end)) where
+  alone_ends : rest ≡ ending_rest (at n.end) (strip close_brace (at n.end))
+  alone_ends = rw (← closed) refl
+
+  alone_closed : Closed ≡ ending_kind (strip close_brace (at n.end))
+  alone_closed = rw (← closed) refl
+
+  module _ (start : b.place ≡ place + 1)
+      (name_end : n.end.place ≡ n.place + size (chars n.name.now)) where
+    pub name_rest : rest ≡ (argument_from b.place b).rest
+    name_rest =
+        rest_is place b n plainly n.end start (read_alone b n rest named (sym closed)) name_end rest
+        alone_ends
+
+    pub name_pushed :
+        (old new : List Piece) (piece : Piece) → new ≡ old ++ (piece ∷ [])
+        → ((bs : List ℕ) → node_of bs piece
+        ≡ node place rest.place Closed (stored_held bs place n.place n.end.place n.end.place
+        plain_spec forms.Name) no_branch no_branch)
+        → Pushed old new (token_node nodes place argument_token b) b
+    name_pushed old new piece added stored =
+        value_pushed place b n plainly n.end start (read_alone b n rest named (sym closed)) name_end
+        old new piece rest Closed alone_ends alone_closed added traits.Display refl stored
 
 -- its groups are no longer than its text
-pub list_within : (b : At) (t : TakenArgument) → taken_read (Ok t) ≡ argument_at b
-    → kind_of_asked t.asked ≡ of_list (list_of t.asked.list)
-    → list_size (list_of t.asked.list) ≤ length b.text
-list_within b t read k =
-    rw k at (groups_within b (named_argument t.name (asked_of t.asked)) (at t.end) (sym read))
+pub list_within : (b : At) (n : ArgumentName) (x : code_asked.Asked) (end : At)
+    → argument_at b ≡ Ok (named_argument n (asked_of x), end)
+    → kind_of_asked x ≡ of_list (list_of x.list) → list_size (list_of x.list) ≤ length b.text
+list_within b n x end read k =
+    rw k at (groups_within b (named_argument n (asked_of x)) end read)
 
 -- the argument from its brace on, where it was read
 pub taken_is : (b : At) (t : TakenArgument) → taken_read (Ok t) ≡ argument_at b

@@ -2,8 +2,8 @@
 -- outcome of pieces from that of the first and of the rest.
 use Rattle.std.proofs.Common.{◌≡◌, ◌∙◌, refl, sym, add-one, arith, ℕ, suc, ◌+◌, ◌-◌, ◌<◌, ◌≤◌}
 use Rattle.std.proofs.Common.{Bool, true, false, not, ◌&&◌, nat_lt, List, ◌∷◌, length, take}
-use Rattle.std.proofs.Common.{drop, map, get_or, Option, None, Some, IsSome, option_map}
-use Rattle.std.proofs.lemmas.List.{drop_more, drop_all}
+use Rattle.std.proofs.Common.{ap, drop, map, get_or, Option, None, Some, IsSome, option_map}
+use Rattle.std.proofs.lemmas.List.{drop-map, drop_more, drop_all}
 use Rattle.std.specs.Global.{Box}
 use Rattle.std.specs.Prelude.{if◌then◌else◌}
 use Rattle.std.specs.Str.{chars, IsUtf8, IsCharBoundary}
@@ -25,8 +25,9 @@ use Rattle.interpolator.specs.Meaning.Sinks.{SinkState, sink_state, Evaluates, W
 use Rattle.interpolator.specs.Template.Nodes.{Held, written, valued, refused, Bare}
 use Rattle.interpolator.specs.Template.Nodes.{bare_value, bare_list, as_forest, nodes}
 use Rattle.interpolator.specs.Template.NodeMeanings.{and_closed, bare_means, held_means}
+use Rattle.interpolator.specs.Template.NodeMeanings.{forest_means}
 use Rattle.interpolator.specs.Template.Stored.{may_cut, part, range_of, held_of}
-use Rattle.interpolator.specs.Template.Stored.{nodes_of, StandFor}
+use Rattle.interpolator.specs.Template.Stored.{node_of, nodes_of, StandFor}
 use Rattle.interpolator.specs.Template.Stored.{forest_whole}
 use Rattle.interpolator.specs.Template.StoredMeanings.{stored_part, stored_name, unclosed_fault}
 use Rattle.interpolator.specs.Template.StoredMeanings.{unclosed_fault_of, stored_pieces_mean}
@@ -43,6 +44,7 @@ use Rattle.interpolator.proofs.MeaningLemmas.SinkLemmas.{same_sink, same_then, a
 use Rattle.interpolator.proofs.TemplateLemmas.NodeMeaningLemmas.{nodes_mean}
 use Rattle.interpolator.proofs.TemplateLemmas.StoredLemmas.{node_of_out}
 use Rattle.interpolator.proofs.TemplateLemmas.WholeLemmas.{nodes_whole}
+use Rattle.interpolator.proofs.TemplateLemmas.WholePieceLemmas.{pieces_whole}
 use Rattle.interpolator.proofs.TemplateLemmas.WithinLemmas.{within_same}
 
 -- ---- where a text may be cut
@@ -303,6 +305,26 @@ module _ (bs : List ℕ) (xs : List Piece) (a : At) (same : nodes_of bs xs ≡ n
       let mean : stored_pieces_mean shows f bs xs ≡ means shows e a =
       rw (same, is) (nodes_mean shows e a) in
       rw mean at (at_out _ old new aside answer o)
+
+  module _ (skipped : ℕ) where
+    rest_is : nodes_of bs (drop skipped xs) ≡ drop skipped (nodes a)
+    rest_is = sym (drop-map (node_of bs) skipped xs) ∙ ap (λ ns. drop skipped ns) same
+
+    -- those after the first ones fit it
+    pub rest_whole : forest_whole (as_forest (nodes_of bs (drop skipped xs))) ≡ true
+    rest_whole = pieces_whole bs xs skipped text_whole
+
+    -- and what is written for them is what their nodes mean
+    pub rest_outcome :
+        {X : Type 0} (shows : X → Trait → Spec → Shown) (e f : Environment X) (old new : Written)
+        (aside : Option Written) (answer : Option Answer) → f ≡ e
+        → Evaluates (stored_pieces_mean shows f bs (drop skipped xs)) (sink_state old None)
+        (sink_state new aside) answer
+        → Outcome (forest_means shows e (as_forest (drop skipped (nodes a)))) old new answer
+    rest_outcome shows e f old new aside answer is o =
+        let mean : stored_pieces_mean shows f bs (drop skipped xs)
+        ≡ forest_means shows e (as_forest (drop skipped (nodes a))) = rw (rest_is, is) refl in
+        rw mean at (at_out _ old new aside answer o)
 
 -- the pieces that stand for a whole format are its own
 pub format_stands :

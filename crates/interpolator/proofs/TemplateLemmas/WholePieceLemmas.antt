@@ -46,21 +46,23 @@ rest_fits [] ys h = h
 rest_fits (x ∷ xs) ys h =
     rest_fits xs ys (both (node_whole x) (forest_whole (as_forest (xs ++ ys))) h).1
 
+-- stored pieces after the first ones
+pub pieces_whole :
+    (bs : List ℕ) (xs : List Piece) (n : ℕ) → forest_whole (as_forest (nodes_of bs xs)) ≡ true
+    → forest_whole (as_forest (nodes_of bs (drop n xs))) ≡ true
+pieces_whole bs xs zero h = h
+pieces_whole bs [] (suc n) h = refl
+pieces_whole bs (x ∷ xs) (suc n) h =
+    pieces_whole bs xs n (both (node_whole (node_of bs x)) (forest_whole (as_forest (nodes_of bs xs))) h).1
+
 -- each of stored pieces
 pub piece_whole :
     (bs : List ℕ) (xs : List Piece) (i : ℕ) (x : Piece)
     → forest_whole (as_forest (nodes_of bs xs)) ≡ true → i < length xs → x ≡ get_or xs i x
     → node_whole (node_of bs x) ≡ true
 piece_whole bs xs i x h l is =
-    let left = rest_whole xs i h in
+    let left = pieces_whole bs xs i h in
     (both (node_whole (node_of bs x)) _ (rw (drop_more xs i x l, ← is) at left)).0
-  where
-    rest_whole : (ys : List Piece) (n : ℕ) → forest_whole (as_forest (nodes_of bs ys)) ≡ true
-        → forest_whole (as_forest (nodes_of bs (drop n ys))) ≡ true
-    rest_whole ys zero w = w
-    rest_whole [] (suc n) w = refl
-    rest_whole (y ∷ ys) (suc n) w =
-        rest_whole ys n (both (node_whole (node_of bs y)) (forest_whole (as_forest (nodes_of bs ys))) w).1
 
 -- none is greater than the greatest
 pub most_at :

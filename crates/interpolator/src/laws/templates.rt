@@ -4,11 +4,14 @@
 ghost use Rattle.std.specs.Prelude.{◌≡◌, ◌↔◌, ◌+◌, [], ◌∷◌, ◌++◌, drop, true};
 ghost use Rattle.std.specs.Prelude.{List, None, Some, Ok, IsTrue, codes};
 ghost use Rattle.interpolator_render.specs.declared.view.Trait.TheVariants as traits;
+ghost use Rattle.std.specs.Str.{chars};
 ghost use Rattle.interpolator_syntax.specs.At.{At, size, outermost};
+ghost use Rattle.interpolator_syntax.specs.Faults.{answered};
 ghost use Rattle.interpolator_syntax.specs.Groups.{Group};
 ghost use Rattle.interpolator_syntax.specs.SpecTexts.{plain_spec};
-ghost use Rattle.interpolator.specs.Meaning.Environments.{Environment};
+ghost use Rattle.interpolator.specs.Meaning.Environments.{Environment, environment};
 ghost use Rattle.interpolator.specs.Meaning.Meanings.{inside, joined, means};
+ghost use Rattle.interpolator.specs.Meaning.Outcomes.{Outcome};
 ghost use Rattle.interpolator.specs.Template.NodeMeanings.{forest_means};
 ghost use Rattle.interpolator.specs.Template.Nodes.{Node};
 ghost use Rattle.interpolator.specs.Template.Nodes.{node, branch, as_forest, valued, bare_value};
@@ -20,9 +23,15 @@ ghost use Rattle.interpolator.specs.Template.Splits.{NoTwoLiterals, Contiguous};
 ghost use Rattle.interpolator.specs.declared.template.piece.PieceKind.TheVariants.{Literal, Doubled};
 ghost use Rattle.interpolator.specs.declared.template.piece.PieceKind.TheVariants.{Closed};
 
-use crate::template::piece::PieceKind;
-use interpolator_render::Value;
-use std::alloc::AllocError;
+use crate::context::Context;
+use crate::meaning::scope::Scope;
+use crate::meaning::sink::Sink;
+use crate::meaning::tree::run_pieces;
+use crate::template::Template;
+use crate::template::piece::{Piece, PieceKind};
+use interpolator_render::{TextWrite, Value};
+use interpolator_syntax::Error;
+use std::alloc::{AllocError, Global};
 
 /// The tree of a text is its pieces, of which neighbouring literals are one node. Split into its
 /// characters again, it is the pieces: each at its place and of its kind, of an argument the name,
@@ -71,7 +80,7 @@ pub fn nodes_stand_one_after_the_other()
 /// them. All mean what the first ones mean, and then what the rest means, at its places.
 ///
 /// So the pieces of `a{x}b` from the second on mean what the text `{x}b` means at byte 1.
-pub fn rest_of_the_pieces_is_written<V: Value>()
+pub fn rest_of_the_pieces_follows<V: Value>()
     ensures fits { (xs ys : List Node) → forest_whole (as_forest (xs ++ ys)) ≡ true
         → forest_whole (as_forest ys) ≡ true }
     ensures means { (e : Environment V) (xs ys : List Node)
@@ -81,6 +90,55 @@ pub fn rest_of_the_pieces_is_written<V: Value>()
         → forest_means V.shows e (as_forest (drop 1 (nodes (outermost (codes "a{x}b")))))
         ≡ means V.shows e (record { place = 1; text = codes "{x}b" }) }
 {}
+
+/// The pieces after the first `skipped`; none where there are fewer.
+fn pieces_after(pieces: &[Piece], skipped: usize) -> &[Piece]
+    ensures { result.now ≡ drop skipped pieces.now }
+{
+    if skipped < pieces.len() {
+        &pieces[skipped..]
+    } else {
+        &[]
+    }
+}
+
+/// The pieces of a template after the first `skipped` are written in order, as they mean, up to the
+/// first fault; nothing is written where there are fewer. Places are those in the format.
+///
+/// # Errors
+///
+/// Those of [`Template::write`], of these pieces alone.
+///
+/// # Example
+///
+/// ```text
+/// let template = Template::parse(alloc, "a{x}b")?;
+/// rest_of_the_pieces_is_written(alloc, &mut out, &template, 1, &context)?;
+/// // with 1 under `x`: 1b
+/// ```
+pub fn rest_of_the_pieces_is_written<W: TextWrite, C: Context>(
+    alloc: Global,
+    out: &mut W,
+    template: &Template,
+    skipped: usize,
+    context: &C,
+) -> Result<(), Error>
+    ensures outcome { Outcome
+        (forest_means C.Object.shows (environment (C.finds context.now))
+        (as_forest (drop skipped (nodes (outermost (chars template.now))))))
+        (W.written out.old) (W.written out.new) (answered result) }
+{
+    let rest = pieces_after(template.pieces(), skipped);
+    let mut aside = None;
+    let mut sink = Sink {
+        out,
+        aside: &mut aside,
+    };
+    let scope = Scope::outermost(alloc, context);
+    let answer = run_pieces(&mut sink, &scope, template.text(), rest);
+    let Sink { out: _, aside: _ } = sink;
+    answer
+}
 
 /// Two kinds of pieces are equal exactly where they are the same variant.
 pub fn equal_piece_kinds(left: PieceKind, right: PieceKind) -> bool

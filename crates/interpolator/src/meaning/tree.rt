@@ -1,7 +1,7 @@
 //! Writes what pieces mean that were read before, up to the first fault: callers first.
 ghost use Rattle.std.specs.Prelude.{◌≡◌, ◌+◌, ◌^◌, ◌<◌, IsSome, None, Some, true, length, map, option_map};
 ghost use Rattle.std.specs.Str.{chars};
-ghost use Rattle.interpolator_syntax.specs.Faults.{answered, fault};
+ghost use Rattle.interpolator_syntax.specs.Faults.{answered, fault, argument_fault_of};
 ghost use Rattle.interpolator.specs.Meaning.Lists.{list_under_name, padded_list_means};
 ghost use Rattle.interpolator.specs.Meaning.Scopes.{environment_of};
 ghost use Rattle.interpolator.specs.Meaning.Sinks.{Writes};
@@ -13,6 +13,7 @@ ghost use Rattle.interpolator.specs.Template.StoredMeanings.{stored_part, stored
 ghost use Rattle.interpolator.specs.Template.StoredMeanings.{stored_pieces_mean, unclosed_fault};
 ghost use Rattle.interpolator.specs.Template.StoredMeanings.{stored_piece_means, stored_join_means};
 ghost use Rattle.interpolator.specs.Template.StoredMeanings.{stored_item_means, stored_items_mean};
+ghost use Rattle.interpolator.specs.declared.template.piece.Form.TheVariants as forms;
 ghost use Rattle.interpolator.specs.declared.template.piece.Piece.TheViews.{out-Piece};
 
 use crate::context::Context;
@@ -22,7 +23,7 @@ use crate::meaning::value::{chosen_list, write_value};
 use crate::slots::Formattable;
 use crate::template::piece::{Form, Piece, PieceKind};
 use interpolator_render::{Bounded, Spec, TextWrite, Trait};
-use interpolator_syntax::{Error, ParseError, Range, error_of};
+use interpolator_syntax::{ArgumentFault, Error, ParseError, Range, error_of};
 
 /// The bytes of the text that are written for a piece.
 #[inline(always)]
@@ -123,13 +124,39 @@ fn run_piece<'a, W: TextWrite, C: Context>(
             write_value(sink, scope, start, name, *t, &piece.spec, piece.spec_end)?;
             closed(piece)
         }
-        Form::List(range) => {
-            let (start, name) = name_of(text, piece);
-            run_list(sink, scope, text, piece, start, name, unboxed(range))?;
-            closed(piece)
-        }
-        Form::Broken(fault) => Err(error_of(**fault)),
+        Form::List(range) => run_list_piece(sink, scope, text, piece, range),
+        Form::Broken(fault) => refused(fault),
     }
+}
+
+/// The fault of a broken argument. It is a function of its own, and so is `run_list_piece`, since a
+/// function clears the room for its faults where it begins.
+#[inline(always)]
+fn refused(broken: &ArgumentFault) -> Result<(), Error>
+    ensures { answered result ≡ Some (fault (argument_fault_of broken.now)) }
+{
+    Err(error_of(*broken))
+}
+
+/// Writes what a piece means that asks for a list.
+#[cycle(tree)]
+#[inline(always)]
+fn run_list_piece<'a, W: TextWrite, C: Context>(
+    sink: &mut Sink<'_, W>,
+    scope: &Scope<'a, C, C::Object>,
+    text: &str,
+    piece: &Piece,
+    range: &Option<Box<Range>>,
+) -> Result<(), Error>
+    requires whole { node_whole (node_of text.now piece.now) ≡ true }
+    requires list { (out-Piece piece.now).form ≡ forms.List range.now }
+    ensures writes { Writes W.written
+        (stored_piece_means C.Object.shows (environment_of C.finds scope.now) text.now piece.now)
+        sink.old sink.new (answered result) }
+{
+    let (start, name) = name_of(text, piece);
+    run_list(sink, scope, text, piece, start, name, unboxed(range))?;
+    closed(piece)
 }
 
 /// Writes the list under the name of a piece whose argument starts at `start`.

@@ -1,7 +1,7 @@
 //! The value and the list under a name, for formats as texts and for those that were read once.
-ghost use Rattle.std.specs.Prelude.{◌≡◌, IfOk, MatchResult, false, map};
+ghost use Rattle.std.specs.Prelude.{◌≡◌, ◌⊎◌, IfOk, MatchResult, Some, false, map};
 ghost use Rattle.std.specs.Str.{chars};
-ghost use Rattle.interpolator_syntax.specs.Faults.{answered};
+ghost use Rattle.interpolator_syntax.specs.Faults.{answered, fault, missing_value, no_memory};
 ghost use Rattle.interpolator.specs.Meaning.Environments.{given};
 ghost use Rattle.interpolator.specs.Meaning.Lists.{IsChosen, IsNotChosen};
 ghost use Rattle.interpolator.specs.Meaning.Meanings.{under_name, value_means, forbids_list};
@@ -16,6 +16,20 @@ use crate::meaning::sink::Sink;
 use crate::slots::Formattable;
 use interpolator_render::{Spec, TextWrite, Trait};
 use interpolator_syntax::{Error, ParseError, Range};
+
+/// The fault of an absent name, for an argument that starts at `start`. It is a function of its own,
+/// since a function clears the room for its faults where it begins.
+#[inline(always)]
+fn refused<'a, C: Context>(
+    scope: &Scope<'a, C, C::Object>,
+    start: usize,
+    name: &str,
+) -> Result<(), Error>
+    ensures told { (answered result ≡ Some (fault (missing_value (chars name.now) start)))
+        ⊎ (answered result ≡ Some no_memory) }
+{
+    Err(scope.missing(name, start))
+}
 
 /// Writes the value under a name, for an argument that starts at `start` and whose spec ends at
 /// `end`.
@@ -36,7 +50,7 @@ pub(crate) fn write_value<'a, W: TextWrite, C: Context>(
         sink.old sink.new (answered result) }
 {
     let Some(value) = scope.value(name, t) else {
-        return Err(scope.missing(name, start));
+        return refused(scope, start, name);
     };
     sink.put_value(value, t, spec, end)?;
     Ok(())

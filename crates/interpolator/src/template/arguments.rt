@@ -52,7 +52,7 @@ fn push_argument<'t>(
             let argument = argument_of(&taken);
             arguments.push(argument)?;
             push_groups(alloc, arguments, argument.kind)?;
-            let (_, rest) = ending(&taken);
+            let (_, rest) = ending(taken.end);
             Ok(rest)
         }
         Err(_) => Ok(skip_all(here)),

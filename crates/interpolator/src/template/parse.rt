@@ -1,10 +1,11 @@
 //! Reads a format into its pieces.
-ghost use Rattle.std.specs.Prelude.{◌≡◌, ◌+◌, ℕ, List, [], ◌∷◌, ◌++◌, IfOk, Ok, option_map};
+ghost use Rattle.std.specs.Prelude.{◌≡◌, ◌+◌, ℕ, List, [], ◌∷◌, ◌++◌, IfOk, None, Ok, option_map};
 ghost use Rattle.std.specs.Str.{chars};
-ghost use Rattle.interpolator_render.specs.declared.view.Trait.TheVariants as traits;
-ghost use Rattle.interpolator_syntax.specs.At.{at, size, all_after};
-ghost use Rattle.interpolator_syntax.specs.Arguments.{argument_at, taken_read, kind_of_asked};
+ghost use Rattle.interpolator_syntax.specs.At.{at, size, strip, all_after};
+ghost use Rattle.interpolator_syntax.specs.Arguments.{argument_at, argument_after, plain_argument};
+ghost use Rattle.interpolator_syntax.specs.Arguments.{named_argument, asked_of, kind_of_asked};
 ghost use Rattle.interpolator_syntax.specs.Arguments.{list_of};
+ghost use Rattle.interpolator_syntax.specs.Classes.{close_brace};
 ghost use Rattle.interpolator_syntax.specs.Faults.{argument_fault_of};
 ghost use Rattle.interpolator_syntax.specs.Groups.{group_of};
 ghost use Rattle.interpolator_syntax.specs.Pieces.{argument_from, broken};
@@ -13,19 +14,21 @@ ghost use Rattle.interpolator_syntax.specs.Tokens.{argument};
 ghost use Rattle.interpolator.specs.Template.Nodes.{nodes, node, no_branch, written, piece_node};
 ghost use Rattle.interpolator.specs.Template.Nodes.{token_node};
 ghost use Rattle.interpolator.specs.Template.Stored.{StandFor, Pushed, GroupStands, part, node_of};
-ghost use Rattle.interpolator.specs.Template.Stored.{stored_held, branch_of, range_of};
+ghost use Rattle.interpolator.specs.Template.Stored.{stored_held, range_of};
 ghost use Rattle.interpolator.specs.declared.template.piece.Form.TheVariants as forms;
-ghost use Rattle.interpolator.specs.Template.Reading.{taken_step, ending_kind, ending_rest};
+ghost use Rattle.interpolator.specs.Template.Reading.{ending_kind, ending_rest};
 
 use crate::meaning::list::inside;
 use crate::template::piece::{Form, Piece, PieceKind};
 use interpolator_render::{Spec, Trait};
 use interpolator_syntax::{
-    ArgumentFault, Cursor, Group, Range, TakenArgument, Token, next_token, take_argument,
+    ArgumentFault, ArgumentName, Asked, Cursor, Group, Range, Token, next_token, take_asked,
+    take_name,
 };
 use std::alloc::{AllocError, Global};
 
 /// A piece that is written as it stands, from its first byte up to `to`.
+#[inline(always)]
 fn text_piece(place: usize, end: usize, kind: PieceKind, to: usize) -> Piece
     ensures node { (bs : List ℕ) → node_of bs result
         ≡ node place end kind (option_map (λ cs. written place cs) (part bs place to))
@@ -45,31 +48,24 @@ fn text_piece(place: usize, end: usize, kind: PieceKind, to: usize) -> Piece
     }
 }
 
-/// An argument that was read.
-fn argument_piece(
-    place: usize,
-    end: usize,
-    kind: PieceKind,
-    taken: &TakenArgument<'_>,
-    form: Form,
-    item: Option<Vec<Piece>>,
-    join: Option<Vec<Piece>>,
-) -> Piece
+/// An argument that is a name alone, from its brace at `place` up to `end`.
+#[inline(always)]
+fn name_piece(place: usize, end: usize, named: ArgumentName<'_>) -> Piece
     ensures node { (bs : List ℕ) → node_of bs result
-        ≡ node place end kind (stored_held bs place taken.now.name.place taken.now.name.end.place
-        taken.now.end.place taken.now.asked.spec form) (branch_of bs item) (branch_of bs join) }
+        ≡ node place end PieceKind.Closed (stored_held bs place named.entry.place
+        named.entry.end.place named.entry.end.place plain_spec forms.Name) no_branch no_branch }
 {
     Piece {
         place,
         end,
-        kind,
-        item,
-        join,
-        from: taken.name.place,
-        to: taken.name.end.place,
-        spec_end: taken.end.place,
-        spec: taken.asked.spec,
-        form,
+        kind: PieceKind::Closed,
+        item: None,
+        join: None,
+        from: named.place,
+        to: named.end.place,
+        spec_end: named.end.place,
+        spec: Spec::default(),
+        form: Form::Name,
     }
 }
 
@@ -84,6 +80,7 @@ fn boxed(alloc: Global, range: Option<Range>) -> Result<Option<Box<Range>>, Allo
 }
 
 /// Adds a piece.
+#[inline(always)]
 fn push_piece(pieces: &mut Vec<Piece>, piece: Piece) -> Result<(), AllocError>
     ensures { IfOk result (λ _. pieces.new.items ≡ pieces.old.items ++ (piece ∷ [])) }
 {
@@ -103,15 +100,32 @@ pub(crate) fn skip_all(here: Cursor<'_>) -> Cursor<'_>
     }
 }
 
-/// How an argument ends, and what stands after it.
-pub(crate) fn ending<'t>(taken: &TakenArgument<'t>) -> (PieceKind, Cursor<'t>)
-    ensures kind { result.0 ≡ ending_kind (option_map at taken.now.rest) }
-    ensures rest { at result.1 ≡ ending_rest (at taken.now.end) (option_map at taken.now.rest) }
+/// How an argument ends whose spec ends here, and what stands after it.
+#[inline(always)]
+pub(crate) fn ending(end: Cursor<'_>) -> (PieceKind, Cursor<'_>)
+    ensures kind { result.0 ≡ ending_kind (strip close_brace (at end.entry)) }
+    ensures rest { at result.1 ≡ ending_rest (at end.entry) (strip close_brace (at end.entry)) }
 {
-    match taken.rest {
+    match end.strip(b'}') {
         Some(rest) => (PieceKind::Closed, rest),
-        None => (PieceKind::Unclosed, skip_all(taken.end)),
+        None => (PieceKind::Unclosed, skip_all(end)),
     }
+}
+
+/// For how many pieces of a format there is room at the beginning, at most.
+const MOST_ROOM: usize = 32;
+
+/// The same of a group, most of which have few pieces.
+const MOST_GROUP_ROOM: usize = 4;
+
+/// For how many pieces of a text there is room at the beginning: most have two bytes and more.
+fn room_for(text: Cursor<'_>) -> usize {
+    let most = if text.place == 0 {
+        MOST_ROOM
+    } else {
+        MOST_GROUP_ROOM
+    };
+    (text.rest.len() / 2 + 1).min(most)
 }
 
 /// The pieces of a text.
@@ -119,7 +133,7 @@ pub(crate) fn ending<'t>(taken: &TakenArgument<'t>) -> (PieceKind, Cursor<'t>)
 pub(crate) fn parse_pieces(alloc: Global, text: Cursor<'_>) -> Result<Vec<Piece>, AllocError>
     ensures stand { IfOk result (λ pieces. StandFor pieces.items (at text.entry)) }
 {
-    let mut pieces = Vec::new(alloc);
+    let mut pieces = Vec::with_capacity(alloc, room_for(text))?;
     let mut here = text;
     while let Some((token, rest)) = next_token(here) {
         here = match token {
@@ -147,6 +161,7 @@ pub(crate) fn parse_pieces(alloc: Global, text: Cursor<'_>) -> Result<Vec<Piece>
 /// Adds the argument that begins here, after its brace at `place`, or its fault. Returns what stands
 /// after it.
 #[cycle(parse)]
+#[inline(always)]
 fn push_argument<'t>(
     alloc: Global,
     pieces: &mut Vec<Piece>,
@@ -158,105 +173,141 @@ fn push_argument<'t>(
     ensures pushed { IfOk result (λ _. Pushed pieces.old.items pieces.new.items
         (token_node nodes place argument (at here.entry)) (at here.entry)) }
 {
-    match take_argument(here) {
-        Ok(taken) => push_taken(alloc, pieces, place, here, &taken),
+    let named = take_name(here);
+    match named.end.strip(b'}') {
+        Some(after) => {
+            let piece = name_piece(place, after.place, named);
+            push_piece(pieces, piece)?;
+            Ok(after)
+        }
+        None => push_asked(alloc, pieces, place, here, named),
+    }
+}
+
+/// Adds the argument that begins here and has that name, with more after it, or its fault.
+#[cycle(parse)]
+#[inline(always)]
+fn push_asked<'t>(
+    alloc: Global,
+    pieces: &mut Vec<Piece>,
+    place: usize,
+    here: Cursor<'t>,
+    named: ArgumentName<'t>,
+) -> Result<Cursor<'t>, AllocError>
+    requires start { here.place ≡ place + 1 }
+    requires named { argument_at (at here)
+        ≡ argument_after here.place (plain_argument named) (at named.end) }
+    requires open { strip close_brace (at named.end) ≡ None }
+    requires name_end { named.end.place ≡ named.place + size (chars named.name.now) }
+    ensures rest { IfOk result (λ r. at r ≡ (argument_from here.entry.place (at here.entry)).rest) }
+    ensures pushed { IfOk result (λ _. Pushed pieces.old.items pieces.new.items
+        (token_node nodes place argument (at here.entry)) (at here.entry)) }
+{
+    let mut end = named.end;
+    let mut asked = Asked::plain();
+    match take_asked(&mut end, &mut asked, here.place) {
+        Ok(()) => push_taken(alloc, pieces, place, here, named, &asked, end),
         Err(fault) => push_broken(alloc, pieces, place, here, fault),
     }
 }
 
-/// Adds the argument that was read, whose text begins here.
+/// Adds the argument that begins here and has that name, of which this is asked, up to `end`.
 #[cycle(parse)]
+#[inline(always)]
 fn push_taken<'t>(
     alloc: Global,
     pieces: &mut Vec<Piece>,
     place: usize,
     here: Cursor<'t>,
-    taken: &TakenArgument<'t>,
+    named: ArgumentName<'t>,
+    asked: &Asked<'t>,
+    end: Cursor<'t>,
 ) -> Result<Cursor<'t>, AllocError>
     requires start { here.place ≡ place + 1 }
-    requires read { taken_read (Ok taken.now) ≡ argument_at (at here) }
-    requires name_end { taken.now.name.end.place ≡ taken.now.name.place + size (chars taken.now.name.name.now) }
-    ensures rest { IfOk result (λ r. at r ≡ (taken_step (at here.entry) taken.now).rest) }
-    ensures pushed { let s = taken_step (at here.entry) taken.now in
-        IfOk result (λ _. Pushed pieces.old.items pieces.new.items
-        (piece_node nodes place s.rest.place s.piece.kind) (at here.entry)) }
+    requires read { argument_at (at here) ≡ Ok (named_argument named (asked_of asked.now), at end) }
+    requires name_end { named.end.place ≡ named.place + size (chars named.name.now) }
+    ensures rest { IfOk result (λ r. at r ≡ (argument_from here.entry.place (at here.entry)).rest) }
+    ensures pushed { IfOk result (λ _. Pushed pieces.old.items pieces.new.items
+        (token_node nodes place argument (at here.entry)) (at here.entry)) }
 {
-    match taken.asked.slot {
-        Trait::Iter => push_list(alloc, pieces, place, here, taken),
-        t => push_value(pieces, place, here, taken, t),
+    match asked.slot {
+        Trait::Iter => push_list(alloc, pieces, place, here, named, asked, end),
+        t => push_value(pieces, place, here, named, t, asked, end),
     }
 }
 
-/// How a value is written: by its name alone where its spec ends where its name ends.
-fn value_form(taken: &TakenArgument<'_>, t: Trait) -> Form
-    requires plain { taken.now.end.place ≡ taken.now.name.end.place
-        → (t ≡ traits.Display) × (taken.now.asked.spec ≡ plain_spec) }
-    ensures held { (bs : List ℕ) (place from to end : ℕ) →
-        stored_held bs place from to end taken.now.asked.spec result
-        ≡ stored_held bs place from to end taken.now.asked.spec (forms.Value t) }
-{
-    if taken.end.place == taken.name.end.place {
-        Form::Name
-    } else {
-        Form::Value(t)
-    }
-}
-
-/// Adds an argument that asks for a value.
+/// Adds an argument that asks for a value under a trait.
+#[inline(always)]
 fn push_value<'t>(
     pieces: &mut Vec<Piece>,
     place: usize,
     here: Cursor<'t>,
-    taken: &TakenArgument<'t>,
+    named: ArgumentName<'t>,
     t: Trait,
+    asked: &Asked<'t>,
+    end: Cursor<'t>,
 ) -> Result<Cursor<'t>, AllocError>
     requires start { here.place ≡ place + 1 }
-    requires read { taken_read (Ok taken.now) ≡ argument_at (at here) }
-    requires name_end { taken.now.name.end.place ≡ taken.now.name.place + size (chars taken.now.name.name.now) }
-    requires asked { kind_of_asked taken.now.asked ≡ of_value t }
-    ensures rest { IfOk result (λ r. at r ≡ (taken_step (at here.entry) taken.now).rest) }
-    ensures pushed { let s = taken_step (at here.entry) taken.now in
-        IfOk result (λ _. Pushed pieces.old.items pieces.new.items
-        (piece_node nodes place s.rest.place s.piece.kind) (at here.entry)) }
+    requires read { argument_at (at here) ≡ Ok (named_argument named (asked_of asked.now), at end) }
+    requires name_end { named.end.place ≡ named.place + size (chars named.name.now) }
+    requires asked { kind_of_asked asked.now ≡ of_value t }
+    ensures rest { IfOk result (λ r. at r ≡ (argument_from here.entry.place (at here.entry)).rest) }
+    ensures pushed { IfOk result (λ _. Pushed pieces.old.items pieces.new.items
+        (token_node nodes place argument (at here.entry)) (at here.entry)) }
 {
-    let (kind, rest) = ending(taken);
-    let form = value_form(taken, t);
-    let piece = argument_piece(place, rest.place, kind, taken, form, None, None);
+    let (kind, rest) = ending(end);
+    let piece = Piece {
+        place,
+        end: rest.place,
+        kind,
+        item: None,
+        join: None,
+        from: named.place,
+        to: named.end.place,
+        spec_end: end.place,
+        spec: asked.spec,
+        form: Form::Value(t),
+    };
     push_piece(pieces, piece)?;
     Ok(rest)
 }
 
 /// Adds an argument that asks for a list, and the pieces of its groups.
 #[cycle(parse)]
+#[inline(never)]
 fn push_list<'t>(
     alloc: Global,
     pieces: &mut Vec<Piece>,
     place: usize,
     here: Cursor<'t>,
-    taken: &TakenArgument<'t>,
+    named: ArgumentName<'t>,
+    asked: &Asked<'t>,
+    end: Cursor<'t>,
 ) -> Result<Cursor<'t>, AllocError>
     requires start { here.place ≡ place + 1 }
-    requires read { taken_read (Ok taken.now) ≡ argument_at (at here) }
-    requires name_end { taken.now.name.end.place ≡ taken.now.name.place + size (chars taken.now.name.name.now) }
-    requires asked { kind_of_asked taken.now.asked ≡ of_list (list_of taken.now.asked.list) }
-    ensures rest { IfOk result (λ r. at r ≡ (taken_step (at here.entry) taken.now).rest) }
-    ensures pushed { let s = taken_step (at here.entry) taken.now in
-        IfOk result (λ _. Pushed pieces.old.items pieces.new.items
-        (piece_node nodes place s.rest.place s.piece.kind) (at here.entry)) }
+    requires read { argument_at (at here) ≡ Ok (named_argument named (asked_of asked.now), at end) }
+    requires name_end { named.end.place ≡ named.place + size (chars named.name.now) }
+    requires asked { kind_of_asked asked.now ≡ of_list (list_of asked.now.list) }
+    ensures rest { IfOk result (λ r. at r ≡ (argument_from here.entry.place (at here.entry)).rest) }
+    ensures pushed { IfOk result (λ _. Pushed pieces.old.items pieces.new.items
+        (token_node nodes place argument (at here.entry)) (at here.entry)) }
 {
-    let item = parse_group(alloc, taken.asked.list.item)?;
-    let join = parse_group(alloc, taken.asked.list.join)?;
-    let range = boxed(alloc, taken.asked.list.range)?;
-    let (kind, rest) = ending(taken);
-    let piece = argument_piece(
+    let item = parse_group(alloc, asked.list.item)?;
+    let join = parse_group(alloc, asked.list.join)?;
+    let range = boxed(alloc, asked.list.range)?;
+    let (kind, rest) = ending(end);
+    let piece = Piece {
         place,
-        rest.place,
+        end: rest.place,
         kind,
-        taken,
-        Form::List(range),
         item,
         join,
-    );
+        from: named.place,
+        to: named.end.place,
+        spec_end: end.place,
+        spec: asked.spec,
+        form: Form::List(range),
+    };
     push_piece(pieces, piece)?;
     Ok(rest)
 }
@@ -274,6 +325,7 @@ fn parse_group(alloc: Global, group: Option<Group<'_>>) -> Result<Option<Vec<Pie
 
 /// Adds the fault of an argument that cannot be read, whose text begins here.
 #[cold]
+#[inline(never)]
 fn push_broken<'t>(
     alloc: Global,
     pieces: &mut Vec<Piece>,

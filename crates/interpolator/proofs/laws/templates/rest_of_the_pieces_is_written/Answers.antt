@@ -1,20 +1,27 @@
-use Rattle.std.proofs.Common.{codes}
-use Rattle.interpolator_syntax.specs.Arguments.{argument_at}
-use Rattle.interpolator_syntax.specs.Pieces.{argument_from}
-use Rattle.interpolator_syntax.specs.SpecTexts.{spec_after}
-use Rattle.interpolator_syntax.specs.Tokens.{first_token}
-use Rattle.interpolator.specs.Template.Nodes.{nodes}
-use Rattle.interpolator.proofs.TemplateLemmas.NodeMeaningLemmas.{forest_joined, nodes_mean}
-use Rattle.interpolator.proofs.TemplateLemmas.WholePieceLemmas.{rest_fits}
+use Rattle.std.proofs.Common.{◌∙◌, ap, rules}
+use Rattle.std.specs.Str.{chars}
+use Rattle.interpolator_syntax.specs.At.{outermost}
+use Rattle.interpolator.specs.Meaning.Environments.{environment}
+use Rattle.interpolator.specs.Template.Stored.{nodes_of}
+use Rattle.interpolator.proofs.TemplateLemmas.RunLemmas.{rest_whole, rest_outcome}
 use Rattle.interpolator.proofs.laws.templates.rest_of_the_pieces_is_written.Goals as goal
 
-pub returns-clause-fits : goal.returns-clause-fits
-returns-clause-fits g c = rest_fits
+pub run_pieces-answer-requires : goal.run_pieces-answer-requires
+run_pieces-answer-requires g c =
+    let all =
+    ap (λ bs. nodes_of bs c.pieces.result.now) c.text.ensures.text ∙ c.pieces.ensures.pieces in
+    rw c.pieces_after-rest.ensures (record {
+      whole =
+          rest_whole c.text.result.now c.pieces.result.now (outermost (chars c.args.template.now))
+          all c.args.skipped;
+    })
 
-pub returns-clause-means : goal.returns-clause-means
-returns-clause-means g c = λ e xs ys. forest_joined g.V.Value.shows e xs ys
-
-pub returns-clause-value : goal.returns-clause-value
-unfolding nodes first_token argument_from argument_at spec_after
-returns-clause-value g c = λ e. nodes_mean g.V.Value.shows e
-    (record { place = 1; text = codes "{x}b" })
+pub returns : goal.returns
+returns g c =
+    let all =
+    ap (λ bs. nodes_of bs c.pieces.result.now) c.text.ensures.text ∙ c.pieces.ensures.pieces in
+    let o = rest_outcome c.text.result.now c.pieces.result.now
+    (outermost (chars c.args.template.now)) all c.args.skipped g.C.Object.Value.shows
+    (environment (g.C.Context.finds c.args.context.now)) _ _ _ _ _ c.outermost-scope.ensures
+    (rw c.pieces_after-rest.ensures at c.run_pieces-answer.ensures.writes.evaluates) in
+    record { outcome = search rules }

@@ -160,41 +160,44 @@ run_piece-returns-in_ok-write_value-in-Value g t c =
           c.in_ok-write_value-in-Value.ensures.writes;
     }
 
-pub run_piece-name_of-start-requires-in-List : goal.run_piece-name_of-start-requires-in-List
-run_piece-name_of-start-requires-in-List g t c =
-    let fits = fits_text c.args.text.now c.args.piece.now (search rules) in
-    record { fits = list_fits c.args.text.now c.args.piece.now _ c.in-List.is fits.held }
-
-pub run_piece-returns-in_err-run_list-in-List : goal.run_piece-returns-in_err-run_list-in-List
-run_piece-returns-in_err-run_list-in-List g t c =
-    let residual = c.from_residual-in_err-run_list-in-List in
-    let err = err_from_is_err_and residual.result residual.ensures.1 in
-    let name = c.name_of-start-in-List in
-    let held = list_held c.args.text.now c.args.piece.now name.result.0 (chars name.result.1.now)
-    name.ensures.start name.ensures.name _ c.in-List.is in
-    rw (err.1, err.2) (record {
-      writes =
-          argument_fault _ _ _ _ _ _ _ _ _ _ (bare_list (range_of c.in-List.range)) held _
-          (rw (c.unboxed.ensures) at c.in_err-run_list-in-List.ensures.writes);
-    })
-
-pub run_piece-returns-in_ok-run_list-in-List : goal.run_piece-returns-in_ok-run_list-in-List
-run_piece-returns-in_ok-run_list-in-List g t c =
-    let name = c.name_of-start-in-List in
-    let held = list_held c.args.text.now c.args.piece.now name.result.0 (chars name.result.1.now)
-    name.ensures.start name.ensures.name _ c.in-List.is in
-    record {
-      writes =
-          argument_writes _ _ _ _ _ _ _ _ _ _ (bare_list (range_of c.in-List.range)) held _
-          c.closed-in-List.ensures
-          (rw (c.unboxed.ensures) at c.in_ok-run_list-in-List.ensures.writes);
-    }
-
 pub run_piece-returns-in-Broken : goal.run_piece-returns-in-Broken
 run_piece-returns-in-Broken g t c =
     let held = broken_held c.args.text.now c.args.piece.now _ c.in-Broken.is in
     let same : c.deref.result.now ≡ c.in-Broken.fault.value = search rules in
-    rw (c.error_of.ensures, same) (record { writes = fault_writes _ _ _ _ _ c.args.sink.now c.args.sink.now _ held })
+    rw (c.refused.ensures, same)
+    (record { writes = fault_writes _ _ _ _ _ c.args.sink.now c.args.sink.now _ held })
+
+-- ---- a piece that asks for a list
+
+pub run_list_piece-name_of-start-requires : goal.run_list_piece-name_of-start-requires
+run_list_piece-name_of-start-requires g t c =
+    let fits = fits_text c.args.text.now c.args.piece.now (search rules) in
+    record {
+      fits = list_fits c.args.text.now c.args.piece.now c.args.range.now (search rules) fits.held;
+    }
+
+pub run_list_piece-returns-in_err-run_list : goal.run_list_piece-returns-in_err-run_list
+run_list_piece-returns-in_err-run_list g t c =
+    let err = err_from_is_err_and c.from_residual.result c.from_residual.ensures.1 in
+    let name = c.name_of-start in
+    let held = list_held c.args.text.now c.args.piece.now name.result.0 (chars name.result.1.now)
+    name.ensures.start name.ensures.name c.args.range.now (search rules) in
+    rw (err.1, err.2) (record {
+      writes =
+          argument_fault _ _ _ _ _ _ _ _ _ _ (bare_list (range_of c.args.range.now)) held _
+          (rw (c.unboxed.ensures) at c.in_err-run_list.ensures.writes);
+    })
+
+pub run_list_piece-returns : goal.run_list_piece-returns
+run_list_piece-returns g t c =
+    let name = c.name_of-start in
+    let held = list_held c.args.text.now c.args.piece.now name.result.0 (chars name.result.1.now)
+    name.ensures.start name.ensures.name c.args.range.now (search rules) in
+    record {
+      writes =
+          argument_writes _ _ _ _ _ _ _ _ _ _ (bare_list (range_of c.args.range.now)) held _
+          c.closed.ensures (rw (c.unboxed.ensures) at c.in_ok-run_list.ensures.writes);
+    }
 
 -- ---- the items of a list
 

@@ -1,7 +1,8 @@
-use Rattle.std.proofs.Common.{◌≡◌, ◌∙◌, sym, arith, map, option_map, Some}
+use Rattle.std.proofs.Common.{◌≡◌, ◌∙◌, sym, arith, map, Some}
 use Rattle.std.proofs.lemmas.List.{append-nil}
 use Rattle.interpolator_syntax.specs.Arguments.{argument_of, named_argument, asked_of}
-use Rattle.interpolator_syntax.specs.At.{at}
+use Rattle.interpolator_syntax.specs.At.{at, strip}
+use Rattle.interpolator_syntax.specs.Classes.{close_brace}
 use Rattle.interpolator_syntax.specs.Tokens.{argument, first_token, token_of}
 use Rattle.interpolator.proofs.MeaningLemmas.MeaningLemmas.{token_shorter, scan_shorter}
 use Rattle.interpolator.proofs.TemplateLemmas.AllArgumentLemmas.{no_argument, gathers_on}
@@ -23,10 +24,10 @@ pub push_argument-returns-in_ok-push_groups-in-Ok-clause-rest :
 push_argument-returns-in_ok-push_groups-in-Ok-clause-rest t c =
     let here = at c.args.here in
     let taken = c.in-Ok.taken in
-    rw (taken_is here taken c.in-Ok.ensures.read c.in-Ok.ensures.rest)
+    rw (taken_is here taken c.in-Ok.ensures.read c.in-Ok.ensures.rest, c.in-Ok.ensures.rest)
     (c.ending.ensures.rest
     ∙ ending_is c.args.here.place here (named_argument taken.name (asked_of taken.asked))
-    (at taken.end) (option_map at taken.rest) (sym c.in-Ok.ensures.read))
+    (at taken.end) (strip close_brace (at taken.end)) (sym c.in-Ok.ensures.read))
 
 pub push_argument-returns-in_ok-push_groups-in-Ok-clause-pushed :
     goal.push_argument-returns-in_ok-push_groups-in-Ok-clause-pushed

@@ -1,16 +1,18 @@
-use Rattle.std.proofs.Common.{◌≡◌, ◌∙◌, refl, sym, ap, arith, option_map}
-use Rattle.std.proofs.Common.{Some}
+use Rattle.std.proofs.Common.{◌≡◌, refl, sym, arith}
+use Rattle.std.proofs.Common.{Some, rules}
 use Rattle.std.specs.Str.{chars}
-use Rattle.interpolator_syntax.specs.At.{At, at}
-use Rattle.interpolator_syntax.specs.Arguments.{named_argument, asked_of}
+use Rattle.interpolator_syntax.specs.At.{at}
 use Rattle.interpolator_syntax.specs.Tokens.{literals, doubled, lone_close, argument, first_token}
 use Rattle.interpolator.proofs.MeaningLemmas.MeaningLemmas.{scan_shorter, token_shorter}
+use Rattle.interpolator.proofs.MeaningLemmas.RunLemmas.{asked_ok, asked_broken}
 use Rattle.interpolator.proofs.TemplateLemmas.WithinLemmas.{handed_on, after_front, within_same}
-use Rattle.interpolator.proofs.TemplateLemmas.ParseLemmas.{ending_is, list_pushed, list_within}
-use Rattle.interpolator.proofs.TemplateLemmas.ParseLemmas.{taken_is, broken_is, doubled_ends}
+use Rattle.interpolator.proofs.TemplateLemmas.ParseLemmas.{rest_is, list_pushed, list_within}
+use Rattle.interpolator.proofs.TemplateLemmas.ParseLemmas.{broken_is, doubled_ends}
 use Rattle.interpolator.proofs.TemplateLemmas.ParseLemmas.{literals_pushed, doubled_pushed}
 use Rattle.interpolator.proofs.TemplateLemmas.ParseLemmas.{lone_pushed, left_within}
+use Rattle.interpolator.proofs.TemplateLemmas.ParseLemmas.{name_pushed, name_rest}
 use Rattle.interpolator.proofs.TemplateLemmas.ParseLemmas.{reads_on, all_read}
+use Rattle.interpolator.proofs.TemplateLemmas.StoredLemmas.{node_of_roll}
 use Rattle.interpolator.proofs.template.parse.+parse.Goals as goal
 
 pub parse_pieces-overflow_add-here : goal.parse_pieces-overflow_add-here
@@ -117,48 +119,61 @@ parse_pieces-returns t c =
           c.loop-token.invariant (sym c.in_default.ensures.token);
     }
 
-pub push_argument-returns-in-Ok-clause-rest : goal.push_argument-returns-in-Ok-clause-rest
-push_argument-returns-in-Ok-clause-rest t c =
-    rw (taken_is (at c.args.here) c.in-Ok.taken c.in-Ok.ensures.read c.in-Ok.ensures.rest)
-    c.push_taken.ensures.rest
+pub push_argument-returns-in_ok-push_piece-in-Some-clause-rest :
+    goal.push_argument-returns-in_ok-push_piece-in-Some-clause-rest
+push_argument-returns-in_ok-push_piece-in-Some-clause-rest t c =
+    let named = c.take_name-named in
+    name_rest c.args.place (at c.args.here) named.result (at c.in-Some.after) named.ensures.read
+    c.in-Some.ensures c.requires.start named.ensures.end_place
 
-pub push_argument-returns-in-Ok-clause-pushed : goal.push_argument-returns-in-Ok-clause-pushed
-push_argument-returns-in-Ok-clause-pushed t c =
-    rw (taken_is (at c.args.here) c.in-Ok.taken c.in-Ok.ensures.read c.in-Ok.ensures.rest)
-    c.push_taken.ensures.pushed
+pub push_argument-returns-in_ok-push_piece-in-Some-clause-pushed :
+    goal.push_argument-returns-in_ok-push_piece-in-Some-clause-pushed
+push_argument-returns-in_ok-push_piece-in-Some-clause-pushed t c =
+    let named = c.take_name-named in
+    name_pushed c.args.place (at c.args.here) named.result (at c.in-Some.after) named.ensures.read
+    c.in-Some.ensures c.requires.start named.ensures.end_place _ _ c.name_piece-piece.result
+    c.in_ok-push_piece-in-Some.ensures c.name_piece-piece.ensures.node
 
-pub push_argument-returns-in-Err-clause-rest : goal.push_argument-returns-in-Err-clause-rest
-push_argument-returns-in-Err-clause-rest t c =
-    rw (broken_is (at c.args.here) _ c.in-Err.ensures.read) c.push_broken.ensures.rest
+pub push_asked-push_taken-requires : goal.push_asked-push_taken-requires
+push_asked-push_taken-requires t c =
+    let read = asked_ok (at c.args.here) c.args.named c.requires.named _ _ c.in-Ok.ensures in
+    (search rules, (c.requires.start, (read, c.requires.name_end)))
 
-pub push_argument-returns-in-Err-clause-pushed : goal.push_argument-returns-in-Err-clause-pushed
-push_argument-returns-in-Err-clause-pushed t c =
-    rw (broken_is (at c.args.here) _ c.in-Err.ensures.read) c.push_broken.ensures.pushed
+pub push_asked-returns-in-Err-clause-rest : goal.push_asked-returns-in-Err-clause-rest
+push_asked-returns-in-Err-clause-rest t c =
+    let read = asked_broken (at c.args.here) c.args.named c.requires.named _ c.in-Err.ensures in
+    rw (broken_is (at c.args.here) _ (sym read)) c.push_broken.ensures.rest
+
+pub push_asked-returns-in-Err-clause-pushed : goal.push_asked-returns-in-Err-clause-pushed
+push_asked-returns-in-Err-clause-pushed t c =
+    let read = asked_broken (at c.args.here) c.args.named c.requires.named _ c.in-Err.ensures in
+    rw (broken_is (at c.args.here) _ (sym read)) c.push_broken.ensures.pushed
 
 pub push_list-parse_group-requires : goal.push_list-parse_group-requires
 push_list-parse_group-requires t c =
-    omega (arith, list_within (at c.args.here) c.args.taken.now c.requires.read c.requires.asked)
+    omega (
+      arith,
+      list_within (at c.args.here) c.args.named c.args.asked.now (at c.args.end) c.requires.read
+          c.requires.asked,
+    )
 
 pub push_list-parse_group-requires-2 : goal.push_list-parse_group-requires-2
 push_list-parse_group-requires-2 t c =
-    omega (arith, list_within (at c.args.here) c.args.taken.now c.requires.read c.requires.asked)
+    omega (
+      arith,
+      list_within (at c.args.here) c.args.named c.args.asked.now (at c.args.end) c.requires.read
+          c.requires.asked,
+    )
 
 pub push_list-returns-clause-rest : goal.push_list-returns-clause-rest
 push_list-returns-clause-rest t c =
-    let taken = c.args.taken.now in
-    c.ending-kind.ensures.rest
-    ∙ ending_is c.args.here.place (at c.args.here)
-    (named_argument taken.name (asked_of taken.asked)) (at taken.end) (option_map at taken.rest)
-    (sym c.requires.read)
+    rest_is c.args.place (at c.args.here) c.args.named c.args.asked.now c.args.end c.requires.start
+    c.requires.read c.requires.name_end _ c.ending-kind.ensures.rest
 
 pub push_list-returns-clause-pushed : goal.push_list-returns-clause-pushed
 push_list-returns-clause-pushed t c =
-    let here = at c.args.here in
-    let taken = c.args.taken.now in
-    let rest = ending_is c.args.here.place here (named_argument taken.name (asked_of taken.asked))
-    (at taken.end) (option_map at taken.rest) (sym c.requires.read) in
-    list_pushed c.args.place here taken c.requires.start c.requires.read c.requires.name_end _ _
-    c.argument_piece-piece.result _ _ (ap (λ (a : At). a.place) (c.ending-kind.ensures.rest ∙ rest))
+    list_pushed c.args.place (at c.args.here) c.args.named c.args.asked.now c.args.end
+    c.requires.start c.requires.read c.requires.name_end _ _ _ _ _ c.ending-kind.ensures.rest
     c.ending-kind.ensures.kind c.in_ok-push_piece.ensures c.in_ok-range.range c.in_ok-item.item
     c.in_ok-join.join c.requires.asked c.in_ok-range.ensures c.in_ok-item.ensures.stands
-    c.in_ok-join.ensures.stands c.argument_piece-piece.ensures.node
+    c.in_ok-join.ensures.stands (λ bs. node_of_roll bs _)

@@ -1,37 +1,16 @@
-use Rattle.std.proofs.Common.{◌∙◌, ap, sym, option_map}
-use Rattle.interpolator_syntax.specs.At.{At, at}
-use Rattle.interpolator_syntax.specs.Arguments.{named_argument, asked_of}
-use Rattle.interpolator.specs.Template.Nodes.{node, no_branch}
-use Rattle.interpolator.proofs.TemplateLemmas.ParseLemmas.{ending_is, value_pushed}
-use Rattle.interpolator.proofs.TemplateLemmas.PlainLemmas.{value_plain}
+use Rattle.interpolator_syntax.specs.At.{at}
+use Rattle.interpolator.proofs.TemplateLemmas.ParseLemmas.{rest_is, value_pushed}
+use Rattle.interpolator.proofs.TemplateLemmas.StoredLemmas.{node_of_roll}
 use Rattle.interpolator.proofs.template.parse.push_value.Goals as goal
-
-pub value_form-form-requires : goal.value_form-form-requires
-value_form-form-requires c = record {
-  plain =
-      value_plain (at c.args.here) c.args.taken.now c.args.t c.requires.read c.requires.name_end
-      c.requires.asked;
-}
 
 pub returns-clause-rest : goal.returns-clause-rest
 returns-clause-rest c =
-    let taken = c.args.taken.now in
-    c.ending-kind.ensures.rest
-    ∙ ending_is c.args.here.place (at c.args.here)
-    (named_argument taken.name (asked_of taken.asked)) (at taken.end) (option_map at taken.rest)
-    (sym c.requires.read)
+    rest_is c.args.place (at c.args.here) c.args.named c.args.asked.now c.args.end c.requires.start
+    c.requires.read c.requires.name_end _ c.ending-kind.ensures.rest
 
 pub returns-clause-pushed : goal.returns-clause-pushed
 returns-clause-pushed c =
-    let here = at c.args.here in
-    let taken = c.args.taken.now in
-    let rest = ending_is c.args.here.place here (named_argument taken.name (asked_of taken.asked))
-    (at taken.end) (option_map at taken.rest) (sym c.requires.read) in
-    value_pushed c.args.place here taken c.requires.start c.requires.read c.requires.name_end _ _
-    c.argument_piece-piece.result _ _ (ap (λ (a : At). a.place) (c.ending-kind.ensures.rest ∙ rest))
+    value_pushed c.args.place (at c.args.here) c.args.named c.args.asked.now c.args.end
+    c.requires.start c.requires.read c.requires.name_end _ _ _ _ _ c.ending-kind.ensures.rest
     c.ending-kind.ensures.kind c.in_ok-push_piece.ensures c.args.t c.requires.asked
-    (λ bs.
-    c.argument_piece-piece.ensures.node bs
-    ∙ ap (λ held. node c.args.place (at c.ending-kind.result.1).place c.ending-kind.result.0 held no_branch no_branch)
-    (c.value_form-form.ensures.held bs c.args.place taken.name.place taken.name.end.place
-    taken.end.place))
+    (λ bs. node_of_roll bs _)
