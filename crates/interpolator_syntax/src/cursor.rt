@@ -26,7 +26,7 @@ impl<'a> Cursor<'a> {
     {
         let (c, rest) = split_first(self.rest)?;
         let after = Cursor {
-            place: self.place + c.len_utf8(),
+            place: self.place + (self.rest.len() - rest.len()),
             rest,
         };
         Some((c, after))

@@ -1,5 +1,5 @@
 //! What stands after the colon of an argument, up to what follows the letter of lists.
-ghost use Rattle.std.specs.Prelude.{◌≡◌, Ok, Some};
+ghost use Rattle.std.specs.Prelude.{◌≡◌, Err, Ok, Some};
 ghost use Rattle.interpolator_syntax.specs.At.{at, first, strip};
 ghost use Rattle.interpolator_syntax.specs.Classes.{question_mark};
 ghost use Rattle.interpolator_syntax.specs.Readers.{letter};
@@ -9,13 +9,15 @@ ghost use Rattle.interpolator_syntax.specs.SpecTexts.{hexadecimal, plain_spec, s
 ghost use Rattle.interpolator_syntax.specs.SpecTexts.{fill_at, spec_from_alignment, spec_after};
 ghost use Rattle.interpolator_syntax.specs.SpecReads.{part_read, part_or_broken, wanted_read};
 ghost use Rattle.interpolator_syntax.specs.SpecReads.{HasNoOptions, options_left, spec_left};
+ghost use Rattle.interpolator_syntax.specs.declared.argument_fault.ArgumentFault.TheVariants as faults;
+ghost use Rattle.interpolator_syntax.specs.declared.error.ParseError.TheVariants as errors;
 ghost use Rattle.interpolator_render.specs.declared.view.Alignment.TheVariants as alignments;
 ghost use Rattle.interpolator_render.specs.declared.view.Sign.TheVariants as signs;
 ghost use Rattle.interpolator_render.specs.declared.view.Trait.TheVariants as traits;
 
 use crate::argument_fault::ArgumentFault;
 use crate::cursor::Cursor;
-use crate::error::ParseError;
+use crate::error::{NumberError, ParseError};
 use crate::number::take_natural;
 use interpolator_render::{Alignment, HexDebug, Sign, Spec, Trait};
 
@@ -50,6 +52,31 @@ fn take_sign(here: &mut Cursor<'_>) -> Sign
     }
 }
 
+/// The fault of an argument that begins at `start`, whose text ends with a number. It is a function of
+/// its own, as the two after it are, since a function clears the room for its faults where it begins.
+#[inline(always)]
+fn unclosed(start: usize) -> Result<Option<usize>, ArgumentFault>
+    ensures { result ≡ Err (faults.Text (errors.FormatSpecUnclosed start)) }
+{
+    Err(ArgumentFault::Text(ParseError::FormatSpecUnclosed(start)))
+}
+
+/// The fault of a width that begins at `place`.
+#[inline(always)]
+fn bad_width(kind: NumberError, place: usize) -> Result<Option<usize>, ArgumentFault>
+    ensures { result ≡ Err (faults.Text (errors.InvalidWidth kind place)) }
+{
+    Err(ArgumentFault::Text(ParseError::InvalidWidth(kind, place)))
+}
+
+/// The fault of a precision that begins at `place`.
+#[inline(always)]
+fn bad_precision(kind: NumberError, place: usize) -> Result<Option<usize>, ArgumentFault>
+    ensures { result ≡ Err (faults.Text (errors.InvalidPrecision kind place)) }
+{
+    Err(ArgumentFault::Text(ParseError::InvalidPrecision(kind, place)))
+}
+
 /// The width that stands here, if one does, in the argument that begins at `start`.
 #[inline(always)]
 fn take_width(here: &mut Cursor<'_>, start: usize) -> Result<Option<usize>, ArgumentFault>
@@ -62,11 +89,11 @@ fn take_width(here: &mut Cursor<'_>, start: usize) -> Result<Option<usize>, Argu
     }
     let number = take_natural(here);
     if here.is_at_end() {
-        return Err(ArgumentFault::Text(ParseError::FormatSpecUnclosed(start)));
+        return unclosed(start);
     }
     match number {
         Ok(n) => Ok(Some(n)),
-        Err(kind) => Err(ArgumentFault::Text(ParseError::InvalidWidth(kind, place))),
+        Err(kind) => bad_width(kind, place),
     }
 }
 
@@ -81,11 +108,11 @@ fn take_precision(here: &mut Cursor<'_>, start: usize) -> Result<Option<usize>, 
     let place = here.place;
     let number = take_natural(here);
     if here.is_at_end() {
-        return Err(ArgumentFault::Text(ParseError::FormatSpecUnclosed(start)));
+        return unclosed(start);
     }
     match number {
         Ok(n) => Ok(Some(n)),
-        Err(kind) => Err(ArgumentFault::Text(ParseError::InvalidPrecision(kind, place))),
+        Err(kind) => bad_precision(kind, place),
     }
 }
 
