@@ -1,6 +1,6 @@
 -- What a file of messages says: its lines, their keys and formats, and a message. Texts are bytes.
 use Rattle.std.specs.Prelude.{◌≡◌, ◌⊎◌, ⊤, ℕ, Bool, true, not, ◌==◌, ◌&&◌, ◌||◌, ◌<◌, List, length}
-use Rattle.std.specs.Prelude.{reverse, Option, None, Some, Result, Ok, string_bytes}
+use Rattle.std.specs.Prelude.{reverse, Option, None, Some, Ok, string_bytes}
 use Rattle.std.specs.Borrow.{Bor}
 use Rattle.std.specs.List.{All, AllZip, find, position_or_len, before_first, after_first}
 use Rattle.std.specs.List.{slice_index}

@@ -1,4 +1,4 @@
-use Rattle.std.proofs.Common.{◌≡◌, length, sym, rules, arith, string_bytes}
+use Rattle.std.proofs.Common.{◌≡◌, length, sym, arith, string_bytes}
 use Rattle.std.proofs.lemmas.Bool.Decides.{nat_tests}
 use Rattle.catalogue.proofs.messages.look_up.Goals as goal
 
