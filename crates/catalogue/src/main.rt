@@ -1,9 +1,9 @@
 //! `catalogue FILE KEY [NAME=TEXT..]`: the message under a key, of a file whose messages are all
 //! checked first.
 //!
-//! A line of the file is `key = format`. Blank lines, and those that begin with `#`, are passed over.
-//! Each fault is told with the file, the line and the column of its character, and then no message
-//! is written.
+//! A line of the file is `key = format`. Blank lines, and those that begin with `#`, are passed
+//! over. Each fault is told with the file, the line and the column of its character, and then no
+//! message is written.
 #![tactic(auto)]
 
 mod messages;

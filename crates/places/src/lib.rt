@@ -1,9 +1,10 @@
 //! Where the fault of a format stands: its byte, and the line and the column of a byte.
 #![tactic(auto)]
 
-ghost use Rattle.std.specs.Prelude.{◌≡◌, Option, None, Some};
+ghost use Rattle.std.specs.Prelude.{◌≡◌, ◌+◌, length, Option, None, Some};
+ghost use Rattle.std.specs.Str.{chars};
 ghost use Rattle.interpolator_syntax.specs.Faults.{answer_of, parse_fault_of, parse_place};
-ghost use Rattle.places.specs.Places.{answer_place};
+ghost use Rattle.places.specs.Places.{answer_place, begun_before, lines_ended, last_line};
 
 use interpolator::{Error, ParseError};
 
@@ -45,28 +46,48 @@ pub fn place_of(error: &Error) -> Option<usize>
     }
 }
 
-/// The line and the column of a byte of a text. A byte past the text's end is taken as its end.
-pub fn position_of(text: &str, place: usize) -> Position {
-    let mut position = Position { line: 1, column: 1 };
-    for (byte, c) in text.char_indices() {
-        if byte < place {
-            position = after(position, c);
+/// The characters of a text that begin before a byte.
+fn text_before(text: &str, place: usize) -> &str
+    ensures { chars result.now ≡ begun_before place (chars text.now) }
+{
+    let mut end = 0usize;
+    for c in text.chars() {
+        if end >= place {
+            return &text[..end];
         }
+        end += c.len_utf8();
     }
-    position
+    text
 }
 
-/// The position after a character.
-fn after(position: Position, c: char) -> Position {
-    if c == '\n' {
-        return Position {
-            line: position.line.saturating_add(1),
-            column: 1,
-        };
+/// How many lines have ended in a text, and one.
+fn line_at_end(text: &str) -> usize
+    ensures { result ≡ lines_ended (chars text.now) + 1 }
+{
+    text.chars().filter(|c| *c == '\n').count() + 1
+}
+
+/// How many characters stand after the last line end of a text, and one.
+fn column_at_end(text: &str) -> usize
+    ensures { result ≡ length (last_line (chars text.now)) + 1 }
+{
+    let mut column = 1usize;
+    for c in text.chars() {
+        column = if c == '\n' { 1 } else { column + 1 };
     }
+    column
+}
+
+/// The line and the column of a byte of a text, from 1 on: by the characters that begin before it.
+/// A byte past the text's end is taken as its end. Columns count characters.
+pub fn position_of(text: &str, place: usize) -> Position
+    ensures line { result.line ≡ lines_ended (begun_before place (chars text.now)) + 1 }
+    ensures column { result.column ≡ length (last_line (begun_before place (chars text.now))) + 1 }
+{
+    let before = text_before(text, place);
     Position {
-        line: position.line,
-        column: position.column.saturating_add(1),
+        line: line_at_end(before),
+        column: column_at_end(before),
     }
 }
 
@@ -77,8 +98,9 @@ mod tests {
 
     // A place, its line and its column in the text `a\né{x}\n\nb`, by hand.
     #[rattlefmt::skip]
-    const POSITIONS: [(usize, usize, usize); 8] = [
-        (0, 1, 1), (1, 1, 2), (2, 2, 1), (4, 2, 2), (6, 2, 4), (8, 3, 1), (9, 4, 1), (99, 4, 2),
+    const POSITIONS: [(usize, usize, usize); 9] = [
+        (0, 1, 1), (1, 1, 2), (2, 2, 1), (3, 2, 2), (4, 2, 2), (6, 2, 4), (8, 3, 1), (9, 4, 1),
+        (99, 4, 2),
     ];
 
     #[test]

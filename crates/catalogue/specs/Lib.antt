@@ -1,0 +1,2 @@
+-- What a file of messages says.
+pub mod Messages
