@@ -1,4 +1,4 @@
-//! Memory that a padded list takes, and that is refused.
+//! Memory that a padded list or the name of a missing value takes, and that is refused.
 //!
 //! The test holds whether memory is given or one allocation is refused, as `rt try --test
 //! --fail-alloc` does. Where none is refused, each row has one answer.
@@ -23,7 +23,7 @@ struct Wanting<'a> {
 /// Worked by hand from the rules of lists and outcomes in docs/DEFINITIONS.md, over lists `h` of 1
 /// and 5, and `o` of one item, which has the list `h`.
 #[rattlefmt::skip]
-const WANTING: [Wanting<'static>; 12] = [
+const WANTING: [Wanting<'static>; 13] = [
     Wanting { format: "ab{h:>6i({})(,)}", before: &["ab"], text: "ab   1,5", told: Told::Done },
     Wanting { format: "{h:6i}", before: &[""], text: "15    ", told: Told::Done },
     Wanting { format: "ab{h:1i({}, and quite a few characters after each item)}", before: &["ab"], text: "ab1, and quite a few characters after each item5, and quite a few characters after each item", told: Told::Done },
@@ -35,6 +35,7 @@ const WANTING: [Wanting<'static>; 12] = [
     Wanting { format: "{h:5i({:y})}", before: &[""], text: "", told: Told::Parse(ParseError::Expected("}", 8)) },
     Wanting { format: "{h:5i({:+i})}", before: &[""], text: "", told: Told::MissingTraitImpl(Trait::Iter, 10) },
     Wanting { format: "{o:5i({:+i})}", before: &[""], text: "", told: Told::Parse(ParseError::Iter(10)) },
+    Wanting { format: "ab{q}", before: &["ab"], text: "ab", told: Told::MissingValue("q", 3) },
     Wanting { format: "ab{h:6i}{z}", before: &["ab", "ab15    "], text: "ab15    ", told: Told::MissingValue("z", 9) },
 ];
 
