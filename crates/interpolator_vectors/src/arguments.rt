@@ -2,8 +2,8 @@
 
 pub(crate) mod rows;
 
-use crate::tables::told::told_by;
 use interpolator::{Argument, Group, Kind, Range, parse_argument};
+use interpolator_testing::told::told_by;
 use rows::{Bounds, Inner, LISTS, Listing, READ, REFUSED, Reading, Refusal};
 use std::process::Abort;
 

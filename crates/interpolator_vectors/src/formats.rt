@@ -1,17 +1,16 @@
 //! Rows of formats: what is written, and what is answered.
 
 pub(crate) mod fill_rows;
-pub(crate) mod own;
 pub(crate) mod rows;
 pub(crate) mod spec_rows;
 
-use crate::counting::Counting;
-use crate::limited::Limited;
-use crate::tables::told::{Told, told_by};
 use crate::tables::{Call, give, give_all, give_all_in_room, give_in_room};
 use fill_rows::{FILLED, FILLED_ROOM};
 use interpolator::{Formattable, Interpolate, Template, TextBuffer, Trait, format, write};
-use own::{Everywhere, Nowhere, OnlyFive};
+use interpolator_testing::counting::Counting;
+use interpolator_testing::limited::Limited;
+use interpolator_testing::own::{Everywhere, Nowhere, OnlyFive};
+use interpolator_testing::told::{Told, told_by};
 use rows::{PLAIN, PLAIN_ROOM};
 use spec_rows::{ASKED, ASKED_IN_VAIN, BROKEN, CUTS, ROOM, WRITTEN};
 use std::test::Fail;

@@ -11,10 +11,10 @@ mod rows;
 
 ghost use Rattle.interpolator_render.specs.Written.{as_writer};
 
-use crate::tables::told::{Told, told_by};
 use interpolator::{
     Bounded, Formattable, Interpolate, Pairs, Refusal, TextBuffer, TextWrite, format,
 };
+use interpolator_testing::told::{Told, told_by};
 use std::alloc::{AllocError, Global};
 use std::process::Abort;
 use std::test::Fail;

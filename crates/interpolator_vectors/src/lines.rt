@@ -1,13 +1,13 @@
 //! Rows of formats with a newline after them, and of texts whose braces are doubled.
 
-use crate::limited::Limited;
 use crate::tables::held::Slots;
-use crate::tables::told::{Told, answers, told_by};
 use crate::tables::{Call, RoomRow, RoomTable, give_all_in_room};
-use crate::templates::given::{Given, write_given};
 use interpolator::{
     Bits, Error, Formattable, Interpolate, Pairs, Template, TextBuffer, View, escape, iwriteln,
 };
+use interpolator_testing::given::{Given, write_given};
+use interpolator_testing::limited::Limited;
+use interpolator_testing::told::{Told, answers, told_by};
 use std::alloc::Global;
 use std::process::Abort;
 use std::test::Fail;
@@ -94,7 +94,8 @@ fn doubled_braces_give_the_text_back(rt: HostRuntime) -> Result<(), Fail> {
         assert_eq!(rt; format.as_str(), doubled, "at {text}");
         let template = Template::parse(rt.alloc(), doubled)?;
         for given in [Given::Text(doubled), Given::Template(&template)] {
-            answers(&rt, written(rt.alloc(), given), Told::Done, text, doubled);
+            let made = written(rt.alloc(), given);
+            assert!(rt; answers(&made, Told::Done, text), "{made:?} at {doubled}");
         }
     }
     Ok(())

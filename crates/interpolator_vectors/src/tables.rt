@@ -1,18 +1,17 @@
 //! Tables of rows of formats, and what gives their rows: one context for each table.
 
 pub(crate) mod held;
-pub(crate) mod told;
 
 use crate::hostile::cuts::cut_rows;
 use crate::hostile::joins::join_rows;
-use crate::limited::Limited;
 use held::{Held, HeldList, all_items, map_of};
 use interpolator::{Error, Formattable, Interpolate, Template, TextBuffer, TextWrite, View};
+use interpolator_testing::limited::Limited;
+use interpolator_testing::told::{Told, answers, told_by};
 use std::alloc::Global;
 use std::collections::HashMap;
 use std::process::Abort;
 use std::test::Fail;
-use told::{Told, answers, told_by};
 
 /// A format, what is written of it, and what is answered.
 pub(crate) struct Row<'a> {
@@ -94,12 +93,11 @@ fn gives<'a>(
     assert_eq!(rt; told_by(&answer), row.told, "at {}", row.format);
     assert_eq!(rt; out.as_str(), row.text, "at {}", row.format);
     assert!(rt; !out.refused(), "at {}", row.format);
-    answers(
-        rt,
-        map.format(alloc, row.format),
-        row.told,
-        row.text,
-        row.format,
+    let made = map.format(alloc, row.format);
+    assert!(rt;
+        answers(&made, row.told, row.text),
+        "{made:?} at {}",
+        row.format
     );
     gives_by_template(rt, alloc, row, map)
 }
@@ -131,12 +129,11 @@ fn gives_by_template<'a>(
     );
     assert_eq!(rt; out.as_str(), row.text, "at the template of {}", row.format);
     assert!(rt; !out.refused(), "at the template of {}", row.format);
-    answers(
-        rt,
-        map.format_template(alloc, &template),
-        row.told,
-        row.text,
-        row.format,
+    let made = map.format_template(alloc, &template);
+    assert!(rt;
+        answers(&made, row.told, row.text),
+        "{made:?} at {}",
+        row.format
     );
     Ok(())
 }

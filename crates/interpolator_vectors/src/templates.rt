@@ -1,15 +1,14 @@
 //! Rows of templates: their names, their pieces, their text, and how they are written.
 
-pub(crate) mod given;
 mod memory;
 mod rows;
 
-use crate::counting::Counting;
-use crate::formats::own::{Everywhere, Nowhere};
-use crate::tables::told::{Told, told_by};
 use crate::tables::{Call, give_in_room};
 use interpolator::laws::templates::rest_of_the_pieces_is_written;
 use interpolator::{Formattable, Interpolate, Pairs, Piece, Template, TextBuffer};
+use interpolator_testing::counting::Counting;
+use interpolator_testing::own::{Everywhere, Nowhere};
+use interpolator_testing::told::{Told, told_by};
 use rows::{Asking, LATE, NAMES, ROOM, Standing, TREES, Tree};
 use std::alloc::{AllocError, Global};
 use std::process::Abort;

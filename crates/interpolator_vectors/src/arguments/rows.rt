@@ -1,7 +1,7 @@
 //! The rows of `parse_argument`.
 
-use crate::tables::told::Told;
 use interpolator::{Alignment, HexDebug, NumberError, ParseError, Sign, Spec, Trait};
+use interpolator_testing::told::Told;
 
 /// A text, the byte at which its argument starts, and what is read: the name at its place, the spec
 /// and the trait, and the byte after the spec.

@@ -1,9 +1,9 @@
 //! Rows of fill characters.
 
 use crate::tables::held::{HeldList, Slots};
-use crate::tables::told::Told;
 use crate::tables::{RoomRow, RoomTable, Row, Table};
 use interpolator::{NumberError, ParseError, Trait, View};
+use interpolator_testing::told::Told;
 
 /// The numbers 1 and 5.
 const NUMBERS: HeldList<'static> = (

@@ -1,9 +1,9 @@
 //! Rows of formats with plain names.
 
 use crate::tables::held::{Held, Slots};
-use crate::tables::told::Told;
 use crate::tables::{RoomRow, RoomTable, Row, Table};
 use interpolator::{Bits, ParseError, Trait, View};
+use interpolator_testing::told::Told;
 
 #[rattlefmt::skip]
 const NAMES: &[Held<'static>] = &[

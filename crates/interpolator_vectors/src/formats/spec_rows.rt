@@ -1,9 +1,9 @@
 //! Rows of formats with specs.
 
 use crate::tables::held::Slots;
-use crate::tables::told::Told;
 use crate::tables::{RoomRow, RoomTable, Row, Table};
 use interpolator::{Bits, NumberError, ParseError, Trait, View};
+use interpolator_testing::told::Told;
 
 /// Texts and numbers by their specs. Worked by hand from the rules of specs and of rendering in
 /// docs/DEFINITIONS.md.

@@ -1,11 +1,11 @@
 //! Formats that are cut off after each of their characters.
 
 use crate::arguments::rows::{LISTS, READ, REFUSED};
-use crate::formats::own::Nowhere;
-use crate::limited::Limited;
-use crate::tables::told::{Told, told_by};
 use crate::tables::{PLENTY, RoomRow};
 use interpolator::{Formattable, Interpolate, Template, View, parse_argument, write};
+use interpolator_testing::limited::Limited;
+use interpolator_testing::own::Nowhere;
+use interpolator_testing::told::{Told, told_by};
 use std::alloc::Global;
 use std::collections::HashMap;
 use std::process::Abort;

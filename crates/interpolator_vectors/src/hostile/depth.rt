@@ -1,9 +1,9 @@
 //! Lists in lists, to a depth of 200.
 
-use crate::tables::told::{Told, told_by};
 use crate::templates::are_names;
-use crate::templates::given::{Given, write_given};
 use interpolator::{Error, Formattable, Pairs, Piece, Template, TextBuffer};
+use interpolator_testing::given::{Given, write_given};
+use interpolator_testing::told::{Told, told_by};
 use std::alloc::{AllocError, Global};
 use std::process::Abort;
 use std::test::Fail;

@@ -1,9 +1,9 @@
 //! The greatest numbers that a format can hold.
 
 use crate::tables::held::{HeldList, Slots};
-use crate::tables::told::Told;
 use crate::tables::{Call, RoomRow, RoomTable, Row, Table, give, give_in_room};
 use interpolator::View;
+use interpolator_testing::told::Told;
 use std::test::Fail;
 
 /// The list of 1 and 5.

@@ -1,10 +1,10 @@
 //! Formats that are written one after the other, in parts and as one text.
 
-use crate::limited::Limited;
-use crate::parts::parts_fit;
-use crate::tables::told::{Told, told_by};
 use crate::tables::{Call, RoomRow, gives_in_room, holds};
 use interpolator::{Formattable, Interpolate, View, seam};
+use interpolator_testing::limited::Limited;
+use interpolator_testing::sizes::parts_fit;
+use interpolator_testing::told::{Told, told_by};
 use std::alloc::Global;
 use std::collections::HashMap;
 use std::process::Abort;

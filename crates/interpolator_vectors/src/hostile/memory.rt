@@ -3,8 +3,8 @@
 //! Each test holds whether memory is given or one allocation is refused, as `rt try --test
 //! --fail-alloc` does. Asked again, the call gives its row.
 
-use crate::tables::told::{Told, told_by};
 use interpolator::{Context, ContextMap, Error};
+use interpolator_testing::told::{Told, told_by};
 use std::alloc::{AllocError, Global};
 use std::process::Abort;
 use std::test::Fail;

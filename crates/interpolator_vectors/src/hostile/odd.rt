@@ -3,13 +3,13 @@ ghost use Rattle.std.specs.Prelude.{codes};
 ghost use Rattle.std.specs.Str.{chars};
 ghost use Rattle.interpolator_render.specs.Views.{failure, plain_text};
 
-use crate::formats::own::Everywhere;
 use crate::tables::held::Slots;
-use crate::tables::told::{Told, told_by};
 use crate::tables::{Row, Table, give};
 use interpolator::{
     Formattable, Interpolate, ParseError, Spec, Template, TextBuffer, Trait, Value, View,
 };
+use interpolator_testing::own::Everywhere;
+use interpolator_testing::told::{Told, told_by};
 use std::alloc::Global;
 use std::process::Abort;
 use std::test::Fail;

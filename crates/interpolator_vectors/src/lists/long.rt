@@ -1,7 +1,7 @@
 //! Lists of many items, and of long groups.
 
-use crate::tables::told::{Told, told_by};
 use interpolator::{Formattable, Interpolate, Pairs, ParseError, Template, TextBuffer, Trait};
+use interpolator_testing::told::{Told, told_by};
 use std::alloc::Global;
 use std::test::Fail;
 

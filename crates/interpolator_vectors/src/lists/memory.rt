@@ -3,10 +3,10 @@
 //! The test holds whether memory is given or one allocation is refused, as `rt try --test
 //! --fail-alloc` does. Where none is refused, each row has one answer.
 
-use crate::limited::Limited;
-use crate::tables::told::{Told, answers, told_by};
-use crate::templates::given::{Given, format_given, parsed, write_given};
 use interpolator::{Error, Formattable, Pairs, ParseError, Trait};
+use interpolator_testing::given::{Given, format_given, parsed, write_given};
+use interpolator_testing::limited::Limited;
+use interpolator_testing::told::{Told, answers, told_by};
 use std::alloc::Global;
 use std::process::Abort;
 use std::test::Fail;
@@ -88,7 +88,11 @@ fn is_made(
     if told_by(&made) == Told::NoMemory {
         return false;
     }
-    answers(rt, made, row.told, row.text, row.format);
+    assert!(rt;
+        answers(&made, row.told, row.text),
+        "{made:?} at {}",
+        row.format
+    );
     true
 }
 
@@ -118,7 +122,7 @@ fn give_wanting(
     for row in &WANTING {
         let pairs = Pairs(&[("h", numbers), ("o", Formattable::iter(&outer))]);
         gives(rt, alloc, pairs, row, Given::Text(row.format));
-        let template = parsed(rt, alloc, row.format)?;
+        let template = parsed(alloc, row.format)?;
         gives(rt, alloc, pairs, row, Given::Template(&template));
     }
     Ok(())

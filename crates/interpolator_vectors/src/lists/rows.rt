@@ -1,9 +1,9 @@
 //! The lists of rows, and the rows of formats that ask them.
 
 use crate::tables::held::{HeldList, Slots};
-use crate::tables::told::Told;
 use crate::tables::{RoomRow, RoomTable, Row, Table};
 use interpolator::{NumberError, ParseError, Trait, View};
+use interpolator_testing::told::Told;
 
 /// The list of 1 and 5, which are displayed alone.
 const NUMBERS: HeldList<'static> = (

@@ -3,10 +3,10 @@
 //! The test holds whether memory is given or one allocation is refused, as `rt try --test
 //! --fail-alloc` does. Where none is refused, each row has one answer.
 
-use crate::tables::told::{Told, answers, told_by};
 use crate::templates::are_names;
-use crate::templates::given::{Given, format_given, parsed};
 use interpolator::{Error, Formattable, Pairs, ParseError, Template};
+use interpolator_testing::given::{Given, format_given, parsed};
+use interpolator_testing::told::{Told, answers, told_by};
 use std::alloc::Global;
 use std::process::Abort;
 use std::test::Fail;
@@ -59,7 +59,11 @@ fn is_made(
     if told_by(&made) == Told::NoMemory {
         return false;
     }
-    answers(rt, made, row.told, row.text, row.format);
+    assert!(rt;
+        answers(&made, row.told, row.text),
+        "{made:?} at {}",
+        row.format
+    );
     true
 }
 
@@ -70,7 +74,7 @@ fn give_wanting(
     numbers: Formattable<'_, u64>,
 ) -> Result<(), Error> {
     for row in &WANTING {
-        let template = parsed(rt, alloc, row.format)?;
+        let template = parsed(alloc, row.format)?;
         assert_eq!(rt; template.text(), row.format);
         let told = are_told(rt, alloc, &template, row) || are_told(rt, alloc, &template, row);
         assert!(rt; told, "at {}", row.format);

@@ -1,9 +1,9 @@
 //! The rows of templates.
 
 use crate::tables::held::Slots;
-use crate::tables::told::Told;
 use crate::tables::{RoomRow, RoomTable};
 use interpolator::{ParseError, PieceKind, View};
+use interpolator_testing::told::Told;
 
 /// A format, and the names that it asks.
 pub(crate) struct Asking<'a> {
