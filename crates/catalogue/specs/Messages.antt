@@ -16,7 +16,7 @@ use Rattle.interpolator.specs.Meaning.Outcomes.{Formats}
 use Rattle.interpolator.specs.Slots.{slots_of, empty_slots, with_debug_display}
 use Rattle.interpolator.specs.Template.NodeChecks.{first_fault, text_faults}
 use Rattle.interpolator.specs.Views.{some_text}
-use Rattle.interpolator.specs.declared.slots.Formattable.{Formattable}
+use Rattle.interpolator.specs.declared.Formattable.{Formattable}
 use Rattle.catalogue.specs.declared.messages.Answer.{Answer}
 use Rattle.catalogue.specs.declared.messages.Answer.TheVariants.{Message, Faults}
 use Rattle.std.specs.declared.alloc.Global.{Global}

@@ -12,8 +12,8 @@ use Rattle.std.proofs.lemmas.List.Elements.{All-head, All-tail}
 use Rattle.std.proofs.lemmas.Slice.Zip.{all_zipped_more}
 use Rattle.std.proofs.lemmas.Fn.{FoldsTo-push}
 use Rattle.interpolator.specs.declared.View.{View}
-use Rattle.interpolator.specs.declared.slots.Formattable.{Formattable}
-use Rattle.interpolator.specs.declared.context_map.NameMap.{NameMap}
+use Rattle.interpolator.specs.declared.Formattable.{Formattable}
+use Rattle.interpolator.specs.declared.NameMap.{NameMap}
 use Rattle.interpolator.specs.NameMaps.{under, found}
 use Rattle.interpolator.specs.Slots.{Slots, slots_of}
 use Rattle.interpolator.specs.Views.{shown_as_value}

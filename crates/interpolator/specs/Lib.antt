@@ -6,11 +6,11 @@ pub use Rattle.interpolator_syntax.specs.At
 pub use Rattle.interpolator_syntax.specs.Faults
 pub use Rattle.interpolator_syntax.specs.FaultTexts
 pub mod Meaning
-pub mod Slots
+pub use Rattle.interpolator_meaning.specs.Slots
 pub mod Template
-pub mod SlotNames
+pub use Rattle.interpolator_meaning.specs.SlotNames
 pub mod Seams
-pub mod Contexts
-pub mod NameMaps
+pub use Rattle.interpolator_meaning.specs.Contexts
+pub use Rattle.interpolator_meaning.specs.NameMaps
 pub mod Escaping
-pub mod Rows
+pub use Rattle.interpolator_meaning.specs.Rows

@@ -1,15 +1,15 @@
 -- What a format means, and what writing it leaves.
-pub mod AskedGrammar
-pub mod AskedNames
-pub mod Choices
-pub mod Environments
-pub mod EqualValues
-pub mod ListArguments
-pub mod Lists
+pub use Rattle.interpolator_meaning.specs.Meaning.AskedGrammar
+pub use Rattle.interpolator_meaning.specs.Meaning.AskedNames
+pub use Rattle.interpolator_meaning.specs.Meaning.Choices
+pub use Rattle.interpolator_meaning.specs.Meaning.Environments
+pub use Rattle.interpolator_meaning.specs.Meaning.EqualValues
+pub use Rattle.interpolator_meaning.specs.Meaning.ListArguments
+pub use Rattle.interpolator_meaning.specs.Meaning.Lists
 pub mod Lines
-pub mod Meanings
-pub mod Moves
-pub mod Outcomes
-pub mod Scopes
-pub mod Sinks
+pub use Rattle.interpolator_meaning.specs.Meaning.Meanings
+pub use Rattle.interpolator_meaning.specs.Meaning.Moves
+pub use Rattle.interpolator_meaning.specs.Meaning.Outcomes
+pub use Rattle.interpolator_meaning.specs.Meaning.Scopes
+pub use Rattle.interpolator_meaning.specs.Meaning.Sinks
 pub mod Parts

@@ -2,23 +2,20 @@
 ghost use Rattle.std.specs.Prelude.{◌≡◌, length, ◌<◌, ◌^◌};
 ghost use Rattle.std.specs.Str.{chars};
 ghost use Rattle.interpolator_syntax.specs.At.{outermost};
-ghost use Rattle.interpolator.specs.Meaning.AskedNames.{asked_names};
-ghost use Rattle.interpolator.specs.Meaning.Environments.{environment, cut};
+ghost use Rattle.interpolator_meaning.specs.Meaning.AskedNames.{asked_names};
+ghost use Rattle.interpolator_meaning.specs.Meaning.Environments.{environment, cut};
 ghost use Rattle.interpolator_syntax.specs.Faults.{answered, PlaceWithin};
 ghost use Rattle.interpolator.specs.Meaning.Lines.{line_means};
-ghost use Rattle.interpolator.specs.Meaning.Meanings.{means};
-ghost use Rattle.interpolator.specs.Meaning.Outcomes.{Outcome, Formats};
+ghost use Rattle.interpolator_meaning.specs.Meaning.Meanings.{means};
+ghost use Rattle.interpolator_meaning.specs.Meaning.Outcomes.{Outcome, Formats};
 ghost use Rattle.interpolator.specs.Meaning.Parts.{joined_text, texts_of, bytes_of, parts_mean};
 ghost use Rattle.interpolator.specs.Meaning.Parts.{Clean, FrontsClose};
 
-use crate::context::{ByNames, Context};
-use crate::context_map::NameMap;
 use crate::line::iwriteln;
-use crate::pairs::Pairs;
 use crate::parts::write_parts;
-use crate::slots::Formattable;
 use crate::template::Template;
 use crate::writing::{format, write};
+use interpolator_meaning::{ByNames, Context, Formattable, NameMap, Pairs};
 use interpolator_render::{TextWrite, Value};
 use interpolator_syntax::Error;
 use std::alloc::Global;

@@ -17,31 +17,23 @@
 //!
 //! What a format means is defined in `specs/`, and `write` is proved to do that and nothing else,
 //! for every format, context and writer. Read on at [`write`], at the laws of [`laws`], and at
-//! `Meaning/Meanings` in `specs/`.
+//! `Meaning/Meanings` in `specs/` of `interpolator_meaning`.
 #![tactic(auto)]
 
-mod constructors;
-mod context;
-mod context_map;
 mod escaping;
-mod field_names;
 mod interpolate;
 pub mod laws;
 mod line;
-mod meaning;
-mod pairs;
 mod parts;
-mod rows;
-mod slot_names;
-mod slots;
 mod template;
+mod tree;
 mod writing;
 
-pub use context::Context;
-pub use context_map::{ContextMap, NameMap};
 pub use escaping::escape;
-pub use field_names::is_name;
 pub use interpolate::Interpolate;
+pub use interpolator_meaning::{
+    Context, ContextMap, Formattable, NameMap, Pairs, chosen, is_name, items_of, rows_of,
+};
 pub use interpolator_render::{
     Alignment, Bits, Bounded, HexDebug, Refusal, RenderFault, Sign, Spec, TextBuffer, TextWrite,
     Trait, Value, View, pad, render,
@@ -50,11 +42,7 @@ pub use interpolator_syntax::{
     Argument, Error, Group, Kind, NumberError, ParseError, Range, parse_argument,
 };
 pub use line::iwriteln;
-pub use meaning::list::chosen;
-pub use pairs::Pairs;
 pub use parts::{seam, write_parts};
-pub use rows::{items_of, rows_of};
-pub use slots::Formattable;
 pub use template::Template;
 pub use template::piece::{Piece, PieceKind};
 pub use writing::{check, format, write};

@@ -48,7 +48,7 @@ fn lines_end_with_a_newline(rt: HostRuntime) -> Result<(), Fail> {
 }
 
 #[test]
-fn pairs_and_the_function_write_lines(rt: HostRuntime) -> Result<(), Fail> {
+fn pairs_write_lines(rt: HostRuntime) -> Result<(), Fail> {
     let values = [View::Signed(10, Bits::B32), View::Text("test")];
     let mut out = TextBuffer::new(rt.alloc());
     Pairs(&[
@@ -57,6 +57,11 @@ fn pairs_and_the_function_write_lines(rt: HostRuntime) -> Result<(), Fail> {
     ])
     .write_line_to(rt.alloc(), &mut out, "{a}, {b:?}")?;
     assert_eq!(rt; out.as_str(), "10, \"test\"\n");
+    Ok(())
+}
+
+#[test]
+fn a_refused_newline_is_told_at_zero(rt: HostRuntime) -> Result<(), Fail> {
     let mut out = Limited::new(rt.alloc(), 1)?;
     let one = Pairs(&[("a", Formattable::display(&1u64))]);
     let answer = iwriteln(rt.alloc(), &mut out, "{a}", &one);

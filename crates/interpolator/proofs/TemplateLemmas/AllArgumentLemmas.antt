@@ -21,16 +21,16 @@ use Rattle.interpolator_syntax.specs.declared.token.Token.TheVariants as tokens
 use Rattle.interpolator_syntax.specs.declared.argument.TakenArgument.{TakenArgument}
 use Rattle.interpolator_syntax.proofs.ScanLemmas.{hands_on, hands_nothing}
 use Rattle.interpolator_syntax.proofs.SizeLemmas.{GroupIfIn, KindIn, PieceIn, PiecesIn, pieces_in}
-use Rattle.interpolator.specs.Meaning.AskedNames.{without_empty, group_asks, kind_asks, piece_asks}
-use Rattle.interpolator.specs.Meaning.AskedNames.{pieces_ask, asked_within, asked_names}
-use Rattle.interpolator.specs.Meaning.Meanings.{inside}
+use Rattle.interpolator_meaning.specs.Meaning.AskedNames.{without_empty, group_asks, kind_asks, piece_asks}
+use Rattle.interpolator_meaning.specs.Meaning.AskedNames.{pieces_ask, asked_within, asked_names}
+use Rattle.interpolator_meaning.specs.Meaning.Meanings.{inside}
 use Rattle.interpolator.specs.Template.AllArguments.{group_arguments, kind_arguments}
 use Rattle.interpolator.specs.Template.AllArguments.{piece_arguments, pieces_arguments}
 use Rattle.interpolator.specs.Template.AllArguments.{arguments_within, arguments_of, names_of}
 use Rattle.interpolator.specs.Template.Reading.{taken_step}
-use Rattle.interpolator.proofs.MeaningLemmas.DepthLemmas.{by_groups}
-use Rattle.interpolator.proofs.MeaningLemmas.ListLemmas.{kind_size, groups_within}
-use Rattle.interpolator.proofs.MeaningLemmas.MeaningLemmas.{scan_shorter}
+use Rattle.interpolator_meaning.proofs.MeaningLemmas.DepthLemmas.{by_groups}
+use Rattle.interpolator_meaning.proofs.MeaningLemmas.ListLemmas.{kind_size, groups_within}
+use Rattle.interpolator_meaning.proofs.MeaningLemmas.MeaningLemmas.{scan_shorter}
 use Rattle.interpolator.proofs.TemplateLemmas.NodeNameLemmas.{any_kind, without_append, without_twice}
 use Rattle.interpolator.proofs.TemplateLemmas.ParseLemmas.{taken_is}
 

@@ -9,9 +9,9 @@ use Rattle.interpolator_render.specs.declared.view.Spec.{Spec}
 use Rattle.interpolator_render.specs.declared.view.Trait.{Trait}
 use Rattle.interpolator_syntax.specs.At.{At}
 use Rattle.interpolator_syntax.specs.Faults.{Fault}
-use Rattle.interpolator.specs.Slots.{Slots}
-use Rattle.interpolator.specs.Meaning.Environments.{Environment, bind}
-use Rattle.interpolator.specs.Meaning.Meanings.{Meaning, means}
+use Rattle.interpolator_meaning.specs.Slots.{Slots}
+use Rattle.interpolator_meaning.specs.Meaning.Environments.{Environment, bind}
+use Rattle.interpolator_meaning.specs.Meaning.Meanings.{Meaning, means}
 use Rattle.interpolator.specs.Template.NodeChecks.{fault_list, first_fault, own_fault, end_fault}
 use Rattle.interpolator.specs.Template.NodeChecks.{node_faults, branch_faults, forest_faults}
 use Rattle.interpolator.specs.Template.NodeChecks.{text_faults, IsOfText, NodeHas, BranchHas}

@@ -18,7 +18,7 @@ use Rattle.interpolator_syntax.specs.Pieces.{argument_step}
 use Rattle.interpolator_syntax.specs.SpecGrammar.{kind, parts, IsSpec}
 use Rattle.interpolator_syntax.specs.SpecTexts.{Kind, of_value, of_list, Asked}
 use Rattle.interpolator_syntax.specs.Tokens.{Token, argument, first_token, past_token}
-use Rattle.interpolator.specs.Meaning.Meanings.{inside}
+use Rattle.interpolator_meaning.specs.Meaning.Meanings.{inside}
 use Rattle.interpolator.specs.Template.Nodes.{as_forest, group_branch, item_branch, join_branch}
 use Rattle.interpolator.specs.Template.Nodes.{piece_node, token_node, nodes}
 use Rattle.interpolator.specs.Template.Splits.{node_place, node_end, Contiguous, GroupsInside}
@@ -29,7 +29,7 @@ use Rattle.interpolator_syntax.proofs.PieceLemmas.{strip_after}
 use Rattle.interpolator_syntax.proofs.ReaderLemmas.{argument_takes}
 use Rattle.interpolator_syntax.proofs.ScanLemmas.{hands_nothing}
 use Rattle.interpolator_syntax.proofs.SizeLemmas.{GroupIfIn, KindIn, argument_in}
-use Rattle.interpolator.proofs.MeaningLemmas.MeaningLemmas.{scan_shorter, token_shorter}
+use Rattle.interpolator_meaning.proofs.MeaningLemmas.MeaningLemmas.{scan_shorter, token_shorter}
 use Rattle.interpolator.proofs.TemplateLemmas.NodeLemmas.{by_length, argument_kind, nodes_first}
 use Rattle.interpolator.proofs.TemplateLemmas.NodeLemmas.{nodes_none}
 use Rattle.interpolator.proofs.TemplateLemmas.SplitLemmas.{texts}

@@ -13,14 +13,14 @@ use Rattle.interpolator_syntax.specs.Pieces.{argument_from}
 use Rattle.interpolator_syntax.specs.SpecTexts.{Kind, of_value, of_list}
 use Rattle.interpolator_syntax.specs.Tokens.{Token, first_token, past_token, argument}
 use Rattle.interpolator_syntax.proofs.SizeLemmas.{GroupIfIn, KindIn}
-use Rattle.interpolator.specs.Meaning.Meanings.{inside}
+use Rattle.interpolator_meaning.specs.Meaning.Meanings.{inside}
 use Rattle.interpolator.specs.Template.NodeExtents.{node_depth, branch_depth, forest_depth}
 use Rattle.interpolator.specs.Template.Nodes.{as_forest, group_branch, item_branch, join_branch}
 use Rattle.interpolator.specs.Template.Nodes.{piece_node, token_node, nodes}
 use Rattle.interpolator.specs.Template.Stored.{node_of, nodes_of, branch_of}
 use Rattle.interpolator.specs.declared.template.piece.Piece.{Piece}
 use Rattle.interpolator.specs.declared.template.piece.Piece.TheViews.{out-Piece}
-use Rattle.interpolator.proofs.MeaningLemmas.MeaningLemmas.{token_shorter, scan_shorter}
+use Rattle.interpolator_meaning.proofs.MeaningLemmas.MeaningLemmas.{token_shorter, scan_shorter}
 use Rattle.interpolator.proofs.TemplateLemmas.ExtentLemmas.{greater}
 use Rattle.interpolator.proofs.TemplateLemmas.NodeLemmas.{by_length, argument_kind, nodes_first}
 use Rattle.interpolator.proofs.TemplateLemmas.NodeLemmas.{nodes_none}

@@ -8,10 +8,10 @@ use Rattle.interpolator_render.specs.declared.view.Spec.{Spec}
 use Rattle.interpolator_render.specs.declared.view.Trait.{Trait}
 use Rattle.interpolator_syntax.specs.At.{At}
 use Rattle.interpolator_syntax.specs.Faults.{Fault, missing_trait_impl, fmt, missing_value}
-use Rattle.interpolator.specs.Slots.{Slots}
-use Rattle.interpolator.specs.Meaning.AskedNames.{asked_names}
-use Rattle.interpolator.specs.Meaning.Environments.{Environment, given, bind, environment}
-use Rattle.interpolator.specs.Meaning.Meanings.{Meaning, means}
+use Rattle.interpolator_meaning.specs.Slots.{Slots}
+use Rattle.interpolator_meaning.specs.Meaning.AskedNames.{asked_names}
+use Rattle.interpolator_meaning.specs.Meaning.Environments.{Environment, given, bind, environment}
+use Rattle.interpolator_meaning.specs.Meaning.Meanings.{Meaning, means}
 use Rattle.interpolator.specs.Template.NodeChecks.{fault_list, own_fault, end_fault, node_faults}
 use Rattle.interpolator.specs.Template.NodeChecks.{branch_faults, forest_faults, IsOfText}
 use Rattle.interpolator.specs.Template.NodeLacks.{first_lacking}
@@ -21,7 +21,7 @@ use Rattle.interpolator.specs.Template.NodeNames.{counted, held_asks, node_asks,
 use Rattle.interpolator.specs.Template.NodeNames.{forest_asks}
 use Rattle.interpolator.specs.Template.Nodes.{Node, node, Branch, no_branch, branch, Forest}
 use Rattle.interpolator.specs.Template.Nodes.{no_nodes, nodes_and, as_forest, nodes}
-use Rattle.interpolator.proofs.MeaningLemmas.RelatedLemmas.{bound_same}
+use Rattle.interpolator_meaning.proofs.MeaningLemmas.RelatedLemmas.{bound_same}
 use Rattle.interpolator.proofs.TemplateLemmas.CheckPlaceLemmas.{faults_of_text}
 use Rattle.interpolator.proofs.TemplateLemmas.NodeMeaningLemmas.{nodes_mean}
 use Rattle.interpolator.proofs.TemplateLemmas.NodeNameLemmas.{nodes_ask}

@@ -6,7 +6,7 @@ use Rattle.std.proofs.lemmas.List.{drop_more, drop_all}
 use Rattle.std.specs.Prelude.{if◌then◌else◌, ◌==◌}
 use Rattle.std.specs.Str.{chars, IsUtf8}
 use Rattle.interpolator_syntax.proofs.FirstByteLemmas.{ends_told}
-use Rattle.interpolator.specs.Meaning.Environments.{Environment, given}
+use Rattle.interpolator_meaning.specs.Meaning.Environments.{Environment, given}
 use Rattle.interpolator.specs.Template.NodeLacks.{first_lacking}
 use Rattle.interpolator.specs.Template.NodeNames.{counted, held_asks, node_asks, branch_asks}
 use Rattle.interpolator.specs.Template.NodeNames.{forest_asks}

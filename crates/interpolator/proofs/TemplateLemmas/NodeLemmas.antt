@@ -10,12 +10,12 @@ use Rattle.interpolator_syntax.specs.Pieces.{PieceKind, closed, unclosed, broken
 use Rattle.interpolator_syntax.specs.Pieces.{argument_or_broken, argument_step}
 use Rattle.interpolator_syntax.specs.SpecTexts.{Kind, of_value, of_list}
 use Rattle.interpolator_syntax.specs.Tokens.{Token, first_token, past_token, argument}
-use Rattle.interpolator.specs.Meaning.Meanings.{inside}
+use Rattle.interpolator_meaning.specs.Meaning.Meanings.{inside}
 use Rattle.interpolator.specs.Template.Nodes.{Node, as_branch, group_branch}
 use Rattle.interpolator.specs.Template.Nodes.{argument_node, piece_node, token_node}
 use Rattle.interpolator.specs.Template.Nodes.{leading_nodes, nodes_within, nodes}
 use Rattle.interpolator.specs.declared.template.piece.PieceKind as told
-use Rattle.interpolator.proofs.MeaningLemmas.MeaningLemmas.{token_shorter, scan_shorter}
+use Rattle.interpolator_meaning.proofs.MeaningLemmas.MeaningLemmas.{token_shorter, scan_shorter}
 use Rattle.interpolator_syntax.proofs.SizeLemmas.{GroupIfIn, KindIn, argument_in}
 
 -- ---- induction by length

@@ -10,9 +10,9 @@ use Rattle.interpolator_syntax.specs.SpecTexts.{Kind, of_value, of_list}
 use Rattle.interpolator_syntax.specs.Tokens.{Token, first_token, past_token, literals, argument}
 use Rattle.interpolator_syntax.proofs.ScanLemmas.{hands_on, hands_nothing}
 use Rattle.interpolator_syntax.proofs.SizeLemmas.{GroupIfIn, KindIn}
-use Rattle.interpolator.specs.Meaning.AskedNames.{without_empty, group_asks, kind_asks, piece_asks}
-use Rattle.interpolator.specs.Meaning.AskedNames.{pieces_ask, asked_names}
-use Rattle.interpolator.specs.Meaning.Meanings.{inside}
+use Rattle.interpolator_meaning.specs.Meaning.AskedNames.{without_empty, group_asks, kind_asks, piece_asks}
+use Rattle.interpolator_meaning.specs.Meaning.AskedNames.{pieces_ask, asked_names}
+use Rattle.interpolator_meaning.specs.Meaning.Meanings.{inside}
 use Rattle.interpolator.specs.Template.NodeNames.{counted, held_asks, node_asks, branch_asks}
 use Rattle.interpolator.specs.Template.NodeNames.{forest_asks}
 use Rattle.interpolator.specs.Template.Nodes.{Held, written, valued, refused}
@@ -20,8 +20,8 @@ use Rattle.interpolator.specs.Template.Nodes.{Node, node, Branch, no_branch, bra
 use Rattle.interpolator.specs.Template.Nodes.{Forest, no_nodes, nodes_and, as_forest, nodes}
 use Rattle.interpolator.specs.Template.Nodes.{group_branch, item_branch, join_branch}
 use Rattle.interpolator.specs.Template.Nodes.{piece_node, token_node}
-use Rattle.interpolator.proofs.MeaningLemmas.DepthLemmas.{asked_pieces}
-use Rattle.interpolator.proofs.MeaningLemmas.MeaningLemmas.{token_shorter, scan_shorter}
+use Rattle.interpolator_meaning.proofs.MeaningLemmas.DepthLemmas.{asked_pieces}
+use Rattle.interpolator_meaning.proofs.MeaningLemmas.MeaningLemmas.{token_shorter, scan_shorter}
 use Rattle.interpolator.proofs.TemplateLemmas.NodeLemmas.{by_length, argument_kind, nodes_first}
 use Rattle.interpolator.proofs.TemplateLemmas.NodeLemmas.{nodes_none}
 

@@ -34,7 +34,7 @@ use Rattle.interpolator_syntax.proofs.LongestLemmas.{at_same}
 use Rattle.interpolator_syntax.proofs.PieceLemmas.{read_alone}
 use Rattle.interpolator_syntax.proofs.ReaderLemmas.{argument_takes}
 use Rattle.interpolator_syntax.proofs.SizeLemmas.{GroupIfIn, KindIn, ListIn, argument_in}
-use Rattle.interpolator.specs.Meaning.Meanings.{inside}
+use Rattle.interpolator_meaning.specs.Meaning.Meanings.{inside}
 use Rattle.interpolator.specs.Template.Nodes.{Node, node, Branch, no_branch, Held, written, valued}
 use Rattle.interpolator.specs.Template.Nodes.{bare_of, nodes, piece_node}
 use Rattle.interpolator.specs.Template.Nodes.{token_node, group_branch, item_branch, join_branch}
@@ -47,7 +47,7 @@ use Rattle.interpolator.specs.declared.template.piece.Piece.{Piece}
 use Rattle.interpolator.specs.declared.template.piece.PieceKind as told
 use Rattle.interpolator.specs.declared.template.piece.PieceKind.TheVariants.{Literal, Doubled}
 use Rattle.interpolator.specs.declared.template.piece.PieceKind.TheVariants.{LoneClose, Closed}
-use Rattle.interpolator.proofs.MeaningLemmas.ListLemmas.{list_size, groups_within}
+use Rattle.interpolator_meaning.proofs.MeaningLemmas.ListLemmas.{list_size, groups_within}
 use Rattle.interpolator.proofs.TemplateLemmas.NodeLemmas.{nodes_first, nodes_none}
 use Rattle.interpolator.proofs.TemplateLemmas.PartLemmas.{part_lies, name_lies}
 use Rattle.interpolator.proofs.TemplateLemmas.StoredLemmas.{nodes_of_push}

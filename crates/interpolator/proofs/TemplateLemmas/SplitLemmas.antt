@@ -25,7 +25,7 @@ use Rattle.interpolator_syntax.proofs.GrammarLemmas.{pieces_joined}
 use Rattle.interpolator_syntax.proofs.GrammarPieceLemmas.{pieces_are}
 use Rattle.interpolator_syntax.proofs.LocalityLemmas.{Takes, stands, size-append, takes_reaches}
 use Rattle.interpolator_syntax.proofs.ScanLemmas.{hands_on, hands_nothing}
-use Rattle.interpolator.proofs.MeaningLemmas.MeaningLemmas.{scan_shorter}
+use Rattle.interpolator_meaning.proofs.MeaningLemmas.MeaningLemmas.{scan_shorter}
 use Rattle.interpolator.proofs.TemplateLemmas.NodeLemmas.{by_length, argument_kind, nodes_lead}
 use Rattle.interpolator.proofs.TemplateLemmas.NodeLemmas.{nodes_first, nodes_none}
 use Rattle.interpolator.proofs.TemplateLemmas.WithinLemmas.{handed_on, scan_taken}

@@ -3,7 +3,7 @@ use Rattle.std.specs.Prelude.{◌≡◌, ⊤, ◌⊎◌, ℕ, List, [], ◌∷�
 use Rattle.std.specs.Prelude.{if◌then◌else◌}
 use Rattle.interpolator_syntax.specs.At.{At}
 use Rattle.interpolator_syntax.specs.Faults.{Fault, parse, iter, unsupported_option}
-use Rattle.interpolator.specs.Meaning.Meanings.{forbids_list}
+use Rattle.interpolator_meaning.specs.Meaning.Meanings.{forbids_list}
 use Rattle.interpolator.specs.Template.Nodes.{Node, node, Branch, no_branch, branch, as_forest}
 use Rattle.interpolator.specs.Template.Nodes.{Forest, no_nodes, nodes_and, nodes}
 use Rattle.interpolator.specs.Template.Nodes.{Held, written, valued, refused, bare_value, bare_list}

@@ -7,10 +7,10 @@ use Rattle.interpolator_render.specs.Views.{Shown}
 use Rattle.interpolator_syntax.specs.At.{placed_from}
 use Rattle.interpolator_syntax.specs.Faults.{parse, expected}
 use Rattle.interpolator_syntax.specs.SpecTexts.{plain_spec}
-use Rattle.interpolator.specs.Slots.{Slots, values_of, items, slot_at}
-use Rattle.interpolator.specs.Meaning.Environments.{Environment, given, bind}
-use Rattle.interpolator.specs.Meaning.Meanings.{Meaning, nothing, text_alone, fault_alone, joined}
-use Rattle.interpolator.specs.Meaning.Meanings.{value_means, listed_means, under_name}
+use Rattle.interpolator_meaning.specs.Slots.{Slots, values_of, items, slot_at}
+use Rattle.interpolator_meaning.specs.Meaning.Environments.{Environment, given, bind}
+use Rattle.interpolator_meaning.specs.Meaning.Meanings.{Meaning, nothing, text_alone, fault_alone, joined}
+use Rattle.interpolator_meaning.specs.Meaning.Meanings.{value_means, listed_means, under_name}
 use Rattle.interpolator.specs.Template.Nodes.{Node, node, Branch, no_branch, branch}
 use Rattle.interpolator.specs.Template.Nodes.{Forest, no_nodes, nodes_and}
 use Rattle.interpolator.specs.Template.Nodes.{Held, written, valued, refused}

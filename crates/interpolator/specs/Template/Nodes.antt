@@ -14,7 +14,7 @@ use Rattle.interpolator_syntax.specs.SpecTexts.{Kind, of_value, of_list}
 use Rattle.interpolator_syntax.specs.Tokens.{Token, literals, argument, first_token, past_token}
 use Rattle.interpolator_syntax.specs.Tokens.{doubled as doubled_token, lone_close as lone_token}
 use Rattle.interpolator_syntax.specs.declared.range.Range.{Range}
-use Rattle.interpolator.specs.Meaning.Meanings.{inside}
+use Rattle.interpolator_meaning.specs.Meaning.Meanings.{inside}
 use Rattle.interpolator.specs.declared.template.piece.PieceKind as told
 use Rattle.interpolator.specs.declared.template.piece.PieceKind.TheVariants.{Literal, Doubled}
 use Rattle.interpolator.specs.declared.template.piece.PieceKind.TheVariants.{LoneClose, Closed}

@@ -13,7 +13,7 @@ use Rattle.interpolator_syntax.specs.Groups.{Group}
 use Rattle.interpolator_syntax.specs.SpecTexts.{plain_spec}
 use Rattle.interpolator_syntax.specs.declared.range.Range.{Range}
 use Rattle.interpolator.specs.Template.Nodes.{Node, node, Branch, no_branch, branch, Forest}
-use Rattle.interpolator.specs.Meaning.Meanings.{inside}
+use Rattle.interpolator_meaning.specs.Meaning.Meanings.{inside}
 use Rattle.interpolator.specs.Template.Nodes.{no_nodes, nodes_and, as_branch, nodes, group_branch}
 use Rattle.interpolator.specs.Template.Nodes.{Held, written, valued, refused}
 use Rattle.interpolator.specs.Template.Nodes.{bare_value, bare_list}

@@ -4,9 +4,9 @@ use Rattle.interpolator_render.specs.declared.view.Trait.{Trait}
 use Rattle.interpolator_render.specs.declared.view.Spec.{Spec}
 use Rattle.interpolator_render.specs.Views.{Shown}
 use Rattle.interpolator_syntax.specs.Faults.{Fault, parse, expected}
-use Rattle.interpolator.specs.Slots.{Slots}
-use Rattle.interpolator.specs.Meaning.Environments.{Environment}
-use Rattle.interpolator.specs.Meaning.Meanings.{Meaning, items_mean}
+use Rattle.interpolator_meaning.specs.Slots.{Slots}
+use Rattle.interpolator_meaning.specs.Meaning.Environments.{Environment}
+use Rattle.interpolator_meaning.specs.Meaning.Meanings.{Meaning, items_mean}
 use Rattle.interpolator.specs.Template.Nodes.{as_forest}
 use Rattle.interpolator.specs.Template.NodeMeanings.{node_means, forest_means}
 use Rattle.interpolator.specs.Template.NodeMeanings.{item_branch_means, join_branch_means}

@@ -4,10 +4,10 @@
 ghost use Rattle.std.specs.Prelude.{◌≡◌, ◌≢◌, ◌↔◌, ℕ, List, Option, None, Some, Contains, codes};
 ghost use Rattle.interpolator_syntax.specs.At.{At, outermost};
 ghost use Rattle.interpolator_syntax.specs.Faults.{Fault, parse, unclosed, missing_value};
-ghost use Rattle.interpolator.specs.Slots.{Slots};
-ghost use Rattle.interpolator.specs.Meaning.AskedNames.{asked_names};
-ghost use Rattle.interpolator.specs.Meaning.Environments.{Environment, environment};
-ghost use Rattle.interpolator.specs.Meaning.Meanings.{means};
+ghost use Rattle.interpolator_meaning.specs.Slots.{Slots};
+ghost use Rattle.interpolator_meaning.specs.Meaning.AskedNames.{asked_names};
+ghost use Rattle.interpolator_meaning.specs.Meaning.Environments.{Environment, environment};
+ghost use Rattle.interpolator_meaning.specs.Meaning.Meanings.{means};
 ghost use Rattle.interpolator.specs.Template.NodeChecks.{first_fault, text_faults, IsOfText};
 ghost use Rattle.interpolator.specs.Template.NodeChecks.{ForestHas, FirstFaulty};
 ghost use Rattle.interpolator.specs.Template.NodeLacks.{first_lacking};

@@ -7,8 +7,8 @@ ghost use Rattle.interpolator_syntax.specs.Pieces.{argument_from};
 ghost use Rattle.interpolator.specs.Template.AllArguments.{arguments_of, group_arguments};
 ghost use Rattle.interpolator.specs.Template.AllArguments.{kind_arguments, piece_arguments};
 
-use crate::meaning::list::inside;
 use crate::template::parse::{ending, skip_all};
+use interpolator_meaning::inside;
 use interpolator_syntax::{
     Argument, Cursor, Group, Kind, Token, argument_of, next_token, take_argument,
 };

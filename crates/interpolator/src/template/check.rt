@@ -9,9 +9,9 @@ ghost use Rattle.interpolator.specs.Template.Stored.{node_of, nodes_of, node_who
 ghost use Rattle.interpolator.specs.Template.Stored.{branch_of};
 ghost use Rattle.interpolator.specs.declared.template.piece.Piece.TheViews.{out-Piece};
 
-use crate::meaning::list::forbids_list;
-use crate::meaning::tree::closed;
 use crate::template::piece::{Form, Piece};
+use crate::tree::closed;
+use interpolator_meaning::forbids_list;
 use interpolator_syntax::{Error, ParseError, error_of};
 
 /// The first fault of pieces, in order.

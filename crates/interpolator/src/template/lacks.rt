@@ -1,7 +1,7 @@
 //! The first name that pieces ask and a context has nothing under.
 ghost use Rattle.std.specs.Prelude.{◌≡◌, true, option_map};
 ghost use Rattle.std.specs.Str.{chars};
-ghost use Rattle.interpolator.specs.Meaning.Environments.{environment};
+ghost use Rattle.interpolator_meaning.specs.Meaning.Environments.{environment};
 ghost use Rattle.interpolator.specs.Template.NodeLacks.{first_lacking};
 ghost use Rattle.interpolator.specs.Template.NodeNames.{forest_asks, node_asks, branch_asks};
 ghost use Rattle.interpolator.specs.Template.NodeNames.{held_asks, counted};
@@ -10,9 +10,9 @@ ghost use Rattle.interpolator.specs.Template.Stored.{node_of, nodes_of, node_who
 ghost use Rattle.interpolator.specs.Template.Stored.{branch_of, held_of};
 ghost use Rattle.interpolator.specs.declared.template.piece.Piece.TheViews.{out-Piece};
 
-use crate::context::Context;
-use crate::meaning::tree::text_of;
 use crate::template::piece::{Form, Piece};
+use crate::tree::text_of;
+use interpolator_meaning::Context;
 
 /// A name that the context has nothing under, but not the empty one in an item format.
 fn lacking_name<'t, C: Context>(context: &C, name: &'t str, in_item: bool) -> Option<&'t str>

@@ -8,8 +8,8 @@ ghost use Rattle.interpolator.specs.Template.Stored.{node_of, nodes_of, node_who
 ghost use Rattle.interpolator.specs.Template.Stored.{branch_of, held_of};
 ghost use Rattle.interpolator.specs.declared.template.piece.Piece.TheViews.{out-Piece};
 
-use crate::meaning::tree::text_of;
 use crate::template::piece::{Form, Piece};
+use crate::tree::text_of;
 use std::alloc::{AllocError, Global};
 
 /// Adds a copy of a name, but not of the empty one in an item format.

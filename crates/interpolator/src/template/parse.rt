@@ -18,8 +18,8 @@ ghost use Rattle.interpolator.specs.Template.Stored.{stored_held, range_of};
 ghost use Rattle.interpolator.specs.declared.template.piece.Form.TheVariants as forms;
 ghost use Rattle.interpolator.specs.Template.Reading.{ending_kind, ending_rest};
 
-use crate::meaning::list::inside;
 use crate::template::piece::{Form, Piece, PieceKind};
+use interpolator_meaning::inside;
 use interpolator_render::{Spec, Trait};
 use interpolator_syntax::{
     ArgumentFault, ArgumentName, Asked, Cursor, Group, Range, Token, next_token, take_asked,

@@ -2,10 +2,10 @@ use Rattle.std.proofs.Common.{◌+◌, length, ap, arith, Some}
 use Rattle.std.proofs.lemmas.List.{drop_all}
 use Rattle.interpolator_syntax.specs.Faults.{answer_of}
 use Rattle.interpolator.specs.Meaning.Parts.{bytes_of}
-use Rattle.interpolator.proofs.MeaningLemmas.SinkLemmas.{same_then, goes_on}
-use Rattle.interpolator.proofs.MeaningLemmas.PlaceLemmas.{lies_in_more}
-use Rattle.interpolator.proofs.MeaningLemmas.PartLemmas.{part_runs, part_faults, no_parts_run}
-use Rattle.interpolator.proofs.MeaningLemmas.PartLemmas.{part_at, rest_at}
+use Rattle.interpolator_meaning.proofs.MeaningLemmas.SinkLemmas.{same_then, goes_on}
+use Rattle.interpolator_meaning.proofs.MeaningLemmas.PlaceLemmas.{lies_in_more}
+use Rattle.interpolator.proofs.PartLemmas.{part_runs, part_faults, no_parts_run}
+use Rattle.interpolator.proofs.PartLemmas.{part_at, rest_at}
 use Rattle.interpolator.proofs.parts.write_each.Goals as goal
 
 pub write_part-requires : goal.write_part-requires

@@ -1,8 +1,8 @@
 use Rattle.std.proofs.Common.{◌≡◌, ◌+◌, drop, Option}
 use Rattle.interpolator_syntax.specs.Faults.{Answer}
 use Rattle.interpolator.specs.Meaning.Parts.{texts_of, bytes_of, parts_mean}
-use Rattle.interpolator.specs.Meaning.Scopes.{environment_of}
-use Rattle.interpolator.specs.Meaning.Sinks.{SinkState, Evaluates, SameSink, seen}
+use Rattle.interpolator_meaning.specs.Meaning.Scopes.{environment_of}
+use Rattle.interpolator_meaning.specs.Meaning.Sinks.{SinkState, Evaluates, SameSink, seen}
 use Rattle.interpolator.proofs.parts.write_each.Given as goal
 
 -- what the parts that are left come to, after what was written, is what all parts come to

@@ -1,6 +1,6 @@
-use Rattle.interpolator.specs.Meaning.Environments.{environment}
+use Rattle.interpolator_meaning.specs.Meaning.Environments.{environment}
 use Rattle.interpolator.specs.Meaning.Parts.{texts_of}
-use Rattle.interpolator.proofs.MeaningLemmas.PartLemmas.{parts_are_one}
+use Rattle.interpolator.proofs.PartLemmas.{parts_are_one}
 use Rattle.interpolator.proofs.parts.write_parts.Goals as goal
 
 pub returns-clause-composes : goal.returns-clause-composes

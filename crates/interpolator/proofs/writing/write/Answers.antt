@@ -1,11 +1,11 @@
 use Rattle.std.proofs.Common.{arith, length, rules}
 use Rattle.std.specs.Str.{chars}
 use Rattle.interpolator_syntax.specs.At.{outermost}
-use Rattle.interpolator.specs.Meaning.Environments.{environment}
+use Rattle.interpolator_meaning.specs.Meaning.Environments.{environment}
 use Rattle.interpolator_syntax.proofs.CharacterLemmas.{size-chars}
-use Rattle.interpolator.proofs.MeaningLemmas.AskedLemmas.{asked_outcome}
-use Rattle.interpolator.proofs.MeaningLemmas.SinkLemmas.{at_out}
-use Rattle.interpolator.proofs.MeaningLemmas.PlaceLemmas.{outcome_lies_from}
+use Rattle.interpolator_meaning.proofs.MeaningLemmas.AskedLemmas.{asked_outcome}
+use Rattle.interpolator_meaning.proofs.MeaningLemmas.SinkLemmas.{at_out}
+use Rattle.interpolator_meaning.proofs.MeaningLemmas.PlaceLemmas.{outcome_lies_from}
 use Rattle.interpolator.proofs.writing.write.Goals as goal
 
 pub returns-clause-place : goal.returns-clause-place

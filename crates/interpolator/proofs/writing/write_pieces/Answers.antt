@@ -1,10 +1,10 @@
 use Rattle.std.proofs.Common.{arith, length, rules}
 use Rattle.std.specs.Str.{chars}
 use Rattle.interpolator_syntax.specs.At.{outermost}
-use Rattle.interpolator.specs.Meaning.Environments.{environment}
+use Rattle.interpolator_meaning.specs.Meaning.Environments.{environment}
 use Rattle.interpolator_syntax.proofs.CharacterLemmas.{size-chars}
-use Rattle.interpolator.proofs.MeaningLemmas.AskedLemmas.{asked_outcome}
-use Rattle.interpolator.proofs.MeaningLemmas.PlaceLemmas.{outcome_lies_from}
+use Rattle.interpolator_meaning.proofs.MeaningLemmas.AskedLemmas.{asked_outcome}
+use Rattle.interpolator_meaning.proofs.MeaningLemmas.PlaceLemmas.{outcome_lies_from}
 use Rattle.interpolator.proofs.TemplateLemmas.RunLemmas.{text_whole, text_outcome}
 use Rattle.interpolator.proofs.writing.write_pieces.Goals as goal
 

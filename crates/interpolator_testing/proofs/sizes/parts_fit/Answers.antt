@@ -1,7 +1,7 @@
 use Rattle.std.proofs.Common.{ap, arith}
 use Rattle.std.proofs.lemmas.List.{drop_all}
 use Rattle.interpolator.specs.Meaning.Parts.{bytes_of}
-use Rattle.interpolator.proofs.MeaningLemmas.PartLemmas.{rest_at}
+use Rattle.interpolator.proofs.PartLemmas.{rest_at}
 use Rattle.interpolator_testing.proofs.sizes.parts_fit.Goals as goal
 
 pub loop-part-preserved : goal.loop-part-preserved

@@ -1,4 +1,4 @@
-use Rattle.interpolator.proofs.MeaningLemmas.PartLemmas.{faultless_closes}
+use Rattle.interpolator.proofs.PartLemmas.{faultless_closes}
 use Rattle.interpolator.proofs.laws.parts.faultless_text_closes.Goals as goal
 
 pub returns : goal.returns

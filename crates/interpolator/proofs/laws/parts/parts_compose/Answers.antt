@@ -1,4 +1,4 @@
-use Rattle.interpolator.proofs.MeaningLemmas.PartLemmas.{parts_are_one}
+use Rattle.interpolator.proofs.PartLemmas.{parts_are_one}
 use Rattle.interpolator.proofs.laws.parts.parts_compose.Goals as goal
 
 pub returns : goal.returns

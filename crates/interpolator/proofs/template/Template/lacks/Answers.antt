@@ -2,7 +2,7 @@ use Rattle.std.proofs.Common.{ap, ◌∙◌, false}
 use Rattle.std.specs.Prelude.{string_bytes}
 use Rattle.std.specs.Str.{chars}
 use Rattle.interpolator_syntax.specs.At.{outermost}
-use Rattle.interpolator.specs.Meaning.Environments.{environment}
+use Rattle.interpolator_meaning.specs.Meaning.Environments.{environment}
 use Rattle.interpolator.specs.Template.NodeLacks.{first_lacking}
 use Rattle.interpolator.specs.Template.NodeNames.{forest_asks}
 use Rattle.interpolator.specs.Template.Nodes.{as_forest, nodes}

@@ -4,7 +4,7 @@ use Rattle.interpolator_syntax.specs.Arguments.{argument_of, named_argument, ask
 use Rattle.interpolator_syntax.specs.At.{at, strip}
 use Rattle.interpolator_syntax.specs.Classes.{close_brace}
 use Rattle.interpolator_syntax.specs.Tokens.{argument, first_token, token_of}
-use Rattle.interpolator.proofs.MeaningLemmas.MeaningLemmas.{token_shorter, scan_shorter}
+use Rattle.interpolator_meaning.proofs.MeaningLemmas.MeaningLemmas.{token_shorter, scan_shorter}
 use Rattle.interpolator.proofs.TemplateLemmas.AllArgumentLemmas.{no_argument, gathers_on}
 use Rattle.interpolator.proofs.TemplateLemmas.AllArgumentLemmas.{all_gathered, gathers_nothing}
 use Rattle.interpolator.proofs.TemplateLemmas.AllArgumentLemmas.{argument_pushed, kind_fits}

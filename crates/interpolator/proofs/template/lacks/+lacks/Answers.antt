@@ -1,6 +1,6 @@
 use Rattle.std.proofs.Common.{◌∙◌, refl, rules, sym}
 use Rattle.std.specs.Str.{chars}
-use Rattle.interpolator.specs.Meaning.Environments.{environment}
+use Rattle.interpolator_meaning.specs.Meaning.Environments.{environment}
 use Rattle.interpolator.proofs.TemplateLemmas.LackLemmas.{lacks_own, lacks_item, lacks_join}
 use Rattle.interpolator.proofs.TemplateLemmas.LackLemmas.{pieces_lack, lacks_goes_on, lacks_over}
 use Rattle.interpolator.proofs.TemplateLemmas.WholePieceLemmas.{in_item, in_join}

@@ -1,5 +1,5 @@
 use Rattle.std.proofs.Common.{◌≡◌, drop}
-use Rattle.interpolator.specs.Meaning.Environments.{environment}
+use Rattle.interpolator_meaning.specs.Meaning.Environments.{environment}
 use Rattle.interpolator.specs.Template.NodeLacks.{first_lacking}
 use Rattle.interpolator.specs.Template.NodeNames.{forest_asks}
 use Rattle.interpolator.specs.Template.Nodes.{as_forest}

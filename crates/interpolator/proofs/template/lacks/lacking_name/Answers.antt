@@ -1,6 +1,6 @@
 use Rattle.std.proofs.Common.{◌≡◌, [], ◌∷◌}
 use Rattle.std.specs.Str.{chars}
-use Rattle.interpolator.specs.Meaning.Environments.{environment}
+use Rattle.interpolator_meaning.specs.Meaning.Environments.{environment}
 use Rattle.interpolator.specs.Template.NodeNames.{counted}
 use Rattle.interpolator.proofs.TemplateLemmas.LackLemmas.{lacks_item_name, lacks_one}
 use Rattle.interpolator.proofs.TemplateLemmas.StoredNameLemmas.{asked_outside, asked_named}

@@ -1,0 +1,162 @@
+-- What parts mean, one after the other, and what their joined text means.
+use Rattle.std.proofs.Common.{◌≡◌, ◌≢◌, ℕ, ◌+◌, List, [], ◌∷◌, ◌++◌}
+use Rattle.std.proofs.Common.{length, arith, refl, ap, ◌∙◌, sym, Option, Some, None}
+use Rattle.std.proofs.Common.{append_assoc, append-nil, codes, ◌<◌, drop, get_or}
+use Rattle.std.proofs.lemmas.List.{drop_more}
+use Rattle.std.specs.Borrow.{Bor}
+use Rattle.std.specs.Str.{chars}
+use Rattle.interpolator_render.specs.declared.view.Trait.{Trait}
+use Rattle.interpolator_render.specs.declared.view.Spec.{Spec}
+use Rattle.interpolator_render.specs.Views.{Shown}
+use Rattle.interpolator_syntax.specs.At.{At, size, outermost}
+use Rattle.interpolator_syntax.specs.Pieces.{PieceKind, Piece, unclosed, broken, pieces}
+use Rattle.interpolator.specs.Seams.{kind_ending, piece_ending, last_ending, ending}
+use Rattle.interpolator_syntax.specs.Faults.{Fault, Answer, parse, expected}
+use Rattle.interpolator_meaning.specs.Meaning.Environments.{Environment}
+use Rattle.interpolator_meaning.specs.Meaning.Meanings.{Meaning, nothing, fault_alone, or_fault, joined}
+use Rattle.interpolator_meaning.specs.Meaning.Meanings.{argument_means, piece_means, pieces_mean, means}
+use Rattle.interpolator.specs.Meaning.Parts.{joined_text, texts_of, parts_mean, CleanBehind, Clean}
+use Rattle.interpolator.specs.Meaning.Parts.{FrontsClose}
+use Rattle.interpolator_meaning.specs.Meaning.Sinks.{SinkState, Evaluates, Writes, seen}
+use Rattle.interpolator.specs.declared.parts.Ending.{Ending}
+use Rattle.interpolator.specs.declared.parts.Ending.TheVariants.{Settled, Open}
+use Rattle.interpolator_meaning.specs.declared.meaning.sink.Sink as code_sink
+use Rattle.interpolator_syntax.proofs.LocalityLemmas.{stands, size-append}
+use Rattle.interpolator_syntax.proofs.CaseLemmas.{none_some}
+use Rattle.interpolator_syntax.proofs.PieceLemmas.{pieces_none}
+use Rattle.interpolator.proofs.SeamLemmas.{Leaves, pieces_append, both_close}
+use Rattle.interpolator_meaning.proofs.MeaningLemmas.DepthLemmas.{means_pieces}
+use Rattle.interpolator_meaning.proofs.MeaningLemmas.MeaningLemmas.{joined_assoc, means_none, joined_none}
+use Rattle.interpolator_meaning.proofs.MeaningLemmas.SinkLemmas.{and_then, fault_first, nothing_done}
+use Rattle.interpolator_meaning.proofs.MeaningLemmas.SinkLemmas.{same_sink}
+use Rattle.interpolator_render.specs.Written.{Written}
+
+pub nothing_last : (m : Meaning) → joined m nothing ≡ m
+nothing_last m = by_fault m.fault refl
+  where
+    by_fault : (o : Option Fault) → m.fault ≡ o → or_fault o m nothing ≡ m
+    by_fault (Some f) e = refl
+    by_fault None e = rw (append-nil m.text, append-nil m.memory_points, ← e) refl
+
+pub zero_and : (n : ℕ) → 0 + n ≡ n
+zero_and n = omega arith
+
+module _ {X : Type 0} (shows : X → Trait → Spec → Shown) (e : Environment X) where
+  pieces_mean_append : (xs ys : List Piece)
+      → pieces_mean shows (means shows) e (xs ++ ys) ≡ joined (pieces_mean shows (means shows) e xs)
+      (pieces_mean shows (means shows) e ys)
+  pieces_mean_append [] ys = sym (joined_none (pieces_mean shows (means shows) e ys))
+  pieces_mean_append (x ∷ xs) ys =
+      let first = piece_means shows (means shows) e x.place x.kind in
+      ap (joined first) (pieces_mean_append xs ys) ∙ sym (joined_assoc first _ _)
+
+  -- what two texts mean, one after the other
+  means_both :
+      (p : ℕ) (cs more : List ℕ) → Leaves (ending (stands p cs)) more
+      → means shows e (stands p (cs ++ more))
+      ≡ joined (means shows e (stands p cs)) (means shows e (stands (p + size cs) more))
+  means_both p cs more h =
+      let at = means_pieces shows e in
+      let a = stands p cs in
+      let b = stands (p + size cs) more in
+      let split = pieces_append (length cs) p cs more (omega arith) h in
+      rw (at (stands p (cs ++ more)), split, at a, at b) (pieces_mean_append (pieces a) (pieces b))
+
+  pub means_next : (before part : List ℕ) → Leaves (ending (outermost before)) part
+      → joined (means shows e (outermost before)) (means shows e (stands (size before) part))
+      ≡ means shows e (outermost (before ++ part))
+  means_next before part h =
+      rw zero_and at (sym (means_both 0 before part h))
+
+  compose_after :
+      (before part : List ℕ) (parts : List (List ℕ)) → ending (outermost before) ≢ Open
+      → CleanBehind before (part ∷ parts) → FrontsClose (size before) (part ∷ parts)
+      → joined (means shows e (outermost before)) (parts_mean shows e (size before) (part ∷ parts))
+      ≡ means shows e (outermost (before ++ joined_text (part ∷ parts)))
+  compose_after before part [] h clean close =
+      rw (nothing_last (means shows e (stands (size before) part)), append-nil part)
+      (means_next before part (h, clean.0))
+  compose_after before part (next ∷ parts) h clean close =
+      let here = means shows e (stands (size before) part) in
+      let there = size-append before part in
+      let rest = λ (n : ℕ). parts_mean shows e n (next ∷ parts) in
+      let closes = both_close 0 before part (h, clean.0) (rw zero_and close.0) in
+      let more =
+      compose_after (before ++ part) next parts closes clean.1 (rw there close.1) in
+      sym (joined_assoc (means shows e (outermost before)) here (rest (size before + size part)))
+      ∙ ap (λ m. joined m (rest (size before + size part))) (means_next before part (h, clean.0))
+      ∙ (rw (there, append_assoc) at more)
+
+  -- clean parts mean what their joined text means
+  pub parts_are_one : (parts : List (List ℕ)) → Clean parts → FrontsClose 0 parts
+      → parts_mean shows e 0 parts ≡ means shows e (outermost (joined_text parts))
+  parts_are_one [] clean close = sym (means_none shows e 0)
+  parts_are_one (part ∷ parts) clean close =
+      let settled : ending (outermost []) ≢ Open = rw (pieces_none 0) (λ d. cc) in
+      let all = parts_mean shows e 0 (part ∷ parts) in
+      sym (joined_none all) ∙ ap (λ m. joined m all) (sym (means_none shows e 0))
+      ∙ compose_after [] part parts settled clean close
+
+  -- ---- a text without fault
+
+  no_fault_first : (m k : Meaning) → (joined m k).fault ≡ None → (m.fault ≡ None) × (k.fault ≡ None)
+  no_fault_first m k h = grind arith
+
+  piece_closes : (p : ℕ) (k : PieceKind) → (piece_means shows (means shows) e p k).fault ≡ None
+      → kind_ending k ≢ Open
+  piece_closes p (unclosed start x q) h =
+      let parts =
+      no_fault_first (argument_means shows (means shows) e start x q)
+      (fault_alone (parse (expected (codes "}") q))) h in
+      absurd (none_some (sym parts.1))
+  piece_closes p (broken f) h = absurd (none_some (sym h))
+  piece_closes p kind h = λ d. cc
+
+  pieces_close : (d : Ending) (xs : List Piece) → d ≢ Open
+      → (pieces_mean shows (means shows) e xs).fault ≡ None
+      → last_ending d xs ≢ Open
+  pieces_close d [] k h = k
+  pieces_close d (x ∷ xs) k h =
+      let both =
+      no_fault_first (piece_means shows (means shows) e x.place x.kind)
+      (pieces_mean shows (means shows) e xs) h in
+      pieces_close (piece_ending x) xs (piece_closes x.place x.kind both.0) both.1
+
+  -- a text without fault ends in no argument that is unclosed or broken
+  pub faultless_closes : (a : At) → (means shows e a).fault ≡ None → ending a ≢ Open
+  faultless_closes a h =
+      pieces_close Settled (pieces a) (λ d. cc)
+      (ap (λ (m : Meaning). m.fault) (sym (means_pieces shows e a)) ∙ h)
+
+  -- ---- runs
+
+  module _ {W : Type 0} (written : W → Written) (p : ℕ) (parts : List (Bor (List ℕ))) where
+    module _ (part : Bor (List ℕ)) (after : List (Bor (List ℕ))) (split : parts ≡ part ∷ after)
+        (s t : code_sink.Sink W) where
+      abbrev Here : Option Answer → Type 0
+      Here r = Writes written (means shows e (stands p (chars part.now))) s t r
+
+      pub part_runs :
+          (q : ℕ) (u : SinkState) (answer : Option Answer) → q ≡ p + size (chars part.now)
+          → Here None → Evaluates (parts_mean shows e q (texts_of after)) (seen written t) u answer
+          → Evaluates (parts_mean shows e p (texts_of parts)) (seen written s) u answer
+      part_runs q u answer h o k =
+          rw (split, ← h) (and_then _ _ _ _ u answer o.evaluates k)
+
+      pub part_faults : (w : Answer) → Here (Some w)
+          → Writes written (parts_mean shows e p (texts_of parts)) s t (Some w)
+      part_faults w o =
+          record { evaluates = rw split (fault_first _ _ _ _ w o.evaluates); same = o.same }
+
+    pub no_parts_run : (s : code_sink.Sink W) → parts ≡ []
+        → Writes written (parts_mean shows e p (texts_of parts)) s s None
+    no_parts_run s none = record { evaluates = rw none (nothing_done _); same = same_sink s }
+
+-- the part at an index, as a loop takes it; there is none at an index past the last
+abbrev pub part_at : List (Bor (List ℕ)) → ℕ → Bor (List ℕ)
+part_at parts i = get_or parts i (record { ref_ptr = (0, 0); now = [] })
+
+-- the parts from an index on
+pub rest_at : (parts : List (Bor (List ℕ))) (i : ℕ) → i < length parts
+    → drop i parts ≡ part_at parts i ∷ drop (i + 1) parts
+rest_at parts i within = drop_more parts i (record { ref_ptr = (0, 0); now = [] }) within

@@ -1,0 +1,40 @@
+use Rattle.std.proofs.Common.{map, drop, Option}
+use Rattle.interpolator_syntax.specs.Faults.{Answer}
+use Rattle.interpolator_meaning.specs.Slots.{slots_of}
+use Rattle.interpolator_meaning.specs.Meaning.Meanings.{items_after}
+use Rattle.interpolator_meaning.specs.Meaning.Scopes.{environment_of}
+use Rattle.interpolator_meaning.specs.Meaning.Sinks.{SinkState, Evaluates, SameSink, seen}
+use Rattle.interpolator.specs.Template.StoredMeanings.{stored_pieces_mean, stored_join_means}
+use Rattle.interpolator.specs.Template.StoredMeanings.{stored_item_means, stored_items_mean}
+use Rattle.interpolator.specs.declared.template.piece.Piece.TheViews.{out-Piece}
+use Rattle.interpolator.proofs.tree.+tree.Given as goal
+
+-- what the pieces left come to, after what was written, is what all of them come to
+abbrev pub invariant-run_pieces-loop-piece : goal.invariant-run_pieces-loop-piece
+invariant-run_pieces-loop-piece g l =
+    let meaning = stored_pieces_mean g.C.Object.Value.shows
+    (environment_of g.C.Context.finds l.scope) l.text in
+    record {
+      so_far : (new : SinkState) (answer : Option Answer)
+          → Evaluates (meaning (drop l.piece-index l.pieces)) (seen g.W.TextWrite.written l.sink)
+          new answer
+          → Evaluates (meaning l.pieces) (seen g.W.TextWrite.written l.fn.sink) new answer;
+      same : SameSink l.fn.sink l.sink;
+    }
+
+-- what the items left come to, after what was written, is what the whole list comes to
+abbrev pub invariant-run_items-loop-item : goal.invariant-run_items-loop-item
+invariant-run_items-loop-item g l =
+    let shows = g.C.Object.Value.shows in
+    let e = environment_of g.C.Context.finds l.scope in
+    let end = (out-Piece l.piece).spec_end in
+    let join = stored_join_means shows e l.text l.piece in
+    let one = stored_item_means shows e l.text l.piece end in
+    record {
+      so_far : (new : SinkState) (answer : Option Answer)
+          → Evaluates (items_after join one (map slots_of (drop l.item-index l.rest)))
+          (seen g.W.TextWrite.written l.sink) new answer
+          → Evaluates (stored_items_mean shows e l.text l.piece end (map slots_of l.items))
+          (seen g.W.TextWrite.written l.fn.sink) new answer;
+      same : SameSink l.fn.sink l.sink;
+    }

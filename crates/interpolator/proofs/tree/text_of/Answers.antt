@@ -1,0 +1,25 @@
+use Rattle.std.proofs.Common.{refl}
+use Rattle.interpolator.specs.declared.template.piece.Piece.TheViews.{out-Piece}
+use Rattle.interpolator.proofs.TemplateLemmas.RunLemmas.{cut_of}
+use Rattle.interpolator.proofs.tree.text_of.Goals as goal
+
+pub range-requires-clause-start_le_end : goal.range-requires-clause-start_le_end
+range-requires-clause-start_le_end c =
+    (cut_of c.args.text.now (out-Piece c.args.piece.now).from (out-Piece c.args.piece.now).to
+    c.requires.fits).order
+
+pub range-requires-clause-start_boundary : goal.range-requires-clause-start_boundary
+range-requires-clause-start_boundary c some =
+    (cut_of c.args.text.now (out-Piece c.args.piece.now).from (out-Piece c.args.piece.now).to
+    c.requires.fits).first
+
+pub range-requires-clause-end_boundary : goal.range-requires-clause-end_boundary
+range-requires-clause-end_boundary c =
+    (cut_of c.args.text.now (out-Piece c.args.piece.now).from (out-Piece c.args.piece.now).to
+    c.requires.fits).last
+
+pub returns-clause-text : goal.returns-clause-text
+returns-clause-text c =
+    let cut = cut_of c.args.text.now (out-Piece c.args.piece.now).from
+    (out-Piece c.args.piece.now).to c.requires.fits in
+    rw (cut.cut, c.range.ensures.value) refl

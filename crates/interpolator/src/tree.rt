@@ -1,0 +1,290 @@
+//! Writes what pieces mean that were read before, up to the first fault: callers first.
+ghost use Rattle.std.specs.Prelude.{◌≡◌, ◌+◌, ◌^◌, ◌<◌, IsSome, None, Some, true, length, map, option_map};
+ghost use Rattle.std.specs.Str.{chars};
+ghost use Rattle.interpolator_syntax.specs.Faults.{answered, fault, argument_fault_of};
+ghost use Rattle.interpolator_meaning.specs.Meaning.Lists.{list_under_name, padded_list_means};
+ghost use Rattle.interpolator_meaning.specs.Meaning.Scopes.{environment_of};
+ghost use Rattle.interpolator_meaning.specs.Meaning.Sinks.{Writes};
+ghost use Rattle.interpolator_meaning.specs.Slots.{slots_of};
+ghost use Rattle.interpolator.specs.Template.Nodes.{as_forest};
+ghost use Rattle.interpolator.specs.Template.Stored.{node_of, nodes_of, node_whole, forest_whole};
+ghost use Rattle.interpolator.specs.Template.Stored.{range_of};
+ghost use Rattle.interpolator.specs.Template.StoredMeanings.{stored_part, stored_name};
+ghost use Rattle.interpolator.specs.Template.StoredMeanings.{stored_pieces_mean, unclosed_fault};
+ghost use Rattle.interpolator.specs.Template.StoredMeanings.{stored_piece_means, stored_join_means};
+ghost use Rattle.interpolator.specs.Template.StoredMeanings.{stored_item_means, stored_items_mean};
+ghost use Rattle.interpolator.specs.declared.template.piece.Form.TheVariants as forms;
+ghost use Rattle.interpolator.specs.declared.template.piece.Piece.TheViews.{out-Piece};
+
+use crate::template::piece::{Form, Piece, PieceKind};
+use interpolator_meaning::{
+    Context, Formattable, Scope, Sink, chosen_list, list_buffer, write_plain_item, write_value,
+};
+use interpolator_render::{Spec, TextWrite, Trait};
+use interpolator_syntax::{ArgumentFault, Error, ParseError, Range, error_of};
+
+/// The bytes of the text that are written for a piece.
+#[inline(always)]
+pub(crate) fn text_of<'t>(text: &'t str, piece: &Piece) -> &'t str
+    requires fits { IsSome (stored_part text.now piece.now) }
+    ensures text { Some (chars result.now) ≡ stored_part text.now piece.now }
+    ensures fits { (out-Piece piece.now).from + length result.now < 2 ^ 64 }
+{
+    &text[piece.from..piece.to]
+}
+
+/// Where the argument of a piece begins, and its name.
+#[inline(always)]
+fn name_of<'t>(text: &'t str, piece: &Piece) -> (usize, &'t str)
+    requires fits { IsSome (stored_name text.now piece.now) }
+    ensures start { result.0 ≡ (out-Piece piece.now).place + 1 }
+    ensures name { Some (chars result.1.now) ≡ stored_name text.now piece.now }
+{
+    (piece.place + 1, text_of(text, piece))
+}
+
+/// The fault of an argument that is not closed.
+#[inline(always)]
+pub(crate) fn closed(piece: &Piece) -> Result<(), Error>
+    ensures { answered result ≡ option_map fault (unclosed_fault piece.now) }
+{
+    match piece.kind {
+        PieceKind::Unclosed => Err(Error::Parse(ParseError::Expected("}", piece.spec_end))),
+        _ => Ok(()),
+    }
+}
+
+/// Which items of a list.
+#[inline(always)]
+fn unboxed(range: &Option<Box<Range>>) -> Option<Range>
+    ensures { result ≡ range_of range.now }
+{
+    match range {
+        Some(range) => Some(**range),
+        None => None,
+    }
+}
+
+/// Writes what pieces of a text mean, in order. They are all of a text's, or any others that fit it.
+#[cycle(tree)]
+pub(crate) fn run_pieces<'a, W: TextWrite, C: Context>(
+    sink: &mut Sink<'_, W>,
+    scope: &Scope<'a, C, C::Object>,
+    text: &str,
+    pieces: &[Piece],
+) -> Result<(), Error>
+    requires whole { forest_whole (as_forest (nodes_of text.now pieces.now)) ≡ true }
+    ensures writes { Writes W.written
+        (stored_pieces_mean C.Object.shows (environment_of C.finds scope.now) text.now pieces.now)
+        sink.old sink.new (answered result) }
+{
+    for piece in pieces {
+        run_piece(sink, scope, text, piece)?;
+    }
+    Ok(())
+}
+
+/// Writes what a piece means.
+#[cycle(tree)]
+#[inline(always)]
+fn run_piece<'a, W: TextWrite, C: Context>(
+    sink: &mut Sink<'_, W>,
+    scope: &Scope<'a, C, C::Object>,
+    text: &str,
+    piece: &Piece,
+) -> Result<(), Error>
+    requires whole { node_whole (node_of text.now piece.now) ≡ true }
+    ensures writes { Writes W.written
+        (stored_piece_means C.Object.shows (environment_of C.finds scope.now) text.now piece.now)
+        sink.old sink.new (answered result) }
+{
+    match &piece.form {
+        Form::Text => {
+            sink.put_run(text_of(text, piece), piece.from)?;
+            Ok(())
+        }
+        Form::Name => {
+            let (start, name) = name_of(text, piece);
+            let spec = Spec::default();
+            write_value(
+                sink,
+                scope,
+                start,
+                name,
+                Trait::Display,
+                &spec,
+                piece.spec_end,
+            )?;
+            closed(piece)
+        }
+        Form::Value(t) => {
+            let (start, name) = name_of(text, piece);
+            write_value(sink, scope, start, name, *t, &piece.spec, piece.spec_end)?;
+            closed(piece)
+        }
+        Form::List(range) => run_list_piece(sink, scope, text, piece, range),
+        Form::Broken(fault) => refused(fault),
+    }
+}
+
+/// The fault of a broken argument. It is a function of its own, and so is `run_list_piece`, since a
+/// function clears the room for its faults where it begins.
+#[inline(always)]
+fn refused(broken: &ArgumentFault) -> Result<(), Error>
+    ensures { answered result ≡ Some (fault (argument_fault_of broken.now)) }
+{
+    Err(error_of(*broken))
+}
+
+/// Writes what a piece means that asks for a list.
+#[cycle(tree)]
+#[inline(always)]
+fn run_list_piece<'a, W: TextWrite, C: Context>(
+    sink: &mut Sink<'_, W>,
+    scope: &Scope<'a, C, C::Object>,
+    text: &str,
+    piece: &Piece,
+    range: &Option<Box<Range>>,
+) -> Result<(), Error>
+    requires whole { node_whole (node_of text.now piece.now) ≡ true }
+    requires list { (out-Piece piece.now).form ≡ forms.List range.now }
+    ensures writes { Writes W.written
+        (stored_piece_means C.Object.shows (environment_of C.finds scope.now) text.now piece.now)
+        sink.old sink.new (answered result) }
+{
+    let (start, name) = name_of(text, piece);
+    run_list(sink, scope, text, piece, start, name, unboxed(range))?;
+    closed(piece)
+}
+
+/// Writes the list under the name of a piece whose argument starts at `start`.
+#[cycle(tree)]
+#[inline(never)]
+fn run_list<'a, W: TextWrite, C: Context>(
+    sink: &mut Sink<'_, W>,
+    scope: &Scope<'a, C, C::Object>,
+    text: &str,
+    piece: &Piece,
+    start: usize,
+    name: &str,
+    range: Option<Range>,
+) -> Result<(), Error>
+    requires whole { node_whole (node_of text.now piece.now) ≡ true }
+    ensures writes { Writes W.written
+        (list_under_name (environment_of C.finds scope.now) (chars name.now) start range
+        (out-Piece piece.now).spec (out-Piece piece.now).spec_end
+        (stored_join_means C.Object.shows (environment_of C.finds scope.now) text.now piece.now)
+        (stored_item_means C.Object.shows (environment_of C.finds scope.now) text.now piece.now
+        (out-Piece piece.now).spec_end))
+        sink.old sink.new (answered result) }
+{
+    let items = chosen_list(scope, start, name, range, &piece.spec, piece.spec_end)?;
+    if piece.spec.width.is_some() {
+        run_padded_list(sink, scope, text, piece, items)
+    } else {
+        run_items(sink, scope, text, piece, items)
+    }
+}
+
+/// Makes the text of the items in a buffer, and then writes it padded to the width.
+#[cycle(tree)]
+fn run_padded_list<'a, W: TextWrite, C: Context>(
+    sink: &mut Sink<'_, W>,
+    scope: &Scope<'a, C, C::Object>,
+    text: &str,
+    piece: &Piece,
+    items: &'a [Formattable<'a, C::Object>],
+) -> Result<(), Error>
+    requires whole { node_whole (node_of text.now piece.now) ≡ true }
+    requires no_precision { (out-Piece piece.now).spec.precision ≡ None }
+    ensures writes { Writes W.written
+        (padded_list_means (out-Piece piece.now).spec (out-Piece piece.now).spec_end
+        (stored_items_mean C.Object.shows (environment_of C.finds scope.now) text.now piece.now
+        (out-Piece piece.now).spec_end (map slots_of items.now)))
+        sink.old sink.new (answered result) }
+{
+    let mut made = Some(list_buffer(sink, scope));
+    let mut inner = Sink {
+        out: &mut *sink.out,
+        aside: &mut made,
+    };
+    let answer = run_items(&mut inner, scope, text, piece, items);
+    let Sink { out: _, aside: _ } = inner;
+    match made {
+        None => unreachable!(),
+        Some(buffer) => {
+            if buffer.refused() {
+                return Err(Error::NoMemory);
+            }
+            answer?;
+            sink.put_padded(buffer.as_str(), &piece.spec, piece.spec_end)?;
+            Ok(())
+        }
+    }
+}
+
+/// Writes items of a list, and the join between two of them.
+#[cycle(tree)]
+fn run_items<'a, W: TextWrite, C: Context>(
+    sink: &mut Sink<'_, W>,
+    scope: &Scope<'a, C, C::Object>,
+    text: &str,
+    piece: &Piece,
+    items: &'a [Formattable<'a, C::Object>],
+) -> Result<(), Error>
+    requires whole { node_whole (node_of text.now piece.now) ≡ true }
+    ensures writes { Writes W.written
+        (stored_items_mean C.Object.shows (environment_of C.finds scope.now) text.now piece.now
+        (out-Piece piece.now).spec_end (map slots_of items.now))
+        sink.old sink.new (answered result) }
+{
+    let Some((first, rest)) = items.split_first() else {
+        return Ok(());
+    };
+    run_item(sink, scope, text, piece, first)?;
+    for item in rest {
+        run_join(sink, scope, text, piece)?;
+        run_item(sink, scope, text, piece, item)?;
+    }
+    Ok(())
+}
+
+/// Writes one item of a list.
+#[cycle(tree)]
+fn run_item<'a, W: TextWrite, C: Context>(
+    sink: &mut Sink<'_, W>,
+    scope: &Scope<'a, C, C::Object>,
+    text: &str,
+    piece: &Piece,
+    item: &'a Formattable<'a, C::Object>,
+) -> Result<(), Error>
+    requires whole { node_whole (node_of text.now piece.now) ≡ true }
+    ensures writes { Writes W.written
+        (stored_item_means C.Object.shows (environment_of C.finds scope.now) text.now piece.now
+        (out-Piece piece.now).spec_end (slots_of item.now))
+        sink.old sink.new (answered result) }
+{
+    match &piece.item {
+        Some(pieces) => run_pieces(sink, &scope.bind(item), text, pieces),
+        None => write_plain_item(sink, item, piece.spec_end),
+    }
+}
+
+/// Writes what stands between two items.
+#[cycle(tree)]
+fn run_join<'a, W: TextWrite, C: Context>(
+    sink: &mut Sink<'_, W>,
+    scope: &Scope<'a, C, C::Object>,
+    text: &str,
+    piece: &Piece,
+) -> Result<(), Error>
+    requires whole { node_whole (node_of text.now piece.now) ≡ true }
+    ensures writes { Writes W.written
+        (stored_join_means C.Object.shows (environment_of C.finds scope.now) text.now piece.now)
+        sink.old sink.new (answered result) }
+{
+    match &piece.join {
+        Some(pieces) => run_pieces(sink, scope, text, pieces),
+        None => Ok(()),
+    }
+}

@@ -1,0 +1,13 @@
+-- The definitions that the contracts cite.
+pub use Rattle.interpolator_render.specs.Texts
+pub use Rattle.interpolator_render.specs.Views
+pub use Rattle.interpolator_render.specs.Written
+pub use Rattle.interpolator_syntax.specs.At
+pub use Rattle.interpolator_syntax.specs.Faults
+pub use Rattle.interpolator_syntax.specs.FaultTexts
+pub mod Meaning
+pub mod Slots
+pub mod SlotNames
+pub mod Contexts
+pub mod NameMaps
+pub mod Rows

@@ -1,0 +1,6 @@
+//! Laws, each the contract of a small function: of what texts and lists mean, of the names that a
+//! format asks, and of the items that a range chooses.
+
+pub mod choices;
+pub mod meanings;
+pub mod names;
