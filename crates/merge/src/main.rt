@@ -4,71 +4,14 @@
 //! table whose letter has it. Then no letter is written.
 #![tactic(auto)]
 
-use interpolator::{ContextMap, Error, Formattable, Interpolate, Template, TextBuffer};
+mod letters;
+
+use interpolator::Error;
+use letters::{Fault, merged};
 use places::{place_of, position_of};
 use std::alloc::{AllocError, Global};
 use std::process::ExitCode;
 use std::{env, fs, io};
-
-/// Why there are no letters.
-#[derive(Debug, Drop)]
-struct Fault {
-    error: Error,
-    /// The line of the table whose letter has the fault, from 1 on; none where it is in no letter.
-    row: Option<usize>,
-}
-
-impl From<Error> for Fault {
-    fn from(error: Error) -> Fault {
-        Fault { error, row: None }
-    }
-}
-
-impl From<AllocError> for Fault {
-    fn from(_refused: AllocError) -> Fault {
-        Fault {
-            error: Error::NoMemory,
-            row: None,
-        }
-    }
-}
-
-/// Writes the letter of a line, whose fields have these names.
-fn write_letter(
-    alloc: Global,
-    out: &mut TextBuffer,
-    template: &Template,
-    names: &[&str],
-    line: &str,
-) -> Result<(), Error> {
-    let fields = line.split(',').collect::<Vec<&str>>(alloc)?;
-    let mut context = ContextMap::new(alloc);
-    for (name, field) in names.iter().zip(&fields) {
-        context.put(name, Formattable::debug_display(field))?;
-    }
-    context.write_template_to(alloc, out, template)
-}
-
-/// A letter for each line after the first, which has the names of the fields. The template is read
-/// once.
-fn merged(alloc: Global, template: &str, table: &str) -> Result<String, Fault> {
-    let template = Template::parse(alloc, template)?;
-    let mut out = TextBuffer::new(alloc);
-    let mut lines = table.lines();
-    let Some(header) = lines.next() else {
-        return Ok(out.into_string());
-    };
-    let names = header.split(',').collect::<Vec<&str>>(alloc)?;
-    let mut row = 1usize;
-    for line in lines {
-        row = row.saturating_add(1);
-        if let Err(error) = write_letter(alloc, &mut out, &template, &names, line) {
-            let row = Some(row);
-            return Err(Fault { error, row });
-        }
-    }
-    Ok(out.into_string())
-}
 
 /// The files and their texts.
 #[derive(Drop)]

@@ -1,0 +1,2 @@
+-- What the letters of a template and a table are.
+pub mod Letters
