@@ -4,52 +4,12 @@
 # README.md, and compares what is written with the lines that stand there.
 #
 # usage: run-cases.sh [PROGRAM..]
-#
-# Without words it runs each program that `rt ci` leaves in out/: that of LLVM, and that of Rattle's
-# own compiler where there is one. `rt run` leaves the first of them, too.
 set -u
 
 usage='usage: ifmt FORMAT [NAME=TEXT | NAME:=NUMBER | NAME[]=ITEM,ITEM..]'
 here=$(cd "$(dirname "$0")" && pwd)
-passed=0
-failed=0
-
-# Counts a case as failed, and says why.
-fail() {
-    failed=$((failed + 1))
-    printf 'ifmt: FAILED %s: %s\n' "$program" "$1"
-}
-
-# What a file holds, and an `x`, so that line ends at its end stay.
-held() {
-    cat -- "$1"
-    printf x
-}
-
-# case_of OUT ERR STATUS WANTED_OUT WANTED_ERR WORD..: runs the program on the words, its output going
-# to OUT and its errors to ERR, each `file`, `closed` or `full`.
-case_of() {
-    local out=$1 err=$2 status=$3 wanted_out=$4 wanted_err=$5 ended=0
-    shift 5
-    : >"$room/out"
-    : >"$room/err"
-    case "$out-$err" in
-        file-file) timeout 60 "$program" "$@" >"$room/out" 2>"$room/err" || ended=$? ;;
-        closed-file) timeout 60 "$program" "$@" >&- 2>"$room/err" || ended=$? ;;
-        full-file) timeout 60 "$program" "$@" >/dev/full 2>"$room/err" || ended=$? ;;
-        file-closed) timeout 60 "$program" "$@" >"$room/out" 2>&- || ended=$? ;;
-        file-full) timeout 60 "$program" "$@" >"$room/out" 2>/dev/full || ended=$? ;;
-    esac
-    if [[ $ended -ne $status ]]; then
-        fail "${*@Q} with $out-$err: status $ended, not $status"
-    elif [[ $(held "$room/out") != "${wanted_out}x" ]]; then
-        fail "${*@Q} with $out-$err: another text on the output"
-    elif [[ $(held "$room/err") != "${wanted_err}x" ]]; then
-        fail "${*@Q} with $out-$err: another text on the errors"
-    else
-        passed=$((passed + 1))
-    fi
-}
+name=ifmt
+. "$here/../../.ci/cases.sh"
 
 # A text, which goes to the output, with status 0.
 text() {
@@ -67,7 +27,7 @@ wrong() {
 }
 
 # A refused write has status 3, and the stream that is not written to is left alone, whatever it is.
-all_cases() {
+line_cases() {
     text 'Hi Ann' 'Hi {who}' 'who=Ann'
     text '{}     é|0xff|-7' '{{}}{name:>6}|{n:#x}|{m}' 'name=é' 'n:=255' 'm:=-7'
     text '<a>, <b>' '{l:i(<{}>)(, )}' 'l[]=a,b'
@@ -120,24 +80,9 @@ readme_cases() {
     fi
 }
 
-if [[ $# -gt 0 ]]; then
-    programs=("$@")
-else
-    programs=("$here/out/ifmt")
-    if [[ -e "$here/out/ifmt.by-rattle" ]]; then
-        programs+=("$here/out/ifmt.by-rattle")
-    fi
-fi
+all_cases() {
+    line_cases
+    readme_cases
+}
 
-room=$(mktemp -d)
-trap 'rm -rf -- "$room"' EXIT
-for program in "${programs[@]}"; do
-    if [[ -x $program ]]; then
-        all_cases
-        readme_cases
-    else
-        fail 'no such program: rt ci and rt run build it'
-    fi
-done
-echo "ifmt: $passed passed, $failed failed"
-[[ $failed -eq 0 ]]
+run_cases "$@"

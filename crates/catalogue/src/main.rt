@@ -55,6 +55,3 @@ fn main(rt: HostRuntime) -> ExitCode {
         Err(_) => ExitCode::from(REFUSED),
     }
 }
-
-#[cfg(test)]
-mod tests;

@@ -11,7 +11,7 @@ use interpolator::{Error, Formattable, Interpolate, Pairs, Template, TextBuffer}
 use std::alloc::{AllocError, Global};
 
 /// Why there are no letters.
-#[derive(Debug, Drop)]
+#[derive(Drop)]
 pub struct Fault {
     pub error: Error,
     /// The line of the table whose letter has the fault, from 1 on; none where it is in no letter.

@@ -193,26 +193,3 @@ fn main(rt: HostRuntime) -> ExitCode {
         Err(_) => ExitCode::from(3),
     }
 }
-
-#[cfg(test)]
-mod tests {
-    use super::*;
-    use std::test::Fail;
-
-    /// A table and its report, by hand: widths count characters, and a row may lack fields.
-    #[rattlefmt::skip]
-    const ROWS: [(&str, &str); 4] = [
-        ("item,count\nbread,7\ncrème,-1234\n", "item   count\nbread      7\ncrème  -1234\ntotal  -1227\n"),
-        ("n,t\n1,\n20,é\n", " n  t\n 1   \n20  é\n21   \n"),
-        ("t,n\na,9\nb\nc,1,2", "t      n\na      9\nb      \nc      1\ntotal   \n"),
-        ("a", "a\n0\n"),
-    ];
-
-    #[test]
-    fn tables(rt: HostRuntime) -> Result<(), Fail> {
-        for (table, wanted) in &ROWS {
-            assert_eq!(rt; report(rt.alloc(), table)?.as_str(), *wanted, "{table}");
-        }
-        Ok(())
-    }
-}

@@ -1,0 +1,59 @@
+#!/usr/bin/env bash
+# Runs the built program on templates and tables, and compares what it writes to both streams and its
+# status with what docs/DEFINITIONS.md says of each letter, worked out by hand.
+#
+# usage: run-cases.sh [PROGRAM..]
+set -u
+
+here=$(cd "$(dirname "$0")" && pwd)
+name=merge
+. "$here/../../.ci/cases.sh"
+
+# files TEMPLATE TABLE: what stands in the files `t` and `r`.
+files() {
+    printf '%s' "$1" >t
+    printf '%s' "$2" >r
+}
+
+# The letters of a template and a table, which go to the output, with status 0.
+letters() {
+    files "$2" "$3"
+    case_of file file 0 "$1" '' t r
+}
+
+# A fault of a template and a table, which goes to the errors, with status 1; no letter is written.
+fault() {
+    files "$2" "$3"
+    case_of file file 1 '' "$1"$'\n' t r
+}
+
+all_cases() {
+    cd "$room" || return
+    letters $'1;\n2;\n' $'{a};\n' $'a,b\n1,x\n2\n'
+    letters '<é|  7>' '<{a}|{b:>3}>' $'a,b\r\né,7,more\r\n'
+    letters '"{x}"' '{a:?}' $'a\n{x}'
+    letters '2' '{a}' $'a,a\n1,2\n'
+    letters '[]' '[{a}]' $'a\n\n'
+    letters '' '{a}' ''
+    letters '' '{a' $'a,b'
+    fault 't:1:10: specified value not in context `price` at 9, in the letter of r:2' \
+        '{name}: {price}' $'name,price\nAnn\n'
+    fault 't:3:2: specified value not in context `q` at 22, in the letter of r:2' \
+        $'Dear\n  é {name:>8},\n{q}' $'name\nAnn\nZoë\n'
+    fault 't:1:6: specified value not in context `b` at 5, in the letter of r:3' \
+        '{a} {b}' $'a,b\n1,2\n3\n'
+    fault 't:2:4: error while parsing input: Expected `}` at 5, in the letter of r:2' \
+        $'a\n{a:y' $'a\n1\n'
+    case_of file file 2 '' ''
+    case_of file file 2 '' '' t
+    case_of file file 2 '' '' t none
+    case_of file file 2 '' '' t r r
+    files '{a}' $'a\n1\n'
+    case_of closed file 3 '' '' t r
+    case_of full file 3 '' '' t r
+    files '{q}' $'a\n1\n'
+    case_of file closed 3 '' '' t r
+    case_of file full 3 '' '' t r
+}
+
+run_cases "$@"
