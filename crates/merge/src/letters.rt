@@ -1,6 +1,6 @@
 //! The letters of a template and a table.
 
-ghost use Rattle.std.specs.Prelude.{◌≡◌, IfOk, IfErr, IfSome, OnOk, None, map, string_bytes};
+ghost use Rattle.std.specs.Prelude.{◌≡◌, IfOk, IfErr, IfSome, None, map, string_bytes};
 ghost use Rattle.std.specs.List.{AllZip, zip};
 ghost use Rattle.std.specs.Str.{chars};
 ghost use Rattle.interpolator.specs.Faults.{answer_of, no_memory};
