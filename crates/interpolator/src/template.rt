@@ -167,8 +167,9 @@ impl Template {
     }
 
     /// The arguments of the format, each whole, as [`parse_argument`](crate::parse_argument) answers
-    /// one: in order of the text and at every depth, after an argument those of its item format, and
-    /// then those of its join. One that is not closed is among them, a broken one is not.
+    /// one of the outermost text; one in a group ends, at the latest, with its group. They come in order
+    /// of the text and at every depth: after an argument those of its item format, and then those of
+    /// its join. One that is not closed is among them, a broken one is not.
     ///
     /// Names and groups are slices of the format, and places count its bytes. It is read again.
     ///
@@ -198,11 +199,12 @@ impl Template {
         Ok(arguments)
     }
 
-    /// Tells the first fault that the format has whatever its context is, in order of the text and at
-    /// every depth of groups: of an argument what is wrong with it, then the faults of its item
-    /// format, then those of its join, then that it is not closed. No memory is taken.
+    /// Tells the first fault that the format has by itself, in order of the text and at every depth of
+    /// groups: of an argument what is wrong with it, then the faults of its item format, then those of
+    /// its join, then that it is not closed. Not each is met in every context: `{a:i({z)}` is written
+    /// over an empty list. No memory is taken.
     ///
-    /// Where it answers `Ok`, no context makes the format answer `Parse` or `UnsupportedOption`.
+    /// If it answers `Ok`, no context makes the format answer `Parse` or `UnsupportedOption`.
     ///
     /// # Errors
     ///

@@ -182,7 +182,7 @@ pub fn format<C: Context>(alloc: Global, format: &str, context: &C) -> Result<St
     format_pieces(alloc, format, &pieces, context)
 }
 
-/// Tells the first fault that a format has whatever its context is, as
+/// Tells the first fault that a format has by itself, as
 /// [`Template::check`](crate::Template::check) does of a format that was read.
 ///
 /// Where it answers `Ok`, no context makes the format answer `Parse` or `UnsupportedOption`.

@@ -11,7 +11,7 @@ use Rattle.interpolator_meaning.specs.declared.slots.Formattable.{fold-Formattab
 use Rattle.interpolator_meaning.specs.declared.slots.Formattable.{out-roll-Formattable}
 
 module _ {X : Type 0} where
-  -- a list of slots_listed is the list of its listed_slots
+  -- a list that is made one value, and a list again, is the list
   pub slots_listed-listed_slots : (list : List (Slots X)) → slots_listed (listed_slots list) ≡ list
   slots_listed-listed_slots [] = refl
   slots_listed-listed_slots (tree ∷ others) = ap (λ rest. tree ∷ rest) (slots_listed-listed_slots others)

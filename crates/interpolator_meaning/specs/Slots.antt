@@ -22,12 +22,12 @@ pub record Values (X : Type 0) : Type 0 where
   pub upper_hex : Option X
 
 mutual
-  -- eight optional values, and an optional list of such slots_listed
+  -- eight optional values, and an optional list of such trees
   pub data Slots (X : Type 0) : Type 0 where
     bare : Values X → Slots X
     listed : Values X → SlotsList X → Slots X
 
-  -- a list of slots_listed
+  -- a list of trees
   pub data SlotsList (X : Type 0) : Type 0 where
     no_slots : SlotsList X
     slots_and : Slots X → SlotsList X → SlotsList X
@@ -38,7 +38,7 @@ module _ {X : Type 0} where
   values_of (bare filled) = filled
   values_of (listed filled _) = filled
 
-  -- a listed_slots as a list
+  -- the trees as a list
   abbrev pub slots_listed : SlotsList X → List (Slots X)
   slots_listed no_slots = []
   slots_listed (slots_and tree others) = tree ∷ slots_listed others
@@ -48,7 +48,7 @@ module _ {X : Type 0} where
   items (bare _) = None
   items (listed _ others) = Some (slots_listed others)
 
-  -- a list as a listed_slots
+  -- a list of trees, as one value
   abbrev pub listed_slots : List (Slots X) → SlotsList X
   listed_slots [] = no_slots
   listed_slots (tree ∷ others) = slots_and tree (listed_slots others)
@@ -88,7 +88,7 @@ module _ {X : Type 0} where
     upper_hex = option_copied layer.upper_hex;
   }
 
-  -- the tree of a `Formattable` whose items are slots_listed already
+  -- the tree of a `Formattable` whose items are trees already
   abbrev pub layer_slots : Formattable-F X (Slots X) → Slots X
   layer_slots layer = with_items (layer_values layer) (option_copied layer.iter)
 
@@ -96,7 +96,7 @@ module _ {X : Type 0} where
   unfoldable pub slots_of : Formattable X → Slots X
   slots_of formattable = fold-Formattable X (Slots X) layer_slots formattable
 
-  -- the slots_listed after an optional slice
+  -- the trees after an optional slice
   abbrev pub lent_slots : Option (Bor (List (Formattable X))) → Option (List (Slots X))
   lent_slots slice = option_map (λ lent. map slots_of lent.now) slice
 
