@@ -17,10 +17,11 @@ use Rattle.interpolator_meaning.specs.Meaning.Meanings.{Meaning, nothing, fault_
 use Rattle.interpolator_meaning.specs.Meaning.Meanings.{argument_means, piece_means, pieces_mean, means}
 use Rattle.interpolator.specs.Meaning.Parts.{joined_text, texts_of, parts_mean, CleanBehind, Clean}
 use Rattle.interpolator.specs.Meaning.Parts.{FrontsClose}
-use Rattle.interpolator_meaning.specs.Meaning.Sinks.{SinkState, Evaluates, Writes, seen}
+use Rattle.interpolator_meaning.specs.Meaning.Outcomes.{Outcome}
+use Rattle.interpolator_meaning.specs.Meaning.Sinks.{Writes, taken_by}
 use Rattle.interpolator.specs.declared.parts.Ending.{Ending}
 use Rattle.interpolator.specs.declared.parts.Ending.TheVariants.{Settled, Open}
-use Rattle.interpolator_meaning.specs.declared.meaning.sink.Sink as code_sink
+use Rattle.interpolator_meaning.specs.declared.meaning.sink.Sink.{Sink}
 use Rattle.interpolator_syntax.proofs.LocalityLemmas.{stands, size-append}
 use Rattle.interpolator_syntax.proofs.CaseLemmas.{none_some}
 use Rattle.interpolator_syntax.proofs.PieceLemmas.{pieces_none}
@@ -28,7 +29,7 @@ use Rattle.interpolator.proofs.SeamLemmas.{Leaves, pieces_append, both_close}
 use Rattle.interpolator_meaning.proofs.MeaningLemmas.DepthLemmas.{means_pieces}
 use Rattle.interpolator_meaning.proofs.MeaningLemmas.MeaningLemmas.{joined_assoc, means_none, joined_none}
 use Rattle.interpolator_meaning.proofs.MeaningLemmas.SinkLemmas.{and_then, fault_first, nothing_done}
-use Rattle.interpolator_meaning.proofs.MeaningLemmas.SinkLemmas.{same_sink}
+use Rattle.interpolator_meaning.proofs.MeaningLemmas.SinkLemmas.{same_end}
 use Rattle.interpolator_render.specs.Written.{Written}
 
 pub nothing_last : (m : Meaning) → joined m nothing ≡ m
@@ -132,25 +133,25 @@ module _ {X : Type 0} (shows : X → Trait → Spec → Shown) (e : Environment 
 
   module _ {W : Type 0} (written : W → Written) (p : ℕ) (parts : List (Bor (List ℕ))) where
     module _ (part : Bor (List ℕ)) (after : List (Bor (List ℕ))) (split : parts ≡ part ∷ after)
-        (s t : code_sink.Sink W) where
+        (s t : Sink W) where
       abbrev Here : Option Answer → Type 0
       Here r = Writes written (means shows e (stands p (chars part.now))) s t r
 
       pub part_runs :
-          (q : ℕ) (u : SinkState) (answer : Option Answer) → q ≡ p + size (chars part.now)
-          → Here None → Evaluates (parts_mean shows e q (texts_of after)) (seen written t) u answer
-          → Evaluates (parts_mean shows e p (texts_of parts)) (seen written s) u answer
+          (q : ℕ) (u : Written) (answer : Option Answer) → q ≡ p + size (chars part.now)
+          → Here None → Outcome (parts_mean shows e q (texts_of after)) (taken_by written t) u answer
+          → Outcome (parts_mean shows e p (texts_of parts)) (taken_by written s) u answer
       part_runs q u answer h o k =
-          rw (split, ← h) (and_then _ _ _ _ u answer o.evaluates k)
+          rw (split, ← h) (and_then _ _ _ _ u answer o.outcome k)
 
       pub part_faults : (w : Answer) → Here (Some w)
           → Writes written (parts_mean shows e p (texts_of parts)) s t (Some w)
       part_faults w o =
-          record { evaluates = rw split (fault_first _ _ _ _ w o.evaluates); same = o.same }
+          record { outcome = rw split (fault_first _ _ _ _ w o.outcome); same = o.same }
 
-    pub no_parts_run : (s : code_sink.Sink W) → parts ≡ []
+    pub no_parts_run : (s : Sink W) → parts ≡ []
         → Writes written (parts_mean shows e p (texts_of parts)) s s None
-    no_parts_run s none = record { evaluates = rw none (nothing_done _); same = same_sink s }
+    no_parts_run s none = record { outcome = rw none (nothing_done _); same = same_end s }
 
 -- the part at an index, as a loop takes it; there is none at an index past the last
 abbrev pub part_at : List (Bor (List ℕ)) → ℕ → Bor (List ℕ)

@@ -184,12 +184,13 @@ pub fn write_parts<W: TextWrite, C: Context>(
         (outermost (joined_text (texts_of parts.now))) }
     ensures place { PlaceWithin (bytes_of parts.now) (answered result) }
 {
-    let mut aside = None;
-    let mut sink = Sink {
-        out,
-        aside: &mut aside,
-    };
+    let mut sink = Sink::Writer(out);
     let answer = write_each(&mut sink, &Scope::outermost(alloc, context), parts);
-    let Sink { out: _, aside: _ } = sink;
+    match sink {
+        Sink::Writer(end) => {
+            let _ = end;
+        }
+        Sink::Aside(_) => unreachable!(),
+    }
     answer
 }

@@ -203,16 +203,12 @@ fn run_padded_list<'a, W: TextWrite, C: Context>(
         (out-Piece piece.now).spec_end (map slots_of items.now)))
         sink.old sink.new (answered result) }
 {
-    let mut made = Some(list_buffer(sink, scope));
-    let mut inner = Sink {
-        out: &mut *sink.out,
-        aside: &mut made,
-    };
+    let mut made = list_buffer(sink, scope);
+    let mut inner: Sink<'_, W> = Sink::Aside(&mut made);
     let answer = run_items(&mut inner, scope, text, piece, items);
-    let Sink { out: _, aside: _ } = inner;
-    match made {
-        None => unreachable!(),
-        Some(buffer) => {
+    match inner {
+        Sink::Writer(_) => unreachable!(),
+        Sink::Aside(buffer) => {
             if buffer.refused() {
                 return Err(Error::NoMemory);
             }

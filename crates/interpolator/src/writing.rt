@@ -73,13 +73,14 @@ pub fn write<W: TextWrite, C: Context>(
         place: 0,
         rest: format,
     };
-    let mut aside = None;
-    let mut sink = Sink {
-        out,
-        aside: &mut aside,
-    };
+    let mut sink = Sink::Writer(out);
     let answer = write_text(&mut sink, &Scope::outermost(alloc, context), text);
-    let Sink { out: _, aside: _ } = sink;
+    match sink {
+        Sink::Writer(end) => {
+            let _ = end;
+        }
+        Sink::Aside(_) => unreachable!(),
+    }
     answer
 }
 
@@ -115,13 +116,14 @@ pub(crate) fn write_pieces<W: TextWrite, C: Context>(
         (W.written out.old) (W.written out.new) (answered result) }
     ensures place { PlaceWithin (length format.now) (answered result) }
 {
-    let mut aside = None;
-    let mut sink = Sink {
-        out,
-        aside: &mut aside,
-    };
+    let mut sink = Sink::Writer(out);
     let answer = run_pieces(&mut sink, &Scope::outermost(alloc, context), format, pieces);
-    let Sink { out: _, aside: _ } = sink;
+    match sink {
+        Sink::Writer(end) => {
+            let _ = end;
+        }
+        Sink::Aside(_) => unreachable!(),
+    }
     answer
 }
 

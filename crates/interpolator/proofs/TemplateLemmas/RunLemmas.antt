@@ -21,7 +21,7 @@ use Rattle.interpolator_meaning.specs.Meaning.Environments.{Environment, given}
 use Rattle.interpolator_meaning.specs.Meaning.Meanings.{Meaning, text_alone, under_name}
 use Rattle.interpolator_meaning.specs.Meaning.Meanings.{items_after, items_mean, means}
 use Rattle.interpolator_meaning.specs.Meaning.Outcomes.{Outcome}
-use Rattle.interpolator_meaning.specs.Meaning.Sinks.{SinkState, sink_state, Evaluates, Writes, seen}
+use Rattle.interpolator_meaning.specs.Meaning.Sinks.{Writes, taken_by}
 use Rattle.interpolator.specs.Template.Nodes.{Held, written, valued, refused, Bare}
 use Rattle.interpolator.specs.Template.Nodes.{bare_value, bare_list, as_forest, nodes}
 use Rattle.interpolator.specs.Template.NodeMeanings.{and_closed, bare_means, held_means}
@@ -33,14 +33,14 @@ use Rattle.interpolator.specs.Template.StoredMeanings.{stored_part, stored_name,
 use Rattle.interpolator.specs.Template.StoredMeanings.{unclosed_fault_of, stored_pieces_mean}
 use Rattle.interpolator.specs.Template.StoredMeanings.{stored_piece_means, stored_join_means}
 use Rattle.interpolator.specs.Template.StoredMeanings.{stored_item_means}
-use Rattle.interpolator_meaning.specs.declared.meaning.sink.Sink as code_sink
+use Rattle.interpolator_meaning.specs.declared.meaning.sink.Sink.{Sink}
 use Rattle.interpolator.specs.declared.template.piece.Form.TheVariants as forms
 use Rattle.interpolator.specs.declared.template.piece.Piece.{Piece}
 use Rattle.interpolator.specs.declared.template.piece.Piece.TheViews.{out-Piece}
 use Rattle.interpolator.specs.declared.template.piece.PieceKind.{PieceKind}
 use Rattle.interpolator.specs.declared.template.piece.PieceKind.TheVariants as kinds
 use Rattle.interpolator_meaning.proofs.MeaningLemmas.SinkLemmas.{and_then, fault_first, nothing_done, ended}
-use Rattle.interpolator_meaning.proofs.MeaningLemmas.SinkLemmas.{same_sink, same_then, at_out}
+use Rattle.interpolator_meaning.proofs.MeaningLemmas.SinkLemmas.{same_end, same_then}
 use Rattle.interpolator.proofs.TemplateLemmas.NodeMeaningLemmas.{nodes_mean}
 use Rattle.interpolator.proofs.TemplateLemmas.StoredLemmas.{node_of_out}
 use Rattle.interpolator.proofs.TemplateLemmas.WholeLemmas.{nodes_whole}
@@ -132,7 +132,7 @@ module _ (bs : List ℕ) (x : Piece) where
 
 -- ---- the outcome of one piece
 
-module _ {W : Type 0} (into : W → Written) (m : Meaning) (s t : code_sink.Sink W) (end : ℕ) where
+module _ {W : Type 0} (into : W → Written) (m : Meaning) (s t : Sink W) (end : ℕ) where
   -- what is closed, or not, after a fault
   closed_fault : (kind : PieceKind) (q : Answer) → Writes into m s t (Some q)
       → Writes into (and_closed kind end m) s t (Some q)
@@ -141,7 +141,7 @@ module _ {W : Type 0} (into : W → Written) (m : Meaning) (s t : code_sink.Sink
   closed_fault kinds.LoneClose q o = o
   closed_fault kinds.Closed q o = o
   closed_fault kinds.Unclosed q o =
-      record { evaluates = fault_first _ _ _ _ q o.evaluates; same = o.same }
+      record { outcome = fault_first _ _ _ _ q o.outcome; same = o.same }
   closed_fault kinds.Broken q o = o
 
   -- the same where all was written before
@@ -152,12 +152,12 @@ module _ {W : Type 0} (into : W → Written) (m : Meaning) (s t : code_sink.Sink
   closed_done kinds.LoneClose o = o
   closed_done kinds.Closed o = o
   closed_done kinds.Unclosed o =
-      record { evaluates = and_then _ _ _ _ _ _ o.evaluates (ended _ _); same = o.same }
+      record { outcome = and_then _ _ _ _ _ _ o.outcome (ended _ _); same = o.same }
   closed_done kinds.Broken o = o
 
 module _ {X W : Type 0} (shows : X → Trait → Spec → Shown) (into : W → Written)
     (e : Environment X) (bs : List ℕ) where
-  module _ (x : Piece) (s t : code_sink.Sink W) where
+  module _ (x : Piece) (s t : Sink W) where
     abbrev Means : Meaning
     Means = stored_piece_means shows e bs x
 
@@ -171,13 +171,13 @@ module _ {X W : Type 0} (shows : X → Trait → Spec → Shown) (into : W → W
         → held_of bs x ≡ Some (written from cs)
         → Writes into (text_alone (placed_from from cs)) s t r → Writes into Means s t r
     text_writes r from cs is o =
-        record { evaluates = rw (means_held (written from cs) is) o.evaluates; same = o.same }
+        record { outcome = rw (means_held (written from cs) is) o.outcome; same = o.same }
 
     -- what could not be read
     pub fault_writes : (f : Fault) → held_of bs x ≡ Some (refused f)
         → Writes into Means s s (Some (fault f))
     fault_writes f is =
-        record { evaluates = rw (means_held (refused f) is) (ended f _); same = same_sink s }
+        record { outcome = rw (means_held (refused f) is) (ended f _); same = same_end s }
 
     -- an argument
     module _ (start : ℕ) (name : List ℕ) (spec : Spec) (bare : Bare)
@@ -194,14 +194,14 @@ module _ {X W : Type 0} (shows : X → Trait → Spec → Shown) (into : W → W
           → Writes into Means s t (Some q)
       argument_fault q o =
           let c = closed_fault into Value s t (out-Piece x).spec_end (out-Piece x).kind q o in
-          record { evaluates = rw (means_held _ is) c.evaluates; same = c.same }
+          record { outcome = rw (means_held _ is) c.outcome; same = c.same }
 
       -- whose value was written
       pub argument_writes : (r : Option Answer) → r ≡ option_map fault (unclosed_fault x)
           → Writes into Value s t None → Writes into Means s t r
       argument_writes r told o =
           let c = closed_done into Value s t (out-Piece x).spec_end (out-Piece x).kind o in
-          record { evaluates = rw (means_held _ is, told) c.evaluates; same = c.same }
+          record { outcome = rw (means_held _ is, told) c.outcome; same = c.same }
 
   -- ---- the outcome of pieces
 
@@ -210,11 +210,11 @@ module _ {X W : Type 0} (shows : X → Trait → Spec → Shown) (into : W → W
     After n = stored_pieces_mean shows e bs (drop n xs)
 
     -- no piece is left
-    pub pieces_end : (s : code_sink.Sink W) → length xs ≤ i → Writes into (After i) s s None
+    pub pieces_end : (s : Sink W) → length xs ≤ i → Writes into (After i) s s None
     pieces_end s h =
-        record { evaluates = rw (drop_all i xs h) (nothing_done _); same = same_sink s }
+        record { outcome = rw (drop_all i xs h) (nothing_done _); same = same_end s }
 
-    module _ (s t : code_sink.Sink W) (x : Piece) (h : i < length xs) (is : x ≡ get_or xs i x)
+    module _ (s t : Sink W) (x : Piece) (h : i < length xs) (is : x ≡ get_or xs i x)
       where
         next_piece : drop i xs ≡ x ∷ drop (i + 1) xs
         next_piece = rw (drop_more xs i x h, ← is) refl
@@ -223,13 +223,13 @@ module _ {X W : Type 0} (shows : X → Trait → Spec → Shown) (into : W → W
         pub piece_fault : (q : Answer) → Writes into (stored_piece_means shows e bs x) s t (Some q)
             → Writes into (After i) s t (Some q)
         piece_fault q o =
-            record { evaluates = rw next_piece (fault_first _ _ _ _ q o.evaluates); same = o.same }
+            record { outcome = rw next_piece (fault_first _ _ _ _ q o.outcome); same = o.same }
 
         -- a piece is done, and the pieces after it follow
-        pub piece_runs : (u : SinkState) (r : Option Answer)
+        pub piece_runs : (u : Written) (r : Option Answer)
             → Writes into (stored_piece_means shows e bs x) s t None
-            → Evaluates (After (i + 1)) (seen into t) u r → Evaluates (After i) (seen into s) u r
-        piece_runs u r o k = rw next_piece (and_then _ _ _ _ u r o.evaluates k)
+            → Outcome (After (i + 1)) (taken_by into t) u r → Outcome (After i) (taken_by into s) u r
+        piece_runs u r o k = rw next_piece (and_then _ _ _ _ u r o.outcome k)
 
 -- ---- the items of a list, one by one
 
@@ -239,7 +239,7 @@ module _ {F X W : Type 0} (into : W → Written) (join : Meaning) (item : X → 
   ItemsAfter ys = items_after join item (map slots ys)
 
   module _ (xs : List F) (i : ℕ) (x : F) (h : i < length xs) (is : x ≡ get_or xs i x)
-      (s t : code_sink.Sink W) where
+      (s t : Sink W) where
     next_item : map slots (drop i xs) ≡ slots x ∷ map slots (drop (i + 1) xs)
     next_item = rw (drop_more xs i x h, ← is) refl
 
@@ -247,45 +247,45 @@ module _ {F X W : Type 0} (into : W → Written) (join : Meaning) (item : X → 
     pub join_fault : (q : Answer) → Writes into join s t (Some q)
         → Writes into (ItemsAfter (drop i xs)) s t (Some q)
     join_fault q o =
-        record { evaluates = rw next_item (fault_first _ _ _ _ q o.evaluates); same = o.same }
+        record { outcome = rw next_item (fault_first _ _ _ _ q o.outcome); same = o.same }
 
     -- an item ends the run
-    pub item_fault : (u : code_sink.Sink W) (q : Answer) → Writes into join s t None
+    pub item_fault : (u : Sink W) (q : Answer) → Writes into join s t None
         → Writes into (item (slots x)) t u (Some q)
         → Writes into (ItemsAfter (drop i xs)) s u (Some q)
     item_fault u q j o = record {
-      evaluates =
-          rw next_item (and_then _ _ _ _ _ _ j.evaluates (fault_first _ _ _ _ q o.evaluates));
+      outcome =
+          rw next_item (and_then _ _ _ _ _ _ j.outcome (fault_first _ _ _ _ q o.outcome));
       same = same_then s t u j.same o.same;
     }
 
     -- an item is done, and the items after it follow
-    pub item_runs : (u : code_sink.Sink W) (new : SinkState) (r : Option Answer)
+    pub item_runs : (u : Sink W) (new : Written) (r : Option Answer)
         → Writes into join s t None → Writes into (item (slots x)) t u None
-        → Evaluates (ItemsAfter (drop (i + 1) xs)) (seen into u) new r
-        → Evaluates (ItemsAfter (drop i xs)) (seen into s) new r
+        → Outcome (ItemsAfter (drop (i + 1) xs)) (taken_by into u) new r
+        → Outcome (ItemsAfter (drop i xs)) (taken_by into s) new r
     item_runs u new r j o k =
-        rw next_item (and_then _ _ _ _ _ _ j.evaluates (and_then _ _ _ _ _ _ o.evaluates k))
+        rw next_item (and_then _ _ _ _ _ _ j.outcome (and_then _ _ _ _ _ _ o.outcome k))
 
   -- no item is left
-  pub items_end : (xs : List F) (i : ℕ) (s : code_sink.Sink W) → length xs ≤ i
+  pub items_end : (xs : List F) (i : ℕ) (s : Sink W) → length xs ≤ i
       → Writes into (ItemsAfter (drop i xs)) s s None
   items_end xs i s h =
-      record { evaluates = rw (drop_all i xs h) (nothing_done _); same = same_sink s }
+      record { outcome = rw (drop_all i xs h) (nothing_done _); same = same_end s }
 
-  module _ (xs : List F) (x : F) (rest : List F) (s t : code_sink.Sink W)
+  module _ (xs : List F) (x : F) (rest : List F) (s t : Sink W)
       (split : xs ≡ x ∷ rest) where
     -- the first item is done, and the items after it follow
-    pub first_runs : (u : SinkState) (r : Option Answer) → Writes into (item (slots x)) s t None
-        → Evaluates (ItemsAfter (drop 0 rest)) (seen into t) u r
-        → Evaluates (items_mean join item (map slots xs)) (seen into s) u r
-    first_runs u r o k = rw split (and_then _ _ _ _ u r o.evaluates k)
+    pub first_runs : (u : Written) (r : Option Answer) → Writes into (item (slots x)) s t None
+        → Outcome (ItemsAfter (drop 0 rest)) (taken_by into t) u r
+        → Outcome (items_mean join item (map slots xs)) (taken_by into s) u r
+    first_runs u r o k = rw split (and_then _ _ _ _ u r o.outcome k)
 
     -- the first item ends the run
     pub first_fault : (q : Answer) → Writes into (item (slots x)) s t (Some q)
         → Writes into (items_mean join item (map slots xs)) s t (Some q)
     first_fault q o =
-        record { evaluates = rw split (fault_first _ _ _ _ q o.evaluates); same = o.same }
+        record { outcome = rw split (fault_first _ _ _ _ q o.outcome); same = o.same }
 
 -- ---- the pieces of a whole text
 
@@ -297,14 +297,13 @@ module _ (bs : List ℕ) (xs : List Piece) (a : At) (same : nodes_of bs xs ≡ n
   -- and what is written for them is what the text means
   pub text_outcome :
       {X : Type 0} (shows : X → Trait → Spec → Shown) (e f : Environment X) (old new : Written)
-      (aside : Option Written) (answer : Option Answer) → f ≡ e
-      → Evaluates (stored_pieces_mean shows f bs xs) (sink_state old None) (sink_state new aside)
-      answer
+      (answer : Option Answer) → f ≡ e
+      → Outcome (stored_pieces_mean shows f bs xs) old new answer
       → Outcome (means shows e a) old new answer
-  text_outcome shows e f old new aside answer is o =
+  text_outcome shows e f old new answer is o =
       let mean : stored_pieces_mean shows f bs xs ≡ means shows e a =
       rw (same, is) (nodes_mean shows e a) in
-      rw mean at (at_out _ old new aside answer o)
+      rw mean at o
 
   module _ (skipped : ℕ) where
     rest_is : nodes_of bs (drop skipped xs) ≡ drop skipped (nodes a)
@@ -317,14 +316,13 @@ module _ (bs : List ℕ) (xs : List Piece) (a : At) (same : nodes_of bs xs ≡ n
     -- and what is written for them is what their nodes mean
     pub rest_outcome :
         {X : Type 0} (shows : X → Trait → Spec → Shown) (e f : Environment X) (old new : Written)
-        (aside : Option Written) (answer : Option Answer) → f ≡ e
-        → Evaluates (stored_pieces_mean shows f bs (drop skipped xs)) (sink_state old None)
-        (sink_state new aside) answer
+        (answer : Option Answer) → f ≡ e
+        → Outcome (stored_pieces_mean shows f bs (drop skipped xs)) old new answer
         → Outcome (forest_means shows e (as_forest (drop skipped (nodes a)))) old new answer
-    rest_outcome shows e f old new aside answer is o =
+    rest_outcome shows e f old new answer is o =
         let mean : stored_pieces_mean shows f bs (drop skipped xs)
         ≡ forest_means shows e (as_forest (drop skipped (nodes a))) = rw (rest_is, is) refl in
-        rw mean at (at_out _ old new aside answer o)
+        rw mean at o
 
 -- the pieces that stand for a whole format are its own
 pub format_stands :

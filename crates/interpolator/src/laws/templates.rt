@@ -127,14 +127,15 @@ pub fn rest_of_the_pieces_is_written<W: TextWrite, C: Context>(
         (W.written out.old) (W.written out.new) (answered result) }
 {
     let rest = pieces_after(template.pieces(), skipped);
-    let mut aside = None;
-    let mut sink = Sink {
-        out,
-        aside: &mut aside,
-    };
+    let mut sink = Sink::Writer(out);
     let scope = Scope::outermost(alloc, context);
     let answer = run_pieces(&mut sink, &scope, template.text(), rest);
-    let Sink { out: _, aside: _ } = sink;
+    match sink {
+        Sink::Writer(end) => {
+            let _ = end;
+        }
+        Sink::Aside(_) => unreachable!(),
+    }
     answer
 }
 

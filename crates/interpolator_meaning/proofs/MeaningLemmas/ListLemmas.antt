@@ -15,10 +15,11 @@ use Rattle.interpolator_meaning.specs.Slots.{Slots}
 use Rattle.interpolator_meaning.specs.Meaning.Environments.{Environment}
 use Rattle.interpolator_meaning.specs.Meaning.Meanings.{Meaning, items_after, chosen_means}
 use Rattle.interpolator_meaning.specs.Meaning.Meanings.{item_means, join_means, means}
-use Rattle.interpolator_meaning.specs.Meaning.Sinks.{SinkState, Evaluates, Writes, seen}
-use Rattle.interpolator_meaning.specs.declared.meaning.sink.Sink as code_sink
+use Rattle.interpolator_meaning.specs.Meaning.Outcomes.{Outcome}
+use Rattle.interpolator_meaning.specs.Meaning.Sinks.{Writes, taken_by}
+use Rattle.interpolator_meaning.specs.declared.meaning.sink.Sink.{Sink}
 use Rattle.interpolator_meaning.proofs.MeaningLemmas.SinkLemmas.{and_then, fault_first, nothing_done}
-use Rattle.interpolator_meaning.proofs.MeaningLemmas.SinkLemmas.{same_sink, same_then}
+use Rattle.interpolator_meaning.proofs.MeaningLemmas.SinkLemmas.{same_end, same_then}
 use Rattle.interpolator_syntax.proofs.SizeLemmas.{GroupIfIn, KindIn, argument_in}
 use Rattle.interpolator_render.specs.Written.{Written}
 
@@ -70,7 +71,7 @@ module _ {F X W : Type 0} (shows : X → Trait → Spec → Shown) (written : W 
   All = chosen_means shows (means shows) e asked place (map tree xs)
 
   module _ (i : ℕ) (x : F) (h : i < length xs) (is : x ≡ get_or xs i x)
-      (s t : code_sink.Sink W) where
+      (s t : Sink W) where
     next_item : map tree (drop i xs) ≡ tree x ∷ map tree (drop (i + 1) xs)
     next_item = rw (drop_more xs i x h, ← is) refl
 
@@ -78,41 +79,41 @@ module _ {F X W : Type 0} (shows : X → Trait → Spec → Shown) (written : W 
     pub join_fault : (q : Answer) → Writes written Join s t (Some q)
         → Writes written (After (drop i xs)) s t (Some q)
     join_fault q o =
-        record { evaluates = rw next_item (fault_first _ _ _ _ q o.evaluates); same = o.same }
+        record { outcome = rw next_item (fault_first _ _ _ _ q o.outcome); same = o.same }
 
     -- an item ends the run
-    pub item_fault : (u : code_sink.Sink W) (q : Answer) → Writes written Join s t None
+    pub item_fault : (u : Sink W) (q : Answer) → Writes written Join s t None
         → Writes written (One x) t u (Some q) → Writes written (After (drop i xs)) s u (Some q)
     item_fault u q j o = record {
-      evaluates =
-          rw next_item (and_then _ _ _ _ _ _ j.evaluates (fault_first _ _ _ _ q o.evaluates));
+      outcome =
+          rw next_item (and_then _ _ _ _ _ _ j.outcome (fault_first _ _ _ _ q o.outcome));
       same = same_then s t u j.same o.same;
     }
 
     -- an item is done, and the items after it follow
-    pub item_runs : (u : code_sink.Sink W) (new : SinkState) (r : Option Answer)
+    pub item_runs : (u : Sink W) (new : Written) (r : Option Answer)
         → Writes written Join s t None → Writes written (One x) t u None
-        → Evaluates (After (drop (i + 1) xs)) (seen written u) new r
-        → Evaluates (After (drop i xs)) (seen written s) new r
+        → Outcome (After (drop (i + 1) xs)) (taken_by written u) new r
+        → Outcome (After (drop i xs)) (taken_by written s) new r
     item_runs u new r j o k =
-        rw next_item (and_then _ _ _ _ _ _ j.evaluates (and_then _ _ _ _ _ _ o.evaluates k))
+        rw next_item (and_then _ _ _ _ _ _ j.outcome (and_then _ _ _ _ _ _ o.outcome k))
 
   -- no item is left
-  pub items_end : (i : ℕ) (s : code_sink.Sink W) → length xs ≤ i
+  pub items_end : (i : ℕ) (s : Sink W) → length xs ≤ i
       → Writes written (After (drop i xs)) s s None
   items_end i s h =
-      record { evaluates = rw (drop_all i xs h) (nothing_done _); same = same_sink s }
+      record { outcome = rw (drop_all i xs h) (nothing_done _); same = same_end s }
 
-  module _ (x : F) (rest : List F) (s t : code_sink.Sink W) (split : xs ≡ x ∷ rest) where
+  module _ (x : F) (rest : List F) (s t : Sink W) (split : xs ≡ x ∷ rest) where
     -- the first item is done, and the items after it follow
     pub first_runs :
-        (u : SinkState) (r : Option Answer) → Writes written (One x) s t None
-        → Evaluates (After (drop 0 rest)) (seen written t) u r
-        → Evaluates All (seen written s) u r
-    first_runs u r o k = rw split (and_then _ _ _ _ u r o.evaluates k)
+        (u : Written) (r : Option Answer) → Writes written (One x) s t None
+        → Outcome (After (drop 0 rest)) (taken_by written t) u r
+        → Outcome All (taken_by written s) u r
+    first_runs u r o k = rw split (and_then _ _ _ _ u r o.outcome k)
 
     -- the first item ends the run
     pub first_fault : (q : Answer) → Writes written (One x) s t (Some q)
         → Writes written All s t (Some q)
     first_fault q o =
-        record { evaluates = rw split (fault_first _ _ _ _ q o.evaluates); same = o.same }
+        record { outcome = rw split (fault_first _ _ _ _ q o.outcome); same = o.same }

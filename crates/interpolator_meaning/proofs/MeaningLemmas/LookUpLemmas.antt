@@ -19,10 +19,10 @@ use Rattle.interpolator_meaning.specs.Meaning.Lists.{IsChosen, IsNotChosen, list
 use Rattle.interpolator_meaning.specs.Meaning.Lists.{padded_list_means}
 use Rattle.interpolator_meaning.specs.Meaning.Meanings.{Meaning, items_mean, listed_means, under_name}
 use Rattle.interpolator_meaning.specs.Meaning.Meanings.{padded_list, forbids_list}
-use Rattle.interpolator_meaning.specs.Meaning.Sinks.{Writes, target, seen}
-use Rattle.interpolator_meaning.specs.declared.meaning.sink.Sink as code_sink
+use Rattle.interpolator_meaning.specs.Meaning.Sinks.{Writes, taken_by}
+use Rattle.interpolator_meaning.specs.declared.meaning.sink.Sink.{Sink}
 use Rattle.interpolator_meaning.proofs.MeaningLemmas.ChoiceLemmas.{map-chosen}
-use Rattle.interpolator_meaning.proofs.MeaningLemmas.SinkLemmas.{same_sink, stays_same}
+use Rattle.interpolator_meaning.proofs.MeaningLemmas.SinkLemmas.{same_end}
 
 -- each trait but `Iter` asks for a value
 pub value_asked : (t : Trait) (form : ListAsked) → (t ≡ traits.Iter → ⊥)
@@ -49,7 +49,7 @@ module _ {X : Type 0} (e : Environment X) (name : List ℕ) (start : ℕ) (range
           let same : items t ≡ Some (map tree xs) = cc in rw (same, may, same_items) refl
 
   module _ {W : Type 0} (written : W → Written) (join : Meaning) (item : Slots X → Meaning)
-      (s : code_sink.Sink W) where
+      (s : Sink W) where
     -- no item is chosen, and so nothing is written:
     --   not_chosen_writes e name start range spec end written join item s error
     --     : IsNotChosen e name start range spec end error
@@ -58,13 +58,8 @@ module _ {X : Type 0} (e : Environment X) (name : List ℕ) (start : ℕ) (range
     pub not_chosen_writes : (error : Error) → IsNotChosen e name start range spec end error
         → Writes written (list_under_name e name start range spec end join item) s s
         (Some (answer_of error))
-    not_chosen_writes error h = record {
-      evaluates = record {
-        outcome = h join item (target (seen written s));
-        other = stays_same (seen written s).aside (seen written s).out;
-      };
-      same = same_sink s;
-    }
+    not_chosen_writes error h =
+        record { outcome = h join item (taken_by written s); same = same_end s }
 
     -- the chosen items are written: under a width (`wide`) their text is made whole, and else item
     -- by item:
@@ -74,11 +69,11 @@ module _ {X : Type 0} (e : Environment X) (name : List ℕ) (start : ℕ) (range
     --     → Writes written (cond wide (padded_list_means spec end all) all) s t r
     --     → Writes written (list_under_name e name start range spec end join item) s t r
     -- where `all` is `items_mean join item chosen`
-    pub chosen_writes : (chosen : List (Slots X)) (t : code_sink.Sink W) (r : Option Answer)
+    pub chosen_writes : (chosen : List (Slots X)) (t : Sink W) (r : Option Answer)
         → IsChosen e name start range spec end chosen
         → (wide : Bool) → is_some spec.width ≡ wide
         → (let all = items_mean join item chosen in
         Writes written (cond wide (padded_list_means spec end all) all) s t r)
         → Writes written (list_under_name e name start range spec end join item) s t r
     chosen_writes chosen t r h wide w o =
-        record { evaluates = rw (h join item, w) o.evaluates; same = o.same }
+        record { outcome = rw (h join item, w) o.outcome; same = o.same }

@@ -16,53 +16,54 @@ use Rattle.interpolator_meaning.specs.Meaning.Meanings.{argument_means, argument
 use Rattle.interpolator_meaning.specs.Meaning.Meanings.{token_means, means}
 use Rattle.interpolator_syntax.specs.Pieces.{argument_from, argument_step}
 use Rattle.interpolator_syntax.specs.Tokens.{Token, first_token, past_token}
-use Rattle.interpolator_meaning.specs.Meaning.Sinks.{SinkState, Evaluates, Writes, seen}
-use Rattle.interpolator_meaning.specs.declared.meaning.sink.Sink as code_sink
+use Rattle.interpolator_meaning.specs.Meaning.Outcomes.{Outcome}
+use Rattle.interpolator_meaning.specs.Meaning.Sinks.{Writes, taken_by}
+use Rattle.interpolator_meaning.specs.declared.meaning.sink.Sink.{Sink}
 use Rattle.interpolator_meaning.proofs.MeaningLemmas.SinkLemmas.{and_then, fault_first, nothing_done, ended}
-use Rattle.interpolator_meaning.proofs.MeaningLemmas.SinkLemmas.{same_sink}
+use Rattle.interpolator_meaning.proofs.MeaningLemmas.SinkLemmas.{same_end}
 use Rattle.interpolator_meaning.proofs.MeaningLemmas.MeaningLemmas.{means_first, means_end}
 use Rattle.interpolator_render.specs.Written.{Written}
 
 module _ {X W : Type 0} (shows : X → Trait → Spec → Shown) (written : W → Written)
     (e : Environment X) (a : At) where
-  pub end_writes : (s : code_sink.Sink W) → first_token a ≡ None
+  pub end_writes : (s : Sink W) → first_token a ≡ None
       → Writes written (means shows e a) s s None
   end_writes s h =
-      record { evaluates = rw (means_end shows e a h) (nothing_done _); same = same_sink s }
+      record { outcome = rw (means_end shows e a h) (nothing_done _); same = same_end s }
 
   pub step_runs :
-      (x : Token × At) (rest : At) (s t : code_sink.Sink W) (u : SinkState)
+      (x : Token × At) (rest : At) (s t : Sink W) (u : Written)
       (answer : Option Answer) → first_token a ≡ Some x → rest ≡ past_token x.0 x.1
       → Writes written (token_means shows e a.place x.0 x.1) s t None
-      → Evaluates (means shows e rest) (seen written t) u answer
-      → Evaluates (means shows e a) (seen written s) u answer
+      → Outcome (means shows e rest) (taken_by written t) u answer
+      → Outcome (means shows e a) (taken_by written s) u answer
   step_runs x rest s t u answer h r o k =
-      rw (means_first shows e a x h, sym r) (and_then _ _ _ _ u answer o.evaluates k)
+      rw (means_first shows e a x h, sym r) (and_then _ _ _ _ u answer o.outcome k)
 
   pub fault_writes :
-      (x : Token × At) (s t : code_sink.Sink W) (q : Answer) → first_token a ≡ Some x
+      (x : Token × At) (s t : Sink W) (q : Answer) → first_token a ≡ Some x
       → Writes written (token_means shows e a.place x.0 x.1) s t (Some q)
       → Writes written (means shows e a) s t (Some q)
   fault_writes x s t q h o = record {
-    evaluates = rw (means_first shows e a x h) (fault_first _ _ _ _ q o.evaluates);
+    outcome = rw (means_first shows e a x h) (fault_first _ _ _ _ q o.outcome);
     same = o.same;
   }
 
   -- an argument that is broken
-  pub broken_writes : (s : code_sink.Sink W) (f : Fault) → argument_at a ≡ Err f
+  pub broken_writes : (s : Sink W) (f : Fault) → argument_at a ≡ Err f
       → Writes written (argument_from_means shows e a) s s (Some (fault f))
   unfolding argument_from
-  broken_writes s f h = record { evaluates = rw h (ended f _); same = same_sink s }
+  broken_writes s f h = record { outcome = rw h (ended f _); same = same_end s }
 
   value_fault_step :
-      (x : Argument) (q : At) (r : Option At) (s t : SinkState) (w : Answer)
-      → Evaluates (argument_means shows (means shows) e a.place x q.place) s t (Some w)
-      → Evaluates (piece_means shows (means shows) e a.place
+      (x : Argument) (q : At) (r : Option At) (s t : Written) (w : Answer)
+      → Outcome (argument_means shows (means shows) e a.place x q.place) s t (Some w)
+      → Outcome (piece_means shows (means shows) e a.place
       (argument_step a.place a x q r).piece.kind) s t (Some w)
   value_fault_step x q None s t w o = fault_first _ _ s t w o
   value_fault_step x q (Some rest) s t w o = o
 
-  module _ (x : Argument) (q : At) (h : argument_at a ≡ Ok (x, q)) (s t : code_sink.Sink W) where
+  module _ (x : Argument) (q : At) (h : argument_at a ≡ Ok (x, q)) (s t : Sink W) where
     abbrev Value : Option Answer → Type 0
     Value r = Writes written (argument_means shows (means shows) e a.place x q.place) s t r
 
@@ -71,7 +72,7 @@ module _ {X W : Type 0} (shows : X → Trait → Spec → Shown) (written : W �
         → Writes written (argument_from_means shows e a) s t (Some w)
     unfolding argument_from
     value_fault_writes w o = record {
-      evaluates = rw h (value_fault_step x q (strip close_brace q) _ _ w o.evaluates);
+      outcome = rw h (value_fault_step x q (strip close_brace q) _ _ w o.outcome);
       same = o.same;
     }
 
@@ -79,7 +80,7 @@ module _ {X W : Type 0} (shows : X → Trait → Spec → Shown) (written : W �
     pub closed_writes : (rest : At) → strip close_brace q ≡ Some rest → Value None
         → Writes written (argument_from_means shows e a) s t None
     unfolding argument_from
-    closed_writes rest d o = record { evaluates = rw (h, d) o.evaluates; same = o.same }
+    closed_writes rest d o = record { outcome = rw (h, d) o.outcome; same = o.same }
 
     -- one that is not
     pub unclosed_writes : strip close_brace q ≡ None → Value None
@@ -87,7 +88,7 @@ module _ {X W : Type 0} (shows : X → Trait → Spec → Shown) (written : W �
         (Some (fault (parse (expected (codes "}") q.place))))
     unfolding argument_from
     unclosed_writes d o = record {
-      evaluates = rw (h, d) (and_then _ _ _ _ _ _ o.evaluates (ended _ _));
+      outcome = rw (h, d) (and_then _ _ _ _ _ _ o.outcome (ended _ _));
       same = o.same;
     }
 

@@ -1,61 +1,31 @@
 -- What is written to a sink: a writer, or a buffer in its stead.
-use Rattle.std.specs.Prelude.{◌≡◌, Option, None, Some, option_map, ⊤, Result, Ok, Err}
+use Rattle.std.specs.Prelude.{◌≡◌, Option, None, Some, Result, Ok, Err}
 use Rattle.interpolator_render.specs.Written.{Written}
 use Rattle.interpolator_render.specs.Bounds.{bounded_writer}
 use Rattle.interpolator_syntax.specs.Faults.{Answer, fault, missing_trait_impl, fmt}
 use Rattle.interpolator_meaning.specs.Meaning.Meanings.{Meaning}
 use Rattle.interpolator_meaning.specs.Meaning.Outcomes.{Outcome}
-use Rattle.interpolator_meaning.specs.declared.meaning.sink.Sink as code_sink
+use Rattle.interpolator_meaning.specs.declared.meaning.sink.Sink.{Sink}
+use Rattle.interpolator_meaning.specs.declared.meaning.sink.Sink.TheVariants.{Writer, Aside}
 use Rattle.interpolator_meaning.specs.declared.meaning.sink.WriteFault.{WriteFault}
 use Rattle.interpolator_meaning.specs.declared.meaning.sink.WriteFault.TheVariants.{MissingTraitImpl, Fmt}
 
--- where text goes: to the writer `out`, or aside into a buffer if there is one
-pub record SinkState : Type 0 where
-  pub out : Written
-  pub aside : Option Written
+-- what the end of a sink has taken, where `written` is what is known of its writer
+abbrev pub taken_by : {W : Type 0} → (W → Written) → Sink W → Written
+taken_by written (Writer out) = written out.now
+taken_by written (Aside buffer) = bounded_writer buffer.now
 
--- the buffer, or the writer where there is none
-abbrev pub buffer_or : Option Written → Written → Written
-buffer_or None out = out
-buffer_or (Some buffer) out = buffer
+-- it holds the same reference
+abbrev pub SameEnd : {W : Type 0} → Sink W → Sink W → Type 0
+SameEnd (Writer out) (Writer out') = out'.ghost_name ≡ out.ghost_name
+SameEnd (Aside buffer) (Aside buffer') = buffer'.ghost_name ≡ buffer.ghost_name
+SameEnd _ _ = ⊥
 
--- the one of the two that takes the text
-abbrev pub target : SinkState → Written
-target s = buffer_or s.aside s.out
-
--- the other one stays
-abbrev pub StaysBy : Option Written → Option Written → Written → Written → Type 0
-StaysBy None None out out' = ⊤
-StaysBy (Some b) (Some c) out out' = out' ≡ out
-StaysBy _ _ _ _ = ⊥
-
--- the end that does not take the text stays as it is
-abbrev pub OtherStays : SinkState → SinkState → Type 0
-OtherStays s t = StaysBy s.aside t.aside s.out t.out
-
--- one of the three outcomes, at the end that takes the text
-pub record Evaluates (m : Meaning) (old new : SinkState) (answer : Option Answer) : Type 0 where
-  pub outcome : Outcome m (target old) (target new) answer
-  pub other : OtherStays old new
-
--- a sink by its two ends
-abbrev pub sink_state : Written → Option Written → SinkState
-sink_state out aside = record { out = out; aside = aside }
-
--- what is known of a sink, where `written` is what is known of its writer
-abbrev pub seen : {W : Type 0} → (W → Written) → code_sink.Sink W → SinkState
-seen written s = sink_state (written s.out.now) (option_map bounded_writer s.aside.now)
-
--- it holds the same two references
-pub record SameSink {W : Type 0} (old new : code_sink.Sink W) : Type 0 where
-  pub out : new.out.ghost_name ≡ old.out.ghost_name
-  pub aside : new.aside.ghost_name ≡ old.aside.ghost_name
-
--- one of the three outcomes at a sink, which holds the same two references after it
-pub record Writes {W : Type 0} (written : W → Written) (m : Meaning)
-    (old new : code_sink.Sink W) (answer : Option Answer) : Type 0 where
-  pub evaluates : Evaluates m (seen written old) (seen written new) answer
-  pub same : SameSink old new
+-- one of the three outcomes at the end of a sink, which holds the same reference after it
+pub record Writes {W : Type 0} (written : W → Written) (m : Meaning) (old new : Sink W)
+    (answer : Option Answer) : Type 0 where
+  pub outcome : Outcome m (taken_by written old) (taken_by written new) answer
+  pub same : SameEnd old new
 
 -- what the reason comes to why something was not written
 abbrev pub write_fault_answer : WriteFault → Answer

@@ -204,16 +204,12 @@ fn write_padded_list<'a, W: TextWrite, C: Context>(
         (list_of form.now) end (map slots_of items.now)))
         sink.old sink.new (answered result) }
 {
-    let mut made = Some(list_buffer(sink, scope));
-    let mut inner = Sink {
-        out: &mut *sink.out,
-        aside: &mut made,
-    };
+    let mut made = list_buffer(sink, scope);
+    let mut inner: Sink<'_, W> = Sink::Aside(&mut made);
     let answer = write_items(&mut inner, scope, items, form, end);
-    let Sink { out: _, aside: _ } = inner;
-    match made {
-        None => unreachable!(),
-        Some(buffer) => {
+    match inner {
+        Sink::Writer(_) => unreachable!(),
+        Sink::Aside(buffer) => {
             if buffer.refused() {
                 return Err(Error::NoMemory);
             }

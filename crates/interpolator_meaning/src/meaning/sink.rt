@@ -106,10 +106,10 @@ fn write_padded<W: TextWrite>(
     }
 }
 
-/// Where text goes: to the writer, or aside into a buffer if there is one.
-pub struct Sink<'s, W> {
-    pub out: &'s mut W,
-    pub aside: &'s mut Option<Bounded>,
+/// Where text goes: to the writer, or aside into a buffer, for a list that is made whole.
+pub enum Sink<'s, W> {
+    Writer(&'s mut W),
+    Aside(&'s mut Bounded),
 }
 
 impl<'s, W: TextWrite> Sink<'s, W> {
@@ -120,9 +120,9 @@ impl<'s, W: TextWrite> Sink<'s, W> {
         ensures writes { Writes W.written (text_alone (placed_from place (chars text.now)))
             self.old self.new (write_answered result) }
     {
-        match &mut *self.aside {
-            None => write_run(&mut *self.out, text, place),
-            Some(buffer) => write_run(buffer, text, place),
+        match self {
+            Sink::Writer(out) => write_run(&mut **out, text, place),
+            Sink::Aside(buffer) => write_run(&mut **buffer, text, place),
         }
     }
 
@@ -132,9 +132,9 @@ impl<'s, W: TextWrite> Sink<'s, W> {
         ensures writes { Writes W.written (text_alone ((c, place) ∷ []))
             self.old self.new (write_answered result) }
     {
-        match &mut *self.aside {
-            None => write_char(&mut *self.out, c, place),
-            Some(buffer) => write_char(buffer, c, place),
+        match self {
+            Sink::Writer(out) => write_char(&mut **out, c, place),
+            Sink::Aside(buffer) => write_char(&mut **buffer, c, place),
         }
     }
 
@@ -145,17 +145,17 @@ impl<'s, W: TextWrite> Sink<'s, W> {
             (text_alone (placed_at place (padded_text spec.now (chars text.now))))
             self.old self.new (write_answered result) }
     {
-        match &mut *self.aside {
-            None => write_padded(&mut *self.out, text, spec, place),
-            Some(buffer) => write_padded(buffer, text, spec, place),
+        match self {
+            Sink::Writer(out) => write_padded(&mut **out, text, spec, place),
+            Sink::Aside(buffer) => write_padded(&mut **buffer, text, spec, place),
         }
     }
 
     // How many bytes it could still take at most.
     pub(crate) fn room(&self) -> usize {
-        let room = match &*self.aside {
-            None => self.out.room(),
-            Some(buffer) => buffer.room(),
+        let room = match self {
+            Sink::Writer(out) => out.room(),
+            Sink::Aside(buffer) => buffer.room(),
         };
         room.unwrap_or(usize::MAX)
     }
@@ -177,9 +177,9 @@ impl<'s, W: TextWrite> Sink<'s, W> {
             return Err(WriteFault::MissingTraitImpl(t, place));
         };
         let view = value.view(t, spec);
-        match &mut *self.aside {
-            None => write_view(&mut *self.out, view, t, spec, place),
-            Some(buffer) => write_view(buffer, view, t, spec, place),
+        match self {
+            Sink::Writer(out) => write_view(&mut **out, view, t, spec, place),
+            Sink::Aside(buffer) => write_view(&mut **buffer, view, t, spec, place),
         }
     }
 }

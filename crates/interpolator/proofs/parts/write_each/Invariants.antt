@@ -2,7 +2,9 @@ use Rattle.std.proofs.Common.{◌≡◌, ◌+◌, drop, Option}
 use Rattle.interpolator_syntax.specs.Faults.{Answer}
 use Rattle.interpolator.specs.Meaning.Parts.{texts_of, bytes_of, parts_mean}
 use Rattle.interpolator_meaning.specs.Meaning.Scopes.{environment_of}
-use Rattle.interpolator_meaning.specs.Meaning.Sinks.{SinkState, Evaluates, SameSink, seen}
+use Rattle.interpolator_meaning.specs.Meaning.Outcomes.{Outcome}
+use Rattle.interpolator_render.specs.Written.{Written}
+use Rattle.interpolator_meaning.specs.Meaning.Sinks.{SameEnd, taken_by}
 use Rattle.interpolator.proofs.parts.write_each.Given as goal
 
 -- what the parts that are left come to, after what was written, is what all parts come to
@@ -10,11 +12,11 @@ abbrev pub invariant-loop-part : goal.invariant-loop-part
 invariant-loop-part g l =
     let meaning = parts_mean g.C.Object.Value.shows (environment_of g.C.Context.finds l.scope) in
     record {
-      so_far : (new : SinkState) (answer : Option Answer)
-          → Evaluates (meaning l.place (texts_of (drop l.part-index l.parts)))
-          (seen g.W.TextWrite.written l.sink) new answer
-          → Evaluates (meaning 0 (texts_of l.parts)) (seen g.W.TextWrite.written l.fn.sink) new
+      so_far : (new : Written) (answer : Option Answer)
+          → Outcome (meaning l.place (texts_of (drop l.part-index l.parts)))
+          (taken_by g.W.TextWrite.written l.sink) new answer
+          → Outcome (meaning 0 (texts_of l.parts)) (taken_by g.W.TextWrite.written l.fn.sink) new
           answer;
-      same : SameSink l.fn.sink l.sink;
+      same : SameEnd l.fn.sink l.sink;
       fits : l.place + bytes_of (drop l.part-index l.parts) ≡ bytes_of l.parts;
     }

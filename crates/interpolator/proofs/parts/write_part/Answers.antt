@@ -14,4 +14,4 @@ returns-in-Err-clause-place g c =
     outcome_lies_from g.C.Object.Value.shows (environment_of g.C.Context.finds c.args.scope.now)
     c.args.place (chars c.args.part.now) _ _ _ _
     (ap (λ (n : ℕ). c.args.place + n) (size-chars c.args.part.now c.utf8.part))
-    c.in-Err.ensures.writes.evaluates.outcome
+    c.in-Err.ensures.writes.outcome

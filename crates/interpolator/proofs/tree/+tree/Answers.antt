@@ -1,7 +1,6 @@
-use Rattle.std.proofs.Common.{refl, rules, ◌≡◌, Some}
+use Rattle.std.proofs.Common.{rules, ◌≡◌, map}
 use Rattle.std.specs.Str.{chars}
 use Rattle.std.proofs.lemmas.Result.{err_from_is_err_and}
-use Rattle.interpolator_render.specs.Bounds.{bounded_writer}
 use Rattle.interpolator_render.specs.declared.view.Trait.TheVariants as traits
 use Rattle.interpolator_syntax.specs.SpecTexts.{plain_spec}
 use Rattle.interpolator_meaning.specs.Slots.{slots_of}
@@ -9,8 +8,9 @@ use Rattle.interpolator_meaning.specs.Meaning.Scopes.{environment_of}
 use Rattle.interpolator.specs.Template.Nodes.{bare_value, bare_list}
 use Rattle.interpolator.specs.Template.Stored.{range_of}
 use Rattle.interpolator.specs.Template.StoredMeanings.{stored_join_means, stored_item_means}
+use Rattle.interpolator.specs.Template.StoredMeanings.{stored_items_mean}
 use Rattle.interpolator.specs.declared.template.piece.Piece.TheViews.{out-Piece}
-use Rattle.interpolator_meaning.proofs.MeaningLemmas.SinkLemmas.{same_then, same_sink, goes_on}
+use Rattle.interpolator_meaning.proofs.MeaningLemmas.SinkLemmas.{same_then, same_end, goes_on}
 use Rattle.interpolator_meaning.proofs.MeaningLemmas.SinkLemmas.{whole_refused, whole_fault}
 use Rattle.interpolator.proofs.TemplateLemmas.RunLemmas.{text_fits}
 use Rattle.interpolator.proofs.TemplateLemmas.RunLemmas.{name_fits, value_fits, list_fits}
@@ -29,7 +29,7 @@ use Rattle.interpolator.proofs.tree.+tree.Goals as goal
 
 pub run_pieces-loop-piece-init : goal.run_pieces-loop-piece-init
 run_pieces-loop-piece-init g t c =
-    record { so_far = λ new answer k. k; same = same_sink _ }
+    record { so_far = λ new answer k. k; same = same_end _ }
 
 pub run_pieces-run_piece-requires : goal.run_pieces-run_piece-requires
 run_pieces-run_piece-requires g t c κs within =
@@ -203,29 +203,31 @@ run_list_piece-returns g t c =
 
 pub run_padded_list-returns-then-refused : goal.run_padded_list-returns-then-refused
 run_padded_list-returns-then-refused g t c =
-    let made : c.run_items-answer.new.sink.aside.now ≡ Some c.in-Some.buffer = search rules in
     let y = out-Piece c.args.piece.now in
+    let e = environment_of g.C.Context.finds c.args.scope.now in
+    let all = stored_items_mean g.C.Object.Value.shows e c.args.text.now c.args.piece.now
+    y.spec_end (map slots_of c.args.items.now) in
     record {
       writes = record {
-        evaluates = whole_refused y.spec y.spec_end _ _ _ (bounded_writer c.list_buffer.result)
-            (bounded_writer c.in-Some.buffer) _ _
-            (rw made at c.run_items-answer.ensures.writes.evaluates);
-        same = record { out = refl; aside = refl };
+        outcome = whole_refused y.spec y.spec_end all _;
+        same = same_end c.args.sink.now;
       };
     }
 
-pub run_padded_list-returns-in_err-answer-in-Some :
-    goal.run_padded_list-returns-in_err-answer-in-Some
-run_padded_list-returns-in_err-answer-in-Some g t c =
-    let err = err_from_is_err_and c.from_residual.result c.from_residual.ensures.1 in
-    let made : c.run_items-answer.new.sink.aside.now ≡ Some c.in-Some.buffer = search rules in
+pub run_padded_list-returns-in_err-answer-in-Aside :
+    goal.run_padded_list-returns-in_err-answer-in-Aside
+run_padded_list-returns-in_err-answer-in-Aside g t c =
     let y = out-Piece c.args.piece.now in
+    let e = environment_of g.C.Context.finds c.args.scope.now in
+    let all = stored_items_mean g.C.Object.Value.shows e c.args.text.now c.args.piece.now
+    y.spec_end (map slots_of c.args.items.now) in
+    let err = err_from_is_err_and c.from_residual.result c.from_residual.ensures.1 in
     rw (err.1, err.2) (record {
       writes = record {
-        evaluates = whole_fault y.spec y.spec_end _ _ _ (bounded_writer c.list_buffer.result)
-            (bounded_writer c.in-Some.buffer) _ _ (search rules)
-            (rw made at c.in_err-answer-in-Some.ensures.writes.evaluates);
-        same = record { out = refl; aside = refl };
+        outcome =
+            whole_fault y.spec y.spec_end all _ _ _ _ (search rules)
+            (rw c.in-Aside.is at c.in_err-answer-in-Aside.ensures.writes.outcome);
+        same = same_end c.args.sink.now;
       };
     })
 

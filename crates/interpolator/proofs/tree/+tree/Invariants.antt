@@ -3,7 +3,9 @@ use Rattle.interpolator_syntax.specs.Faults.{Answer}
 use Rattle.interpolator_meaning.specs.Slots.{slots_of}
 use Rattle.interpolator_meaning.specs.Meaning.Meanings.{items_after}
 use Rattle.interpolator_meaning.specs.Meaning.Scopes.{environment_of}
-use Rattle.interpolator_meaning.specs.Meaning.Sinks.{SinkState, Evaluates, SameSink, seen}
+use Rattle.interpolator_meaning.specs.Meaning.Outcomes.{Outcome}
+use Rattle.interpolator_render.specs.Written.{Written}
+use Rattle.interpolator_meaning.specs.Meaning.Sinks.{SameEnd, taken_by}
 use Rattle.interpolator.specs.Template.StoredMeanings.{stored_pieces_mean, stored_join_means}
 use Rattle.interpolator.specs.Template.StoredMeanings.{stored_item_means, stored_items_mean}
 use Rattle.interpolator.specs.declared.template.piece.Piece.TheViews.{out-Piece}
@@ -15,11 +17,11 @@ invariant-run_pieces-loop-piece g l =
     let meaning = stored_pieces_mean g.C.Object.Value.shows
     (environment_of g.C.Context.finds l.scope) l.text in
     record {
-      so_far : (new : SinkState) (answer : Option Answer)
-          → Evaluates (meaning (drop l.piece-index l.pieces)) (seen g.W.TextWrite.written l.sink)
+      so_far : (new : Written) (answer : Option Answer)
+          → Outcome (meaning (drop l.piece-index l.pieces)) (taken_by g.W.TextWrite.written l.sink)
           new answer
-          → Evaluates (meaning l.pieces) (seen g.W.TextWrite.written l.fn.sink) new answer;
-      same : SameSink l.fn.sink l.sink;
+          → Outcome (meaning l.pieces) (taken_by g.W.TextWrite.written l.fn.sink) new answer;
+      same : SameEnd l.fn.sink l.sink;
     }
 
 -- what the items left come to, after what was written, is what the whole list comes to
@@ -31,10 +33,10 @@ invariant-run_items-loop-item g l =
     let join = stored_join_means shows e l.text l.piece in
     let one = stored_item_means shows e l.text l.piece end in
     record {
-      so_far : (new : SinkState) (answer : Option Answer)
-          → Evaluates (items_after join one (map slots_of (drop l.item-index l.rest)))
-          (seen g.W.TextWrite.written l.sink) new answer
-          → Evaluates (stored_items_mean shows e l.text l.piece end (map slots_of l.items))
-          (seen g.W.TextWrite.written l.fn.sink) new answer;
-      same : SameSink l.fn.sink l.sink;
+      so_far : (new : Written) (answer : Option Answer)
+          → Outcome (items_after join one (map slots_of (drop l.item-index l.rest)))
+          (taken_by g.W.TextWrite.written l.sink) new answer
+          → Outcome (stored_items_mean shows e l.text l.piece end (map slots_of l.items))
+          (taken_by g.W.TextWrite.written l.fn.sink) new answer;
+      same : SameEnd l.fn.sink l.sink;
     }

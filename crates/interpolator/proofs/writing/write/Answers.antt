@@ -4,7 +4,6 @@ use Rattle.interpolator_syntax.specs.At.{outermost}
 use Rattle.interpolator_meaning.specs.Meaning.Environments.{environment}
 use Rattle.interpolator_syntax.proofs.CharacterLemmas.{size-chars}
 use Rattle.interpolator_meaning.proofs.MeaningLemmas.AskedLemmas.{asked_outcome}
-use Rattle.interpolator_meaning.proofs.MeaningLemmas.SinkLemmas.{at_out}
 use Rattle.interpolator_meaning.proofs.MeaningLemmas.PlaceLemmas.{outcome_lies_from}
 use Rattle.interpolator.proofs.writing.write.Goals as goal
 
@@ -13,7 +12,7 @@ returns-clause-place g c =
     outcome_lies_from g.C.Object.Value.shows (environment (g.C.Context.finds c.args.context.now)) 0
     (chars c.args.format.now) (length c.args.format.now) _ _ _
     (omega (arith, size-chars c.args.format.now c.utf8.format))
-    (at_out _ _ _ _ _ (rw c.outermost.ensures at c.write_text-answer.ensures.writes.evaluates))
+    (rw (c.outermost.ensures, c.in-Writer.is) at c.write_text-answer.ensures.writes.outcome)
 
 pub returns-clause-asked : goal.returns-clause-asked
 returns-clause-asked g c =

@@ -19,8 +19,8 @@ pub returns-clause-outcome : goal.returns-clause-outcome
 returns-clause-outcome g c =
     let e = environment (g.C.Context.finds c.args.context.now) in
     let o = text_outcome c.args.format.now c.args.pieces.now (outermost (chars c.args.format.now))
-    c.requires.pieces g.C.Object.Value.shows e _ _ _ _ _ c.outermost.ensures
-    c.run_pieces-answer.ensures.writes.evaluates in
+    c.requires.pieces g.C.Object.Value.shows e _ _ _ _ c.outermost.ensures
+    (rw c.in-Writer.is at c.run_pieces-answer.ensures.writes.outcome) in
     search rules
 
 pub returns-clause-asked : goal.returns-clause-asked
@@ -28,8 +28,8 @@ returns-clause-asked g c =
     let e = environment (g.C.Context.finds c.args.context.now) in
     let a = outermost (chars c.args.format.now) in
     let o = text_outcome c.args.format.now c.args.pieces.now a c.requires.pieces
-    g.C.Object.Value.shows e _ _ _ _ _ c.outermost.ensures
-    c.run_pieces-answer.ensures.writes.evaluates in
+    g.C.Object.Value.shows e _ _ _ _ c.outermost.ensures
+    (rw c.in-Writer.is at c.run_pieces-answer.ensures.writes.outcome) in
     asked_outcome g.C.Object.Value.shows e a _ _ _ (search rules)
 
 pub returns-clause-place : goal.returns-clause-place
@@ -39,5 +39,5 @@ returns-clause-place g c =
     outcome_lies_from g.C.Object.Value.shows e 0 (chars c.args.format.now)
     (length c.args.format.now) _ _ _ (omega (arith, size-chars c.args.format.now c.utf8.format))
     (text_outcome c.args.format.now c.args.pieces.now a c.requires.pieces
-    g.C.Object.Value.shows e _ _ _ _ _ c.outermost.ensures
-    c.run_pieces-answer.ensures.writes.evaluates)
+    g.C.Object.Value.shows e _ _ _ _ c.outermost.ensures
+    (rw c.in-Writer.is at c.run_pieces-answer.ensures.writes.outcome))

@@ -22,6 +22,7 @@ returns g c =
     ap (λ bs. nodes_of bs c.pieces.result.now) c.text.ensures.text ∙ c.pieces.ensures.pieces in
     let o = rest_outcome c.text.result.now c.pieces.result.now
     (outermost (chars c.args.template.now)) all c.args.skipped g.C.Object.Value.shows
-    (environment (g.C.Context.finds c.args.context.now)) _ _ _ _ _ c.outermost-scope.ensures
-    (rw c.pieces_after-rest.ensures at c.run_pieces-answer.ensures.writes.evaluates) in
+    (environment (g.C.Context.finds c.args.context.now)) _ _ _ _ c.outermost-scope.ensures
+    (rw (c.pieces_after-rest.ensures, c.in-Writer.is) at
+    c.run_pieces-answer.ensures.writes.outcome) in
     record { outcome = search rules }

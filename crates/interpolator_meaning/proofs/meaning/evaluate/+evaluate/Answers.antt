@@ -1,4 +1,4 @@
-use Rattle.std.proofs.Common.{◌≡◌, ◌≤◌, ◌<◌, refl, sym, arith, rules, length, Some, true}
+use Rattle.std.proofs.Common.{◌≡◌, ◌≤◌, ◌<◌, refl, sym, arith, rules, length, map, Some, true}
 use Rattle.std.proofs.Common.{false}
 use Rattle.std.specs.Str.{chars}
 use Rattle.std.proofs.lemmas.Result.{err_from_is_err_and}
@@ -9,10 +9,10 @@ use Rattle.interpolator_syntax.specs.Tokens.{literals, doubled, lone_close, argu
 use Rattle.interpolator_syntax.proofs.PieceLemmas.{read_alone}
 use Rattle.interpolator_meaning.specs.Slots.{slots_of}
 use Rattle.interpolator_syntax.specs.Arguments.{list_of, kind_of_asked}
-use Rattle.interpolator_meaning.specs.Meaning.Meanings.{means, item_means, join_means}
+use Rattle.interpolator_meaning.specs.Meaning.Meanings.{means, item_means, join_means, chosen_means}
 use Rattle.interpolator_meaning.specs.Meaning.Scopes.{environment_of}
-use Rattle.interpolator_meaning.proofs.MeaningLemmas.SinkLemmas.{same_then, goes_on, whole_refused}
-use Rattle.interpolator_meaning.proofs.MeaningLemmas.SinkLemmas.{whole_fault}
+use Rattle.interpolator_meaning.proofs.MeaningLemmas.SinkLemmas.{same_end, same_then, goes_on}
+use Rattle.interpolator_meaning.proofs.MeaningLemmas.SinkLemmas.{whole_refused, whole_fault}
 use Rattle.interpolator_meaning.proofs.MeaningLemmas.MeaningLemmas.{scan_shorter, token_shorter}
 use Rattle.interpolator_meaning.proofs.MeaningLemmas.ListLemmas.{kind_size, groups_within}
 use Rattle.interpolator_meaning.proofs.MeaningLemmas.LookUpLemmas.{not_chosen_writes, chosen_writes}
@@ -113,26 +113,31 @@ write_text-returns g t c =
 
 pub write_padded_list-returns-then-refused : goal.write_padded_list-returns-then-refused
 write_padded_list-returns-then-refused g t c =
-    let made : c.write_items-answer.new.sink.aside.now ≡ Some c.in-Some.buffer = search rules in
+    let shows = g.C.Object.Value.shows in
+    let e = environment_of g.C.Context.finds c.args.scope.now in
+    let all = chosen_means shows (means shows) e (list_of c.args.form.now) c.args.end
+    (map slots_of c.args.items.now) in
     record {
       writes = record {
-        evaluates = whole_refused c.args.spec.now c.args.end _ _ _ (bounded_writer c.list_buffer.result)
-            (bounded_writer c.in-Some.buffer) _ _
-            (rw made at c.write_items-answer.ensures.writes.evaluates);
-        same = record { out = refl; aside = refl };
+        outcome = whole_refused c.args.spec.now c.args.end all _;
+        same = same_end c.args.sink.now;
       };
     }
 
-pub write_padded_list-returns-in_err-answer-in-Some : goal.write_padded_list-returns-in_err-answer-in-Some
-write_padded_list-returns-in_err-answer-in-Some g t c =
+pub write_padded_list-returns-in_err-answer-in-Aside :
+    goal.write_padded_list-returns-in_err-answer-in-Aside
+write_padded_list-returns-in_err-answer-in-Aside g t c =
+    let shows = g.C.Object.Value.shows in
+    let e = environment_of g.C.Context.finds c.args.scope.now in
+    let all = chosen_means shows (means shows) e (list_of c.args.form.now) c.args.end
+    (map slots_of c.args.items.now) in
     let err = err_from_is_err_and c.from_residual.result c.from_residual.ensures.1 in
-    let made : c.write_items-answer.new.sink.aside.now ≡ Some c.in-Some.buffer = search rules in
     rw (err.1, err.2) (record {
       writes = record {
-        evaluates = whole_fault c.args.spec.now c.args.end _ _ _ (bounded_writer c.list_buffer.result)
-            (bounded_writer c.in-Some.buffer) _ _ (search rules)
-            (rw made at c.in_err-answer-in-Some.ensures.writes.evaluates);
-        same = record { out = refl; aside = refl };
+        outcome =
+            whole_fault c.args.spec.now c.args.end all _ _ _ _ (search rules)
+            (rw c.in-Aside.is at c.in_err-answer-in-Aside.ensures.writes.outcome);
+        same = same_end c.args.sink.now;
       };
     })
 

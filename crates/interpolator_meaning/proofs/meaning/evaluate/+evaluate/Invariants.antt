@@ -7,7 +7,9 @@ use Rattle.interpolator_syntax.specs.Arguments.{list_of, kind_of_asked}
 use Rattle.interpolator_meaning.specs.Meaning.Meanings.{means, item_means, join_means, items_after}
 use Rattle.interpolator_meaning.specs.Meaning.Meanings.{chosen_means}
 use Rattle.interpolator_meaning.specs.Meaning.Scopes.{environment_of}
-use Rattle.interpolator_meaning.specs.Meaning.Sinks.{SinkState, Evaluates, SameSink, seen}
+use Rattle.interpolator_meaning.specs.Meaning.Outcomes.{Outcome}
+use Rattle.interpolator_render.specs.Written.{Written}
+use Rattle.interpolator_meaning.specs.Meaning.Sinks.{SameEnd, taken_by}
 use Rattle.interpolator_meaning.proofs.MeaningLemmas.ListLemmas.{group_size, list_size, kind_size}
 use Rattle.interpolator_meaning.proofs.meaning.evaluate.+evaluate.Given as goal
 
@@ -46,12 +48,12 @@ invariant-write_text-loop-token g l =
     let meaning = means g.C.Object.Value.shows (environment_of g.C.Context.finds l.scope) in
     record {
       shorter : length (chars l.here.rest.now) ≤ length (chars l.text.rest.now);
-      so_far : (new : SinkState) (answer : Option Answer)
-          → Evaluates (meaning (record { place = l.here.place; text = chars l.here.rest.now }))
-          (seen g.W.TextWrite.written l.sink) new answer
-          → Evaluates (meaning (record { place = l.text.place; text = chars l.text.rest.now }))
-          (seen g.W.TextWrite.written l.fn.sink) new answer;
-      same : SameSink l.fn.sink l.sink;
+      so_far : (new : Written) (answer : Option Answer)
+          → Outcome (meaning (record { place = l.here.place; text = chars l.here.rest.now }))
+          (taken_by g.W.TextWrite.written l.sink) new answer
+          → Outcome (meaning (record { place = l.text.place; text = chars l.text.rest.now }))
+          (taken_by g.W.TextWrite.written l.fn.sink) new answer;
+      same : SameEnd l.fn.sink l.sink;
     }
 
 abbrev pub decreases-write_text-loop-token : goal.decreases-write_text-loop-token
@@ -66,10 +68,10 @@ invariant-write_items-loop-item g l =
     let join = join_means shows (means shows) e asked.join in
     let one = item_means shows (means shows) e l.end asked.item in
     record {
-      so_far : (new : SinkState) (answer : Option Answer)
-          → Evaluates (items_after join one (map slots_of (drop l.item-index l.rest)))
-          (seen g.W.TextWrite.written l.sink) new answer
-          → Evaluates (chosen_means shows (means shows) e asked l.end (map slots_of l.items))
-          (seen g.W.TextWrite.written l.fn.sink) new answer;
-      same : SameSink l.fn.sink l.sink;
+      so_far : (new : Written) (answer : Option Answer)
+          → Outcome (items_after join one (map slots_of (drop l.item-index l.rest)))
+          (taken_by g.W.TextWrite.written l.sink) new answer
+          → Outcome (chosen_means shows (means shows) e asked l.end (map slots_of l.items))
+          (taken_by g.W.TextWrite.written l.fn.sink) new answer;
+      same : SameEnd l.fn.sink l.sink;
     }
