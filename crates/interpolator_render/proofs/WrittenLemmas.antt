@@ -1,5 +1,5 @@
 -- What a writer over a `String` took or refused.
-use Rattle.std.proofs.Common.{◌≡◌, ◌⊎◌, ℕ, ◌+◌, ◌<◌, true, false, List, [], ◌∷◌, ◌++◌, length, refl}
+use Rattle.std.proofs.Common.{◌≡◌, ◌⊎◌, ℕ, ◌+◌, ◌<◌, ◌≤◌, true, false, List, [], ◌∷◌, ◌++◌, length, refl}
 use Rattle.std.proofs.Common.{sym, ◌∙◌, ap, arith, append-nil, encode_utf8, encode_utf8_all, Bool}
 use Rattle.std.proofs.Common.{Result, Ok, Err, OnOk, OnErr, MatchResult, chars, IsUtf8}
 use Rattle.interpolator_render.specs.declared.text_write.Refusal.{Refusal}
@@ -7,6 +7,7 @@ use Rattle.std.specs.Char.{IsScalar}
 use Rattle.std.proofs.lemmas.Str.{chars-append, chars-nil, IsUtf8-encode, chars_past_char}
 use Rattle.std.proofs.lemmas.Str.{encodes-chars}
 use Rattle.interpolator_render.specs.Written.{Written, Buffered, Appends, Refuses, MayRefuse}
+use Rattle.interpolator_render.specs.Written.{byte_count}
 
 -- an empty text changes nothing
 pub appends_nothing : (w : Written) (bytes : List ℕ) → length bytes ≡ 0 → Appends w (chars bytes) w
@@ -86,3 +87,18 @@ pub may_refuse : (old : Buffered) (bytes : List ℕ) (room count : ℕ) (refused
     OnErr answer (MayRefuse old count)
 may_refuse old bytes room count refused (Ok x) u e h = tt
 may_refuse old bytes room count refused (Err r) u e h = rw (← e, encodes-chars bytes u) h
+
+-- the room of a `String` for so many bytes more, by its characters
+pub ready_for : (after : List ℕ) (room count : ℕ) (refused refused_after : Bool)
+    (answer : Result (Unit {0}) Refusal) → IsUtf8 after →
+    OnOk answer ((refused_after ≡ refused) × (length after + count ≤ room)) →
+    OnOk answer (byte_count (chars after) + count ≤ room)
+ready_for after room count refused refused_after (Ok x) u h = rw (encodes-chars after u) h.1
+ready_for after room count refused refused_after (Err r) u h = tt
+
+-- and the lack of it
+pub lacks_room : (bytes : List ℕ) (room count : ℕ) (answer : Result (Unit {0}) Refusal) →
+    IsUtf8 bytes → OnErr answer (room < length bytes + count) →
+    OnErr answer (room < byte_count (chars bytes) + count)
+lacks_room bytes room count (Ok x) u h = tt
+lacks_room bytes room count (Err r) u h = rw (encodes-chars bytes u) h

@@ -46,10 +46,12 @@ pub trait TextWrite {
     fn refused(&self) -> bool
         ensures { result ≡ (written self.now).refused };
 
-    /// Makes room for so many bytes of a text that comes next, or refuses that text whole. A writer
-    /// that knows of no such thing answers `Ok`, and refuses the text itself where it has to.
+    /// Makes room in memory for so many bytes of a text that comes next, or refuses that text whole.
+    /// A writer that knows of no such thing answers `Ok`, and refuses the text itself where it has
+    /// to.
     ///
-    /// So a padding that there is no memory for is refused before any of it is written.
+    /// It is asked for the bytes of each run of more than 64 copies of a character, as a wide
+    /// padding is. So one that there is no memory for is refused before any of it is written.
     #[inline(always)]
     fn reserve(&mut self, _bytes: usize) -> Result<(), Refusal>
         ensures { MatchResult result (λ _. written self.new ≡ written self.old)
