@@ -127,11 +127,15 @@ fn append_beginning(held: &mut String, refused: &mut bool, text: &str, left: usi
 impl TextWrite for Bounded {
     ghost written = { λ b. bounded_writer b };
 
+    ghost limit = { λ b. Some (bytes_left b) };
+
     fn write_str(&mut self, text: &str) -> Result<(), Refusal>
         ensures written { MatchResult result
             (λ _. Appends (bounded_writer self.old) (chars text.now) (bounded_writer self.new))
             (λ refusal. Refuses (bounded_writer self.old) (chars text.now) refusal.taken
             (bounded_writer self.new)) }
+        ensures left { OnOk result
+            (byte_count (chars text.now) + bytes_left self.new ≤ bytes_left self.old) }
         ensures why { OnErr result (RefusesFor self.old (chars text.now) self.new) }
         ensures within { IsWithinBound self.new }
         ensures most { self.new.most ≡ self.old.most }
@@ -152,6 +156,8 @@ impl TextWrite for Bounded {
             (λ _. Appends (bounded_writer self.old) (c ∷ []) (bounded_writer self.new))
             (λ refusal. Refuses (bounded_writer self.old) (c ∷ []) refusal.taken
             (bounded_writer self.new)) }
+        ensures left { OnOk result
+            (byte_count (c ∷ []) + bytes_left self.new ≤ bytes_left self.old) }
         ensures why { OnErr result (RefusesFor self.old (c ∷ []) self.new) }
         ensures within { IsWithinBound self.new }
         ensures most { self.new.most ≡ self.old.most }
@@ -173,6 +179,7 @@ impl TextWrite for Bounded {
             (λ _. bounded_writer self.new ≡ bounded_writer self.old)
             (λ refusal. RefusesWhole (bounded_writer self.old) refusal.taken
             (bounded_writer self.new)) }
+        ensures left { OnOk result (bytes_left self.new ≡ bytes_left self.old) }
         ensures ready { OnOk result
             (byte_count self.new.text + min bytes (bytes_left self.old) ≤ self.new.room) }
         ensures full { OnErr result

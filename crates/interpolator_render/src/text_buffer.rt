@@ -1,7 +1,7 @@
 //! A writer over a `String`.
 ghost use Rattle.std.specs.Prelude.{◌≡◌, ◌+◌, ◌<◌, ◌≤◌, ◌++◌, ◌∷◌, [], ◌⊎◌, true, false, length};
 ghost use Rattle.std.specs.Prelude.{encode_utf8, string_bytes, string_capacity};
-ghost use Rattle.std.specs.Prelude.{MatchResult, OnOk, OnErr};
+ghost use Rattle.std.specs.Prelude.{MatchResult, OnOk, OnErr, None};
 ghost use Rattle.std.specs.Str.{chars};
 ghost use Rattle.interpolator_render.specs.Written.{Appends, Refuses, RefusesWhole};
 ghost use Rattle.interpolator_render.specs.Written.{as_writer, byte_count, MayRefuse};
@@ -192,6 +192,12 @@ impl TextWrite for TextBuffer {
 
     fn refused(&self) -> bool {
         self.refused
+    }
+
+    fn room(&self) -> Option<usize>
+        ensures { result ≡ None }
+    {
+        None
     }
 
     fn reserve(&mut self, bytes: usize) -> Result<(), Refusal>

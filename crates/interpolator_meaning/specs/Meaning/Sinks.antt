@@ -1,7 +1,8 @@
 -- What is written to a sink: a writer, or a buffer in its stead.
-use Rattle.std.specs.Prelude.{◌≡◌, Option, None, Some, option_map, ⊤, Result, Ok, Err}
+use Rattle.std.specs.Prelude.{◌≡◌, ◌⊎◌, ℕ, ◌-◌, ◌^◌, Option, None, Some, option_map, ⊤, Result, Ok}
+use Rattle.std.specs.Prelude.{Err}
 use Rattle.interpolator_render.specs.Written.{Written}
-use Rattle.interpolator_render.specs.Bounds.{bounded_writer}
+use Rattle.interpolator_render.specs.Bounds.{BoundedText, bounded_writer, bytes_left}
 use Rattle.interpolator_syntax.specs.Faults.{Answer, fault, missing_trait_impl, fmt}
 use Rattle.interpolator_meaning.specs.Meaning.Meanings.{Meaning}
 use Rattle.interpolator_meaning.specs.Meaning.Outcomes.{Outcome}
@@ -56,6 +57,16 @@ pub record Writes {W : Type 0} (written : W → Written) (m : Meaning)
     (old new : code_sink.Sink W) (answer : Option Answer) : Type 0 where
   pub evaluates : Evaluates m (seen written old) (seen written new) answer
   pub same : SameSink old new
+
+-- how many bytes more are taken at most: what is left of the buffer; where there is none, the limit
+-- of the writer, or the greatest `usize` where it tells no limit
+abbrev pub RoomOf : Option BoundedText → Option ℕ → ℕ → Type 0
+RoomOf (Some buffer) limit most = most ≡ bytes_left buffer
+RoomOf None limit most = (limit ≡ Some most) ⊎ (most ≡ 2 ^ 64 - 1)
+
+-- the same of a sink, where `limit` is that of its writer
+abbrev pub HasRoom : {W : Type 0} → (W → Option ℕ) → code_sink.Sink W → ℕ → Type 0
+HasRoom limit s most = RoomOf s.aside.now (limit s.out.now) most
 
 -- what the reason comes to why something was not written
 abbrev pub write_fault_answer : WriteFault → Answer
