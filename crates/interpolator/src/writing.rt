@@ -32,7 +32,10 @@ use std::alloc::{AllocError, Global};
 ///
 /// Under a width the text of a list is made whole in a buffer and then padded, and of a list in
 /// which a fault is found nothing is written. Memory is taken for such a buffer, before anything of
-/// its argument is written, and for the name in a `MissingValue`; and for nothing else.
+/// its argument is written, and for the name in a `MissingValue`; and for nothing else. The buffer
+/// takes as many bytes as the writer's [`room`](TextWrite::room) tells when the list begins, where
+/// it tells it: a list with more bytes is refused before it is made, since the writer would refuse
+/// it.
 ///
 /// # Errors
 ///
@@ -43,7 +46,8 @@ use std::alloc::{AllocError, Global};
 /// - `Fmt`: a value failed, or the writer refused. Where the writer refused a literal character,
 ///   the place is that of the first which was not appended; where it refused a value or a padded
 ///   list, the byte after the argument's spec.
-/// - `NoMemory`: a missing name could not be copied, or a padded list's text found no memory.
+/// - `NoMemory`: a missing name could not be copied, or a padded list's text found no memory, or has
+///   more bytes than the writer's room.
 ///
 /// Every place counts bytes from the beginning of the format, and is at most its length.
 ///

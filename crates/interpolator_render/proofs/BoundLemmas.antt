@@ -32,6 +32,23 @@ pub left_of_bytes : (b : BoundedText) (bytes : List ℕ) (refused : Bool) (most 
     → most - length bytes ≡ bytes_left b
 left_of_bytes b bytes refused most room u f e = rw (← e, encodes-chars bytes u, f) refl
 
+-- a text that was taken before a refusal and within the bound, and what is left after it
+pub left_after : (b : BoundedText) (text bytes more after : List ℕ) (refused refused_after : Bool)
+    (most room : ℕ) (answer : Result (Unit {0}) Refusal) → IsUtf8 bytes → IsUtf8 after
+    → record { text = chars bytes; refused = refused; most = most; room = room } ≡ b
+    → byte_count text ≡ length more → length bytes + length more ≤ most
+    → OnOk answer ((after ≡ bytes ++ more) × (refused ≡ false) × (refused_after ≡ false))
+    → OnOk answer (byte_count text + bytes_left (record {
+      text = chars after;
+      refused = refused_after;
+      most = most;
+      room = room;
+    }) ≤ bytes_left b)
+left_after b text bytes more after refused refused_after most room (Ok x) u v e n fits ok =
+    let all = ap length ok.0 in let sum = length-append bytes more in
+    rw (← e, encodes-chars bytes u, encodes-chars after v, ok.1, ok.2) (omega (arith, n))
+left_after b text bytes more after refused refused_after most room (Err x) u v e n fits ok = tt
+
 -- a text that fits was appended, or nothing was
 pub within_after : (bytes more after : List ℕ) (refused refused_after : Bool) (most : ℕ)
     (answer : Result (Unit {0}) Refusal) → IsUtf8 after → length bytes + length more ≤ most

@@ -1,12 +1,14 @@
 -- What a writer over a `String` took or refused.
-use Rattle.std.proofs.Common.{◌≡◌, ◌⊎◌, ℕ, ◌+◌, ◌<◌, true, false, List, [], ◌∷◌, ◌++◌, length, refl}
+use Rattle.std.proofs.Common.{◌≡◌, ◌⊎◌, ℕ, ◌+◌, ◌<◌, ◌≤◌, true, false, List, [], ◌∷◌, ◌++◌, length, refl}
 use Rattle.std.proofs.Common.{sym, ◌∙◌, ap, arith, append-nil, encode_utf8, encode_utf8_all, Bool}
-use Rattle.std.proofs.Common.{Result, Ok, Err, OnOk, OnErr, MatchResult, chars, IsUtf8}
+use Rattle.std.proofs.Common.{Result, Ok, Err, OnOk, OnErr, MatchResult, Option, None, Some}
+use Rattle.std.proofs.Common.{chars, IsUtf8}
 use Rattle.interpolator_render.specs.declared.text_write.Refusal.{Refusal}
 use Rattle.std.specs.Char.{IsScalar}
 use Rattle.std.proofs.lemmas.Str.{chars-append, chars-nil, IsUtf8-encode, chars_past_char}
 use Rattle.std.proofs.lemmas.Str.{encodes-chars}
 use Rattle.interpolator_render.specs.Written.{Written, Buffered, Appends, Refuses, MayRefuse}
+use Rattle.interpolator_render.specs.Written.{AppendsWithin, StaysWithin, byte_count}
 
 -- an empty text changes nothing
 pub appends_nothing : (w : Written) (bytes : List ℕ) → length bytes ≡ 0 → Appends w (chars bytes) w
@@ -36,6 +38,26 @@ chars-encode c s = let nil : encode_utf8 c ≡ encode_utf8 c
     ∙ ap (λ (x : List ℕ). c ∷ x) chars-nil
 
 pub ruleset one_character = chars-encode
+
+-- what a writer appended or answered, whatever its limit
+pub appended_within : (limit after : Option ℕ) (now new : Written) (text : List ℕ) →
+    AppendsWithin limit after now text new → Appends now text new
+appended_within None after now new text p = p
+appended_within (Some most) after now new text p = p.0
+
+pub whatever_limit : (limit after : Option ℕ) (now new : Written) (text : List ℕ)
+    (answer : Result (Unit {0}) Refusal) →
+    MatchResult answer (λ _. AppendsWithin limit after now text new)
+    (λ refusal. Refuses now text refusal.taken new) →
+    MatchResult answer (λ _. Appends now text new)
+    (λ refusal. Refuses now text refusal.taken new)
+whatever_limit limit after now new text (Ok x) p = appended_within limit after now new text p
+whatever_limit limit after now new text (Err r) p = p
+
+pub stays_within : (limit after : Option ℕ) (now new : Written) →
+    StaysWithin limit after now new → new ≡ now
+stays_within None after now new p = p
+stays_within (Some most) after now new p = p.0
 
 -- nothing was taken of a text that is not empty
 pub refuses_all : (now new : Written) (text : List ℕ) → 0 < length text → new.text ≡ now.text →
@@ -86,3 +108,18 @@ pub may_refuse : (old : Buffered) (bytes : List ℕ) (room count : ℕ) (refused
     OnErr answer (MayRefuse old count)
 may_refuse old bytes room count refused (Ok x) u e h = tt
 may_refuse old bytes room count refused (Err r) u e h = rw (← e, encodes-chars bytes u) h
+
+-- the room of a `String` for so many bytes more, by its characters
+pub ready_for : (after : List ℕ) (room count : ℕ) (refused refused_after : Bool)
+    (answer : Result (Unit {0}) Refusal) → IsUtf8 after →
+    OnOk answer ((refused_after ≡ refused) × (length after + count ≤ room)) →
+    OnOk answer (byte_count (chars after) + count ≤ room)
+ready_for after room count refused refused_after (Ok x) u h = rw (encodes-chars after u) h.1
+ready_for after room count refused refused_after (Err r) u h = tt
+
+-- and the lack of it
+pub lacks_room : (bytes : List ℕ) (room count : ℕ) (answer : Result (Unit {0}) Refusal) →
+    IsUtf8 bytes → OnErr answer (room < length bytes + count) →
+    OnErr answer (room < byte_count (chars bytes) + count)
+lacks_room bytes room count (Ok x) u h = tt
+lacks_room bytes room count (Err r) u h = rw (encodes-chars bytes u) h

@@ -1,6 +1,6 @@
 -- What is known of a writer, and the outcomes of a call that writes a text.
-use Rattle.std.specs.Prelude.{◌≡◌, ◌⊎◌, ℕ, ◌+◌, ◌<◌, ◌-◌, ◌^◌, min, Bool, true, List, [], ◌++◌}
-use Rattle.std.specs.Prelude.{length}
+use Rattle.std.specs.Prelude.{◌≡◌, ◌⊎◌, ℕ, ◌+◌, ◌<◌, ◌≤◌, ◌-◌, ◌^◌, min, Bool, true, List, []}
+use Rattle.std.specs.Prelude.{◌++◌, length, Option, None, Some}
 use Rattle.std.specs.Prelude.{encode_utf8_all, Result, MatchResult}
 use Rattle.interpolator_render.specs.declared.text_write.Refusal.{Refusal}
 
@@ -29,6 +29,23 @@ pub record Appends (old : Written) (text : List ℕ) (new : Written) : Type 0 wh
   pub appended : new.text ≡ old.text ++ text
   pub same_flag : new.refused ≡ old.refused
   pub only_empty : old.refused ≡ true → text ≡ []
+
+-- a limit of bytes and the one after so many more: they and what is then left are within the first
+abbrev pub KeepsTo : Option ℕ → ℕ → Option ℕ → Type 0
+KeepsTo None count after = Unit {0}
+KeepsTo (Some most) count None = ⊥
+KeepsTo (Some most) count (Some left) = count + left ≤ most
+
+-- the whole text was appended, and a writer that is limited kept to its limit
+abbrev pub AppendsWithin : Option ℕ → Option ℕ → Written → List ℕ → Written → Type 0
+AppendsWithin None after old text new = Appends old text new
+AppendsWithin (Some most) after old text new =
+    Appends old text new × KeepsTo (Some most) (byte_count text) after
+
+-- nothing was appended, and a writer that is limited kept to its limit
+abbrev pub StaysWithin : Option ℕ → Option ℕ → Written → Written → Type 0
+StaysWithin None after old new = new ≡ old
+StaysWithin (Some most) after old new = (new ≡ old) × KeepsTo (Some most) 0 after
 
 -- a proper beginning of the text was appended, none of it where the writer had refused before, and
 -- the rest was refused

@@ -1,13 +1,13 @@
 //! A writer over a `String` that takes at most so many bytes.
 ghost use Rattle.std.specs.Prelude.{◌≡◌, ℕ, ◌+◌, ◌<◌, ◌≤◌, ◌++◌, ◌∷◌, [], ◌⊎◌, true, false};
-ghost use Rattle.std.specs.Prelude.{length, take, string_bytes, string_capacity};
-ghost use Rattle.std.specs.Prelude.{MatchResult, OnErr, Some};
+ghost use Rattle.std.specs.Prelude.{length, min, take, string_bytes, string_capacity};
+ghost use Rattle.std.specs.Prelude.{MatchResult, OnErr, OnOk, Some};
 ghost use Rattle.std.specs.Str.{chars, IsCharBoundary};
-ghost use Rattle.interpolator_render.specs.Written.{Appends, Refuses};
+ghost use Rattle.interpolator_render.specs.Written.{Appends, Refuses, RefusesWhole, byte_count};
 ghost use Rattle.interpolator_render.specs.Bounds.{bounded_writer, bytes_left};
 ghost use Rattle.interpolator_render.specs.Bounds.{IsWithinBound, RefusesFor};
 
-use crate::text_buffer::{append, append_char};
+use crate::text_buffer::{append, append_char, make_room};
 use crate::text_write::{Refusal, TextWrite};
 use std::alloc::Global;
 use std::marker::Model;
@@ -17,6 +17,9 @@ use std::marker::Model;
 /// Of a text that goes over its bound it takes the longest beginning of whole characters that still
 /// fits, and refuses the rest. A text for which there is no memory it refuses whole. After a
 /// refusal it takes the empty text alone, and refuses also a text that would fit.
+///
+/// Its `reserve` takes memory for the bytes asked, or for those that are left where these are
+/// fewer, and refuses only where there is none for that. Its `room` is what is left.
 ///
 /// ```text
 /// let mut out = Bounded::new(rt.alloc(), 3);
@@ -124,11 +127,15 @@ fn append_beginning(held: &mut String, refused: &mut bool, text: &str, left: usi
 impl TextWrite for Bounded {
     ghost written = { λ b. bounded_writer b };
 
+    ghost limit = { λ b. Some (bytes_left b) };
+
     fn write_str(&mut self, text: &str) -> Result<(), Refusal>
         ensures written { MatchResult result
             (λ _. Appends (bounded_writer self.old) (chars text.now) (bounded_writer self.new))
             (λ refusal. Refuses (bounded_writer self.old) (chars text.now) refusal.taken
             (bounded_writer self.new)) }
+        ensures left { OnOk result
+            (byte_count (chars text.now) + bytes_left self.new ≤ bytes_left self.old) }
         ensures why { OnErr result (RefusesFor self.old (chars text.now) self.new) }
         ensures within { IsWithinBound self.new }
         ensures most { self.new.most ≡ self.old.most }
@@ -149,6 +156,8 @@ impl TextWrite for Bounded {
             (λ _. Appends (bounded_writer self.old) (c ∷ []) (bounded_writer self.new))
             (λ refusal. Refuses (bounded_writer self.old) (c ∷ []) refusal.taken
             (bounded_writer self.new)) }
+        ensures left { OnOk result
+            (byte_count (c ∷ []) + bytes_left self.new ≤ bytes_left self.old) }
         ensures why { OnErr result (RefusesFor self.old (c ∷ []) self.new) }
         ensures within { IsWithinBound self.new }
         ensures most { self.new.most ≡ self.old.most }
@@ -163,6 +172,24 @@ impl TextWrite for Bounded {
 
     fn refused(&self) -> bool {
         self.refused
+    }
+
+    fn reserve(&mut self, bytes: usize) -> Result<(), Refusal>
+        ensures written { MatchResult result
+            (λ _. bounded_writer self.new ≡ bounded_writer self.old)
+            (λ refusal. RefusesWhole (bounded_writer self.old) refusal.taken
+            (bounded_writer self.new)) }
+        ensures left { OnOk result (bytes_left self.new ≡ bytes_left self.old) }
+        ensures ready { OnOk result
+            (byte_count self.new.text + min bytes (bytes_left self.old) ≤ self.new.room) }
+        ensures full { OnErr result
+            (self.old.room < byte_count self.old.text + min bytes (bytes_left self.old)) }
+        ensures within { IsWithinBound self.new }
+        ensures most { self.new.most ≡ self.old.most }
+        ensures room { self.old.room ≤ self.new.room }
+    {
+        let fitting = bytes.min(self.left());
+        make_room(&mut self.text, &mut self.refused, fitting)
     }
 
     fn room(&self) -> Option<usize>

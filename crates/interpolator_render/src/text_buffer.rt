@@ -1,7 +1,7 @@
 //! A writer over a `String`.
 ghost use Rattle.std.specs.Prelude.{◌≡◌, ◌+◌, ◌<◌, ◌≤◌, ◌++◌, ◌∷◌, [], ◌⊎◌, true, false, length};
 ghost use Rattle.std.specs.Prelude.{encode_utf8, string_bytes, string_capacity};
-ghost use Rattle.std.specs.Prelude.{MatchResult, OnOk, OnErr};
+ghost use Rattle.std.specs.Prelude.{MatchResult, OnOk, OnErr, None};
 ghost use Rattle.std.specs.Str.{chars};
 ghost use Rattle.interpolator_render.specs.Written.{Appends, Refuses, RefusesWhole};
 ghost use Rattle.interpolator_render.specs.Written.{as_writer, byte_count, MayRefuse};
@@ -14,7 +14,7 @@ use std::marker::Model;
 ///
 /// It refuses a text for which there is no memory, whole, and from then on every text but the
 /// empty one, until [`TextBuffer::forget_refusal`]. A text that its `String` has room for is never
-/// refused otherwise.
+/// refused otherwise. After a `reserve` that answers `Ok`, that is so for as many bytes as it asked.
 ///
 /// ```text
 /// let mut out = TextBuffer::new(rt.alloc());
@@ -136,6 +136,26 @@ pub(crate) fn append_char(held: &mut String, refused: &mut bool, c: char) -> Res
     }
 }
 
+/// Makes room in a buffer for so many bytes more, or sets the flag and changes nothing else.
+pub(crate) fn make_room(held: &mut String, refused: &mut bool, bytes: usize) -> Result<(), Refusal>
+    ensures same { string_bytes held.new ≡ string_bytes held.old }
+    ensures ok { OnOk result ((refused.new ≡ refused.old)
+        × (length (string_bytes held.new) + bytes ≤ string_capacity held.new)) }
+    ensures err { OnErr result (refused.new ≡ true) }
+    ensures taken { MatchResult result (λ _. Unit {0}) (λ refusal. refusal.taken ≡ 0) }
+    ensures full { OnErr result
+        (string_capacity held.old < length (string_bytes held.old) + bytes) }
+    ensures room { string_capacity held.old ≤ string_capacity held.new }
+{
+    match held.reserve(bytes) {
+        Ok(()) => Ok(()),
+        Err(_) => {
+            *refused = true;
+            Err(Refusal { taken: 0 })
+        }
+    }
+}
+
 impl TextWrite for TextBuffer {
     ghost written = { λ buffer. as_writer buffer };
 
@@ -174,18 +194,19 @@ impl TextWrite for TextBuffer {
         self.refused
     }
 
+    fn room(&self) -> Option<usize>
+        ensures { result ≡ None }
+    {
+        None
+    }
+
     fn reserve(&mut self, bytes: usize) -> Result<(), Refusal>
         ensures written { MatchResult result (λ _. as_writer self.new ≡ as_writer self.old)
             (λ refusal. RefusesWhole (as_writer self.old) refusal.taken (as_writer self.new)) }
+        ensures ready { OnOk result (byte_count self.new.text + bytes ≤ self.new.room) }
         ensures full { OnErr result (self.old.room < byte_count self.old.text + bytes) }
         ensures room { self.old.room ≤ self.new.room }
     {
-        match self.text.reserve(bytes) {
-            Ok(()) => Ok(()),
-            Err(_) => {
-                self.refused = true;
-                Err(Refusal { taken: 0 })
-            }
-        }
+        make_room(&mut self.text, &mut self.refused, bytes)
     }
 }

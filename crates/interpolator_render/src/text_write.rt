@@ -1,7 +1,8 @@
 //! Writers of text, which may refuse what they are given.
-ghost use Rattle.std.specs.Prelude.{◌≡◌, ◌∷◌, [], MatchResult};
+ghost use Rattle.std.specs.Prelude.{◌≡◌, ℕ, ◌∷◌, [], MatchOption, MatchResult, Option, None, Some};
 ghost use Rattle.std.specs.Str.{chars};
-ghost use Rattle.interpolator_render.specs.Written.{Written, Appends, Refuses, RefusesWhole};
+ghost use Rattle.interpolator_render.specs.Written.{Written, AppendsWithin, StaysWithin};
+ghost use Rattle.interpolator_render.specs.Written.{Refuses, RefusesWhole};
 
 /// A writer's refusal: it did not take the whole of a text.
 #[derive(Clone, Copy, Debug, PartialEq, Eq)]
@@ -29,38 +30,51 @@ pub trait TextWrite {
     // the characters taken so far, and whether a text was refused
     ghost written: { Self → Written };
 
+    // how many bytes it takes at most from now on, if it is limited
+    ghost limit: { Self → Option ℕ } = { λ _. None };
+
     /// Appends a text, or refuses it or its end.
     fn write_str(&mut self, text: &str) -> Result<(), Refusal>
         ensures { MatchResult result
-            (λ _. Appends (written self.old) (chars text.now) (written self.new))
+            (λ _. AppendsWithin (limit self.old) (limit self.new) (written self.old)
+            (chars text.now) (written self.new))
             (λ refusal. Refuses (written self.old) (chars text.now) refusal.taken
             (written self.new)) };
 
     /// Appends a character, or refuses it, with `taken` 0.
     fn write_char(&mut self, c: char) -> Result<(), Refusal>
         ensures { MatchResult result
-            (λ _. Appends (written self.old) (c ∷ []) (written self.new))
+            (λ _. AppendsWithin (limit self.old) (limit self.new) (written self.old) (c ∷ [])
+            (written self.new))
             (λ refusal. Refuses (written self.old) (c ∷ []) refusal.taken (written self.new)) };
 
     /// Whether the writer has refused a text.
     fn refused(&self) -> bool
         ensures { result ≡ (written self.now).refused };
 
-    /// Makes room for so many bytes of a text that comes next, or refuses that text whole. A writer
-    /// that knows of no such thing answers `Ok`, and refuses the text itself where it has to.
+    /// Makes room in memory for so many bytes of a text that comes next, or refuses that text whole.
+    /// A writer that knows of no such thing answers `Ok`, and refuses the text itself where it has
+    /// to.
     ///
-    /// So a padding that there is no memory for is refused before any of it is written.
+    /// It is asked for the bytes of each run of more than 64 copies of a character, as a wide
+    /// padding is. So one that there is no memory for is refused before any of it is written.
     #[inline(always)]
     fn reserve(&mut self, _bytes: usize) -> Result<(), Refusal>
-        ensures { MatchResult result (λ _. written self.new ≡ written self.old)
+        ensures { MatchResult result
+            (λ _. StaysWithin (limit self.old) (limit self.new) (written self.old)
+            (written self.new))
             (λ refusal. RefusesWhole (written self.old) refusal.taken (written self.new)) }
     {
         Ok(())
     }
 
-    /// How many bytes the writer could still take at most, if it knows. A text that is made in a
-    /// buffer before it is written gets no more memory than this.
-    fn room(&self) -> Option<usize> {
+    /// How many bytes the writer could still take at most, where it knows. It has to keep to what it
+    /// tells: of a text of more bytes it refuses the end, or all.
+    ///
+    /// A list under a width is made in a buffer of so many bytes before it is written.
+    fn room(&self) -> Option<usize>
+        ensures { MatchOption result (Unit {0}) (λ most. limit self.now ≡ Some most) }
+    {
         None
     }
 }

@@ -1,5 +1,6 @@
 //! Reads a format into its pieces.
-ghost use Rattle.std.specs.Prelude.{◌≡◌, ◌+◌, ℕ, List, [], ◌∷◌, ◌++◌, IfOk, None, Ok, option_map};
+ghost use Rattle.std.specs.Prelude.{◌≡◌, ◌≤◌, ◌+◌, ℕ, List, [], ◌∷◌, ◌++◌, IfOk, None, Ok};
+ghost use Rattle.std.specs.Prelude.{option_map, vec_capacity};
 ghost use Rattle.std.specs.Str.{chars};
 ghost use Rattle.interpolator_syntax.specs.At.{at, size, strip, all_after};
 ghost use Rattle.interpolator_syntax.specs.Arguments.{argument_at, argument_after, plain_argument};
@@ -119,7 +120,10 @@ const MOST_ROOM: usize = 32;
 const MOST_GROUP_ROOM: usize = 4;
 
 /// For how many pieces of a text there is room at the beginning: most have two bytes and more.
-fn room_for(text: Cursor<'_>) -> usize {
+fn room_for(text: Cursor<'_>) -> usize
+    ensures most { result ≤ 32 }
+    ensures group { ¬ (text.entry.place ≡ 0) → result ≤ 4 }
+{
     let most = if text.place == 0 {
         MOST_ROOM
     } else {
@@ -128,12 +132,22 @@ fn room_for(text: Cursor<'_>) -> usize {
     (text.rest.len() / 2 + 1).min(most)
 }
 
+/// No pieces yet, with room for some.
+#[inline(always)]
+fn no_pieces(alloc: Global, text: Cursor<'_>) -> Result<Vec<Piece>, AllocError>
+    ensures none { IfOk result (λ pieces. pieces.items ≡ []) }
+    ensures most { IfOk result (λ pieces. vec_capacity pieces ≤ 32) }
+    ensures group { ¬ (text.entry.place ≡ 0) → IfOk result (λ pieces. vec_capacity pieces ≤ 4) }
+{
+    Vec::with_capacity(alloc, room_for(text))
+}
+
 /// The pieces of a text.
 #[cycle(parse)]
 pub(crate) fn parse_pieces(alloc: Global, text: Cursor<'_>) -> Result<Vec<Piece>, AllocError>
     ensures stand { IfOk result (λ pieces. StandFor pieces.items (at text.entry)) }
 {
-    let mut pieces = Vec::with_capacity(alloc, room_for(text))?;
+    let mut pieces = no_pieces(alloc, text)?;
     let mut here = text;
     while let Some((token, rest)) = next_token(here) {
         here = match token {

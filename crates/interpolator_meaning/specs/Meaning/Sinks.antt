@@ -1,7 +1,7 @@
 -- What is written to a sink: a writer, or a buffer in its stead.
-use Rattle.std.specs.Prelude.{◌≡◌, Option, None, Some, Result, Ok, Err}
+use Rattle.std.specs.Prelude.{◌≡◌, ◌⊎◌, ℕ, ◌-◌, ◌^◌, Option, None, Some, Result, Ok, Err}
 use Rattle.interpolator_render.specs.Written.{Written}
-use Rattle.interpolator_render.specs.Bounds.{bounded_writer}
+use Rattle.interpolator_render.specs.Bounds.{bounded_writer, bytes_left}
 use Rattle.interpolator_syntax.specs.Faults.{Answer, fault, missing_trait_impl, fmt}
 use Rattle.interpolator_meaning.specs.Meaning.Meanings.{Meaning}
 use Rattle.interpolator_meaning.specs.Meaning.Outcomes.{Outcome}
@@ -26,6 +26,12 @@ pub record Writes {W : Type 0} (written : W → Written) (m : Meaning) (old new 
     (answer : Option Answer) : Type 0 where
   pub outcome : Outcome m (taken_by written old) (taken_by written new) answer
   pub same : SameEnd old new
+
+-- how many bytes more are taken at most: of a writer the `limit` that it tells, or the greatest
+-- `usize` if it tells none; of a buffer what is left of it
+abbrev pub HasRoom : {W : Type 0} → (limit : W → Option ℕ) → Sink W → (most : ℕ) → Type 0
+HasRoom limit (Writer out) most = (limit out.now ≡ Some most) ⊎ (most ≡ 2 ^ 64 - 1)
+HasRoom limit (Aside buffer) most = most ≡ bytes_left buffer.now
 
 -- what the reason comes to why something was not written
 abbrev pub write_fault_answer : WriteFault → Answer

@@ -9,7 +9,8 @@ ghost use Rattle.interpolator_syntax.specs.At.{placed_at, placed_from};
 ghost use Rattle.interpolator_syntax.specs.Faults.{answer_of};
 ghost use Rattle.interpolator_meaning.specs.Meaning.Meanings.{text_alone, view_means, value_means};
 ghost use Rattle.interpolator_meaning.specs.Meaning.Outcomes.{Outcome};
-ghost use Rattle.interpolator_meaning.specs.Meaning.Sinks.{Writes, write_answered, write_fault_answer};
+ghost use Rattle.interpolator_meaning.specs.Meaning.Sinks.{HasRoom, Writes, write_answered};
+ghost use Rattle.interpolator_meaning.specs.Meaning.Sinks.{write_fault_answer};
 
 use interpolator_render::{Bounded, RenderFault, Spec, TextWrite, Trait, Value, View, pad, render};
 use interpolator_syntax::Error;
@@ -151,13 +152,15 @@ impl<'s, W: TextWrite> Sink<'s, W> {
         }
     }
 
-    // How many bytes it could still take at most.
-    pub(crate) fn room(&self) -> usize {
-        let room = match self {
-            Sink::Writer(out) => out.room(),
-            Sink::Aside(buffer) => buffer.room(),
-        };
-        room.unwrap_or(usize::MAX)
+    /// How many bytes it could still take at most: what is left of the buffer; of the writer what that
+    /// tells, and the greatest `usize` if it tells nothing.
+    pub(crate) fn room(&self) -> usize
+        ensures room { HasRoom W.limit self.now result }
+    {
+        match self {
+            Sink::Writer(out) => out.room().unwrap_or(usize::MAX),
+            Sink::Aside(buffer) => buffer.left(),
+        }
     }
 
     /// What stands in a slot, under a trait and a spec, each character at one place.

@@ -9,7 +9,7 @@ ghost use Rattle.interpolator_meaning.specs.Meaning.Environments.{given};
 ghost use Rattle.interpolator_meaning.specs.Meaning.Lists.{IsChosen, IsNotChosen};
 ghost use Rattle.interpolator_meaning.specs.Meaning.Meanings.{under_name, value_means, forbids_list};
 ghost use Rattle.interpolator_meaning.specs.Meaning.Scopes.{environment_of};
-ghost use Rattle.interpolator_meaning.specs.Meaning.Sinks.{Writes};
+ghost use Rattle.interpolator_meaning.specs.Meaning.Sinks.{HasRoom, Writes};
 ghost use Rattle.interpolator_meaning.specs.Slots.{slots_of, slot_at, values_of};
 
 use crate::context::Context;
@@ -106,13 +106,14 @@ pub fn chosen_list<'a, C: Context>(
     Ok(choose(items, range))
 }
 
-/// An empty buffer for the text of a list that is made whole before it is written. It takes no more
-/// bytes than the sink has room for.
+/// An empty buffer for the text of a list that is made whole before it is written. It takes as many
+/// bytes as the sink has room for.
 pub fn list_buffer<'a, W: TextWrite, C: Context>(
     sink: &Sink<'_, W>,
     scope: &Scope<'a, C, C::Object>,
 ) -> Bounded
     ensures empty { bounded_writer result ≡ record { text = []; refused = false } }
+    ensures most { HasRoom W.limit sink.now result.most }
 {
     Bounded::new(scope.alloc(), sink.room())
 }

@@ -3,6 +3,7 @@ use Rattle.std.specs.Char.{IsScalar}
 use Rattle.interpolator_render.proofs.CopyLemmas.{chars-copies, few_bytes, copies_boundary}
 use Rattle.interpolator_render.proofs.CopyLemmas.{first_copies}
 use Rattle.interpolator_render.proofs.LayoutLemmas.{bytes_of_copies, puts_from_write}
+use Rattle.interpolator_render.proofs.WrittenLemmas.{whatever_limit}
 use Rattle.interpolator_render.proofs.copies.put_few.Goals as goal
 
 pub range-requires-clause-end_boundary : goal.range-requires-clause-end_boundary
@@ -20,4 +21,4 @@ returns g c =
       c.range.ensures.value,
       first_copies c.args.run c.args.count c.requires.few c.requires.run,
       chars-copies c.args.count c.args.run.c s,
-    ) at c.write_str.ensures)
+    ) at (whatever_limit _ _ _ _ _ _ c.write_str.ensures))

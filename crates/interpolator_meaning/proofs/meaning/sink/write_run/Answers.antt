@@ -1,4 +1,5 @@
 use Rattle.std.proofs.Common.{arith, rules, ◌≡◌, ◌<◌, length, get_or}
+use Rattle.interpolator_render.proofs.WrittenLemmas.{appended_within}
 use Rattle.interpolator_syntax.proofs.StripLemmas.{one_char}
 use Rattle.std.specs.Str.{chars}
 use Rattle.interpolator_syntax.proofs.CharacterLemmas.{size-chars}
@@ -15,7 +16,10 @@ overflow_add-result g c =
 
 pub returns-in-Ok : goal.returns-in-Ok
 returns-in-Ok g c =
-    record { outcome = wrote_from c.args.place (chars c.args.text.now) _ _ c.in-Ok.ensures }
+    record {
+      outcome = wrote_from c.args.place (chars c.args.text.now) _ _
+          (appended_within _ _ _ _ _ c.in-Ok.ensures);
+    }
 
 pub returns-in-Err : goal.returns-in-Err
 returns-in-Err g c =

@@ -1,10 +1,10 @@
-use Rattle.std.proofs.Common.{◌≡◌, ap, sym, refl, length, append-nil, arith, rules}
+use Rattle.std.proofs.Common.{◌≡◌, [], ◌∷◌, ap, sym, refl, length, append-nil, arith, rules}
 use Rattle.std.proofs.Common.{encode_utf8, string_bytes}
 use Rattle.std.proofs.lemmas.Str.{IsUtf8-string_bytes}
 use Rattle.interpolator_render.specs.Bounds.{BoundedText, bounded_writer}
 use Rattle.interpolator_render.proofs.WrittenLemmas.{buffer_writes, chars-encode, refuses_all}
 use Rattle.interpolator_render.proofs.BoundLemmas.{refused_under_bound, within_after, within_bytes}
-use Rattle.interpolator_render.proofs.BoundLemmas.{character_over_bound}
+use Rattle.interpolator_render.proofs.BoundLemmas.{character_over_bound, left_after}
 use Rattle.interpolator_render.proofs.bounded.BoundedTextWrite.write_char.Goals as goal
 
 pub returns-then-len_utf8-self-clause-written : goal.returns-then-len_utf8-self-clause-written
@@ -13,6 +13,17 @@ returns-then-len_utf8-self-clause-written c = let put = c.append_char in
     c.self.inside.refused _ put.result (IsUtf8-string_bytes c.self.inside.text)
     (ap bounded_writer c.self.view_is) (chars-encode c.args.c c.ranges.c.0) (omega arith)
     put.ensures.ok put.ensures.err put.ensures.taken
+
+pub returns-then-len_utf8-self-clause-left : goal.returns-then-len_utf8-self-clause-left
+returns-then-len_utf8-self-clause-left c = let put = c.append_char in
+    let size : c.len_utf8.result ≡ length (encode_utf8 c.args.c) = search rules in
+    let held : c.len.result ≡ length (string_bytes c.self.inside.text) = search rules in
+    let within = c.self.invariant in
+    let fits = c.if-len_utf8-self.true in
+    left_after _ (c.args.c ∷ []) (string_bytes c.self.inside.text) (encode_utf8 c.args.c) _
+    c.self.inside.refused _ _ _ put.result (IsUtf8-string_bytes c.self.inside.text)
+    (IsUtf8-string_bytes put.new.held) c.self.view_is
+    (ap length (append-nil (encode_utf8 c.args.c))) (omega arith) put.ensures.ok
 
 pub returns-then-len_utf8-self-clause-why : goal.returns-then-len_utf8-self-clause-why
 returns-then-len_utf8-self-clause-why c = let put = c.append_char in

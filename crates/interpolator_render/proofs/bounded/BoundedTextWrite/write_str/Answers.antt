@@ -5,7 +5,7 @@ use Rattle.interpolator_render.specs.Bounds.{BoundedText, bounded_writer}
 use Rattle.interpolator_render.proofs.WrittenLemmas.{appends_nothing, buffer_writes, chars_nonempty}
 use Rattle.interpolator_render.proofs.BoundLemmas.{refused_under_bound, within_after, within_bound}
 use Rattle.interpolator_render.proofs.BoundLemmas.{beginning_refused, refused_over_bound}
-use Rattle.interpolator_render.proofs.BoundLemmas.{within_beginning}
+use Rattle.interpolator_render.proofs.BoundLemmas.{left_after, within_beginning}
 use Rattle.interpolator_render.proofs.bounded.BoundedTextWrite.write_str.Goals as goal
 
 pub returns-then-is_empty-clause-written : goal.returns-then-is_empty-clause-written
@@ -22,6 +22,21 @@ returns-then-text-left-clause-written c = let put = c.append in
     put.result (IsUtf8-string_bytes c.self.inside.text) (ap bounded_writer c.self.view_is) refl
     (chars_nonempty c.args.text.now c.utf8.text (search rules)) put.ensures.ok put.ensures.err
     put.ensures.taken
+
+pub returns-then-is_empty-clause-left : goal.returns-then-is_empty-clause-left
+returns-then-is_empty-clause-left c =
+    let empty : length c.args.text.now ≡ 0 = search rules in
+    rw (encodes-chars c.args.text.now c.utf8.text) (omega (arith, empty))
+
+pub returns-then-text-left-clause-left : goal.returns-then-text-left-clause-left
+returns-then-text-left-clause-left c = let put = c.append in
+    let held : c.len.result ≡ length (string_bytes c.self.inside.text) = search rules in
+    let within = c.self.invariant in
+    let fits = c.if-text-left.true in
+    left_after _ _ (string_bytes c.self.inside.text) c.args.text.now _ c.self.inside.refused _ _ _
+    put.result (IsUtf8-string_bytes c.self.inside.text) (IsUtf8-string_bytes put.new.held)
+    c.self.view_is (ap length (encodes-chars c.args.text.now c.utf8.text)) (omega arith)
+    put.ensures.ok
 
 pub returns-then-text-left-clause-why : goal.returns-then-text-left-clause-why
 returns-then-text-left-clause-why c = let put = c.append in

@@ -1,10 +1,13 @@
-use Rattle.std.proofs.Common.{string_bytes, string_len, length, ◌≡◌}
-use Rattle.std.proofs.lemmas.Str.{IsUtf8-string_bytes, encodes-chars}
+use Rattle.std.proofs.Common.{string_bytes}
+use Rattle.std.proofs.lemmas.Str.{IsUtf8-string_bytes}
+use Rattle.interpolator_render.proofs.WrittenLemmas.{ready_for, lacks_room}
 use Rattle.interpolator_render.proofs.text_buffer.TextBufferTextWrite.reserve.Goals as goal
 
-pub returns-in-Err-clause-full : goal.returns-in-Err-clause-full
-returns-in-Err-clause-full c =
-    let text = c.self.inside.text in
-    let same : string_len text ≡ length (string_bytes text) = text.bytes.ok.0 in
-    rw (← c.self.view_is, encodes-chars (string_bytes text) (IsUtf8-string_bytes text), ← same)
-    c.in-Err.ensures.full
+pub returns-clause-ready : goal.returns-clause-ready
+returns-clause-ready c = let put = c.make_room in
+    ready_for _ _ _ _ _ put.result (IsUtf8-string_bytes put.new.held) put.ensures.ok
+
+pub returns-clause-full : goal.returns-clause-full
+returns-clause-full c = rw (← c.self.view_is)
+    (lacks_room (string_bytes c.self.inside.text) _ _ c.make_room.result
+    (IsUtf8-string_bytes c.self.inside.text) c.make_room.ensures.full)
