@@ -1,6 +1,6 @@
 -- What parts mean, one after the other, and what their joined text means.
 use Rattle.std.proofs.Common.{◌≡◌, ◌≢◌, ℕ, ◌+◌, List, [], ◌∷◌, ◌++◌}
-use Rattle.std.proofs.Common.{length, arith, refl, ap, ◌∙◌, sym, Option, Some, None}
+use Rattle.std.proofs.Common.{length, arith, ap, ◌∙◌, sym, Option, Some, None}
 use Rattle.std.proofs.Common.{append_assoc, append-nil, codes, ◌<◌, drop, get_or}
 use Rattle.std.proofs.lemmas.List.{drop_more}
 use Rattle.std.specs.Borrow.{Bor}
@@ -11,9 +11,9 @@ use Rattle.interpolator_render.specs.Views.{Shown}
 use Rattle.interpolator_syntax.specs.At.{At, size, outermost}
 use Rattle.interpolator_syntax.specs.Pieces.{PieceKind, Piece, unclosed, broken, pieces}
 use Rattle.interpolator.specs.Seams.{kind_ending, piece_ending, last_ending, ending}
-use Rattle.interpolator_syntax.specs.Faults.{Fault, Answer, parse, expected}
+use Rattle.interpolator_syntax.specs.Faults.{Answer, parse, expected}
 use Rattle.interpolator_meaning.specs.Meaning.Environments.{Environment}
-use Rattle.interpolator_meaning.specs.Meaning.Meanings.{Meaning, nothing, fault_alone, or_fault, joined}
+use Rattle.interpolator_meaning.specs.Meaning.Meanings.{Meaning, fault_alone, joined}
 use Rattle.interpolator_meaning.specs.Meaning.Meanings.{argument_means, piece_means, pieces_mean, means}
 use Rattle.interpolator.specs.Meaning.Parts.{joined_text, texts_of, parts_mean, CleanBehind, Clean}
 use Rattle.interpolator.specs.Meaning.Parts.{FrontsClose}
@@ -28,29 +28,15 @@ use Rattle.interpolator_syntax.proofs.PieceLemmas.{pieces_none}
 use Rattle.interpolator.proofs.SeamLemmas.{Leaves, pieces_append, both_close}
 use Rattle.interpolator_meaning.proofs.MeaningLemmas.DepthLemmas.{means_pieces}
 use Rattle.interpolator_meaning.proofs.MeaningLemmas.MeaningLemmas.{joined_assoc, means_none, joined_none}
+use Rattle.interpolator_meaning.proofs.MeaningLemmas.MeaningLemmas.{nothing_last, pieces_mean_append}
 use Rattle.interpolator_meaning.proofs.MeaningLemmas.SinkLemmas.{and_then, fault_first, nothing_done}
 use Rattle.interpolator_meaning.proofs.MeaningLemmas.SinkLemmas.{same_end}
 use Rattle.interpolator_render.specs.Written.{Written}
-
-pub nothing_last : (m : Meaning) → joined m nothing ≡ m
-nothing_last m = by_fault m.fault refl
-  where
-    by_fault : (o : Option Fault) → m.fault ≡ o → or_fault o m nothing ≡ m
-    by_fault (Some f) e = refl
-    by_fault None e = rw (append-nil m.text, append-nil m.memory_points, ← e) refl
 
 pub zero_and : (n : ℕ) → 0 + n ≡ n
 zero_and n = omega arith
 
 module _ {X : Type 0} (shows : X → Trait → Spec → Shown) (e : Environment X) where
-  pieces_mean_append : (xs ys : List Piece)
-      → pieces_mean shows (means shows) e (xs ++ ys) ≡ joined (pieces_mean shows (means shows) e xs)
-      (pieces_mean shows (means shows) e ys)
-  pieces_mean_append [] ys = sym (joined_none (pieces_mean shows (means shows) e ys))
-  pieces_mean_append (x ∷ xs) ys =
-      let first = piece_means shows (means shows) e x.place x.kind in
-      ap (joined first) (pieces_mean_append xs ys) ∙ sym (joined_assoc first _ _)
-
   -- what two texts mean, one after the other
   means_both :
       (p : ℕ) (cs more : List ℕ) → Leaves (ending (stands p cs)) more
@@ -61,7 +47,8 @@ module _ {X : Type 0} (shows : X → Trait → Spec → Shown) (e : Environment 
       let a = stands p cs in
       let b = stands (p + size cs) more in
       let split = pieces_append (length cs) p cs more (omega arith) h in
-      rw (at (stands p (cs ++ more)), split, at a, at b) (pieces_mean_append (pieces a) (pieces b))
+      rw (at (stands p (cs ++ more)), split, at a, at b) (pieces_mean_append shows e (pieces a)
+      (pieces b))
 
   pub means_next : (before part : List ℕ) → Leaves (ending (outermost before)) part
       → joined (means shows e (outermost before)) (means shows e (stands (size before) part))

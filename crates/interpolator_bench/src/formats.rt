@@ -2,7 +2,7 @@
 
 use crate::failure::Failure;
 use crate::uses::{How, repeat_format};
-use interpolator::{Formattable, View};
+use interpolator::{Formattable, Value, View};
 use std::alloc::{AllocError, Global};
 use std::collections::HashMap;
 
@@ -13,9 +13,22 @@ const NUMBER_NAMES: [&str; 32] = [
     "t", "u", "v", "w", "x", "y", "z", "aa", "bb", "cc", "dd", "ee", "ff",
 ];
 
-const NUMBERS: [u32; 32] = [
+/// Numbers without a sign.
+pub const NUMBERS: [u32; 32] = [
     0, 1, 2, 3, 5, 8, 13, 21, 34, 55, 89, 144, 233, 377, 610, 987, 4, 6, 9, 10, 12, 14, 15, 16, 18,
     20, 22, 24, 25, 26, 27, 28,
+];
+
+/// The same numbers, of a type that has a sign.
+pub const SIGNED_NUMBERS: [i64; 32] = [
+    0, 1, 2, 3, 5, 8, 13, 21, 34, 55, 89, 144, 233, 377, 610, 987, 4, 6, 9, 10, 12, 14, 15, 16, 18,
+    20, 22, 24, 25, 26, 27, 28,
+];
+
+/// Numbers below zero.
+pub const NEGATIVE_NUMBERS: [i64; 32] = [
+    -7, -1, -2, -3, -5, -8, -13, -21, -34, -55, -89, -144, -233, -377, -610, -987, -4, -6, -9, -10,
+    -12, -14, -15, -16, -18, -20, -22, -24, -25, -26, -27, -28,
 ];
 
 const TEXT_NAMES: [&str; 18] = [
@@ -60,11 +73,16 @@ pub fn log_line(alloc: Global, how: How, repeats: u32) -> Result<String, Failure
     repeat_format(alloc, how, LAYOUT, &context, repeats)
 }
 
-/// Thirty-two short names, of numbers.
-pub fn number_names(alloc: Global, how: How, repeats: u32) -> Result<String, Failure> {
+/// Thirty-two short names, of these numbers.
+pub fn number_names<V: Value>(
+    alloc: Global,
+    how: How,
+    numbers: &[V],
+    repeats: u32,
+) -> Result<String, Failure> {
     let format = names_format(alloc, &NUMBER_NAMES)?;
     let mut context = HashMap::new(alloc);
-    for (name, number) in NUMBER_NAMES.iter().zip(&NUMBERS) {
+    for (name, number) in NUMBER_NAMES.iter().zip(numbers) {
         context.insert(*name, Formattable::integer(number))?;
     }
     repeat_format(alloc, how, format.as_str(), &context, repeats)

@@ -92,7 +92,7 @@ fn complain(rt: &impl Eprint, failure: &Failure) -> io::Result<()> {
 
 fn usage(rt: &impl Eprint) -> io::Result<()> {
     eprint!(rt; "usage: interpolator_bench WORKLOAD REPEATS, a workload being all")?;
-    for workload in ALL {
+    for workload in &ALL {
         let name = workload.name();
         eprint!(rt; ", {name}")?;
     }

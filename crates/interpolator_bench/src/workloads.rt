@@ -40,6 +40,8 @@ enum Task {
 enum Shape {
     LogLine,
     NumberNames,
+    SignedNames,
+    NegativeNames,
     TextNames,
     Json,
     Letter4K,
@@ -81,7 +83,7 @@ enum Rows {
 
 /// Every workload, in the order in which `all` runs them.
 #[rattlefmt::skip]
-pub const ALL: [Workload; 81] = [
+pub const ALL: [Workload; 85] = [
     Workload("log-line", Task::Use(How::Format, Shape::LogLine)),
     Workload("names-32-numbers", Task::Use(How::Format, Shape::NumberNames)),
     Workload("names-18-texts", Task::Use(How::Format, Shape::TextNames)),
@@ -163,6 +165,10 @@ pub const ALL: [Workload; 81] = [
     Workload("render-starred-texts", Task::Render(Rows::StarredTexts)),
     Workload("render-accented-texts", Task::Render(Rows::AccentedTexts)),
     Workload("render-wide-accents", Task::Render(Rows::WideAccents)),
+    Workload("write-names-32-signed", Task::Use(How::Write, Shape::SignedNames)),
+    Workload("write-names-32-negative", Task::Use(How::Write, Shape::NegativeNames)),
+    Workload("template-names-32-signed", Task::Use(How::Template, Shape::SignedNames)),
+    Workload("template-names-32-negative", Task::Use(How::Template, Shape::NegativeNames)),
 ];
 
 impl Workload {
@@ -187,7 +193,13 @@ impl Shape {
     fn repeat(self, alloc: Global, how: How, repeats: u32) -> Result<String, Failure> {
         match self {
             Shape::LogLine => formats::log_line(alloc, how, repeats),
-            Shape::NumberNames => formats::number_names(alloc, how, repeats),
+            Shape::NumberNames => formats::number_names(alloc, how, &formats::NUMBERS, repeats),
+            Shape::SignedNames => {
+                formats::number_names(alloc, how, &formats::SIGNED_NUMBERS, repeats)
+            }
+            Shape::NegativeNames => {
+                formats::number_names(alloc, how, &formats::NEGATIVE_NUMBERS, repeats)
+            }
             Shape::TextNames => formats::text_names(alloc, how, repeats),
             Shape::Json => documents::json(alloc, how, repeats),
             Shape::Letter4K => documents::letter(alloc, how, repeats),

@@ -1,5 +1,5 @@
 -- The parts of a number are its padded text.
-use Rattle.std.proofs.Common.{◌≡◌, ℕ, ◌+◌, ◌-◌, ◌^◌, ◌<◌, min, true, false, List, [], ◌++◌}
+use Rattle.std.proofs.Common.{◌≡◌, ℕ, ◌+◌, ◌-◌, ◌^◌, ◌<◌, min, Bool, true, false, List, [], ◌++◌}
 use Rattle.std.proofs.Common.{length, refl, sym, append_assoc, append-nil, replicate, arith, inl}
 use Rattle.std.proofs.Common.{inr, None, unwrap_or, ◌≤◌, ap, ◌∙◌}
 use Rattle.interpolator_render.specs.declared.view.Alignment.{Alignment}
@@ -10,7 +10,7 @@ use Rattle.interpolator_render.specs.declared.number_form.Radix.TheVariants.{Dec
 use Rattle.interpolator_render.specs.declared.view.Sign.TheVariants.{Unset as NoSign}
 use Rattle.interpolator_render.specs.declared.view.Spec.{Spec}
 use Rattle.interpolator_render.specs.Digits.{digit_text}
-use Rattle.interpolator_render.specs.Numbers.{front_text, number_text}
+use Rattle.interpolator_render.specs.Numbers.{front_text, number_text, sign_text}
 use Rattle.interpolator_render.specs.Padding.{fill_of, missing_to, number_fill, padded_number}
 use Rattle.interpolator_render.specs.Padding.{fill_before, IsNumberLayout}
 use Rattle.std.proofs.lemmas.Bool.{cases_Bool}
@@ -75,13 +75,15 @@ nothing_padded spec front body z m =
     let all : fill_before spec.alignment 0 0 ≡ 0 = omega arith in
     rw (z, ← m, all) (sym (append-nil (front ++ body)))
 
--- a number of which no more is asked than its digits
-pub bare_number : (spec : Spec) (n : ℕ) → spec.width ≡ None → spec.zero ≡ false →
-    spec.alternate ≡ false → spec.sign ≡ NoSign →
-    number_text (InDigits Decimal) spec false n ≡ digit_text 10 false n
-bare_number spec n w z a s =
-    let front : front_text (InDigits Decimal) spec false ≡ [] = rw (s, a) refl in
-    let none : 0 ≡ missing_to spec (length {A = ℕ} [] + length (digit_text 10 false n)) =
-    rw w (omega arith) in
-    ap (λ (f : List ℕ). padded_number spec f (digit_text 10 false n)) front
-    ∙ sym (nothing_padded spec [] (digit_text 10 false n) z none)
+-- a number of which no more is asked than its digits, and a minus where it is negative
+pub bare_number : (spec : Spec) (negative : Bool) (n : ℕ) → spec.width ≡ None →
+    spec.zero ≡ false → spec.alternate ≡ false → spec.sign ≡ NoSign →
+    number_text (InDigits Decimal) spec negative n
+    ≡ sign_text negative NoSign ++ digit_text 10 false n
+bare_number spec negative n w z a s =
+    let sign = sign_text negative NoSign in
+    let digits = digit_text 10 false n in
+    let front : front_text (InDigits Decimal) spec negative ≡ sign = rw (s, a) (append-nil sign) in
+    let none : 0 ≡ missing_to spec (length sign + length digits) = rw w (omega arith) in
+    ap (λ (f : List ℕ). padded_number spec f digits) front
+    ∙ sym (nothing_padded spec sign digits z none)

@@ -1,8 +1,11 @@
 //! Whole numbers, written by their digits or in exponent form.
-ghost use Rattle.std.specs.Prelude.{◌≡◌, ◌<◌, ◌≤◌, false, true, ℕ, length, unwrap_or};
+ghost use Rattle.std.specs.Prelude.{◌≡◌, ◌<◌, ◌≤◌, ◌++◌, Bool, false, true, ℕ, codes, length};
+ghost use Rattle.std.specs.Prelude.{unwrap_or};
 ghost use Rattle.interpolator_render.specs.DigitBuffers.{grown};
 ghost use Rattle.interpolator_render.specs.Digits.{digit_text};
-ghost use Rattle.interpolator_render.specs.Numbers.{base_of, is_upper, number_text};
+ghost use Rattle.interpolator_render.specs.declared.view.Sign.TheVariants.{Unset};
+ghost use Rattle.interpolator_render.specs.Numbers.{base_of, distance_from_zero, is_negative};
+ghost use Rattle.interpolator_render.specs.Numbers.{is_upper, number_text, sign_text};
 ghost use Rattle.interpolator_render.specs.Padding.{number_fill};
 ghost use Rattle.interpolator_render.specs.Written.{Puts};
 
@@ -117,11 +120,40 @@ fn put_bare<W: TextWrite>(out: &mut W, n: u64) -> Result<(), Refusal>
     put_ascii(out, buffer.as_str())
 }
 
-/// Whether a spec adds nothing to the digits of a number in base ten that is not negative.
+/// The same, after a minus.
+#[tactic(auto, using(crate::proofs::DigitBufferLemmas::few_decimals))]
+#[inline(never)]
+fn put_bare_negative<W: TextWrite>(out: &mut W, n: u64) -> Result<(), Refusal>
+    ensures { Puts (W.written out.old) (codes "-" ++ digit_text 10 false n) result
+        (W.written out.new) }
+{
+    let mut buffer = DigitBuffer::new(b' ');
+    buffer.put_decimal(n as u128);
+    buffer.push_front(b'-');
+    put_ascii(out, buffer.as_str())
+}
+
+/// Writes a number with a sign in base ten, and nothing around it. It is one call, so that no more
+/// stands where a number is written than for one without a sign.
+#[inline(never)]
+fn put_bare_signed<W: TextWrite>(out: &mut W, number: i64) -> Result<(), Refusal>
+    ensures { Puts (W.written out.old)
+        (sign_text (is_negative number) Unset ++ digit_text 10 false (distance_from_zero number))
+        result (W.written out.new) }
+{
+    if number < 0 {
+        put_bare_negative(out, number.unsigned_abs())
+    } else {
+        put_bare(out, number.unsigned_abs())
+    }
+}
+
+/// Whether a spec adds nothing to a number in base ten but a minus where it is negative.
 #[inline(always)]
 fn is_bare(spec: &Spec) -> bool
-    ensures { result ≡ true → (n : ℕ) →
-        number_text (NumberForm.Digits Radix.Decimal) spec.now false n ≡ digit_text 10 false n }
+    ensures { result ≡ true → (negative : Bool) (n : ℕ) →
+        number_text (NumberForm.Digits Radix.Decimal) spec.now negative n
+        ≡ sign_text negative Unset ++ digit_text 10 false n }
 {
     if spec.zero || spec.alternate {
         return false;
@@ -143,6 +175,25 @@ pub(crate) fn put_natural<W: TextWrite>(out: &mut W, spec: &Spec, n: u128) -> Re
         put_bare(out, n as u64)
     } else {
         put_digits(out, Radix::Decimal, spec, false, n)
+    }
+}
+
+/// Writes a number with a sign, in base ten.
+#[inline(always)]
+pub(crate) fn put_integer<W: TextWrite>(
+    out: &mut W,
+    spec: &Spec,
+    number: i128,
+) -> Result<(), Refusal>
+    ensures { Puts (W.written out.old)
+        (number_text (NumberForm.Digits Radix.Decimal) spec.now (is_negative number)
+        (distance_from_zero number))
+        result (W.written out.new) }
+{
+    if i64::MIN as i128 <= number && number <= i64::MAX as i128 && is_bare(spec) {
+        put_bare_signed(out, number as i64)
+    } else {
+        put_digits(out, Radix::Decimal, spec, number < 0, number.unsigned_abs())
     }
 }
 

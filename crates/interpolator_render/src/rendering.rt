@@ -13,7 +13,7 @@ ghost use Rattle.interpolator_render.specs.Written.{Puts};
 use crate::characters::cut;
 use crate::copies::{put_between, put_between_spaces};
 use crate::layout::{fill_before, put_text};
-use crate::number::{put_natural, put_number};
+use crate::number::{put_integer, put_natural, put_number};
 use crate::number_form::{NumberForm, number_form, sign_and_magnitude};
 use crate::quoting::put_quoted;
 use crate::text_write::{Refusal, TextWrite};
@@ -177,6 +177,9 @@ pub fn render<W: TextWrite>(
     if let Trait::Display = t {
         if let View::Unsigned(number) = view {
             return refused(put_natural(out, spec, number));
+        }
+        if let View::Signed(number, _) = view {
+            return refused(put_integer(out, spec, number));
         }
     }
     render_any(out, view, t, spec)

@@ -1,6 +1,6 @@
 -- What a text means: what the scan hands on first, and then the rest.
 use Rattle.std.proofs.Common.{◌≡◌, ℕ, ◌+◌, ◌<◌, ◌≤◌, Bool, true, false, eqb, subst, List, [], ◌∷◌}
-use Rattle.std.proofs.Common.{map}
+use Rattle.std.proofs.Common.{◌++◌, append-nil, map}
 use Rattle.std.proofs.Common.{length, arith, refl, ap, ◌∙◌, sym, Option, Some, None, append_assoc}
 use Rattle.std.proofs.Common.{length-append}
 use Rattle.std.proofs.lemmas.List.{map-append}
@@ -14,7 +14,7 @@ use Rattle.interpolator_syntax.specs.Classes.{close_brace}
 use Rattle.interpolator_meaning.specs.Meaning.Environments.{Environment}
 use Rattle.interpolator_syntax.specs.Faults.{Fault}
 use Rattle.interpolator_syntax.specs.Pieces.{Step, piece_from, past, open_step, close_step}
-use Rattle.interpolator_syntax.specs.Pieces.{argument_from}
+use Rattle.interpolator_syntax.specs.Pieces.{Piece, argument_from, pieces}
 use Rattle.interpolator_syntax.specs.Tokens.{Token, first_token, past_token, open_scan, close_scan}
 use Rattle.interpolator_syntax.specs.Tokens.{no_open_scan, scan_by, argument}
 use Rattle.interpolator_meaning.specs.Meaning.Meanings.{Meaning, nothing, text_alone, or_fault, joined}
@@ -52,7 +52,34 @@ unmoved (n ∷ ns) = let e : 0 + n ≡ n = omega arith in rw (e, unmoved ns) ref
 pub joined_none : (m : Meaning) → joined (text_alone []) m ≡ m
 joined_none m = rw (unmoved m.memory_points) refl
 
+-- nor does one after it
+pub nothing_last : (m : Meaning) → joined m nothing ≡ m
+nothing_last m = by_fault m.fault refl
+  where
+    by_fault : (o : Option Fault) → m.fault ≡ o → or_fault o m nothing ≡ m
+    by_fault (Some f) e = refl
+    by_fault None e = rw (append-nil m.text, append-nil m.memory_points, ← e) refl
+
 module _ {X : Type 0} (shows : X → Trait → Spec → Shown) (e : Environment X) where
+  -- what some pieces mean, and then what those after them mean
+  pub pieces_mean_append : (xs ys : List Piece)
+      → pieces_mean shows (means shows) e (xs ++ ys) ≡ joined (pieces_mean shows (means shows) e xs)
+      (pieces_mean shows (means shows) e ys)
+  pieces_mean_append [] ys = sym (joined_none (pieces_mean shows (means shows) e ys))
+  pieces_mean_append (x ∷ xs) ys =
+      let first = piece_means shows (means shows) e x.place x.kind in
+      ap (joined first) (pieces_mean_append xs ys) ∙ sym (joined_assoc first _ _)
+
+  -- what the pieces before one mean, what it means, and what those after it mean
+  pub means_around : (a : At) (before after : List Piece) (x : Piece)
+      → pieces a ≡ before ++ (x ∷ after)
+      → means shows e a ≡ joined (pieces_mean shows (means shows) e before)
+      (joined (piece_means shows (means shows) e x.place x.kind)
+      (pieces_mean shows (means shows) e after))
+  means_around a before after x h =
+      means_pieces shows e a ∙ ap (pieces_mean shows (means shows) e) h
+      ∙ pieces_mean_append before (x ∷ after)
+
   pub means_none : (p : ℕ) → means shows e (record { place = p; text = [] }) ≡ nothing
   means_none p =
       means_pieces shows e (record { place = p; text = [] })

@@ -1,24 +1,48 @@
 //! Laws of what a text and a list mean, each the contract of a small function.
 
 ghost use Rattle.std.specs.Prelude.{◌≡◌, ℕ, List, [], ◌∷◌, None, Some, false, if◌then◌else◌};
-ghost use Rattle.std.specs.Prelude.{length, max, replicate, unwrap_or};
+ghost use Rattle.std.specs.Prelude.{◌++◌, codes, length, max, replicate, unwrap_or};
 ghost use Rattle.interpolator_render.specs.Padding.{fill_of, padded_text};
 ghost use Rattle.interpolator_syntax.specs.At.{At, outermost, placed_at, text_of};
 ghost use Rattle.interpolator_syntax.specs.Arguments.{Argument};
 ghost use Rattle.interpolator_syntax.specs.Lists.{ListAsked};
-ghost use Rattle.interpolator_syntax.specs.Faults.{Fault, parse, iter};
+ghost use Rattle.interpolator_syntax.specs.Faults.{Fault, expected, iter, parse};
 ghost use Rattle.interpolator_syntax.specs.Grammar.{from_place};
 ghost use Rattle.interpolator_syntax.specs.Moved.{moved_at};
+ghost use Rattle.interpolator_syntax.specs.Pieces.{Piece, closed, pieces, unclosed};
 ghost use Rattle.interpolator_meaning.specs.Slots.{Slots};
 ghost use Rattle.interpolator_meaning.specs.Meaning.Choices.{chosen_items};
 ghost use Rattle.interpolator_meaning.specs.Meaning.Environments.{Environment};
 ghost use Rattle.interpolator_meaning.specs.Meaning.ListArguments.{FindsList, written, unpadded};
 ghost use Rattle.interpolator_meaning.specs.Meaning.ListArguments.{join_of, item_of, AllFinish};
 ghost use Rattle.interpolator_meaning.specs.Meaning.ListArguments.{joined_texts, FirstFault};
-ghost use Rattle.interpolator_meaning.specs.Meaning.Meanings.{forbids_list, means};
+ghost use Rattle.interpolator_meaning.specs.Meaning.Meanings.{fault_alone, forbids_list, joined};
+ghost use Rattle.interpolator_meaning.specs.Meaning.Meanings.{means, pieces_mean};
 ghost use Rattle.interpolator_meaning.specs.Meaning.Moves.{moved_meaning};
 
 use interpolator_render::Value;
+
+/// A text means what its pieces mean, one after the other, up to the first fault: a literal or a
+/// brace the character that is written, an argument what is written of what stands under its name,
+/// and a broken argument its fault. After an unclosed argument, the last piece, a `}` is expected.
+/// What stands in a group means what it means as a text of its own, at its place.
+///
+/// So what the laws of lists say of an argument holds of what `write` makes of a text that has it:
+/// `a{l:i({})}b` writes `a`, then what the list writes and, where that has no fault, `b`.
+pub fn text_means_what_its_pieces_mean<V: Value>()
+    ensures pieces { (e : Environment V) (a : At)
+        → means V.shows e a ≡ pieces_mean V.shows (means V.shows) e (pieces a) }
+    ensures closed { (e : Environment V) (a : At) (before after : List Piece) (piece : Piece)
+        (start q : ℕ) (x : Argument) → pieces a ≡ before ++ (piece ∷ after)
+        → piece.kind ≡ closed start x q
+        → means V.shows e a ≡ joined (pieces_mean V.shows (means V.shows) e before)
+        (joined (written V.shows e start x q) (pieces_mean V.shows (means V.shows) e after)) }
+    ensures unclosed { (e : Environment V) (a : At) (before : List Piece) (piece : Piece)
+        (start q : ℕ) (x : Argument) → pieces a ≡ before ++ (piece ∷ [])
+        → piece.kind ≡ unclosed start x q
+        → means V.shows e a ≡ joined (pieces_mean V.shows (means V.shows) e before)
+        (joined (written V.shows e start x q) (fault_alone (parse (expected (codes "}") q)))) }
+{}
 
 /// A text means the same wherever it stands: at a base that is so many bytes further on, the same
 /// characters or the same fault, with every place moved by so many bytes, and memory is taken at

@@ -1,5 +1,5 @@
 //! What names mean while a format is written.
-ghost use Rattle.std.specs.Prelude.{◌≡◌, ◌⊎◌, Some, MatchOption, option_map};
+ghost use Rattle.std.specs.Prelude.{◌≡◌, ◌⊎◌, ⊤, Some, MatchOption, option_map};
 ghost use Rattle.std.specs.Str.{chars};
 ghost use Rattle.interpolator_syntax.specs.Faults.{answer_of, fault, missing_value, no_memory};
 ghost use Rattle.std.specs.Option.{option_copied};
@@ -21,6 +21,10 @@ pub struct Scope<'a, C, V> {
 }
 
 impl<'a, C, V> Clone for Scope<'a, C, V> {
+    ghost is_clone = { λ old new. new ≡ old };
+
+    ghost is_infallible = { λ _. ⊤ };
+
     fn clone(&self) -> Result<Self, AllocError> {
         Ok(*self)
     }
