@@ -9,7 +9,8 @@ mod memory;
 mod odd;
 mod rows;
 
-ghost use Rattle.interpolator_render.specs.Written.{as_writer};
+ghost use Rattle.std.specs.Prelude.{Some};
+ghost use Rattle.interpolator_render.specs.Bounds.{bounded_writer, bytes_left};
 
 use interpolator::{
     Bounded, Formattable, Interpolate, Pairs, Refusal, TextBuffer, TextWrite, format,
@@ -19,26 +20,27 @@ use std::alloc::{AllocError, Global};
 use std::process::Abort;
 use std::test::Fail;
 
-/// A writer that says how much it could take, and counts how often it is asked to make room.
+/// A writer that takes so many bytes in all, tells what is left, and counts how often it is asked to
+/// make room.
 #[derive(Drop)]
 struct Telling {
-    inner: TextBuffer,
-    room: Option<usize>,
+    inner: Bounded,
     asked: usize,
 }
 
 impl Telling {
-    fn new(alloc: Global, room: Option<usize>) -> Telling {
+    fn new(alloc: Global, most: usize) -> Telling {
         Telling {
-            inner: TextBuffer::new(alloc),
-            room,
+            inner: Bounded::new(alloc, most),
             asked: 0,
         }
     }
 }
 
 impl TextWrite for Telling {
-    ghost written = { λ writer. as_writer writer.inner };
+    ghost written = { λ writer. bounded_writer writer.inner };
+
+    ghost limit = { λ writer. Some (bytes_left writer.inner) };
 
     fn write_str(&mut self, text: &str) -> Result<(), Refusal> {
         self.inner.write_str(text)
@@ -58,58 +60,38 @@ impl TextWrite for Telling {
     }
 
     fn room(&self) -> Option<usize> {
-        self.room
+        self.inner.room()
     }
 }
 
-/// A format, how much the writer says it could take, what it then holds, and what is answered.
-struct Row<'a> {
-    format: &'a str,
-    room: Option<usize>,
-    text: &'a str,
-    told: Told<'a>,
-}
-
+/// A format, how many bytes a writer takes that tells it, what it then holds, and what is answered.
 /// Over a list `h` of 1 and 5, and `o` of one item, which has that list: by hand, from the rule that
 /// a list with a width is made in no more bytes than the writer could take when it was begun.
 #[rattlefmt::skip]
-const IN_ROOM: [Row<'static>; 8] = [
-    Row { format: "ab{h:6i}", room: None, text: "ab15    ", told: Told::Done },
-    Row { format: "ab{h:6i}", room: Some(2), text: "ab15    ", told: Told::Done },
-    Row { format: "ab{h:6i}", room: Some(1), text: "ab", told: Told::NoMemory },
-    Row { format: "ab{h:i}", room: Some(0), text: "ab15", told: Told::Done },
-    Row { format: "ab{h:i({:>9})}", room: Some(0), text: "ab        1        5", told: Told::Done },
-    Row { format: "{o:9i#({:4i({})})#}", room: Some(4), text: "15       ", told: Told::Done },
-    Row { format: "{o:9i#({:4i({})})#}", room: Some(3), text: "", told: Told::NoMemory },
-    Row { format: "{o:9i#({:4i({})})#}", room: Some(1), text: "", told: Told::NoMemory },
-];
-
-/// A format, a bound, what a bounded writer then holds, and what is answered: over the same lists.
-#[rattlefmt::skip]
-const BOUNDED: [(&str, usize, &str, Told<'static>); 5] = [
+const IN_ROOM: [(&str, usize, &str, Told<'static>); 12] = [
+    ("ab{h:6i}", usize::MAX, "ab15    ", Told::Done),
     ("ab{h:6i}", 8, "ab15    ", Told::Done),
     ("ab{h:6i}", 5, "ab15 ", Told::Fmt(7)),
+    ("ab{h:6i}", 4, "ab15", Told::Fmt(7)),
     ("ab{h:6i}", 3, "ab", Told::NoMemory),
     ("ab{h:6i}", 1, "a", Told::Fmt(1)),
+    ("ab{h:i}", 3, "ab1", Told::Fmt(6)),
+    ("ab{h:i({:>9})}", 12, "ab        1 ", Told::Fmt(11)),
     ("{o:9i#({:4i({})})#}", 9, "15       ", Told::Done),
+    ("{o:9i#({:4i({})})#}", 8, "15      ", Told::Fmt(18)),
+    ("{o:9i#({:4i({})})#}", 3, "", Told::NoMemory),
+    ("{o:9i#({:4i({})})#}", 1, "", Told::NoMemory),
 ];
 
 /// The rows are given over a list, and over a list of one item which has that list.
 fn give_rows(rt: &impl Abort, alloc: Global, numbers: Formattable<'_, u64>) {
     let outer = [numbers];
-    for row in &IN_ROOM {
+    for (text, most, written, told) in &IN_ROOM {
         let pairs = Pairs(&[("h", numbers), ("o", Formattable::iter(&outer))]);
-        let mut out = Telling::new(alloc, row.room);
-        let answer = pairs.write_to(alloc, &mut out, row.format);
-        assert_eq!(rt; told_by(&answer), row.told, "at {}", row.format);
-        assert_eq!(rt; out.inner.as_str(), row.text, "at {}", row.format);
-    }
-    for (text, most, written, told) in &BOUNDED {
-        let pairs = Pairs(&[("h", numbers), ("o", Formattable::iter(&outer))]);
-        let mut out = Bounded::new(alloc, *most);
+        let mut out = Telling::new(alloc, *most);
         let answer = pairs.write_to(alloc, &mut out, text);
         assert_eq!(rt; told_by(&answer), *told, "at {text} in {most}");
-        assert_eq!(rt; out.as_str(), *written, "at {text} in {most}");
+        assert_eq!(rt; out.inner.as_str(), *written, "at {text} in {most}");
     }
 }
 
@@ -218,7 +200,7 @@ const ASKED: [(&str, usize); 4] = [
 fn room_is_asked_for_before_a_long_padding(rt: HostRuntime) -> Result<(), Fail> {
     let value = 7u64;
     for (text, asked) in &ASKED {
-        let mut out = Telling::new(rt.alloc(), None);
+        let mut out = Telling::new(rt.alloc(), usize::MAX);
         Pairs(&[("v", Formattable::display(&value))]).write_to(rt.alloc(), &mut out, text)?;
         assert_eq!(rt; out.asked, *asked, "at {text}");
     }
