@@ -1,63 +1,195 @@
-//! Rows of templates: their names, their pieces, their text, and how they are written.
+//! Rows of what is known of a format before it is written.
 
-mod memory;
-mod rows;
-
-use crate::tables::{Call, give_in_room};
-use interpolator::laws::templates::rest_of_the_pieces_is_written;
-use interpolator::{Formattable, Interpolate, Pairs, Piece, Template, TextBuffer};
-use interpolator_testing::counting::Counting;
-use interpolator_testing::own::{Everywhere, Nowhere};
-use interpolator_testing::told::{Told, told_by};
-use rows::{Asking, LATE, NAMES, ROOM, Standing, TREES, Tree};
+use crate::cells::Cell;
+use crate::files::Facts;
+use crate::names::kind_name;
+use crate::printing::{push_word, quoted, quoted_all, told_text};
+use crate::report::{Part, Report};
+use crate::trouble::Read;
+use interpolator::{Argument, ContextMap, Error, Piece, Template, check};
+use interpolator_testing::told::told_by;
 use std::alloc::{AllocError, Global};
-use std::process::Abort;
-use std::test::Fail;
 
-/// Whether the names are these.
-pub(crate) fn are_names(names: &[String], wanted: &[&str]) -> bool {
-    if names.len() != wanted.len() {
-        return false;
+/// A format that is read, and the row that asks of it.
+#[derive(Clone, Copy)]
+struct Known<'a> {
+    alloc: Global,
+    format: &'a str,
+    template: &'a Template,
+}
+
+/// What comes of a call that failed.
+fn failed_text(alloc: Global, error: Error) -> Result<String, AllocError> {
+    let answer: Result<(), Error> = Err(error);
+    told_text(alloc, told_by(&answer))
+}
+
+/// `check`: the first fault of its own.
+fn run_check(report: &mut Report<'_>, known: Known<'_>, facts: &mut Facts<'_>) -> Read<()> {
+    let Some(mut words) = facts.next("check")? else {
+        return Ok(());
+    };
+    let answer = if words.takes("ok") {
+        Ok(())
+    } else {
+        Err(words.fault()?)
+    };
+    words.done()?;
+    let wanted = told_text(known.alloc, told_by(&answer))?;
+    let came = told_text(known.alloc, told_by(&known.template.check()))?;
+    report.compare_words(
+        "`Template::check`",
+        Part::Whole,
+        wanted.as_str(),
+        came.as_str(),
+    )?;
+    let came = told_text(known.alloc, told_by(&check(known.alloc, known.format)))?;
+    report.compare_words("`check`", Part::Whole, wanted.as_str(), came.as_str())?;
+    Ok(())
+}
+
+/// `names`: the asked names.
+fn run_names(report: &mut Report<'_>, known: Known<'_>, facts: &mut Facts<'_>) -> Read<()> {
+    let Some(mut words) = facts.next("names")? else {
+        return Ok(());
+    };
+    let wanted = quoted_all(known.alloc, &words.texts()?)?;
+    let came = match known.template.names(known.alloc) {
+        Ok(names) => quoted_all(known.alloc, &names)?,
+        Err(error) => failed_text(known.alloc, error)?,
+    };
+    report.compare_words(
+        "`Template::names`",
+        Part::Whole,
+        wanted.as_str(),
+        came.as_str(),
+    )?;
+    Ok(())
+}
+
+/// `lacks`: the first asked name that the context lacks.
+fn run_lacks(
+    report: &mut Report<'_>,
+    known: Known<'_>,
+    facts: &mut Facts<'_>,
+    context: &ContextMap<'_, Cell>,
+) -> Read<()> {
+    let Some(mut words) = facts.next("lacks")? else {
+        return Ok(());
+    };
+    let wanted = if words.takes("none") {
+        String::from_str(known.alloc, "none")?
+    } else {
+        quoted(known.alloc, words.text()?.as_str())?
+    };
+    words.done()?;
+    let came = match known.template.lacks(context) {
+        Some(name) => quoted(known.alloc, name)?,
+        None => String::from_str(known.alloc, "none")?,
+    };
+    report.compare_words(
+        "`Template::lacks`",
+        Part::Whole,
+        wanted.as_str(),
+        came.as_str(),
+    )?;
+    Ok(())
+}
+
+/// Appends a name and its place.
+fn push_place(out: &mut String, alloc: Global, name: &str, place: usize) -> Result<(), AllocError> {
+    let name = quoted(alloc, name)?;
+    let word = format!(in alloc; "{name} {place}")?;
+    push_word(out, word.as_str())
+}
+
+/// The name of each argument, and where it begins.
+fn arguments_text(alloc: Global, arguments: &[Argument<'_>]) -> Result<String, AllocError> {
+    let mut out = String::new(alloc);
+    for argument in arguments {
+        push_place(&mut out, alloc, argument.name, argument.name_place)?;
     }
-    for (name, one) in names.iter().zip(wanted) {
-        if name.as_str() != *one {
-            return false;
+    Ok(out)
+}
+
+/// `arguments`: their names, and where these begin.
+fn run_arguments(report: &mut Report<'_>, known: Known<'_>, facts: &mut Facts<'_>) -> Read<()> {
+    let Some(mut words) = facts.next("arguments")? else {
+        return Ok(());
+    };
+    let mut wanted = String::new(known.alloc);
+    for _ in 0..words.len() {
+        if words.is_done() {
+            break;
         }
+        let name = words.text()?;
+        let place = words.number()?;
+        push_place(&mut wanted, known.alloc, name.as_str(), place)?;
     }
-    true
-}
-
-/// The template of the row's format tells the row's names, and gives the format back.
-fn tells_names(rt: &impl Abort, alloc: Global, row: &Asking<'_>) -> Result<(), Fail> {
-    let template = Template::parse(alloc, row.format)?;
-    assert_eq!(rt; template.text(), row.format);
-    let names = template.names(alloc)?;
-    assert!(rt; are_names(&names, row.names), "at {}", row.format);
+    let came = match known.template.arguments(known.alloc) {
+        Ok(arguments) => arguments_text(known.alloc, &arguments)?,
+        Err(error) => failed_text(known.alloc, error)?,
+    };
+    report.compare_words(
+        "`Template::arguments`",
+        Part::Whole,
+        wanted.as_str(),
+        came.as_str(),
+    )?;
     Ok(())
 }
 
-#[test]
-fn templates_tell_their_names(rt: HostRuntime) -> Result<(), Fail> {
-    for row in &NAMES {
-        tells_names(&rt, rt.alloc(), row)?;
+/// A number of a format: its extent, or its depth.
+fn run_number(
+    report: &mut Report<'_>,
+    known: Known<'_>,
+    wanted: Option<usize>,
+    way: &str,
+    came: usize,
+) -> Read<()> {
+    if let Some(wanted) = wanted {
+        let wanted = format!(in known.alloc; "{wanted}")?;
+        let came = format!(in known.alloc; "{came}")?;
+        report.compare_words(way, Part::Whole, wanted.as_str(), came.as_str())?;
     }
     Ok(())
-}
-
-/// How many pieces a group has, where there is one.
-fn count(pieces: &Option<Vec<Piece>>) -> Option<usize> {
-    match pieces {
-        Some(pieces) => Some(pieces.len()),
-        None => None,
-    }
 }
 
 /// How many levels of pieces are listed.
-const LEVELS: usize = 4;
+const LEVELS: usize = 8;
 
-/// Lists pieces of a level, each before those of its item format and of its join.
-fn list_pieces(
-    listed: &mut Vec<Standing>,
+/// Appends how many pieces a group has, if it is there.
+fn push_count(
+    out: &mut String,
+    alloc: Global,
+    word: &str,
+    pieces: &Option<Vec<Piece>>,
+) -> Result<(), AllocError> {
+    match pieces {
+        Some(pieces) => {
+            let count = pieces.len();
+            let text = format!(in alloc; " {word} {count}")?;
+            out.push_str(text.as_str())
+        }
+        None => Ok(()),
+    }
+}
+
+/// A piece, as a line of a file.
+fn piece_text(alloc: Global, depth: usize, piece: &Piece) -> Result<String, AllocError> {
+    let kind = kind_name(piece.kind);
+    let place = piece.place;
+    let end = piece.end;
+    let mut out = format!(in alloc; "\n    piece {depth} {kind} {place} {end}")?;
+    push_count(&mut out, alloc, "item", &piece.item)?;
+    push_count(&mut out, alloc, "join", &piece.join)?;
+    Ok(out)
+}
+
+/// Appends pieces of a level, each before those of its item format and of its join.
+fn push_pieces(
+    out: &mut String,
+    alloc: Global,
     pieces: &[Piece],
     depth: usize,
 ) -> Result<(), AllocError> {
@@ -65,137 +197,98 @@ fn list_pieces(
         return Ok(());
     }
     for piece in pieces {
-        listed.push(Standing {
-            depth,
-            kind: piece.kind,
-            place: piece.place,
-            end: piece.end,
-            item: count(&piece.item),
-            join: count(&piece.join),
-        })?;
+        let text = piece_text(alloc, depth, piece)?;
+        out.push_str(text.as_str())?;
         if let Some(pieces) = &piece.item {
-            list_pieces(listed, pieces, depth + 1)?;
+            push_pieces(out, alloc, pieces, depth + 1)?;
         }
         if let Some(pieces) = &piece.join {
-            list_pieces(listed, pieces, depth + 1)?;
+            push_pieces(out, alloc, pieces, depth + 1)?;
         }
     }
     Ok(())
 }
 
-/// The template of the row's format has the row's pieces, and gives the format back.
-fn has_pieces(rt: &impl Abort, alloc: Global, row: &Tree<'_>) -> Result<(), Fail> {
-    let template = Template::parse(alloc, row.format)?;
-    assert_eq!(rt; template.text(), row.format);
-    let mut listed = Vec::new(alloc);
-    list_pieces(&mut listed, template.pieces(), 0)?;
-    assert_eq!(rt; listed.as_slice(), row.pieces, "at {}", row.format);
-    Ok(())
-}
-
-#[test]
-fn templates_have_their_pieces(rt: HostRuntime) -> Result<(), Fail> {
-    for row in &TREES {
-        has_pieces(&rt, rt.alloc(), row)?;
+/// The pieces of a row, as it says them.
+fn pieces_wanted(alloc: Global, facts: &mut Facts<'_>) -> Read<Option<String>> {
+    let mut wanted = String::new(alloc);
+    for _ in 0..facts.len() {
+        let Some(words) = facts.next("piece")? else {
+            break;
+        };
+        wanted.push_str("\n    ")?;
+        let piece = words.whole()?;
+        wanted.push_str(piece.as_str())?;
     }
-    Ok(())
-}
-
-/// The template gives the text and is answered so, where this list is under `h`.
-fn gives(
-    rt: &impl Abort,
-    alloc: Global,
-    template: &Template,
-    list: Formattable<'_, u64>,
-    text: &str,
-    told: Told<'_>,
-) {
-    let mut out = TextBuffer::new(alloc);
-    let answer = Pairs(&[("h", list)]).write_template_to(alloc, &mut out, template);
-    assert_eq!(rt; told_by(&answer), told, "at {}", template.text());
-    assert_eq!(rt; out.as_str(), text, "at {}", template.text());
-}
-
-/// Worked by hand: of the three pieces `a`, `{x}` and `b` those after so many, with 1 under `x`.
-#[rattlefmt::skip]
-const TAILS: [(usize, &str); 5] = [(0, "a1b"), (1, "1b"), (2, "b"), (3, ""), (usize::MAX, "")];
-
-#[test]
-fn the_rest_of_the_pieces_is_written(rt: HostRuntime) -> Result<(), Fail> {
-    let template = Template::parse(rt.alloc(), "a{x}b")?;
-    let pairs = [("x", Formattable::display(&1u64))];
-    for (skipped, text) in TAILS {
-        let mut out = TextBuffer::new(rt.alloc());
-        let context = Pairs(&pairs);
-        rest_of_the_pieces_is_written(rt.alloc(), &mut out, &template, skipped, &context)?;
-        assert_eq!(rt; out.as_str(), text, "after {skipped}");
+    if let Some(mut words) = facts.next("pieces")? {
+        if !wanted.is_empty() || !words.takes("none") {
+            return Err(words.trouble("`pieces none` stands without a `piece`"));
+        }
+        words.done()?;
+        return Ok(Some(wanted));
     }
-    Ok(())
-}
-
-#[test]
-fn faults_of_items_are_told_where_an_item_is_written(rt: HostRuntime) -> Result<(), Fail> {
-    let alloc = rt.alloc();
-    let none: [Formattable<'_, u64>; 0] = [];
-    let one = [Formattable::display(&1u64)];
-    for row in &LATE {
-        let template = Template::parse(alloc, row.format)?;
-        let (text, told) = row.none;
-        gives(&rt, alloc, &template, Formattable::iter(&none), text, told);
-        let (text, told) = row.one;
-        gives(&rt, alloc, &template, Formattable::iter(&one), text, told);
+    if wanted.is_empty() {
+        Ok(None)
+    } else {
+        Ok(Some(wanted))
     }
-    Ok(())
 }
 
-#[test]
-fn limited_writers_hold_beginnings_of_templates(rt: HostRuntime) -> Result<(), Fail> {
-    give_in_room(&rt, rt.alloc(), Call::Text, &ROOM)
-}
-
-#[test]
-fn a_run_of_literals_of_a_template_is_one_call(rt: HostRuntime) -> Result<(), Fail> {
-    let mut text = String::new(rt.alloc());
-    for _ in 0..1000 {
-        text.push('a')?;
-    }
-    let template = Template::parse(rt.alloc(), text.as_str())?;
-    let mut out = Counting::new(rt.alloc());
-    template.write(rt.alloc(), &mut out, &Nowhere)?;
-    assert_eq!(rt; out.as_str(), text.as_str());
-    assert_eq!(rt; out.calls, 1);
-    assert_eq!(rt; out.empty_calls, 0);
-    Ok(())
-}
-
-#[test]
-fn a_doubled_brace_of_a_template_is_one_byte(rt: HostRuntime) -> Result<(), Fail> {
-    for (format, text, calls) in [
-        ("{{", "{", 1),
-        ("}}", "}", 1),
-        ("}", "}", 1),
-        ("ab{{cd}}", "ab{cd}", 4),
-    ] {
-        let template = Template::parse(rt.alloc(), format)?;
-        let mut out = Counting::new(rt.alloc());
-        template.write(rt.alloc(), &mut out, &Nowhere)?;
-        assert_eq!(rt; out.as_str(), text, "at {format}");
-        assert_eq!(rt; out.calls, calls, "at {format}");
-        assert_eq!(rt; out.empty_calls, 0, "at {format}");
-    }
-    Ok(())
-}
-
-#[test]
-fn padding_of_a_template_is_written_in_slices(rt: HostRuntime) -> Result<(), Fail> {
-    let template = Template::parse(rt.alloc(), "{v:1001}")?;
-    let mut out = Counting::new(rt.alloc());
-    let context = Everywhere {
-        value: Formattable::display(&7u64),
+/// `piece`: the nodes of its tree.
+fn run_pieces(report: &mut Report<'_>, known: Known<'_>, facts: &mut Facts<'_>) -> Read<()> {
+    let Some(wanted) = pieces_wanted(known.alloc, facts)? else {
+        return Ok(());
     };
-    context.write_template_to(rt.alloc(), &mut out, &template)?;
-    assert_eq!(rt; out.as_str().len(), 1001);
-    assert!(rt; out.calls <= 17, "{} calls", out.calls);
-    assert_eq!(rt; out.empty_calls, 0);
+    let mut came = String::new(known.alloc);
+    push_pieces(&mut came, known.alloc, known.template.pieces(), 0)?;
+    report.compare_words(
+        "`Template::pieces`",
+        Part::Whole,
+        wanted.as_str(),
+        came.as_str(),
+    )?;
     Ok(())
+}
+
+/// All that a row asks of a format before it is written.
+pub fn run_known(
+    report: &mut Report<'_>,
+    context: &ContextMap<'_, Cell>,
+    format: &str,
+    facts: &mut Facts<'_>,
+) -> Read<()> {
+    let alloc = report.alloc;
+    let template = match Template::parse(alloc, format) {
+        Ok(template) => template,
+        Err(error) => {
+            let came = failed_text(alloc, error)?;
+            report.compare_words(
+                "`Template::parse`",
+                Part::Whole,
+                "the template of the format",
+                came.as_str(),
+            )?;
+            return facts.leave();
+        }
+    };
+    let known = Known {
+        alloc,
+        format,
+        template: &template,
+    };
+    run_check(report, known, facts)?;
+    run_names(report, known, facts)?;
+    run_lacks(report, known, facts, context)?;
+    run_arguments(report, known, facts)?;
+    let widest = facts.number("widest")?;
+    run_number(
+        report,
+        known,
+        widest,
+        "`Template::widest`",
+        template.widest(),
+    )?;
+    let depth = facts.number("depth")?;
+    run_number(report, known, depth, "`Template::depth`", template.depth())?;
+    run_pieces(report, known, facts)
 }

@@ -1,4 +1,0 @@
-use Rattle.interpolator_vectors.proofs.hostile.depth.+write_nested.Given as goal
-
-abbrev pub decreases-write_nested : goal.decreases-write_nested
-decreases-write_nested l = l.depth
