@@ -235,8 +235,16 @@ fn run_refused(
     )
 }
 
-/// How many sizes of little writers are tried of a long text, from both ends.
-const SIZES: usize = 60;
+/// Up to so many characters of a text every size of a little writer is tried.
+const SHORT: usize = 200;
+
+/// How many sizes are tried of a longer text, from both ends.
+const ENDS: usize = 4;
+
+/// Whether a writer of so many characters is tried, of all that a text has.
+fn is_tried(count: usize, all: usize) -> bool {
+    all <= SHORT || count < ENDS || all.saturating_sub(count) <= ENDS
+}
 
 /// The parts are run to writers that take 0, 1, 2 and so on characters, up to those of the text.
 fn run_little(
@@ -248,7 +256,7 @@ fn run_little(
 ) -> Result<(), AllocError> {
     let all = wanted.text.chars().count();
     for count in 0..all {
-        if count < SIZES || all.saturating_sub(count) <= SIZES {
+        if is_tried(count, all) {
             for way in ways {
                 run_refused(report, context, parts, *way, count, wanted.text)?;
             }

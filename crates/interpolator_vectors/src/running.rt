@@ -15,7 +15,7 @@ use crate::trouble::Read;
 use crate::ways::Room;
 use crate::words::Words;
 use interpolator::ContextMap;
-use std::alloc::Global;
+use std::alloc::{AllocError, Global};
 
 /// What stands under the names of a context.
 fn holding_of(alloc: Global, block: &Block) -> Read<Holding> {
@@ -39,7 +39,8 @@ fn formats_of(alloc: Global, rows: &[Row]) -> Read<Vec<FormatRow<'_>>> {
     Ok(formats)
 }
 
-/// A row of a format, of parts or of a line.
+/// A row of a format, of parts or of a line: what it wants, and its cuts and joins. Without
+/// anything that it wants it is none.
 fn run_format_row(
     report: &mut Report<'_>,
     block: &Block,
@@ -48,20 +49,33 @@ fn run_format_row(
     row: &FormatRow<'_>,
     facts: &mut Facts<'_>,
 ) -> Read<()> {
+    let runs = report.runs;
     run_format(report, context, row)?;
-    if row.kind == Kind::Parts {
-        return Ok(());
+    if row.kind == Kind::Format {
+        run_known(report, context, row.format(), facts)?;
     }
-    if block.cut {
+    if report.runs == runs {
+        return Err(facts.trouble("a row that wants nothing"));
+    }
+    run_more(report, block, context, formats, row)?;
+    Ok(())
+}
+
+/// The cuts and joins of a format.
+fn run_more(
+    report: &mut Report<'_>,
+    block: &Block,
+    context: &ContextMap<'_, Cell>,
+    formats: &[FormatRow<'_>],
+    row: &FormatRow<'_>,
+) -> Result<(), AllocError> {
+    if block.cut && row.kind != Kind::Parts {
         run_cuts(report, context, row.format(), row.room)?;
-    }
-    if row.kind == Kind::Line {
-        return Ok(());
     }
     if block.join {
         run_joins(report, context, row, formats)?;
     }
-    run_known(report, context, row.format(), facts)
+    Ok(())
 }
 
 /// A row of an argument, if it is one.
@@ -125,7 +139,7 @@ fn run_any(
     Err(facts.trouble("a row of nothing that is known"))
 }
 
-/// A row: each of its facts is read, and something of it is run.
+/// A row, of which each fact is read.
 fn run_row(
     report: &mut Report<'_>,
     block: &Block,
@@ -134,13 +148,9 @@ fn run_row(
     row: &Row,
 ) -> Read<()> {
     let mut facts = Facts::new(report.alloc, row);
-    let runs = report.runs;
     report.begin(row)?;
     run_any(report, block, context, formats, row, &mut facts)?;
     facts.done()?;
-    if report.runs == runs {
-        return Err(facts.trouble("a row that wants nothing"));
-    }
     report.end()?;
     Ok(())
 }
