@@ -1,0 +1,361 @@
+//! The contexts of files: what stands under their names.
+
+use crate::cells::Cell;
+use crate::lexing::Word;
+use crate::names::{Slots, named_slots};
+use crate::trouble::Read;
+use crate::words::Words;
+use interpolator::{ContextMap, Formattable};
+use std::alloc::{AllocError, Global};
+
+/// How deep lists stand in one another at most.
+const LEVELS: usize = 4;
+
+/// A value, and the slots that it fills.
+#[derive(Drop)]
+struct Fill {
+    slots: Vec<Slots>,
+    cell: Cell,
+}
+
+/// Where the items of a list stand among those of their level.
+#[derive(Clone, Copy)]
+struct Items {
+    from: usize,
+    to: usize,
+}
+
+/// What stands under a name, or an item of a list.
+#[derive(Drop)]
+struct Held {
+    /// The name; empty, where it is an item.
+    name: String,
+    /// In how many lists it stands.
+    level: usize,
+    fills: Vec<Fill>,
+    /// Its lists, of which the last is the one that stands.
+    lists: Vec<Items>,
+}
+
+/// All that stands under the names of a context, and in their lists.
+#[derive(Drop)]
+pub struct Holding {
+    alloc: Global,
+    all: Vec<Held>,
+}
+
+/// The view that stands here, as a value.
+fn take_cell(words: &mut Words<'_>) -> Read<Cell> {
+    let kind = words.bare().unwrap_or("");
+    match kind {
+        "truth" => Ok(Cell::Truth(words.truth()?)),
+        "character" => Ok(Cell::Character(words.character()?)),
+        "text" => Ok(Cell::Text(words.text()?)),
+        "plain" => Ok(Cell::Plain(words.text()?)),
+        "not_implemented" => Ok(Cell::NotImplemented),
+        "failed" => Ok(Cell::Failed),
+        _ => match number_of(kind, words.bare().unwrap_or("")) {
+            Some(cell) => Ok(cell),
+            None => Err(words.trouble("a view is wanted, and a number within its bits")),
+        },
+    }
+}
+
+/// The unsigned number that a word spells, up to the greatest.
+fn unsigned_of(word: &str, greatest: u128) -> Option<Cell> {
+    match word.parse::<u128>() {
+        Ok(n) if n <= greatest => Some(Cell::Unsigned(n)),
+        _ => None,
+    }
+}
+
+/// The number of a type that a word spells.
+fn number_of(kind: &str, word: &str) -> Option<Cell> {
+    match kind {
+        "i8" => Some(Cell::I8(word.parse::<i8>().ok()?)),
+        "i16" => Some(Cell::I16(word.parse::<i16>().ok()?)),
+        "i32" => Some(Cell::I32(word.parse::<i32>().ok()?)),
+        "i64" => Some(Cell::I64(word.parse::<i64>().ok()?)),
+        "i128" => Some(Cell::I128(word.parse::<i128>().ok()?)),
+        "u8" => unsigned_of(word, 0xff),
+        "u16" => unsigned_of(word, 0xffff),
+        "u32" => unsigned_of(word, 0xffff_ffff),
+        "u64" => unsigned_of(word, 0xffff_ffff_ffff_ffff),
+        "u128" => unsigned_of(word, u128::MAX),
+        _ => None,
+    }
+}
+
+/// The view that stands here, to the end of the line.
+pub fn view_of(words: &mut Words<'_>) -> Read<Cell> {
+    let cell = take_cell(words)?;
+    words.done()?;
+    Ok(cell)
+}
+
+/// The slots that stand here, joined by commas.
+fn take_slots(alloc: Global, words: &mut Words<'_>) -> Read<Vec<Slots>> {
+    let mut all = Vec::new(alloc);
+    for word in words.bare().unwrap_or("").split(',') {
+        match named_slots(word) {
+            Some(slots) => all.push(slots)?,
+            None => return Err(words.trouble("no such slot")),
+        }
+    }
+    Ok(all)
+}
+
+impl Held {
+    fn new(alloc: Global, name: String, level: usize) -> Held {
+        Held {
+            name,
+            level,
+            fills: Vec::new(alloc),
+            lists: Vec::new(alloc),
+        }
+    }
+}
+
+impl Holding {
+    pub fn new(alloc: Global) -> Holding {
+        Holding {
+            alloc,
+            all: Vec::new(alloc),
+        }
+    }
+
+    /// How many stand at a level.
+    fn count(&self, level: usize) -> usize {
+        let mut count = 0usize;
+        for held in &self.all {
+            if held.level == level {
+                count = count.saturating_add(1);
+            }
+        }
+        count
+    }
+
+    /// Where the name stands, if it does.
+    fn find(&self, name: &str) -> Option<usize> {
+        for index in 0..self.all.len() {
+            if let Some(held) = self.all.get(index) {
+                if held.level == 0 && held.name.as_str() == name {
+                    return Some(index);
+                }
+            }
+        }
+        None
+    }
+
+    /// One more; where it stands.
+    fn add(&mut self, name: String, level: usize) -> Read<usize> {
+        let held = Held::new(self.alloc, name, level);
+        self.all.push(held)?;
+        Ok(self.all.len().saturating_sub(1))
+    }
+
+    /// Where the name stands, which is added if it does not.
+    fn find_or_add(&mut self, name: String) -> Read<usize> {
+        match self.find(name.as_str()) {
+            Some(index) => Ok(index),
+            None => self.add(name, 0),
+        }
+    }
+
+    fn level_of(&self, index: usize) -> usize {
+        match self.all.get(index) {
+            Some(held) => held.level,
+            None => 0,
+        }
+    }
+
+    fn fill(&mut self, index: usize, fill: Fill) -> Read<()> {
+        if let Some(held) = self.all.get_mut(index) {
+            held.fills.push(fill)?;
+        }
+        Ok(())
+    }
+
+    /// Begins the list of one.
+    fn begin_list(&mut self, index: usize) -> Read<()> {
+        let from = self.count(self.level_of(index).saturating_add(1));
+        if let Some(held) = self.all.get_mut(index) {
+            held.lists.push(Items { from, to: from })?;
+        }
+        Ok(())
+    }
+
+    /// The list of one has the items up to here.
+    fn end_list(&mut self, index: usize) -> Read<()> {
+        let to = self.count(self.level_of(index).saturating_add(1));
+        if let Some(held) = self.all.get_mut(index) {
+            if let Some(list) = held.lists.pop() {
+                let from = list.from;
+                held.lists.push(Items { from, to })?;
+            }
+        }
+        Ok(())
+    }
+
+    fn has_list(&self, index: usize) -> bool {
+        match self.all.get(index) {
+            Some(held) => !held.lists.is_empty(),
+            None => false,
+        }
+    }
+
+    /// One more item of the list of one; where it stands.
+    fn add_item(&mut self, words: &Words<'_>, index: usize) -> Read<usize> {
+        if !self.has_list(index) {
+            return Err(words.trouble("`list` is wanted before items"));
+        }
+        let level = self.level_of(index).saturating_add(1);
+        if level >= LEVELS {
+            return Err(words.trouble("lists stand too deep in one another"));
+        }
+        let item = self.add(String::new(self.alloc), level)?;
+        self.end_list(index)?;
+        Ok(item)
+    }
+
+    /// A fact of the one that is open innermost.
+    fn take_fact(&mut self, words: &mut Words<'_>, open: &mut Vec<usize>) -> Read<()> {
+        let index = open.last().copied().unwrap_or(0);
+        if words.takes("list") {
+            return self.begin_list(index);
+        }
+        match words.peek() {
+            Some(Word::Open) => {
+                words.skip();
+                open.push(self.add_item(words, index)?)?;
+                Ok(())
+            }
+            Some(Word::Close) => {
+                words.skip();
+                let _ = open.pop();
+                if open.is_empty() {
+                    return Err(words.trouble("a parenthesis too many"));
+                }
+                Ok(())
+            }
+            _ => {
+                let slots = take_slots(self.alloc, words)?;
+                let cell = take_cell(words)?;
+                self.fill(index, Fill { slots, cell })
+            }
+        }
+    }
+
+    /// The name that stands here.
+    fn take_name(&self, words: &mut Words<'_>) -> Read<String> {
+        if words.is_text() {
+            return words.text();
+        }
+        match words.bare() {
+            Some(name) => Ok(String::from_str(self.alloc, name)?),
+            None => Err(words.trouble("a name is wanted")),
+        }
+    }
+
+    /// A line of the context: a name, and what stands under it.
+    pub fn take_line(&mut self, words: &mut Words<'_>) -> Read<()> {
+        let name = self.take_name(words)?;
+        let mut open = Vec::new(self.alloc);
+        open.push(self.find_or_add(name)?)?;
+        for _ in 0..words.len() {
+            if words.is_done() {
+                break;
+            }
+            self.take_fact(words, &mut open)?;
+        }
+        if open.len() > 1 {
+            return Err(words.trouble("a parenthesis is not closed"));
+        }
+        Ok(())
+    }
+}
+
+/// The items of a list.
+fn list_of<'a>(below: &'a [Formattable<'a, Cell>], list: Items) -> &'a [Formattable<'a, Cell>] {
+    let front = &below[..list.to.min(below.len())];
+    &front[list.from.min(front.len())..]
+}
+
+/// Fills slots with a value.
+fn fill_slots<'a>(held: &mut Formattable<'a, Cell>, slots: Slots, cell: &'a Cell) {
+    match slots {
+        Slots::DebugDisplay => held.set_debug_display(cell),
+        Slots::Integer => held.set_integer(cell),
+        Slots::Float => held.set_float(cell),
+        Slots::Debug => held.set_debug(cell),
+        Slots::Display => held.set_display(cell),
+        Slots::Binary => held.set_binary(cell),
+        Slots::LowerExp => held.set_lower_exp(cell),
+        Slots::LowerHex => held.set_lower_hex(cell),
+        Slots::Octal => held.set_octal(cell),
+        Slots::UpperExp => held.set_upper_exp(cell),
+        Slots::UpperHex => held.set_upper_hex(cell),
+    }
+}
+
+/// Fills the slot of a list.
+fn fill_list<'a>(
+    held: &mut Formattable<'a, Cell>,
+    below: &'a [Formattable<'a, Cell>],
+    list: Items,
+) {
+    held.set_iter(list_of(below, list));
+}
+
+/// Fills all slots of one value.
+fn fill_all<'a>(held: &mut Formattable<'a, Cell>, all: &'a Fill) {
+    for slots in &all.slots {
+        fill_slots(held, *slots, &all.cell);
+    }
+}
+
+/// What is held, as a value over the items of the level below.
+fn value_of<'a>(held: &'a Held, below: &'a [Formattable<'a, Cell>]) -> Formattable<'a, Cell> {
+    let mut value = Formattable::default();
+    for list in &held.lists {
+        fill_list(&mut value, below, *list);
+    }
+    for all in &held.fills {
+        fill_all(&mut value, all);
+    }
+    value
+}
+
+/// The values of a level, in order.
+pub fn values_of<'a>(
+    alloc: Global,
+    holding: &'a Holding,
+    level: usize,
+    below: &'a [Formattable<'a, Cell>],
+) -> Result<Vec<Formattable<'a, Cell>>, AllocError> {
+    let mut values = Vec::new(alloc);
+    for held in &holding.all {
+        if held.level == level {
+            values.push(value_of(held, below))?;
+        }
+    }
+    Ok(values)
+}
+
+/// The values under their names.
+pub fn context_of<'a>(
+    alloc: Global,
+    holding: &Holding,
+    values: &[Formattable<'a, Cell>],
+) -> Result<ContextMap<'a, Cell>, AllocError> {
+    let mut context = ContextMap::new(alloc);
+    let mut values = values.iter();
+    for held in &holding.all {
+        if held.level == 0 {
+            if let Some(value) = values.next() {
+                context.put(held.name.as_str(), *value)?;
+            }
+        }
+    }
+    Ok(context)
+}

@@ -1,0 +1,346 @@
+//! Rows of formats and of parts: what is written and answered, by every way.
+
+use crate::cells::Cell;
+use crate::files::{Facts, Row};
+use crate::report::{Outcome, Part, Report};
+use crate::trouble::Read;
+use crate::ways::{LINE_WAYS, MAKINGS, PART_WAYS, Room, WAYS, Way, came_by};
+use interpolator::{ContextMap, Error, Template};
+use interpolator_testing::told::{Told, told_by};
+use std::alloc::{AllocError, Global};
+
+/// A row of a format, of parts or of a line.
+#[derive(Drop)]
+pub struct FormatRow<'a> {
+    pub row: &'a Row,
+    /// The format, or the parts.
+    pub formats: Vec<String>,
+    pub kind: Kind,
+    pub room: Room,
+    /// What is written and answered, if the row says so.
+    pub wanted: Option<Wanted>,
+}
+
+/// What a row is of.
+#[derive(Clone, Copy, PartialEq)]
+pub enum Kind {
+    Format,
+    Parts,
+    Line,
+}
+
+/// What is written, and what is answered.
+#[derive(Drop)]
+pub struct Wanted {
+    pub text: String,
+    pub answer: Result<(), Error>,
+}
+
+impl Wanted {
+    pub fn outcome(&self) -> Outcome<'_> {
+        Outcome {
+            text: self.text.as_str(),
+            told: told_by(&self.answer),
+        }
+    }
+}
+
+/// The fault of a row.
+pub fn answer_of(facts: &mut Facts<'_>) -> Read<Result<(), Error>> {
+    let Some(mut words) = facts.next("fault")? else {
+        return Ok(Ok(()));
+    };
+    let fault = words.fault()?;
+    words.done()?;
+    Ok(Err(fault))
+}
+
+/// What a row wants.
+fn wanted_of(facts: &mut Facts<'_>) -> Read<Option<Wanted>> {
+    let text = facts.text("text")?;
+    let answer = answer_of(facts)?;
+    match text {
+        Some(text) => Ok(Some(Wanted { text, answer })),
+        None if answer.is_err() => Err(facts.trouble("a `text` is wanted beside the fault")),
+        None => Ok(None),
+    }
+}
+
+/// What the writer of a row takes.
+fn room_of(facts: &mut Facts<'_>) -> Read<Room> {
+    let characters = facts.number("room")?;
+    let bytes = facts.number("bytes")?;
+    match (characters, bytes) {
+        (None, None) => Ok(Room::All),
+        (Some(count), None) => Ok(Room::Characters(count)),
+        (None, Some(count)) => Ok(Room::Bytes(count)),
+        (Some(_), Some(_)) => Err(facts.trouble("`room` and `bytes` are two writers")),
+    }
+}
+
+/// The format of a row, or its parts; none, where it is no such row.
+fn formats_of(facts: &mut Facts<'_>) -> Read<Option<(Vec<String>, Kind)>> {
+    if let Some(mut words) = facts.next("format")? {
+        let texts = words.texts()?;
+        if texts.len() != 1 {
+            return Err(words.trouble("one format is wanted"));
+        }
+        let kind = if facts.mark("line")? {
+            Kind::Line
+        } else {
+            Kind::Format
+        };
+        return Ok(Some((texts, kind)));
+    }
+    if let Some(mut words) = facts.next("parts")? {
+        return Ok(Some((words.texts()?, Kind::Parts)));
+    }
+    Ok(None)
+}
+
+impl<'a> FormatRow<'a> {
+    /// The row, if it is of a format, of parts or of a line.
+    pub fn read(row: &'a Row, facts: &mut Facts<'_>) -> Read<Option<FormatRow<'a>>> {
+        let Some((formats, kind)) = formats_of(facts)? else {
+            return Ok(None);
+        };
+        Ok(Some(FormatRow {
+            row,
+            formats,
+            kind,
+            room: room_of(facts)?,
+            wanted: wanted_of(facts)?,
+        }))
+    }
+
+    /// The format, or the first of the parts.
+    pub fn format(&self) -> &str {
+        match self.formats.first() {
+            Some(format) => format.as_str(),
+            None => "",
+        }
+    }
+}
+
+/// The texts, lent.
+pub fn lent<'a>(alloc: Global, texts: &'a [String]) -> Result<Vec<&'a str>, AllocError> {
+    let mut all = Vec::new(alloc);
+    for text in texts {
+        all.push(text.as_str())?;
+    }
+    Ok(all)
+}
+
+/// The first characters of a text.
+pub fn first(alloc: Global, text: &str, count: usize) -> Result<String, AllocError> {
+    let mut front = String::new(alloc);
+    for c in text.chars().take(count) {
+        front.push(c)?;
+    }
+    Ok(front)
+}
+
+/// What is told of the part of a run.
+fn part_of(room: Room) -> Part<'static> {
+    match room {
+        Room::All => Part::Whole,
+        Room::Characters(count) => Part::Room(count),
+        Room::Bytes(count) => Part::Bytes(count),
+    }
+}
+
+/// The parts are run by these ways, to a writer that takes this.
+pub fn run_ways(
+    report: &mut Report<'_>,
+    context: &ContextMap<'_, Cell>,
+    parts: &[&str],
+    ways: &[Way],
+    room: Room,
+    part: Part<'_>,
+    wanted: Outcome<'_>,
+) -> Result<(), AllocError> {
+    for way in ways {
+        let came = came_by(report.alloc, *way, room, parts, context)?;
+        let told = told_by(&came.answer);
+        let outcome = Outcome::new(came.text.as_str(), told);
+        report.compare(way.name(), part, wanted, outcome)?;
+    }
+    Ok(())
+}
+
+/// What was made is compared: a text where there is no fault.
+fn compare_made(
+    report: &mut Report<'_>,
+    way: &str,
+    part: Part<'_>,
+    wanted: Outcome<'_>,
+    made: &Result<String, Error>,
+) -> Result<(), AllocError> {
+    let told = told_by(made);
+    match made {
+        Ok(text) => report.compare(way, part, wanted, Outcome::new(text.as_str(), told)),
+        Err(_) => report.compare(
+            way,
+            part,
+            Outcome::new("", wanted.told),
+            Outcome::new("", told),
+        ),
+    }
+}
+
+/// The format is run by each way to make a text.
+pub fn run_makings(
+    report: &mut Report<'_>,
+    context: &ContextMap<'_, Cell>,
+    format: &str,
+    part: Part<'_>,
+    wanted: Outcome<'_>,
+) -> Result<(), AllocError> {
+    for making in MAKINGS {
+        let made = making.make(report.alloc, format, context);
+        compare_made(report, making.name(), part, wanted, &made)?;
+    }
+    Ok(())
+}
+
+/// How many bytes the parts have.
+fn bytes_of(parts: &[&str]) -> usize {
+    let mut bytes = 0usize;
+    for part in parts {
+        bytes = bytes.saturating_add(part.len());
+    }
+    bytes
+}
+
+/// The parts are run to a writer that takes so many characters, fewer than the text has.
+fn run_refused(
+    report: &mut Report<'_>,
+    context: &ContextMap<'_, Cell>,
+    parts: &[&str],
+    way: Way,
+    count: usize,
+    text: &str,
+) -> Result<(), AllocError> {
+    let room = Room::Characters(count);
+    let came = came_by(report.alloc, way, room, parts, context)?;
+    let front = first(report.alloc, text, count)?;
+    let told = told_by(&came.answer);
+    let is_within = matches!(told, Told::Fmt(place) if place <= bytes_of(parts));
+    report.compare_said(
+        way.name(),
+        Part::Room(count),
+        is_within && came.text.as_str() == front.as_str(),
+        "so many of the row's text, and fault Fmt at a place within the format",
+        Outcome::new(came.text.as_str(), told),
+    )
+}
+
+/// Up to so many characters of a text every size of a little writer is tried.
+const SHORT: usize = 200;
+
+/// How many sizes are tried of a longer text, from both ends.
+const ENDS: usize = 4;
+
+/// Whether a writer of so many characters is tried, of all that a text has.
+fn is_tried(count: usize, all: usize) -> bool {
+    all <= SHORT || count < ENDS || all.saturating_sub(count) <= ENDS
+}
+
+/// The parts are run to writers that take 0, 1, 2 and so on characters, up to those of the text.
+fn run_little(
+    report: &mut Report<'_>,
+    context: &ContextMap<'_, Cell>,
+    parts: &[&str],
+    ways: &[Way],
+    wanted: Outcome<'_>,
+) -> Result<(), AllocError> {
+    let all = wanted.text.chars().count();
+    for count in 0..all {
+        if is_tried(count, all) {
+            for way in ways {
+                run_refused(report, context, parts, *way, count, wanted.text)?;
+            }
+        }
+    }
+    let room = Room::Characters(all);
+    run_ways(report, context, parts, ways, room, part_of(room), wanted)
+}
+
+/// The parts are run by these ways: to the row's writer, and if that takes all, to little ones.
+fn run_by(
+    report: &mut Report<'_>,
+    context: &ContextMap<'_, Cell>,
+    parts: &[&str],
+    ways: &[Way],
+    room: Room,
+    wanted: Outcome<'_>,
+) -> Result<(), AllocError> {
+    run_ways(report, context, parts, ways, room, part_of(room), wanted)?;
+    match room {
+        Room::All => run_little(report, context, parts, ways, wanted),
+        _ => Ok(()),
+    }
+}
+
+/// The check of a format that has a fault of its own tells one.
+fn run_check(
+    report: &mut Report<'_>,
+    template: &Template,
+    wanted: Told<'_>,
+) -> Result<(), AllocError> {
+    if !matches!(wanted, Told::Parse(_) | Told::UnsupportedOption(_, _, _)) {
+        return Ok(());
+    }
+    let answer = template.check();
+    let told = told_by(&answer);
+    report.compare_said(
+        "`Template::check`",
+        Part::Whole,
+        answer.is_err(),
+        "a fault of its own",
+        Outcome::new("", told),
+    )
+}
+
+/// The template of a format gives it back.
+fn run_template(report: &mut Report<'_>, format: &str, wanted: Told<'_>) -> Result<(), AllocError> {
+    let way = "`Template::parse`";
+    let parsed = Template::parse(report.alloc, format);
+    let told = told_by(&parsed);
+    match &parsed {
+        Ok(template) => {
+            report.compare_words(way, Part::Whole, format, template.text())?;
+            run_check(report, template, wanted)
+        }
+        Err(_) => report.compare(
+            way,
+            Part::Whole,
+            Outcome::new("", Told::Done),
+            Outcome::new("", told),
+        ),
+    }
+}
+
+/// What a row says is written and answered comes by every way.
+pub fn run_format(
+    report: &mut Report<'_>,
+    context: &ContextMap<'_, Cell>,
+    row: &FormatRow<'_>,
+) -> Result<(), AllocError> {
+    let Some(wanted) = &row.wanted else {
+        return Ok(());
+    };
+    let parts = lent(report.alloc, &row.formats)?;
+    let wanted = wanted.outcome();
+    match row.kind {
+        Kind::Format => {
+            run_by(report, context, &parts, &WAYS, row.room, wanted)?;
+            if let Room::All = row.room {
+                run_makings(report, context, row.format(), Part::Whole, wanted)?;
+            }
+            run_template(report, row.format(), wanted.told)
+        }
+        Kind::Parts => run_by(report, context, &parts, &PART_WAYS, row.room, wanted),
+        Kind::Line => run_by(report, context, &parts, &LINE_WAYS, row.room, wanted),
+    }
+}

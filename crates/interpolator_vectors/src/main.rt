@@ -1,0 +1,101 @@
+//! `interpolator_vectors FILE..`: files of rows, of which each is run by every way that there is.
+//!
+//! docs/CONFORMANCE.md says what stands in a file, and what is run. A row that fails is told with
+//! the file and the line, with what was wanted of it and what came. After the rows of a file come
+//! how many there were, and how many runs. The status is 1 where a row fails, or where a file
+//! cannot be read.
+#![tactic(auto)]
+
+mod arguments;
+mod cells;
+mod contexts;
+mod cuts;
+mod files;
+mod formats;
+mod joins;
+mod lexing;
+mod names;
+mod printing;
+mod rendering;
+mod report;
+mod running;
+mod small;
+mod templates;
+mod trouble;
+mod ways;
+mod words;
+
+use report::Report;
+use running::run_text;
+use std::alloc::{AllocError, Global};
+use std::process::ExitCode;
+use std::{env, fs, io};
+use trouble::Trouble;
+
+/// What is told of a file, and whether each row holds.
+#[derive(Drop)]
+struct Answered {
+    text: String,
+    holds: bool,
+}
+
+/// What is told of a file with this text.
+fn told(alloc: Global, file: &str, text: &str) -> Result<Answered, AllocError> {
+    let mut report = Report::new(alloc, file);
+    let is_read = match run_text(&mut report, text) {
+        Ok(()) => true,
+        Err(Trouble::Line(line, what)) => {
+            report.tell(line, what)?;
+            false
+        }
+        Err(Trouble::NoMemory) => return Err(AllocError),
+    };
+    let rows = report.rows;
+    let runs = report.runs;
+    let failed = report.failed;
+    let mut text = report.told;
+    let counts = format!(in alloc; "{file}: {rows} rows, {runs} runs, {failed} fail\n")?;
+    text.push_str(counts.as_str())?;
+    Ok(Answered {
+        text,
+        holds: is_read && failed == 0,
+    })
+}
+
+/// The rows of a file are run, and what is told of them is printed.
+fn run_file(rt: &HostRuntime, file: &str) -> io::Result<bool> {
+    let Ok(text) = fs::read_to_string(rt, file) else {
+        println!(rt; "{file}: this file cannot be read")?;
+        return Ok(false);
+    };
+    match told(rt.alloc(), file, text.as_str()) {
+        Ok(told) => {
+            rt.print(told.text.as_str())?;
+            Ok(told.holds)
+        }
+        Err(_) => {
+            println!(rt; "{file}: out of memory")?;
+            Ok(false)
+        }
+    }
+}
+
+/// Whether the rows of all files hold.
+fn run_files(rt: &HostRuntime) -> io::Result<bool> {
+    let files = env::args(rt)?.skip(1).collect::<Vec<String>>(rt.alloc())?;
+    let mut holds = !files.is_empty();
+    for file in &files {
+        if !run_file(rt, file.as_str())? {
+            holds = false;
+        }
+    }
+    Ok(holds)
+}
+
+fn main(rt: HostRuntime) -> ExitCode {
+    match run_files(&rt) {
+        Ok(true) => ExitCode::SUCCESS,
+        Ok(false) => ExitCode::from(1),
+        Err(_) => ExitCode::from(3),
+    }
+}

@@ -1,0 +1,186 @@
+//! The rows of a file, run.
+
+use crate::arguments::{run_argument, start_of};
+use crate::cells::Cell;
+use crate::contexts::{Holding, context_of, values_of};
+use crate::cuts::run_cuts;
+use crate::files::{Block, Facts, Row, blocks_of};
+use crate::formats::{FormatRow, Kind, run_format};
+use crate::joins::run_joins;
+use crate::rendering::{Rendering, run_rendering};
+use crate::report::Report;
+use crate::small::{run_chosen, run_escape, run_prints, run_seam};
+use crate::templates::run_known;
+use crate::trouble::Read;
+use crate::ways::Room;
+use crate::words::Words;
+use interpolator::ContextMap;
+use std::alloc::{AllocError, Global};
+
+/// What stands under the names of a context.
+fn holding_of(alloc: Global, block: &Block) -> Read<Holding> {
+    let mut holding = Holding::new(alloc);
+    for line in &block.names {
+        let mut words = Words::new(alloc, line.number, &line.words);
+        holding.take_line(&mut words)?;
+    }
+    Ok(holding)
+}
+
+/// The rows of formats among those of a context.
+fn formats_of(alloc: Global, rows: &[Row]) -> Read<Vec<FormatRow<'_>>> {
+    let mut formats = Vec::new(alloc);
+    for row in rows {
+        let mut facts = Facts::new(alloc, row);
+        if let Some(format) = FormatRow::read(row, &mut facts)? {
+            formats.push(format)?;
+        }
+    }
+    Ok(formats)
+}
+
+/// A row of a format, of parts or of a line: what it wants, and its cuts and joins. Without
+/// anything that it wants it is none.
+fn run_format_row(
+    report: &mut Report<'_>,
+    block: &Block,
+    context: &ContextMap<'_, Cell>,
+    formats: &[FormatRow<'_>],
+    row: &FormatRow<'_>,
+    facts: &mut Facts<'_>,
+) -> Read<()> {
+    let runs = report.runs;
+    run_format(report, context, row)?;
+    if row.kind == Kind::Format {
+        run_known(report, context, row.format(), facts)?;
+    }
+    if report.runs == runs {
+        return Err(facts.trouble("a row that wants nothing"));
+    }
+    run_more(report, block, context, formats, row)?;
+    Ok(())
+}
+
+/// The cuts and joins of a format.
+fn run_more(
+    report: &mut Report<'_>,
+    block: &Block,
+    context: &ContextMap<'_, Cell>,
+    formats: &[FormatRow<'_>],
+    row: &FormatRow<'_>,
+) -> Result<(), AllocError> {
+    if block.cut && row.kind != Kind::Parts {
+        run_cuts(report, context, row.format(), row.room)?;
+    }
+    if block.join {
+        run_joins(report, context, row, formats)?;
+    }
+    Ok(())
+}
+
+/// A row of an argument, if it is one.
+fn run_argument_row(
+    report: &mut Report<'_>,
+    block: &Block,
+    context: &ContextMap<'_, Cell>,
+    row: &Row,
+    facts: &mut Facts<'_>,
+) -> Read<bool> {
+    let Some(start) = start_of(facts)? else {
+        return Ok(false);
+    };
+    run_argument(report, row, &start)?;
+    if block.cut {
+        run_cuts(report, context, start.text.as_str(), Room::All)?;
+    }
+    facts.leave()?;
+    Ok(true)
+}
+
+/// A row of a view or of a padded text, if it is one.
+fn run_rendering_row(report: &mut Report<'_>, facts: &mut Facts<'_>) -> Read<bool> {
+    match Rendering::read(facts)? {
+        Some(rendering) => {
+            run_rendering(report, &rendering)?;
+            Ok(true)
+        }
+        None => Ok(false),
+    }
+}
+
+/// A row of a small call, if it is one.
+fn run_small(report: &mut Report<'_>, facts: &mut Facts<'_>) -> Read<bool> {
+    Ok(
+        run_chosen(report, facts)?
+            || run_seam(report, facts)?
+            || run_escape(report, facts)?
+            || run_prints(report, facts)?,
+    )
+}
+
+/// A row, whatever it is of.
+fn run_any(
+    report: &mut Report<'_>,
+    block: &Block,
+    context: &ContextMap<'_, Cell>,
+    formats: &[FormatRow<'_>],
+    row: &Row,
+    facts: &mut Facts<'_>,
+) -> Read<()> {
+    if let Some(format) = FormatRow::read(row, facts)? {
+        return run_format_row(report, block, context, formats, &format, facts);
+    }
+    if run_argument_row(report, block, context, row, facts)?
+        || run_rendering_row(report, facts)?
+        || run_small(report, facts)?
+    {
+        return Ok(());
+    }
+    Err(facts.trouble("a row of nothing that is known"))
+}
+
+/// A row, of which each fact is read.
+fn run_row(
+    report: &mut Report<'_>,
+    block: &Block,
+    context: &ContextMap<'_, Cell>,
+    formats: &[FormatRow<'_>],
+    row: &Row,
+) -> Read<()> {
+    let mut facts = Facts::new(report.alloc, row);
+    report.begin(row)?;
+    run_any(report, block, context, formats, row, &mut facts)?;
+    facts.done()?;
+    report.end()?;
+    Ok(())
+}
+
+/// The rows of a context.
+fn run_rows(report: &mut Report<'_>, block: &Block, context: &ContextMap<'_, Cell>) -> Read<()> {
+    let formats = formats_of(report.alloc, &block.rows)?;
+    for row in &block.rows {
+        run_row(report, block, context, &formats, row)?;
+    }
+    Ok(())
+}
+
+/// A context with its rows. Lists in its lists are made from the innermost on.
+fn run_block(report: &mut Report<'_>, block: &Block) -> Read<()> {
+    let alloc = report.alloc;
+    let holding = holding_of(alloc, block)?;
+    let none = Vec::new(alloc);
+    let innermost = values_of(alloc, &holding, 3, &none)?;
+    let inner = values_of(alloc, &holding, 2, &innermost)?;
+    let items = values_of(alloc, &holding, 1, &inner)?;
+    let values = values_of(alloc, &holding, 0, &items)?;
+    let context = context_of(alloc, &holding, &values)?;
+    run_rows(report, block, &context)
+}
+
+/// The rows of a file's text.
+pub fn run_text(report: &mut Report<'_>, text: &str) -> Read<()> {
+    for block in &blocks_of(report.alloc, text)? {
+        run_block(report, block)?;
+    }
+    Ok(())
+}

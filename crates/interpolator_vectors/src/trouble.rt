@@ -1,0 +1,27 @@
+//! Why a file cannot be run.
+
+use std::alloc::{AllocError, AllocFailed};
+
+/// Why a file cannot be run.
+#[derive(Drop)]
+pub enum Trouble {
+    /// Memory was refused.
+    NoMemory,
+    /// What is wrong with a line, and its number.
+    Line(usize, &'static str),
+}
+
+/// What is read of a file.
+pub type Read<T> = Result<T, Trouble>;
+
+impl From<AllocError> for Trouble {
+    fn from(_refused: AllocError) -> Trouble {
+        Trouble::NoMemory
+    }
+}
+
+impl<T: Drop> From<AllocFailed<T>> for Trouble {
+    fn from(_refused: AllocFailed<T>) -> Trouble {
+        Trouble::NoMemory
+    }
+}

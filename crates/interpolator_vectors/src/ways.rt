@@ -1,0 +1,184 @@
+//! The ways to write a format and to make its text, by each of which every row is run.
+//!
+//! A way more is a variant more of `Way` or `Making`, with its name, its call and its place in a
+//! list.
+
+use crate::cells::Cell;
+use interpolator::{
+    Bounded, ContextMap, Error, Interpolate, Template, TextBuffer, TextWrite, format, iwriteln,
+    write, write_parts,
+};
+use interpolator_testing::limited::Limited;
+use interpolator_testing::sizes::parts_fit;
+use std::alloc::{AllocError, Global};
+
+/// A way to write.
+#[derive(Clone, Copy)]
+pub enum Way {
+    Write,
+    WriteTo,
+    Template,
+    WriteTemplateTo,
+    WriteParts,
+    WritePartsTo,
+    Line,
+    WriteLineTo,
+}
+
+/// The ways to write a format.
+pub const WAYS: [Way; 6] = [
+    Way::Write,
+    Way::WriteTo,
+    Way::Template,
+    Way::WriteTemplateTo,
+    Way::WriteParts,
+    Way::WritePartsTo,
+];
+
+/// The ways to write parts.
+pub const PART_WAYS: [Way; 2] = [Way::WriteParts, Way::WritePartsTo];
+
+/// The ways to write a line.
+pub const LINE_WAYS: [Way; 2] = [Way::Line, Way::WriteLineTo];
+
+/// The format of which these are the only part.
+pub fn format_of<'a>(parts: &[&'a str]) -> &'a str {
+    match parts.first() {
+        Some(format) => *format,
+        None => "",
+    }
+}
+
+impl Way {
+    /// How it is called.
+    pub fn name(self) -> &'static str {
+        match self {
+            Way::Write => "`write`",
+            Way::WriteTo => "`write_to`",
+            Way::Template => "`Template::write`",
+            Way::WriteTemplateTo => "`write_template_to`",
+            Way::WriteParts => "`write_parts`",
+            Way::WritePartsTo => "`write_parts_to`",
+            Way::Line => "`iwriteln`",
+            Way::WriteLineTo => "`write_line_to`",
+        }
+    }
+
+    /// Writes the parts, or the format that is the only one.
+    fn write<W: TextWrite>(
+        self,
+        alloc: Global,
+        out: &mut W,
+        parts: &[&str],
+        context: &ContextMap<'_, Cell>,
+    ) -> Result<(), Error> {
+        let text = format_of(parts);
+        match self {
+            Way::Write => write(alloc, out, text, context),
+            Way::WriteTo => context.write_to(alloc, out, text),
+            Way::Template => Template::parse(alloc, text)?.write(alloc, out, context),
+            Way::WriteTemplateTo => {
+                let template = Template::parse(alloc, text)?;
+                context.write_template_to(alloc, out, &template)
+            }
+            Way::WriteParts if parts_fit(parts) => { write_parts(alloc, out, parts, context) }
+            Way::WritePartsTo if parts_fit(parts) => { context.write_parts_to(alloc, out, parts) }
+            Way::WriteParts | Way::WritePartsTo => Err(Error::NoMemory),
+            Way::Line => iwriteln(alloc, out, text, context),
+            Way::WriteLineTo => context.write_line_to(alloc, out, text),
+        }
+    }
+}
+
+/// A way to make a text.
+#[derive(Clone, Copy)]
+pub enum Making {
+    Format,
+    FormatMethod,
+    FormatTemplate,
+}
+
+/// The ways to make a text.
+pub const MAKINGS: [Making; 3] = [Making::Format, Making::FormatMethod, Making::FormatTemplate];
+
+impl Making {
+    /// How it is called.
+    pub fn name(self) -> &'static str {
+        match self {
+            Making::Format => "`format`",
+            Making::FormatMethod => "the method `format`",
+            Making::FormatTemplate => "`format_template`",
+        }
+    }
+
+    /// The text of a format.
+    pub fn make(
+        self,
+        alloc: Global,
+        text: &str,
+        context: &ContextMap<'_, Cell>,
+    ) -> Result<String, Error> {
+        match self {
+            Making::Format => format(alloc, text, context),
+            Making::FormatMethod => context.format(alloc, text),
+            Making::FormatTemplate => {
+                let template = Template::parse(alloc, text)?;
+                context.format_template(alloc, &template)
+            }
+        }
+    }
+}
+
+/// What a writer takes.
+#[derive(Clone, Copy)]
+pub enum Room {
+    /// All that comes.
+    All,
+    /// So many characters.
+    Characters(usize),
+    /// So many bytes, of which it tells how many are left.
+    Bytes(usize),
+}
+
+/// What was written, and what was answered.
+#[derive(Drop)]
+pub struct Came {
+    pub text: String,
+    pub answer: Result<(), Error>,
+}
+
+/// What comes of a way with a writer.
+pub fn came_by(
+    alloc: Global,
+    way: Way,
+    room: Room,
+    parts: &[&str],
+    context: &ContextMap<'_, Cell>,
+) -> Result<Came, AllocError> {
+    match room {
+        Room::All => {
+            let mut out = TextBuffer::new(alloc);
+            let answer = way.write(alloc, &mut out, parts, context);
+            Ok(Came {
+                text: out.into_string(),
+                answer,
+            })
+        }
+        Room::Characters(count) => {
+            let mut out = Limited::new(alloc, count)?;
+            let answer = way.write(alloc, &mut out, parts, context);
+            Ok(Came {
+                text: String::from_str(alloc, out.as_str())?,
+                answer,
+            })
+        }
+        Room::Bytes(count) => {
+            let mut out = Bounded::new(alloc, count);
+            let answer = way.write(alloc, &mut out, parts, context);
+            Ok(Came {
+                text: out.into_string(),
+                answer,
+            })
+        }
+    }
+}
