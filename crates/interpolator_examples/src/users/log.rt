@@ -1,8 +1,7 @@
-//! A layout for log lines: a map for each record.
+//! A layout for log lines: pairs of a record's fields.
 
-use interpolator::{Error, Formattable, Interpolate, Template, TextBuffer, View};
+use interpolator::{Error, Formattable, Interpolate, Pairs, Template, TextBuffer, View};
 use std::alloc::Global;
-use std::collections::HashMap;
 use std::test::Fail;
 
 /// What is logged.
@@ -25,19 +24,21 @@ impl Layout {
         Ok(Layout { line })
     }
 
-    /// Writes a record.
+    /// Writes a record. No memory is taken but that of the text.
     fn write(&self, alloc: Global, out: &mut TextBuffer, record: &Record<'_>) -> Result<(), Error> {
-        let level = View::from(record.level);
-        let line = View::from(record.line);
-        let message = View::from(record.message);
-        let mut context = HashMap::new(alloc);
-        context.insert("level", Formattable::debug_display(&level))?;
-        context.insert("line", Formattable::integer(&line))?;
-        context.insert("message", Formattable::debug_display(&message))?;
-        context.write_template_to(alloc, out, &self.line)
+        let values = [
+            View::from(record.level),
+            View::from(record.line),
+            View::from(record.message),
+        ];
+        Pairs(&[
+            ("level", Formattable::debug_display(&values[0])),
+            ("line", Formattable::integer(&values[1])),
+            ("message", Formattable::debug_display(&values[2])),
+        ])
+        .write_template_to(alloc, out, &self.line)
     }
 }
-
 /// All records, each as the layout says.
 fn laid_out(alloc: Global, layout: &str, records: &[Record<'_>]) -> Result<String, Error> {
     let layout = Layout::new(alloc, layout)?;
