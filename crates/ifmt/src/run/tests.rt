@@ -1,7 +1,7 @@
 //! Tests of the lines that are written, of the flush after each, and of writers that refuse.
 
 use crate::run::{complain, report, run, usage};
-use interpolator::{ContextMap, Error};
+use interpolator::{Bits, ContextMap, Error, Formattable, View};
 use std::alloc::Global;
 use std::io;
 use std::io::{ErrorKind, Write};
@@ -130,27 +130,39 @@ fn lines_are_written_whole(rt: HostRuntime) -> Result<(), Fail> {
     Ok(())
 }
 
-/// The status of a run, of which `rt try --test --fail-alloc` may refuse one allocation: of the text,
-/// which is told, or of what a writer holds, which refuses then.
-fn status_of_a_run(rt: &impl Abort, alloc: Global) -> u8 {
-    let mut out = Vec::new(alloc);
-    let mut err = Vec::new(alloc);
-    let status = run_on(alloc, "Hi", &mut out, &mut err);
-    match status {
-        0 => assert_eq!(rt; out.as_slice(), "Hi\n".as_bytes()),
-        1 => assert_eq!(rt; err.as_slice(), OUT_OF_MEMORY.as_bytes()),
-        _ => assert_eq!(rt; status, 3),
-    }
-    assert!(rt; out.is_empty() || err.is_empty());
-    status
+/// A format, the number under `n`, and the line that is written: by hand, from the rules of rendering
+/// in docs/DEFINITIONS.md.
+const NUMBERS: [(&str, i128, &str); 2] = [("{n}", -3, "-3\n"), ("{n:*>6}", 255, "***255\n")];
+
+/// Runs a format over a number under `n`.
+fn run_over<O: Write, E: Write>(
+    alloc: Global,
+    format: &str,
+    number: i128,
+    out: &mut O,
+    err: &mut E,
+) -> Result<u8, Error> {
+    let value = View::Signed(number, Bits::B128);
+    let mut context = ContextMap::new(alloc);
+    context.put("n", Formattable::integer(&value))?;
+    Ok(run(alloc, format, &context, out, err))
 }
 
-// A run is answered: at once or, where memory was refused, when it is asked again.
 #[test]
-fn refused_memory_is_told(rt: HostRuntime) {
+fn numbers_are_run(rt: HostRuntime) -> Result<(), Fail> {
     let alloc = rt.alloc();
-    let done = status_of_a_run(&rt, alloc) == 0 || status_of_a_run(&rt, alloc) == 0;
-    assert!(rt; done);
+    for (format, number, line) in NUMBERS {
+        let mut out = Vec::new(alloc);
+        let mut err = Vec::new(alloc);
+        assert_eq!(rt;
+            run_over(alloc, format, number, &mut out, &mut err)?,
+            0,
+            "{format}"
+        );
+        assert_eq!(rt; out.as_slice(), line.as_bytes(), "{format}");
+        assert!(rt; err.is_empty(), "{format}");
+    }
+    Ok(())
 }
 
 /// Whether a run writes its line, where both writers have their room before it. Else memory was

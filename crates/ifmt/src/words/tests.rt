@@ -93,13 +93,14 @@ fn words_mean_what_they_say(rt: HostRuntime) {
     }
 }
 
-/// A part of a list's text, how often it stands there, the rest of the text, and how many items that
-/// makes, each as long as the last: by hand, from the same rule.
-const LONG: [(&str, usize, &str, usize); 4] = [
-    ("a,", 9_999, "a", 10_000),
-    (",", 9_999, "", 10_000),
-    ("éé,", 999, "éé", 1_000),
-    ("a", 1_000_000, "", 1),
+/// A part of a list's text, how often it stands there, the rest of the text, and the items that that
+/// makes: a part of each, how often it stands there, and how many they are. By hand, from the same
+/// rule.
+const LONG: [(&str, usize, &str, &str, usize, usize); 4] = [
+    ("a,", 9_999, "a", "a", 1, 10_000),
+    (",", 9_999, "", "", 0, 10_000),
+    ("éé,", 999, "éé", "é", 2, 1_000),
+    ("a", 1_000_000, "", "a", 1_000_000, 1),
 ];
 
 /// A part of a text so often, and the rest.
@@ -115,12 +116,13 @@ fn long_text(alloc: Global, part: &str, count: usize, rest: &str) -> Result<Stri
 #[test]
 fn long_lists_are_split_at_commas(rt: HostRuntime) -> Result<(), Fail> {
     let alloc = rt.alloc();
-    for (part, count, rest, wanted) in LONG {
+    for (part, count, rest, item_part, times, wanted) in LONG {
         let text = long_text(alloc, part, count, rest)?;
+        let wanted_item = long_text(alloc, item_part, times, "")?;
         let parts = items(alloc, text.as_str())?;
         assert_eq!(rt; parts.len(), wanted, "of {part}");
         for item in &parts {
-            assert!(rt; wanted == 1 || *item == rest, "of {part}");
+            assert!(rt; *item == wanted_item.as_str(), "of {part}");
         }
     }
     Ok(())

@@ -1,0 +1,13 @@
+-- What a cell of a table shows: the enum of a user's own that the tests take as a value.
+use Rattle.std.specs.Prelude.{string_bytes}
+use Rattle.std.specs.Str.{chars}
+use Rattle.interpolator_render.specs.Views.{Shown, signed_number, some_text, nothing_implemented}
+use Rattle.interpolator_render.specs.declared.view.Bits.TheVariants.{B64}
+use Rattle.interpolator_examples.specs.declared.cells.Cell.{Cell}
+use Rattle.interpolator_examples.specs.declared.cells.Cell.TheVariants as cell
+
+-- its name or its count, and nothing where it is absent
+abbrev pub cell_shows : Cell → Shown
+cell_shows (cell.Name text) = some_text (chars (string_bytes text))
+cell_shows (cell.Count n) = signed_number n B64
+cell_shows cell.Absent = nothing_implemented

@@ -1,0 +1,33 @@
+//! A value of a user's own: an enum whose debug text is not its display text.
+
+use interpolator::{Spec, Trait, Value, View};
+
+/// How much a message matters.
+#[derive(Clone, Copy)]
+pub enum Level {
+    /// For who wants to know.
+    Info,
+    /// For who should know.
+    Warn,
+}
+
+impl Value for Level {
+    ghost use Rattle.interpolator_examples.specs.Levels.{level_shows};
+
+    ghost shows = { λ level t _. level_shows level t };
+
+    fn view(&self, t: Trait, _spec: &Spec) -> View<'_> {
+        match self {
+            Level::Info => match t {
+                Trait::Display => View::Text("info"),
+                Trait::Debug => View::Plain("Info"),
+                _ => View::NotImplemented,
+            },
+            Level::Warn => match t {
+                Trait::Display => View::Text("warn"),
+                Trait::Debug => View::Plain("Warn"),
+                _ => View::NotImplemented,
+            },
+        }
+    }
+}

@@ -1,0 +1,81 @@
+//! A record that is a context: its fields are found by their names.
+ghost use Rattle.std.specs.Prelude.{Some, None, if◌then◌else◌, codes};
+ghost use Rattle.std.specs.Str.{bytes_eq, encode_utf8_all};
+ghost use Rattle.interpolator.specs.Slots.{empty_slots, with_debug_display};
+
+use interpolator::{Context, Error, Formattable, Interpolate, Template, View, is_name};
+use std::alloc::Global;
+use std::test::Fail;
+
+/// What is logged.
+#[derive(Clone, Copy)]
+struct Entry<'a> {
+    level: View<'a>,
+    line: View<'a>,
+}
+
+impl<'a> Context for Entry<'a> {
+    type Object = View<'a>;
+
+    ghost finds = { λ entry name.
+        if bytes_eq (encode_utf8_all name) (codes "level")
+        then Some (with_debug_display empty_slots entry.level)
+        else if bytes_eq (encode_utf8_all name) (codes "line")
+        then Some (with_debug_display empty_slots entry.line)
+        else None };
+
+    fn get(&self, key: &str) -> Option<Formattable<'_, View<'a>>> {
+        if is_name(key, "level") {
+            Some(Formattable::debug_display(&self.level))
+        } else if is_name(key, "line") {
+            Some(Formattable::debug_display(&self.line))
+        } else {
+            None
+        }
+    }
+}
+
+impl<'a> Interpolate for Entry<'a> {}
+
+/// A record as a layout says that was read once.
+fn logged_by(alloc: Global, level: &str, line: u32, layout: &Template) -> Result<String, Error> {
+    let entry = Entry {
+        level: View::from(level),
+        line: View::from(line),
+    };
+    entry.format_template(alloc, layout)
+}
+
+/// A record as a layout says.
+fn logged(alloc: Global, level: &str, line: u32, layout: &str) -> Result<String, Error> {
+    let entry = Entry {
+        level: View::from(level),
+        line: View::from(line),
+    };
+    entry.format(alloc, layout)
+}
+
+// Expected texts by hand, from the layout and the fields.
+#[test]
+fn fields_by_name(rt: HostRuntime) -> Result<(), Fail> {
+    assert_eq!(rt;
+        logged(rt.alloc(), "INFO", 7, "[{level}] {line:>3}")?.as_str(),
+        "[INFO]   7"
+    );
+    let layout = Template::parse(rt.alloc(), "[{level}] {line:>3}")?;
+    for (level, line, text) in [("INFO", 7, "[INFO]   7"), ("WARN", 1234, "[WARN] 1234")] {
+        assert_eq!(rt; logged_by(rt.alloc(), level, line, &layout)?.as_str(), text);
+    }
+    for (format, absent) in [
+        ("{Level}", "Level"),
+        ("{leve}", "leve"),
+        ("{}", ""),
+        ("{line }", "line "),
+    ] {
+        match logged(rt.alloc(), "INFO", 7, format) {
+            Err(Error::MissingValue(name, 1)) => assert_eq!(rt; name.as_str(), absent),
+            _ => assert!(rt; false, "a missing name at {format}"),
+        }
+    }
+    Ok(())
+}
