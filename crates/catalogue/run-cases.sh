@@ -8,6 +8,7 @@ set -u
 
 here=$(cd "$(dirname "$0")" && pwd)
 name=catalogue
+wanted=16
 . "$here/../../.ci/cases.sh"
 
 # message WANTED WORD..: a message, which goes to the output, with status 0.
@@ -21,7 +22,6 @@ told() {
 }
 
 all_cases() {
-    cd "$room" || return
     printf '%s\n' '# greetings' '' 'hello = Hello {name}!' 'bye=  Bye, {name:>5}.' \
         'list = {x:i#({:?})#}' 'twice = first' 'twice = {a}={b}' >m.txt
     message 'Hello Zoë!' m.txt hello name=Zoë
@@ -32,6 +32,7 @@ all_cases() {
     told 'm.txt: no message `gone`' m.txt gone
     told 'm.txt: no message `# greetings`' m.txt '# greetings'
     told 'a value is `NAME=TEXT`' m.txt hello name
+    message 'Hello i!' m.txt hello a=1 b=2 c=3 d=4 e=5 f=6 g=7 h=8 name=i
     case_of closed file 3 '' '' m.txt hello name=Zoë
     case_of file full 3 '' '' m.txt gone
 
@@ -44,6 +45,12 @@ all_cases() {
         'broken.txt:5:12: error while parsing input: Width, precision, `-`, `+` and `#` are not supported for `i` at 5' \
         'broken.txt:6:4: error while parsing input: Format spec at 1 is nether closed with a `}`')" \
         broken.txt a x=1
+
+    printf '%s\n' 'é = {x' 'ok = {x}' 'ü = é{x}{y' >accents.txt
+    told "$(printf '%s\n' \
+        'accents.txt:1:6: error while parsing input: Format spec at 1 is nether closed with a `}`' \
+        'accents.txt:3:10: error while parsing input: Format spec at 6 is nether closed with a `}`')" \
+        accents.txt ok x=1
     case_of file file 2 '' ''
     case_of file file 2 '' '' m.txt
     case_of file file 2 '' '' none.txt hello

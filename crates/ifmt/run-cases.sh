@@ -9,6 +9,8 @@ set -u
 usage='usage: ifmt FORMAT [NAME=TEXT | NAME:=NUMBER | NAME[]=ITEM,ITEM..]'
 here=$(cd "$(dirname "$0")" && pwd)
 name=ifmt
+# the lines of `line_cases`, and the examples of README
+wanted=26
 . "$here/../../.ci/cases.sh"
 
 # A text, which goes to the output, with status 0.
@@ -52,10 +54,8 @@ line_cases() {
 # example TEXT WORD..: the program on the words writes this text, to either stream.
 example() {
     timeout 60 "$program" "${@:2}" >"$room/out" 2>&1
-    if [[ $(held "$room/out") == "${1}x" ]]; then
+    if is_text 'both streams' "$1" "$room/out" "${*:2} of README"; then
         passed=$((passed + 1))
-    else
-        fail "${*:2} of README: another text than there"
     fi
 }
 
@@ -65,7 +65,7 @@ readme_cases() {
     while IFS= read -r line; do
         if [[ $line == '$ ifmt '* || $line == end ]]; then
             if [[ -n $call ]]; then
-                eval "example \"\$text\" $call"
+                eval "example \"\$text\" $call" || fail "$call of README: the shell cannot read it"
                 count=$((count + 1))
             fi
             call=${line#'$ ifmt '}

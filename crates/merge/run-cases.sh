@@ -7,6 +7,7 @@ set -u
 
 here=$(cd "$(dirname "$0")" && pwd)
 name=merge
+wanted=19
 . "$here/../../.ci/cases.sh"
 
 # files TEMPLATE TABLE: what stands in the files `t` and `r`.
@@ -28,7 +29,6 @@ fault() {
 }
 
 all_cases() {
-    cd "$room" || return
     letters $'1;\n2;\n' $'{a};\n' $'a,b\n1,x\n2\n'
     letters '<é|  7>' '<{a}|{b:>3}>' $'a,b\r\né,7,more\r\n'
     letters '"{x}"' '{a:?}' $'a\n{x}'

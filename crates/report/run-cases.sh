@@ -7,6 +7,7 @@ set -u
 
 here=$(cd "$(dirname "$0")" && pwd)
 name=report
+wanted=8
 . "$here/../../.ci/cases.sh"
 
 # table WANTED TEXT: the report of a file with this text, which goes to the output, with status 0.
@@ -16,7 +17,6 @@ table() {
 }
 
 all_cases() {
-    cd "$room" || return
     table $'item   count\nbread      7\ncrème  -1234\ntotal  -1227\n' \
         $'item,count\nbread,7\ncrème,-1234\n'
     table $' n  t\n 1   \n20  é\n21   \n' $'n,t\n1,\n20,é\n'

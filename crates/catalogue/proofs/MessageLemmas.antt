@@ -1,14 +1,18 @@
 -- Lines that are checked one after the other, and lists made one after the other.
 use Rattle.std.proofs.Common.{◌≡◌, ℕ, ◌+◌, ◌<◌, Bool, true, false, cond, List, [], ◌∷◌, ◌++◌, take}
 use Rattle.std.proofs.Common.{length, get_or, map, Option, None, Some, refl, sym, ap, ◌∙◌, subst}
-use Rattle.std.proofs.Common.{reverse, arith}
+use Rattle.std.proofs.Common.{reverse, arith, append-nil, length-append, ◌⊎◌, inl, inr}
 use Rattle.std.specs.Borrow.{Bor}
-use Rattle.std.specs.List.{All, AllZip, find}
-use Rattle.std.specs.Option.{option_map}
-use Rattle.std.proofs.lemmas.List.{take_more, map-append, reverse-append, get_or_default}
+use Rattle.std.specs.List.{All, AllZip, concat, enumerate_from, find}
+use Rattle.std.specs.Option.{option_map, option_or}
+use Rattle.std.proofs.lemmas.List.{length-map, take_more, map-append, reverse-append, get_or_default}
+use Rattle.std.proofs.lemmas.List.Folds.{concat-append}
 use Rattle.std.proofs.lemmas.List.Elements.{All-append, All-cons}
 use Rattle.std.proofs.lemmas.Slice.Zip.{all_zipped_more}
-use Rattle.catalogue.specs.Messages.{IsSound, is_under, format_of, format_under}
+use Rattle.catalogue.specs.Messages.{IsSound, is_under, format_of, last_under, told_of_line}
+use Rattle.catalogue.specs.Messages.{told_of_lines, numbered, with_format}
+use Rattle.interpolator.specs.Faults.{Answer, Fault, fault, no_memory}
+use Rattle.places.specs.Places.{answer_place}
 
 module _ {A : Type 0} (xs : List A) (i : ℕ) (x : A) (within : i < length xs)
     (here : x ≡ get_or xs i x) where
@@ -31,64 +35,117 @@ pub zip_next : {A B : Type 0} (R : A → B → Type 0) (xs : List A) (i : ℕ) (
 zip_next R xs i d ys y within so_far more = zip_more xs i (get_or xs i d) within
     (get_or_default xs i d (get_or xs i d) within) R ys y so_far more
 
--- the format of the first line that passes, of a line and others
-first_format : (b : Bool) (y : List ℕ) (o : Option (List ℕ))
-    → option_map format_of (cond b (Some y) o)
-    ≡ cond b (Some (format_of y)) (option_map format_of o)
-first_format true y o = refl
-first_format false y o = refl
+-- a text with something at its end
+pub ends_in_some : (xs ys : List ℕ) (y : ℕ) → 0 < length (xs ++ (y ∷ ys))
+ends_in_some xs ys y = let n = length-append xs (y ∷ ys) in omega arith
 
--- the format under a key, after one more line
-under_more : (key : List ℕ) (ys : List (List ℕ)) (y : List ℕ) → format_under key (ys ++ (y ∷ []))
-    ≡ cond (is_under key y) (Some (format_of y)) (format_under key ys)
-under_more key ys y =
-    ap (λ (x : List (List ℕ)). option_map format_of (find (is_under key) x))
-    (reverse-append ys (y ∷ []))
-    ∙ first_format (is_under key y) y (find (is_under key) (reverse ys))
+-- none is not some
+none_some : {A : Type 0} (x : A) → None ≡ Some x → ⊥
+none_some x e = cc
 
--- a line that has the key is the last one
-here_more : (b : Bool) (format last : List ℕ) (before : Option (List ℕ))
-    → Some format ≡ cond b (Some last) None → Some format ≡ cond b (Some last) before
-here_more true format last before e = e
-here_more false format last before e = cc
+-- faults are told apart
+same_fault : (f g : Fault) → Some (fault f) ≡ Some (fault g) → f ≡ g
+same_fault f g e = cc
 
--- one that has not changes nothing
-before_more : (b : Bool) (last : List ℕ) (found before : Option (List ℕ))
-    → None ≡ cond b (Some last) None → found ≡ before → found ≡ cond b (Some last) before
-before_more true last found before e h = cc
-before_more false last found before e h = h
+-- lines and one more, each with its number
+numbers_more : (n : ℕ) (xs : List (List ℕ)) (x : List ℕ)
+    → enumerate_from n (xs ++ (x ∷ [])) ≡ enumerate_from n xs ++ ((n + length xs, x) ∷ [])
+numbers_more n [] x = let e : n ≡ n + 0 = omega arith in
+    ap {B = List (ℕ × List ℕ)} (λ k. (k, x) ∷ []) e
+numbers_more n (y ∷ ys) x = let e : n + 1 + length ys ≡ n + length (y ∷ ys) = omega arith in
+    ap {B = List (ℕ × List ℕ)} (λ l. (n, y) ∷ l) (numbers_more (n + 1) ys x
+    ∙ ap {B = List (ℕ × List ℕ)} (λ k. enumerate_from (n + 1) ys ++ ((k, x) ∷ [])) e)
 
-module _ (key : List ℕ) (seen : List (Bor (List ℕ))) (line : Bor (List ℕ)) where
+module _ (file key : List ℕ) (xs : List (List ℕ)) (x : List ℕ) where
+  -- what is told of lines and one more
+  pub told_more : told_of_lines file (xs ++ (x ∷ []))
+      ≡ told_of_lines file xs ++ told_of_line file (1 + length xs) x
+  told_more =
+      let g : ℕ × List ℕ → List ℕ = λ one. told_of_line file one.0 one.1 in
+      ap (λ (l : List (ℕ × List ℕ)). concat (map g l)) (numbers_more 1 xs x)
+      ∙ (ap (λ (l : List (List ℕ)). concat l)
+      (map-append g (numbered xs) ((1 + length xs, x) ∷ []))
+      ∙ (concat-append (map g (numbered xs)) (told_of_line file (1 + length xs) x ∷ [])
+      ∙ ap (λ (y : List ℕ). told_of_lines file xs ++ y)
+      (append-nil (told_of_line file (1 + length xs) x))))
+
+  -- the last line of a key among lines and one more
+  pub under_more : last_under key (xs ++ (x ∷ []))
+      ≡ cond (is_under key x) (Some (1 + length xs, x)) (last_under key xs)
+  under_more =
+      ap (λ (l : List (ℕ × List ℕ)). find (λ one. is_under key one.1) (reverse l))
+      (numbers_more 1 xs x)
+      ∙ ap (λ (l : List (ℕ × List ℕ)). find (λ one. is_under key one.1) l)
+      (reverse-append (numbered xs) ((1 + length xs, x) ∷ []))
+
+-- a fault that has a place, as a call told it, is the fault of what it means
+pub told_fault : (a : Answer) (o : Option Fault) (place : ℕ) → Some place ≡ answer_place a
+    → (a ≡ no_memory) ⊎ (Some a ≡ option_map fault o) → (f : Fault) × (a ≡ fault f) × (o ≡ Some f)
+told_fault no_memory o place has h = absurd (none_some place (sym has))
+told_fault (fault f) o place has (inl e) = cc
+told_fault (fault f) None place has (inr e) = cc
+told_fault (fault f) (Some g) place has (inr e) =
+    (f, refl, ap {B = Option Fault} (λ x. Some x) (same_fault g f (sym e)))
+
+-- one that is found among others, before them
+or_first : {A B : Type 0} (g : A → B) (b : Bool) (x : B) (one before : Option A) (o : Option B)
+    → option_map g one ≡ cond b (Some x) None → option_map g before ≡ o
+    → option_map g (option_or one before) ≡ cond b (Some x) o
+or_first g true x (Some y) before o e h = e
+or_first g false x (Some y) before o e h = cc
+or_first g true x None before o e h = cc
+or_first g false x None before o e h = h
+
+-- a line's format, where it has the key
+with_format_of : (b : Bool) (number : ℕ) (line : List ℕ) (o : Option (ℕ × List ℕ))
+    → option_map with_format (cond b (Some (number, line)) o)
+    ≡ cond b (Some (number, line, format_of line)) (option_map with_format o)
+with_format_of true number line o = refl
+with_format_of false number line o = refl
+
+module _ (file key : List ℕ) (seen : List (Bor (List ℕ))) (line : Bor (List ℕ)) (number : ℕ)
+    (told more new : List ℕ) (counted : number ≡ length seen) (pushed : new ≡ told ++ more) where
   -- the texts of the lines
-  texts : map (λ x. x.now) (seen ++ (line ∷ [])) ≡ map (λ x. x.now) seen ++ (line.now ∷ [])
-  texts = map-append (λ (x : Bor (List ℕ)). x.now) seen (line ∷ [])
+  abbrev texts : List (List ℕ)
+  texts = map (λ x. x.now) seen
 
-  -- the format under the key
-  under_texts : format_under key (map (λ x. x.now) (seen ++ (line ∷ [])))
-      ≡ cond (is_under key line.now) (Some (format_of line.now))
-      (format_under key (map (λ x. x.now) seen))
-  under_texts = ap (λ (x : List (List ℕ)). format_under key x) texts
-      ∙ under_more key (map (λ x. x.now) seen) line.now
+  -- those and one more
+  one_text : map (λ x. x.now) (seen ++ (line ∷ [])) ≡ texts ++ (line.now ∷ [])
+  one_text = map-append (λ (x : Bor (List ℕ)). x.now) seen (line ∷ [])
 
-  module _ (old new : ℕ) (kept : new ≡ 0 → old ≡ 0) where
-    -- one more line is sound
-    pub sound_more : (old ≡ 0 → All IsSound (map (λ x. x.now) seen)) → (new ≡ 0 → IsSound line.now)
-        → new ≡ 0 → All IsSound (map (λ x. x.now) (seen ++ (line ∷ [])))
-    sound_more before sound h = rw texts (All-append IsSound (map (λ x. x.now) seen) (line.now ∷ [])
-        (before (kept h)) (All-cons IsSound line.now [] (sound h) (λ k d t. absurd (omega arith))))
+  -- its number
+  its_number : 1 + length texts ≡ number + 1
+  its_number = let n = length-map seen (λ (x : Bor (List ℕ)). x.now) in omega arith
 
-    -- one more line has the key
-    pub found_here : (format : List ℕ)
-        → (new ≡ 0 → Some format ≡ cond (is_under key line.now) (Some (format_of line.now)) None)
-        → new ≡ 0 → Some format ≡ format_under key (map (λ x. x.now) (seen ++ (line ∷ [])))
-    found_here format here h = here_more (is_under key line.now) format (format_of line.now)
-        (format_under key (map (λ x. x.now) seen)) (here h) ∙ sym under_texts
+  -- what is told of them
+  pub told_next : told ≡ told_of_lines file texts → more ≡ told_of_line file (number + 1) line.now
+      → new ≡ told_of_lines file (map (λ x. x.now) (seen ++ (line ∷ [])))
+  told_next so_far one = rw (one_text, told_more file key texts line.now, its_number, pushed, so_far, one) refl
 
-    -- one more line has not
-    pub found_before : (found : Option (List ℕ))
-        → (new ≡ 0 → None ≡ cond (is_under key line.now) (Some (format_of line.now)) None)
-        → (old ≡ 0 → found ≡ format_under key (map (λ x. x.now) seen))
-        → new ≡ 0 → found ≡ format_under key (map (λ x. x.now) (seen ++ (line ∷ [])))
-    found_before found here before h = before_more (is_under key line.now)
-        (format_of line.now) found
-        (format_under key (map (λ x. x.now) seen)) (here h) (before (kept h)) ∙ sym under_texts
+  -- nothing is told of them
+  pub before_clean : length new ≡ 0 → length told ≡ 0
+  before_clean h = let n = ap length pushed in let m = length-append told more in omega arith
+
+  -- nor of the line
+  pub line_clean : length new ≡ 0 → length more ≡ 0
+  line_clean h = let n = ap length pushed in let m = length-append told more in omega arith
+
+  -- they are sound
+  pub sound_next : (length told ≡ 0 → All IsSound texts) → (length more ≡ 0 → IsSound line.now)
+      → length new ≡ 0 → All IsSound (map (λ x. x.now) (seen ++ (line ∷ [])))
+  sound_next so_far one h = rw one_text (All-append IsSound texts (line.now ∷ [])
+      (so_far (before_clean h)) (All-cons IsSound line.now [] (one (line_clean h))
+      (λ k d t. absurd (omega arith))))
+
+  -- the last of them under the key
+  pub found_next : {A : Type 0} (g : A → ℕ × List ℕ × List ℕ) (one before : Option A)
+      → (length told ≡ 0 → option_map g before ≡ option_map with_format (last_under key texts))
+      → (length more ≡ 0 → option_map g one
+      ≡ cond (is_under key line.now) (Some (number + 1, line.now, format_of line.now)) None)
+      → length new ≡ 0 → option_map g (option_or one before)
+      ≡ option_map with_format (last_under key (map (λ x. x.now) (seen ++ (line ∷ []))))
+  found_next g one before so_far here h =
+      or_first g (is_under key line.now) (number + 1, line.now, format_of line.now) one before _
+      (here (line_clean h)) (so_far (before_clean h))
+      ∙ sym (rw (one_text, under_more file key texts line.now, its_number)
+      (with_format_of (is_under key line.now) (number + 1) line.now (last_under key texts)))

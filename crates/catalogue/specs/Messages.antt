@@ -1,25 +1,28 @@
 -- What a file of messages says: its lines, their keys and formats, and a message. Texts are bytes.
-use Rattle.std.specs.Prelude.{◌≡◌, ◌⊎◌, ⊤, ℕ, Bool, true, not, ◌==◌, ◌&&◌, ◌||◌, ◌<◌, List, length}
-use Rattle.std.specs.Prelude.{reverse, Option, None, Some, Ok, string_bytes}
+use Rattle.std.specs.Prelude.{◌≡◌, ◌⊎◌, ℕ, Bool, true, not, ◌==◌, ◌&&◌, ◌||◌, ◌<◌, ◌+◌, ◌-◌}
+use Rattle.std.specs.Prelude.{nat_lt, List, [], ◌++◌, map, length, reverse, codes, string_bytes}
+use Rattle.std.specs.Prelude.{if◌then◌else◌, Option, None, Some, IsSome, Ok}
 use Rattle.std.specs.Borrow.{Bor}
-use Rattle.std.specs.List.{All, AllZip, find, position_or_len, before_first, after_first}
-use Rattle.std.specs.List.{slice_index}
-use Rattle.std.specs.Option.{option_map}
+use Rattle.std.specs.Fmt.{decimal}
+use Rattle.std.specs.List.{All, AllZip, concat, enumerate_from, find, position_or_len}
+use Rattle.std.specs.List.{before_first, after_first, slice_index}
 use Rattle.std.specs.Str.{bytes_eq, chars, trim, trim_start}
 use Rattle.std.specs.Str.Lines.{lines}
 use Rattle.std.specs.declared.string.String.{String}
 use Rattle.interpolator.specs.At.{outermost}
 use Rattle.interpolator.specs.Contexts.{found_by_pairs}
+use Rattle.interpolator.specs.Faults.{Fault, fault_place}
+use Rattle.interpolator.specs.FaultTexts.{fault_text}
 use Rattle.interpolator.specs.Meaning.Environments.{environment}
-use Rattle.interpolator.specs.Meaning.Meanings.{means}
+use Rattle.interpolator.specs.Meaning.Meanings.{Meaning, means}
 use Rattle.interpolator.specs.Meaning.Outcomes.{Formats}
 use Rattle.interpolator.specs.Slots.{slots_of, empty_slots, with_debug_display}
 use Rattle.interpolator.specs.Template.NodeChecks.{first_fault, text_faults}
 use Rattle.interpolator.specs.Views.{some_text}
 use Rattle.interpolator.specs.declared.Formattable.{Formattable}
+use Rattle.places.specs.Places.{begun_before}
 use Rattle.catalogue.specs.declared.messages.Answer.{Answer}
 use Rattle.catalogue.specs.declared.messages.Answer.TheVariants.{Message, Faults}
-use Rattle.std.specs.declared.alloc.Global.{Global}
 
 -- `=`
 abbrev pub is_equals : ℕ → Bool
@@ -37,6 +40,10 @@ is_passed_over line = length (trim line) == 0 || slice_index line 0 == hash
 abbrev pub HasEquals : List ℕ → Type 0
 HasEquals text = position_or_len is_equals text < length text
 
+-- the same, as a test
+abbrev pub has_equals : List ℕ → Bool
+has_equals text = nat_lt (position_or_len is_equals text) (length text)
+
 -- the key of a line, before its first `=`
 abbrev pub key_of : List ℕ → List ℕ
 key_of line = trim (before_first is_equals line)
@@ -45,18 +52,63 @@ key_of line = trim (before_first is_equals line)
 abbrev pub format_of : List ℕ → List ℕ
 format_of line = trim_start (after_first is_equals line)
 
+-- the first fault that a format has by itself
+abbrev pub own_fault : List ℕ → Option Fault
+own_fault format = first_fault (text_faults (outermost (chars format)))
+
 -- a line is sound: it says nothing, or its format has no fault of its own
 abbrev pub IsSound : List ℕ → Type 0
-IsSound line = (is_passed_over line ≡ true)
-    ⊎ (HasEquals line × (first_fault (text_faults (outermost (chars (format_of line)))) ≡ None))
+IsSound line =
+    (is_passed_over line ≡ true) ⊎ (HasEquals line × (own_fault (format_of line) ≡ None))
 
 -- whether a line has a message under a key
 abbrev pub is_under : List ℕ → List ℕ → Bool
 is_under key line = not (is_passed_over line) && bytes_eq (key_of line) key
 
--- the format under a key: that of the last of its lines
-abbrev pub format_under : List ℕ → List (List ℕ) → Option (List ℕ)
-format_under key some_lines = option_map format_of (find (is_under key) (reverse some_lines))
+-- the lines of a file, each with its number, from 1 on
+abbrev pub numbered : List (List ℕ) → List (ℕ × List ℕ)
+numbered some_lines = enumerate_from 1 some_lines
+
+-- the last line of a key, with its number
+abbrev pub last_under : List ℕ → List (List ℕ) → Option (ℕ × List ℕ)
+last_under key some_lines = find (λ one. is_under key one.1) (reverse (numbered some_lines))
+
+-- a line with its number, and its format
+abbrev pub with_format : ℕ × List ℕ → ℕ × List ℕ × List ℕ
+with_format one = (one.0, one.1, format_of one.1)
+
+-- the column of a byte of a line's format: how many characters of the line stand before it, and one
+abbrev pub column_in : List ℕ → List ℕ → ℕ → ℕ
+column_in line format place = length (chars line) - length (chars format)
+    + length (begun_before place (chars format)) + 1
+
+-- what is told of something in a file: the file, the line's number, the column, and what it is
+abbrev pub told_at : List ℕ → ℕ → ℕ → List ℕ → List ℕ
+told_at file number column what = file ++ (codes ":" ++ (decimal number ++ (codes ":"
+    ++ (decimal column ++ (codes ": " ++ (what ++ codes "\n"))))))
+
+-- what is told of a fault of a line's format
+abbrev pub told_of_fault : List ℕ → ℕ → List ℕ → Fault → List ℕ
+told_of_fault file number line f =
+    told_at file number (column_in line (format_of line) (fault_place f)) (fault_text f)
+
+-- what is told where a line's format has a fault or none
+abbrev pub told_of_format : List ℕ → ℕ → List ℕ → Option Fault → List ℕ
+told_of_format file number line None = []
+told_of_format file number line (Some f) = told_of_fault file number line f
+
+-- what is told of a line: nothing of one that is sound; else that it has no `=`, or its format's fault
+abbrev pub told_of_line : List ℕ → ℕ → List ℕ → List ℕ
+told_of_line file number line =
+    if is_passed_over line then []
+    else (if has_equals line
+    then told_of_format file number line (own_fault (format_of line))
+    else told_at file number 1 (codes "no `=`"))
+
+-- what is told of the lines of a file, in their order
+abbrev pub told_of_lines : List ℕ → List (List ℕ) → List ℕ
+told_of_lines file some_lines =
+    concat (map (λ one. told_of_line file one.0 one.1) (numbered some_lines))
 
 -- a word `NAME=TEXT` gives its text under its name, cut at its first `=`
 pub record Gives (word name text : List ℕ) : Type 0 where
@@ -70,27 +122,93 @@ pub record Shows (name text : Bor (List ℕ)) (pair : Bor (List ℕ) × Formatta
   pub same_name : pair.0 ≡ name
   pub same_text : slots_of pair.1 ≡ with_debug_display empty_slots text
 
+-- a value shows a text under a name, as a pair of a context
+abbrev pub ShowValues : List (Bor (List ℕ) × Bor (List ℕ))
+    → List (Bor (List ℕ) × Formattable (Bor (List ℕ))) → Type 0
+ShowValues values pairs = AllZip (λ value pair. Shows value.0 value.1 pair) values pairs
+
+-- what a format means over pairs
+abbrev pub message_means : List ℕ → List (Bor (List ℕ) × Formattable (Bor (List ℕ))) → Meaning
+message_means format pairs = means (λ text _ _. some_text (chars text.now))
+    (environment (found_by_pairs pairs)) (outermost (chars format))
+
 -- a message is what its format means over pairs of names and texts: it has no fault there
 pub record IsMade {Z : Type 0} (format : List ℕ) (values : List (Bor (List ℕ) × Bor (List ℕ)))
     (message : String Z) : Type 0 where
   pub pairs : List (Bor (List ℕ) × Formattable (Bor (List ℕ)))
-  pub shown : AllZip (λ value pair. Shows value.0 value.1 pair) values pairs
-  pub said : Formats (means (λ text _ _. some_text (chars text.now))
-      (environment (found_by_pairs pairs)) (outermost (chars format))) (Ok message)
+  pub shown : ShowValues values pairs
+  pub said : Formats (message_means format pairs) (Ok message)
 
--- the message under a key of a file, over words: every line is sound, and the format of the last
--- line of the key was made over what the words give
-pub record IsMessage {Y Z : Type 0} (file key : List ℕ) (words : List (String Y))
-    (message : String Z) : Type 0 where
-  pub sound : All IsSound (lines file)
-  pub format : List ℕ
-  pub under : format_under key (lines file) ≡ Some format
-  pub values : List (Bor (List ℕ) × Bor (List ℕ))
-  pub given : AllZip (λ word value. Gives (string_bytes word) value.0.now value.1.now)
-      words values
-  pub made : IsMade format values message
+-- a format has a fault over names and texts
+pub record HasFault (format : List ℕ) (values : List (Bor (List ℕ) × Bor (List ℕ))) (f : Fault)
+    : Type 0 where
+  pub pairs : List (Bor (List ℕ) × Formattable (Bor (List ℕ)))
+  pub shown : ShowValues values pairs
+  pub told : (message_means format pairs).fault ≡ Some f
 
--- where a message is answered, this holds of it
-abbrev pub IfMessage : Answer → (String Global → Type 0) → Type 0
-IfMessage (Message message) P = P message
-IfMessage (Faults faults) P = ⊤
+-- what is told of a format's fault: with the file and the line that it stands in
+pub record IsToldOf (file : List ℕ) (number : ℕ) (line format : List ℕ)
+    (values : List (Bor (List ℕ) × Bor (List ℕ))) (told : List ℕ) : Type 0 where
+  pub f : Fault
+  pub faulty : HasFault format values f
+  pub says : told ≡ told_at file number (column_in line format (fault_place f)) (fault_text f)
+
+-- a message, or what is told of its fault
+abbrev pub IsMadeOrTold : List ℕ → ℕ → List ℕ → List ℕ → List (Bor (List ℕ) × Bor (List ℕ))
+    → Answer → Type 0
+IsMadeOrTold file number line format values (Message message) = IsMade format values message
+IsMadeOrTold file number line format values (Faults told) =
+    IsToldOf file number line format values (string_bytes told)
+
+-- the words give names and texts, one each
+abbrev pub GiveValues : {Y : Type 0} → List (String Y) → List (Bor (List ℕ) × Bor (List ℕ)) → Type 0
+GiveValues words values =
+    AllZip (λ word value. Gives (string_bytes word) value.0.now value.1.now) words values
+
+module _ {Y : Type 0} (file text key : List ℕ) (words : List (String Y)) where
+  -- the message under a key of a file, over words: every line is sound, and the format of the last
+  -- line of the key was made over what the words give
+  pub record IsMessage {Z : Type 0} (message : String Z) : Type 0 where
+    pub sound : All IsSound (lines text)
+    pub number : ℕ
+    pub line : List ℕ
+    pub under : last_under key (lines text) ≡ Some (number, line)
+    pub values : List (Bor (List ℕ) × Bor (List ℕ))
+    pub given : GiveValues words values
+    pub made : IsMade (format_of line) values message
+
+  -- lines are not sound: all of their faults are told
+  pub record OfLines (told : List ℕ) : Type 0 where
+    pub some : 0 < length told
+    pub all : told ≡ told_of_lines file (lines text)
+
+  -- every line is sound, and none has the key
+  pub record OfKey (told : List ℕ) : Type 0 where
+    pub sound : All IsSound (lines text)
+    pub none : last_under key (lines text) ≡ None
+    pub says : told ≡ file ++ (codes ": no message `" ++ (key ++ codes "`\n"))
+
+  -- every line is sound, one has the key, and a word has no `=`
+  pub record OfWord (told : List ℕ) : Type 0 where
+    pub sound : All IsSound (lines text)
+    pub under : IsSome (last_under key (lines text))
+    pub not_all : ¬ All (λ word. HasEquals (string_bytes word)) words
+    pub says : told ≡ codes "a value is `NAME=TEXT`\n"
+
+  -- every line is sound, and the format of the last line of the key has a fault over what the words
+  -- give
+  pub record OfMessage (told : List ℕ) : Type 0 where
+    pub sound : All IsSound (lines text)
+    pub number : ℕ
+    pub line : List ℕ
+    pub under : last_under key (lines text) ≡ Some (number, line)
+    pub values : List (Bor (List ℕ) × Bor (List ℕ))
+    pub given : GiveValues words values
+    pub faulty : IsToldOf file number line (format_of line) values told
+
+  -- what is answered: the message; or what is wrong with the lines, else the key, a word or the
+  -- message
+  abbrev pub Answers : Answer → Type 0
+  Answers (Message message) = IsMessage message
+  Answers (Faults told) = OfLines (string_bytes told) ⊎ OfKey (string_bytes told)
+      ⊎ OfWord (string_bytes told) ⊎ OfMessage (string_bytes told)

@@ -1,17 +1,20 @@
 //! The messages of a file, checked, and the one that is asked for.
 
-ghost use Rattle.std.specs.Prelude.{◌≡◌, ◌<◌, IfOk, IfSome, OnOk, MatchOption, All, length, None};
-ghost use Rattle.std.specs.Prelude.{Some, if◌then◌else◌, string_bytes};
+ghost use Rattle.std.specs.Prelude.{◌≡◌, ◌<◌, ℕ, List, IfOk, IfSome, MatchOption, All};
+ghost use Rattle.std.specs.Prelude.{length, None, Some, if◌then◌else◌, string_bytes};
 ghost use Rattle.std.specs.List.{AllZip};
 ghost use Rattle.std.specs.Option.{option_map};
 ghost use Rattle.std.specs.Str.Lines.{lines};
-ghost use Rattle.catalogue.specs.Messages.{HasEquals, IsSound, IsMade, IsMessage, Gives, Shows};
-ghost use Rattle.catalogue.specs.Messages.{is_passed_over, is_under, key_of, format_of};
-ghost use Rattle.catalogue.specs.Messages.{format_under, IfMessage};
+ghost use Rattle.interpolator.specs.Faults.{Fault, answer_of, fault, fault_place};
+ghost use Rattle.interpolator.specs.FaultTexts.{fault_text};
+ghost use Rattle.catalogue.specs.Messages.{HasEquals, IsSound, Gives, GiveValues, ShowValues};
+ghost use Rattle.catalogue.specs.Messages.{is_passed_over, is_under, key_of, format_of, last_under};
+ghost use Rattle.catalogue.specs.Messages.{column_in, told_at, told_of_line, told_of_lines};
+ghost use Rattle.catalogue.specs.Messages.{with_format, IsMadeOrTold, Answers};
 
 use interpolator::{Error, Formattable, Interpolate, Pairs, Template};
-use places::{place_of, position_of};
-use std::alloc::Global;
+use places::{character_count, characters_before, place_of};
+use std::alloc::{AllocError, Global};
 
 /// What the program answers.
 #[derive(Drop)]
@@ -22,73 +25,73 @@ pub enum Answer {
     Faults(String),
 }
 
-/// A line of the file with a key and a format.
-#[derive(Clone, Copy)]
-struct Line<'a> {
-    /// From 1 on.
-    number: usize,
-    key: &'a str,
-    format: &'a str,
-    /// How many characters of the line stand before the format.
-    before: usize,
-}
-
-/// A line, and its format as a template.
+/// A line of the file that is sound and has the key.
 #[derive(Drop)]
 struct Found<'a> {
-    line: Line<'a>,
+    /// From 1 on.
+    number: usize,
+    text: &'a str,
     template: Template,
 }
 
-/// What is wrong at a place of the file, as a line.
+/// What is wrong with some lines, and the last of them under the key.
 #[derive(Drop)]
-struct Told<'a> {
-    file: &'a str,
-    faults: String,
+struct Verdict<'a> {
+    told: String,
+    found: Option<Found<'a>>,
 }
 
-impl Told<'_> {
-    /// Tells something of a line, at a column.
-    fn put(&mut self, alloc: Global, line: usize, column: usize, what: &str) -> Result<(), Error>
-        ensures { OnOk result (0 < length (string_bytes self.new.faults)) }
-    {
-        let file = self.file;
-        let told = format!(in alloc; "{file}:{line}:{column}: {what}")?;
-        self.faults.push_str(told.as_str())?;
-        self.faults.push('\n')?;
-        Ok(())
-    }
-
-    /// Tells the fault of a line's format.
-    fn put_fault(&mut self, alloc: Global, line: &Line<'_>, error: &Error) -> Result<(), Error>
-        ensures { OnOk result (0 < length (string_bytes self.new.faults)) }
-    {
-        let column = column_of(line, place_of(error).unwrap_or(0));
-        let what = format!(in alloc; "{error}")?;
-        self.put(alloc, line.number, column, what.as_str())
-    }
-}
-
-/// The key and the format of a line, if it has an `=`.
-fn line_of(number: usize, text: &str) -> Option<Line<'_>>
-    ensures none { MatchOption result (¬ HasEquals text.now) (λ _. HasEquals text.now) }
-    ensures key { IfSome result (λ line. line.key.now ≡ key_of text.now) }
-    ensures format { IfSome result (λ line. line.format.now ≡ format_of text.now) }
+/// Something of a line of the file, at a column, as it is told.
+fn told_at(
+    alloc: Global,
+    file: &str,
+    number: usize,
+    column: usize,
+    what: &str,
+) -> Result<String, AllocError>
+    ensures told { IfOk result (λ told.
+        string_bytes told ≡ told_at file.now number column what.now) }
+    ensures some { IfOk result (λ told. 0 < length (string_bytes told)) }
 {
-    let (key, format) = text.split_once('=')?;
-    let format = format.trim_start();
-    Some(Line {
-        number,
-        key: key.trim(),
-        format,
-        before: text.chars().count().saturating_sub(format.chars().count()),
-    })
+    let told = format!(in alloc; "{file}:{number}:{column}: {what}\n")?;
+    Ok(told)
 }
 
 /// The column, from 1 on, of a byte of a line's format.
-fn column_of(line: &Line<'_>, place: usize) -> usize {
-    line.before
-        .saturating_add(position_of(line.format, place).column)
+fn column_of(line: &str, format: &str, place: usize) -> usize
+    ensures { result ≡ column_in line.now format.now place }
+{
+    let before = character_count(line).saturating_sub(character_count(format));
+    before + characters_before(format, place) + 1
+}
+
+/// The fault of a line's format, as it is told.
+fn told_of_fault(
+    alloc: Global,
+    file: &str,
+    number: usize,
+    line: &str,
+    format: &str,
+    error: &Error,
+) -> Result<String, AllocError>
+    ensures told { IfOk result (λ told. (f : Fault) → answer_of error.now ≡ fault f →
+        string_bytes told
+        ≡ told_at file.now number (column_in line.now format.now (fault_place f)) (fault_text f)) }
+    ensures some { IfOk result (λ told. 0 < length (string_bytes told)) }
+{
+    let column = column_of(line, format, place_of(error).unwrap_or(0));
+    let what = format!(in alloc; "{error}")?;
+    told_at(alloc, file, number, column, what.as_str())
+}
+
+/// The key and the format of a line, if it has an `=`.
+fn line_of(text: &str) -> Option<(&str, &str)>
+    ensures none { MatchOption result (¬ HasEquals text.now) (λ _. HasEquals text.now) }
+    ensures key { IfSome result (λ line. line.0.now ≡ key_of text.now) }
+    ensures format { IfSome result (λ line. line.1.now ≡ format_of text.now) }
+{
+    let (key, format) = text.split_once('=')?;
+    Some((key.trim(), format.trim_start()))
 }
 
 /// Whether a line has no message.
@@ -102,58 +105,70 @@ fn is_passed_over(line: &str) -> bool
 /// this is told.
 fn checked_line<'a>(
     alloc: Global,
-    told: &mut Told<'_>,
+    file: &str,
     number: usize,
     text: &'a str,
     key: &str,
-) -> Result<Option<Found<'a>>, Error>
-    ensures kept { OnOk result (length (string_bytes told.new.faults) ≡ 0
-        → length (string_bytes told.old.faults) ≡ 0) }
-    ensures sound { OnOk result (length (string_bytes told.new.faults) ≡ 0 → IsSound text.now) }
-    ensures found { IfOk result (λ found. length (string_bytes told.new.faults) ≡ 0
-        → option_map (λ one. one.template) found
-        ≡ (if is_under key.now text.now then Some (format_of text.now) else None)) }
+) -> Result<Verdict<'a>, Error>
+    ensures told { IfOk result (λ verdict.
+        string_bytes verdict.told ≡ told_of_line file.now number text.now) }
+    ensures sound { IfOk result (λ verdict. length (string_bytes verdict.told) ≡ 0
+        → IsSound text.now) }
+    ensures found { IfOk result (λ verdict. length (string_bytes verdict.told) ≡ 0
+        → option_map {U = ℕ × List ℕ × List ℕ}
+        (λ one. (one.number, one.text.now, one.template)) verdict.found
+        ≡ (if is_under key.now text.now then Some (number, text.now, format_of text.now)
+        else None)) }
 {
+    let told = String::new(alloc);
     if is_passed_over(text) {
-        return Ok(None);
+        return Ok(Verdict { told, found: None });
     }
-    let Some(line) = line_of(number, text) else {
-        told.put(alloc, number, 1, "no `=`")?;
-        return Ok(None);
+    let Some((its_key, format)) = line_of(text) else {
+        let told = told_at(alloc, file, number, 1, "no `=`")?;
+        return Ok(Verdict { told, found: None });
     };
-    let template = Template::parse(alloc, line.format)?;
+    let template = Template::parse(alloc, format)?;
     if let Err(error) = template.check() {
-        told.put_fault(alloc, &line, &error)?;
-        return Ok(None);
+        let told = told_of_fault(alloc, file, number, text, format, &error)?;
+        return Ok(Verdict { told, found: None });
     }
-    if line.key == key {
-        Ok(Some(Found { line, template }))
+    if its_key == key {
+        let found = Some(Found {
+            number,
+            text,
+            template,
+        });
+        Ok(Verdict { told, found })
     } else {
-        Ok(None)
+        Ok(Verdict { told, found: None })
     }
 }
 
 /// Checks each line, and finds the last one under the key.
-fn checked<'a>(
-    alloc: Global,
-    told: &mut Told<'_>,
-    text: &'a str,
-    key: &str,
-) -> Result<Option<Found<'a>>, Error>
-    ensures sound { OnOk result (length (string_bytes told.new.faults) ≡ 0
+fn checked<'a>(alloc: Global, file: &str, text: &'a str, key: &str) -> Result<Verdict<'a>, Error>
+    ensures told { IfOk result (λ verdict.
+        string_bytes verdict.told ≡ told_of_lines file.now (lines text.now)) }
+    ensures sound { IfOk result (λ verdict. length (string_bytes verdict.told) ≡ 0
         → All IsSound (lines text.now)) }
-    ensures found { IfOk result (λ found. length (string_bytes told.new.faults) ≡ 0
-        → option_map (λ one. one.template) found ≡ format_under key.now (lines text.now)) }
+    ensures found { IfOk result (λ verdict. length (string_bytes verdict.told) ≡ 0
+        → option_map {U = ℕ × List ℕ × List ℕ}
+        (λ one. (one.number, one.text.now, one.template)) verdict.found
+        ≡ option_map with_format (last_under key.now (lines text.now))) }
 {
+    let mut told = String::new(alloc);
     let mut found = None;
     let mut number = 0usize;
     for text in text.lines() {
-        number = number.saturating_add(1);
-        if let Some(line) = checked_line(alloc, told, number, text, key)? {
-            found = Some(line);
-        }
+        number += 1;
+        let Verdict {
+            told: more,
+            found: one,
+        } = checked_line(alloc, file, number, text, key)?;
+        told.push_str(more.as_str())?;
+        found = one.or(found);
     }
-    Ok(found)
+    Ok(Verdict { told, found })
 }
 
 /// The name and the text of a word `NAME=TEXT`, if it has an `=`.
@@ -166,9 +181,9 @@ fn value_of(word: &str) -> Option<(&str, &str)>
 
 /// The name and the text of each word `NAME=TEXT`; `None` where a word has no `=`.
 fn values_of(alloc: Global, words: &[String]) -> Result<Option<Vec<(&str, &str)>>, Error>
-    ensures { IfOk result (λ found. IfSome found (λ values.
-        AllZip (λ word value. Gives (string_bytes word) value.0.now value.1.now)
-        words.now values.items)) }
+    ensures { IfOk result (λ found. MatchOption found
+        (¬ All (λ word. HasEquals (string_bytes word)) words.now)
+        (λ values. GiveValues words.now values.items)) }
 {
     let mut values = Vec::with_capacity(alloc, words.len())?;
     for word in words {
@@ -185,8 +200,7 @@ fn pairs_of<'a>(
     alloc: Global,
     values: &'a [(&'a str, &'a str)],
 ) -> Result<Vec<(&'a str, Formattable<'a, &'a str>)>, Error>
-    ensures { IfOk result (λ pairs.
-        AllZip (λ value pair. Shows value.0 value.1 pair) values.now pairs.items) }
+    ensures { IfOk result (λ pairs. ShowValues values.now pairs.items) }
 {
     let mut pairs = Vec::with_capacity(alloc, values.len())?;
     for value in values {
@@ -198,21 +212,24 @@ fn pairs_of<'a>(
 /// The message of a line, or its fault.
 fn message(
     alloc: Global,
-    told: &mut Told<'_>,
+    file: &str,
     found: &Found<'_>,
     values: &[(&str, &str)],
-) -> Result<Option<String>, Error>
-    ensures { IfOk result (λ made. IfSome made (λ message.
-        IsMade found.now.template values.now message)) }
+) -> Result<Answer, Error>
+    ensures { IfOk result (λ answer. IsMadeOrTold file.now found.now.number found.now.text.now
+        found.now.template values.now answer) }
 {
     let pairs = pairs_of(alloc, values)?;
     match Pairs(&pairs).format_template(alloc, &found.template) {
-        Ok(message) => Ok(Some(message)),
-        Err(Error::NoMemory) => Err(Error::NoMemory),
-        Err(error) => {
-            told.put_fault(alloc, &found.line, &error)?;
-            Ok(None)
-        }
+        Ok(message) => Ok(Answer::Message(message)),
+        Err(error) => match place_of(&error) {
+            None => Err(error),
+            Some(_) => {
+                let format = found.template.text();
+                let told = told_of_fault(alloc, file, found.number, found.text, format, &error)?;
+                Ok(Answer::Faults(told))
+            }
+        },
     }
 }
 
@@ -232,26 +249,19 @@ pub fn look_up(
     key: &str,
     words: &[String],
 ) -> Result<Answer, Error>
-    ensures { IfOk result (λ answer. IfMessage answer (IsMessage text.now key.now words.now)) }
+    ensures { IfOk result (λ answer. Answers file.now text.now key.now words.now answer) }
 {
-    let mut told = Told {
-        file,
-        faults: String::new(alloc),
-    };
-    let found = checked(alloc, &mut told, text, key)?;
-    if !told.faults.is_empty() {
-        return Ok(Answer::Faults(told.faults));
+    let Verdict { told, found } = checked(alloc, file, text, key)?;
+    if !told.is_empty() {
+        return Ok(Answer::Faults(told));
     }
     let Some(found) = found else {
-        let faults = format!(in alloc; "{file}: no message `{key}`\n")?;
-        return Ok(Answer::Faults(faults));
+        let told = format!(in alloc; "{file}: no message `{key}`\n")?;
+        return Ok(Answer::Faults(told));
     };
     let Some(values) = values_of(alloc, words)? else {
-        let faults = String::from_str(alloc, "a value is `NAME=TEXT`\n")?;
-        return Ok(Answer::Faults(faults));
+        let told = String::from_str(alloc, "a value is `NAME=TEXT`\n")?;
+        return Ok(Answer::Faults(told));
     };
-    match message(alloc, &mut told, &found, &values)? {
-        Some(message) => Ok(Answer::Message(message)),
-        None => Ok(Answer::Faults(told.faults)),
-    }
+    message(alloc, file, &found, &values)
 }

@@ -1,7 +1,7 @@
 -- The fields of a line as pairs, one letter, and letters one after the other.
 use Rattle.std.proofs.Common.{◌≡◌, inl, inr, ℕ, ◌+◌, ◌<◌, List, [], ◌∷◌, ◌++◌, length, get_or}
 use Rattle.std.proofs.Common.{map, drop, Option, None, Some, Ok, Err, Result, refl, sym, ap, ◌∙◌, subst}
-use Rattle.std.proofs.Common.{option_map, append-nil, length-drop, arith, ◌-◌}
+use Rattle.std.proofs.Common.{Bool, true, false, ◌⊎◌, option_map, append-nil, length-drop, arith, ◌-◌}
 use Rattle.std.specs.Borrow.{Bor}
 use Rattle.std.specs.List.{AllZip, concat, slice_get, zip}
 use Rattle.std.specs.Option.{unwrap_or}
@@ -13,13 +13,14 @@ use Rattle.std.proofs.lemmas.Slice.Zip.{all_zipped_more}
 use Rattle.std.proofs.lemmas.Option.{slice_get_read}
 use Rattle.std.proofs.lemmas.Grind.{get_or_after_one}
 use Rattle.interpolator.specs.At.{text_of}
-use Rattle.interpolator.specs.Faults.{Fault, answered, fault}
+use Rattle.interpolator.specs.Faults.{Answer, Fault, answer_of, answered, fault, no_memory}
 use Rattle.interpolator.specs.Meaning.Meanings.{Meaning}
 use Rattle.interpolator.specs.Meaning.Outcomes.{Outcome}
 use Rattle.interpolator.specs.Written.{Written}
 use Rattle.interpolator.specs.declared.Error.{Error}
 use Rattle.interpolator.specs.declared.Formattable.{Formattable}
-use Rattle.merge.specs.Letters.{AreLetters, IsLetter, PutsLetter, ShowFields, letter_means}
+use Rattle.merge.specs.Letters.{AreLetters, FailsWith, IsLetter, PutsLetter, ShowFields}
+use Rattle.merge.specs.Letters.{letter_means}
 
 -- one more of each list, of which the first is read
 pub one_more : {A B C : Type 0} (R : B → C → Type 0) (v : A → B) (xs : List A) (ys : List C) (x : A)
@@ -67,17 +68,46 @@ finished m old new (inl f) = (none_told m.fault f.told, f.all.appended)
 finished m old new (inr (inl r)) = absurd (none_some _ r.told)
 finished m old new (inr (inr w)) = absurd (none_some _ w.told)
 
--- a call that writes what a template means over a line's pairs puts its letter
+-- the flag of a refusal does not stand
+not_refused : (flag : Bool) → flag ≡ true → flag ≡ false → ⊥
+not_refused flag up down = cc
+
+-- what memory is wanted for
+same_answer : (a b : Answer) → Some a ≡ Some b → a ≡ b
+same_answer a b e = cc
+
+-- a call that answers an error where the writer did not refuse: the meaning's fault, or that memory
+-- was refused
+failed : (m : Meaning) (old new : Written) (error : Error) → new.refused ≡ false
+    → Outcome m old new (Some (answer_of error))
+    → (answer_of error ≡ no_memory) ⊎ (Some (answer_of error) ≡ option_map fault m.fault)
+failed m old new error down (inl f) = inr f.told
+failed m old new error down (inr (inl r)) = absurd (not_refused new.refused r.flag down)
+failed m old new error down (inr (inr w)) = inl (same_answer _ _ w.told)
+
+-- the fault of a line's letter, by pairs that show its fields
+as_fault : (template : List ℕ) (names : List (List ℕ)) (line : List ℕ) (error : Error)
+    (pairs : List (Bor (List ℕ) × Formattable (Bor (List ℕ)))) → ShowFields names line pairs
+    → (answer_of error ≡ no_memory)
+    ⊎ (Some (answer_of error) ≡ option_map fault (letter_means template pairs).fault)
+    → FailsWith template names line error
+as_fault template names line error pairs shown (inl e) = inl e
+as_fault template names line error pairs shown (inr e) =
+    inr (record { pairs = pairs; shown = shown; told = e })
+
+-- a call that writes what a template means over a line's pairs, where the writer did not refuse, puts
+-- its letter
 pub letter_put : (template : List ℕ) (names : List (List ℕ)) (line : List ℕ)
     (pairs : List (Bor (List ℕ) × Formattable (Bor (List ℕ)))) (old new : Written)
     (result : Result (Unit {0}) Error) → ShowFields names line pairs
-    → Outcome (letter_means template pairs) old new (answered result)
+    → Outcome (letter_means template pairs) old new (answered result) → new.refused ≡ false
     → PutsLetter template names line old.text new.text result
-letter_put template names line pairs old new (Ok _) shown h =
+letter_put template names line pairs old new (Ok _) shown h down =
     let done = finished (letter_means template pairs) old new h in
     (_, record { pairs = pairs; shown = shown; sound = done.0; said = refl }, done.1)
-letter_put template names line pairs old new (Err error) shown h =
-    inr (record { pairs = pairs; shown = shown; old = old; new = new; answered = h })
+letter_put template names line pairs old new (Err error) shown h down =
+    as_fault template names line error pairs shown
+    (failed (letter_means template pairs) old new error down h)
 
 -- one letter more
 pub letters_more : {A : Type 0} (template : List ℕ) (names : List (List ℕ)) (v : A → List ℕ)

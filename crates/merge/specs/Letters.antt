@@ -1,20 +1,18 @@
 -- What the letters of a template and a table are. Template, table, lines and fields are bytes, and
 -- letters are characters.
 use Rattle.std.specs.Prelude.{◌≡◌, ◌⊎◌, ◌-◌, ℕ, Bool, ◌==◌, List, [], ◌++◌, drop, take, get_or}
-use Rattle.std.specs.Prelude.{None, Some, Result, MatchResult}
+use Rattle.std.specs.Prelude.{◌<◌, None, Some, Result, MatchResult, option_map}
 use Rattle.std.specs.Borrow.{Bor}
 use Rattle.std.specs.List.{AllZip, concat, slice_get, slice_split, zip}
 use Rattle.std.specs.Str.{chars}
 use Rattle.std.specs.Str.Lines.{lines}
 use Rattle.interpolator.specs.At.{outermost, text_of}
 use Rattle.interpolator.specs.Contexts.{found_by_pairs}
-use Rattle.interpolator.specs.Faults.{answer_of, no_memory}
+use Rattle.interpolator.specs.Faults.{answer_of, fault, no_memory}
 use Rattle.interpolator.specs.Meaning.Environments.{environment}
 use Rattle.interpolator.specs.Meaning.Meanings.{Meaning, means}
-use Rattle.interpolator.specs.Meaning.Outcomes.{Outcome}
 use Rattle.interpolator.specs.Slots.{slots_of, empty_slots, with_debug_display}
 use Rattle.interpolator.specs.Views.{some_text}
-use Rattle.interpolator.specs.Written.{Written}
 use Rattle.interpolator.specs.declared.Error.{Error}
 use Rattle.interpolator.specs.declared.Formattable.{Formattable}
 
@@ -68,16 +66,14 @@ pub record AreLetters (template : List ℕ) (names some_lines : List (List ℕ))
   pub each : AllZip (IsLetter template names) some_lines letters
   pub all : text ≡ concat letters
 
--- an error is one that writing the letter of a line may answer
+-- an error is the fault of a line's letter: that of what the template means over its fields
 pub record IsFault (template : List ℕ) (names : List (List ℕ)) (line : List ℕ) (error : Error)
     : Type 0 where
   pub pairs : List (Bor (List ℕ) × Formattable (Bor (List ℕ)))
   pub shown : ShowFields names line pairs
-  pub old : Written
-  pub new : Written
-  pub answered : Outcome (letter_means template pairs) old new (Some (answer_of error))
+  pub told : Some (answer_of error) ≡ option_map fault (letter_means template pairs).fault
 
--- a letter fails with an error: one that writing it may answer, or that memory was refused before
+-- a letter fails with an error: its fault, or that memory was refused
 abbrev pub FailsWith : List ℕ → List (List ℕ) → List ℕ → Error → Type 0
 FailsWith template names line error =
     (answer_of error ≡ no_memory) ⊎ IsFault template names line error
@@ -89,9 +85,11 @@ PutsLetter template names line old new result = MatchResult result
     (λ _. (letter : List ℕ) × IsLetter template names line letter × (new ≡ old ++ letter))
     (FailsWith template names line)
 
--- the letter of a line, which is counted from 1, fails with an error, and each line before has one
+-- the letter of a line after the first, which are counted from 1, fails with an error, and each line
+-- between has one
 pub record FailsAt (template table : List ℕ) (row : ℕ) (error : Error) : Type 0 where
   pub line : List ℕ
+  pub after_first : 1 < row
   pub at : slice_get (lines table) (row - 1) ≡ Some line
   pub fails : FailsWith template (names_of table) line error
   pub before : List ℕ

@@ -7,7 +7,7 @@ ghost use Rattle.interpolator.specs.Faults.{answer_of, no_memory};
 ghost use Rattle.merge.specs.Letters.{fields_of, names_of, rows_of, Shows, AreLetters};
 ghost use Rattle.merge.specs.Letters.{FailsAt, PutsLetter};
 
-use interpolator::{Error, Formattable, Interpolate, Pairs, Template, TextBuffer};
+use interpolator::{Error, Formattable, Interpolate, Pairs, Template, TextBuffer, TextWrite};
 use std::alloc::{AllocError, Global};
 
 /// Why there are no letters.
@@ -68,7 +68,8 @@ fn pairs_of<'a>(
     Ok(pairs)
 }
 
-/// Writes the letter of a line, whose fields have these names.
+/// Writes the letter of a line, whose fields have these names. Where the buffer refuses a text, memory
+/// was refused.
 fn write_letter<'a>(
     alloc: Global,
     out: &mut TextBuffer,
@@ -81,7 +82,11 @@ fn write_letter<'a>(
 {
     let fields = fields_of(alloc, line)?;
     let pairs = pairs_of(alloc, &*names, &fields)?;
-    Pairs(&pairs).write_template_to(alloc, out, template)
+    let answer = Pairs(&pairs).write_template_to(alloc, out, template);
+    if out.refused() {
+        return Err(Error::NoMemory);
+    }
+    answer
 }
 
 /// A letter for each line of the table after the first, which names the fields. The template is

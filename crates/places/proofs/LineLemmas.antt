@@ -2,7 +2,7 @@
 -- line.
 use Rattle.std.proofs.Common.{◌≡◌, ◌≢◌, ℕ, ◌<◌, ◌≤◌, ◌+◌, ◌-◌, not, cond, List, [], ◌∷◌, ◌++◌}
 use Rattle.std.proofs.Common.{length, take, refl, sym, ◌∙◌, ap, arith, append-nil, append_assoc}
-use Rattle.std.proofs.Common.{length-append}
+use Rattle.std.proofs.Common.{length-append, Bool, true, false}
 use Rattle.std.specs.Prelude.{◌==◌, reverse, encode_utf8}
 use Rattle.std.specs.Char.{len_utf8}
 use Rattle.std.specs.List.{take_while, prefix_len}
@@ -165,3 +165,26 @@ last_line_fits text done rest after c column e h k =
     let s = last_line_short done in let t = length-le-encodes done in
     let p = ap length h in let q = length-append (encode_utf8 c) after in
     let b = length-encode c in let d = (len_utf8_bounds c).0 in omega arith
+
+-- a text has no more characters than bytes
+pub characters_short : (text : List ℕ) → IsUtf8 text → length (chars text) ≤ length text
+characters_short text u =
+    let e = ap length (encodes-chars text u) in let n = length-le-encodes (chars text) in omega arith
+
+-- none, or one before others
+none_or_one : (b : Bool) (c : ℕ) (xs cs : List ℕ) → length xs ≤ length cs
+    → length (cond b [] (c ∷ xs)) ≤ length (c ∷ cs)
+none_or_one true c xs cs h = omega arith
+none_or_one false c xs cs h = omega (arith, h)
+
+-- no more characters begin before a place than there are
+begun_fewer : (place : ℕ) (cs : List ℕ) → length (begun_before place cs) ≤ length cs
+begun_fewer place [] = omega arith
+begun_fewer place (c ∷ cs) =
+    none_or_one (place == 0) c _ cs (begun_fewer (place - len_utf8 c) cs)
+
+-- nor than there are bytes
+pub begun_short : (place : ℕ) (text : List ℕ) → IsUtf8 text
+    → length (begun_before place (chars text)) ≤ length text
+begun_short place text u =
+    let n = begun_fewer place (chars text) in let m = characters_short text u in omega arith

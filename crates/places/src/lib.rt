@@ -1,7 +1,7 @@
 //! Where the fault of a format stands: its byte, and the line and the column of a byte.
 #![tactic(auto)]
 
-ghost use Rattle.std.specs.Prelude.{◌≡◌, ◌+◌, length, Option, None, Some};
+ghost use Rattle.std.specs.Prelude.{◌≡◌, ◌≤◌, ◌+◌, length, Option, None, Some};
 ghost use Rattle.std.specs.Str.{chars};
 ghost use Rattle.interpolator_syntax.specs.Faults.{answer_of, parse_fault_of, parse_place};
 ghost use Rattle.places.specs.Places.{answer_place, begun_before, lines_ended, last_line};
@@ -78,6 +78,22 @@ fn column_at_end(text: &str) -> usize
     column
 }
 
+/// How many characters a text has.
+pub fn character_count(text: &str) -> usize
+    ensures count { result ≡ length (chars text.now) }
+    ensures short { result ≤ length text.now }
+{
+    text.chars().count()
+}
+
+/// How many characters of a text begin before a byte. A byte past the text's end is taken as its end.
+pub fn characters_before(text: &str, place: usize) -> usize
+    ensures count { result ≡ length (begun_before place (chars text.now)) }
+    ensures short { result ≤ length text.now }
+{
+    character_count(text_before(text, place))
+}
+
 /// The line and the column of a byte of a text, from 1 on: by the characters that begin before it.
 /// A byte past the text's end is taken as its end. Columns count characters.
 pub fn position_of(text: &str, place: usize) -> Position
@@ -109,6 +125,9 @@ mod tests {
             let position = position_of("a\né{x}\n\nb", place);
             assert_eq!(rt; position, Position { line, column }, "at {place}");
         }
+        assert_eq!(rt; character_count("é{x}"), 4);
+        assert_eq!(rt; characters_before("é{x}", 2), 1);
+        assert_eq!(rt; characters_before("é{x}", 9), 4);
         Ok(())
     }
 

@@ -1,11 +1,14 @@
-use Rattle.std.proofs.Common.{◌≡◌, length, map, All, string_bytes}
+use Rattle.std.proofs.Common.{◌≡◌, ℕ, List, length, map, All, string_bytes}
 use Rattle.std.specs.Option.{option_map}
-use Rattle.catalogue.specs.Messages.{IsSound, format_under}
+use Rattle.catalogue.specs.Messages.{IsSound, last_under, told_of_lines, with_format}
 use Rattle.catalogue.proofs.messages.checked.Given as goal
 
 abbrev pub invariant-loop-text : goal.invariant-loop-text
 invariant-loop-text l = record {
-  sound : length (string_bytes l.told.faults) ≡ 0 → All IsSound (map (λ x. x.now) l.yielded);
-  found : length (string_bytes l.told.faults) ≡ 0 → option_map (λ one. one.template) l.found
-      ≡ format_under l.key (map (λ x. x.now) l.yielded);
+  counted : l.number ≡ length l.yielded;
+  told : string_bytes l.told ≡ told_of_lines l.file (map (λ x. x.now) l.yielded);
+  sound : length (string_bytes l.told) ≡ 0 → All IsSound (map (λ x. x.now) l.yielded);
+  found : length (string_bytes l.told) ≡ 0 → option_map {U = ℕ × List ℕ × List ℕ}
+      (λ one. (one.number, one.text.now, one.template)) l.found
+      ≡ option_map with_format (last_under l.key (map (λ x. x.now) l.yielded));
 }

@@ -1,15 +1,23 @@
-use Rattle.std.proofs.Common.{◌≡◌, length, sym, arith, string_bytes}
+use Rattle.std.proofs.Common.{◌≡◌, inl, inr, length, arith, string_bytes}
 use Rattle.std.proofs.lemmas.Bool.Decides.{nat_tests}
+use Rattle.catalogue.proofs.AnswerLemmas.{answers_message, found_under, none_under}
 use Rattle.catalogue.proofs.messages.look_up.Goals as goal
 
-pub returns-in-Some-3 : goal.returns-in-Some-3
-returns-in-Some-3 c =
-    let clean : length (string_bytes c.checked.new.told.faults) ≡ 0 = grind (arith, nat_tests) in
-    record {
-      sound = c.in_ok-found.ensures.sound clean;
-      format = c.in-Some.found.template;
-      under = sym (rw c.in-Some.is at (c.in_ok-found.ensures.found clean));
-      values = c.in-Some-2.values.items;
-      given = rw c.in-Some-2.is at c.in_ok-values.ensures;
-      made = rw (c.in-Some-3.is, c.deref.ensures.value) at c.in_ok-message.ensures;
-    }
+pub returns : goal.returns
+returns c =
+    let clean : length (string_bytes c.in_ok-told.field-0.told) ≡ 0 = grind (arith, nat_tests) in
+    let line = found_under c.in-Some.found.number c.in-Some.found.text.now
+    c.in-Some.found.template _ (rw c.in-Some.is at (c.in_ok-told.ensures.found clean)) in
+    answers_message c.args.file.now c.args.text.now c.args.key.now c.args.words.now
+    c.in-Some.found.number c.in-Some.found.text.now c.in-Some-2.values.items c.message.result
+    (c.in_ok-told.ensures.sound clean) line.0 (rw c.in-Some-2.is at c.in_ok-values.ensures)
+    (rw (line.1, c.deref.ensures.value) at c.message.ensures)
+
+pub returns-in_default : goal.returns-in_default
+returns-in_default c =
+    let clean : length (string_bytes c.in_ok-told.field-0.told) ≡ 0 = grind (arith, nat_tests) in
+    inr (inl (record {
+      sound = c.in_ok-told.ensures.sound clean;
+      none = none_under _ (rw c.in_default.is at (c.in_ok-told.ensures.found clean));
+      says = c.in_ok-told-2.ensures.ok;
+    }))

@@ -23,6 +23,7 @@ returns-in-Err-clause-at c =
     omega (arith, c.loop-line.invariant.counted) in
     record {
       line = c.in-Some.line.now;
+      after_first = omega (arith, c.loop-line.invariant.counted);
       at = line_at (lines c.args.table.now) (length c.loop-line.yielded) c.loop-line.row
           c.in-Some.line.now c.loop-line.invariant.counted turn.0 turn.1;
       fails =
