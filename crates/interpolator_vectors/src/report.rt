@@ -75,9 +75,13 @@ impl<'a> Report<'a> {
         self.told.push_str(told.as_str())
     }
 
+    /// One more row.
+    pub fn count_row(&mut self) {
+        self.rows = self.rows.saturating_add(1);
+    }
+
     /// What comes is of this row.
     pub fn begin(&mut self, row: &Row) -> Result<(), AllocError> {
-        self.rows = self.rows.saturating_add(1);
         self.line = row.number;
         self.name = String::from_str(self.alloc, row.name.as_str())?;
         self.fails = 0;

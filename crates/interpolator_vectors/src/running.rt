@@ -39,13 +39,10 @@ fn formats_of(alloc: Global, rows: &[Row]) -> Read<Vec<FormatRow<'_>>> {
     Ok(formats)
 }
 
-/// A row of a format, of parts or of a line: what it wants, and its cuts and joins. Without
-/// anything that it wants it is none.
+/// A row of a format, of parts or of a line. Without anything that it wants it is none.
 fn run_format_row(
     report: &mut Report<'_>,
-    block: &Block,
     context: &ContextMap<'_, Cell>,
-    formats: &[FormatRow<'_>],
     row: &FormatRow<'_>,
     facts: &mut Facts<'_>,
 ) -> Read<()> {
@@ -57,42 +54,15 @@ fn run_format_row(
     if report.runs == runs {
         return Err(facts.trouble("a row that wants nothing"));
     }
-    run_more(report, block, context, formats, row)?;
-    Ok(())
-}
-
-/// The cuts and joins of a format.
-fn run_more(
-    report: &mut Report<'_>,
-    block: &Block,
-    context: &ContextMap<'_, Cell>,
-    formats: &[FormatRow<'_>],
-    row: &FormatRow<'_>,
-) -> Result<(), AllocError> {
-    if block.cut && row.kind != Kind::Parts {
-        run_cuts(report, context, row.format(), row.room)?;
-    }
-    if block.join {
-        run_joins(report, context, row, formats)?;
-    }
     Ok(())
 }
 
 /// A row of an argument, if it is one.
-fn run_argument_row(
-    report: &mut Report<'_>,
-    block: &Block,
-    context: &ContextMap<'_, Cell>,
-    row: &Row,
-    facts: &mut Facts<'_>,
-) -> Read<bool> {
+fn run_argument_row(report: &mut Report<'_>, row: &Row, facts: &mut Facts<'_>) -> Read<bool> {
     let Some(start) = start_of(facts)? else {
         return Ok(false);
     };
     run_argument(report, row, &start)?;
-    if block.cut {
-        run_cuts(report, context, start.text.as_str(), Room::All)?;
-    }
     facts.leave()?;
     Ok(true)
 }
@@ -121,16 +91,14 @@ fn run_small(report: &mut Report<'_>, facts: &mut Facts<'_>) -> Read<bool> {
 /// A row, whatever it is of.
 fn run_any(
     report: &mut Report<'_>,
-    block: &Block,
     context: &ContextMap<'_, Cell>,
-    formats: &[FormatRow<'_>],
     row: &Row,
     facts: &mut Facts<'_>,
 ) -> Read<()> {
     if let Some(format) = FormatRow::read(row, facts)? {
-        return run_format_row(report, block, context, formats, &format, facts);
+        return run_format_row(report, context, &format, facts);
     }
-    if run_argument_row(report, block, context, row, facts)?
+    if run_argument_row(report, row, facts)?
         || run_rendering_row(report, facts)?
         || run_small(report, facts)?
     {
@@ -140,26 +108,84 @@ fn run_any(
 }
 
 /// A row, of which each fact is read.
-fn run_row(
-    report: &mut Report<'_>,
-    block: &Block,
-    context: &ContextMap<'_, Cell>,
-    formats: &[FormatRow<'_>],
-    row: &Row,
-) -> Read<()> {
+fn run_row(report: &mut Report<'_>, context: &ContextMap<'_, Cell>, row: &Row) -> Read<()> {
     let mut facts = Facts::new(report.alloc, row);
+    report.count_row();
     report.begin(row)?;
-    run_any(report, block, context, formats, row, &mut facts)?;
+    run_any(report, context, row, &mut facts)?;
     facts.done()?;
     report.end()?;
     Ok(())
 }
 
-/// The rows of a context.
-fn run_rows(report: &mut Report<'_>, block: &Block, context: &ContextMap<'_, Cell>) -> Read<()> {
-    let formats = formats_of(report.alloc, &block.rows)?;
+/// The rows of a context, each by itself.
+fn run_each(report: &mut Report<'_>, block: &Block, context: &ContextMap<'_, Cell>) -> Read<()> {
     for row in &block.rows {
-        run_row(report, block, context, &formats, row)?;
+        run_row(report, context, row)?;
+    }
+    Ok(())
+}
+
+/// The cuts and joins of a format.
+fn run_more(
+    report: &mut Report<'_>,
+    block: &Block,
+    context: &ContextMap<'_, Cell>,
+    formats: &[FormatRow<'_>],
+    row: &FormatRow<'_>,
+) -> Result<(), AllocError> {
+    report.begin(row.row)?;
+    if block.cut && row.kind != Kind::Parts {
+        run_cuts(report, context, row.format(), row.room)?;
+    }
+    if block.join {
+        run_joins(report, context, row, formats)?;
+    }
+    report.end()
+}
+
+/// The cuts and joins of the formats of a context.
+fn run_formats(report: &mut Report<'_>, block: &Block, context: &ContextMap<'_, Cell>) -> Read<()> {
+    let formats = formats_of(report.alloc, &block.rows)?;
+    for row in &formats {
+        run_more(report, block, context, &formats, row)?;
+    }
+    Ok(())
+}
+
+/// The cuts of the text of an argument, if the row is of one.
+fn cut_argument(report: &mut Report<'_>, context: &ContextMap<'_, Cell>, row: &Row) -> Read<()> {
+    let mut facts = Facts::new(report.alloc, row);
+    if let Some(start) = start_of(&mut facts)? {
+        report.begin(row)?;
+        run_cuts(report, context, start.text.as_str(), Room::All)?;
+        report.end()?;
+    }
+    Ok(())
+}
+
+/// The cuts of the texts of arguments of a context.
+fn cut_arguments(
+    report: &mut Report<'_>,
+    block: &Block,
+    context: &ContextMap<'_, Cell>,
+) -> Read<()> {
+    for row in &block.rows {
+        cut_argument(report, context, row)?;
+    }
+    Ok(())
+}
+
+/// The rows of a context: each by itself and, where all of them hold, cut and joined.
+fn run_rows(report: &mut Report<'_>, block: &Block, context: &ContextMap<'_, Cell>) -> Read<()> {
+    let failed = report.failed;
+    run_each(report, block, context)?;
+    if report.failed > failed {
+        return Ok(());
+    }
+    run_formats(report, block, context)?;
+    if block.cut {
+        cut_arguments(report, block, context)?;
     }
     Ok(())
 }
