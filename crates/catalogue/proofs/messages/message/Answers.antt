@@ -1,4 +1,4 @@
-use Rattle.std.proofs.Common.{◌≡◌, sym, ◌∙◌}
+use Rattle.std.proofs.Common.{sym, ◌∙◌}
 use Rattle.interpolator.specs.Faults.{answer_of}
 use Rattle.catalogue.specs.Messages.{message_means}
 use Rattle.catalogue.proofs.MessageLemmas.{told_fault}
