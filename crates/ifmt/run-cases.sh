@@ -1,7 +1,7 @@
 #!/usr/bin/env bash
 # Runs the built program on command lines, and compares what it writes to both streams and its
 # status with what docs/DEFINITIONS.md says, worked out by hand. Then it runs the lines `$ ifmt ..` of
-# README.md, and compares what is written with the lines that stand there.
+# README.md, and the rows of its table, and compares what is written with what stands there.
 #
 # usage: run-cases.sh [PROGRAM..]
 set -u
@@ -9,8 +9,8 @@ set -u
 usage='usage: ifmt FORMAT [NAME=TEXT | NAME:=NUMBER | NAME[]=ITEM,ITEM..]'
 here=$(cd "$(dirname "$0")" && pwd)
 name=ifmt
-# the lines of `line_cases`, and the examples of README
-wanted=26
+# the lines of `line_cases`, the examples of README, and the rows of its table
+wanted=36
 . "$here/../../.ci/cases.sh"
 
 # A text, which goes to the output, with status 0.
@@ -80,9 +80,20 @@ readme_cases() {
     fi
 }
 
+# The table of README: a row that ends in a format and its text, over the values that README names.
+table_cases() {
+    local line
+    while IFS= read -r line; do
+        if [[ $line =~ \|\`([^\`]*)\`\|\`([^\`]*)\`$ ]]; then
+            example "${BASH_REMATCH[2]}"$'\n' "${BASH_REMATCH[1]}" 't=Ann' 'n:=7' 'l[]=a,b,c'
+        fi
+    done <"$here/../../README.md"
+}
+
 all_cases() {
     line_cases
     readme_cases
+    table_cases
 }
 
 run_cases "$@"
