@@ -78,19 +78,50 @@ const IN_ROOM: [(&str, usize, &str, Told<'static>); 12] = [
     ("{o:9i#({:4i({})})#}", 1, "", Told::NoMemory),
 ];
 
-/// The rows are given over a list, and over a list of one item which has that list: by their formats
-/// and by the templates of these.
+/// A writer of so many bytes then holds this text, and this is answered.
+fn gives_in_room(
+    rt: &impl Abort,
+    alloc: Global,
+    given: Given<'_>,
+    most: usize,
+    pairs: Pairs<'_, u64>,
+    text: &str,
+    told: Told<'_>,
+) {
+    let mut out = Telling::new(alloc, most);
+    let answer = write_given(alloc, &mut out, given, pairs);
+    assert_eq!(rt; told_by(&answer), told, "at {text} in {most}");
+    assert_eq!(rt; out.inner.as_str(), text, "at {text} in {most}");
+}
+
+/// The row is given over these pairs, by its format and by the template of that.
+fn gives_row(
+    rt: &impl Abort,
+    alloc: Global,
+    row: &(&str, usize, &str, Told<'_>),
+    pairs: Pairs<'_, u64>,
+) -> Result<(), Error> {
+    let (format, most, text, told) = row;
+    gives_in_room(rt, alloc, Given::Text(format), *most, pairs, text, *told);
+    let template = Template::parse(alloc, format)?;
+    gives_in_room(
+        rt,
+        alloc,
+        Given::Template(&template),
+        *most,
+        pairs,
+        text,
+        *told,
+    );
+    Ok(())
+}
+
+/// The rows are given over a list, and over a list of one item which has that list.
 fn give_rows(rt: &impl Abort, alloc: Global, numbers: Formattable<'_, u64>) -> Result<(), Error> {
     let outer = [numbers];
-    for (text, most, written, told) in &IN_ROOM {
-        let template = Template::parse(alloc, text)?;
-        for given in [Given::Text(text), Given::Template(&template)] {
-            let pairs = Pairs(&[("h", numbers), ("o", Formattable::iter(&outer))]);
-            let mut out = Telling::new(alloc, *most);
-            let answer = write_given(alloc, &mut out, given, pairs);
-            assert_eq!(rt; told_by(&answer), *told, "at {text} in {most}");
-            assert_eq!(rt; out.inner.as_str(), *written, "at {text} in {most}");
-        }
+    for row in &IN_ROOM {
+        let pairs = Pairs(&[("h", numbers), ("o", Formattable::iter(&outer))]);
+        gives_row(rt, alloc, row, pairs)?;
     }
     Ok(())
 }
