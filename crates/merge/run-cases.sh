@@ -7,7 +7,7 @@ set -u
 
 here=$(cd "$(dirname "$0")" && pwd)
 name=merge
-wanted=19
+wanted=20
 . "$here/../../.ci/cases.sh"
 
 # files TEMPLATE TABLE: what stands in the files `t` and `r`.
@@ -29,21 +29,19 @@ fault() {
 }
 
 all_cases() {
-    letters $'1;\n2;\n' $'{a};\n' $'a,b\n1,x\n2\n'
-    letters '<é|  7>' '<{a}|{b:>3}>' $'a,b\r\né,7,more\r\n'
+    letters $'1;\n2;\n' $'{a};\n' $'a,b\n1,x\n2,\n'
+    letters '<é|  7>' '<{a}|{b:>3}>' $'a,b\r\né,7\r\n'
     letters '"{x}"' '{a:?}' $'a\n{x}'
     letters '2' '{a}' $'a,a\n1,2\n'
     letters '[]' '[{a}]' $'a\n\n'
-    letters '' '{a}' ''
-    letters '' '{a' $'a,b'
-    fault 't:1:10: specified value not in context `price` at 9, in the letter of r:2' \
-        '{name}: {price}' $'name,price\nAnn\n'
-    fault 't:3:2: specified value not in context `q` at 22, in the letter of r:2' \
+    letters '' '[{a}]' $'a,b'
+    fault 't:1:2: specified value not in context `a` at 1' '{a}' ''
+    fault 't:3:2: specified value not in context `q` at 22' \
         $'Dear\n  é {name:>8},\n{q}' $'name\nAnn\nZoë\n'
-    fault 't:1:6: specified value not in context `b` at 5, in the letter of r:3' \
-        '{a} {b}' $'a,b\n1,2\n3\n'
-    fault 't:2:4: error while parsing input: Expected `}` at 5, in the letter of r:2' \
-        $'a\n{a:y' $'a\n1\n'
+    fault 't:2:4: error while parsing input: Expected `}` at 5' $'a\n{a:y' $'a\n1\n'
+    fault 't:1:9: trait `LowerHex` not implemented, used by format argument at 8' '{b} {a:x}' $'a,b\n1\n'
+    fault 'r:3: another number of fields than line 1 has' '{a}' $'a,b\n1,2\n3\n'
+    fault 'r:2: another number of fields than line 1 has' '{a}' $'a\n1,2\n'
     case_of file file 2 '' ''
     case_of file file 2 '' '' t
     case_of file file 2 '' '' t none

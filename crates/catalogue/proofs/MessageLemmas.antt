@@ -11,8 +11,7 @@ use Rattle.std.proofs.lemmas.List.Elements.{All-append, All-cons}
 use Rattle.std.proofs.lemmas.Slice.Zip.{all_zipped_more}
 use Rattle.catalogue.specs.Messages.{IsSound, is_under, format_of, last_under, told_of_line}
 use Rattle.catalogue.specs.Messages.{told_of_lines, numbered, with_format}
-use Rattle.interpolator.specs.Faults.{Answer, Fault, fault, no_memory}
-use Rattle.places.specs.Places.{answer_place}
+use Rattle.interpolator.specs.Faults.{answer_place, Answer, Fault, fault, no_memory}
 
 module _ {A : Type 0} (xs : List A) (i : ℕ) (x : A) (within : i < length xs)
     (here : x ≡ get_or xs i x) where

@@ -12,15 +12,16 @@ use Rattle.std.specs.declared.string.String.{String}
 use Rattle.interpolator.specs.At.{outermost}
 use Rattle.interpolator.specs.Contexts.{found_by_pairs}
 use Rattle.interpolator.specs.Faults.{Fault, fault_place}
+use Rattle.interpolator.specs.Explained.{capped}
 use Rattle.interpolator.specs.FaultTexts.{fault_text}
 use Rattle.interpolator.specs.Meaning.Environments.{environment}
 use Rattle.interpolator.specs.Meaning.Meanings.{Meaning, means}
 use Rattle.interpolator.specs.Meaning.Outcomes.{Formats}
+use Rattle.interpolator.specs.Positions.{column_at}
 use Rattle.interpolator.specs.Slots.{slots_of, empty_slots, with_debug_display}
 use Rattle.interpolator.specs.Template.NodeChecks.{first_fault, text_faults}
 use Rattle.interpolator.specs.Views.{some_text}
 use Rattle.interpolator.specs.declared.Formattable.{Formattable}
-use Rattle.places.specs.Places.{begun_before}
 use Rattle.catalogue.specs.declared.messages.Answer.{Answer}
 use Rattle.catalogue.specs.declared.messages.Answer.TheVariants.{Message, Faults}
 
@@ -77,10 +78,9 @@ last_under key some_lines = find (λ one. is_under key one.1) (reverse (numbered
 abbrev pub with_format : ℕ × List ℕ → ℕ × List ℕ × List ℕ
 with_format one = (one.0, one.1, format_of one.1)
 
--- the column of a byte of a line's format: how many characters of the line stand before it, and one
+-- the column of a byte of a line's format, which ends the line
 abbrev pub column_in : List ℕ → List ℕ → ℕ → ℕ
-column_in line format place = length (chars line) - length (chars format)
-    + length (begun_before place (chars format)) + 1
+column_in line format place = column_at line (capped (length line - length format) place)
 
 -- what is told of something in a file: the file, the line's number, the column, and what it is
 abbrev pub told_at : List ℕ → ℕ → ℕ → List ℕ → List ℕ

@@ -20,18 +20,18 @@ const REFUSED: u8 = 3;
 
 /// The file, its text, the key, and the words that give values.
 #[derive(Drop)]
-struct Asked {
+struct Request {
     words: Vec<String>,
     text: String,
 }
 
-fn words_and_text(rt: &HostRuntime) -> io::Result<Asked> {
+fn words_and_text(rt: &HostRuntime) -> io::Result<Request> {
     let words = env::args(rt)?.skip(1).collect::<Vec<String>>(rt.alloc())?;
     let [file, _, ..] = words.as_slice() else {
         return Err(io::Error::from(io::ErrorKind::InvalidInput));
     };
     let text = fs::read_to_string(rt, file.as_str())?;
-    Ok(Asked { words, text })
+    Ok(Request { words, text })
 }
 
 fn main(rt: HostRuntime) -> ExitCode {

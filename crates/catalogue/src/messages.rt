@@ -12,8 +12,7 @@ ghost use Rattle.catalogue.specs.Messages.{is_passed_over, is_under, key_of, for
 ghost use Rattle.catalogue.specs.Messages.{column_in, told_at, told_of_line, told_of_lines};
 ghost use Rattle.catalogue.specs.Messages.{with_format, IsMadeOrTold, Answers};
 
-use interpolator::{Error, Formattable, Interpolate, Pairs, Template};
-use places::{character_count, characters_before, place_of};
+use interpolator::{Error, Formattable, Interpolate, Pairs, Position, Template};
 use std::alloc::{AllocError, Global};
 
 /// What the program answers.
@@ -61,8 +60,8 @@ fn told_at(
 fn column_of(line: &str, format: &str, place: usize) -> usize
     ensures { result ≡ column_in line.now format.now place }
 {
-    let before = character_count(line).saturating_sub(character_count(format));
-    before + characters_before(format, place) + 1
+    let before = line.len().saturating_sub(format.len());
+    Position::of(line, before.saturating_add(place)).column
 }
 
 /// The fault of a line's format, as it is told.
@@ -79,7 +78,7 @@ fn told_of_fault(
         ≡ told_at file.now number (column_in line.now format.now (fault_place f)) (fault_text f)) }
     ensures some { IfOk result (λ told. 0 < length (string_bytes told)) }
 {
-    let column = column_of(line, format, place_of(error).unwrap_or(0));
+    let column = column_of(line, format, error.place().unwrap_or(0));
     let what = format!(in alloc; "{error}")?;
     told_at(alloc, file, number, column, what.as_str())
 }
@@ -222,7 +221,7 @@ fn message(
     let pairs = pairs_of(alloc, values)?;
     match Pairs(&pairs).format_template(alloc, &found.template) {
         Ok(message) => Ok(Answer::Message(message)),
-        Err(error) => match place_of(&error) {
+        Err(error) => match error.place() {
             None => Err(error),
             Some(_) => {
                 let format = found.template.text();

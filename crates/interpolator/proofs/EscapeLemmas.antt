@@ -13,13 +13,13 @@ use Rattle.interpolator_syntax.specs.At.{At, outermost}
 use Rattle.interpolator_syntax.specs.Classes.{front_of, after_of, in_class, is_brace}
 use Rattle.interpolator_syntax.specs.Pieces.{PieceKind, Piece, literal, doubled, step, piece_from}
 use Rattle.interpolator_syntax.specs.Pieces.{past, pieces}
-use Rattle.interpolator_meaning.specs.Meaning.Environments.{Environment}
-use Rattle.interpolator_meaning.specs.Meaning.Meanings.{Meaning, text_alone, joined, means}
+use Rattle.interpolator_eval.specs.Meaning.Environments.{Environment}
+use Rattle.interpolator_eval.specs.Meaning.Meanings.{Meaning, text_alone, joined, means}
 use Rattle.interpolator.specs.Escaping.{braces_doubled, plain_character, ArePlain, SaysAlone}
 use Rattle.interpolator_syntax.specs.declared.class.Class.TheVariants.{Literal}
 use Rattle.interpolator_syntax.proofs.PieceLemmas.{piece_within, pieces_none, pieces_next}
 use Rattle.interpolator_syntax.proofs.PieceLemmas.{literal_step}
-use Rattle.interpolator_meaning.proofs.MeaningLemmas.MeaningLemmas.{means_none, means_next}
+use Rattle.interpolator_eval.proofs.MeaningLemmas.MeaningLemmas.{means_none, means_next}
 use Rattle.interpolator_syntax.proofs.CaseLemmas.{head_same, tail_same, some_same}
 
 -- ---- appended

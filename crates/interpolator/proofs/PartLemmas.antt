@@ -12,25 +12,25 @@ use Rattle.interpolator_syntax.specs.At.{At, size, outermost}
 use Rattle.interpolator_syntax.specs.Pieces.{PieceKind, Piece, unclosed, broken, pieces}
 use Rattle.interpolator.specs.Seams.{kind_ending, piece_ending, last_ending, ending}
 use Rattle.interpolator_syntax.specs.Faults.{Answer, parse, expected}
-use Rattle.interpolator_meaning.specs.Meaning.Environments.{Environment}
-use Rattle.interpolator_meaning.specs.Meaning.Meanings.{Meaning, fault_alone, joined}
-use Rattle.interpolator_meaning.specs.Meaning.Meanings.{argument_means, piece_means, pieces_mean, means}
+use Rattle.interpolator_eval.specs.Meaning.Environments.{Environment}
+use Rattle.interpolator_eval.specs.Meaning.Meanings.{Meaning, fault_alone, joined}
+use Rattle.interpolator_eval.specs.Meaning.Meanings.{argument_means, piece_means, pieces_mean, means}
 use Rattle.interpolator.specs.Meaning.Parts.{joined_text, texts_of, parts_mean, CleanBehind, Clean}
 use Rattle.interpolator.specs.Meaning.Parts.{FrontsClose}
-use Rattle.interpolator_meaning.specs.Meaning.Outcomes.{Outcome}
-use Rattle.interpolator_meaning.specs.Meaning.Sinks.{Writes, taken_by}
+use Rattle.interpolator_eval.specs.Meaning.Outcomes.{Outcome}
+use Rattle.interpolator_eval.specs.Meaning.Sinks.{Writes, taken_by}
 use Rattle.interpolator.specs.declared.parts.Ending.{Ending}
 use Rattle.interpolator.specs.declared.parts.Ending.TheVariants.{Settled, Open}
-use Rattle.interpolator_meaning.specs.declared.meaning.sink.Sink.{Sink}
+use Rattle.interpolator_eval.specs.declared.meaning.sink.Sink.{Sink}
 use Rattle.interpolator_syntax.proofs.LocalityLemmas.{stands, size-append}
 use Rattle.interpolator_syntax.proofs.CaseLemmas.{none_some}
 use Rattle.interpolator_syntax.proofs.PieceLemmas.{pieces_none}
 use Rattle.interpolator.proofs.SeamLemmas.{Leaves, pieces_append, both_close}
-use Rattle.interpolator_meaning.proofs.MeaningLemmas.DepthLemmas.{means_pieces}
-use Rattle.interpolator_meaning.proofs.MeaningLemmas.MeaningLemmas.{joined_assoc, means_none, joined_none}
-use Rattle.interpolator_meaning.proofs.MeaningLemmas.MeaningLemmas.{nothing_last, pieces_mean_append}
-use Rattle.interpolator_meaning.proofs.MeaningLemmas.SinkLemmas.{and_then, fault_first, nothing_done}
-use Rattle.interpolator_meaning.proofs.MeaningLemmas.SinkLemmas.{same_end}
+use Rattle.interpolator_eval.proofs.MeaningLemmas.DepthLemmas.{means_pieces}
+use Rattle.interpolator_eval.proofs.MeaningLemmas.MeaningLemmas.{joined_assoc, means_none, joined_none}
+use Rattle.interpolator_eval.proofs.MeaningLemmas.MeaningLemmas.{nothing_last, pieces_mean_append}
+use Rattle.interpolator_eval.proofs.MeaningLemmas.SinkLemmas.{and_then, fault_first, nothing_done}
+use Rattle.interpolator_eval.proofs.MeaningLemmas.SinkLemmas.{same_end}
 use Rattle.interpolator_render.specs.Written.{Written}
 
 pub zero_and : (n : ℕ) → 0 + n ≡ n

@@ -3,7 +3,7 @@ use Rattle.std.specs.Prelude.{◌≡◌, ℕ, if◌then◌else◌, List, [], ◌
 use Rattle.interpolator_syntax.specs.At.{text_of}
 use Rattle.interpolator_syntax.specs.Classes.{is_brace}
 use Rattle.interpolator_syntax.specs.Pieces.{PieceKind, Piece, literal, doubled}
-use Rattle.interpolator_meaning.specs.Meaning.Meanings.{Meaning}
+use Rattle.interpolator_eval.specs.Meaning.Meanings.{Meaning}
 
 -- every brace twice, and every other character once
 abbrev pub braces_doubled : List ℕ → List ℕ

@@ -1,21 +1,24 @@
 //! Formats as methods of a context.
-ghost use Rattle.std.specs.Prelude.{◌≡◌, length, ◌<◌, ◌^◌};
+ghost use Rattle.std.specs.Prelude.{◌≡◌, length, ◌<◌, ◌^◌, map, IfErr, IfOk};
 ghost use Rattle.std.specs.Str.{chars};
 ghost use Rattle.interpolator_syntax.specs.At.{outermost};
-ghost use Rattle.interpolator_meaning.specs.Meaning.AskedNames.{asked_names};
-ghost use Rattle.interpolator_meaning.specs.Meaning.Environments.{environment, cut};
-ghost use Rattle.interpolator_syntax.specs.Faults.{answered, PlaceWithin};
+ghost use Rattle.interpolator_eval.specs.Meaning.AskedNames.{asked_names};
+ghost use Rattle.interpolator_eval.specs.Meaning.Environments.{environment, cut};
+ghost use Rattle.interpolator_syntax.specs.Faults.{answer_of, answered, fault, no_memory};
+ghost use Rattle.interpolator_syntax.specs.Faults.{PlaceWithin};
 ghost use Rattle.interpolator.specs.Meaning.Lines.{line_means};
-ghost use Rattle.interpolator_meaning.specs.Meaning.Meanings.{means};
-ghost use Rattle.interpolator_meaning.specs.Meaning.Outcomes.{Outcome, Formats};
+ghost use Rattle.interpolator_eval.specs.Meaning.Meanings.{means};
+ghost use Rattle.interpolator_eval.specs.Meaning.Outcomes.{Outcome, Formats};
 ghost use Rattle.interpolator.specs.Meaning.Parts.{joined_text, texts_of, bytes_of, parts_mean};
 ghost use Rattle.interpolator.specs.Meaning.Parts.{Clean, FrontsClose};
+ghost use Rattle.interpolator.specs.Template.NodeSamples.{faults_over};
+ghost use Rattle.interpolator.specs.Template.Telling.{AnswersFirst};
 
+use crate::functions::{format, write};
 use crate::line::iwriteln;
 use crate::parts::write_parts;
 use crate::template::Template;
-use crate::writing::{format, write};
-use interpolator_meaning::{ByNames, Context, Formattable, NameMap, Pairs};
+use interpolator_eval::{ByNames, Context, Formattable, NameMap, Pairs};
 use interpolator_render::{TextWrite, Value};
 use interpolator_syntax::Error;
 use std::alloc::Global;
@@ -179,6 +182,44 @@ pub trait Interpolate: Context {
     {
         template.format(alloc, self)
     }
+
+    /// Tells the first fault that the template has by itself or over this context as a sample, as
+    /// [`Template::check_in`] does.
+    ///
+    /// # Errors
+    ///
+    /// The first fault, at its place in the text; `NoMemory` if it is a missing name's.
+    ///
+    /// ```text
+    /// sample.check_template(alloc, &template)?    // before the first row is written
+    /// ```
+    fn check_template(&self, alloc: Global, template: &Template) -> Result<(), Error>
+        ensures first { AnswersFirst
+            (faults_over Self.Object.shows (Self.finds self.now) (outermost (chars template.now)))
+            (answered result) }
+        ensures place { PlaceWithin (length template.now) (answered result) }
+    {
+        template.check_in(alloc, self)
+    }
+
+    /// All faults that the template has by itself or over this context as a sample, as
+    /// [`Template::faults_in`] answers them.
+    ///
+    /// # Errors
+    ///
+    /// `NoMemory`: the faults find no memory.
+    ///
+    /// ```text
+    /// for fault in &sample.template_faults(alloc, &template)? {}
+    /// ```
+    fn template_faults(&self, alloc: Global, template: &Template) -> Result<Vec<Error>, Error>
+        ensures all { IfOk result (λ errors. map answer_of errors.items ≡ map fault
+            (faults_over Self.Object.shows (Self.finds self.now)
+            (outermost (chars template.now)))) }
+        ensures refused { IfErr result (λ error. answer_of error ≡ no_memory) }
+    {
+        template.faults_in(alloc, self)
+    }
 }
 
 impl<'a, V: Value> Interpolate for HashMap<String, Formattable<'a, V>> {}
@@ -250,5 +291,21 @@ impl<'k, 'a, V: Value> Interpolate for HashMap<&'k str, Formattable<'a, V>> {
             of: PhantomData,
         };
         template.format(alloc, &names)
+    }
+
+    fn check_template(&self, alloc: Global, template: &Template) -> Result<(), Error> {
+        let names = ByNames {
+            map: self,
+            of: PhantomData,
+        };
+        template.check_in(alloc, &names)
+    }
+
+    fn template_faults(&self, alloc: Global, template: &Template) -> Result<Vec<Error>, Error> {
+        let names = ByNames {
+            map: self,
+            of: PhantomData,
+        };
+        template.faults_in(alloc, &names)
     }
 }

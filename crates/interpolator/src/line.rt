@@ -2,15 +2,15 @@
 ghost use Rattle.std.specs.Prelude.{length};
 ghost use Rattle.std.specs.Str.{chars};
 ghost use Rattle.interpolator_syntax.specs.At.{outermost};
-ghost use Rattle.interpolator_meaning.specs.Meaning.AskedNames.{asked_names};
-ghost use Rattle.interpolator_meaning.specs.Meaning.Environments.{environment, cut};
+ghost use Rattle.interpolator_eval.specs.Meaning.AskedNames.{asked_names};
+ghost use Rattle.interpolator_eval.specs.Meaning.Environments.{environment, cut};
 ghost use Rattle.interpolator_syntax.specs.Faults.{answered, PlaceWithin};
-ghost use Rattle.interpolator_meaning.specs.Meaning.Meanings.{means};
+ghost use Rattle.interpolator_eval.specs.Meaning.Meanings.{means};
 ghost use Rattle.interpolator.specs.Meaning.Lines.{newline_means, line_means};
-ghost use Rattle.interpolator_meaning.specs.Meaning.Outcomes.{Outcome};
+ghost use Rattle.interpolator_eval.specs.Meaning.Outcomes.{Outcome};
 
-use crate::writing::write;
-use interpolator_meaning::{Context, write_char};
+use crate::functions::write;
+use interpolator_eval::{Context, write_char};
 use interpolator_render::TextWrite;
 use interpolator_syntax::Error;
 use std::alloc::Global;

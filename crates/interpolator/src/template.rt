@@ -1,40 +1,60 @@
 //! Formats that are read once and written many times.
-ghost use Rattle.std.specs.Prelude.{◌≡◌, length, map, option_map, IfErr, IfOk};
-ghost use Rattle.std.specs.Str.{chars};
+ghost use Rattle.std.specs.Prelude.{◌≡◌, ◌⊎◌, None, Some, length, map, option_map, IfErr, IfOk};
+ghost use Rattle.std.specs.Str.{chars, IsUtf8};
 ghost use Rattle.interpolator_syntax.specs.Arguments.{argument_of};
 ghost use Rattle.interpolator_syntax.specs.At.{outermost};
 ghost use Rattle.interpolator_syntax.specs.Faults.{answer_of, answered, fault, no_memory};
 ghost use Rattle.interpolator_syntax.specs.Faults.{PlaceWithin};
-ghost use Rattle.interpolator_meaning.specs.Meaning.AskedNames.{asked_names};
-ghost use Rattle.interpolator_meaning.specs.Meaning.Environments.{environment, cut};
-ghost use Rattle.interpolator_meaning.specs.Meaning.Meanings.{means};
-ghost use Rattle.interpolator_meaning.specs.Meaning.Outcomes.{Outcome, Formats};
+ghost use Rattle.interpolator_eval.specs.Meaning.AskedNames.{asked_names};
+ghost use Rattle.interpolator_eval.specs.Meaning.Environments.{environment, cut};
+ghost use Rattle.interpolator_eval.specs.Meaning.Meanings.{means};
+ghost use Rattle.interpolator_eval.specs.Meaning.Outcomes.{Outcome, Formats};
+ghost use Rattle.interpolator_eval.specs.Contexts.{found_by_pairs};
+ghost use Rattle.interpolator.specs.Prepared.Rows.{pair_names};
 ghost use Rattle.interpolator.specs.Template.AllArguments.{arguments_of};
 ghost use Rattle.interpolator.specs.Template.NodeChecks.{first_fault, text_faults};
+ghost use Rattle.interpolator.specs.Template.NodeCosts.{capped_cost, text_cost};
 ghost use Rattle.interpolator.specs.Template.NodeExtents.{forest_depth, forest_extent};
 ghost use Rattle.interpolator.specs.Template.NodeLacks.{first_lacking};
 ghost use Rattle.interpolator.specs.Template.NodeNames.{name_texts};
-ghost use Rattle.interpolator.specs.Template.Nodes.{as_forest, nodes};
+ghost use Rattle.interpolator.specs.Template.NodePlaces.{argument_among};
+ghost use Rattle.interpolator.specs.Template.NodeSamples.{faults_over};
+ghost use Rattle.interpolator.specs.Template.Telling.{AnswersFirst};
+ghost use Rattle.interpolator_syntax.specs.Nodes.{as_forest, nodes};
 ghost use Rattle.interpolator.specs.Template.Stored.{nodes_of};
+ghost use Rattle.interpolator.specs.Template.Visits.{Walks, text_visits};
 
 pub(crate) mod arguments;
 pub(crate) mod check;
+pub(crate) mod cost;
 pub(crate) mod extent;
 pub(crate) mod lacks;
 pub(crate) mod names;
 pub(crate) mod parse;
 pub(crate) mod piece;
+pub(crate) mod place;
+pub(crate) mod sample;
+pub(crate) mod telling;
+pub(crate) mod walk;
 
+use crate::functions::{format_pieces, write_pieces};
+use crate::prepared::Prepared;
+use crate::prepared::row::names_of;
 use crate::template::arguments::push_arguments;
-use crate::template::check::check_pieces;
-use crate::template::extent::{depth_of, widest_of};
-use crate::template::lacks::lacking;
-use crate::template::names::push_names;
+use crate::template::check::Check;
+use crate::template::cost::{Cost, Limits, cost_of};
+use crate::template::extent::{Deepest, Widest};
+use crate::template::lacks::Lacking;
+use crate::template::names::Names;
 use crate::template::parse::parse_pieces;
 use crate::template::piece::Piece;
-use crate::writing::{format_pieces, write_pieces};
-use interpolator_meaning::Context;
-use interpolator_render::TextWrite;
+use crate::template::place::argument_among;
+use crate::template::sample::tell_pieces;
+use crate::template::telling::Telling;
+use crate::template::walk::{Visitor, walk_text};
+use crate::tree::cut;
+use interpolator_eval::{Context, Pairs, SampleScope};
+use interpolator_render::{TextWrite, Value};
 use interpolator_syntax::{Argument, Cursor, Error};
 use std::alloc::Global;
 use std::marker::Model;
@@ -63,7 +83,7 @@ impl Model for Template {
     ghost use Rattle.std.specs.Prelude.{◌≡◌, List, ℕ, string_bytes};
     ghost use Rattle.std.specs.Str.{chars};
     ghost use Rattle.interpolator_syntax.specs.At.{outermost};
-    ghost use Rattle.interpolator.specs.Template.Nodes.{nodes};
+    ghost use Rattle.interpolator_syntax.specs.Nodes.{nodes};
     ghost use Rattle.interpolator.specs.Template.Stored.{nodes_of};
 
     ghost Value = { List ℕ };
@@ -143,6 +163,44 @@ impl Template {
         format_pieces(alloc, self.text.as_str(), &self.pieces, context)
     }
 
+    /// Shows the visitor the pieces of the format, at every depth of groups.
+    fn walk<V: Visitor>(&self, visitor: &mut V) -> Result<(), V::Stop>
+        ensures walks { Walks (V.step self.now) visitor.old
+            (text_visits (outermost (chars self.now))) visitor.new result }
+        ensures utf8 { IsUtf8 self.now }
+    {
+        walk_text(visitor, self.text.as_str(), &self.pieces)
+    }
+
+    /// The format, prepared for rows of values in the order of these names, if it has no fault over
+    /// them: what stands under each of them is an example of what a row will bring, as in
+    /// [`check_in`](Template::check_in).
+    ///
+    /// # Errors
+    ///
+    /// The first fault that the format has by itself or over the sample, at its place in the text;
+    /// `NoMemory`: the prepared format, or the name in a `MissingValue`, finds no memory.
+    ///
+    /// # Example
+    ///
+    /// ```text
+    /// let line = template.prepare(alloc, &Pairs(&[("name", Formattable::display(&name))]))?;
+    /// line.write(alloc, &mut out, &Row(&[Formattable::display(&other)]))?;
+    /// ```
+    pub fn prepare<V: Value>(&self, alloc: Global, sample: &Pairs<'_, V>) -> Result<Prepared, Error>
+        ensures prepared { IfOk result (λ made. made
+            ≡ record { text = self.now; names = pair_names sample.now.0.now }) }
+        ensures faultless { IfOk result (λ _. AnswersFirst (faults_over V.shows
+            (found_by_pairs sample.now.0.now) (outermost (chars self.now))) None) }
+        ensures refused { IfErr result (λ error. (answer_of error ≡ no_memory)
+            ⊎ AnswersFirst (faults_over V.shows (found_by_pairs sample.now.0.now)
+            (outermost (chars self.now))) (Some (answer_of error))) }
+    {
+        self.check_in(alloc, sample)?;
+        let names = names_of(alloc, sample.0)?;
+        Prepared::of(alloc, self.text.as_str(), names)
+    }
+
     /// The names that the format asks of its context, in order and with repeats: those of its
     /// arguments, and after the name of a list those of its item format and of its join. The empty
     /// name in an item format is the item, and is not among them.
@@ -161,9 +219,12 @@ impl Template {
             ≡ asked_names (outermost (chars self.now))) }
         ensures refused { IfErr result (λ error. answer_of error ≡ no_memory) }
     {
-        let mut names = Vec::new(alloc);
-        push_names(alloc, &mut names, self.text.as_str(), &self.pieces, false)?;
-        Ok(names)
+        let mut names = Names {
+            alloc,
+            names: Vec::new(alloc),
+        };
+        self.walk(&mut names)?;
+        Ok(names.names)
     }
 
     /// The arguments of the format, each whole, as [`parse_argument`](crate::parse_argument) answers
@@ -220,7 +281,71 @@ impl Template {
             ≡ option_map fault (first_fault (text_faults (outermost (chars self.now)))) }
         ensures place { PlaceWithin (length self.now) (answered result) }
     {
-        check_pieces(&self.pieces)
+        self.walk(&mut Check)
+    }
+
+    /// Tells the first fault that the format has by itself or over a sample, an example of the contexts
+    /// that it will be written with: a row of example values, whose lists have an item of each kind. In
+    /// order of the text and at every depth of groups, of an argument
+    ///
+    /// 1. that nothing is under its name (`MissingValue`); that a slot is empty, has no text under
+    ///    this trait, or no list (`MissingTraitImpl`); that a value fails (`Fmt`);
+    /// 2. what is wrong with it by itself;
+    /// 3. the faults of its item format with each item of the sample's list, or that an item cannot be
+    ///    displayed if there is no item format, whatever the range; those of its join, however many
+    ///    items there are;
+    /// 4. that it is not closed.
+    ///
+    /// If it answers `Ok`, the format has no fault in any context that resembles the sample: see
+    /// [`laws::samples`](crate::laws::samples). Each argument is looked at once for each value that the
+    /// sample has in its place.
+    ///
+    /// # Errors
+    ///
+    /// The first fault, at its place in the text; `NoMemory` if it is that a name is missing, and the name
+    /// finds no memory. Else no memory is taken.
+    ///
+    /// # Example
+    ///
+    /// ```text
+    /// let sample = Pairs(&[("name", Formattable::display(&"Ann"))]);
+    /// Template::parse(alloc, "{name:>8}{age}")?.check_in(alloc, &sample)
+    /// // Err(MissingValue("age", 10))
+    /// ```
+    pub fn check_in<C: Context>(&self, alloc: Global, sample: &C) -> Result<(), Error>
+        ensures first { AnswersFirst
+            (faults_over C.Object.shows (C.finds sample.now) (outermost (chars self.now)))
+            (answered result) }
+        ensures place { PlaceWithin (length self.now) (answered result) }
+    {
+        let mut telling = Telling::first(alloc);
+        let scope = SampleScope::outermost(alloc, sample);
+        tell_pieces(&mut telling, &scope, self.text.as_str(), &self.pieces)
+    }
+
+    /// All faults that the format has by itself or over a sample, in the order of
+    /// [`check_in`](Template::check_in), each once at its place.
+    ///
+    /// # Errors
+    ///
+    /// `NoMemory`: the faults find no memory.
+    ///
+    /// # Example
+    ///
+    /// ```text
+    /// let sample = Pairs(&[("name", Formattable::display(&"Ann"))]);
+    /// Template::parse(alloc, "{name:x}{age}{b")?.faults_in(alloc, &sample)?
+    /// // MissingTraitImpl(LowerHex, 7), MissingValue("age", 9), Parse(FormatSpecUnclosed(14))
+    /// ```
+    pub fn faults_in<C: Context>(&self, alloc: Global, sample: &C) -> Result<Vec<Error>, Error>
+        ensures all { IfOk result (λ errors. map answer_of errors.items ≡ map fault
+            (faults_over C.Object.shows (C.finds sample.now) (outermost (chars self.now)))) }
+        ensures refused { IfErr result (λ error. answer_of error ≡ no_memory) }
+    {
+        let mut telling = Telling::all(alloc);
+        let scope = SampleScope::outermost(alloc, sample);
+        tell_pieces(&mut telling, &scope, self.text.as_str(), &self.pieces)?;
+        Ok(telling.into_kept())
     }
 
     /// The first name that the format asks and the context has nothing under, if there is one. No
@@ -238,7 +363,10 @@ impl Template {
             ≡ first_lacking (environment (C.finds context.now))
             (asked_names (outermost (chars self.now))) }
     {
-        lacking(context, self.text.as_str(), &self.pieces, false)
+        match self.walk(&mut Lacking { context }) {
+            Ok(()) => None,
+            Err((from, to)) => Some(cut(self.text.as_str(), from, to)),
+        }
     }
 
     /// The greatest width or precision that the format asks, at any depth of groups; 0 where it
@@ -252,7 +380,11 @@ impl Template {
     pub fn widest(&self) -> usize
         ensures widest { result ≡ forest_extent (as_forest (nodes (outermost (chars self.now)))) }
     {
-        widest_of(&self.pieces)
+        let mut widest = Widest(0);
+        match self.walk(&mut widest) {
+            Ok(()) => widest.0,
+            Err(never) => match never {},
+        }
     }
 
     /// How many groups of the format stand in one another, at most; 0 without groups. No memory is
@@ -266,7 +398,48 @@ impl Template {
     pub fn depth(&self) -> usize
         ensures depth { result ≡ forest_depth (as_forest (nodes (outermost (chars self.now)))) }
     {
-        depth_of(&self.pieces)
+        let mut deepest = Deepest(0);
+        match self.walk(&mut deepest) {
+            Ok(()) => deepest.0,
+            Err(never) => match never {},
+        }
+    }
+
+    /// The innermost argument that has a place of the format, if one does: its first byte, which is
+    /// its opening brace, and the byte after its last. An argument has the places after its opening
+    /// brace and up to its closing one; without a closing one up to its end, and that. No memory is
+    /// taken.
+    ///
+    /// # Example
+    ///
+    /// ```text
+    /// template.argument_at(8)    // of `{a:i({:?})} {b}`, at the `}` of `{:?}`: Some((5, 9))
+    /// ```
+    pub fn argument_at(&self, place: usize) -> Option<(usize, usize)>
+        ensures argument { result
+            ≡ argument_among place (as_forest (nodes (outermost (chars self.now)))) }
+    {
+        argument_among(&self.pieces, place)
+    }
+
+    /// What the format can cost at most, in any context whose values are within the limits: how many
+    /// characters it writes, how many pieces it goes through, and how many characters it holds in
+    /// buffers at one time. Of each count the greatest `usize` means as many or more. Every item
+    /// and join counts, and of an argument the longest text that its trait, width and precision
+    /// let any value show. No memory is taken.
+    ///
+    /// # Example
+    ///
+    /// ```text
+    /// let limits = Limits { text: 10, items: 3 };
+    /// template.cost(&limits)    // of `{l:i({:?})(, )}`: 3 * 62 + 2 * 2 characters, and
+    ///                           // 1 + 3 * 1 + 2 * 1 pieces
+    /// ```
+    pub fn cost(&self, limits: &Limits) -> Cost
+        ensures cost { result
+            ≡ capped_cost (text_cost limits.now (outermost (chars self.now))) }
+    {
+        cost_of(self.text.as_str(), &self.pieces, limits)
     }
 
     /// The pieces of the format in order, each with those of its groups. No memory is taken.

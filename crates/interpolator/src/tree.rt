@@ -2,13 +2,13 @@
 ghost use Rattle.std.specs.Prelude.{◌≡◌, ◌+◌, ◌^◌, ◌<◌, IsSome, None, Some, true, length, map, option_map};
 ghost use Rattle.std.specs.Str.{chars};
 ghost use Rattle.interpolator_syntax.specs.Faults.{answered, fault, argument_fault_of};
-ghost use Rattle.interpolator_meaning.specs.Meaning.Lists.{list_under_name, padded_list_means};
-ghost use Rattle.interpolator_meaning.specs.Meaning.Scopes.{environment_of};
-ghost use Rattle.interpolator_meaning.specs.Meaning.Sinks.{Writes};
-ghost use Rattle.interpolator_meaning.specs.Slots.{slots_of};
-ghost use Rattle.interpolator.specs.Template.Nodes.{as_forest};
+ghost use Rattle.interpolator_eval.specs.Meaning.Lists.{list_under_name, padded_list_means};
+ghost use Rattle.interpolator_eval.specs.Meaning.Scopes.{environment_of};
+ghost use Rattle.interpolator_eval.specs.Meaning.Sinks.{Writes};
+ghost use Rattle.interpolator_eval.specs.Slots.{slots_of};
+ghost use Rattle.interpolator_syntax.specs.Nodes.{as_forest};
 ghost use Rattle.interpolator.specs.Template.Stored.{node_of, nodes_of, node_whole, forest_whole};
-ghost use Rattle.interpolator.specs.Template.Stored.{range_of};
+ghost use Rattle.interpolator.specs.Template.Stored.{part, range_of};
 ghost use Rattle.interpolator.specs.Template.StoredMeanings.{stored_part, stored_name};
 ghost use Rattle.interpolator.specs.Template.StoredMeanings.{stored_pieces_mean, unclosed_fault};
 ghost use Rattle.interpolator.specs.Template.StoredMeanings.{stored_piece_means, stored_join_means};
@@ -16,12 +16,23 @@ ghost use Rattle.interpolator.specs.Template.StoredMeanings.{stored_item_means, 
 ghost use Rattle.interpolator.specs.declared.template.piece.Form.TheVariants as forms;
 ghost use Rattle.interpolator.specs.declared.template.piece.Piece.TheViews.{out-Piece};
 
-use crate::template::piece::{Form, Piece, PieceKind};
-use interpolator_meaning::{
+use crate::template::piece::{Form, Piece};
+use interpolator_eval::{
     Context, Formattable, Scope, Sink, chosen_list, list_buffer, write_plain_item, write_value,
 };
 use interpolator_render::{Spec, TextWrite, Trait};
-use interpolator_syntax::{ArgumentFault, Error, ParseError, Range, error_of};
+use interpolator_syntax::{ArgumentFault, Error, ParseError, PieceKind, Range};
+
+/// The text from byte `from` up to `to`.
+#[inline(always)]
+pub(crate) fn cut(text: &str, from: usize, to: usize) -> &str
+    requires fits { IsSome (part text.now from to) }
+    ensures text { Some (chars result.now) ≡ part text.now from to }
+    ensures size { from + length result.now ≡ to }
+    ensures fits { from + length result.now < 2 ^ 64 }
+{
+    &text[from..to]
+}
 
 /// The bytes of the text that are written for a piece.
 #[inline(always)]
@@ -30,12 +41,12 @@ pub(crate) fn text_of<'t>(text: &'t str, piece: &Piece) -> &'t str
     ensures text { Some (chars result.now) ≡ stored_part text.now piece.now }
     ensures fits { (out-Piece piece.now).from + length result.now < 2 ^ 64 }
 {
-    &text[piece.from..piece.to]
+    cut(text, piece.from, piece.to)
 }
 
 /// Where the argument of a piece begins, and its name.
 #[inline(always)]
-fn name_of<'t>(text: &'t str, piece: &Piece) -> (usize, &'t str)
+pub(crate) fn name_of<'t>(text: &'t str, piece: &Piece) -> (usize, &'t str)
     requires fits { IsSome (stored_name text.now piece.now) }
     ensures start { result.0 ≡ (out-Piece piece.now).place + 1 }
     ensures name { Some (chars result.1.now) ≡ stored_name text.now piece.now }
@@ -56,7 +67,7 @@ pub(crate) fn closed(piece: &Piece) -> Result<(), Error>
 
 /// Which items of a list.
 #[inline(always)]
-fn unboxed(range: &Option<Box<Range>>) -> Option<Range>
+pub(crate) fn unboxed(range: &Option<Box<Range>>) -> Option<Range>
     ensures { result ≡ range_of range.now }
 {
     match range {
@@ -87,7 +98,7 @@ pub(crate) fn run_pieces<'a, W: TextWrite, C: Context>(
 /// Writes what a piece means.
 #[cycle(tree)]
 #[inline(always)]
-fn run_piece<'a, W: TextWrite, C: Context>(
+pub(crate) fn run_piece<'a, W: TextWrite, C: Context>(
     sink: &mut Sink<'_, W>,
     scope: &Scope<'a, C, C::Object>,
     text: &str,
@@ -133,7 +144,7 @@ fn run_piece<'a, W: TextWrite, C: Context>(
 fn refused(broken: &ArgumentFault) -> Result<(), Error>
     ensures { answered result ≡ Some (fault (argument_fault_of broken.now)) }
 {
-    Err(error_of(*broken))
+    Err(Error::from(*broken))
 }
 
 /// Writes what a piece means that asks for a list.

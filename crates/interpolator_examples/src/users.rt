@@ -9,13 +9,13 @@ mod record;
 mod rows;
 mod slots;
 
+use crate::page::Page;
 use interpolator::{
     Bits, ContextMap, Error, Formattable, Interpolate, Pairs, Spec, Template, TextBuffer, Trait,
     Value, View,
 };
 use std::alloc::Global;
 use std::collections::HashMap;
-use std::test::Fail;
 
 /// A row of a table.
 #[derive(Clone, Copy)]
@@ -191,90 +191,82 @@ fn range(alloc: Global, low: i32, high: Option<i32>) -> Result<String, Error> {
     Pairs(&pairs).format(alloc, "{low} to {high}")
 }
 
-// Expected texts by hand, from the formats and the values.
-#[test]
-fn users_write_pairs(rt: HostRuntime) -> Result<(), Fail> {
-    let alloc = rt.alloc();
-    let guests = [
-        Guest {
-            name: "Ann",
-            city: "Oslo",
-        },
-        Guest {
-            name: "Béla",
-            city: "Győr",
-        },
-    ];
+/// Ann in Oslo, and Béla in Győr.
+const GUESTS: [Guest<'static>; 2] = [
+    Guest {
+        name: "Ann",
+        city: "Oslo",
+    },
+    Guest {
+        name: "Béla",
+        city: "Győr",
+    },
+];
+
+/// The guests, as a format says that is read once.
+fn all_letters(alloc: Global, format: &str) -> Result<String, Error> {
+    let template = Template::parse(alloc, format)?;
     let mut out = TextBuffer::new(alloc);
-    let letter = Template::parse(alloc, "Hello {name}, how is {city}?\n")?;
-    letters(alloc, &mut out, &letter, &guests)?;
-    assert_eq!(rt;
-        out.as_str(),
-        "Hello Ann, how is Oslo?\nHello Béla, how is Győr?\n"
-    );
-    let mut columns = TextBuffer::new(alloc);
-    let row = Template::parse(alloc, "{name:>6}|{city:.2}\n")?;
-    letters(alloc, &mut columns, &row, &guests)?;
-    assert_eq!(rt; columns.as_str(), "   Ann|Os\n  Béla|Gy\n");
-    assert_eq!(rt; apples(alloc, "Ann", -7)?.as_str(), "Ann has {-7} apples");
-    assert_eq!(rt;
-        listed_names(alloc, "name,n,name", "Ann,7,Eve", "{n} {name}")?.as_str(),
-        "7 Eve"
-    );
-    assert_eq!(rt;
-        lines(alloc, "[{level}] {line};", &[("info", 1), ("warn", 22)])?.as_str(),
-        "[info] 1;[warn] 22;"
-    );
-    assert_eq!(rt;
-        stock(alloc, &[("bread", 7), ("crème", 1234)])?.as_str(),
-        "bread     |     7|0x0007\ncrème     |  1234|0x04d2\n"
-    );
-    assert_eq!(rt;
-        badge(alloc, "Zoé \"Z\"")?.as_str(),
-        "[ Zoé \"Z\" ] \"Zoé \\\"Z\\\"\""
-    );
-    assert_eq!(rt; range(alloc, -4, Some(3))?.as_str(), "-4 to 3");
-    assert_eq!(rt; range(alloc, -4, None)?.as_str(), "-4 to -4");
+    letters(alloc, &mut out, &template, &GUESTS)?;
+    Ok(out.into_string())
+}
+
+/// One pair.
+fn seven(alloc: Global) -> Result<String, Error> {
     let seven = 7u64;
-    let text = Pairs(&[("n", Formattable::display(&seven))]).format(alloc, "{n}")?;
-    assert_eq!(rt; text.as_str(), "7");
-    Ok(())
+    Pairs(&[("n", Formattable::display(&seven))]).format(alloc, "{n}")
 }
 
-// Expected texts by hand, from the formats and the values.
-#[test]
-fn users_write_formats(rt: HostRuntime) -> Result<(), Fail> {
-    let alloc = rt.alloc();
-    assert_eq!(rt;
-        greeting(alloc, "Ann", "Oslo")?.as_str(),
-        "Hello Ann, how is Oslo?"
-    );
-    assert_eq!(rt; count(alloc, "Ann", -7)?.as_str(), "Ann has {-7} apples");
-    assert_eq!(rt;
-        owned(alloc, "first", &[18_446_744_073_709_551_615])?.as_str(),
-        "first: 18446744073709551615"
-    );
+fn show_pairs(page: &mut Page) {
+    let alloc = page.alloc;
+    let letter = all_letters(alloc, "Hello {name}, how is {city}?\n");
+    page.put_made("letters", letter);
+    page.put_made("columns", all_letters(alloc, "{name:>6}|{city:.2}\n"));
+    page.put_made("apples", apples(alloc, "Ann", -7));
+    let listed = listed_names(alloc, "name,n,name", "Ann,7,Eve", "{n} {name}");
+    page.put_made("listed_names", listed);
+    let levels = lines(alloc, "[{level}] {line};", &[("info", 1), ("warn", 22)]);
+    page.put_made("lines", levels);
+    page.put_made("stock", stock(alloc, &[("bread", 7), ("crème", 1234)]));
+    page.put_made("badge", badge(alloc, "Zoé \"Z\""));
+    page.put_made("range", range(alloc, -4, Some(3)));
+    page.put_made("range of one", range(alloc, -4, None));
+    page.put_made("seven", seven(alloc));
+}
+
+fn show_maps(page: &mut Page) -> Result<(), Error> {
+    let alloc = page.alloc;
+    page.put_made("greeting", greeting(alloc, "Ann", "Oslo"));
+    page.put_made("count", count(alloc, "Ann", -7));
+    page.put_made("owned", owned(alloc, "first", &[u64::MAX]));
     let line = String::from_str(alloc, "é {line}")?;
-    assert_eq!(rt; quoted(alloc, &line)?.as_str(), "> é {line}");
-    assert_eq!(rt;
-        listed(alloc, "numbers", 1, -5)?.as_str(),
-        "numbers: 1 up to -5"
-    );
+    page.put_made("quoted", quoted(alloc, &line));
+    page.put_made("listed", listed(alloc, "numbers", 1, -5));
     Ok(())
 }
 
-// Expected texts by hand, from the formats and the values.
-#[test]
-fn users_write_to_writers(rt: HostRuntime) -> Result<(), Fail> {
-    let mut out = TextBuffer::new(rt.alloc());
-    line(rt.alloc(), &mut out, -4, Some(3))?;
-    match line(rt.alloc(), &mut out, 5, None) {
-        Err(Error::MissingValue(name, place)) => {
-            assert_eq!(rt; name.as_str(), "high");
-            assert_eq!(rt; place, 10);
-        }
-        _ => assert!(rt; false, "the line has no high"),
-    }
-    assert_eq!(rt; out.as_str(), "-4 to 3\n5 to ");
+/// A line that is whole, and one whose last name is missing.
+fn show_lines(page: &mut Page) -> Result<(), Error> {
+    let alloc = page.alloc;
+    let mut out = TextBuffer::new(alloc);
+    line(alloc, &mut out, -4, Some(3))?;
+    let answer = line(alloc, &mut out, 5, None);
+    page.put("line", out.as_str());
+    page.put_made("no high", answer.map(|_| String::new(alloc)));
+    Ok(())
+}
+
+pub fn show(page: &mut Page) -> Result<(), Error> {
+    show_pairs(page);
+    show_maps(page)?;
+    show_lines(page)?;
+    calls::show(page)?;
+    catalogue::show(page)?;
+    cell::show(page)?;
+    level::show(page);
+    log::show(page);
+    record::show(page)?;
+    rows::show(page)?;
+    slots::show(page);
     Ok(())
 }

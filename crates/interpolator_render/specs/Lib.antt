@@ -1,6 +1,7 @@
 -- The definitions that the contracts cite.
 pub mod Written
 pub mod Bounds
+pub mod IoWriters
 pub mod Views
 pub mod Characters
 pub mod Layout
@@ -13,3 +14,4 @@ pub mod Numbers
 pub mod Quoting
 pub mod Unquoting
 pub mod Texts
+pub mod Lengths

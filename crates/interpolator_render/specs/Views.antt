@@ -48,6 +48,12 @@ shown_by (Plain text) = plain_text (chars text.now)
 shown_by NotImplemented = nothing_implemented
 shown_by Failed = failure
 
+-- the same, a text by its bytes
+abbrev pub shown_in_bytes : View → Shown
+shown_in_bytes (Text text) = some_text text.now
+shown_in_bytes (Plain text) = plain_text text.now
+shown_in_bytes view = shown_by view
+
 -- a signed number lies in the two's complement range of its width, from -2 ^ (w - 1) up to 2 ^ (w -
 -- 1) - 1
 abbrev pub IsInRange : Shown → Type 0

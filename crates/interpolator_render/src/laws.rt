@@ -13,13 +13,14 @@ ghost use Rattle.interpolator_render.specs.Numbers.{twos_complement};
 ghost use Rattle.interpolator_render.specs.Padding.{padded_number, padded_text, displayed_text};
 ghost use Rattle.interpolator_render.specs.Quoting.{quoted};
 ghost use Rattle.interpolator_render.specs.Unquoting.{IsQuote, unquoted};
-ghost use Rattle.interpolator_render.specs.Views.{bit_count};
+ghost use Rattle.interpolator_render.specs.Views.{bit_count, shown_in_bytes};
 ghost use Rattle.interpolator_render.specs.Written.{Written, Appends};
 
 pub mod clones;
+pub mod lengths;
 
 use crate::text_write::Refusal;
-use crate::view::{Alignment, Bits, HexDebug, RenderFault, Sign, Spec, Trait};
+use crate::view::{Alignment, Bits, HexDebug, RenderFault, Sign, Spec, Trait, View};
 
 /// The digits of a number, read back in their base, give the number. The first of them is `0` for
 /// zero alone.
@@ -166,6 +167,13 @@ pub fn equal_specs(one: Spec, other: Spec) -> bool
     ensures { IsTrue result ↔ (one ≡ other) }
 {
     one == other
+}
+
+/// Two views are equal exactly where they are the same variant, of the same number or text.
+pub fn equal_views(one: &View<'_>, other: &View<'_>) -> bool
+    ensures { IsTrue result ↔ (shown_in_bytes one.now ≡ shown_in_bytes other.now) }
+{
+    *one == *other
 }
 
 /// By default nothing is set.

@@ -80,6 +80,24 @@ impl TextBuffer {
         text
     }
 
+    /// Empties the buffer, and clears the flag that a refusal has set. Its room stays: a loop over
+    /// records makes each text in one buffer, and takes memory for the longest alone.
+    ///
+    /// ```text
+    /// for record in records {
+    ///     out.clear();
+    ///     record.write_template_to(alloc, &mut out, &line)?;
+    ///     print(out.as_str());
+    /// }
+    /// ```
+    #[tactic(auto, using(crate::proofs::WrittenLemmas::empty_text))]
+    pub fn clear(&mut self)
+        ensures { self.new ≡ record { text = []; refused = false; room = self.old.room } }
+    {
+        self.text.clear();
+        self.forget_refusal();
+    }
+
     /// Clears the flag that a refusal has set, and changes nothing else.
     pub fn forget_refusal(&mut self)
         ensures { self.new ≡ record self.old { refused = false } }

@@ -110,8 +110,9 @@ pub struct Spec {
     pub hex_debug: HexDebug,
 }
 
-/// What a value shows under a trait and a spec: one number, one text or neither.
-#[derive(Clone, Copy, Debug)]
+/// What a value shows under a trait and a spec: one number, one text or neither. Two views are equal
+/// where their variants and fields are.
+#[derive(Clone, Copy, Debug, PartialEq)]
 pub enum View<'a> {
     /// A number of a signed type of this width, in whose range it lies.
     Signed(i128, Bits),

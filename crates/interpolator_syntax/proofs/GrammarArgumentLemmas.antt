@@ -5,7 +5,7 @@ use Rattle.std.proofs.lemmas.Bool.{not-false, or_cases}
 use Rattle.interpolator_syntax.specs.At.{At, after, strip}
 use Rattle.interpolator_syntax.specs.Classes.{front_of, in_class, close_brace, colon}
 use Rattle.interpolator_syntax.specs.Readers.{on, give}
-use Rattle.interpolator_syntax.specs.SpecTexts.{Asked, spec_after}
+use Rattle.interpolator_syntax.specs.SpecTexts.{Request, spec_after}
 use Rattle.interpolator_syntax.specs.Arguments.{Argument, argument, asked_by, asked_at, argument_at}
 use Rattle.interpolator_syntax.specs.Faults.{Fault}
 use Rattle.interpolator_syntax.specs.Grammar.{NotFirst}
@@ -17,7 +17,8 @@ use Rattle.interpolator_syntax.specs.declared.class.Class.TheVariants.{WhiteSpac
 use Rattle.interpolator_syntax.proofs.FrontLemmas.{front_after}
 use Rattle.interpolator_syntax.proofs.LongestLemmas.{at_same, front_longest, longest_front}
 use Rattle.interpolator_syntax.proofs.GrammarPartLemmas.{ok_pair, Says, Stripped, stripped}
-use Rattle.interpolator_syntax.proofs.GrammarSpecLemmas.{agrees_spec, only_spec, only_no_spec}
+use Rattle.interpolator_syntax.proofs.GrammarSpecLemmas.{law_spec}
+use Rattle.interpolator_syntax.proofs.KeepLemmas.{still}
 
 -- ---- the name
 
@@ -58,7 +59,7 @@ name_found a name p b h =
 -- ---- what stands after the name
 
 -- what is answered after a name stands there
-abbrev Told : (start : ℕ) → (b : At) → Result (Asked × At) Fault → Type 0
+abbrev Told : (start : ℕ) → (b : At) → Result (Request × At) Fault → Type 0
 Told start b (Ok w) = Asks start b w.0 w.1
 Told start b (Err f) = AsksNothing start b f
 
@@ -80,24 +81,21 @@ module _ (start : ℕ) (b : At) where
   asked_told stops (Some q) y h k = inl ((q.text, h.split), refl, refl)
   asked_told stops None (Some m) h k =
       elim (spec_after start m) as (λ o. Says (spec start) m o → Told start b o)
-      [ Ok w ↦ λ s. inr (m, k, s) | Err f ↦ λ s. inr (m, k, s) ] ((agrees_spec start).says m)
+      [ Ok w ↦ λ s. inr (m, k, s) | Err f ↦ λ s. inr (m, k, s) ]
+      ((law_spec (still start)).agrees.says m)
   asked_told stops None None h k = inl (name_ends b.text stops h k, refl)
 
   after_colon : (m : At) → Lies b (colon ∷ []) m → asked_at start b ≡ spec_after start m
   after_colon m h =
       rw h.split (ap (spec_after start) (at_same (omega (arith, h.place)) refl))
 
-  only_asked : (x : Asked) (q : At) → Asks start b x q → asked_at start b ≡ Ok (x, q)
-  only_asked x q h = elim h [
-    | inl s ↦ rw s.0.1 (ok_pair (sym s.1) (at_same refl (sym s.0.1) ∙ sym s.2))
-    | inr s ↦ after_colon s.0 s.1 ∙ only_spec start s.0 q x s.2
-  ]
-
-  only_nothing : (f : Fault) → AsksNothing start b f → asked_at start b ≡ Err f
-  only_nothing f h = elim h [
-    | inl s ↦ rw (s.0, s.1) refl
-    | inr s ↦ after_colon s.0 s.1 ∙ only_no_spec start s.0 f s.2
-  ]
+  only_told : (o : Result (Request × At) Fault) → Told start b o → asked_at start b ≡ o
+  only_told (Ok w) (inl s) = rw s.0.1 (ok_pair (sym s.1) (at_same refl (sym s.0.1) ∙ sym s.2))
+  only_told (Ok w) (inr s) =
+      after_colon s.0 s.1 ∙ (law_spec (still start)).agrees.only s.0 w.1 w.0 s.2
+  only_told (Err f) (inl s) = rw (s.0, s.1) refl
+  only_told (Err f) (inr s) =
+      after_colon s.0 s.1 ∙ (law_spec (still start)).agrees.only_not s.0 f s.2
 
 -- ---- the whole argument
 
@@ -113,7 +111,7 @@ module _ (a : At) where
   ArgumentSays (Ok w) = IsArgument a w.0 w.1
   ArgumentSays (Err f) = IsNoArgument a f
 
-  told_says : (o : Result (Asked × At) Fault) → Told a.place (name_end a) o
+  told_says : (o : Result (Request × At) Fault) → Told a.place (name_end a) o
       → ArgumentSays (on o (λ y. give (argument (name_read a) (name_from a).place y)))
   told_says (Ok w) t = record { after = name_end a; named = named_is a; asks = t }
   told_says (Err f) t = record {
@@ -136,8 +134,8 @@ argument_is a q x e = subst (ArgumentSays a) e (argument_says a)
 pub only_argument : (a q : At) (x : Argument) → IsArgument a x q → argument_at a ≡ Ok (x, q)
 only_argument a q x h =
     name_found a x.name x.name_place h.after h.named
-    ∙ ap (λ (o : Result (Asked × At) Fault). on o (λ y. give (argument x.name x.name_place y)))
-    (only_asked a.place h.after (asked x) q h.asks)
+    ∙ ap (λ (o : Result (Request × At) Fault). on o (λ y. give (argument x.name x.name_place y)))
+    (only_told a.place h.after (Ok (asked x, q)) h.asks)
 
 pub broken_is : (a : At) (f : Fault) → argument_at a ≡ Err f → IsNoArgument a f
 broken_is a f e = subst (ArgumentSays a) e (argument_says a)
@@ -145,5 +143,5 @@ broken_is a f e = subst (ArgumentSays a) e (argument_says a)
 pub only_broken : (a : At) (f : Fault) → IsNoArgument a f → argument_at a ≡ Err f
 only_broken a f h =
     name_found a h.name h.name_place h.after h.named
-    ∙ ap (λ (o : Result (Asked × At) Fault). on o (λ y. give (argument h.name h.name_place y)))
-    (only_nothing a.place h.after f h.refused)
+    ∙ ap (λ (o : Result (Request × At) Fault). on o (λ y. give (argument h.name h.name_place y)))
+    (only_told a.place h.after (Err f) h.refused)

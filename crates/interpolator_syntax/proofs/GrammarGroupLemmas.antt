@@ -1,7 +1,7 @@
 -- A group is what opens it, its text and what closes it, and only such a text is a group.
 use Rattle.std.proofs.Common.{◌≡◌, ◌≢◌, ℕ, zero, suc, ◌+◌, cond, eqb, List, [], ◌∷◌, ◌++◌, length}
 use Rattle.std.proofs.Common.{arith, refl, ap, ◌∙◌, sym, subst, Ok, Err, Option, Some, None}
-use Rattle.std.proofs.Common.{append_assoc, ne_eqb, ◌⊎◌, inl, inr}
+use Rattle.std.proofs.Common.{append_assoc, ne_eqb}
 use Rattle.std.proofs.lemmas.List.{append-nil}
 use Rattle.std.proofs.lemmas.Bool.{eqb-true, eqb-false, cond_both}
 use Rattle.std.specs.Prelude.{codes}
@@ -12,12 +12,14 @@ use Rattle.interpolator_syntax.specs.Classes.{close_bracket}
 use Rattle.interpolator_syntax.specs.Groups.{Group, after_hashes, here_or_later, close_from}
 use Rattle.interpolator_syntax.specs.Groups.{closed_group, bracket_first, group_at}
 use Rattle.interpolator_syntax.specs.GroupGrammar.{sign_text, open_text, close_text, NoneCloses}
+use Rattle.interpolator_syntax.specs.ListGrammar.{group}
 use Rattle.interpolator_syntax.specs.GroupGrammar.{IsGroup, IsNoGroup, ends, no_bracket, no_end}
-use Rattle.interpolator_syntax.specs.Faults.{Fault, parse, unclosed, expected}
+use Rattle.interpolator_syntax.specs.Faults.{Fault, parse, expected}
 use Rattle.interpolator_syntax.specs.declared.class.Class.TheVariants.{Hash}
 use Rattle.interpolator_syntax.proofs.FrontLemmas.{front_after}
+use Rattle.interpolator_syntax.proofs.GrammarPartLemmas.{Says, Agrees}
 use Rattle.interpolator_syntax.proofs.LocalityLemmas.{size-append, stands}
-use Rattle.interpolator_syntax.proofs.CaseLemmas.{none_some, some_same, err_ok}
+use Rattle.interpolator_syntax.proofs.CaseLemmas.{none_some}
 
 -- ---- signs
 
@@ -87,50 +89,41 @@ pub record IsClose (k p : ℕ) (cs inner : List ℕ) (q : At) : Type 0 where
   pub place : q.place ≡ p + size inner + 1 + k
   pub first : NoneCloses k inner (close_text k ++ q.text)
 
-later_some : (c : ℕ) (o : Option (List ℕ × At)) (w : List ℕ × At) → here_or_later c None o ≡ Some w
-    → (v : List ℕ × At) × (o ≡ Some v) × ((c ∷ v.0, v.1) ≡ w)
-later_some c None w e = absurd (none_some e)
-later_some c (Some v) w e = (v, refl, some_same e)
+-- where a text closes, if it does
+abbrev pub Closes : (k p : ℕ) → List ℕ → Option (List ℕ × At) → Type 0
+Closes k p cs (Some w) = IsClose k p cs w.0 w.1
+Closes k p cs None = NoneCloses k cs []
 
-pub close_is : (k p : ℕ) (cs : List ℕ) (w : List ℕ × At) → close_from k p cs ≡ Some w
-    → IsClose k p cs w.0 w.1
-close_is k p [] w e = absurd (none_some e)
-close_is k p (c ∷ cs) w e =
+-- no bracket closes at c, and one may later
+later_says :
+    (k p c : ℕ) (cs : List ℕ) (o : Option (List ℕ × At)) → signs_at k p c cs ≡ None
+    → Closes k (p + len_utf8 c) cs o → Closes k p (c ∷ cs) (here_or_later c None o)
+later_says k p c cs (Some w) none there = record {
+  split = ap (λ xs. c ∷ xs) there.split;
+  place = omega (arith, there.place);
+  first =
+      none_closes k c w.0 (close_text k ++ w.1.text)
+      (λ rest same e. not_here k p c cs rest none same (there.split ∙ e)) there.first;
+}
+later_says k p c cs None none there =
+    none_closes k c cs []
+    (λ rest same e. not_here k p c cs rest none same (sym (append-nil cs) ∙ e)) there
+
+pub close_says : (k p : ℕ) (cs : List ℕ) → Closes k p cs (close_from k p cs)
+close_says k p [] = nothing_closes k []
+close_says k p (c ∷ cs) =
     let later = close_from k (p + len_utf8 c) cs in
-    let P = λ (v : List ℕ × At). IsClose k p (c ∷ cs) v.0 v.1 in
-    elim (signs_at k p c cs) as (λ o. signs_at k p c cs ≡ o → here_or_later c o later ≡ Some w
-    → P w) [
-      | Some q ↦ λ s h.
-          let here = signs_here k p c cs q s in
-          subst P (some_same h) (record {
+    elim (signs_at k p c cs) as (λ o. signs_at k p c cs ≡ o
+    → Closes k p (c ∷ cs) (here_or_later c o later)) [
+      | Some q ↦ λ e.
+          let here = signs_here k p c cs q e in
+          record {
             split = here.0;
             place = omega (arith, here.1);
             first = nothing_closes k (close_text k ++ q.text);
-          })
-      | None ↦ λ s h.
-          let l = later_some c later w h in
-          let there = close_is k (p + len_utf8 c) cs l.0 l.1 in
-          subst P l.2 (record {
-            split = ap (λ xs. c ∷ xs) there.split;
-            place = omega (arith, there.place);
-            first =
-                none_closes k c l.0.0 (close_text k ++ l.0.1.text)
-                (λ rest same f. not_here k p c cs rest s same (there.split ∙ f)) there.first;
-          })
-    ] refl e
-
-neither_closes : (c : ℕ) (o : Option At) (l : Option (List ℕ × At)) → here_or_later c o l ≡ None
-    → (o ≡ None) × (l ≡ None)
-neither_closes c o l e = grind arith
-
--- a text of which no end is found has none
-pub no_close_is : (k p : ℕ) (cs : List ℕ) → close_from k p cs ≡ None → NoneCloses k cs []
-no_close_is k p [] e = nothing_closes k []
-no_close_is k p (c ∷ cs) e =
-    let none = neither_closes c (signs_at k p c cs) (close_from k (p + len_utf8 c) cs) e in
-    none_closes k c cs []
-    (λ rest same f. not_here k p c cs rest none.0 same (sym (append-nil cs) ∙ f))
-    (no_close_is k (p + len_utf8 c) cs none.1)
+          }
+      | None ↦ λ e. later_says k p c cs later e (close_says k (p + len_utf8 c) cs)
+    ] refl
 
 pub only_close :
     (k p : ℕ) (inner rest : List ℕ) → NoneCloses k inner (close_text k ++ rest)
@@ -188,23 +181,6 @@ group_of_signs start k a rest e h =
     let front = signs_front k rest h in
     rw (e, front.0, front.1, sign_length k, sign_size k) refl
 
--- each text is signs and a rest that begins with none
-pub record Signed (a : At) : Type 0 where
-  pub k : ℕ
-  pub rest : List ℕ
-  pub split : a.text ≡ sign_text k ++ rest
-  pub no_sign : NoSign rest
-
-pub signed : (a : At) → Signed a
-signed a = record {
-  k = length (front_of (in_class Hash) a.text);
-  rest = after_of (in_class Hash) a.text;
-  split =
-      sym (front_after (in_class Hash) a.text) ∙ ap (λ xs. xs ++ after_of (in_class Hash) a.text)
-      (all_signs a.text);
-  no_sign = after_no_sign a.text;
-}
-
 opened : (k : ℕ) (rest : List ℕ) → open_text k ++ rest ≡ sign_text k ++ (open_bracket ∷ rest)
 opened k rest = append_assoc (sign_text k) (open_bracket ∷ []) rest
 
@@ -214,39 +190,10 @@ open_size k = omega (arith, size-append (sign_text k) (open_bracket ∷ []), sig
 pub close_size : (inner : List ℕ) (k : ℕ) → size (inner ++ close_text k) ≡ size inner + 1 + k
 close_size inner k = omega (arith, size-append inner (close_text k), sign_size k)
 
--- a bracket that opens a group, and where that closes
-opens : (start k p c : ℕ) (cs : List ℕ) (g : Group) (q : At)
-    → bracket_first start k (stands p (c ∷ cs)) (first_of p (c ∷ cs)) ≡ Ok (g, q)
-    → (c ≡ open_bracket) × (g.place ≡ p + 1) × (close_from k (p + 1) cs ≡ Some (g.text, q))
-opens start k p c cs g q h = grind (arith, eqb-true)
-
--- what a group is, after its signs
-bracket_is : (start k : ℕ) (a : At) (rest : List ℕ) (g : Group) (q : At) → a.text
-    ≡ sign_text k ++ rest → bracket_first start k (stands (a.place + k) rest)
-    (first_of (a.place + k) rest) ≡ Ok (g, q) → IsGroup a g q
-bracket_is start k a [] g q e h = absurd (err_ok h)
-bracket_is start k a (c ∷ cs) g q e h =
-    let o = opens start k (a.place + k) c cs g q h in
-    let is = close_is k (a.place + k + 1) cs (g.text, q) o.2 in
-    record {
-      k = k;
-      split = e ∙ rw (o.0, is.split) (sym (opened k _));
-      first = is.first;
-      place = omega (arith, o.1, open_size k);
-      end_place = omega (arith, o.1, is.place, close_size g.text k);
-    }
-
-pub group_is : (start : ℕ) (a : At) (g : Group) (q : At) → group_at start a ≡ Ok (g, q)
-    → IsGroup a g q
-group_is start a g q e =
-    let s = signed a in
-    bracket_is start s.k a s.rest g q s.split
-    (sym (group_of_signs start s.k a s.rest s.split s.no_sign) ∙ e)
-
 open_no_hash : open_bracket ≢ hash
 open_no_hash e = cc
 
-pub only_group : (start : ℕ) (a : At) (g : Group) (q : At) → IsGroup a g q → group_at start a
+only_group : (start : ℕ) (a : At) (g : Group) (q : At) → IsGroup a g q → group_at start a
     ≡ Ok (g, q)
 only_group start a g q h =
     let tail = g.text ++ (close_text h.k ++ q.text) in
@@ -258,33 +205,38 @@ only_group start a g q h =
     ∙ ap (closed_group start p) (only_close h.k p g.text q.text h.first)
     ∙ rw (there, here) refl
 
--- no bracket stands there, or one whose group does not close
-not_opened : (start k p c : ℕ) (cs : List ℕ) (f : Fault)
-    → bracket_first start k (stands p (c ∷ cs)) (first_of p (c ∷ cs)) ≡ Err f
-    → ((c ≢ open_bracket) × (f ≡ parse (expected (codes "(") p)))
-    ⊎ ((c ≡ open_bracket) × (close_from k (p + 1) cs ≡ None) × (f ≡ parse (unclosed start)))
-not_opened start k p c cs f h = grind (arith, eqb-true, eqb-false)
+module _ (start k : ℕ) (a : At) where
+  -- what a bracket opens, by where it closes
+  opened_says :
+      (p : ℕ) (cs : List ℕ) (o : Option (List ℕ × At)) → p ≡ a.place + k + 1
+      → a.text ≡ open_text k ++ cs → Closes k p cs o → Says (group start) a (closed_group start p o)
+  opened_says p cs None e split none = no_end k cs split none refl
+  opened_says p cs (Some w) e split close = record {
+    k = k;
+    split = split ∙ ap (λ xs. open_text k ++ xs) close.split;
+    first = close.first;
+    place = omega (arith, e, open_size k);
+    end_place = omega (arith, close.place, close_size w.0 k);
+  }
 
--- why there is none, after the signs
-no_bracket_is : (start k : ℕ) (a : At) (rest : List ℕ) (f : Fault) → a.text ≡ sign_text k ++ rest
-    → NoSign rest → bracket_first start k (stands (a.place + k) rest) (first_of (a.place + k) rest)
-    ≡ Err f → IsNoGroup start a f
-no_bracket_is start k a [] f e bare h =
-    let same : parse (unclosed start) ≡ f = cc in ends k (e ∙ append-nil (sign_text k)) (sym same)
-no_bracket_is start k a (c ∷ cs) f e bare h =
-    elim (not_opened start k (a.place + k) c cs f h) [
-      | inl n ↦ no_bracket k c cs e bare n.0 (rw (sign_size k) n.1)
-      | inr n ↦
-          no_end k cs (e ∙ rw n.0 (sym (opened k cs))) (no_close_is k (a.place + k + 1) cs n.1) n.2
-    ]
+  -- what stands after the signs
+  bracket_says :
+      (rest : List ℕ) → a.text ≡ sign_text k ++ rest → NoSign rest
+      → Says (group start) a
+      (bracket_first start k (stands (a.place + k) rest) (first_of (a.place + k) rest))
+  bracket_says [] e bare = ends k (e ∙ append-nil (sign_text k)) refl
+  bracket_says (c ∷ cs) e bare =
+      cond_both (eqb c open_bracket) _ _ (Says (group start) a)
+      (λ t.
+      let first = eqb-true c open_bracket t in
+      let one = ap len_utf8 first in
+      let split = e ∙ ap (λ n. sign_text k ++ (n ∷ cs)) first ∙ sym (opened k cs) in
+      opened_says (a.place + k + len_utf8 c) cs _ (omega (arith, one)) split (close_says k _ cs))
+      (λ t.
+      let place = ap (λ n. parse (expected (codes "(") (a.place + n))) (sym (sign_size k)) in
+      no_bracket k c cs e bare (eqb-false c open_bracket t) place)
 
-pub no_group_is : (start : ℕ) (a : At) (f : Fault) → group_at start a ≡ Err f → IsNoGroup start a f
-no_group_is start a f e =
-    let s = signed a in
-    no_bracket_is start s.k a s.rest f s.split s.no_sign
-    (sym (group_of_signs start s.k a s.rest s.split s.no_sign) ∙ e)
-
-pub only_no_group : (start : ℕ) (a : At) (f : Fault) → IsNoGroup start a f → group_at start a
+only_no_group : (start : ℕ) (a : At) (f : Fault) → IsNoGroup start a f → group_at start a
     ≡ Err f
 only_no_group start a f (ends k e d) =
     group_of_signs start k a [] (e ∙ sym (append-nil (sign_text k))) tt ∙ ap Err (sym d)
@@ -295,6 +247,20 @@ only_no_group start a f (no_end k inner e none d) =
     group_of_signs start k a (open_bracket ∷ inner) (e ∙ opened k inner) open_no_hash
     ∙ ap (closed_group start (a.place + k + 1)) (only_no_close k (a.place + k + 1) inner none)
     ∙ ap Err (sym d)
+
+pub agrees_group : (start : ℕ) → Agrees (group_at start) (group start)
+agrees_group start = record {
+  says = λ a.
+      let k = length (front_of (in_class Hash) a.text) in
+      let rest = after_of (in_class Hash) a.text in
+      let split =
+      sym (front_after (in_class Hash) a.text) ∙ ap (λ xs. xs ++ rest) (all_signs a.text) in
+      let bare = after_no_sign a.text in
+      subst (Says (group start) a) (sym (group_of_signs start k a rest split bare))
+      (bracket_says start k a rest split bare);
+  only = λ a q g. only_group start a g q;
+  only_not = only_no_group start;
+}
 
 -- no two groups begin at one place
 pub one_group : (a q r : At) (g h : Group) → IsGroup a g q → IsGroup a h r → (g ≡ h) × (q ≡ r)

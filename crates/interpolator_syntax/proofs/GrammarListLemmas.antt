@@ -1,30 +1,37 @@
--- The text after the letter of a list is its parts, one after the other, both ways.
-use Rattle.std.proofs.Common.{◌≡◌, ℕ, ◌+◌, Bool, List, [], ◌∷◌, arith, refl, ap, ◌∙◌, sym}
-use Rattle.std.proofs.Common.{Result, Ok, Err, Option, Some, None, inl, inr}
+-- The text after the letter of a list is its parts, one after the other, both ways; and what its
+-- readers keep.
+use Rattle.std.proofs.Common.{◌≡◌, ℕ, ◌+◌, Bool, List, [], ◌∷◌, arith, refl, ap, ◌∙◌, sym, subst}
+use Rattle.std.proofs.Common.{Result, Ok, Option, Some, None, option_map, inl, inr}
+use Rattle.interpolator_render.specs.declared.view.Trait.{Trait}
+use Rattle.interpolator_render.specs.declared.view.Trait.TheVariants as traits
 use Rattle.interpolator_syntax.specs.At.{At, strip}
 use Rattle.interpolator_syntax.specs.Classes.{point, equals}
-use Rattle.interpolator_syntax.specs.Readers.{on, give, was_there}
+use Rattle.interpolator_syntax.specs.Readers.{on, ◌>>=◌, give, was_there, flag}
 use Rattle.interpolator_syntax.specs.Ranges.{second_point, first_point, points as read_points}
 use Rattle.interpolator_syntax.specs.Ranges.{upper_at, range_at}
-use Rattle.interpolator_syntax.specs.Groups.{Group, group_at, group_if}
-use Rattle.interpolator_syntax.specs.Lists.{ListAsked, list_at}
+use Rattle.interpolator_syntax.specs.Groups.{group_at, group_if}
+use Rattle.interpolator_syntax.specs.Lists.{list_at}
+use Rattle.interpolator_syntax.specs.SpecTexts.{of_value, of_list, kind_at}
 use Rattle.interpolator_syntax.specs.Grammar.{from_place}
 use Rattle.interpolator_syntax.specs.GrammarParts.{Lies}
-use Rattle.interpolator_syntax.specs.ListGrammar.{NoPoints, points, upper, range, IsRange}
-use Rattle.interpolator_syntax.specs.ListGrammar.{IsNoRange, opens_group, group, group_there, list}
-use Rattle.interpolator_syntax.specs.ListGrammar.{IsList, IsNoList}
+use Rattle.interpolator_syntax.specs.ListGrammar.{NoPoints, points, upper, range, opens_group}
+use Rattle.interpolator_syntax.specs.ListGrammar.{group, group_there, list}
+use Rattle.interpolator_syntax.specs.SpecGrammar.{kind}
 use Rattle.interpolator_syntax.specs.Faults.{Fault}
-use Rattle.interpolator_syntax.specs.declared.range.Range.{Range}
-use Rattle.interpolator_syntax.proofs.GrammarGroupLemmas.{group_is, only_group, no_group_is}
-use Rattle.interpolator_syntax.proofs.GrammarGroupLemmas.{only_no_group}
-use Rattle.interpolator_syntax.proofs.GrammarPartLemmas.{ok_pair, Says, Agrees, agrees_is}
-use Rattle.interpolator_syntax.proofs.GrammarPartLemmas.{agrees_is_not, agrees_then}
-use Rattle.interpolator_syntax.proofs.GrammarPartLemmas.{agrees_ends, Stripped, stripped}
-use Rattle.interpolator_syntax.proofs.GrammarPartLemmas.{strip_not}
-use Rattle.interpolator_syntax.proofs.GrammarOptionLemmas.{agrees_same, agrees_where_first}
-use Rattle.interpolator_syntax.proofs.GrammarOptionLemmas.{agrees_bound}
-use Rattle.interpolator_syntax.proofs.LongestLemmas.{at_same}
+use Rattle.interpolator_syntax.specs.Moved.{moved_group, moved_list, moved_kind}
 use Rattle.interpolator_syntax.proofs.CaseLemmas.{tail_same}
+use Rattle.interpolator_syntax.proofs.GrammarGroupLemmas.{agrees_group}
+use Rattle.interpolator_syntax.proofs.GrammarOptionLemmas.{law_where, law_bound}
+use Rattle.interpolator_syntax.proofs.GrammarPartLemmas.{ok_pair, Says, Agrees, Stripped, stripped}
+use Rattle.interpolator_syntax.proofs.GrammarPartLemmas.{strip_not}
+use Rattle.interpolator_syntax.proofs.GroupReaderLemmas.{reads_group}
+use Rattle.interpolator_syntax.proofs.KeepLemmas.{Setting, stays, elsewhere, IsSettled, Reads}
+use Rattle.interpolator_syntax.proofs.KeepLemmas.{keeps_stay, keeps_strip, keeps_strip_at, keeps_on}
+use Rattle.interpolator_syntax.proofs.KeepLemmas.{reads_then}
+use Rattle.interpolator_syntax.proofs.LocalityLemmas.{takes_then, Guarded}
+use Rattle.interpolator_syntax.proofs.LongestLemmas.{at_same}
+use Rattle.interpolator_syntax.proofs.SimpleReaderLemmas.{reads_give, law_flag, Law, law_then}
+use Rattle.interpolator_syntax.proofs.SimpleReaderLemmas.{law_same, law_ends}
 
 -- ---- points
 
@@ -85,69 +92,77 @@ agrees_points = record {
 
 -- ---- ranges
 
-module _ (start : ℕ) where
-  agrees_upper :
-      (inclusive : Option Bool) → Agrees (upper_at start inclusive) (upper start inclusive)
-  agrees_upper None = agrees_ends None
-  agrees_upper (Some inclusive) = agrees_bound start
+module _ (s : Setting) where
+  -- no closing brace is lost with a point
+  point_settled : (cs ds : List ℕ) → cs ≡ point ∷ ds → IsSettled s cs → IsSettled s ds
+  point_settled cs ds e (inr none) = inr none
+  point_settled cs ds e (inl guard) =
+      elim (subst Guarded e guard) [
+        | inl same ↦ absurd (omega (arith, same))
+        | inr more ↦ inl more
+      ]
 
-  agrees_range : Agrees (range_at start) (range start)
-  unfolding range_at
-  agrees_range =
-      agrees_then _ _ _ _ (agrees_bound start) (λ lower.
-      agrees_then _ _ _ _ agrees_points (λ inclusive.
-      agrees_then _ _ _ _ (agrees_upper inclusive) (λ upper. agrees_ends _)))
+  reads_inclusive :
+      Reads s stays (flag equals >>= λ inclusive. give (Some inclusive))
+      (flag equals >>= λ inclusive. give (Some inclusive))
+  reads_inclusive =
+      let law = law_flag s equals in reads_then _ law.reads (λ inclusive. reads_give s stays _)
 
-  pub range_is : (a q : At) (x : Option Range) → range_at start a ≡ Ok (x, q)
-      → IsRange start a x q
-  range_is = agrees_is (range_at start) (range start) agrees_range
-
-  pub only_range : (a q : At) (x : Option Range) → IsRange start a x q
-      → range_at start a ≡ Ok (x, q)
-  only_range = agrees_range.only
-
-  pub no_range_is : (a : At) (f : Fault) → range_at start a ≡ Err f → IsNoRange start a f
-  no_range_is = agrees_is_not (range_at start) (range start) agrees_range
-
-  pub only_no_range : (a : At) (f : Fault) → IsNoRange start a f → range_at start a ≡ Err f
-  only_no_range = agrees_range.only_not
-
-  -- ---- groups
-
-  group_says : (a : At) (o : Result (Group × At) Fault) → group_at start a ≡ o
-      → Says (group start) a o
-  group_says a (Ok w) e = group_is start a w.0 w.1 e
-  group_says a (Err f) e = no_group_is start a f e
-
-  agrees_group : Agrees (group_at start) (group start)
-  agrees_group = record {
-    says = λ a. group_says a (group_at start a) refl;
-    only = λ a q g t. only_group start a g q t;
-    only_not = λ a f t. only_no_group start a f t;
+  -- after a point one character more is looked at
+  law_points : Law s stays read_points read_points points
+  law_points = record {
+    agrees = agrees_points;
+    reads = record {
+      keeps = λ a.
+          let b = elsewhere s a in
+          keeps_strip s stays point a.place a.text (first_point a) (first_point b)
+          (keeps_stay s stays a None)
+          (λ rest e t.
+          keeps_strip_at s stays a point rest.place rest.text (second_point a) (second_point b)
+          (point_settled a.text rest.text e) (keeps_stay s stays a None)
+          (λ end f u. keeps_on reads_inclusive a end (takes_then a rest end t u)));
+    };
   }
 
-  agrees_group_there : Agrees (group_if start) (group_there start)
-  agrees_group_there =
-      let some = agrees_then _ _ _ _ agrees_group (λ g. agrees_ends (Some g)) in
-      agrees_same (λ a. grind arith) (agrees_where_first opens_group _ _ some)
+  law_upper :
+      (inclusive : Option Bool)
+      → Law s stays (upper_at s.start inclusive) (upper_at (s.start + s.by) inclusive)
+      (upper s.start inclusive)
+  law_upper None = law_ends s stays None
+  law_upper (Some inclusive) = law_bound s
 
-  -- ---- the whole
+  pub law_range : Law s stays (range_at s.start) (range_at (s.start + s.by)) (range s.start)
+  unfolding range_at
+  law_range =
+      law_then _ (law_bound s) (λ lower.
+      law_then _ law_points (λ inclusive.
+      law_then _ (law_upper inclusive) (λ upper. law_ends s stays _)))
 
-  pub agrees_list : Agrees (list_at start) (list start)
+  -- ---- groups and lists
+
+  pub law_group :
+      Law s (moved_group s.by) (group_at s.start) (group_at (s.start + s.by)) (group s.start)
+  law_group = record { agrees = agrees_group s.start; reads = reads_group s }
+
+  law_group_there :
+      Law s (option_map (moved_group s.by)) (group_if s.start) (group_if (s.start + s.by))
+      (group_there s.start)
+  law_group_there =
+      let move = option_map (moved_group s.by) in
+      law_same (λ a. grind arith) (λ a. grind arith)
+      (law_where opens_group refl
+      (law_then (λ g. give (Some g)) law_group (λ g. law_ends s move (Some g))))
+
+  pub law_list : Law s (moved_list s.by) (list_at s.start) (list_at (s.start + s.by)) (list s.start)
   unfolding list_at
-  agrees_list =
-      agrees_then _ _ _ _ agrees_range (λ range.
-      agrees_then _ _ _ _ agrees_group_there (λ item.
-      agrees_then _ _ _ _ agrees_group_there (λ join. agrees_ends _)))
+  law_list =
+      law_then _ law_range (λ range.
+      law_then _ law_group_there (λ item.
+      law_then _ law_group_there (λ join. law_ends s (moved_list s.by) _)))
 
-  pub list_is : (a q : At) (x : ListAsked) → list_at start a ≡ Ok (x, q) → IsList start a x q
-  list_is = agrees_is (list_at start) (list start) agrees_list
-
-  pub only_list : (a q : At) (x : ListAsked) → IsList start a x q → list_at start a ≡ Ok (x, q)
-  only_list = agrees_list.only
-
-  pub no_list_is : (a : At) (f : Fault) → list_at start a ≡ Err f → IsNoList start a f
-  no_list_is = agrees_is_not (list_at start) (list start) agrees_list
-
-  pub only_no_list : (a : At) (f : Fault) → IsNoList start a f → list_at start a ≡ Err f
-  only_no_list = agrees_list.only_not
+  -- what is asked for under a trait
+  pub law_kind :
+      (t : Trait)
+      → Law s (moved_kind s.by) (kind_at s.start t) (kind_at (s.start + s.by) t) (kind s.start t)
+  law_kind traits.Iter = law_then _ law_list (λ l. law_ends s (moved_kind s.by) (of_list l))
+  law_kind t = law_ends s (moved_kind s.by) (of_value t)

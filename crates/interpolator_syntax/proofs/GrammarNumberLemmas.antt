@@ -13,8 +13,8 @@ use Rattle.interpolator_syntax.specs.Classes.{minus, zero_digit}
 use Rattle.interpolator_syntax.specs.Numbers.{with_digit, digits_after, natural, signed, negated}
 use Rattle.interpolator_syntax.specs.Numbers.{negative, integer}
 use Rattle.interpolator_syntax.specs.NumberGrammar.{decimal_value, AreDigits, IsNumber, IsStopped}
-use Rattle.interpolator_syntax.specs.NumberGrammar.{IsStop, IsNoNumber, IsSigned, IsInteger}
-use Rattle.interpolator_syntax.specs.NumberGrammar.{IsNoInteger}
+use Rattle.interpolator_syntax.specs.NumberGrammar.{IsStop, IsNoNumber, IsSigned}
+use Rattle.interpolator_syntax.specs.NumberGrammar.{Spelling, naturals, integers}
 use Rattle.interpolator_syntax.specs.declared.error.NumberError.{NumberError}
 use Rattle.interpolator_syntax.specs.declared.error.NumberError.TheVariants.{Empty, PosOverflow}
 use Rattle.interpolator_syntax.specs.declared.error.NumberError.TheVariants.{NegOverflow}
@@ -160,41 +160,47 @@ none_empty limit overflow kind (inl k) = k.1
 none_empty limit overflow kind (inr s) =
     absurd (omega (arith, ap length s.split, length-append s.front (s.c ∷ s.rest)))
 
+-- ---- what is read from a text, and what the text spells
+
+-- what is read is what the text spells, or why it spells none
+abbrev pub Tells : {A : Type 0} → Spelling A → List ℕ → Result A NumberError → Type 0
+Tells spelling text (Ok n) = spelling.spells text n
+Tells spelling text (Err kind) = spelling.spells_none text kind
+
+pub record Decides {A : Type 0} (read : List ℕ → Result A NumberError) (spelling : Spelling A)
+    : Type 0 where
+  pub says : (text : List ℕ) → Tells spelling text (read text)
+  pub only : (text : List ℕ) (o : Result A NumberError) → Tells spelling text o → read text ≡ o
+
+pub decides_is :
+    {A : Type 0} {read : List ℕ → Result A NumberError} {spelling : Spelling A}
+    → Decides read spelling → (text : List ℕ) (o : Result A NumberError) → read text ≡ o
+    → Tells spelling text o
+decides_is {spelling = spelling} h text o e = subst (Tells spelling text) e (h.says text)
+
 -- ---- a number without a sign
 
-natural_says : (text : List ℕ) → Says (2 ^ 64) PosOverflow text (natural text)
+natural_says : (text : List ℕ) → Tells naturals text (natural text)
 natural_says [] = inl (refl, refl)
 natural_says (c ∷ cs) = says (2 ^ 64) PosOverflow c cs (omega arith)
 
-pub natural_is : (text : List ℕ) (n : ℕ) → natural text ≡ Ok n → IsNumber (2 ^ 64) text n
-natural_is text n e = subst (Says (2 ^ 64) PosOverflow text) e (natural_says text)
+only_natural : (text : List ℕ) (o : Result ℕ NumberError) → Tells naturals text o
+    → natural text ≡ o
+only_natural [] (Ok n) h = absurd (h.not_empty refl)
+only_natural (c ∷ cs) (Ok n) h = only_number (2 ^ 64) PosOverflow (c ∷ cs) n h
+only_natural [] (Err kind) h = ap Err (sym (none_empty (2 ^ 64) PosOverflow kind h))
+only_natural (c ∷ cs) (Err kind) h = only_none (2 ^ 64) PosOverflow c cs kind h
 
-pub only_natural : (text : List ℕ) (n : ℕ) → IsNumber (2 ^ 64) text n → natural text ≡ Ok n
-only_natural [] n h = absurd (h.not_empty refl)
-only_natural (c ∷ cs) n h = only_number (2 ^ 64) PosOverflow (c ∷ cs) n h
-
-pub no_natural_is :
-    (text : List ℕ) (kind : NumberError) → natural text ≡ Err kind
-    → IsNoNumber (2 ^ 64) PosOverflow text kind
-no_natural_is text kind e = subst (Says (2 ^ 64) PosOverflow text) e (natural_says text)
-
-pub only_no_natural :
-    (text : List ℕ) (kind : NumberError) → IsNoNumber (2 ^ 64) PosOverflow text kind
-    → natural text ≡ Err kind
-only_no_natural [] kind h = ap Err (sym (none_empty (2 ^ 64) PosOverflow kind h))
-only_no_natural (c ∷ cs) kind h = only_none (2 ^ 64) PosOverflow c cs kind h
+pub naturals_decide : Decides natural naturals
+naturals_decide = record { says = natural_says; only = only_natural }
 
 -- ---- an integer
-
-abbrev IntegerSays : List ℕ → Result ℤ NumberError → Type 0
-IntegerSays text (Ok z) = IsInteger text z
-IntegerSays text (Err kind) = IsNoInteger text kind
 
 sign_first : (c d : ℕ) (ds : List ℕ) → eqb c minus ≡ true → IsSigned (c ∷ d ∷ ds) (d ∷ ds)
 sign_first c d ds t =
     record { split = ap (λ n. n ∷ d ∷ ds) (eqb-true c minus t); not_empty = λ e. cc }
 
-negative_says : (c : ℕ) (cs : List ℕ) → eqb c minus ≡ true → IntegerSays (c ∷ cs) (negative cs)
+negative_says : (c : ℕ) (cs : List ℕ) → eqb c minus ≡ true → Tells integers (c ∷ cs) (negative cs)
 negative_says c [] t = inl (
   λ after s. let e = s.split in let none : after ≡ [] = cc in s.not_empty none,
   inr (record {
@@ -210,28 +216,21 @@ negative_says c [] t = inl (
 negative_says c (d ∷ ds) t = by_digits _ (says (2 ^ 63 + 1) NegOverflow d ds (omega arith))
   where
     by_digits : (r : Result ℕ NumberError) → Says (2 ^ 63 + 1) NegOverflow (d ∷ ds) r
-        → IntegerSays (c ∷ d ∷ ds) (signed negated r)
+        → Tells integers (c ∷ d ∷ ds) (signed negated r)
     by_digits (Ok n) h = inr (d ∷ ds, n, sign_first c d ds t, h, refl)
     by_digits (Err kind) h = inr (d ∷ ds, sign_first c d ds t, h)
 
 positive_says : (c : ℕ) (cs : List ℕ) (r : Result ℕ NumberError) → eqb c minus ≡ false
-    → Says (2 ^ 63) PosOverflow (c ∷ cs) r → IntegerSays (c ∷ cs) (signed pos r)
+    → Says (2 ^ 63) PosOverflow (c ∷ cs) r → Tells integers (c ∷ cs) (signed pos r)
 positive_says c cs (Ok n) t h = inl (n, h, refl)
 positive_says c cs (Err kind) t h =
     inl (λ after s. let k = s.split in eqb-false c minus t (cc), h)
 
-integer_says : (text : List ℕ) → IntegerSays text (integer text)
+integer_says : (text : List ℕ) → Tells integers text (integer text)
 integer_says [] = inl (λ after s. let k = s.split in cc, inl (refl, refl))
 integer_says (c ∷ cs) =
-    cond_both (eqb c minus) _ _ (IntegerSays (c ∷ cs)) (negative_says c cs)
+    cond_both (eqb c minus) _ _ (Tells integers (c ∷ cs)) (negative_says c cs)
     (λ t. positive_says c cs _ t (says (2 ^ 63) PosOverflow c cs (omega arith)))
-
-pub integer_is : (text : List ℕ) (z : ℤ) → integer text ≡ Ok z → IsInteger text z
-integer_is text z e = subst (IntegerSays text) e (integer_says text)
-
-pub no_integer_is :
-    (text : List ℕ) (kind : NumberError) → integer text ≡ Err kind → IsNoInteger text kind
-no_integer_is text kind e = subst (IntegerSays text) e (integer_says text)
 
 only_positive : (text : List ℕ) (n : ℕ) → IsNumber (2 ^ 63) text n → integer text ≡ Ok (pos n)
 only_positive [] n h = absurd (h.not_empty refl)
@@ -246,12 +245,6 @@ only_negative :
     → negative after ≡ Ok (negated n)
 only_negative [] n h = absurd (h.not_empty refl)
 only_negative (d ∷ ds) n h = ap (signed negated) (only_number (2 ^ 63 + 1) NegOverflow (d ∷ ds) n h)
-
-pub only_integer : (text : List ℕ) (z : ℤ) → IsInteger text z → integer text ≡ Ok z
-only_integer text z h = elim h [
-  | inl k ↦ only_positive text k.0 k.1 ∙ ap Ok (sym k.2)
-  | inr k ↦ ap integer k.2.split ∙ only_negative k.0 k.1 k.3 ∙ ap Ok (sym k.4)
-]
 
 -- where a text without a sign begins with `-`, that stands alone
 only_lone :
@@ -277,9 +270,14 @@ only_no_negative [] kind unsigned h = absurd (unsigned refl)
 only_no_negative (d ∷ ds) kind unsigned h =
     ap (signed negated) (only_none (2 ^ 63 + 1) NegOverflow d ds kind h)
 
-pub only_no_integer :
-    (text : List ℕ) (kind : NumberError) → IsNoInteger text kind → integer text ≡ Err kind
-only_no_integer text kind h = elim h [
-  | inl k ↦ only_unsigned text kind k.0 k.1
-  | inr k ↦ ap integer k.1.split ∙ only_no_negative k.0 kind k.1.not_empty k.2
-]
+only_integer : (text : List ℕ) (o : Result ℤ NumberError) → Tells integers text o
+    → integer text ≡ o
+only_integer text (Ok z) (inl k) = only_positive text k.0 k.1 ∙ ap Ok (sym k.2)
+only_integer text (Ok z) (inr k) =
+    ap integer k.2.split ∙ only_negative k.0 k.1 k.3 ∙ ap Ok (sym k.4)
+only_integer text (Err kind) (inl k) = only_unsigned text kind k.0 k.1
+only_integer text (Err kind) (inr k) =
+    ap integer k.1.split ∙ only_no_negative k.0 kind k.1.not_empty k.2
+
+pub integers_decide : Decides integer integers
+integers_decide = record { says = integer_says; only = only_integer }

@@ -1,43 +1,37 @@
--- Parts that may be absent, and numbers: readers that agree with them.
-use Rattle.std.proofs.Common.{◌≡◌, ℕ, Bool, cond, List, [], ◌∷◌, refl, ap, ◌∙◌, sym, subst}
-use Rattle.std.proofs.Common.{Result, Ok, Err, Option, Some, None, inl, inr, arith}
+-- Parts that may be absent, and numbers: the laws of their readers.
+use Rattle.std.proofs.Common.{◌≡◌, ℕ, ◌+◌, Bool, cond, List, [], ◌∷◌, arith, refl, ap, ◌∙◌, sym}
+use Rattle.std.proofs.Common.{Result, Ok, Err, Option, Some, None, inl, inr}
 use Rattle.std.specs.Char.{is_ascii_digit}
 use Rattle.std.proofs.lemmas.Bool.{cond_both}
 use Rattle.interpolator_syntax.specs.At.{At, first, first_of, strip}
 use Rattle.interpolator_syntax.specs.Numbers.{natural, integer}
-use Rattle.interpolator_syntax.specs.Readers.{Reader}
+use Rattle.interpolator_syntax.specs.Readers.{Reader, ◌>>=◌ as ◌>>>◌, run as read_run}
 use Rattle.interpolator_syntax.specs.Classes.{in_class, point}
-use Rattle.interpolator_syntax.specs.SpecTexts.{number_at, width_at, if_point, precision_at}
-use Rattle.interpolator_syntax.specs.Ranges.{bound_at, bound_if}
+use Rattle.interpolator_syntax.specs.SpecTexts.{number_or, number_at, width_at, if_point}
+use Rattle.interpolator_syntax.specs.SpecTexts.{precision_at}
+use Rattle.interpolator_syntax.specs.Ranges.{bound_or, bound_if}
 use Rattle.interpolator_syntax.specs.Grammar.{from_place}
 use Rattle.interpolator_syntax.specs.NumberGrammar.{Spelling, naturals, integers}
 use Rattle.interpolator_syntax.specs.GrammarParts.{Part, FirstPasses, NonePasses, where_first}
 use Rattle.interpolator_syntax.specs.GrammarParts.{where_after, spelled, number}
 use Rattle.interpolator_syntax.specs.SpecGrammar.{width, precision}
 use Rattle.interpolator_syntax.specs.ListGrammar.{bound}
-use Rattle.interpolator_syntax.specs.Faults.{Fault, ParseFault, parse, invalid_width}
-use Rattle.interpolator_syntax.specs.Faults.{invalid_precision}
-use Rattle.interpolator_syntax.specs.Faults.{range_bound}
+use Rattle.interpolator_syntax.specs.Faults.{Fault, ParseFault, parse, parse_place, range_bound}
+use Rattle.interpolator_syntax.specs.Faults.{invalid_width, invalid_precision}
+use Rattle.interpolator_syntax.specs.Moved.{moved_parse_fault}
 use Rattle.interpolator_syntax.specs.declared.error.NumberError.{NumberError}
 use Rattle.interpolator_syntax.specs.declared.class.Class.TheVariants.{Number}
-use Rattle.interpolator_syntax.proofs.GrammarNumberLemmas.{natural_is, only_natural}
-use Rattle.interpolator_syntax.proofs.GrammarNumberLemmas.{no_natural_is, only_no_natural}
-use Rattle.interpolator_syntax.proofs.GrammarNumberLemmas.{integer_is, only_integer}
-use Rattle.interpolator_syntax.proofs.GrammarNumberLemmas.{no_integer_is, only_no_integer}
-use Rattle.interpolator_syntax.proofs.GrammarPartLemmas.{ok_pair, Says, Agrees, agrees_then}
-use Rattle.interpolator_syntax.proofs.GrammarPartLemmas.{agrees_placed, agrees_run, Stripped}
-use Rattle.interpolator_syntax.proofs.GrammarPartLemmas.{stripped, strip_lies, strip_not}
 use Rattle.interpolator_syntax.proofs.CaseLemmas.{head_same}
-
--- a reader that answers as one that agrees
-pub agrees_same :
-    {A : Type 0} {read other : Reader A} {part : Part A} → ((a : At) → read a ≡ other a)
-    → Agrees other part → Agrees read part
-agrees_same {part = part} same h = record {
-  says = λ a. subst (Says part a) (sym (same a)) (h.says a);
-  only = λ a q x t. same a ∙ h.only a q x t;
-  only_not = λ a f t. same a ∙ h.only_not a f t;
-}
+use Rattle.interpolator_syntax.proofs.GrammarNumberLemmas.{Tells, Decides, naturals_decide}
+use Rattle.interpolator_syntax.proofs.GrammarNumberLemmas.{integers_decide}
+use Rattle.interpolator_syntax.proofs.GrammarPartLemmas.{ok_pair, Says, Agrees, agrees_then}
+use Rattle.interpolator_syntax.proofs.GrammarPartLemmas.{agrees_same, agrees_placed, agrees_run}
+use Rattle.interpolator_syntax.proofs.GrammarPartLemmas.{Stripped, stripped, strip_lies, strip_not}
+use Rattle.interpolator_syntax.proofs.KeepLemmas.{Setting, stays, elsewhere, IsSettled, Keeps}
+use Rattle.interpolator_syntax.proofs.KeepLemmas.{keeps_stay, keeps_through, keeps_either}
+use Rattle.interpolator_syntax.proofs.KeepLemmas.{keeps_first, keeps_strip, keeps_on}
+use Rattle.interpolator_syntax.proofs.LocalityLemmas.{Takes, takes_none}
+use Rattle.interpolator_syntax.proofs.SimpleReaderLemmas.{reads_run, Law, law_same}
 
 -- ---- where a character that passes stands first
 
@@ -73,7 +67,7 @@ module _
   none_first p [] k = refl
   none_first p (c ∷ cs) k = rw (k c (cs, refl)) refl
 
-  pub agrees_where_first : Agrees (λ a. if_passes passes read a (first a)) (where_first passes part)
+  agrees_where_first : Agrees (λ a. if_passes passes read a (first a)) (where_first passes part)
   agrees_where_first = record {
     says = λ a. first_says_at a.place a.text;
     only = λ a q x t. elim t [
@@ -82,6 +76,26 @@ module _
     ];
     only_not = λ a f t. read_first a t.0 ∙ h.only_not a f t.1;
   }
+
+pub law_where :
+    {s : Setting} {A : Type 0} {move : Option A → Option A} (passes : ℕ → Bool)
+    {read other : Reader (Option A)} {part : Part (Option A)} → move None ≡ None
+    → Law s move read other part
+    → Law s move (λ a. if_passes passes read a (first a)) (λ a. if_passes passes other a (first a))
+    (where_first passes part)
+law_where {s} {A} {move} passes {read} {other} {part} none law = record {
+  agrees = agrees_where_first passes read part law.agrees;
+  reads = record {
+    keeps = λ a.
+        let b = elsewhere s a in
+        let absent : Keeps s move a (Ok (None, a)) (Ok (None, b)) =
+        (takes_none a, λ settled. ok_pair (sym none) refl) in
+        keeps_first s move a.place a.text (if_passes passes read a) (if_passes passes other b)
+        absent
+        (λ c rest t.
+        keeps_either s move a (passes c) (read a) (other b) _ _ (law.reads.keeps a) absent);
+  };
+}
 
 -- ---- after a point
 
@@ -106,78 +120,111 @@ module _ (read : Reader (Option ℕ)) (part : Part (Option ℕ)) (h : Agrees rea
 
 -- ---- numbers
 
--- what is read from a text is the number that it spells, or why it spells none
-record Decides {A : Type 0} (read : List ℕ → Result A NumberError) (spelling : Spelling A)
-    : Type 0 where
-  is : (cs : List ℕ) (n : A) → read cs ≡ Ok n → spelling.spells cs n
-  only : (cs : List ℕ) (n : A) → spelling.spells cs n → read cs ≡ Ok n
-  is_not : (cs : List ℕ) (kind : NumberError) → read cs ≡ Err kind → spelling.spells_none cs kind
-  only_not : (cs : List ℕ) (kind : NumberError) → spelling.spells_none cs kind → read cs ≡ Err kind
-
-naturals_decide : Decides natural naturals
-naturals_decide = record {
-  is = natural_is;
-  only = only_natural;
-  is_not = no_natural_is;
-  only_not = only_no_natural;
-}
-
-integers_decide : Decides integer integers
-integers_decide = record {
-  is = integer_is;
-  only = only_integer;
-  is_not = no_integer_is;
-  only_not = only_no_integer;
-}
-
 -- the number of a text at p, or the fault that it spells none
 abbrev told_or : {A : Type 0} → (NumberError → ℕ → ParseFault) → (p : ℕ) → Result A NumberError
     → Reader (Option A)
 told_or wrong p (Ok n) = λ a. Ok (Some n, a)
 told_or wrong p (Err kind) = λ a. Err (parse (wrong kind p))
 
+-- the place of a number's fault is the one that it is told with
+record TellsPlace (wrong : NumberError → ℕ → ParseFault) : Type 0 where
+  is : (kind : NumberError) (p : ℕ) → parse_place (wrong kind p) ≡ p
+  moves :
+      (by : ℕ) (kind : NumberError) (p : ℕ)
+      → wrong kind (p + by) ≡ moved_parse_fault by (wrong kind p)
+
 module _
     {A : Type 0} (wrong : NumberError → ℕ → ParseFault) (read : List ℕ → Result A NumberError)
-    (spelling : Spelling A) (h : Decides read spelling) (p : ℕ) (cs : List ℕ) where
+    (spelling : Spelling A) (h : Decides read spelling) where
   spelled_says :
-      (a : At) (o : Result A NumberError) → read cs ≡ o
+      (p : ℕ) (cs : List ℕ) (a : At) (o : Result A NumberError) → Tells spelling cs o
       → Says (spelled spelling wrong p cs) a (told_or wrong p o a)
-  spelled_says a (Ok n) e = (n, h.is cs n e, refl, refl)
-  spelled_says a (Err kind) e = (kind, h.is_not cs kind e, refl)
+  spelled_says p cs a (Ok n) e = (n, e, refl, refl)
+  spelled_says p cs a (Err kind) e = (kind, e, refl)
 
-  agrees_spelled : Agrees (told_or wrong p (read cs)) (spelled spelling wrong p cs)
-  agrees_spelled = record {
-    says = λ a. spelled_says a (read cs) refl;
-    only = λ a q x t. rw (h.only cs t.0 t.1, t.2, t.3) refl;
-    only_not = λ a f t. rw (h.only_not cs t.0 t.1, t.2) refl;
+  agrees_spelled :
+      (p : ℕ) (cs : List ℕ) → Agrees (told_or wrong p (read cs)) (spelled spelling wrong p cs)
+  agrees_spelled p cs = record {
+    says = λ a. spelled_says p cs a (read cs) (h.says cs);
+    only = λ a q x t. rw (h.only cs (Ok t.0) t.1, t.2, t.3) refl;
+    only_not = λ a f t. rw (h.only cs (Err t.0) t.1, t.2) refl;
   }
 
-agrees_number :
-    (wrong : NumberError → ℕ → ParseFault) (start : ℕ)
-    → Agrees (number_at wrong start) (number naturals wrong start)
-agrees_number wrong start =
-    agrees_placed _ _ (λ p.
-    agrees_then _ _ _ _ (agrees_run Number start) (λ cs.
-    agrees_same (λ a. grind arith) (agrees_spelled wrong natural naturals naturals_decide p cs)))
+  module _ (s : Setting) (tells : TellsPlace wrong) where
+    -- the number of what was read at a up to b, where l is the answer elsewhere
+    keeps_told :
+        (a b : At) (l : Result (Option A × At) Fault) (o : Result A NumberError) → Takes a b
+        → (IsSettled s b.text → l ≡ told_or wrong (a.place + s.by) o (elsewhere s b))
+        → Keeps s stays a (told_or wrong a.place o b) l
+    keeps_told a b l (Ok n) t e = (t, e)
+    keeps_told a b l (Err kind) t e = (
+      tt,
+      λ from. omega (arith, from, tells.is kind a.place),
+      λ from. omega (arith, tells.is kind a.place),
+      λ none. e (inr none) ∙ ap (λ f. Err (parse f)) (tells.moves s.by kind a.place),
+    )
 
-agrees_bound_at : (start : ℕ) → Agrees (bound_at start) (number integers range_bound start)
-agrees_bound_at start =
-    agrees_placed _ _ (λ p.
-    agrees_then _ _ _ _ (agrees_run Number start) (λ cs.
-    agrees_same (λ a. grind arith)
-    (agrees_spelled range_bound integer integers integers_decide p cs)))
+    module _
+        (tell : ℕ → Result A NumberError → Reader (Option A))
+        (same : (p : ℕ) (o : Result A NumberError) (a : At) → tell p o a ≡ told_or wrong p o a)
+      where
+        abbrev number_from : (start : ℕ) → Reader (Option A)
+        number_from start =
+            λ a. (read_run (in_class Number) start >>> λ cs. tell a.place (read cs)) a
+
+        -- a run of digits and `-`, and what it spells, told at its place
+        law_number :
+            Law s stays (number_from s.start) (number_from (s.start + s.by))
+            (number spelling wrong s.start)
+        law_number = record {
+          agrees =
+              agrees_placed (λ p.
+              agrees_then (agrees_run Number s.start) (λ cs.
+              agrees_same (same p (read cs)) (agrees_spelled p cs)));
+          reads = record {
+            keeps = λ a.
+                let digits = reads_run s (in_class Number) in
+                keeps_through s stays stays a _ _ (λ cs. tell a.place (read cs))
+                (λ cs. tell (a.place + s.by) (read cs)) (digits.keeps a)
+                (λ cs b l t e. rw (same a.place (read cs) b)
+                (keeps_told a b l (read cs) t
+                (λ settled. e settled ∙ same (a.place + s.by) (read cs) (elsewhere s b))));
+          };
+        }
 
 -- ---- widths, precisions and bounds
 
-pub agrees_width : (start : ℕ) → Agrees (width_at start) (width start)
-agrees_width start =
-    agrees_same (λ a. grind arith)
-    (agrees_where_first is_ascii_digit _ _ (agrees_number invalid_width start))
+module _ (s : Setting) where
+  pub law_width : Law s stays (width_at s.start) (width_at (s.start + s.by)) (width s.start)
+  law_width =
+      law_same (λ a. grind arith) (λ a. grind arith)
+      (law_where is_ascii_digit refl
+      (law_number invalid_width natural naturals naturals_decide s
+      (record { is = λ kind p. refl; moves = λ by kind p. refl })
+      (number_or invalid_width) (λ p o a. grind arith)))
 
-pub agrees_precision : (start : ℕ) → Agrees (precision_at start) (precision start)
-agrees_precision start = agrees_if_point _ _ (agrees_number invalid_precision start)
+  pub law_bound : Law s stays (bound_if s.start) (bound_if (s.start + s.by)) (bound s.start)
+  law_bound =
+      law_same (λ a. grind arith) (λ a. grind arith)
+      (law_where (in_class Number) refl
+      (law_number range_bound integer integers integers_decide s
+      (record { is = λ kind p. refl; moves = λ by kind p. refl })
+      bound_or (λ p o a. grind arith)))
 
-pub agrees_bound : (start : ℕ) → Agrees (bound_if start) (bound start)
-agrees_bound start =
-    agrees_same (λ a. grind arith)
-    (agrees_where_first (in_class Number) _ _ (agrees_bound_at start))
+  pub law_precision :
+      Law s stays (precision_at s.start) (precision_at (s.start + s.by)) (precision s.start)
+  law_precision =
+      let number =
+      law_number invalid_precision natural naturals naturals_decide s
+      (record { is = λ kind p. refl; moves = λ by kind p. refl })
+      (number_or invalid_precision) (λ p o a. grind arith) in
+      record {
+        agrees = agrees_if_point _ _ number.agrees;
+        reads = record {
+          keeps = λ a.
+              keeps_strip s stays point a.place a.text
+              (if_point (number_at invalid_precision s.start) a)
+              (if_point (number_at invalid_precision (s.start + s.by)) (elsewhere s a))
+              (keeps_stay s stays a None) (λ rest e t. keeps_on number.reads a rest t);
+        };
+      }

@@ -33,7 +33,7 @@ pub record Agrees {A : Type 0} (read : Reader A) (part : Part A) : Type 0 where
   pub only : (a q : At) (x : A) → part.is a x q → read a ≡ Ok (x, q)
   pub only_not : (a : At) (f : Fault) → part.is_not a f → read a ≡ Err f
 
-module _ {A : Type 0} (read : Reader A) (part : Part A) (h : Agrees read part) where
+module _ {A : Type 0} {read : Reader A} {part : Part A} (h : Agrees read part) where
   pub agrees_is : (a q : At) (x : A) → read a ≡ Ok (x, q) → part.is a x q
   agrees_is a q x e = subst (Says part a) e (h.says a)
 
@@ -43,7 +43,7 @@ module _ {A : Type 0} (read : Reader A) (part : Part A) (h : Agrees read part) w
 -- ---- chains
 
 module _
-    {A B : Type 0} (read : Reader A) (next : A → Reader B) (part : Part A) (after : A → Part B)
+    {A B : Type 0} {read : Reader A} {next : A → Reader B} {part : Part A} {after : A → Part B}
     (h : Agrees read part) (k : (x : A) → Agrees (next x) (after x)) where
   then_says : (a : At) (o : Result (A × At) Fault) → Says part a o
       → Says (part >>= after) a (on o next)
@@ -69,10 +69,20 @@ agrees_ends x = record {
   only_not = λ a f t. absurd t;
 }
 
+-- a reader that answers as one that agrees
+pub agrees_same :
+    {A : Type 0} {read other : Reader A} {part : Part A} → ((a : At) → read a ≡ other a)
+    → Agrees other part → Agrees read part
+agrees_same {part = part} same h = record {
+  says = λ a. subst (Says part a) (sym (same a)) (h.says a);
+  only = λ a q x t. same a ∙ h.only a q x t;
+  only_not = λ a f t. same a ∙ h.only_not a f t;
+}
+
 pub agrees_placed :
-    {A : Type 0} (read : ℕ → Reader A) (part : ℕ → Part A) → ((p : ℕ) → Agrees (read p) (part p))
+    {A : Type 0} {read : ℕ → Reader A} {part : ℕ → Part A} → ((p : ℕ) → Agrees (read p) (part p))
     → Agrees (λ a. read a.place a) (placed part)
-agrees_placed read part h = record {
+agrees_placed h = record {
   says = λ a. (h a.place).says a;
   only = λ a q y t. (h a.place).only a q y t;
   only_not = λ a f t. (h a.place).only_not a f t;

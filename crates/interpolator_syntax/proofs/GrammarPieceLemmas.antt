@@ -1,22 +1,18 @@
 -- The pieces that the reader finds are each of the first kind that its place allows.
-use Rattle.std.proofs.Common.{◌≡◌, ◌≢◌, ℕ, zero, suc, ◌+◌, ◌≤◌, eqb}
-use Rattle.std.proofs.Common.{List, [], ◌∷◌, ◌++◌, length, arith, refl, ap, ◌∙◌, sym, subst}
-use Rattle.std.proofs.Common.{Result, Ok, Err, Option, Some, None, append_assoc, append-nil}
-use Rattle.std.proofs.Common.{eqb-true}
+use Rattle.std.proofs.Common.{◌≡◌, ◌≢◌, ℕ, zero, suc, ◌+◌, ◌≤◌, eqb, List, [], ◌∷◌, ◌++◌, length}
+use Rattle.std.proofs.Common.{arith, refl, ap, ◌∙◌, sym, subst, Result, Ok, Err, Option, Some, None}
+use Rattle.std.proofs.Common.{append_assoc, append-nil, eqb-true}
 use Rattle.std.proofs.lemmas.Bool.{eqb-false, cond_both, ne_eqb}
 use Rattle.interpolator_syntax.specs.At.{At, size, strip, strip_of}
 use Rattle.interpolator_syntax.specs.Classes.{open_brace, close_brace}
 use Rattle.interpolator_syntax.specs.Arguments.{Argument, argument_at}
 use Rattle.interpolator_syntax.specs.Faults.{Fault}
-use Rattle.interpolator_syntax.specs.Pieces.{PieceKind, Step, doubled, closed}
-use Rattle.interpolator_syntax.specs.Pieces.{argument_step}
+use Rattle.interpolator_syntax.specs.Pieces.{PieceKind, Step, doubled, closed, argument_step}
 use Rattle.interpolator_syntax.specs.Pieces.{argument_or_broken, argument_from, open_step}
 use Rattle.interpolator_syntax.specs.Pieces.{close_step, piece_from, past, pieces}
-use Rattle.interpolator_syntax.specs.Grammar.{rank, from_place, NotFirst, Fits}
-use Rattle.interpolator_syntax.specs.Grammar.{IsPieces}
+use Rattle.interpolator_syntax.specs.Grammar.{rank, from_place, NotFirst, Fits, IsPieces}
 use Rattle.interpolator_syntax.proofs.PieceLemmas.{piece_within, pieces_none, pieces_next}
-use Rattle.interpolator_syntax.proofs.PieceLemmas.{strip_after}
-use Rattle.interpolator_syntax.proofs.PieceLemmas.{closed_text}
+use Rattle.interpolator_syntax.proofs.PieceLemmas.{strip_after, closed_text}
 use Rattle.interpolator_syntax.proofs.CaseLemmas.{err_ok}
 use Rattle.interpolator_syntax.proofs.GrammarLemmas.{Shows, stands_shown, same_ok}
 use Rattle.interpolator_syntax.proofs.LocalityLemmas.{size-append}

@@ -1,50 +1,65 @@
--- A spec's text is its parts, one after the other, both ways.
-use Rattle.std.proofs.Common.{◌≡◌, ℕ, ◌+◌, true, false, eqb, eqb-true, List, [], ◌∷◌, arith, refl}
-use Rattle.std.proofs.Common.{ap, ◌∙◌, sym, Result, Ok, Err, Option, Some, None, inl, inr, ◌||◌}
+-- A spec's text is its parts, one after the other, both ways; and what its readers keep.
+use Rattle.std.proofs.Common.{◌≡◌, ℕ, ◌+◌, true, false, eqb, eqb-true, List, [], ◌∷◌, ◌++◌, arith}
+use Rattle.std.proofs.Common.{refl, ap, ◌∙◌, sym, Result, Ok, Err, Option, Some, None, inl, inr}
+use Rattle.std.proofs.Common.{◌||◌}
 use Rattle.std.specs.Char.{len_utf8}
 use Rattle.std.proofs.lemmas.Bool.{cond_both, eqb-false, ne_eqb}
-use Rattle.interpolator_render.specs.declared.view.Trait.{Trait}
-use Rattle.interpolator_render.specs.declared.view.Trait.TheVariants as traits
 use Rattle.interpolator_render.specs.declared.view.Alignment.{Alignment}
 use Rattle.interpolator_render.specs.declared.view.Alignment.TheVariants as alignments
 use Rattle.interpolator_render.specs.declared.view.Sign.TheVariants as signs
 use Rattle.interpolator_syntax.specs.At.{At}
 use Rattle.interpolator_syntax.specs.Classes.{is_alignment, hash, zero_digit, open_brace}
 use Rattle.interpolator_syntax.specs.Classes.{close_brace}
-use Rattle.interpolator_syntax.specs.SpecTexts.{of_value, of_list, Asked, plain_display}
-use Rattle.interpolator_syntax.specs.SpecTexts.{alignment_letter, sign_letter, kind_at}
-use Rattle.interpolator_syntax.specs.SpecTexts.{spec_from_sign, fill_or_fault, fill_of, fill_at}
-use Rattle.interpolator_syntax.specs.SpecTexts.{spec_parts, spec_of, spec_after}
+use Rattle.interpolator_syntax.specs.SpecTexts.{Request, plain_display, alignment_letter}
+use Rattle.interpolator_syntax.specs.SpecTexts.{sign_letter, spec_from_sign, spec_from_alignment}
+use Rattle.interpolator_syntax.specs.SpecTexts.{fill_or_fault, fill_of, fill_at, spec_parts}
+use Rattle.interpolator_syntax.specs.SpecTexts.{spec_of, spec_after}
 use Rattle.interpolator_syntax.specs.Grammar.{from_place}
-use Rattle.interpolator_syntax.specs.SpecGrammar.{kind, from_sign, Fills, NoneFills, fill, parts}
-use Rattle.interpolator_syntax.specs.SpecGrammar.{IsUnread, spec, IsSpec, IsNoSpec}
+use Rattle.interpolator_syntax.specs.GrammarParts.{◌>>=◌, letter}
+use Rattle.interpolator_syntax.specs.SpecGrammar.{from_sign, Fills, NoneFills, fill, parts}
+use Rattle.interpolator_syntax.specs.SpecGrammar.{IsUnread, spec}
 use Rattle.interpolator_syntax.specs.Faults.{Fault, parse, fill as no_fill}
+use Rattle.interpolator_syntax.specs.Moved.{moved_kind}
 use Rattle.interpolator_syntax.proofs.CaseLemmas.{head_same, tail_same}
+use Rattle.interpolator_syntax.proofs.GrammarListLemmas.{law_kind}
+use Rattle.interpolator_syntax.proofs.GrammarOptionLemmas.{law_width, law_precision}
+use Rattle.interpolator_syntax.proofs.GrammarPartLemmas.{ok_pair, Says, Agrees, agrees_then}
+use Rattle.interpolator_syntax.proofs.GrammarPartLemmas.{lies_here}
+use Rattle.interpolator_syntax.proofs.GrammarTraitLemmas.{law_trait}
+use Rattle.interpolator_syntax.proofs.KeepLemmas.{Setting, still, step_moved, stays, elsewhere}
+use Rattle.interpolator_syntax.proofs.KeepLemmas.{IsSettled, nothing_more, Keeps, keeps_stay}
+use Rattle.interpolator_syntax.proofs.KeepLemmas.{keeps_either, keeps_then}
+use Rattle.interpolator_syntax.proofs.LocalityLemmas.{stands, takes_none, takes_one}
 use Rattle.interpolator_syntax.proofs.LongestLemmas.{at_same}
-use Rattle.interpolator_syntax.proofs.GrammarPartLemmas.{ok_pair, Says, Agrees, agrees_is}
-use Rattle.interpolator_syntax.proofs.GrammarPartLemmas.{agrees_is_not, agrees_then, lies_here}
-use Rattle.interpolator_syntax.proofs.GrammarPartLemmas.{agrees_ends, agrees_letter}
-use Rattle.interpolator_syntax.proofs.GrammarPartLemmas.{agrees_flag}
-use Rattle.interpolator_syntax.proofs.GrammarOptionLemmas.{agrees_width, agrees_precision}
-use Rattle.interpolator_syntax.proofs.GrammarListLemmas.{agrees_list}
-use Rattle.interpolator_syntax.proofs.GrammarTraitLemmas.{agrees_trait}
+use Rattle.interpolator_syntax.proofs.SimpleReaderLemmas.{Law, law_then, law_ends, law_letter}
+use Rattle.interpolator_syntax.proofs.SimpleReaderLemmas.{law_flag}
 
-agrees_kind : (start : ℕ) (t : Trait) → Agrees (kind_at start t) (kind start t)
-agrees_kind start traits.Iter =
-    agrees_then _ _ _ _ (agrees_list start) (λ l. agrees_ends (of_list l))
-agrees_kind start t = agrees_ends (of_value t)
+-- what is asked for, with its groups moved
+abbrev pub moved_request : (by : ℕ) → Request → Request
+moved_request by x = record { spec = x.spec; kind = moved_kind by x.kind }
 
-agrees_from_sign : (start : ℕ) (filled : Option ℕ) (alignment : Alignment)
-    → Agrees (spec_from_sign start filled alignment) (from_sign start filled alignment)
-unfolding spec_from_sign
-agrees_from_sign start filled alignment =
-    agrees_then _ _ _ _ (agrees_letter sign_letter signs.Unset) (λ sign.
-    agrees_then _ _ _ _ (agrees_flag hash) (λ alternate.
-    agrees_then _ _ _ _ (agrees_flag zero_digit) (λ zero.
-    agrees_then _ _ _ _ (agrees_width start) (λ width.
-    agrees_then _ _ _ _ (agrees_precision start) (λ precision.
-    agrees_then _ _ _ _ (agrees_trait start (alternate || zero)) (λ shown.
-    agrees_then _ _ _ _ (agrees_kind start shown.slot) (λ kind. agrees_ends _)))))))
+module _ (s : Setting) where
+  pub law_from_sign :
+      (filled : Option ℕ) (alignment : Alignment)
+      → Law s (moved_request s.by) (spec_from_sign s.start filled alignment)
+      (spec_from_sign (s.start + s.by) filled alignment) (from_sign s.start filled alignment)
+  unfolding spec_from_sign
+  law_from_sign filled alignment =
+      law_then _ (law_letter s sign_letter signs.Unset) (λ sign.
+      law_then _ (law_flag s hash) (λ alternate.
+      law_then _ (law_flag s zero_digit) (λ zero.
+      law_then _ (law_width s) (λ width.
+      law_then _ (law_precision s) (λ precision.
+      law_then _ (law_trait s (alternate || zero)) (λ shown.
+      law_then _ (law_kind s shown.slot) (λ kind. law_ends s (moved_request s.by) _)))))))
+
+  law_from_alignment :
+      (filled : Option ℕ)
+      → Law s (moved_request s.by) (spec_from_alignment s.start filled)
+      (spec_from_alignment (s.start + s.by) filled)
+      (letter alignment_letter alignments.Unset >>= from_sign s.start filled)
+  law_from_alignment filled =
+      law_then _ (law_letter s alignment_letter alignments.Unset) (law_from_sign filled)
 
 -- ---- the fill
 
@@ -95,11 +110,10 @@ agrees_fill = record {
 module _ (start : ℕ) where
   agrees_parts : Agrees (spec_parts start) (parts start)
   agrees_parts =
-      agrees_then _ _ _ _ agrees_fill (λ filled.
-      agrees_then _ _ _ _ (agrees_letter alignment_letter alignments.Unset)
-      (agrees_from_sign start filled))
+      agrees_then agrees_fill (λ filled.
+      let law = law_from_alignment (still start) filled in law.agrees)
 
-  abbrev Specs : At → Result (Asked × At) Fault → Type 0
+  abbrev Specs : At → Result (Request × At) Fault → Type 0
   Specs a o = Says (spec start) a o
 
   spec_says : (p : ℕ) (cs : List ℕ) → Specs (from_place p cs) (spec_of start (from_place p cs) cs)
@@ -131,7 +145,7 @@ module _ (start : ℕ) where
       let no_close = ne_eqb c close_brace (λ e. h (inr (d ∷ ds, ap (λ n. n ∷ d ∷ ds) e))) in
       rw no_close refl
 
-  pub agrees_spec : Agrees (spec_after start) (spec start)
+  agrees_spec : Agrees (spec_after start) (spec start)
   unfolding spec_after
   agrees_spec = record {
     says = λ a. spec_says a.place a.text;
@@ -142,17 +156,61 @@ module _ (start : ℕ) where
     only_not = λ a f t. parts_read a a.text t.0 ∙ agrees_parts.only_not a f t.1;
   }
 
-pub spec_is : (start : ℕ) (a q : At) (x : Asked) → spec_after start a ≡ Ok (x, q)
-    → IsSpec start a x q
-spec_is start = agrees_is (spec_after start) (spec start) (agrees_spec start)
+-- ---- what its readers keep
 
-pub only_spec :
-    (start : ℕ) (a q : At) (x : Asked) → IsSpec start a x q → spec_after start a ≡ Ok (x, q)
-only_spec start = (agrees_spec start).only
+module _ (s : Setting) where
+  -- a second character decides whether the first is a fill
+  keeps_fill :
+      (p c d : ℕ) (ds : List ℕ)
+      → Keeps s stays (stands p (c ∷ d ∷ ds)) (fill_at (stands p (c ∷ d ∷ ds)))
+      (fill_at (elsewhere s (stands p (c ∷ d ∷ ds))))
+  keeps_fill p c d ds =
+      let a = stands p (c ∷ d ∷ ds) in
+      keeps_either s stays a (is_alignment d) _ _ _ _
+      (keeps_either s stays a (eqb c open_brace) _ _ _ _
+      (tt, λ from. omega arith, λ from. omega arith, λ none. refl) (
+        takes_one p c (d ∷ ds),
+        λ t. ok_pair refl (at_same (step_moved p s.by (len_utf8 c)) refl),
+      ))
+      (keeps_stay s stays a None)
 
-pub no_spec_is : (start : ℕ) (a : At) (f : Fault) → spec_after start a ≡ Err f → IsNoSpec start a f
-no_spec_is start = agrees_is_not (spec_after start) (spec start) (agrees_spec start)
+  -- what a closing brace begins is not read
+  not_read :
+      (start : ℕ) (a : At) (c : ℕ) (cs : List ℕ) → c ≡ close_brace
+      → spec_of start a (c ∷ cs) ≡ Ok (plain_display, a)
+  not_read start a c [] e = refl
+  not_read start a c (d ∷ ds) e = rw e refl
 
-pub only_no_spec : (start : ℕ) (a : At) (f : Fault) → IsNoSpec start a f
-    → spec_after start a ≡ Err f
-only_no_spec start = (agrees_spec start).only_not
+  -- in front of a closing brace that is not passed stands no character, or the second one
+  one_left :
+      (c : ℕ) (b : At) → IsSettled s (c ∷ [])
+      → spec_of (s.start + s.by) b (c ∷ s.more) ≡ Ok (plain_display, b)
+  one_left c b (inl (inl e)) = not_read (s.start + s.by) b c s.more e
+  one_left c b (inl (inr guard)) = absurd guard
+  one_left c b (inr e) = ap (λ cs. spec_of (s.start + s.by) b (c ∷ cs)) e
+
+  keeps_spec :
+      (p : ℕ) (cs : List ℕ)
+      → Keeps s (moved_request s.by) (stands p cs) (spec_of s.start (stands p cs) cs)
+      (spec_of (s.start + s.by) (elsewhere s (stands p cs)) (cs ++ s.more))
+  keeps_spec p [] =
+      let b = elsewhere s (stands p []) in
+      (takes_none (stands p []), λ t. ap (spec_of (s.start + s.by) b) (nothing_more s t))
+  keeps_spec p (c ∷ []) =
+      let a = stands p (c ∷ []) in (takes_none a, one_left c (elsewhere s a))
+  keeps_spec p (c ∷ d ∷ ds) =
+      let a = stands p (c ∷ d ∷ ds) in
+      keeps_either s (moved_request s.by) a (eqb c close_brace) _ _ _ _
+      (keeps_stay s (moved_request s.by) a plain_display)
+      (keeps_then s stays (moved_request s.by) a _ _ (spec_from_alignment s.start)
+      (spec_from_alignment (s.start + s.by)) (keeps_fill p c d ds)
+      (λ filled b t.
+      let law = law_from_alignment s filled in law.reads.keeps b))
+
+  pub law_spec :
+      Law s (moved_request s.by) (spec_after s.start) (spec_after (s.start + s.by)) (spec s.start)
+  unfolding spec_after
+  law_spec = record {
+    agrees = agrees_spec s.start;
+    reads = record { keeps = λ a. keeps_spec a.place a.text };
+  }

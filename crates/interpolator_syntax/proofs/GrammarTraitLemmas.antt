@@ -1,4 +1,4 @@
--- A trait is its text, both ways, and why a text begins none.
+-- A trait is its text, both ways, why a text begins none, and what its reader keeps.
 use Rattle.std.proofs.Common.{◌≡◌, ◌≢◌, ℕ, ◌+◌, Bool, true, false, eqb, All, List, [], ◌∷◌, ◌++◌}
 use Rattle.std.proofs.Common.{arith, refl, ap, ◌∙◌, sym, Result, Ok, Err, Option, Some, None}
 use Rattle.std.proofs.Common.{inl, inr, eqb-true, get_or, ltb, cond}
@@ -10,11 +10,11 @@ use Rattle.interpolator_render.specs.declared.view.Trait.{Trait}
 use Rattle.interpolator_render.specs.declared.view.Trait.TheVariants as traits
 use Rattle.interpolator_render.specs.declared.view.HexDebug.{HexDebug}
 use Rattle.interpolator_render.specs.declared.view.HexDebug.TheVariants as hex_debugs
-use Rattle.interpolator_syntax.specs.At.{At, size}
+use Rattle.interpolator_syntax.specs.At.{At, size, strip}
 use Rattle.interpolator_syntax.specs.Classes.{close_brace, question_mark, lower_x, upper_x, lower_o}
 use Rattle.interpolator_syntax.specs.Classes.{lower_b, lower_e, upper_e, lower_i, lower_p}
 use Rattle.interpolator_syntax.specs.SpecTexts.{Wanted, wanted, hexadecimal, trait_letter, lettered}
-use Rattle.interpolator_syntax.specs.SpecTexts.{trait_from, trait_at}
+use Rattle.interpolator_syntax.specs.SpecTexts.{trait_from, trait_first, trait_at}
 use Rattle.interpolator_syntax.specs.Grammar.{from_place, NotFirst}
 use Rattle.interpolator_syntax.specs.GrammarParts.{Lies}
 use Rattle.interpolator_syntax.specs.SpecGrammar.{trait_text, MayEnd, AsksDisplay, shown}
@@ -23,6 +23,11 @@ use Rattle.interpolator_syntax.proofs.GrammarPartLemmas.{ok_pair, Says, Agrees, 
 use Rattle.interpolator_syntax.proofs.GrammarPartLemmas.{lies_cons, lies_end, Stripped}
 use Rattle.interpolator_syntax.proofs.GrammarPartLemmas.{stripped, strip_not}
 use Rattle.interpolator_syntax.proofs.CaseLemmas.{none_some, some_same}
+use Rattle.interpolator_syntax.proofs.KeepLemmas.{Setting, stays, elsewhere, Keeps}
+use Rattle.interpolator_syntax.proofs.KeepLemmas.{keeps_stay, keeps_past, keeps_either, keeps_first}
+use Rattle.interpolator_syntax.proofs.KeepLemmas.{keeps_strip}
+use Rattle.interpolator_syntax.proofs.LocalityLemmas.{Takes}
+use Rattle.interpolator_syntax.proofs.SimpleReaderLemmas.{Law}
 
 place_after : (p : ℕ) → p + 1 + 1 ≡ p + 2
 place_after p = omega arith
@@ -132,13 +137,13 @@ module _ (start : ℕ) (flagged : Bool) where
   both t hex = record { slot = t; hex_debug = hex }
 
   -- the text of a trait, in front of that rest, is read
-  abbrev Reads : Trait → HexDebug → ℕ → List ℕ → List ℕ → Type 0
-  Reads t hex p rest cs = reads p (cs ++ rest) ≡ Ok (both t hex, from_place (p + size cs) rest)
+  abbrev IsRead : Trait → HexDebug → ℕ → List ℕ → List ℕ → Type 0
+  IsRead t hex p rest cs = reads p (cs ++ rest) ≡ Ok (both t hex, from_place (p + size cs) rest)
 
   text_read :
       (t : Trait) (hex : HexDebug) (cs : List ℕ) (p : ℕ) (rest : List ℕ)
       → trait_text t hex ≡ Some cs
-      → MayEnd t rest → Reads t hex p rest cs
+      → MayEnd t rest → IsRead t hex p rest cs
   text_read traits.Display hex cs p rest e h = absurd (none_some e)
   text_read traits.LowerHex hex_debugs.No cs p rest e h =
       rw (← some_same e, strip_not question_mark (from_place (p + 1) rest) h) refl
@@ -156,7 +161,7 @@ module _ (start : ℕ) (flagged : Bool) where
       ∙ text_read x.slot x.hex_debug cs a.place q.text e h
       ∙ ok_pair refl (lies_end a cs q l)
 
-  pub agrees_trait : Agrees (trait_at start flagged) (shown start flagged)
+  agrees_trait : Agrees (trait_at start flagged) (shown start flagged)
   agrees_trait = record {
     says = λ a. trait_shows a.place a.text;
     only = λ a q x t. elim t [
@@ -169,4 +174,58 @@ module _ (start : ℕ) (flagged : Bool) where
       | inr (inr s) ↦
           ap (reads a.place) s.1.1 ∙ no_trait_begins a.place s.0 s.1.0 s.2 ∙ ap Err (sym s.3)
     ];
+  }
+
+-- ---- what its reader keeps
+
+module _ (s : Setting) where
+  module _ (a rest : At) (t : Takes a rest) where
+    keeps_hexadecimal :
+        (slot : Trait) (hex : HexDebug)
+        → Keeps s stays a (hexadecimal slot hex rest (strip question_mark rest))
+        (hexadecimal slot hex (elsewhere s rest) (strip question_mark (elsewhere s rest)))
+    keeps_hexadecimal slot hex =
+        keeps_past s stays a rest _ _ _ t (λ settled. refl)
+        (keeps_strip s stays question_mark rest.place rest.text (hexadecimal slot hex rest)
+        (hexadecimal slot hex (elsewhere s rest)) (keeps_stay s stays rest (wanted slot))
+        (λ end e u. (u, λ settled. refl)))
+
+    keeps_lettered :
+        (c : ℕ) (o : Option Trait)
+        → Keeps s stays a (lettered c a.place rest o)
+        (lettered c (a.place + s.by) (elsewhere s rest) o)
+    keeps_lettered c (Some slot) = (t, λ settled. refl)
+    keeps_lettered c None =
+        by_test (eqb c lower_p) _ _ _ _ (tt, λ from. omega arith, λ from. omega arith, λ none. refl)
+        (tt, λ from. omega arith, λ from. omega arith, λ none. refl)
+      where
+        by_test :
+            (b : Bool) (f g h k : Fault) → Keeps s (stays {A = Wanted}) a (Err f) (Err h)
+            → Keeps s (stays {A = Wanted}) a (Err g) (Err k)
+            → Keeps s (stays {A = Wanted}) a (Err (cond b f g)) (Err (cond b h k))
+        by_test true f g h k l m = l
+        by_test false f g h k l m = m
+
+  pub law_trait :
+      (flagged : Bool)
+      → Law s stays (trait_at s.start flagged) (trait_at (s.start + s.by) flagged)
+      (shown s.start flagged)
+  law_trait flagged = record {
+    agrees = agrees_trait s.start flagged;
+    reads = record {
+      keeps = λ a.
+          let display = wanted traits.Display in
+          keeps_first s stays a.place a.text (trait_first s.start flagged a)
+          (trait_first (s.start + s.by) flagged (elsewhere s a))
+          (keeps_either s stays a flagged _ _ _ _
+          (tt, λ from. omega arith, λ from. omega arith, λ none. refl)
+          (keeps_stay s stays a display))
+          (λ c rest t.
+          keeps_either s stays a (eqb c close_brace) _ _ _ _ (keeps_stay s stays a display)
+          (keeps_either s stays a (eqb c lower_x) _ _ _ _
+          (keeps_hexadecimal a rest t traits.LowerHex hex_debugs.Lower)
+          (keeps_either s stays a (eqb c upper_x) _ _ _ _
+          (keeps_hexadecimal a rest t traits.UpperHex hex_debugs.Upper)
+          (keeps_lettered a rest t c (trait_letter c)))));
+    };
   }

@@ -13,8 +13,7 @@ use Rattle.interpolator_syntax.specs.Groups.{after_hashes, here_or_later, close_
 use Rattle.interpolator_syntax.specs.Groups.{next_close}
 use Rattle.interpolator_syntax.specs.declared.class.Class.TheVariants.{Hash, Enclosed}
 use Rattle.interpolator_syntax.proofs.CharacterLemmas.{size-chars}
-use Rattle.interpolator_syntax.proofs.FrontLemmas.{IsRest, front_after, rest_boundary}
-use Rattle.interpolator_syntax.proofs.FrontLemmas.{cut_at_rest}
+use Rattle.interpolator_syntax.proofs.FrontLemmas.{IsRest, front_after, rest_boundary, cut_at_rest}
 use Rattle.interpolator_syntax.specs.Grammar.{IsLongest}
 use Rattle.interpolator_syntax.proofs.LongestLemmas.{front_longest}
 use Rattle.interpolator_syntax.proofs.CaseLemmas.{none_some, some_same}

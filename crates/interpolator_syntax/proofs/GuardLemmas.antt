@@ -1,6 +1,6 @@
 -- Where the groups of an argument begin: after a `:` and the letter of a list, in the text.
-use Rattle.std.proofs.Common.{◌≡◌, ℕ, ◌+◌, ◌≤◌, List, ◌∷◌, [], ◌++◌, length, arith, ap}
-use Rattle.std.proofs.Common.{Bool, subst, sym, ◌∙◌, Ok, Option, Some, None, inl, inr, append_assoc}
+use Rattle.std.proofs.Common.{◌≡◌, ℕ, ◌+◌, ◌≤◌, List, ◌∷◌, [], ◌++◌, length, arith, ap, Bool, ◌||◌}
+use Rattle.std.proofs.Common.{subst, sym, ◌∙◌, Ok, Option, Some, None, inl, inr, append_assoc}
 use Rattle.std.specs.Prelude.{⊤}
 use Rattle.std.proofs.lemmas.List.{length-append}
 use Rattle.interpolator_render.specs.declared.view.Trait.{Trait}
@@ -16,25 +16,22 @@ use Rattle.interpolator_syntax.specs.Arguments.{Argument, argument_at}
 use Rattle.interpolator_syntax.specs.ArgumentGrammar.{Asks, asked}
 use Rattle.interpolator_syntax.specs.Groups.{Group}
 use Rattle.interpolator_syntax.specs.GroupGrammar.{IsGroup}
-use Rattle.interpolator_syntax.specs.GrammarParts.{Part, Lies}
+use Rattle.interpolator_syntax.specs.GrammarParts.{Part, ◌>>=◌, Lies}
 use Rattle.interpolator_syntax.specs.ListGrammar.{group_there, IsList}
-use Rattle.interpolator_syntax.specs.Lists.{ListAsked}
+use Rattle.interpolator_syntax.specs.Lists.{ListRequest}
 use Rattle.interpolator_syntax.specs.Readers.{Reader}
 use Rattle.interpolator_syntax.specs.SpecGrammar.{kind, from_sign, fill, parts, shown, trait_text}
 use Rattle.interpolator_syntax.specs.SpecGrammar.{IsSpec}
-use Rattle.interpolator_syntax.specs.SpecTexts.{Kind, of_value, of_list, Asked, Wanted}
+use Rattle.interpolator_syntax.specs.SpecTexts.{Kind, of_value, of_list, Request, Wanted}
 use Rattle.interpolator_syntax.specs.SpecTexts.{alignment_letter, sign_letter}
 use Rattle.interpolator_syntax.proofs.CaseLemmas.{none_some, some_same}
 use Rattle.interpolator_syntax.proofs.GrammarArgumentLemmas.{argument_is}
-use Rattle.interpolator_syntax.proofs.GrammarGroupLemmas.{only_group}
-use Rattle.interpolator_syntax.proofs.GrammarListLemmas.{only_range}
-use Rattle.interpolator_syntax.proofs.GrammarOptionLemmas.{agrees_width, agrees_precision}
-use Rattle.interpolator_syntax.proofs.GrammarPartLemmas.{Agrees, agrees_letter, agrees_flag}
-use Rattle.interpolator_syntax.proofs.ListReaderLemmas.{reads_range, reads_group}
-use Rattle.interpolator_syntax.proofs.LocalityLemmas.{Takes, takes_none, takes_then, Reads}
-use Rattle.interpolator_syntax.proofs.LocalityLemmas.{size-append, takes_shorter}
-use Rattle.interpolator_syntax.proofs.ReaderLemmas.{reads_width, reads_precision}
-use Rattle.interpolator_syntax.proofs.SimpleReaderLemmas.{reads_letter, reads_flag}
+use Rattle.interpolator_syntax.proofs.GrammarListLemmas.{law_range, law_group}
+use Rattle.interpolator_syntax.proofs.GrammarOptionLemmas.{law_width, law_precision}
+use Rattle.interpolator_syntax.proofs.KeepLemmas.{Setting, still}
+use Rattle.interpolator_syntax.proofs.SimpleReaderLemmas.{Law, law_takes, law_letter, law_flag}
+use Rattle.interpolator_syntax.proofs.LocalityLemmas.{Takes, takes_none, takes_then, size-append}
+use Rattle.interpolator_syntax.proofs.LocalityLemmas.{takes_shorter}
 
 -- a group begins in the text at a, after that many characters of it or more
 pub record BeginsAfter (n : ℕ) (g : Group) (a : At) : Type 0 where
@@ -57,11 +54,11 @@ KindAfter n (of_list l) a = GroupAfter n l.item a × GroupAfter n l.join a
 -- ---- what stands after a front
 
 -- it is no longer
-no_longer : (a b : At) → Takes a b → 0 + length b.text ≤ length a.text
-no_longer a b t = omega (arith, takes_shorter a b t)
+pub no_longer : (n : ℕ) (a b : At) → Takes a b → n + length b.text ≤ n + length a.text
+no_longer n a b t = omega (arith, takes_shorter a b t)
 
-module _ (m n : ℕ) (a b : At) (t : Takes a b) (far : n + length b.text ≤ length a.text) where
-  group_grows : (o : Option Group) → GroupAfter m o b → GroupAfter (m + n) o a
+module _ (m n : ℕ) (a b : At) (t : Takes a b) (far : n + length b.text ≤ m + length a.text) where
+  group_grows : (o : Option Group) → GroupAfter m o b → GroupAfter n o a
   group_grows None h = tt
   group_grows (Some g) h = record {
     opens = h.opens;
@@ -71,14 +68,25 @@ module _ (m n : ℕ) (a b : At) (t : Takes a b) (far : n + length b.text ≤ len
     far = omega (arith, h.far, far);
   }
 
-  kind_grows : (k : Kind) → KindAfter m k b → KindAfter (m + n) k a
+  pub kind_grows : (k : Kind) → KindAfter m k b → KindAfter n k a
   kind_grows (of_value t) h = tt
   kind_grows (of_list l) h = (group_grows l.item h.0, group_grows l.join h.1)
 
--- what a part takes is a front of the text, as what its reader takes
-part_takes : {A : Type 0} (start : ℕ) (read : Reader A) (part : Part A) → Agrees read part
-    → Reads start read → (a : At) (x : A) (q : At) → part.is a x q → Takes a q
-part_takes start read part h r a x q is = r.takes a x q (h.only a q x is)
+-- where so many characters come before each group of what is read as this part
+record Begins {A : Type 0} (n : ℕ) (kind_of : A → Kind) (part : Part A) : Type 0 where
+  after : (a : At) (x : A) (q : At) → part.is a x q → KindAfter n (kind_of x) a
+
+-- so it is after another part
+begins_then :
+    {s : Setting} {A B : Type 0} {n : ℕ} {kind_of : B → Kind} {move : A → A}
+    {read other : Reader A} {part : Part A} {next : A → Part B} → Law s move read other part
+    → ((x : A) → Begins n kind_of (next x)) → Begins n kind_of (part >>= next)
+begins_then {n = n} {kind_of = kind_of} law k = record {
+  after = λ a y q h.
+      let t = law_takes law a h.0 h.1 h.2 in
+      kind_grows n n a h.1 t (no_longer n a h.1 t) (kind_of y)
+      ((k h.0).after h.1 y q h.3);
+}
 
 lies_takes : (a : At) (cs : List ℕ) (q : At) → Lies a cs q → Takes a q
 lies_takes a cs q h = record { front = cs; split = h.split; place = h.place }
@@ -86,12 +94,15 @@ lies_takes a cs q h = record { front = cs; split = h.split; place = h.place }
 -- ---- lists
 
 module _ (start : ℕ) where
+  abbrev s : Setting
+  s = still start
+
   group_after : (a : At) (o : Option Group) (q : At) → (group_there start).is a o q
       → Takes a q × GroupAfter 0 o a
   group_after a o q (inl h) =
       let is = h.1.2 in
       rw (h.1.3.0, h.1.3.1) (
-        (reads_group start).takes a h.1.0 h.1.1 (only_group start a h.1.0 h.1.1 is),
+        law_takes (law_group s) a h.1.0 h.1.1 is,
         record {
           opens = a;
           closed = h.1.1;
@@ -102,17 +113,17 @@ module _ (start : ℕ) where
       )
   group_after a o q (inr h) = rw (h.1, h.2) (takes_none a, tt)
 
-  list_after : (a : At) (l : ListAsked) (q : At) → IsList start a l q → KindAfter 0 (of_list l) a
+  list_after : (a : At) (l : ListRequest) (q : At) → IsList start a l q → KindAfter 0 (of_list l) a
   list_after a l q h =
       let item = h.3 in
       let join = item.3 in
-      let t = (reads_range start).takes a h.0 h.1 (only_range start a h.1 h.0 h.2) in
+      let t = law_takes (law_range s) a h.0 h.1 h.2 in
       let first = group_after h.1 item.0 item.1 item.2 in
       let second = group_after item.1 join.0 join.1 join.2 in
       let u = takes_then a h.1 item.1 t first.0 in
       rw join.3.0 (
-        group_grows 0 0 a h.1 t (no_longer a h.1 t) item.0 first.1,
-        group_grows 0 0 a item.1 u (no_longer a item.1 u) join.0 second.1,
+        group_grows 0 0 a h.1 t (no_longer 0 a h.1 t) item.0 first.1,
+        group_grows 0 0 a item.1 u (no_longer 0 a item.1 u) join.0 second.1,
       )
 
   -- ---- specs
@@ -145,60 +156,40 @@ module _ (start : ℕ) where
   shown_after flagged a x b k q (inr w) h =
       lettered_after x.slot x.hex_debug a b w.0 k q w.1 w.2 h
 
-  from_sign_after : (filled : Option ℕ) (alignment : Alignment) (a : At) (x : Asked) (q : At)
-      → (from_sign start filled alignment).is a x q → KindAfter 1 x.kind a
-  from_sign_after filled alignment a x q h =
-      let alternate = h.3 in
-      let zero = alternate.3 in
-      let width = zero.3 in
-      let precision = width.3 in
-      let wanted = precision.3 in
-      let asked = wanted.3 in
-      let t =
-      takes_then a h.1 zero.1
-      (part_takes start _ _ (agrees_letter sign_letter signs.Unset)
-      (reads_letter start sign_letter signs.Unset) a h.0 h.1 h.2)
-      (takes_then h.1 alternate.1 zero.1
-      (part_takes start _ _ (agrees_flag hash) (reads_flag start hash) h.1 alternate.0 alternate.1
-      alternate.2)
-      (part_takes start _ _ (agrees_flag zero_digit) (reads_flag start zero_digit) alternate.1
-      zero.0 zero.1 zero.2)) in
-      let u =
-      takes_then zero.1 width.1 precision.1
-      (part_takes start _ _ (agrees_width start) (reads_width start) zero.1 width.0 width.1
-      width.2)
-      (part_takes start _ _ (agrees_precision start) (reads_precision start) width.1 precision.0
-      precision.1 precision.2) in
-      let all = takes_then a zero.1 precision.1 t u in
-      rw asked.3.0
-      (kind_grows 1 0 a precision.1 all (no_longer a precision.1 all) asked.0
-      (shown_after _ precision.1 wanted.0 wanted.1 asked.0 asked.1 wanted.2 asked.2))
+  after_sign : (filled : Option ℕ) (alignment : Alignment)
+      → Begins 1 (λ x. x.kind) (from_sign start filled alignment)
+  after_sign filled alignment =
+      begins_then (law_letter s sign_letter signs.Unset) (λ sign.
+      begins_then (law_flag s hash) (λ alternate.
+      begins_then (law_flag s zero_digit) (λ zero.
+      begins_then (law_width s) (λ width.
+      begins_then (law_precision s) (λ precision. record {
+        after = λ a x q h.
+            let asked = h.3 in
+            rw asked.3.0 (shown_after (alternate || zero) a h.0 h.1 asked.0 asked.1 h.2 asked.2);
+      })))))
 
   fill_takes : (a : At) (x : Option ℕ) (q : At) → fill.is a x q → Takes a q
   fill_takes a x q (inl h) = lies_takes a (h.0 ∷ []) q h.1.0
   fill_takes a x q (inr h) = rw h.2 (takes_none a)
 
-  parts_after : (a : At) (x : Asked) (q : At) → (parts start).is a x q → KindAfter 1 x.kind a
+  parts_after : (a : At) (x : Request) (q : At) → (parts start).is a x q → KindAfter 1 x.kind a
   parts_after a x q h =
-      let aligned = h.3 in
-      let t =
-      takes_then a h.1 aligned.1 (fill_takes a h.0 h.1 h.2)
-      (part_takes start _ _ (agrees_letter alignment_letter alignments.Unset)
-      (reads_letter start alignment_letter alignments.Unset) h.1 aligned.0 aligned.1 aligned.2) in
-      kind_grows 1 0 a aligned.1 t (no_longer a aligned.1 t) x.kind
-      (from_sign_after h.0 aligned.0 aligned.1 x q aligned.3)
+      let t = fill_takes a h.0 h.1 h.2 in
+      let aligned = begins_then (law_letter s alignment_letter alignments.Unset) (after_sign h.0) in
+      kind_grows 1 1 a h.1 t (no_longer 1 a h.1 t) x.kind (aligned.after h.1 x q h.3)
 
-  spec_after : (a : At) (x : Asked) (q : At) → IsSpec start a x q → KindAfter 1 x.kind a
+  spec_after : (a : At) (x : Request) (q : At) → IsSpec start a x q → KindAfter 1 x.kind a
   spec_after a x q (inl h) = rw h.1 tt
   spec_after a x q (inr h) = parts_after a x q h.1
 
   -- ---- arguments
 
-  asks_after : (a : At) (x : Asked) (q : At) → Asks start a x q → KindAfter 2 x.kind a
+  asks_after : (a : At) (x : Request) (q : At) → Asks start a x q → KindAfter 2 x.kind a
   asks_after a x q (inl h) = rw h.1 tt
   asks_after a x q (inr h) =
       let t = lies_takes a (colon ∷ []) h.0 h.1 in
-      kind_grows 1 1 a h.0 t (omega (arith, ap length h.1.split)) x.kind (spec_after h.0 x q h.2)
+      kind_grows 1 2 a h.0 t (omega (arith, ap length h.1.split)) x.kind (spec_after h.0 x q h.2)
 
 -- the groups of an argument begin after two characters or more
 pub argument_after : (a : At) (x : Argument) (q : At) → argument_at a ≡ Ok (x, q)
@@ -213,5 +204,5 @@ argument_after a x q e =
       place =
           omega (arith, h.named.name_place, h.named.end_place, size-append h.named.spaces x.name);
     } in
-    kind_grows 2 0 a h.after t (no_longer a h.after t) x.kind
+    kind_grows 2 2 a h.after t (no_longer 2 a h.after t) x.kind
     (asks_after a.place h.after (asked x) q h.asks)

@@ -3,7 +3,6 @@ pub mod ArgumentFaultLemmas
 pub mod ByteLemmas
 pub mod CharacterLemmas
 pub mod ErrorLemmas
-pub mod FaultPlaceLemmas
 pub mod FirstByteLemmas
 pub mod FrontLemmas
 pub mod GrammarArgumentLemmas
@@ -17,15 +16,13 @@ pub mod GrammarPieceLemmas
 pub mod GrammarSpecLemmas
 pub mod GrammarTraitLemmas
 pub mod GroupLemmas
+pub mod GroupReaderLemmas
 pub mod GuardLemmas
-pub mod ListReaderLemmas
+pub mod KeepLemmas
 pub mod LocalityLemmas
 pub mod LongestLemmas
-pub mod MoveArgumentLemmas
-pub mod MoveLemmas
-pub mod MoveListLemmas
 pub mod MovePieceLemmas
-pub mod PieceGrammarLemmas
+pub mod NodeLemmas
 pub mod PieceLemmas
 pub mod ReaderLemmas
 pub mod ScanLemmas
@@ -33,4 +30,5 @@ pub mod SimpleReaderLemmas
 pub mod SizeLemmas
 pub mod StripLemmas
 pub mod CaseLemmas
+pub mod TokenLemmas
 pub mod UnstyledLemmas

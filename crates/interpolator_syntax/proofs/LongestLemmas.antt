@@ -1,10 +1,9 @@
 -- The longest front of a text whose characters pass: the one defined by recursion is one, and no
 -- other is.
-use Rattle.std.proofs.Common.{◌≡◌, ℕ, ◌+◌, Bool, false, IsTrue, IsFalse, All, List, []}
+use Rattle.std.proofs.Common.{◌≡◌, ℕ, Bool, false, IsTrue, IsFalse, All, List, []}
 use Rattle.std.proofs.Common.{◌∷◌, ◌++◌, refl, ap, ◌∙◌, sym}
 use Rattle.std.proofs.lemmas.Bool.{cond_both}
 use Rattle.std.proofs.lemmas.List.Elements.{All-nil, All-cons, All-head, All-tail}
-use Rattle.interpolator_syntax.specs.At.{At, size, after}
 use Rattle.interpolator_syntax.specs.Classes.{front_of, after_of}
 use Rattle.interpolator_syntax.specs.Grammar.{from_place, IsLongest}
 use Rattle.interpolator_syntax.proofs.FrontLemmas.{front_after}
@@ -60,10 +59,3 @@ module _ (passes : ℕ → Bool) where
   longest_front text front rest h =
       let same = front_then front rest h.pass h.stops in
       (ap (front_of passes) h.split ∙ same.0, ap (after_of passes) h.split ∙ same.1)
-
-  pub after_longest :
-      (a : At) (front rest : List ℕ) → IsLongest passes a.text front rest
-      → after passes a ≡ from_place (a.place + size front) rest
-  after_longest a front rest h =
-      let same = longest_front a.text front rest h in
-      at_same (ap (λ xs. a.place + size xs) same.0) same.1

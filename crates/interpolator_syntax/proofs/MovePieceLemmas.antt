@@ -1,19 +1,20 @@
 -- The pieces of a text at another base.
 use Rattle.std.proofs.Common.{◌≡◌, ℕ, zero, suc, ◌+◌, Bool, true, false, cond, eqb, List, [], ◌∷◌}
-use Rattle.std.proofs.Common.{length, map, refl, ap, ◌∙◌, Result, Ok, Err, Option, Some}
-use Rattle.std.proofs.Common.{None, option_map}
+use Rattle.std.proofs.Common.{length, map, refl, ap, ◌∙◌, Result, Ok, Err, Option, Some, None}
 use Rattle.std.specs.Char.{len_utf8}
-use Rattle.interpolator_syntax.specs.At.{At, size, strip}
+use Rattle.interpolator_syntax.specs.At.{At, size, strip_of}
 use Rattle.interpolator_syntax.specs.Classes.{open_brace, close_brace}
 use Rattle.interpolator_syntax.specs.Arguments.{Argument, argument_at}
 use Rattle.interpolator_syntax.specs.Pieces.{PieceKind, Piece, Step, step, takes_all, argument_step}
-use Rattle.interpolator_syntax.specs.Pieces.{argument_or_broken, argument_from, open_step, close_step}
-use Rattle.interpolator_syntax.specs.Pieces.{piece_from, past, pieces_within, pieces, unclosed, broken}
+use Rattle.interpolator_syntax.specs.Pieces.{argument_or_broken, argument_from, open_step}
+use Rattle.interpolator_syntax.specs.Pieces.{close_step, piece_from, past, pieces_within, pieces}
+use Rattle.interpolator_syntax.specs.Pieces.{unclosed, broken}
 use Rattle.interpolator_syntax.specs.Faults.{Fault}
+use Rattle.interpolator_syntax.specs.Grammar.{from_place}
 use Rattle.interpolator_syntax.specs.Moved.{moved_at, moved_argument, moved_piece_kind, moved_piece}
 use Rattle.interpolator_syntax.proofs.LongestLemmas.{at_same}
-use Rattle.interpolator_syntax.proofs.MoveLemmas.{step_moved, moved_read, strip_moves}
-use Rattle.interpolator_syntax.proofs.MoveArgumentLemmas.{moves_argument}
+use Rattle.interpolator_syntax.proofs.KeepLemmas.{step_moved}
+use Rattle.interpolator_syntax.proofs.ReaderLemmas.{moved_read, moves_argument}
 
 module _ (by : ℕ) where
   -- a piece, and what stands after it
@@ -29,20 +30,26 @@ module _ (by : ℕ) where
       ≡ moved_step (takes_all p b kind)
   takes_all_moves p b kind = step_same (at_same (step_moved b.place by (size b.text)) refl)
 
-  argument_step_moves : (p : ℕ) (b : At) (x : Argument) (q : At) (o : Option At)
-      → argument_step (p + by) (moved_at by b) (moved_argument by x) (moved_at by q)
-      (option_map (moved_at by) o)
-      ≡ moved_step (argument_step p b x q o)
-  argument_step_moves p b x q None = takes_all_moves p b (unclosed b.place x q.place)
-  argument_step_moves p b x q (Some rest) = refl
+  -- what is made of what stands after the character c, if it stands there
+  by_strip :
+      (c p : ℕ) (cs : List ℕ) (f g : Option At → Step) → f None ≡ moved_step (g None)
+      → ((r : At) → f (Some (moved_at by r)) ≡ moved_step (g (Some r)))
+      → f (strip_of c (p + by) cs) ≡ moved_step (g (strip_of c p cs))
+  by_strip c p [] f g none some = none
+  by_strip c p (d ∷ ds) f g none some =
+      let rest = from_place (p + len_utf8 d) ds in
+      ap (λ q. f (cond (eqb d c) (Some (from_place q ds)) None)) (step_moved p by (len_utf8 d))
+      ∙ elim (eqb d c) as (λ t. f (cond t (Some (moved_at by rest)) None)
+      ≡ moved_step (g (cond t (Some rest) None))) [ true ↦ some rest | false ↦ none ]
 
   argument_or_broken_moves : (p : ℕ) (b : At) (o : Result (Argument × At) Fault)
-      → argument_or_broken (p + by) (moved_at by b) (moved_read by (moved_argument by) o)
+      → argument_or_broken (p + by) (moved_at by b) (moved_read by o)
       ≡ moved_step (argument_or_broken p b o)
   argument_or_broken_moves p b (Ok w) =
-      ap (argument_step (p + by) (moved_at by b) (moved_argument by w.0) (moved_at by w.1))
-      (strip_moves by close_brace w.1)
-      ∙ argument_step_moves p b w.0 w.1 (strip close_brace w.1)
+      let q = w.1 in
+      by_strip close_brace q.place q.text
+      (argument_step (p + by) (moved_at by b) (moved_argument by w.0) (moved_at by q))
+      (argument_step p b w.0 q) (takes_all_moves p b (unclosed b.place w.0 q.place)) (λ r. refl)
   argument_or_broken_moves p b (Err f) = takes_all_moves p b (broken f)
 
   argument_from_moves : (p : ℕ) (b : At)
@@ -51,18 +58,6 @@ module _ (by : ℕ) where
   argument_from_moves p b =
       ap (argument_or_broken (p + by) (moved_at by b)) (moves_argument by b)
       ∙ argument_or_broken_moves p b (argument_at b)
-
-  open_step_moves : (p : ℕ) (b : At) (o : Option At)
-      → open_step (p + by) (moved_at by b) (option_map (moved_at by) o)
-      ≡ moved_step (open_step p b o)
-  open_step_moves p b (Some rest) = refl
-  open_step_moves p b None = argument_from_moves p b
-
-  close_step_moves : (p : ℕ) (b : At) (o : Option At)
-      → close_step (p + by) (moved_at by b) (option_map (moved_at by) o)
-      ≡ moved_step (close_step p b o)
-  close_step_moves p b (Some rest) = refl
-  close_step_moves p b None = refl
 
   either_step : (t : Bool) (s r u v : Step) → s ≡ moved_step u → r ≡ moved_step v
       → cond t s r ≡ moved_step (cond t u v)
@@ -73,12 +68,11 @@ module _ (by : ℕ) where
       → piece_from (p + by) c (moved_at by b) ≡ moved_step (piece_from p c b)
   piece_from_moves p c b =
       either_step (eqb c open_brace) _ _ _ _
-      (ap (open_step (p + by) (moved_at by b)) (strip_moves by open_brace b)
-      ∙ open_step_moves p b (strip open_brace b))
+      (by_strip open_brace b.place b.text (open_step (p + by) (moved_at by b)) (open_step p b)
+      (argument_from_moves p b) (λ r. refl))
       (either_step (eqb c close_brace) _ _ _ _
-      (ap (close_step (p + by) (moved_at by b)) (strip_moves by close_brace b)
-      ∙ close_step_moves p b (strip close_brace b))
-      refl)
+      (by_strip close_brace b.place b.text (close_step (p + by) (moved_at by b)) (close_step p b)
+      refl (λ r. refl)) refl)
 
   past_moves : (p c : ℕ) (cs : List ℕ) → past (p + by) c cs ≡ moved_at by (past p c cs)
   past_moves p c cs = at_same (step_moved p by (len_utf8 c)) refl

@@ -63,7 +63,8 @@ run_of p c cs false h k =
     let rest = after_of (in_class Literal) cs in
     let one : Piece = record { place = p; text = c ∷ []; kind = literal c } in
     let first = pieces_next p c cs ∙ ap of_step (literal_step p c (past p c cs) h) in
-    let there : stands (p + len_utf8 c + size front) rest ≡ stands (p + (len_utf8 c + size front)) rest =
+    let there : stands (p + len_utf8 c + size front) rest
+    ≡ stands (p + (len_utf8 c + size front)) rest =
     at_same (omega arith) refl in
     rw h (first ∙ ap (λ xs. one ∷ xs) (k
     ∙ ap (λ b. literal_pieces (p + len_utf8 c) front ++ pieces b) there))

@@ -1,7 +1,6 @@
 -- An ASCII character at the beginning of a text, by its byte.
-use Rattle.std.proofs.Common.{◌≡◌, ℕ, ◌+◌, ◌<◌, true, eqb, List, [], ◌∷◌}
-use Rattle.std.proofs.Common.{◌++◌, length, get_or, arith, refl, ap, ◌∙◌, sym, rules}
-use Rattle.std.proofs.Common.{Some, None}
+use Rattle.std.proofs.Common.{◌≡◌, ℕ, ◌+◌, ◌<◌, true, eqb, List, [], ◌∷◌, ◌++◌, length, get_or}
+use Rattle.std.proofs.Common.{arith, refl, ap, ◌∙◌, sym, rules, Some, None}
 use Rattle.std.specs.Str.{chars, IsUtf8, IsCharBoundary, encode_utf8_all}
 use Rattle.std.specs.Char.{encode_utf8}
 use Rattle.std.specs.List.{slice_get}

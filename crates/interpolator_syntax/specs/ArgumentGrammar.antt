@@ -2,7 +2,7 @@
 use Rattle.std.specs.Prelude.{◌≡◌, ◌⊎◌, ℕ, ◌+◌, List, [], ◌∷◌, ◌++◌}
 use Rattle.interpolator_syntax.specs.At.{At, size}
 use Rattle.interpolator_syntax.specs.Classes.{close_brace, colon, in_class}
-use Rattle.interpolator_syntax.specs.SpecTexts.{Asked, plain_display}
+use Rattle.interpolator_syntax.specs.SpecTexts.{Request, plain_display}
 use Rattle.interpolator_syntax.specs.Arguments.{Argument}
 use Rattle.interpolator_syntax.specs.Grammar.{IsLongest}
 use Rattle.interpolator_syntax.specs.GrammarParts.{IsFirst, Lies}
@@ -21,7 +21,7 @@ pub record IsNamed (a : At) (name : List ℕ) (p : ℕ) (b : At) : Type 0 where
 
 -- after the name, in the argument that begins at `start`: a `}`, which asks for plain display and
 -- is not read; or a `:`, and the spec after it
-abbrev pub Asks : (start : ℕ) → (b : At) → (x : Asked) → (end : At) → Type 0
+abbrev pub Asks : (start : ℕ) → (b : At) → (x : Request) → (end : At) → Type 0
 Asks start b x end =
     (IsFirst close_brace b.text × (x ≡ plain_display) × (end ≡ b))
     ⊎ ((m : At) × Lies b (colon ∷ []) m × IsSpec start m x end)
@@ -33,7 +33,7 @@ AsksNothing start b f =
     ⊎ ((m : At) × Lies b (colon ∷ []) m × IsNoSpec start m f)
 
 -- what an argument asks
-abbrev pub asked : Argument → Asked
+abbrev pub asked : Argument → Request
 asked x = record { spec = x.spec; kind = x.kind }
 
 -- the argument that begins at a, and after it what stands at `end`

@@ -8,9 +8,9 @@ use Rattle.interpolator_syntax.specs.At.{At, at, strip}
 use Rattle.interpolator_syntax.specs.Classes.{close_brace, colon}
 use Rattle.interpolator_syntax.specs.Readers.{Reader, ◌>>=◌, give, here, span}
 use Rattle.interpolator_syntax.specs.Groups.{group_of}
-use Rattle.interpolator_syntax.specs.SpecTexts.{Kind, of_value, of_list, Asked}
+use Rattle.interpolator_syntax.specs.SpecTexts.{Kind, of_value, of_list, Request}
 use Rattle.interpolator_syntax.specs.SpecTexts.{plain_display, plain_spec, spec_after}
-use Rattle.interpolator_syntax.specs.Lists.{ListAsked}
+use Rattle.interpolator_syntax.specs.Lists.{ListRequest}
 use Rattle.interpolator_syntax.specs.Faults.{Fault, Answer, fault, parse, unclosed, argument_fault_of}
 use Rattle.interpolator_syntax.specs.Faults.{answer_of}
 use Rattle.interpolator_syntax.specs.declared.error.Error.{Error}
@@ -20,7 +20,7 @@ use Rattle.interpolator_syntax.specs.declared.argument.Kind as code_kind
 use Rattle.interpolator_syntax.specs.declared.argument.Kind.TheVariants.{Value, List as ListKind}
 use Rattle.interpolator_syntax.specs.declared.argument.Argument as code_argument
 use Rattle.interpolator_syntax.specs.declared.argument.ArgumentName.{ArgumentName}
-use Rattle.interpolator_syntax.specs.declared.argument.Asked as code_asked
+use Rattle.interpolator_syntax.specs.declared.argument.Request as code_request
 use Rattle.interpolator_syntax.specs.declared.argument.TakenArgument.{TakenArgument}
 use Rattle.interpolator_syntax.specs.declared.list.ListForm.{ListForm}
 
@@ -32,18 +32,18 @@ pub record Argument : Type 0 where
   pub kind : Kind
 
 -- a name at a place, and what is asked of it
-abbrev pub argument : List ℕ → ℕ → Asked → Argument
+abbrev pub argument : List ℕ → ℕ → Request → Argument
 argument name place asked =
     record { name = name; name_place = place; spec = asked.spec; kind = asked.kind }
 
 -- after a name: a closing brace, or a colon and the spec after it; the text does not end there
-abbrev pub asked_by : (start : ℕ) → (a : At) → Option At → Option At → Result (Asked × At) Fault
+abbrev pub asked_by : (start : ℕ) → (a : At) → Option At → Option At → Result (Request × At) Fault
 asked_by start a (Some closed) spec = Ok (plain_display, a)
 asked_by start a None (Some rest) = spec_after start rest
 asked_by start a None None = Err (parse (unclosed start))
 
 -- what is asked after the name of the argument that begins at `start`
-abbrev pub asked_at : (start : ℕ) → Reader Asked
+abbrev pub asked_at : (start : ℕ) → Reader Request
 asked_at start = λ a. asked_by start a (strip close_brace a) (strip colon a)
 
 -- white space, the name, up to the first `:` or `}`, and what is asked of it
@@ -78,7 +78,7 @@ kind_of (ListKind range item join) = of_list (record {
 })
 
 -- how a list is written, as the code has it
-abbrev pub list_of : ListForm → ListAsked
+abbrev pub list_of : ListForm → ListRequest
 list_of form = record {
   range = form.range;
   item = option_map group_of form.item;
@@ -86,20 +86,20 @@ list_of form = record {
 }
 
 -- what a trait asks for: `Iter` a list of that form, and each other a value
-abbrev pub kind_under : Trait → ListAsked → Kind
+abbrev pub kind_under : Trait → ListRequest → Kind
 kind_under traits.Iter form = of_list form
 kind_under t form = of_value t
 
 -- the same of what is asked, as the code has it
-abbrev pub kind_of_asked : code_asked.Asked → Kind
-kind_of_asked x = kind_under x.slot (list_of x.list)
+abbrev pub kind_of_request : code_request.Request → Kind
+kind_of_request x = kind_under x.slot (list_of x.list)
 
 -- what is asked, as the code has it
-abbrev pub asked_of : code_asked.Asked → Asked
-asked_of x = record { spec = x.spec; kind = kind_of_asked x }
+abbrev pub request_of : code_request.Request → Request
+request_of x = record { spec = x.spec; kind = kind_of_request x }
 
 -- plain display, as the code has it
-abbrev pub IsPlain : code_asked.Asked → Type 0
+abbrev pub IsPlain : code_request.Request → Type 0
 IsPlain x = (x.slot ≡ traits.Display) × (x.spec ≡ plain_spec)
 
 -- an argument as the code has it, without where it lies in memory
@@ -108,7 +108,7 @@ argument_of x = argument (chars x.name.now) x.name_place
     (record { spec = x.spec; kind = kind_of x.kind })
 
 -- what is asked of a name that the code read
-abbrev pub named_argument : ArgumentName → Asked → Argument
+abbrev pub named_argument : ArgumentName → Request → Argument
 named_argument n asked = argument (chars n.name.now) n.place asked
 
 -- plain display of a name that the code read
@@ -117,7 +117,7 @@ plain_argument n = named_argument n plain_display
 
 -- an argument that the code read, and what stands after its spec; or why it is broken
 abbrev pub taken_read : Result TakenArgument ArgumentFault → Result (Argument × At) Fault
-taken_read (Ok t) = Ok (named_argument t.name (asked_of t.asked), at t.end)
+taken_read (Ok t) = Ok (named_argument t.name (request_of t.asked), at t.end)
 taken_read (Err broken) = Err (argument_fault_of broken)
 
 -- an argument, and the byte after its spec
@@ -141,19 +141,19 @@ abbrev pub from_byte : (text : List ℕ) → (start : ℕ) → At
 from_byte text start = record { place = start; text = chars (drop start text) }
 
 -- what the code read into x, up to `end`; or why it is broken
-abbrev pub asked_read : Result (Unit {0}) ArgumentFault → (x : code_asked.Asked) → (end : At)
-    → Result (Asked × At) Fault
-asked_read (Ok _) x end = Ok (asked_of x, end)
+abbrev pub asked_read : Result (Unit {0}) ArgumentFault → (x : code_request.Request) → (end : At)
+    → Result (Request × At) Fault
+asked_read (Ok _) x end = Ok (request_of x, end)
 asked_read (Err broken) x end = Err (argument_fault_of broken)
 
 -- the same of a name's argument
-abbrev pub argument_read : ArgumentName → Result (Unit {0}) ArgumentFault → (x : code_asked.Asked)
+abbrev pub argument_read : ArgumentName → Result (Unit {0}) ArgumentFault → (x : code_request.Request)
     → (end : At) → Result (Argument × At) Fault
-argument_read n (Ok _) x end = Ok (named_argument n (asked_of x), end)
+argument_read n (Ok _) x end = Ok (named_argument n (request_of x), end)
 argument_read n (Err broken) x end = Err (argument_fault_of broken)
 
 -- how a list is written, which was read into x up to `end`; or why it is broken
 abbrev pub list_read : Result (Unit {0}) ArgumentFault → (x : ListForm) → (end : At)
-    → Result (ListAsked × At) Fault
+    → Result (ListRequest × At) Fault
 list_read (Ok _) x end = Ok (list_of x, end)
 list_read (Err broken) x end = Err (argument_fault_of broken)

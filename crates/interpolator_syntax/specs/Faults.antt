@@ -95,6 +95,11 @@ fault_place (parse f) = parse_place f
 fault_place (missing_value name place) = place
 fault_place (unsupported_option option feature place) = place
 
+-- the place that an answer carries; none where memory was refused
+abbrev pub answer_place : Answer → Option ℕ
+answer_place (fault f) = Some (fault_place f)
+answer_place no_memory = None
+
 -- an answered fault carries a place of at most so many bytes
 abbrev pub PlaceWithin : ℕ → Option Answer → Type 0
 PlaceWithin length None = ⊤

@@ -36,6 +36,10 @@ pub record Group : Type 0 where
   pub text : List ℕ
   pub place : ℕ
 
+-- what stands in a group, at its place
+abbrev pub inside : Group → At
+inside g = record { place = g.place; text = g.text }
+
 -- the group whose text begins at p, where it closes
 abbrev pub closed_group : (start p : ℕ) → Option (List ℕ × At) → Result (Group × At) Fault
 closed_group start p None = Err (parse (unclosed start))

@@ -11,6 +11,7 @@ pub mod SpecReads
 pub mod Arguments
 pub mod Pieces
 pub mod Tokens
+pub mod Nodes
 pub mod NumberGrammar
 pub mod GroupGrammar
 pub mod Grammar

@@ -5,7 +5,7 @@ use Rattle.interpolator_syntax.specs.At.{At}
 use Rattle.interpolator_syntax.specs.Classes.{in_class, point, equals, hash, open_bracket}
 use Rattle.interpolator_syntax.specs.Ranges.{range_of}
 use Rattle.interpolator_syntax.specs.Groups.{Group}
-use Rattle.interpolator_syntax.specs.Lists.{ListAsked}
+use Rattle.interpolator_syntax.specs.Lists.{ListRequest}
 use Rattle.interpolator_syntax.specs.NumberGrammar.{integers}
 use Rattle.interpolator_syntax.specs.Grammar.{NotFirst}
 use Rattle.interpolator_syntax.specs.GrammarParts.{Part, ◌>>=◌, ends, Lies, where_first, number}
@@ -70,7 +70,7 @@ group_there start =
       ends (Some g))
 
 -- how a list is written: a range, the format of an item, and the join
-abbrev pub list : (start : ℕ) → Part ListAsked
+abbrev pub list : (start : ℕ) → Part ListRequest
 list start =
     do
       range ← range start
@@ -79,7 +79,7 @@ list start =
       ends (record { range = range; item = item; join = join })
 
 -- x stands at a, after the letter of a list, and after it what stands at q
-abbrev pub IsList : (start : ℕ) → (a : At) → (x : ListAsked) → (q : At) → Type 0
+abbrev pub IsList : (start : ℕ) → (a : At) → (x : ListRequest) → (q : At) → Type 0
 IsList start = (list start).is
 
 -- why what stands after the letter is no list

@@ -6,17 +6,17 @@ use Rattle.interpolator_syntax.specs.Readers.{Reader, ◌>>=◌, give}
 use Rattle.interpolator_syntax.specs.declared.range.Range.{Range}
 
 -- a range, an item format and a join, each of which may be absent
-pub record ListAsked : Type 0 where
+pub record ListRequest : Type 0 where
   pub range : Option Range
   pub item : Option Group
   pub join : Option Group
 
 -- all items, each displayed plainly, and nothing between two of them
-abbrev pub plain_list : ListAsked
+abbrev pub plain_list : ListRequest
 plain_list = record { range = None; item = None; join = None }
 
 -- what stands after the letter `i` of the argument that begins at `start`
-unfoldable pub list_at : (start : ℕ) → Reader ListAsked
+unfoldable pub list_at : (start : ℕ) → Reader ListRequest
 list_at start =
     do
       range ← range_at start

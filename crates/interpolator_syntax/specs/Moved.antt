@@ -2,7 +2,7 @@
 use Rattle.std.specs.Prelude.{ℕ, ◌+◌, option_map}
 use Rattle.interpolator_syntax.specs.At.{At}
 use Rattle.interpolator_syntax.specs.Groups.{Group}
-use Rattle.interpolator_syntax.specs.Lists.{ListAsked}
+use Rattle.interpolator_syntax.specs.Lists.{ListRequest}
 use Rattle.interpolator_syntax.specs.SpecTexts.{Kind, of_value, of_list}
 use Rattle.interpolator_syntax.specs.Arguments.{Argument}
 use Rattle.interpolator_syntax.specs.Pieces.{PieceKind, Piece, literal, doubled, lone_close, closed}
@@ -41,7 +41,7 @@ module _ (by : ℕ) where
   moved_group g = record { text = g.text; place = g.place + by }
 
   -- how a list is written: its groups
-  abbrev pub moved_list : ListAsked → ListAsked
+  abbrev pub moved_list : ListRequest → ListRequest
   moved_list l = record {
     range = l.range;
     item = option_map moved_group l.item;

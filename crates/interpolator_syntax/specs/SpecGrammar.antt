@@ -12,7 +12,7 @@ use Rattle.interpolator_render.specs.declared.view.HexDebug.TheVariants as hex_d
 use Rattle.interpolator_syntax.specs.At.{At}
 use Rattle.interpolator_syntax.specs.Classes.{is_alignment, hash, zero_digit, point, open_brace}
 use Rattle.interpolator_syntax.specs.Classes.{close_brace, question_mark, lower_p}
-use Rattle.interpolator_syntax.specs.SpecTexts.{Kind, of_value, of_list, Asked, plain_display}
+use Rattle.interpolator_syntax.specs.SpecTexts.{Kind, of_value, of_list, Request, plain_display}
 use Rattle.interpolator_syntax.specs.SpecTexts.{Wanted, wanted, alignment_letter, sign_letter}
 use Rattle.interpolator_syntax.specs.NumberGrammar.{naturals}
 use Rattle.interpolator_syntax.specs.Grammar.{NotFirst}
@@ -79,7 +79,7 @@ kind start traits.Iter =
 kind start t = ends (of_value t)
 
 -- the parts of a spec from the sign on
-abbrev pub from_sign : (start : ℕ) → (fill : Option ℕ) → Alignment → Part Asked
+abbrev pub from_sign : (start : ℕ) → (fill : Option ℕ) → Alignment → Part Request
 from_sign start fill alignment =
     do
       sign ← letter sign_letter signs.Unset
@@ -121,7 +121,7 @@ fill = record {
 }
 
 -- the parts of a spec
-abbrev pub parts : (start : ℕ) → Part Asked
+abbrev pub parts : (start : ℕ) → Part Request
 parts start =
     do
       fill ← fill
@@ -134,7 +134,7 @@ IsUnread text = (length text ≤ 1) ⊎ IsFirst close_brace text
 
 -- the text after the colon of the argument that begins at `start`: plain display, where nothing is
 -- read; else the parts stand there
-abbrev pub spec : (start : ℕ) → Part Asked
+abbrev pub spec : (start : ℕ) → Part Request
 spec start = record {
   is =
       λ a x q. (IsUnread a.text × (x ≡ plain_display) × (q ≡ a))
@@ -143,7 +143,7 @@ spec start = record {
 }
 
 -- what x asks stands after the colon, and after it what stands at q
-abbrev pub IsSpec : (start : ℕ) → (a : At) → (x : Asked) → (q : At) → Type 0
+abbrev pub IsSpec : (start : ℕ) → (a : At) → (x : Request) → (q : At) → Type 0
 IsSpec start = (spec start).is
 
 -- no spec stands after the colon, for this reason

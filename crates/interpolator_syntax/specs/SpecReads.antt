@@ -9,7 +9,7 @@ use Rattle.interpolator_render.specs.declared.view.Spec.{Spec}
 use Rattle.interpolator_syntax.specs.At.{At, at}
 use Rattle.interpolator_syntax.specs.Classes.{zero_digit}
 use Rattle.interpolator_syntax.specs.Readers.{Reader, ◌>>=◌, give}
-use Rattle.interpolator_syntax.specs.SpecTexts.{Wanted, Asked, trait_at, kind_at}
+use Rattle.interpolator_syntax.specs.SpecTexts.{Wanted, Request, trait_at, kind_at}
 use Rattle.interpolator_syntax.specs.Faults.{Fault, argument_fault_of}
 use Rattle.interpolator_syntax.specs.declared.argument_fault.ArgumentFault.{ArgumentFault}
 use Rattle.interpolator_syntax.specs.declared.cursor.Cursor.{Cursor}
@@ -42,11 +42,11 @@ wanted_read (Ok x) end = Ok (record { slot = x.0; hex_debug = x.1 }, end)
 wanted_read (Err broken) end = Err (argument_fault_of broken)
 
 -- what is left of a spec after its trait: what is asked for
-abbrev pub kind_left : (start : ℕ) → Spec → Trait → Reader Asked
+abbrev pub kind_left : (start : ℕ) → Spec → Trait → Reader Request
 kind_left start spec slot = kind_at start slot >>= λ kind. give (record { spec = spec; kind = kind })
 
 -- what is left of a spec after its options: the trait, and what is asked for
-abbrev pub trait_left : (start : ℕ) → Spec → Reader Asked
+abbrev pub trait_left : (start : ℕ) → Spec → Reader Request
 trait_left start spec = trait_at start (spec.alternate || spec.zero) >>= λ shown.
     kind_left start (record {
       fill = spec.fill;
@@ -69,12 +69,12 @@ pub record HasNoOptions (spec : Spec) : Type 0 where
 
 -- where the options were read up to `end`, what is left
 abbrev pub options_left : (start : ℕ) → Result (Unit {0}) ArgumentFault → Spec → (end : At)
-    → Result (Asked × At) Fault
+    → Result (Request × At) Fault
 options_left start (Ok _) spec end = trait_left start spec end
 options_left start (Err broken) spec end = Err (argument_fault_of broken)
 
 -- where all was read up to `end`, the letter of a list included, what is left
 abbrev pub spec_left : (start : ℕ) → Result (Unit {0}) ArgumentFault → Spec → Trait → (end : At)
-    → Result (Asked × At) Fault
+    → Result (Request × At) Fault
 spec_left start (Ok _) spec slot end = kind_left start spec slot end
 spec_left start (Err broken) spec slot end = Err (argument_fault_of broken)

@@ -17,7 +17,7 @@ use Rattle.interpolator_syntax.specs.Classes.{right_angle, plus, minus, hash, ze
 use Rattle.interpolator_syntax.specs.Classes.{question_mark, open_brace, close_brace, upper_x}
 use Rattle.interpolator_syntax.specs.Classes.{lower_x, upper_e, lower_e, lower_b, lower_i}
 use Rattle.interpolator_syntax.specs.Classes.{lower_o, lower_p}
-use Rattle.interpolator_syntax.specs.Lists.{ListAsked, list_at}
+use Rattle.interpolator_syntax.specs.Lists.{ListRequest, list_at}
 use Rattle.interpolator_syntax.specs.Numbers.{natural}
 use Rattle.interpolator_syntax.specs.Readers.{Reader, ◌>>=◌, give, letter, flag, run}
 use Rattle.interpolator_syntax.specs.Faults.{Fault, parse, unclosed, expected, fill as no_fill}
@@ -29,10 +29,10 @@ use Rattle.interpolator_syntax.specs.declared.class.Class.TheVariants.{Number}
 -- what an argument asks for: a value under a trait, or a list
 pub data Kind : Type 0 where
   of_value : Trait → Kind
-  of_list : ListAsked → Kind
+  of_list : ListRequest → Kind
 
 -- a spec, and what is asked for
-pub record Asked : Type 0 where
+pub record Request : Type 0 where
   pub spec : Spec
   pub kind : Kind
 
@@ -50,7 +50,7 @@ plain_spec = record {
 }
 
 -- plain display
-abbrev pub plain_display : Asked
+abbrev pub plain_display : Request
 plain_display = record { spec = plain_spec; kind = of_value traits.Display }
 
 -- `<`, `^`, `>`
@@ -161,7 +161,7 @@ kind_at start t = give (of_value t)
 
 -- sign, `#`, `0`, width, precision, trait, each where it stands; and after the letter of a list how
 -- it is written
-unfoldable pub spec_from_sign : (start : ℕ) → (fill : Option ℕ) → Alignment → Reader Asked
+unfoldable pub spec_from_sign : (start : ℕ) → (fill : Option ℕ) → Alignment → Reader Request
 spec_from_sign start fill alignment =
     do
       sign ← letter sign_letter signs.Unset
@@ -186,7 +186,7 @@ spec_from_sign start fill alignment =
       })
 
 -- an alignment, where one stands, and then from the sign on
-abbrev pub spec_from_alignment : (start : ℕ) → (fill : Option ℕ) → Reader Asked
+abbrev pub spec_from_alignment : (start : ℕ) → (fill : Option ℕ) → Reader Request
 spec_from_alignment start fill =
     letter alignment_letter alignments.Unset >>= spec_from_sign start fill
 
@@ -209,17 +209,17 @@ abbrev pub fill_at : Reader (Option ℕ)
 fill_at = λ a. fill_of a a.text
 
 -- a fill, where one stands, and then from the alignment on
-abbrev pub spec_parts : (start : ℕ) → Reader Asked
+abbrev pub spec_parts : (start : ℕ) → Reader Request
 spec_parts start = fill_at >>= spec_from_alignment start
 
 -- the text after the colon of the argument that begins at `start`: at most one character is not
 -- read, nor is a text that begins with `}`; of any other its parts are read
-abbrev pub spec_of : (start : ℕ) → (a : At) → List ℕ → Result (Asked × At) Fault
+abbrev pub spec_of : (start : ℕ) → (a : At) → List ℕ → Result (Request × At) Fault
 spec_of start a [] = Ok (plain_display, a)
 spec_of start a (c ∷ []) = Ok (plain_display, a)
 spec_of start a (c ∷ d ∷ ds) =
     if c == close_brace then Ok (plain_display, a) else spec_parts start a
 
 -- the spec after a colon
-unfoldable pub spec_after : (start : ℕ) → Reader Asked
+unfoldable pub spec_after : (start : ℕ) → Reader Request
 spec_after start = λ a. spec_of start a a.text

@@ -6,11 +6,11 @@ ghost use Rattle.interpolator_syntax.specs.Classes.{in_class, front_of, close_br
 ghost use Rattle.interpolator_syntax.specs.declared.class.Class.TheVariants.{WhiteSpace, Name};
 ghost use Rattle.interpolator_syntax.specs.Arguments.{argument_at, argument_after, plain_argument};
 ghost use Rattle.interpolator_syntax.specs.Arguments.{IsPlain, asked_at, asked_read, taken_read};
-ghost use Rattle.interpolator_syntax.specs.Arguments.{kind_of, kind_of_asked, argument_told};
+ghost use Rattle.interpolator_syntax.specs.Arguments.{kind_of, kind_of_request, argument_told};
 ghost use Rattle.interpolator_syntax.specs.Arguments.{answering, with_end, from_byte};
-ghost use Rattle.interpolator_syntax.specs.Arguments.{argument_of, named_argument, asked_of};
+ghost use Rattle.interpolator_syntax.specs.Arguments.{argument_of, named_argument, request_of};
 
-use crate::argument_fault::{ArgumentFault, error_of};
+use crate::argument_fault::ArgumentFault;
 use crate::class::Class;
 use crate::cursor::Cursor;
 use crate::error::{Error, ParseError};
@@ -21,7 +21,7 @@ use crate::spec::take_spec;
 use interpolator_render::{Spec, Trait};
 
 /// What an argument asks for.
-#[derive(Clone, Copy)]
+#[derive(Clone, Copy, Debug, PartialEq)]
 pub enum Kind<'a> {
     /// A value, written under a trait.
     Value(Trait),
@@ -38,7 +38,7 @@ pub enum Kind<'a> {
 }
 
 /// What stands in braces: a name, and how its value is written.
-#[derive(Clone, Copy)]
+#[derive(Clone, Copy, Debug, PartialEq)]
 pub struct Argument<'a> {
     /// The name, a slice of the text.
     pub name: &'a str,
@@ -86,7 +86,7 @@ pub fn take_name(here: Cursor<'_>) -> ArgumentName<'_>
 
 /// How the value of a name is written.
 #[derive(Clone, Copy)]
-pub struct Asked<'a> {
+pub struct Request<'a> {
     /// Under which trait; `Iter` asks for a list.
     pub slot: Trait,
     /// How the value is written.
@@ -95,7 +95,7 @@ pub struct Asked<'a> {
     pub list: ListForm<'a>,
 }
 
-impl<'a> Asked<'a> {
+impl<'a> Request<'a> {
     ghost use Rattle.interpolator_syntax.specs.Arguments.{IsPlain};
 
     /// Plain display.
@@ -103,7 +103,7 @@ impl<'a> Asked<'a> {
     pub fn plain() -> Self
         ensures { IsPlain result }
     {
-        Asked {
+        Request {
             slot: Trait::Display,
             spec: Spec::default(),
             list: ListForm::plain(),
@@ -114,9 +114,9 @@ impl<'a> Asked<'a> {
 /// What is asked after the name of the argument that begins at `start`, where it is not closed at
 /// once. Goes after the spec.
 #[inline(always)]
-pub fn take_asked<'a>(
+pub fn take_request<'a>(
     here: &mut Cursor<'a>,
-    asked: &mut Asked<'a>,
+    asked: &mut Request<'a>,
     start: usize,
 ) -> Result<(), ArgumentFault>
     requires open { strip close_brace (at here.old) ≡ None }
@@ -139,7 +139,7 @@ pub struct TakenArgument<'a> {
     /// Its name.
     pub name: ArgumentName<'a>,
     /// What is asked of it.
-    pub asked: Asked<'a>,
+    pub asked: Request<'a>,
     /// What stands after its spec.
     pub end: Cursor<'a>,
     /// What stands after its closing brace; none where no such brace stands after its spec.
@@ -148,8 +148,8 @@ pub struct TakenArgument<'a> {
 
 /// The argument that begins here, after its opening brace, and what stands after its closing one.
 ///
-/// Where only the written value counts, [`take_name`] and [`take_asked`] are called apart: then a
-/// name alone makes no [`Asked`].
+/// Where only the written value counts, [`take_name`] and [`take_request`] are called apart: then a
+/// name alone makes no [`Request`].
 pub fn take_argument(here: Cursor<'_>) -> Result<TakenArgument<'_>, ArgumentFault>
     ensures read { taken_read result ≡ argument_at (at here.entry) }
     ensures rest { IfOk result (λ t. option_map at t.rest ≡ strip close_brace (at t.end)) }
@@ -158,10 +158,10 @@ pub fn take_argument(here: Cursor<'_>) -> Result<TakenArgument<'_>, ArgumentFaul
 {
     let name = take_name(here);
     let mut end = name.end;
-    let mut asked = Asked::plain();
+    let mut asked = Request::plain();
     let mut rest = end.strip(b'}');
     if rest.is_none() {
-        take_asked(&mut end, &mut asked, here.place)?;
+        take_request(&mut end, &mut asked, here.place)?;
         rest = end.strip(b'}');
     }
     Ok(TakenArgument {
@@ -173,8 +173,8 @@ pub fn take_argument(here: Cursor<'_>) -> Result<TakenArgument<'_>, ArgumentFaul
 }
 
 /// What is asked for, as a caller of [`parse_argument`] gets it.
-fn kind_asked(asked: Asked<'_>) -> Kind<'_>
-    ensures { kind_of result ≡ kind_of_asked asked.entry }
+fn kind_asked(asked: Request<'_>) -> Kind<'_>
+    ensures { kind_of result ≡ kind_of_request asked.entry }
 {
     match asked.slot {
         Trait::Iter => Kind::List {
@@ -188,7 +188,7 @@ fn kind_asked(asked: Asked<'_>) -> Kind<'_>
 
 /// An argument that was read, as [`parse_argument`] answers it.
 pub fn argument_of<'a>(taken: &TakenArgument<'a>) -> Argument<'a>
-    ensures { argument_of result ≡ named_argument taken.now.name (asked_of taken.now.asked) }
+    ensures { argument_of result ≡ named_argument taken.now.name (request_of taken.now.asked) }
 {
     Argument {
         name: taken.name.name,
@@ -227,8 +227,6 @@ pub fn parse_argument(text: &str, start: usize) -> Result<(Argument<'_>, usize),
         ≡ answering (with_end (argument_at (from_byte text.now start))) }
 {
     let (_, rest) = text.split_at(start);
-    match take_argument(Cursor { place: start, rest }) {
-        Err(fault) => Err(error_of(fault)),
-        Ok(taken) => Ok((argument_of(&taken), taken.end.place)),
-    }
+    let taken = take_argument(Cursor { place: start, rest })?;
+    Ok((argument_of(&taken), taken.end.place))
 }

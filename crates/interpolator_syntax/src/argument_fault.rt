@@ -13,12 +13,14 @@ pub enum ArgumentFault {
     Pointer(usize),
 }
 
-/// The fault as a caller gets it.
-pub fn error_of(broken: ArgumentFault) -> Error
-    ensures { answer_of result ≡ fault (argument_fault_of broken) }
-{
-    match broken {
-        ArgumentFault::Text(error) => Error::Parse(error),
-        ArgumentFault::Pointer(place) => Error::UnsupportedOption("p", "pointer", place),
+/// Gives the fault as a caller gets it.
+impl From<ArgumentFault> for Error {
+    ghost from_gives = { λ broken error. answer_of error ≡ fault (argument_fault_of broken) };
+
+    fn from(broken: ArgumentFault) -> Error {
+        match broken {
+            ArgumentFault::Text(error) => Error::Parse(error),
+            ArgumentFault::Pointer(place) => Error::UnsupportedOption("p", "pointer", place),
+        }
     }
 }

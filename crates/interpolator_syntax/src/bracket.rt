@@ -5,6 +5,7 @@ ghost use Rattle.interpolator_syntax.specs.At.{at, after};
 ghost use Rattle.interpolator_syntax.specs.Classes.{in_class, front_of};
 ghost use Rattle.interpolator_syntax.specs.Groups.{after_hashes, close_from, next_close, group_at};
 ghost use Rattle.interpolator_syntax.specs.Groups.{group_if, text_read, group_read, group_if_read};
+ghost use Rattle.interpolator_syntax.specs.Groups.{group_of, inside};
 ghost use Rattle.interpolator_syntax.specs.declared.class.Class.TheVariants.{Hash};
 
 use crate::argument_fault::ArgumentFault;
@@ -111,5 +112,16 @@ pub(crate) fn take_group_if<'a>(
             Err(broken) => Err(broken),
         },
         _ => Ok(None),
+    }
+}
+
+/// The beginning of a group's text.
+#[inline(always)]
+pub fn inside(group: Group<'_>) -> Cursor<'_>
+    ensures { at result ≡ inside (group_of group.entry) }
+{
+    Cursor {
+        place: group.place,
+        rest: group.text,
     }
 }

@@ -1,7 +1,8 @@
 //! The faults: what a call answers in place of its result.
 
 ghost use Rattle.std.specs.Prelude.{◌≡◌, IfOk, IfErr, IsOk};
-ghost use Rattle.interpolator_syntax.specs.Faults.{answer_of, IsMissingValue};
+ghost use Rattle.interpolator_syntax.specs.Faults.{answer_of, parse_fault_of, IsMissingValue};
+ghost use Rattle.interpolator_syntax.specs.Faults.{answer_place, parse_place};
 ghost use Rattle.interpolator_syntax.specs.declared.error.Error.TheVariants.{Parse, NoMemory};
 
 use interpolator_render::Trait;
@@ -106,7 +107,46 @@ impl<T: Drop> From<AllocFailed<T>> for Error {
     }
 }
 
+impl ParseError {
+    /// The place of the fault, in bytes of the outermost format text.
+    ///
+    /// ```text
+    /// ParseError::Expected("}", 9).place()    // 9
+    /// ```
+    pub fn place(&self) -> usize
+        ensures { result ≡ parse_place (parse_fault_of self.now) }
+    {
+        match *self {
+            ParseError::FormatSpecUnclosed(place) => place,
+            ParseError::Expected(_, place) => place,
+            ParseError::InvalidWidth(_, place) => place,
+            ParseError::InvalidPrecision(_, place) => place,
+            ParseError::Fill(place) => place,
+            ParseError::Iter(place) => place,
+            ParseError::RangeBound(_, place) => place,
+        }
+    }
+}
+
 impl Error {
+    /// The place of the fault, in bytes of the outermost format text; none for `NoMemory`.
+    ///
+    /// ```text
+    /// Error::NoMemory.place()    // None
+    /// ```
+    pub fn place(&self) -> Option<usize>
+        ensures { result ≡ answer_place (answer_of self.now) }
+    {
+        match self {
+            Error::MissingTraitImpl(_, place) => Some(*place),
+            Error::Fmt(_, place) => Some(*place),
+            Error::Parse(fault) => Some(fault.place()),
+            Error::MissingValue(_, place) => Some(*place),
+            Error::UnsupportedOption(_, _, place) => Some(*place),
+            Error::NoMemory => None,
+        }
+    }
+
     /// Gives an equal fault.
     ///
     /// Only the name of a `MissingValue` takes memory.

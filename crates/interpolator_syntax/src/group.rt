@@ -7,7 +7,7 @@ ghost use Rattle.std.specs.Prelude.{◌+◌, ◌^◌, ◌<◌, length};
 /// {items:i({:>4})(, )}    // each item with width 4, and a comma and a space between two
 /// {items:i#(a (nested) text)#}
 /// ```
-#[derive(Clone, Copy)]
+#[derive(Clone, Copy, Debug, PartialEq)]
 pub struct Group<'a> {
     /// The text between the brackets, a slice of the format.
     pub text: &'a str,

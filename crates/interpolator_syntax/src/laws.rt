@@ -3,6 +3,7 @@
 
 pub mod arguments;
 pub mod clones;
+pub mod equality;
 mod faults;
 pub mod groups;
 pub mod lists;

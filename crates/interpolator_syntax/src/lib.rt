@@ -2,7 +2,7 @@
 //!
 //! A format is read by a [`Cursor`], a place in the text and the text from there on. [`next_token`]
 //! tells what stands there: literals, a brace that is written, or an opening brace, after which an
-//! argument begins. [`take_argument`] reads it: by [`take_name`] its name, and by [`take_asked`],
+//! argument begins. [`take_argument`] reads it: by [`take_name`] its name, and by [`take_request`],
 //! after a colon, its spec and how it asks for a list. What is wrong is told by a [`ParseError`],
 //! at its place in bytes.
 //!
@@ -28,22 +28,24 @@ mod group;
 pub mod laws;
 mod list;
 mod number;
+mod piece_kind;
 mod range;
 mod spec;
 mod token;
 mod unstyled;
 
 pub use argument::{
-    Argument, ArgumentName, Asked, Kind, TakenArgument, argument_of, parse_argument, take_argument,
-    take_asked, take_name,
+    Argument, ArgumentName, Kind, Request, TakenArgument, argument_of, parse_argument,
+    take_argument, take_name, take_request,
 };
-pub use argument_fault::{ArgumentFault, error_of};
-pub use bracket::text_before;
+pub use argument_fault::ArgumentFault;
+pub use bracket::{inside, text_before};
 pub use class::{Class, split_class, split_first};
 pub use cursor::Cursor;
 pub use error::{Error, NumberError, ParseError};
 pub use group::Group;
 pub use list::ListForm;
+pub use piece_kind::PieceKind;
 pub use range::Range;
 pub use token::{Token, next_token};
 pub use unstyled::write_unstyled;

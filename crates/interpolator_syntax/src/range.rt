@@ -17,7 +17,7 @@ use crate::number::take_integer;
 /// {items:i1..-1}    // all but the first and the last
 /// {items:i-1}       // the last: the same as -1..=-1
 /// ```
-#[derive(Clone, Copy)]
+#[derive(Clone, Copy, Debug, PartialEq, Eq)]
 pub struct Range {
     /// The index of the first item, or none for the list's beginning.
     pub lower: Option<isize>,

@@ -1,160 +1,134 @@
 //! Contexts and values of one's own, by every way to write a format.
-ghost use Rattle.std.specs.Prelude.{codes};
-ghost use Rattle.std.specs.Str.{chars};
-ghost use Rattle.interpolator_render.specs.Views.{failure, plain_text};
 
-use crate::own::{Everywhere, Nowhere, OnlyFive};
+use crate::own::{AlwaysFailed, AlwaysPlain, Everywhere, Nowhere, OnlyFive};
+use crate::report::Report;
 use interpolator::{
-    Context, Formattable, Interpolate, Pairs, ParseError, Spec, Template, TextBuffer, Trait, Value,
-    View, format, iwriteln, write,
+    Bounded, Context, Error, Formattable, Interpolate, Pairs, Template, TextBuffer, Value, format,
+    iwriteln, write,
 };
-use interpolator_testing::limited::Limited;
-use interpolator_testing::told::{Told, answers, told_by};
-use std::alloc::Global;
-use std::process::Abort;
-use std::test::Fail;
 
-/// The text `{x}` as it stands, whatever is asked.
-#[derive(Clone, Copy)]
-struct AlwaysPlain;
-
-impl Value for AlwaysPlain {
-    ghost shows = { λ value t spec. plain_text (chars (codes "{x}")) };
-
-    fn view(&self, _t: Trait, _spec: &Spec) -> View<'_> {
-        View::Plain("{x}")
-    }
-}
-
-/// A failure, whatever is asked.
-#[derive(Clone, Copy)]
-struct AlwaysFailed;
-
-impl Value for AlwaysFailed {
-    ghost shows = { λ value t spec. failure };
-
-    fn view(&self, _t: Trait, _spec: &Spec) -> View<'_> {
-        View::Failed
-    }
-}
-
-/// A format, what is written of it, and what is answered.
+/// A format, what is written of it, and the fault that is answered, for debugging.
 struct Row<'a> {
     format: &'a str,
     text: &'a str,
-    told: Told<'a>,
+    fault: &'a str,
 }
 
-/// The row is given over the context: by the format and by its template, written and made.
-fn gives<C: Interpolate>(
-    rt: &impl Abort,
-    alloc: Global,
-    context: &C,
-    row: &Row<'_>,
-) -> Result<(), Fail> {
-    let mut out = TextBuffer::new(alloc);
-    let answer = context.write_to(alloc, &mut out, row.format);
-    assert_eq!(rt; told_by(&answer), row.told, "at {}", row.format);
-    assert_eq!(rt; out.as_str(), row.text, "at {}", row.format);
-    let made = context.format(alloc, row.format);
-    assert!(rt;
-        answers(&made, row.told, row.text),
-        "{made:?} at {}",
-        row.format
-    );
-    let template = Template::parse(alloc, row.format)?;
-    let mut out = TextBuffer::new(alloc);
-    let answer = context.write_template_to(alloc, &mut out, &template);
-    assert_eq!(rt; told_by(&answer), row.told, "at {}", row.format);
-    assert_eq!(rt; out.as_str(), row.text, "at {}", row.format);
-    let made = context.format_template(alloc, &template);
-    assert!(rt;
-        answers(&made, row.told, row.text),
-        "{made:?} at {}",
-        row.format
-    );
-    Ok(())
+/// The row is given over the context: written and made.
+fn gives<C: Interpolate>(report: &mut Report, context: &C, row: &Row<'_>) {
+    let mut out = TextBuffer::new(report.alloc);
+    let answer = context.write_to(report.alloc, &mut out, row.format);
+    report.written(row.format, (row.text, row.fault), out.as_str(), answer);
+    let made = context.format(report.alloc, row.format);
+    report.made(row.format, (row.text, row.fault), made);
+}
+
+/// The row is given over the context by its template: written and made.
+fn gives_by<C: Interpolate>(report: &mut Report, context: &C, row: &Row<'_>, template: &Template) {
+    let mut out = TextBuffer::new(report.alloc);
+    let answer = context.write_template_to(report.alloc, &mut out, template);
+    report.written(row.format, (row.text, row.fault), out.as_str(), answer);
+    let made = context.format_template(report.alloc, template);
+    report.made(row.format, (row.text, row.fault), made);
+}
+
+/// The row is given over the context by its format and by its template.
+fn give_row<C: Interpolate>(report: &mut Report, context: &C, row: &Row<'_>) {
+    gives(report, context, row);
+    match Template::parse(report.alloc, row.format) {
+        Ok(template) => gives_by(report, context, row, &template),
+        Err(_) => report.holds("a template", false),
+    }
 }
 
 /// The rows are given over one value under every name.
-fn give<V: Value>(rt: &impl Abort, alloc: Global, value: &V, rows: &[Row<'_>]) -> Result<(), Fail> {
+fn give<V: Value>(report: &mut Report, value: &V, rows: &[Row<'_>]) {
     let context = Everywhere {
         value: Formattable::display(value),
     };
     for row in rows {
-        gives(rt, alloc, &context, row)?;
+        give_row(report, &context, row);
     }
-    Ok(())
 }
 
 /// Over the text `Ann` under every name: by hand, as all rows here, from the rules of arguments and
 /// outcomes in docs/DEFINITIONS.md.
 #[rattlefmt::skip]
 const AS_ANN: [Row<'static>; 1] = [
-    Row { format: "{a}, {b} and {}", text: "Ann, Ann and Ann", told: Told::Done },
+    Row { format: "{a}, {b} and {}", text: "Ann, Ann and Ann", fault: "" },
 ];
 
 /// Over a value that has a text where the width is 5 alone.
 #[rattlefmt::skip]
 const AS_FIVE: [Row<'static>; 1] = [
-    Row { format: "{v:5}{v}", text: "w5   ", told: Told::MissingTraitImpl(Trait::Display, 7) },
+    Row { format: "{v:5}{v}", text: "w5   ", fault: "MissingTraitImpl(Display, 7)" },
 ];
 
 /// Over the plain text, which no option changes and which is not read again.
 #[rattlefmt::skip]
 const AS_PLAIN: [Row<'static>; 3] = [
-    Row { format: "{v}", text: "{x}", told: Told::Done },
-    Row { format: "{v}}", text: "{x}}", told: Told::Done },
-    Row { format: "{v:>9}{v:.1}{", text: "{x}{x}", told: Told::Parse(ParseError::FormatSpecUnclosed(13)) },
+    Row { format: "{v}", text: "{x}", fault: "" },
+    Row { format: "{v}}", text: "{x}}", fault: "" },
+    Row { format: "{v:>9}{v:.1}{", text: "{x}{x}", fault: "Parse(FormatSpecUnclosed(13))" },
 ];
 
 /// Over the failure.
 #[rattlefmt::skip]
 const AS_FAILED: [Row<'static>; 2] = [
-    Row { format: "a{v}b", text: "a", told: Told::Fmt(3) },
-    Row { format: "a{v:>9}b", text: "a", told: Told::Fmt(6) },
+    Row { format: "a{v}b", text: "a", fault: "Fmt(Error, 3)" },
+    Row { format: "a{v:>9}b", text: "a", fault: "Fmt(Error, 6)" },
 ];
 
 /// Over nothing under any name.
 #[rattlefmt::skip]
 const OF_NOTHING: [Row<'static>; 2] = [
-    Row { format: "a{b}", text: "a", told: Told::MissingValue("b", 2) },
-    Row { format: "{{}}", text: "{}", told: Told::Done },
+    Row { format: "a{b}", text: "a", fault: "MissingValue(\"b\", 2)" },
+    Row { format: "{{}}", text: "{}", fault: "" },
 ];
 
-#[test]
-fn contexts_and_values_of_ones_own(rt: HostRuntime) -> Result<(), Fail> {
-    let alloc = rt.alloc();
-    give(&rt, alloc, &"Ann", &AS_ANN)?;
-    give(&rt, alloc, &OnlyFive, &AS_FIVE)?;
-    give(&rt, alloc, &AlwaysPlain, &AS_PLAIN)?;
-    give(&rt, alloc, &AlwaysFailed, &AS_FAILED)?;
-    for row in &OF_NOTHING {
-        gives(&rt, alloc, &Nowhere, row)?;
-    }
+/// The rows are given over contexts that hold nothing.
+fn give_nothing(report: &mut Report) {
     let none: [(&str, Formattable<'_, u64>); 0] = [];
     for row in &OF_NOTHING {
-        gives(&rt, alloc, &Pairs(&none), row)?;
+        give_row(report, &Nowhere, row);
+        give_row(report, &Pairs(&none), row);
     }
-    assert!(rt; Context::get(&Pairs(&none), "").is_none());
+    report.holds("no pairs", Context::get(&Pairs(&none), "").is_none());
+}
+
+/// The functions, of which the methods of contexts are the same.
+fn functions(report: &mut Report) -> Result<(), Error> {
+    let alloc = report.alloc;
+    let one = Pairs(&[("a", Formattable::display(&1u64))]);
+    let template = Template::parse(alloc, "-{a}")?;
+    let mut out = TextBuffer::new(alloc);
+    report.holds("`write`", write(alloc, &mut out, "{a};", &one).is_ok());
+    report.holds(
+        "`iwriteln`",
+        iwriteln(alloc, &mut out, "{a:>2}", &one).is_ok(),
+    );
+    report.holds("a template", template.write(alloc, &mut out, &one).is_ok());
+    report.text("the functions", "1; 1\n-1", out.as_str());
+    report.made("`format`", ("< 1>", ""), format(alloc, "<{a:>2}>", &one));
     Ok(())
 }
 
-// The functions, of which the methods of contexts are the same. A newline that is refused is told at
-// place 0.
-#[test]
-fn functions_write_over_a_context(rt: HostRuntime) -> Result<(), Fail> {
-    let alloc = rt.alloc();
+/// A newline that is refused is told at place 0.
+fn a_refused_newline(report: &mut Report) {
     let one = Pairs(&[("a", Formattable::display(&1u64))]);
-    let mut out = TextBuffer::new(alloc);
-    write(alloc, &mut out, "{a};", &one)?;
-    iwriteln(alloc, &mut out, "{a:>2}", &one)?;
-    Template::parse(alloc, "-{a}")?.write(alloc, &mut out, &one)?;
-    assert_eq!(rt; out.as_str(), "1; 1\n-1");
-    assert_eq!(rt; format(alloc, "<{a:>2}>", &one)?.as_str(), "< 1>");
-    let mut out = Limited::new(alloc, 1)?;
-    let answer = iwriteln(alloc, &mut out, "{a}", &one);
-    assert_eq!(rt; told_by(&answer), Told::Fmt(0));
-    assert_eq!(rt; out.as_str(), "1");
-    Ok(())
+    let mut out = Bounded::new(report.alloc, 1);
+    let answer = iwriteln(report.alloc, &mut out, "{a}", &one);
+    report.written("a newline", ("1", "Fmt(Error, 0)"), out.as_str(), answer);
+}
+
+pub fn run(report: &mut Report) {
+    report.begin("contexts");
+    give(report, &"Ann", &AS_ANN);
+    give(report, &OnlyFive, &AS_FIVE);
+    give(report, &AlwaysPlain, &AS_PLAIN);
+    give(report, &AlwaysFailed, &AS_FAILED);
+    give_nothing(report);
+    a_refused_newline(report);
+    let answer = functions(report);
+    report.done("functions", answer);
 }

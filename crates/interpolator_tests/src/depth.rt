@@ -1,21 +1,19 @@
 //! Lists in lists, to a depth of 200.
 
 use crate::given::{Given, are_names, write_given};
+use crate::report::Report;
 use interpolator::{Error, Formattable, Pairs, Piece, Template, TextBuffer};
-use interpolator_testing::told::{Told, told_by};
 use std::alloc::{AllocError, Global};
-use std::process::Abort;
-use std::test::Fail;
 
 /// How deep lists stand in one another; what stands before a list's signs, and innermost; the names
-/// that are asked; what is written; and what is answered.
+/// that are asked; what is written; and the fault that is answered.
 struct Deep<'a> {
     depth: usize,
     open: &'a str,
     innermost: &'a str,
     names: &'a [&'a str],
     text: &'a str,
-    told: Told<'a>,
+    fault: &'a str,
 }
 
 /// Worked by hand from the rules of lists and places in docs/DEFINITIONS.md. The group at depth n,
@@ -24,16 +22,16 @@ struct Deep<'a> {
 /// 200 * 4 + 199 * 100 = 20,700, or of 200 * 5 + 199 * 100 = 20,900.
 #[rattlefmt::skip]
 const ROWS: [Deep<'static>; 10] = [
-    Deep { depth: 32, open: "{:i", innermost: "{}", names: &[""], text: "7", told: Told::Done },
-    Deep { depth: 32, open: "{:i", innermost: "{z}", names: &["", "z"], text: "", told: Told::MissingValue("z", 625) },
-    Deep { depth: 32, open: "{:i", innermost: "a{}b{z}", names: &["", "z"], text: "a7b", told: Told::MissingValue("z", 629) },
-    Deep { depth: 32, open: "{:3i", innermost: "{}", names: &[""], text: "7  ", told: Told::Done },
-    Deep { depth: 32, open: "{:3i", innermost: "a{}b{z}", names: &["", "z"], text: "", told: Told::MissingValue("z", 661) },
-    Deep { depth: 32, open: "{:3i", innermost: "{:>4}", names: &[""], text: "   7", told: Told::Done },
-    Deep { depth: 200, open: "{:i", innermost: "{}", names: &[""], text: "7", told: Told::Done },
-    Deep { depth: 200, open: "{:i", innermost: "{z}", names: &["", "z"], text: "", told: Told::MissingValue("z", 20_701) },
-    Deep { depth: 200, open: "{:3i", innermost: "{}", names: &[""], text: "7  ", told: Told::Done },
-    Deep { depth: 200, open: "{:3i", innermost: "a{}b{z}", names: &["", "z"], text: "", told: Told::MissingValue("z", 20_905) },
+    Deep { depth: 32, open: "{:i", innermost: "{}", names: &[""], text: "7", fault: "" },
+    Deep { depth: 32, open: "{:i", innermost: "{z}", names: &["", "z"], text: "", fault: "MissingValue(\"z\", 625)" },
+    Deep { depth: 32, open: "{:i", innermost: "a{}b{z}", names: &["", "z"], text: "a7b", fault: "MissingValue(\"z\", 629)" },
+    Deep { depth: 32, open: "{:3i", innermost: "{}", names: &[""], text: "7  ", fault: "" },
+    Deep { depth: 32, open: "{:3i", innermost: "a{}b{z}", names: &["", "z"], text: "", fault: "MissingValue(\"z\", 661)" },
+    Deep { depth: 32, open: "{:3i", innermost: "{:>4}", names: &[""], text: "   7", fault: "" },
+    Deep { depth: 200, open: "{:i", innermost: "{}", names: &[""], text: "7", fault: "" },
+    Deep { depth: 200, open: "{:i", innermost: "{z}", names: &["", "z"], text: "", fault: "MissingValue(\"z\", 20701)" },
+    Deep { depth: 200, open: "{:3i", innermost: "{}", names: &[""], text: "7  ", fault: "" },
+    Deep { depth: 200, open: "{:3i", innermost: "a{}b{z}", names: &["", "z"], text: "", fault: "MissingValue(\"z\", 20905)" },
 ];
 
 /// Appends so many signs.
@@ -92,51 +90,35 @@ fn levels(pieces: &[Piece], most: usize) -> usize {
 }
 
 /// The row is given by its format and by the template of that.
-fn gives(rt: &impl Abort, alloc: Global, row: &Deep<'_>) -> Result<(), Fail> {
+fn gives(report: &mut Report, row: &Deep<'_>) -> Result<(), Error> {
+    let alloc = report.alloc;
     let format = nested_format(alloc, row)?;
     let template = Template::parse(alloc, format.as_str())?;
+    let what = format!(in alloc; "{} in {} of {}", row.innermost, row.depth, row.open)?;
+    let what = what.as_str();
     let names = template.names(alloc)?;
-    assert!(rt;
-        are_names(&names, row.names),
-        "at {} in {}",
-        row.innermost,
-        row.depth
-    );
-    let levels = levels(template.pieces(), format.len());
-    assert_eq!(rt;
-        template.depth(),
-        row.depth,
-        "at {} in {}",
-        row.innermost,
-        row.depth
-    );
-    assert_eq!(rt; levels, row.depth, "at {} in {}", row.innermost, row.depth);
+    report.holds(what, are_names(&names, row.names));
+    report.number(what, row.depth, levels(template.pieces(), format.len()));
+    report.number(what, row.depth, template.depth());
     for given in [Given::Text(format.as_str()), Given::Template(&template)] {
         let mut out = TextBuffer::new(alloc);
         let value = Formattable::display(&7u64);
         let answer = write_nested(alloc, &mut out, value, row.depth, given);
-        assert_eq!(rt;
-            told_by(&answer),
-            row.told,
-            "at {} in {}",
-            row.innermost,
-            row.depth
-        );
-        assert_eq!(rt;
-            out.as_str(),
-            row.text,
-            "at {} in {}",
-            row.innermost,
-            row.depth
-        );
+        report.written(what, (row.text, row.fault), out.as_str(), answer);
     }
     Ok(())
 }
 
-#[test]
-fn lists_nest_deeply(rt: HostRuntime) -> Result<(), Fail> {
+/// Each row is given.
+fn give_rows(report: &mut Report) -> Result<(), Error> {
     for row in &ROWS {
-        gives(&rt, rt.alloc(), row)?;
+        gives(report, row)?;
     }
     Ok(())
+}
+
+pub fn run(report: &mut Report) {
+    report.begin("depth");
+    let answer = give_rows(report);
+    report.done("depth", answer);
 }

@@ -1,11 +1,10 @@
 //! Faults as values: their derived texts, when they are equal, their copies, where they come from, and
 //! their texts under the options of the braces that ask them; and so the names of filled slots.
 
+use crate::report::Report;
 use interpolator::{Error, Formattable, NumberError, ParseError, Trait};
 use std::alloc::{AllocError, AllocFailed, Global};
 use std::fmt;
-use std::process::Abort;
-use std::test::Fail;
 
 fn missing(alloc: Global, name: &str, place: usize) -> Result<Error, AllocError> {
     Ok(Error::MissingValue(String::from_str(alloc, name)?, place))
@@ -48,40 +47,66 @@ fn others(alloc: Global) -> Result<[(Error, &'static str); 7], AllocError> {
     ])
 }
 
-#[test]
-fn faults_of_numbers_are_debugged(rt: HostRuntime) -> Result<(), Fail> {
-    let alloc = rt.alloc();
+/// The text, if there was memory for it, is this one.
+fn is_text(report: &mut Report, what: &str, wanted: &str, came: Result<String, AllocError>) {
+    report.made(what, (wanted, ""), came.map_err(Error::from));
+}
+
+/// The value is debugged as this text.
+fn debugs<D: fmt::Debug>(report: &mut Report, value: &D, text: &str) {
+    let came = format!(in report.alloc; "{value:?}");
+    is_text(report, "debugged", text, came);
+}
+
+/// The value is debugged as this text, whatever is asked of it.
+fn debugs_under_options<D: fmt::Debug>(report: &mut Report, value: &D, text: &str) {
+    debugs(report, value, text);
+    let came = format!(in report.alloc; "{value:#?}");
+    is_text(report, "debugged under #", text, came);
+    let came = format!(in report.alloc; "{value:10?}");
+    is_text(report, "debugged under 10", text, came);
+}
+
+fn numbers(report: &mut Report) {
     for (fault, text, inside, whole) in NUMBERS {
-        assert_eq!(rt; format!(in alloc; "{fault:?}")?.as_str(), text);
-        assert_eq!(rt; format!(in alloc; "{fault:#?}")?.as_str(), text);
-        let parsed = ParseError::InvalidWidth(fault, 3);
-        assert_eq!(rt; format!(in alloc; "{parsed:?}")?.as_str(), inside);
-        let error = Error::Parse(ParseError::RangeBound(fault, 1_001));
-        assert_eq!(rt; format!(in alloc; "{error:?}")?.as_str(), whole);
+        debugs(report, &fault, text);
+        debugs(report, &ParseError::InvalidWidth(fault, 3), inside);
+        debugs(
+            report,
+            &Error::Parse(ParseError::RangeBound(fault, 1_001)),
+            whole,
+        );
+        let came = format!(in report.alloc; "{fault:#?}");
+        is_text(report, "debugged under #", text, came);
+    }
+}
+
+fn parses(report: &mut Report) {
+    for (fault, text) in PARSES {
+        debugs(report, &fault, text);
+        report.holds(text, Error::from(fault) == Error::Parse(fault));
+    }
+}
+
+/// A copy is equal to the fault.
+fn is_copied(report: &mut Report, fault: &Error, what: &str) {
+    match fault.try_clone(report.alloc) {
+        Ok(copy) => report.holds(what, copy == *fault),
+        Err(_) => report.holds(what, false),
+    }
+}
+
+fn copies(report: &mut Report) -> Result<(), Error> {
+    for (fault, text) in others(report.alloc)? {
+        debugs(report, &fault, text);
+        is_copied(report, &fault, text);
     }
     Ok(())
 }
 
-#[test]
-fn faults_are_debugged_and_copied(rt: HostRuntime) -> Result<(), Fail> {
-    let alloc = rt.alloc();
-    for (fault, debug) in PARSES {
-        assert_eq!(rt; format!(in alloc; "{fault:?}")?.as_str(), debug);
-        assert!(rt; Error::from(fault) == Error::Parse(fault), "at {debug}");
-    }
-    for (fault, debug) in others(alloc)? {
-        assert_eq!(rt; format!(in alloc; "{fault:?}")?.as_str(), debug);
-        assert!(rt; fault.try_clone(alloc)? == fault, "the copy of {debug}");
-    }
-    Ok(())
-}
-
-// Equal are faults of one variant with equal fields.
-#[test]
-fn equal_faults_have_equal_fields(rt: HostRuntime) -> Result<(), Fail> {
-    let alloc = rt.alloc();
-    let wanted = missing(alloc, "q", 1)?;
-    let others = [
+/// Faults that differ from `MissingValue("q", 1)` in their variant or in a field.
+fn differing(alloc: Global) -> Result<[Error; 8], AllocError> {
+    Ok([
         missing(alloc, "r", 1)?,
         missing(alloc, "q", 2)?,
         missing(alloc, "", 1)?,
@@ -90,121 +115,89 @@ fn equal_faults_have_equal_fields(rt: HostRuntime) -> Result<(), Fail> {
         Error::Parse(ParseError::Fill(1)),
         Error::UnsupportedOption("q", "pointer", 1),
         Error::NoMemory,
-    ];
-    assert!(rt; wanted == missing(alloc, "q", 1)?);
-    for other in others {
-        assert!(rt; wanted != other, "{other}");
+    ])
+}
+
+/// Equal are faults of one variant with equal fields.
+fn equal(report: &mut Report) -> Result<(), AllocError> {
+    let alloc = report.alloc;
+    let wanted = missing(alloc, "q", 1)?;
+    report.holds("the same fault", wanted == missing(alloc, "q", 1)?);
+    for other in differing(alloc)? {
+        report.holds("another fault", wanted != other);
     }
-    assert!(rt; ParseError::Iter(1) != ParseError::Fill(1));
-    assert!(rt; ParseError::Expected("}", 1) != ParseError::Expected("(", 1));
-    assert!(rt; NumberError::Empty != NumberError::InvalidDigit);
-    assert!(rt; Error::from(AllocError) == Error::NoMemory);
-    assert!(rt; Error::from(AllocFailed { value: 5u8 }) == Error::NoMemory);
+    report.holds("Iter and Fill", ParseError::Iter(1) != ParseError::Fill(1));
+    let brace = ParseError::Expected("}", 1);
+    report.holds("two signs", brace != ParseError::Expected("(", 1));
+    let empty = NumberError::Empty;
+    report.holds("two numbers' faults", empty != NumberError::InvalidDigit);
     Ok(())
+}
+
+/// Refused memory is a fault.
+fn refusals(report: &mut Report) {
+    report.holds("AllocError", Error::from(AllocError) == Error::NoMemory);
+    let failed = Error::from(AllocFailed { value: 5u8 });
+    report.holds("AllocFailed", failed == Error::NoMemory);
 }
 
 /// The fault is displayed as this text, whatever is asked of it.
-fn prints<E: fmt::Display>(
-    rt: &impl Abort,
-    alloc: Global,
-    fault: &E,
-    text: &str,
-) -> Result<(), Fail> {
-    assert_eq!(rt;
-        format!(in alloc; "{fault}")?.as_str(),
-        text,
-        "under nothing"
-    );
-    assert_eq!(rt;
-        format!(in alloc; "{fault:>+#120.3}")?.as_str(),
-        text,
-        "under `>+#120.3`"
-    );
-    assert_eq!(rt;
-        format!(in alloc; "{fault:10}")?.as_str(),
-        text,
-        "under `10`"
-    );
-    assert_eq!(rt;
-        format!(in alloc; "{fault:<5.1}")?.as_str(),
-        text,
-        "under `<5.1`"
-    );
-    Ok(())
+fn prints<E: fmt::Display>(report: &mut Report, fault: &E, text: &str) {
+    let came = format!(in report.alloc; "{fault}");
+    is_text(report, "under nothing", text, came);
+    let came = format!(in report.alloc; "{fault:>+#120.3}");
+    is_text(report, "under `>+#120.3`", text, came);
+    let came = format!(in report.alloc; "{fault:10}");
+    is_text(report, "under `10`", text, came);
+    let came = format!(in report.alloc; "{fault:<5.1}");
+    is_text(report, "under `<5.1`", text, came);
 }
 
-#[test]
-fn faults_print_their_texts_under_options(rt: HostRuntime) -> Result<(), Fail> {
-    let alloc = rt.alloc();
-    let digit = NumberError::InvalidDigit;
-    prints(&rt, alloc, &digit, "invalid digit found in string")?;
+fn printed(report: &mut Report) -> Result<(), AllocError> {
     let brace = ParseError::Expected("}", 23);
-    prints(&rt, alloc, &brace, "Expected `}` at 23")?;
-    let parsed = Error::Parse(brace);
     prints(
-        &rt,
-        alloc,
-        &parsed,
-        "error while parsing input: Expected `}` at 23",
-    )?;
-    let absent = missing(alloc, "y ", 2)?;
-    prints(
-        &rt,
-        alloc,
-        &absent,
-        "specified value not in context `y ` at 2",
-    )?;
-    prints(&rt, alloc, &Error::NoMemory, "out of memory")
+        report,
+        &NumberError::InvalidDigit,
+        "invalid digit found in string",
+    );
+    prints(report, &brace, "Expected `}` at 23");
+    let text = "error while parsing input: Expected `}` at 23";
+    prints(report, &Error::Parse(brace), text);
+    prints(report, &Error::NoMemory, "out of memory");
+    let absent = missing(report.alloc, "y ", 2)?;
+    prints(report, &absent, "specified value not in context `y ` at 2");
+    Ok(())
 }
 
 /// A part of a name, and how often it stands there: names of 40, 41, 42 and 100,000 bytes.
 const CLONED: [(&str, usize); 4] = [("a", 40), ("a", 41), ("é", 21), ("a", 100_000)];
 
-// A copy is equal to the fault, and is displayed as the table of faults in docs/DEFINITIONS.md says.
-#[test]
-fn faults_of_long_names_are_cloned(rt: HostRuntime) -> Result<(), Fail> {
-    let alloc = rt.alloc();
+/// A copy is displayed as the table of faults in docs/DEFINITIONS.md says.
+fn long_copies(report: &mut Report) -> Result<(), Error> {
+    let alloc = report.alloc;
     for (part, count) in CLONED {
-        let mut name = String::new(alloc);
-        for _ in 0..count {
-            name.push_str(part)?;
-        }
+        let name = part.repeat(alloc, count)?;
         let text = format!(in alloc; "specified value not in context `{name}` at 1001")?;
         let fault = Error::MissingValue(name, 1_001);
+        is_copied(report, &fault, "a long name");
         let copy = fault.try_clone(alloc)?;
-        assert!(rt; copy == fault, "at {part} {count} times");
-        let told = format!(in alloc; "{copy}")?;
-        assert!(rt; told.as_str() == text.as_str(), "at {part} {count} times");
+        let told = format!(in alloc; "{copy}");
+        is_text(report, "a long name", text.as_str(), told);
     }
     Ok(())
 }
 
-/// The slots are named in this text, whatever is asked of it.
-fn names(
-    rt: &impl Abort,
-    alloc: Global,
-    held: &Formattable<'_, u64>,
-    text: &str,
-) -> Result<(), Fail> {
-    assert_eq!(rt; format!(in alloc; "{held:?}")?.as_str(), text, "under `?`");
-    assert_eq!(rt;
-        format!(in alloc; "{held:#?}")?.as_str(),
-        text,
-        "under `#?`"
-    );
-    assert_eq!(rt;
-        format!(in alloc; "{held:10?}")?.as_str(),
-        text,
-        "under `10?`"
-    );
-    Ok(())
-}
+const INTEGER: &str =
+    "Formattable(debug, display, binary, lower_exp, lower_hex, octal, upper_exp, upper_hex)";
 
-// The names of the filled slots, in the order of the rules of slots in docs/DEFINITIONS.md.
-#[test]
-fn slots_are_named_under_options(rt: HostRuntime) -> Result<(), Fail> {
-    let alloc = rt.alloc();
-    let items: [Formattable<'_, u64>; 0] = [];
+const FLOAT: &str = "Formattable(debug, display, lower_exp, upper_exp, iter)";
+
+const ALL: &str =
+    "Formattable(debug, display, binary, lower_exp, lower_hex, octal, upper_exp, upper_hex, iter)";
+
+/// The names of the filled slots, in the order of the rules of slots in docs/DEFINITIONS.md.
+#[rattlefmt::skip]
+fn slots(report: &mut Report) {
     for (held, text) in [
         (Formattable::default(), "Formattable"),
         (Formattable::debug(&1), "Formattable(debug)"),
@@ -215,29 +208,37 @@ fn slots_are_named_under_options(rt: HostRuntime) -> Result<(), Fail> {
         (Formattable::octal(&1), "Formattable(octal)"),
         (Formattable::upper_exp(&1), "Formattable(upper_exp)"),
         (Formattable::upper_hex(&1), "Formattable(upper_hex)"),
-        (Formattable::iter(&items), "Formattable(iter)"),
-        (
-            Formattable::debug_display(&1),
-            "Formattable(debug, display)",
-        ),
-        (
-            Formattable::display(&1).and_debug(&1),
-            "Formattable(debug, display)",
-        ),
-        (
-            Formattable::float(&1).and_iter(&items),
-            "Formattable(debug, display, lower_exp, upper_exp, iter)",
-        ),
-        (
-            Formattable::integer(&1),
-            "Formattable(debug, display, binary, lower_exp, lower_hex, octal, upper_exp, upper_hex)",
-        ),
-        (
-            Formattable::iter(&items).and_integer(&1),
-            "Formattable(debug, display, binary, lower_exp, lower_hex, octal, upper_exp, upper_hex, iter)",
-        ),
+        (Formattable::debug_display(&1), "Formattable(debug, display)"),
+        (Formattable::display(&1).and_debug(&1), "Formattable(debug, display)"),
+        (Formattable::integer(&1), INTEGER),
     ] {
-        names(&rt, alloc, &held, text)?;
+        debugs_under_options(report, &held, text);
     }
-    Ok(())
+}
+
+fn slots_of_lists(report: &mut Report) {
+    let items: [Formattable<'_, u64>; 0] = [];
+    let list = Formattable::iter(&items);
+    debugs_under_options(report, &list, "Formattable(iter)");
+    let float = Formattable::float(&1).and_iter(&items);
+    debugs_under_options(report, &float, FLOAT);
+    let all = list.and_integer(&1);
+    debugs_under_options(report, &all, ALL);
+}
+
+pub fn run(report: &mut Report) {
+    report.begin("faults");
+    numbers(report);
+    parses(report);
+    refusals(report);
+    slots(report);
+    slots_of_lists(report);
+    let answer = copies(report);
+    report.done("copies", answer);
+    let answer = equal(report);
+    report.done("equal faults", answer.map_err(Error::from));
+    let answer = printed(report);
+    report.done("printed faults", answer.map_err(Error::from));
+    let answer = long_copies(report);
+    report.done("long names", answer);
 }

@@ -1,84 +1,26 @@
-//! Long formats, names and texts by hand: each answer is exact, and none gives up past a size.
+//! Long values, and many arguments and items, by hand: each answer is exact, and none gives up past a
+//! size.
 
 mod lists;
 
 use crate::counting::Counting;
-use crate::given::{Given, are_names, format_given, write_given};
+use crate::given::are_names;
+use crate::report::Report;
 use interpolator::{
-    ContextMap, Error, Formattable, Interpolate, Pairs, ParseError, Template, TextBuffer,
-    TextWrite, View, check, escape, items_of, rows_of, write_parts,
+    ContextMap, Error, Formattable, Interpolate, Pairs, Template, TextBuffer, TextWrite, View,
+    check, items_of, rows_of,
 };
-use interpolator_testing::limited::Limited;
-use interpolator_testing::sizes::parts_fit;
-use interpolator_testing::told::{Told, answers, told_by};
 use std::alloc::{AllocError, Global};
-use std::process::Abort;
-use std::test::Fail;
 
-/// A part of a format, how often it stands there, and what each of them prints, with 7 under `n`.
-/// Worked by hand from the rules of pieces in docs/DEFINITIONS.md.
-const FORMATS: [(&str, usize, &str); 3] = [
-    ("a", 1_000_000, "a"),
-    ("{{é}}", 100_000, "{é}"),
-    ("{n}", 10_000, "7"),
-];
-
-// The text of a long format, of its template, and of the same with its braces doubled.
-#[test]
-fn long_formats_are_written(rt: HostRuntime) -> Result<(), Fail> {
-    let alloc = rt.alloc();
-    for (part, count, printed) in FORMATS {
-        let format = part.repeat(alloc, count)?;
-        let text = printed.repeat(alloc, count)?;
-        let pairs = [("n", Formattable::display(&7u64))];
-        let template = Template::parse(alloc, format.as_str())?;
-        for given in [Given::Text(format.as_str()), Given::Template(&template)] {
-            let mut out = TextBuffer::new(alloc);
-            write_given(alloc, &mut out, given, Pairs(&pairs))?;
-            assert!(rt; out.as_str() == text.as_str(), "at {part}");
-            let made = format_given(alloc, given, Pairs(&pairs))?;
-            assert!(rt; made.as_str() == text.as_str(), "at {part}");
-        }
-        let doubled = escape(alloc, format.as_str())?;
-        let back = Pairs(&pairs).format(alloc, doubled.as_str())?;
-        assert!(rt; back.as_str() == format.as_str(), "at {part}");
-    }
-    Ok(())
-}
-
-/// Writes the text under `t` by the format `{t}`, or by its template.
-fn write_value<W: TextWrite>(
-    alloc: Global,
-    out: &mut W,
-    given: Given<'_>,
-    text: &str,
-) -> Result<(), Error> {
-    let view = View::Text(text);
+/// A value of a million letters is written by one call.
+fn a_long_value(report: &mut Report) -> Result<(), Error> {
+    let long = "a".repeat(report.alloc, 1_000_000)?;
+    let view = View::Text(long.as_str());
     let context = Pairs(&[("t", Formattable::display(&view))]);
-    match given {
-        Given::Text(format) => context.write_to(alloc, out, format),
-        Given::Template(template) => context.write_template_to(alloc, out, template),
-    }
-}
-
-// A value of a million letters is written by one call, and one without room for its last byte is
-// told so at the byte after its spec.
-#[test]
-fn a_long_value_is_written(rt: HostRuntime) -> Result<(), Fail> {
-    let alloc = rt.alloc();
-    let long = "a".repeat(alloc, 1_000_000)?;
-    let front = "a".repeat(alloc, 999_999)?;
-    let template = Template::parse(alloc, "{t}")?;
-    for given in [Given::Text("{t}"), Given::Template(&template)] {
-        let mut out = Counting::new(alloc);
-        write_value(alloc, &mut out, given, long.as_str())?;
-        assert_eq!(rt; out.calls, 1);
-        assert!(rt; out.as_str() == long.as_str());
-        let mut out = Limited::new(alloc, 999_999)?;
-        let answer = write_value(alloc, &mut out, given, long.as_str());
-        assert_eq!(rt; told_by(&answer), Told::Fmt(2));
-        assert!(rt; out.as_str() == front.as_str());
-    }
+    let mut out = Counting::new(report.alloc);
+    let answer = context.write_to(report.alloc, &mut out, "{t}");
+    report.written("a long value", (long.as_str(), ""), out.as_str(), answer);
+    report.number("calls of a long value", 1, out.calls);
     Ok(())
 }
 
@@ -106,40 +48,42 @@ fn in_braces(alloc: Global, texts: &[String]) -> Result<String, AllocError> {
 }
 
 /// The names of the arguments are these, and so are the slices of the format at their places.
-fn asks(rt: &impl Abort, alloc: Global, template: &Template, texts: &[String]) -> Result<(), Fail> {
+fn asks(report: &mut Report, template: &Template, texts: &[String]) -> Result<(), Error> {
+    let alloc = report.alloc;
     let mut wanted = Vec::new(alloc);
     for text in texts {
         wanted.push(text.as_str())?;
     }
-    assert!(rt; are_names(&template.names(alloc)?, &wanted));
+    report.holds("many names", are_names(&template.names(alloc)?, &wanted));
     let arguments = template.arguments(alloc)?;
-    assert_eq!(rt; arguments.len(), wanted.len());
+    report.number("many arguments", wanted.len(), arguments.len());
     let mut place: usize = 1;
     for (argument, name) in arguments.iter().zip(&wanted) {
-        assert_eq!(rt; argument.name, *name);
-        assert_eq!(rt; argument.name_place, place);
+        report.text("an argument of many", name, argument.name);
+        report.number("its place", place, argument.name_place);
         place = place.saturating_add(name.len()).saturating_add(2);
     }
     Ok(())
 }
 
-// Thousands of arguments: by hand, the fault begins one byte after the last brace.
-#[test]
-fn many_arguments_are_told(rt: HostRuntime) -> Result<(), Fail> {
-    let alloc = rt.alloc();
+/// The format and its template have this fault of their own.
+fn checks(report: &mut Report, format: &str, texts: &[String], fault: &str) -> Result<(), Error> {
+    report.fault("the check of many", fault, check(report.alloc, format));
+    let template = Template::parse(report.alloc, format)?;
+    report.fault("the check of their template", fault, template.check());
+    asks(report, &template, texts)
+}
+
+/// Thousands of arguments: by hand, the fault begins one byte after the last brace.
+fn many_arguments(report: &mut Report) -> Result<(), Error> {
+    let alloc = report.alloc;
     let texts = counted(alloc, MANY)?;
     let format = in_braces(alloc, &texts)?;
-    let template = Template::parse(alloc, format.as_str())?;
-    asks(&rt, alloc, &template, &texts)?;
-    assert_eq!(rt; told_by(&check(alloc, format.as_str())), Told::Done);
-    assert_eq!(rt; told_by(&template.check()), Told::Done);
-    let broken = format!(in alloc; "{format}{{x:y}}")?;
+    checks(report, format.as_str(), &texts, "")?;
     let place = format.len().saturating_add(3);
-    let wanted = Told::Parse(ParseError::Expected("}", place));
-    assert_eq!(rt; told_by(&check(alloc, broken.as_str())), wanted);
-    let template = Template::parse(alloc, broken.as_str())?;
-    assert_eq!(rt; told_by(&template.check()), wanted);
-    asks(&rt, alloc, &template, &texts)
+    let fault = format!(in alloc; "Parse(Expected(\"}}\", {place}))")?;
+    let broken = format!(in alloc; "{format}{{x:y}}")?;
+    checks(report, broken.as_str(), &texts, fault.as_str())
 }
 
 /// The texts, with a text between two.
@@ -175,83 +119,45 @@ fn of_rows(alloc: Global, texts: &[String]) -> Result<String, Error> {
     map.format(alloc, "{r:i#({:i})#(;)}")
 }
 
-// Thousands of items, and as many rows.
-#[test]
-fn many_items_and_rows_are_written(rt: HostRuntime) -> Result<(), Fail> {
-    let alloc = rt.alloc();
+/// Thousands of items, and as many rows.
+fn many_items(report: &mut Report) -> Result<(), Error> {
+    let alloc = report.alloc;
     let texts = counted(alloc, MANY)?;
-    let text = of_items(alloc, &texts)?;
-    assert!(rt; text.as_str() == joined(alloc, &texts, ",")?.as_str());
-    let text = of_rows(alloc, &texts)?;
-    assert!(rt; text.as_str() == joined(alloc, &texts, ";")?.as_str());
+    let text = joined(alloc, &texts, ",")?;
+    report.made("many items", (text.as_str(), ""), of_items(alloc, &texts));
+    let text = joined(alloc, &texts, ";")?;
+    report.made("many rows", (text.as_str(), ""), of_rows(alloc, &texts));
     Ok(())
 }
 
-/// The parts give the text, by the function and by the method.
-fn give(rt: &impl Abort, alloc: Global, parts: &[&str], text: &str) -> Result<(), Fail> {
-    assert!(rt; parts_fit(parts));
-    if parts_fit(parts) {
-        let context = Pairs(&[("x", Formattable::display(&1u64))]);
-        let mut out = TextBuffer::new(alloc);
-        write_parts(alloc, &mut out, parts, &context)?;
-        assert!(rt; out.as_str() == text);
-        let mut out = TextBuffer::new(alloc);
-        context.write_parts_to(alloc, &mut out, parts)?;
-        assert!(rt; out.as_str() == text);
-    }
-    Ok(())
-}
-
-#[test]
-fn many_parts_are_written(rt: HostRuntime) -> Result<(), Fail> {
-    let alloc = rt.alloc();
-    let mut parts: Vec<&str> = Vec::new(alloc);
-    for _ in 0..10_000 {
-        parts.push("a{x}")?;
-    }
-    let text = "a1".repeat(alloc, 10_000)?;
-    give(&rt, alloc, parts.as_slice(), text.as_str())
-}
-
-// A buffer grows as often as is wanted, by characters and by texts, also from a given text.
-#[test]
-fn a_buffer_grows(rt: HostRuntime) -> Result<(), Fail> {
-    let alloc = rt.alloc();
+/// A buffer grows as often as is wanted, by characters and by texts, also from a given text.
+fn a_buffer(report: &mut Report) -> Result<(), Error> {
+    let alloc = report.alloc;
     let mut out = TextBuffer::from_string(String::from_str(alloc, "<")?);
     for _ in 0..20_000 {
-        assert_eq!(rt; out.write_char('é'), Ok(()));
-        assert_eq!(rt; out.write_str("ab"), Ok(()));
+        report.holds("a character more", out.write_char('é').is_ok());
+        report.holds("a text more", out.write_str("ab").is_ok());
     }
     let text = "éab".repeat(alloc, 20_000)?;
     let text = format!(in alloc; "<{text}")?;
-    assert!(rt; out.as_str() == text.as_str());
-    assert!(rt; !out.refused());
+    report.text("a buffer that grew", text.as_str(), out.as_str());
+    report.holds("it refuses nothing", !out.refused());
     let mut out = TextBuffer::new(alloc);
-    assert_eq!(rt; out.write_str(text.as_str()), Ok(()));
-    assert!(rt; out.as_str() == text.as_str());
+    report.holds("a long text", out.write_str(text.as_str()).is_ok());
+    report.text("a buffer of a long text", text.as_str(), out.as_str());
     Ok(())
 }
 
-/// A part of a name, and how often it stands there.
-const NAMES: [(&str, usize); 2] = [("a{", 1_000), ("é", 100_000)];
-
-// By the rules of arguments in docs/DEFINITIONS.md a name is found where it is held, and missing
-// after its brace where it is not.
-#[test]
-fn long_names_are_found_and_missed(rt: HostRuntime) -> Result<(), Fail> {
-    let alloc = rt.alloc();
-    for (part, count) in NAMES {
-        let name = part.repeat(alloc, count)?;
-        let format = format!(in alloc; "{{{name}}}")?;
-        let found = [(name.as_str(), Formattable::display(&7u64))];
-        let made = Pairs(&found).format(alloc, format.as_str());
-        assert!(rt; answers(&made, Told::Done, "7"), "at {part}");
-        let other = [("", Formattable::display(&7u64))];
-        let made = Pairs(&other).format(alloc, format.as_str());
-        assert!(rt;
-            told_by(&made) == Told::MissingValue(name.as_str(), 1),
-            "at {part}"
-        );
-    }
-    Ok(())
+pub fn run(report: &mut Report) {
+    report.begin("long");
+    let answer = a_long_value(report);
+    report.done("a long value", answer);
+    let answer = many_arguments(report);
+    report.done("many arguments", answer);
+    let answer = many_items(report);
+    report.done("many items", answer);
+    let answer = a_buffer(report);
+    report.done("a buffer", answer);
+    let answer = lists::run(report);
+    report.done("long lists", answer);
 }

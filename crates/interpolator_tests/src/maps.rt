@@ -5,28 +5,33 @@ ghost use Rattle.std.specs.Option.{unwrap_or};
 ghost use Rattle.interpolator.specs.NameMaps.{found};
 ghost use Rattle.interpolator.specs.Slots.{empty_slots, with_debug, with_display};
 
-use crate::given::{Given, format_given};
+use crate::report::Report;
 use interpolator::{Context, ContextMap, Error, Formattable, Interpolate, Pairs, Template};
-use interpolator_testing::told::{Told, answers, told_by};
 use std::alloc::{AllocError, Global};
 use std::collections::HashMap;
-use std::process::Abort;
-use std::test::Fail;
 
 /// The name that is there, and two that are not.
 const NAMES: [(&str, bool); 3] = [("n", true), ("", false), ("nn", false)];
 
-#[test]
-fn maps_find_their_names(rt: HostRuntime) -> Result<(), Fail> {
-    let alloc = rt.alloc();
+/// A map of std by lent names.
+fn lent_names(report: &mut Report) -> Result<(), Error> {
     let value = 7u64;
-    let mut lent = HashMap::new(alloc);
-    lent.insert("n", Formattable::display(&value))?;
-    let mut owned = HashMap::new(alloc);
-    owned.insert(String::from_str(alloc, "n")?, Formattable::display(&value))?;
+    let mut map = HashMap::new(report.alloc);
+    map.insert("n", Formattable::display(&value))?;
     for (name, is_found) in NAMES {
-        assert_eq!(rt; Context::get(&lent, name).is_some(), is_found);
-        assert_eq!(rt; Context::get(&owned, name).is_some(), is_found);
+        report.holds(name, Context::get(&map, name).is_some() == is_found);
+    }
+    Ok(())
+}
+
+/// A map of std by owned names.
+fn owned_names(report: &mut Report) -> Result<(), Error> {
+    let value = 7u64;
+    let name = String::from_str(report.alloc, "n")?;
+    let mut map = HashMap::new(report.alloc);
+    map.insert(name, Formattable::display(&value))?;
+    for (name, is_found) in NAMES {
+        report.holds(name, Context::get(&map, name).is_some() == is_found);
     }
     Ok(())
 }
@@ -47,30 +52,33 @@ fn merge<'a>(
     Ok(())
 }
 
-// The text of what stands under a name, for debugging.
+/// The text of what stands under a name, for debugging.
 fn debug_of(alloc: Global, map: &ContextMap<'_, u64>, name: &str) -> Result<String, AllocError> {
     let found = map.get(name);
     format!(in alloc; "{found:?}")
 }
 
-#[test]
-fn keeps_what_is_put(rt: HostRuntime) -> Result<(), Fail> {
+/// Names, and what stands under them, for debugging.
+const KEPT: [(&str, &str); 4] = [
+    ("a", "Some(Formattable(debug, display))"),
+    ("b", "Some(Formattable(octal))"),
+    ("", "None"),
+    ("A", "None"),
+];
+
+/// What is put stays.
+fn puts(report: &mut Report) -> Result<(), Error> {
     let values = [1u64, 2];
-    let mut map = ContextMap::new(rt.alloc());
-    assert!(rt; map.is_empty());
+    let mut map = ContextMap::new(report.alloc);
+    report.holds("a new map is empty", map.is_empty());
     merge(&mut map, "a", &values[0], &values[1])?;
-    assert_eq!(rt; map.len(), 1);
+    report.number("one name", 1, map.len());
     map.put("b", Formattable::octal(&values[0]))?;
-    assert_eq!(rt; map.len(), 2);
-    assert!(rt; !map.is_empty());
-    for (name, text) in [
-        ("a", "Some(Formattable(debug, display))"),
-        ("b", "Some(Formattable(octal))"),
-        ("", "None"),
-        ("A", "None"),
-    ] {
-        let written = debug_of(rt.alloc(), &map, name)?;
-        assert_eq!(rt; written.as_str(), text);
+    report.number("two names", 2, map.len());
+    report.holds("they are there", !map.is_empty());
+    for (name, text) in KEPT {
+        let written = debug_of(report.alloc, &map, name)?;
+        report.text(name, text, written.as_str());
     }
     Ok(())
 }
@@ -88,21 +96,32 @@ const FOUND: [(&str, &str); 7] = [
     ("none", "none"),
 ];
 
-/// Formats over the same pairs, and the name that is missing. Worked by hand, as the rows above;
-/// the argument starts after its brace, at 1.
+/// Formats over the same pairs, and the fault of the name that is missing. Worked by hand, as the rows
+/// above; the argument starts after its brace, at 1. std escapes the accent when it debugs a text.
 #[rattlefmt::skip]
 const ABSENT: [(&str, &str); 6] = [
-    ("{nnn}", "nnn"),
-    ("{N}", "N"),
-    ("{e}", "e"),
-    ("{éé}", "éé"),
-    ("{n }", "n "),
-    ("{\u{301}}", "\u{301}"),
+    ("{nnn}", "MissingValue(\"nnn\", 1)"),
+    ("{N}", "MissingValue(\"N\", 1)"),
+    ("{e}", "MissingValue(\"e\", 1)"),
+    ("{éé}", "MissingValue(\"éé\", 1)"),
+    ("{n }", "MissingValue(\"n \", 1)"),
+    ("{\u{301}}", "MissingValue(\"\\u{301}\", 1)"),
 ];
 
-#[test]
-fn the_last_pair_of_a_name_stands(rt: HostRuntime) -> Result<(), Fail> {
-    let alloc = rt.alloc();
+/// The text of the format's template over the pairs.
+fn by_a_template(alloc: Global, pairs: Pairs<'_, u64>, format: &str) -> Result<String, Error> {
+    let template = Template::parse(alloc, format)?;
+    pairs.format_template(alloc, &template)
+}
+
+/// The format and its template give this over the pairs.
+fn gives_over(report: &mut Report, pairs: Pairs<'_, u64>, format: &str, wanted: (&str, &str)) {
+    report.made(format, wanted, pairs.format(report.alloc, format));
+    report.made(format, wanted, by_a_template(report.alloc, pairs, format));
+}
+
+/// The last pair of a name stands.
+fn last_pairs(report: &mut Report) {
     let values = [1u64, 2, 3, 4, 5];
     let pairs = [
         ("n", Formattable::display(&values[0])),
@@ -112,118 +131,131 @@ fn the_last_pair_of_a_name_stands(rt: HostRuntime) -> Result<(), Fail> {
         ("n", Formattable::display(&values[4])),
     ];
     for (format, text) in FOUND {
-        let template = Template::parse(alloc, format)?;
-        for given in [Given::Text(format), Given::Template(&template)] {
-            let made = format_given(alloc, given, Pairs(&pairs));
-            assert!(rt; answers(&made, Told::Done, text), "{made:?} at {format}");
-        }
+        gives_over(report, Pairs(&pairs), format, (text, ""));
     }
-    for (format, name) in ABSENT {
-        let template = Template::parse(alloc, format)?;
-        for given in [Given::Text(format), Given::Template(&template)] {
-            let made = format_given(alloc, given, Pairs(&pairs));
-            assert_eq!(rt; told_by(&made), Told::MissingValue(name, 1), "at {format}");
-        }
+    for (format, fault) in ABSENT {
+        gives_over(report, Pairs(&pairs), format, ("", fault));
     }
-    Ok(())
 }
 
 /// How many names the maps have.
 const COUNT: usize = 5_000;
 
-/// The numbers below the count, which are the names in decimal, too.
-fn numbers(alloc: Global) -> Result<Vec<usize>, AllocError> {
-    (0..COUNT).collect(alloc)
+/// The format gives the text over the map, and so does its template.
+fn gives(report: &mut Report, map: &ContextMap<'_, usize>, format: &str, text: &str) {
+    report.made(format, (text, ""), map.format(report.alloc, format));
+    report.made(format, (text, ""), by_template(report.alloc, map, format));
 }
 
-/// The format gives the text over the map, and so does its template.
-fn gives(
-    rt: &impl Abort,
-    alloc: Global,
-    map: &ContextMap<'_, usize>,
-    format: &str,
-    text: &str,
-) -> Result<(), Fail> {
-    let made = map.format(alloc, format);
-    assert!(rt; answers(&made, Told::Done, text), "{made:?} at {format}");
+fn by_template(alloc: Global, map: &ContextMap<'_, usize>, format: &str) -> Result<String, Error> {
     let template = Template::parse(alloc, format)?;
-    let made = map.format_template(alloc, &template);
-    assert!(rt; answers(&made, Told::Done, text), "{made:?} at {format}");
-    Ok(())
+    map.format_template(alloc, &template)
 }
 
 /// Each number is found under its name, displayed and debugged.
 fn finds_each(
-    rt: &impl Abort,
-    alloc: Global,
+    report: &mut Report,
     map: &ContextMap<'_, usize>,
     numbers: &[usize],
-) -> Result<(), Fail> {
-    assert_eq!(rt; map.len(), COUNT);
+) -> Result<(), Error> {
+    let alloc = report.alloc;
+    report.number("many names", COUNT, map.len());
     for number in numbers {
         let format = format!(in alloc; "{{{number}}} {{{number}:?}}")?;
         let text = format!(in alloc; "{number} {number}")?;
-        gives(rt, alloc, map, format.as_str(), text.as_str())?;
+        gives(report, map, format.as_str(), text.as_str());
     }
     Ok(())
 }
 
-#[test]
-fn many_names_are_put(rt: HostRuntime) -> Result<(), Fail> {
-    let alloc = rt.alloc();
-    let numbers = numbers(alloc)?;
-    let mut map = ContextMap::new(alloc);
-    for number in &numbers {
-        let name = format!(in alloc; "{number}")?;
+/// The number is put, or entered slot by slot, under its name in decimal.
+fn add<'a>(
+    alloc: Global,
+    map: &mut ContextMap<'a, usize>,
+    number: &'a usize,
+    is_put: bool,
+) -> Result<(), Error> {
+    let name = format!(in alloc; "{number}")?;
+    if is_put {
         map.put(name.as_str(), Formattable::debug_display(number))?;
-    }
-    finds_each(&rt, alloc, &map, numbers.as_slice())
-}
-
-#[test]
-fn many_names_are_entered(rt: HostRuntime) -> Result<(), Fail> {
-    let alloc = rt.alloc();
-    let numbers = numbers(alloc)?;
-    let mut map = ContextMap::new(alloc);
-    for number in &numbers {
-        let name = format!(in alloc; "{number}")?;
+    } else {
         map.entry(name.as_str())?.set_display(number);
         map.entry(name.as_str())?.set_debug(number);
     }
-    finds_each(&rt, alloc, &map, numbers.as_slice())
+    Ok(())
 }
 
-#[test]
-fn the_empty_name_is_put_and_entered(rt: HostRuntime) -> Result<(), Fail> {
-    let alloc = rt.alloc();
+/// Many names, put or entered.
+fn many_names(report: &mut Report, is_put: bool) -> Result<(), Error> {
+    let numbers = (0..COUNT).collect::<Vec<usize>>(report.alloc)?;
+    let mut map = ContextMap::new(report.alloc);
+    for number in &numbers {
+        add(report.alloc, &mut map, number, is_put)?;
+    }
+    finds_each(report, &map, numbers.as_slice())
+}
+
+/// The empty name is put as any other.
+fn the_empty_name(report: &mut Report) -> Result<(), Error> {
     let values = [7, 8];
-    let mut map = ContextMap::new(alloc);
+    let mut map = ContextMap::new(report.alloc);
     map.put("", Formattable::display(&values[0]))?;
-    assert_eq!(rt; map.len(), 1);
-    gives(&rt, alloc, &map, "<{}>", "<7>")?;
+    report.number("the empty name", 1, map.len());
+    gives(report, &map, "<{}>", "<7>");
     map.put("", Formattable::display(&values[1]))?;
-    assert_eq!(rt; map.len(), 1);
-    gives(&rt, alloc, &map, "<{}>", "<8>")?;
-    let mut map = ContextMap::new(alloc);
+    report.number("the empty name, put again", 1, map.len());
+    gives(report, &map, "<{}>", "<8>");
+    Ok(())
+}
+
+/// The empty name is entered as any other.
+fn the_empty_entry(report: &mut Report) -> Result<(), Error> {
+    let values = [7, 8];
+    let mut map = ContextMap::new(report.alloc);
     map.entry("")?.set_display(&values[0]);
     map.entry("")?.set_debug(&values[1]);
-    assert_eq!(rt; map.len(), 1);
-    gives(&rt, alloc, &map, "{}{:?}", "78")
+    report.number("the empty name, entered", 1, map.len());
+    gives(report, &map, "{}{:?}", "78");
+    Ok(())
 }
 
-#[test]
-fn long_names_are_put_and_entered(rt: HostRuntime) -> Result<(), Fail> {
-    let alloc = rt.alloc();
+/// Names of 100,000 letters.
+fn long_names(report: &mut Report) -> Result<(), Error> {
+    let alloc = report.alloc;
     let seven = 7;
-    let mut name = String::new(alloc);
-    for _ in 0..100_000 {
-        name.push('a')?;
-    }
+    let name = "a".repeat(alloc, 100_000)?;
     let format = format!(in alloc; "{{{name}}}{{b{name}}}")?;
     let other = format!(in alloc; "b{name}")?;
     let mut map = ContextMap::new(alloc);
     map.put(name.as_str(), Formattable::display(&seven))?;
     map.entry(other.as_str())?.set_display(&seven);
-    assert_eq!(rt; map.len(), 2);
-    gives(&rt, alloc, &map, format.as_str(), "77")
+    report.number("long names", 2, map.len());
+    gives(report, &map, format.as_str(), "77");
+    Ok(())
+}
+
+/// What maps find.
+fn find(report: &mut Report) {
+    let answer = lent_names(report);
+    report.done("lent names", answer);
+    let answer = owned_names(report);
+    report.done("owned names", answer);
+    let answer = puts(report);
+    report.done("what is put", answer);
+    last_pairs(report);
+}
+
+pub fn run(report: &mut Report) {
+    report.begin("maps");
+    find(report);
+    let answer = many_names(report, true);
+    report.done("many names, put", answer);
+    let answer = many_names(report, false);
+    report.done("many names, entered", answer);
+    let answer = the_empty_name(report);
+    report.done("the empty name", answer);
+    let answer = the_empty_entry(report);
+    report.done("the empty name, entered", answer);
+    let answer = long_names(report);
+    report.done("long names", answer);
 }

@@ -1,6 +1,20 @@
-//! Memory that is refused. Each test holds whether memory is given or one allocation is refused, as
-//! `rt try --test --fail-alloc` does.
+//! Memory that is refused. Each group holds whether memory is given or one allocation is refused, as
+//! `rt try --fail-alloc` does: then a call answers `NoMemory`, leaves what stands, and gives its row
+//! when it is asked again.
 
 mod lists;
 mod names;
 mod templates;
+
+use crate::report::Report;
+use interpolator::Error;
+
+pub fn run(report: &mut Report) {
+    report.begin("memory");
+    let answer = lists::run(report);
+    report.done("lists", answer);
+    let answer = names::run(report);
+    report.done("names", answer.map_err(Error::from));
+    let answer = templates::run(report);
+    report.done("templates", answer);
+}

@@ -1,7 +1,8 @@
-//! Contexts of the tests' own.
+//! Contexts and values of the tests' own.
 ghost use Rattle.std.specs.Prelude.{Some, None, unwrap_or, ◌==◌, if◌then◌else◌, codes};
 ghost use Rattle.std.specs.Str.{chars};
 ghost use Rattle.interpolator.specs.Slots.{slots_of};
+ghost use Rattle.interpolator_render.specs.Views.{failure, plain_text};
 ghost use Rattle.interpolator_render.specs.Views.{some_text, nothing_implemented};
 
 use interpolator::{Context, Formattable, Interpolate, Spec, Trait, Value, View};
@@ -54,5 +55,29 @@ impl Value for OnlyFive {
         } else {
             View::NotImplemented
         }
+    }
+}
+
+/// The text `{x}` as it stands, whatever is asked.
+#[derive(Clone, Copy)]
+pub struct AlwaysPlain;
+
+impl Value for AlwaysPlain {
+    ghost shows = { λ value t spec. plain_text (chars (codes "{x}")) };
+
+    fn view(&self, _t: Trait, _spec: &Spec) -> View<'_> {
+        View::Plain("{x}")
+    }
+}
+
+/// A failure, whatever is asked.
+#[derive(Clone, Copy)]
+pub struct AlwaysFailed;
+
+impl Value for AlwaysFailed {
+    ghost shows = { λ value t spec. failure };
+
+    fn view(&self, _t: Trait, _spec: &Spec) -> View<'_> {
+        View::Failed
     }
 }

@@ -1,58 +1,71 @@
 //! What templates tell of their arguments, and the law of which a body is to be seen at work.
 
+use crate::report::Report;
 use interpolator::laws::templates::rest_of_the_pieces_is_written;
-use interpolator::{Formattable, Kind, Pairs, Range, Template, TextBuffer, Trait};
-use std::test::Fail;
+use interpolator::{Argument, Error, Formattable, Kind, Pairs, Range, Template, TextBuffer, Trait};
 
 /// Worked by hand: of the three pieces `a`, `{x}` and `b` those after so many, with 1 under `x`.
 #[rattlefmt::skip]
 const TAILS: [(usize, &str); 5] = [(0, "a1b"), (1, "1b"), (2, "b"), (3, ""), (usize::MAX, "")];
 
-#[test]
-fn the_rest_of_the_pieces_is_written(rt: HostRuntime) -> Result<(), Fail> {
-    let template = Template::parse(rt.alloc(), "a{x}b")?;
+fn tails(report: &mut Report) -> Result<(), Error> {
+    let alloc = report.alloc;
+    let template = Template::parse(alloc, "a{x}b")?;
     let pairs = [("x", Formattable::display(&1u64))];
     for (skipped, text) in TAILS {
-        let mut out = TextBuffer::new(rt.alloc());
+        let mut out = TextBuffer::new(alloc);
         let context = Pairs(&pairs);
-        rest_of_the_pieces_is_written(rt.alloc(), &mut out, &template, skipped, &context)?;
-        assert_eq!(rt; out.as_str(), text, "after {skipped}");
+        rest_of_the_pieces_is_written(alloc, &mut out, &template, skipped, &context)?;
+        report.text("the pieces after some", text, out.as_str());
     }
     Ok(())
 }
 
-// By hand, from the rules of arguments and of lists in docs/DEFINITIONS.md.
-#[test]
-fn arguments_have_their_specs(rt: HostRuntime) -> Result<(), Fail> {
-    let template = Template::parse(rt.alloc(), "{n:>4x}{l:i1..2#({})#}")?;
-    let arguments = template.arguments(rt.alloc())?;
-    let [number, list, item] = arguments.as_slice() else {
-        assert!(rt; false, "{} arguments", arguments.len());
-        return Ok(());
-    };
-    assert_eq!(rt; number.name, "n");
-    assert_eq!(rt; number.spec.width, Some(4));
-    assert!(rt; matches!(number.kind, Kind::Value(Trait::LowerHex)));
-    assert_eq!(rt; item.name, "");
-    assert!(rt; matches!(item.kind, Kind::Value(Trait::Display)));
-    assert_eq!(rt; list.name, "l");
-    match list.kind {
+/// Whether the argument is the list `l` of the range `1..2`, of which each item is written by `{}`
+/// at byte 17.
+fn is_the_list(argument: &Argument<'_>) -> bool {
+    match argument.kind {
         Kind::List {
-            range: Some(
-                Range {
-                    lower,
-                    inclusive,
-                    upper,
-                },
-            ),
+            range: Some(range),
             item: Some(item),
             join: None,
         } => {
-            assert_eq!(rt; (lower, inclusive, upper), (Some(1), false, Some(2)));
-            assert_eq!(rt; item.text, "{}");
-            assert_eq!(rt; item.place, 17);
+            argument.name == "l" && is_one_to_two(range) && item.text == "{}" && item.place == 17
         }
-        _ => assert!(rt; false, "no list of a range with an item format"),
+        _ => false,
+    }
+}
+
+fn is_one_to_two(range: Range) -> bool {
+    range.lower == Some(1) && !range.inclusive && range.upper == Some(2)
+}
+
+/// Whether the argument of this name asks a value under this trait.
+fn is_a_value(argument: &Argument<'_>, name: &str, t: Trait) -> bool {
+    match argument.kind {
+        Kind::Value(asked) => argument.name == name && asked == t,
+        _ => false,
+    }
+}
+
+/// By hand, from the rules of arguments and of lists in docs/DEFINITIONS.md.
+fn arguments(report: &mut Report) -> Result<(), Error> {
+    let template = Template::parse(report.alloc, "{n:>4x}{l:i1..2#({})#}")?;
+    let arguments = template.arguments(report.alloc)?;
+    report.number("arguments", 3, arguments.len());
+    if let [number, list, item] = arguments.as_slice() {
+        report.holds("n under x", is_a_value(number, "n", Trait::LowerHex));
+        report.holds("its width", number.spec.width == Some(4));
+        report.holds("l under i", is_the_list(list));
+        report.holds("its item", is_a_value(item, "", Trait::Display));
     }
     Ok(())
+}
+
+pub fn run(report: &mut Report) {
+    report.begin("templates");
+    let answer = tails(report);
+    report.done("tails", answer);
+    let answer = arguments(report);
+    report.done("arguments", answer);
 }

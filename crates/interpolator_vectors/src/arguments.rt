@@ -1,12 +1,12 @@
 //! Rows of the argument that starts at a place.
 
-use crate::files::{Facts, Row};
+use crate::files::Facts;
 use crate::names::trait_name;
-use crate::printing::{quoted, range_text, spec_text, told_text, words_text};
-use crate::report::{Part, Report};
+use crate::printing::{quoted, range_text, spec_text, told_text};
+use crate::report::Report;
+use crate::told::told_by;
 use crate::trouble::Read;
-use interpolator::{Argument, Error, Group, Kind, parse_argument};
-use interpolator_testing::told::told_by;
+use interpolator::{Argument, Error, Group, Kind, Range, Spec, parse_argument};
 use std::alloc::{AllocError, Global};
 
 /// The text of a row, and the place at which its argument starts.
@@ -24,134 +24,139 @@ pub fn start_of(facts: &mut Facts<'_>) -> Read<Option<Start>> {
     let text = words.text()?;
     let place = words.number()?;
     words.done()?;
-    if !text.as_str().is_char_boundary(place) {
-        return Err(words.trouble("no character begins at the place"));
-    }
     Ok(Some(Start { text, place }))
 }
 
-/// Appends a line.
-fn push_line(out: &mut Vec<String>, line: String) -> Result<(), AllocError> {
-    out.push(line)?;
-    Ok(())
+/// Appends a line, if there was memory for it.
+fn push_line(out: &mut String, line: Result<String, AllocError>) -> Result<(), AllocError> {
+    let line = line?;
+    out.push_str("\n    ")?;
+    out.push_str(line.as_str())
 }
 
-/// Appends a key, a text and its place.
-fn push_placed(
-    out: &mut Vec<String>,
-    alloc: Global,
-    key: &str,
-    text: &str,
-    place: usize,
-) -> Result<(), AllocError> {
+/// A key, a text and its place.
+fn placed_text(alloc: Global, key: &str, text: &str, place: usize) -> Result<String, AllocError> {
     let text = quoted(alloc, text)?;
-    push_line(out, format!(in alloc; "{key} {text} {place}")?)
+    format!(in alloc; "{key} {text} {place}")
 }
 
 /// Appends a group, if it is there.
 fn push_group(
-    out: &mut Vec<String>,
+    out: &mut String,
     alloc: Global,
     key: &str,
     group: Option<Group<'_>>,
 ) -> Result<(), AllocError> {
     match group {
-        Some(group) => push_placed(out, alloc, key, group.text, group.place),
+        Some(group) => push_line(out, placed_text(alloc, key, group.text, group.place)),
         None => Ok(()),
     }
 }
 
+/// Appends a range, if it is there.
+fn push_range(out: &mut String, alloc: Global, range: Option<Range>) -> Result<(), AllocError> {
+    let Some(range) = range else {
+        return Ok(());
+    };
+    let range = range_text(alloc, range)?;
+    push_line(out, format!(in alloc; "range {range}"))
+}
+
 /// Appends what is asked for.
-fn push_kind(out: &mut Vec<String>, alloc: Global, kind: &Kind<'_>) -> Result<(), AllocError> {
+fn push_kind(out: &mut String, alloc: Global, kind: &Kind<'_>) -> Result<(), AllocError> {
     match kind {
         Kind::Value(t) => {
             let name = trait_name(*t);
-            push_line(out, format!(in alloc; "trait {name}")?)
+            push_line(out, format!(in alloc; "trait {name}"))
         }
         Kind::List { range, item, join } => {
-            push_line(out, String::from_str(alloc, "trait iter")?)?;
-            if let Some(range) = range {
-                let range = range_text(alloc, *range)?;
-                push_line(out, format!(in alloc; "range {range}")?)?;
-            }
+            push_line(out, String::from_str(alloc, "trait iter"))?;
+            push_range(out, alloc, *range)?;
             push_group(out, alloc, "item", *item)?;
             push_group(out, alloc, "join", *join)
         }
     }
 }
 
-/// An argument and the byte after its spec, as lines of a file.
-fn argument_lines(
+/// Appends a spec, if it sets anything.
+fn push_spec(out: &mut String, alloc: Global, spec: &Spec) -> Result<(), AllocError> {
+    if *spec == Spec::default() {
+        return Ok(());
+    }
+    push_line(out, spec_text(alloc, spec))
+}
+
+/// Appends an argument and the byte after its spec, as lines of a file.
+fn push_argument(
+    out: &mut String,
     alloc: Global,
     argument: &Argument<'_>,
     end: usize,
-) -> Result<Vec<String>, AllocError> {
-    let mut out = Vec::new(alloc);
-    push_placed(&mut out, alloc, "name", argument.name, argument.name_place)?;
-    let spec = spec_text(alloc, &argument.spec)?;
-    if spec.as_str() != "spec" {
-        push_line(&mut out, spec)?;
-    }
-    push_kind(&mut out, alloc, &argument.kind)?;
-    push_line(&mut out, format!(in alloc; "end {end}")?)?;
-    Ok(out)
+) -> Result<(), AllocError> {
+    let name = placed_text(alloc, "name", argument.name, argument.name_place);
+    push_line(out, name)?;
+    push_spec(out, alloc, &argument.spec)?;
+    push_kind(out, alloc, &argument.kind)?;
+    push_line(out, format!(in alloc; "end {end}"))
 }
 
-/// A fault, as lines of a file.
-fn fault_lines(alloc: Global, error: Error) -> Result<Vec<String>, AllocError> {
+/// A fault, as a line of a file.
+fn fault_text(alloc: Global, error: Error) -> Result<String, AllocError> {
     let answer: Result<(), Error> = Err(error);
     let fault = told_text(alloc, told_by(&answer))?;
-    let mut out = Vec::new(alloc);
-    push_line(&mut out, format!(in alloc; "fault {fault}")?)?;
-    Ok(out)
+    format!(in alloc; "fault {fault}")
 }
 
-/// What is read, as lines of a file.
-fn lines_of(alloc: Global, start: &Start) -> Result<Vec<String>, AllocError> {
-    let text = start.text.as_str();
-    if !text.is_char_boundary(start.place) {
-        return Ok(Vec::new(alloc));
+/// Appends what is read, as lines of a file.
+fn push_read(out: &mut String, alloc: Global, text: &str, place: usize) -> Result<(), AllocError> {
+    if !text.is_char_boundary(place) {
+        return push_line(
+            out,
+            String::from_str(alloc, "no character begins at the place"),
+        );
     }
-    match parse_argument(text, start.place) {
-        Ok((argument, end)) => argument_lines(alloc, &argument, end),
-        Err(error) => fault_lines(alloc, error),
+    match parse_argument(text, place) {
+        Ok((argument, end)) => push_argument(out, alloc, &argument, end),
+        Err(error) => push_line(out, fault_text(alloc, error)),
     }
 }
 
-/// The facts of a row but that of its start, as lines.
-fn facts_of(alloc: Global, row: &Row) -> Result<Vec<String>, AllocError> {
-    let mut out = Vec::new(alloc);
-    for line in &row.facts {
-        let text = words_text(alloc, &line.words)?;
-        if !text.as_str().starts_with("argument ") {
-            push_line(&mut out, text)?;
-        }
-    }
-    Ok(out)
-}
-
-/// The lines, sorted, with line ends.
-fn joined(alloc: Global, lines: Vec<String>) -> Result<String, AllocError> {
-    let mut lines = lines;
-    lines.sort()?;
+/// What is read.
+fn read_text(alloc: Global, start: &Start) -> Result<String, AllocError> {
     let mut out = String::new(alloc);
-    for line in &lines {
-        out.push_str("\n    ")?;
-        out.push_str(line.as_str())?;
+    push_read(&mut out, alloc, start.text.as_str(), start.place)?;
+    Ok(out)
+}
+
+/// The keys of a row, in the order in which what is read is put into lines.
+const KEYS: [&str; 8] = [
+    "name", "spec", "trait", "range", "item", "join", "end", "fault",
+];
+
+/// Appends the fact of this key, if the row has it.
+fn push_fact(out: &mut String, facts: &mut Facts<'_>, key: &str) -> Read<()> {
+    let Some(words) = facts.next(key)? else {
+        return Ok(());
+    };
+    out.push_str("\n    ")?;
+    let text = words.whole()?;
+    out.push_str(text.as_str())?;
+    Ok(())
+}
+
+/// What a row says is read.
+fn wanted_text(alloc: Global, facts: &mut Facts<'_>) -> Read<String> {
+    let mut out = String::new(alloc);
+    for key in KEYS {
+        push_fact(&mut out, facts, key)?;
     }
     Ok(out)
 }
 
 /// The argument of a row is read as the row says.
-pub fn run_argument(report: &mut Report<'_>, row: &Row, start: &Start) -> Read<()> {
-    let alloc = report.alloc;
-    let wanted = joined(alloc, facts_of(alloc, row)?)?;
-    let came = joined(alloc, lines_of(alloc, start)?)?;
-    report.compare_words(
-        "`parse_argument`",
-        Part::Whole,
-        wanted.as_str(),
-        came.as_str(),
-    )?;
+pub fn run_argument(report: &mut Report<'_>, facts: &mut Facts<'_>, start: &Start) -> Read<()> {
+    let wanted = wanted_text(report.alloc, facts)?;
+    let came = read_text(report.alloc, start);
+    report.compare_made("`parse_argument`", wanted.as_str(), came);
     Ok(())
 }

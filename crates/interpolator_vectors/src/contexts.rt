@@ -5,7 +5,7 @@ use crate::lexing::Word;
 use crate::names::{Slots, named_slots};
 use crate::trouble::Read;
 use crate::words::Words;
-use interpolator::{ContextMap, Formattable};
+use interpolator::{ContextMap, Formattable, Limits};
 use std::alloc::{AllocError, Global};
 
 /// How deep lists stand in one another at most.
@@ -116,6 +116,28 @@ impl Held {
     }
 }
 
+/// The most characters of a text among values.
+fn longest_of(fills: &[Fill]) -> usize {
+    let mut longest = 0usize;
+    for fill in fills {
+        longest = longest.max(match &fill.cell {
+            Cell::Text(text) => text.chars().count(),
+            Cell::Plain(text) => text.chars().count(),
+            _ => 0,
+        });
+    }
+    longest
+}
+
+/// The most items among lists.
+fn most_items_of(lists: &[Items]) -> usize {
+    let mut most = 0usize;
+    for list in lists {
+        most = most.max(list.to.saturating_sub(list.from));
+    }
+    most
+}
+
 impl Holding {
     pub fn new(alloc: Global) -> Holding {
         Holding {
@@ -160,6 +182,17 @@ impl Holding {
             Some(index) => Ok(index),
             None => self.add(name, 0),
         }
+    }
+
+    /// What no value and no list of it goes past.
+    pub fn limits(&self) -> Limits {
+        let mut text = 0usize;
+        let mut items = 0usize;
+        for held in &self.all {
+            text = text.max(longest_of(&held.fills));
+            items = items.max(most_items_of(&held.lists));
+        }
+        Limits { text, items }
     }
 
     fn level_of(&self, index: usize) -> usize {

@@ -3,20 +3,15 @@
 use crate::cells::Cell;
 use crate::formats::{run_makings, run_ways};
 use crate::report::{Outcome, Part, Report};
+use crate::told::{Told, told_by};
 use crate::ways::{Room, WAYS, Way, came_by};
 use interpolator::{ContextMap, parse_argument};
-use interpolator_testing::told::{Told, told_by};
-use std::alloc::AllocError;
 
 /// More characters than any beginning writes.
 const PLENTY: usize = 1_000;
 
 /// No place that is told lies past the end of the beginning, and memory is not wanted.
-fn run_place(
-    report: &mut Report<'_>,
-    beginning: &str,
-    outcome: Outcome<'_>,
-) -> Result<(), AllocError> {
+fn run_place(report: &mut Report<'_>, beginning: &str, outcome: Outcome<'_>) {
     let holds = outcome.told != Told::NoMemory && outcome.told.place() <= beginning.len();
     report.compare_said(
         Way::Write.name(),
@@ -24,15 +19,11 @@ fn run_place(
         holds,
         "a place within the beginning, and no lack of memory",
         outcome,
-    )
+    );
 }
 
 /// With nothing under any name the beginning writes nothing, and answers this.
-fn run_without_names(
-    report: &mut Report<'_>,
-    beginning: &str,
-    told: Told<'_>,
-) -> Result<(), AllocError> {
+fn run_without_names(report: &mut Report<'_>, beginning: &str, told: Told<'_>) {
     let nothing = ContextMap::new(report.alloc);
     run_ways(
         report,
@@ -42,32 +33,28 @@ fn run_without_names(
         Room::Characters(0),
         Part::Beginning(beginning),
         Outcome::new("", told),
-    )
+    );
 }
 
 /// The argument with which the beginning begins is read as it is written: where it is broken, its
 /// fault is all that comes; else its name is the first that is looked up.
-fn run_argument(
-    report: &mut Report<'_>,
-    beginning: &str,
-    outcome: Outcome<'_>,
-) -> Result<(), AllocError> {
+fn run_argument(report: &mut Report<'_>, beginning: &str, outcome: Outcome<'_>) {
     if !beginning.starts_with('{') || beginning.starts_with("{{") {
-        return Ok(());
+        return;
     }
     if !beginning.is_char_boundary(1) {
-        return Ok(());
+        return;
     }
     let read = parse_argument(beginning, 1);
     let told = told_by(&read);
     match &read {
         Ok((argument, _)) => {
-            run_without_names(report, beginning, Told::MissingValue(argument.name, 1))
+            run_without_names(report, beginning, Told::MissingValue(argument.name, 1));
         }
         Err(_) => {
             let part = Part::Beginning(beginning);
-            report.compare(Way::Write.name(), part, Outcome::new("", told), outcome)?;
-            run_without_names(report, beginning, told)
+            report.compare(Way::Write.name(), part, Outcome::new("", told), outcome);
+            run_without_names(report, beginning, told);
         }
     }
 }
@@ -86,33 +73,26 @@ fn run_beginning(
     context: &ContextMap<'_, Cell>,
     beginning: &str,
     room: Room,
-) -> Result<(), AllocError> {
+) {
     let parts = [beginning];
     let little = room_of(room);
-    let first = came_by(report.alloc, Way::Write, little, &parts, context)?;
-    let told = told_by(&first.answer);
-    let outcome = Outcome::new(first.text.as_str(), told);
+    let first = came_by(report.alloc, Way::Write, little, &parts, context);
+    let outcome = first.outcome();
     let part = Part::Beginning(beginning);
-    run_place(report, beginning, outcome)?;
-    run_ways(report, context, &parts, &WAYS, little, part, outcome)?;
+    run_place(report, beginning, outcome);
+    run_ways(report, context, &parts, &WAYS, little, part, outcome);
     if let Room::All = room {
-        run_makings(report, context, beginning, part, outcome)?;
+        run_makings(report, context, beginning, part, outcome);
     }
-    run_argument(report, beginning, outcome)
+    run_argument(report, beginning, outcome);
 }
 
 /// Each beginning of a format.
-pub fn run_cuts(
-    report: &mut Report<'_>,
-    context: &ContextMap<'_, Cell>,
-    format: &str,
-    room: Room,
-) -> Result<(), AllocError> {
+pub fn run_cuts(report: &mut Report<'_>, context: &ContextMap<'_, Cell>, format: &str, room: Room) {
     for byte in 0..=format.len() {
         if format.is_char_boundary(byte) {
             let (beginning, _) = format.split_at(byte);
-            run_beginning(report, context, beginning, room)?;
+            run_beginning(report, context, beginning, room);
         }
     }
-    Ok(())
 }

@@ -230,6 +230,11 @@ impl<'a> Facts<'a> {
         String::new(self.alloc)
     }
 
+    /// No texts.
+    pub fn no_texts(&self) -> Vec<String> {
+        Vec::new(self.alloc)
+    }
+
     /// The facts that were not read are not asked.
     pub fn leave(&mut self) -> Read<()> {
         for index in 0..self.len() {

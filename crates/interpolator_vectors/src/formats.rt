@@ -3,10 +3,10 @@
 use crate::cells::Cell;
 use crate::files::{Facts, Row};
 use crate::report::{Outcome, Part, Report};
+use crate::told::{Told, told_by};
 use crate::trouble::Read;
 use crate::ways::{LINE_WAYS, MAKINGS, PART_WAYS, Room, WAYS, Way, came_by};
 use interpolator::{ContextMap, Error, Template};
-use interpolator_testing::told::{Told, told_by};
 use std::alloc::{AllocError, Global};
 
 /// A row of a format, of parts or of a line.
@@ -78,6 +78,27 @@ fn room_of(facts: &mut Facts<'_>) -> Read<Room> {
     }
 }
 
+/// Appends the texts.
+fn append(all: &mut Vec<String>, texts: &[String]) -> Read<()> {
+    for text in texts {
+        all.push(text.clone()?)?;
+    }
+    Ok(())
+}
+
+/// The parts of a row, so often as it says; none, where it is no such row.
+fn parts_of(facts: &mut Facts<'_>) -> Read<Option<Vec<String>>> {
+    let Some(mut words) = facts.next("parts")? else {
+        return Ok(None);
+    };
+    let texts = words.texts()?;
+    let mut parts = facts.no_texts();
+    for _ in 0..facts.number("times")?.unwrap_or(1) {
+        append(&mut parts, &texts)?;
+    }
+    Ok(Some(parts))
+}
+
 /// The format of a row, or its parts; none, where it is no such row.
 fn formats_of(facts: &mut Facts<'_>) -> Read<Option<(Vec<String>, Kind)>> {
     if let Some(mut words) = facts.next("format")? {
@@ -92,10 +113,10 @@ fn formats_of(facts: &mut Facts<'_>) -> Read<Option<(Vec<String>, Kind)>> {
         };
         return Ok(Some((texts, kind)));
     }
-    if let Some(mut words) = facts.next("parts")? {
-        return Ok(Some((words.texts()?, Kind::Parts)));
+    match parts_of(facts)? {
+        Some(parts) => Ok(Some((parts, Kind::Parts))),
+        None => Ok(None),
     }
-    Ok(None)
 }
 
 impl<'a> FormatRow<'a> {
@@ -132,12 +153,11 @@ pub fn lent<'a>(alloc: Global, texts: &'a [String]) -> Result<Vec<&'a str>, Allo
 }
 
 /// The first characters of a text.
-pub fn first(alloc: Global, text: &str, count: usize) -> Result<String, AllocError> {
-    let mut front = String::new(alloc);
-    for c in text.chars().take(count) {
-        front.push(c)?;
+pub fn first(text: &str, count: usize) -> &str {
+    match text.char_indices().nth(count) {
+        Some((byte, _)) if text.is_char_boundary(byte) => text.split_at(byte).0,
+        _ => text,
     }
-    Ok(front)
 }
 
 /// What is told of the part of a run.
@@ -158,33 +178,28 @@ pub fn run_ways(
     room: Room,
     part: Part<'_>,
     wanted: Outcome<'_>,
-) -> Result<(), AllocError> {
+) {
     for way in ways {
-        let came = came_by(report.alloc, *way, room, parts, context)?;
-        let told = told_by(&came.answer);
-        let outcome = Outcome::new(came.text.as_str(), told);
-        report.compare(way.name(), part, wanted, outcome)?;
+        let came = came_by(report.alloc, *way, room, parts, context);
+        report.compare(way.name(), part, wanted, came.outcome());
     }
-    Ok(())
 }
 
 /// What was made is compared: a text where there is no fault.
-fn compare_made(
+pub fn compare_text(
     report: &mut Report<'_>,
     way: &str,
     part: Part<'_>,
     wanted: Outcome<'_>,
     made: &Result<String, Error>,
-) -> Result<(), AllocError> {
+) {
     let told = told_by(made);
     match made {
         Ok(text) => report.compare(way, part, wanted, Outcome::new(text.as_str(), told)),
-        Err(_) => report.compare(
-            way,
-            part,
-            Outcome::new("", wanted.told),
-            Outcome::new("", told),
-        ),
+        Err(_) => {
+            let wanted = Outcome::new("", wanted.told);
+            report.compare(way, part, wanted, Outcome::new("", told));
+        }
     }
 }
 
@@ -195,12 +210,11 @@ pub fn run_makings(
     format: &str,
     part: Part<'_>,
     wanted: Outcome<'_>,
-) -> Result<(), AllocError> {
+) {
     for making in MAKINGS {
         let made = making.make(report.alloc, format, context);
-        compare_made(report, making.name(), part, wanted, &made)?;
+        compare_text(report, making.name(), part, wanted, &made);
     }
-    Ok(())
 }
 
 /// How many bytes the parts have.
@@ -220,19 +234,17 @@ fn run_refused(
     way: Way,
     count: usize,
     text: &str,
-) -> Result<(), AllocError> {
-    let room = Room::Characters(count);
-    let came = came_by(report.alloc, way, room, parts, context)?;
-    let front = first(report.alloc, text, count)?;
-    let told = told_by(&came.answer);
-    let is_within = matches!(told, Told::Fmt(place) if place <= bytes_of(parts));
+) {
+    let came = came_by(report.alloc, way, Room::Characters(count), parts, context);
+    let outcome = came.outcome();
+    let is_within = matches!(outcome.told, Told::Fmt(place) if place <= bytes_of(parts));
     report.compare_said(
         way.name(),
         Part::Room(count),
-        is_within && came.text.as_str() == front.as_str(),
+        is_within && outcome.text == first(text, count),
         "so many of the row's text, and fault Fmt at a place within the format",
-        Outcome::new(came.text.as_str(), told),
-    )
+        outcome,
+    );
 }
 
 /// Up to so many characters of a text every size of a little writer is tried.
@@ -246,6 +258,20 @@ fn is_tried(count: usize, all: usize) -> bool {
     all <= SHORT || count < ENDS || all.saturating_sub(count) <= ENDS
 }
 
+/// The parts are run to a writer that takes so many characters, fewer than the text has.
+fn run_each_refused(
+    report: &mut Report<'_>,
+    context: &ContextMap<'_, Cell>,
+    parts: &[&str],
+    ways: &[Way],
+    count: usize,
+    text: &str,
+) {
+    for way in ways {
+        run_refused(report, context, parts, *way, count, text);
+    }
+}
+
 /// The parts are run to writers that take 0, 1, 2 and so on characters, up to those of the text.
 fn run_little(
     report: &mut Report<'_>,
@@ -253,17 +279,15 @@ fn run_little(
     parts: &[&str],
     ways: &[Way],
     wanted: Outcome<'_>,
-) -> Result<(), AllocError> {
+) {
     let all = wanted.text.chars().count();
     for count in 0..all {
         if is_tried(count, all) {
-            for way in ways {
-                run_refused(report, context, parts, *way, count, wanted.text)?;
-            }
+            run_each_refused(report, context, parts, ways, count, wanted.text);
         }
     }
     let room = Room::Characters(all);
-    run_ways(report, context, parts, ways, room, part_of(room), wanted)
+    run_ways(report, context, parts, ways, room, part_of(room), wanted);
 }
 
 /// The parts are run by these ways: to the row's writer, and if that takes all, to little ones.
@@ -274,51 +298,53 @@ fn run_by(
     ways: &[Way],
     room: Room,
     wanted: Outcome<'_>,
-) -> Result<(), AllocError> {
-    run_ways(report, context, parts, ways, room, part_of(room), wanted)?;
-    match room {
-        Room::All => run_little(report, context, parts, ways, wanted),
-        _ => Ok(()),
+) {
+    run_ways(report, context, parts, ways, room, part_of(room), wanted);
+    if let Room::All = room {
+        run_little(report, context, parts, ways, wanted);
     }
 }
 
 /// The check of a format that has a fault of its own tells one.
-fn run_check(
-    report: &mut Report<'_>,
-    template: &Template,
-    wanted: Told<'_>,
-) -> Result<(), AllocError> {
+fn run_check(report: &mut Report<'_>, template: &Template, wanted: Told<'_>) {
     if !matches!(wanted, Told::Parse(_) | Told::UnsupportedOption(_, _, _)) {
-        return Ok(());
+        return;
     }
     let answer = template.check();
-    let told = told_by(&answer);
     report.compare_said(
         "`Template::check`",
         Part::Whole,
         answer.is_err(),
         "a fault of its own",
-        Outcome::new("", told),
-    )
+        Outcome::new("", told_by(&answer)),
+    );
 }
 
 /// The template of a format gives it back.
-fn run_template(report: &mut Report<'_>, format: &str, wanted: Told<'_>) -> Result<(), AllocError> {
+fn run_template(report: &mut Report<'_>, format: &str, wanted: Told<'_>) {
     let way = "`Template::parse`";
-    let parsed = Template::parse(report.alloc, format);
-    let told = told_by(&parsed);
-    match &parsed {
+    match Template::parse(report.alloc, format) {
         Ok(template) => {
-            report.compare_words(way, Part::Whole, format, template.text())?;
-            run_check(report, template, wanted)
+            report.compare_words(way, Part::Whole, format, template.text());
+            run_check(report, &template, wanted);
         }
-        Err(_) => report.compare(
-            way,
-            Part::Whole,
-            Outcome::new("", Told::Done),
-            Outcome::new("", told),
-        ),
+        Err(_) => report.compare_words(way, Part::Whole, "a template", "none"),
     }
+}
+
+/// What a row of a format says is written and answered comes by every way.
+fn run_whole(
+    report: &mut Report<'_>,
+    context: &ContextMap<'_, Cell>,
+    row: &FormatRow<'_>,
+    parts: &[&str],
+    wanted: Outcome<'_>,
+) {
+    run_by(report, context, parts, &WAYS, row.room, wanted);
+    if let Room::All = row.room {
+        run_makings(report, context, row.format(), Part::Whole, wanted);
+    }
+    run_template(report, row.format(), wanted.told);
 }
 
 /// What a row says is written and answered comes by every way.
@@ -333,14 +359,9 @@ pub fn run_format(
     let parts = lent(report.alloc, &row.formats)?;
     let wanted = wanted.outcome();
     match row.kind {
-        Kind::Format => {
-            run_by(report, context, &parts, &WAYS, row.room, wanted)?;
-            if let Room::All = row.room {
-                run_makings(report, context, row.format(), Part::Whole, wanted)?;
-            }
-            run_template(report, row.format(), wanted.told)
-        }
+        Kind::Format => run_whole(report, context, row, &parts, wanted),
         Kind::Parts => run_by(report, context, &parts, &PART_WAYS, row.room, wanted),
         Kind::Line => run_by(report, context, &parts, &LINE_WAYS, row.room, wanted),
     }
+    Ok(())
 }

@@ -9,18 +9,22 @@
 mod arguments;
 mod cells;
 mod contexts;
+mod costs;
 mod cuts;
 mod files;
 mod formats;
 mod joins;
 mod lexing;
+mod limited;
 mod names;
 mod printing;
 mod rendering;
 mod report;
 mod running;
+mod sizes;
 mod small;
 mod templates;
+mod told;
 mod trouble;
 mod ways;
 mod words;
@@ -40,16 +44,19 @@ struct Answered {
 }
 
 /// What is told of a file with this text.
-fn told(alloc: Global, file: &str, text: &str) -> Result<Answered, AllocError> {
+fn told_of(alloc: Global, file: &str, text: &str) -> Result<Answered, AllocError> {
     let mut report = Report::new(alloc, file);
     let is_read = match run_text(&mut report, text) {
         Ok(()) => true,
         Err(Trouble::Line(line, what)) => {
-            report.tell(line, what)?;
+            report.tell(line, what);
             false
         }
         Err(Trouble::NoMemory) => return Err(AllocError),
     };
+    if report.wants_memory {
+        return Err(AllocError);
+    }
     let rows = report.rows;
     let runs = report.runs;
     let failed = report.failed;
@@ -68,7 +75,7 @@ fn run_file(rt: &HostRuntime, file: &str) -> io::Result<bool> {
         println!(rt; "{file}: this file cannot be read")?;
         return Ok(false);
     };
-    match told(rt.alloc(), file, text.as_str()) {
+    match told_of(rt.alloc(), file, text.as_str()) {
         Ok(told) => {
             rt.print(told.text.as_str())?;
             Ok(told.holds)

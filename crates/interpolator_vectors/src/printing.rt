@@ -1,9 +1,8 @@
 //! Values as the words of files.
 
-use crate::lexing::Word;
 use crate::names::{number_name, trait_name};
+use crate::told::Told;
 use interpolator::{Alignment, HexDebug, ParseError, Range, Sign, Spec};
-use interpolator_testing::told::Told;
 use std::alloc::{AllocError, Global};
 
 /// Appends a character as it stands between quotes.
@@ -24,19 +23,13 @@ fn put_character(out: &mut String, alloc: Global, c: char) -> Result<(), AllocEr
     }
 }
 
-/// The most characters of a text that are printed.
-const MOST: usize = 2_000;
-
-/// A text in quotes. Of a long one the rest is left out.
+/// A text in quotes.
 pub fn quoted(alloc: Global, text: &str) -> Result<String, AllocError> {
     let mut out = String::from_str(alloc, "\"")?;
-    for c in text.chars().take(MOST) {
+    for c in text.chars() {
         put_character(&mut out, alloc, c)?;
     }
     out.push('"')?;
-    if text.chars().count() > MOST {
-        out.push_str(" + ..")?;
-    }
     Ok(out)
 }
 
@@ -190,27 +183,5 @@ pub fn range_text(alloc: Global, range: Range) -> Result<String, AllocError> {
     push_bound(&mut out, alloc, range.lower)?;
     out.push_str(if range.inclusive { "..=" } else { ".." })?;
     push_bound(&mut out, alloc, range.upper)?;
-    Ok(out)
-}
-
-/// Appends a word of a file as it stands there.
-fn push_read(out: &mut String, alloc: Global, word: &Word) -> Result<(), AllocError> {
-    match word {
-        Word::Bare(word) => push_word(out, word.as_str()),
-        Word::Text(text) => {
-            let text = quoted(alloc, text.as_str())?;
-            push_word(out, text.as_str())
-        }
-        Word::Open => push_word(out, "("),
-        Word::Close => push_word(out, ")"),
-    }
-}
-
-/// Words of a file, a space between two.
-pub fn words_text(alloc: Global, words: &[Word]) -> Result<String, AllocError> {
-    let mut out = String::new(alloc);
-    for word in words {
-        push_read(&mut out, alloc, word)?;
-    }
     Ok(out)
 }

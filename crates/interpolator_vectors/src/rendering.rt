@@ -4,11 +4,11 @@ use crate::cells::Cell;
 use crate::contexts::view_of;
 use crate::files::Facts;
 use crate::formats::first;
+use crate::limited::Limited;
 use crate::printing::quoted;
 use crate::report::{Part, Report};
 use crate::trouble::Read;
 use interpolator::{RenderFault, Spec, TextBuffer, TextWrite, Trait, Value, pad, render};
-use interpolator_testing::limited::Limited;
 use std::alloc::{AllocError, Global};
 
 /// What is written: a view under a trait, or a text that is padded.
@@ -24,8 +24,10 @@ enum Answer {
     Done,
     NotImplemented,
     Failed,
-    /// The writer refused; how many bytes it is said to have taken, if that is said.
-    Refused(Option<usize>),
+    /// The writer refused.
+    Refused,
+    /// The writer refused, and is said to have taken so many bytes.
+    RefusedAfter(usize),
 }
 
 /// A row of a view or of a padded text.
@@ -43,7 +45,8 @@ fn answer_name(answer: Answer) -> &'static str {
         Answer::Done => "ok",
         Answer::NotImplemented => "NotImplemented",
         Answer::Failed => "Failed",
-        Answer::Refused(_) => "Refused",
+        Answer::Refused => "Refused",
+        Answer::RefusedAfter(_) => "Refused, after another number of bytes",
     }
 }
 
@@ -82,12 +85,22 @@ fn answer_of(facts: &mut Facts<'_>) -> Read<Answer> {
     } else if words.takes("Failed") {
         Answer::Failed
     } else if words.takes("Refused") {
-        Answer::Refused(None)
+        Answer::Refused
     } else {
         return Err(words.trouble("no such fault of rendering"));
     };
     words.done()?;
     Ok(answer)
+}
+
+/// Writes a view.
+fn write_view<W: TextWrite>(out: &mut W, cell: &Cell, t: Trait, spec: &Spec) -> Answer {
+    match render(out, cell.view(t, spec), t, spec) {
+        Ok(()) => Answer::Done,
+        Err(RenderFault::NotImplemented) => Answer::NotImplemented,
+        Err(RenderFault::Failed) => Answer::Failed,
+        Err(RenderFault::Refused) => Answer::Refused,
+    }
 }
 
 impl Rendering {
@@ -118,17 +131,10 @@ impl Rendering {
     /// Writes the row's view or text.
     fn write<W: TextWrite>(&self, out: &mut W) -> Answer {
         match &self.subject {
-            Subject::View(cell, t) => {
-                match render(out, cell.view(*t, &self.spec), *t, &self.spec) {
-                    Ok(()) => Answer::Done,
-                    Err(RenderFault::NotImplemented) => Answer::NotImplemented,
-                    Err(RenderFault::Failed) => Answer::Failed,
-                    Err(RenderFault::Refused) => Answer::Refused(None),
-                }
-            }
+            Subject::View(cell, t) => write_view(out, cell, *t, &self.spec),
             Subject::Text(text) => match pad(out, text.as_str(), &self.spec) {
                 Ok(()) => Answer::Done,
-                Err(refusal) => Answer::Refused(Some(refusal.taken)),
+                Err(refusal) => Answer::RefusedAfter(refusal.taken),
             },
         }
     }
@@ -145,11 +151,30 @@ impl Rendering {
 fn outcome_text(alloc: Global, text: &str, answer: Answer) -> Result<String, AllocError> {
     let quoted = quoted(alloc, text)?;
     let name = answer_name(answer);
+    format!(in alloc; "text {quoted}, fault {name}")
+}
+
+/// What is answered. Where the bytes that are said to be taken are those of the text, these are not
+/// told.
+fn settled(text: &str, answer: Answer) -> Answer {
     match answer {
-        Answer::Refused(Some(taken)) if taken != text.len() => {
-            format!(in alloc; "text {quoted}, fault {name}, after {taken} bytes")
-        }
-        _ => format!(in alloc; "text {quoted}, fault {name}"),
+        Answer::RefusedAfter(taken) if taken == text.len() => Answer::Refused,
+        _ => answer,
+    }
+}
+
+/// What comes is compared with what is wanted.
+fn compare(
+    report: &mut Report<'_>,
+    way: &str,
+    part: Part<'_>,
+    wanted: (&str, Answer),
+    came: (&str, Answer),
+) {
+    if report.count(wanted.0 == came.0 && wanted.1 == came.1) {
+        let wanted = outcome_text(report.alloc, wanted.0, wanted.1);
+        let came = outcome_text(report.alloc, came.0, came.1);
+        report.tell_made(way, part, wanted, came);
     }
 }
 
@@ -158,39 +183,45 @@ fn run_in_room(
     report: &mut Report<'_>,
     rendering: &Rendering,
     room: usize,
-    wanted: &str,
+    wanted: (&str, Answer),
 ) -> Result<(), AllocError> {
-    let alloc = report.alloc;
-    let mut out = Limited::new(alloc, room)?;
+    let mut out = Limited::new(report.alloc, room)?;
     let answer = rendering.write(&mut out);
-    let came = outcome_text(alloc, out.as_str(), answer)?;
-    report.compare_words(rendering.way(), Part::Room(room), wanted, came.as_str())
+    let came = (out.as_str(), settled(out.as_str(), answer));
+    compare(report, rendering.way(), Part::Room(room), wanted, came);
+    Ok(())
 }
 
 /// What comes with writers that take 0, 1, 2 and so on characters is compared.
 fn run_little(report: &mut Report<'_>, rendering: &Rendering) -> Result<(), AllocError> {
-    let alloc = report.alloc;
     let text = rendering.text.as_str();
     let count = text.chars().count();
     for room in 0..count {
-        let front = first(alloc, text, room)?;
-        let wanted = outcome_text(alloc, front.as_str(), Answer::Refused(None))?;
-        run_in_room(report, rendering, room, wanted.as_str())?;
+        run_in_room(
+            report,
+            rendering,
+            room,
+            (first(text, room), Answer::Refused),
+        )?;
     }
-    let wanted = outcome_text(alloc, text, rendering.answer)?;
-    run_in_room(report, rendering, count, wanted.as_str())
+    run_in_room(report, rendering, count, (text, rendering.answer))
+}
+
+/// The row gives its text to a writer that takes all.
+fn run_whole(report: &mut Report<'_>, rendering: &Rendering) {
+    let mut out = TextBuffer::new(report.alloc);
+    let answer = rendering.write(&mut out);
+    let wanted = (rendering.text.as_str(), rendering.answer);
+    let came = (out.as_str(), settled(out.as_str(), answer));
+    compare(report, rendering.way(), Part::Whole, wanted, came);
 }
 
 /// The row gives its text, and to little writers the beginnings of it.
 pub fn run_rendering(report: &mut Report<'_>, rendering: &Rendering) -> Result<(), AllocError> {
-    let alloc = report.alloc;
-    let wanted = outcome_text(alloc, rendering.text.as_str(), rendering.answer)?;
     if let Some(room) = rendering.room {
-        return run_in_room(report, rendering, room, wanted.as_str());
+        let wanted = (rendering.text.as_str(), rendering.answer);
+        return run_in_room(report, rendering, room, wanted);
     }
-    let mut out = TextBuffer::new(alloc);
-    let answer = rendering.write(&mut out);
-    let came = outcome_text(alloc, out.as_str(), answer)?;
-    report.compare_words(rendering.way(), Part::Whole, wanted.as_str(), came.as_str())?;
+    run_whole(report, rendering);
     run_little(report, rendering)
 }

@@ -2,7 +2,7 @@
 
 use crate::files::Row;
 use crate::printing::{quoted, told_text};
-use interpolator_testing::told::Told;
+use crate::told::Told;
 use std::alloc::{AllocError, Global};
 
 /// What is written, and what is answered.
@@ -41,6 +41,8 @@ pub struct Report<'a> {
     file: &'a str,
     /// What is told of those that fail.
     pub told: String,
+    /// Whether memory was refused for what is told.
+    pub wants_memory: bool,
     pub rows: usize,
     pub runs: usize,
     /// How many rows fail.
@@ -53,12 +55,25 @@ pub struct Report<'a> {
     fails: usize,
 }
 
+/// The most characters of a text that are told.
+const MOST: usize = 2_000;
+
+/// A text that is told. Of a long one the rest is left out.
+fn cut_off(alloc: Global, text: &str) -> Result<String, AllocError> {
+    let mut front = String::new(alloc);
+    for c in text.chars().take(MOST) {
+        front.push(c)?;
+    }
+    Ok(front)
+}
+
 impl<'a> Report<'a> {
     pub fn new(alloc: Global, file: &'a str) -> Report<'a> {
         Report {
             alloc,
             file,
             told: String::new(alloc),
+            wants_memory: false,
             rows: 0,
             runs: 0,
             failed: 0,
@@ -68,11 +83,26 @@ impl<'a> Report<'a> {
         }
     }
 
+    /// Tells a text.
+    fn say(&mut self, text: &str) {
+        if self.told.push_str(text).is_err() {
+            self.wants_memory = true;
+        }
+    }
+
+    /// Tells a text, if there was memory for it.
+    fn say_made(&mut self, text: Result<String, AllocError>) {
+        match text {
+            Ok(text) => self.say(text.as_str()),
+            Err(_) => self.wants_memory = true,
+        }
+    }
+
     /// Tells something of a line.
-    pub fn tell(&mut self, line: usize, what: &str) -> Result<(), AllocError> {
+    pub fn tell(&mut self, line: usize, what: &str) {
         let file = self.file;
-        let told = format!(in self.alloc; "{file}:{line}: {what}\n")?;
-        self.told.push_str(told.as_str())
+        let told = format!(in self.alloc; "{file}:{line}: {what}\n");
+        self.say_made(told);
     }
 
     /// One more row.
@@ -81,21 +111,24 @@ impl<'a> Report<'a> {
     }
 
     /// What comes is of this row.
-    pub fn begin(&mut self, row: &Row) -> Result<(), AllocError> {
+    pub fn begin(&mut self, row: &Row) {
         self.line = row.number;
-        self.name = String::from_str(self.alloc, row.name.as_str())?;
         self.fails = 0;
-        Ok(())
+        self.name.clear();
+        if self.name.push_str(row.name.as_str()).is_err() {
+            self.wants_memory = true;
+        }
     }
 
     /// No more comes of the row.
-    pub fn end(&mut self) -> Result<(), AllocError> {
+    pub fn end(&mut self) {
         if self.fails > 1 {
+            let file = self.file;
+            let line = self.line;
             let more = self.fails.saturating_sub(1);
-            let what = format!(in self.alloc; "and {more} more of its runs")?;
-            self.tell(self.line, what.as_str())?;
+            let told = format!(in self.alloc; "{file}:{line}: and {more} more of its runs\n");
+            self.say_made(told);
         }
-        Ok(())
     }
 
     /// Counts a run, and answers whether it is to be told: one that fails as the first of its row.
@@ -112,50 +145,67 @@ impl<'a> Report<'a> {
         false
     }
 
+    /// Tells the place and the name of the row, and how it was run.
+    fn tell_row(&mut self, way: &str, part: Part<'_>) {
+        let file = self.file;
+        let line = self.line;
+        let told = format!(in self.alloc; "{file}:{line}: row ");
+        self.say_made(told);
+        let name = quoted(self.alloc, self.name.as_str());
+        self.say_made(name);
+        let by = part_text(self.alloc, way, part);
+        self.say_made(by);
+    }
+
     /// Tells what was wanted of the row, and what came.
-    fn tell_both(
+    pub fn tell_both(&mut self, way: &str, part: Part<'_>, wanted: &str, came: &str) {
+        self.tell_row(way, part);
+        self.say("\n  wanted ");
+        self.say_made(cut_off(self.alloc, wanted));
+        self.say("\n  came   ");
+        self.say_made(cut_off(self.alloc, came));
+        self.say("\n");
+    }
+
+    /// The same, if there was memory for the words.
+    pub fn tell_made(
         &mut self,
         way: &str,
         part: Part<'_>,
-        wanted: &str,
-        came: &str,
-    ) -> Result<(), AllocError> {
-        let name = quoted(self.alloc, self.name.as_str())?;
-        let by = part_text(self.alloc, way, part)?;
-        let what = format!(in self.alloc; "row {name}, {by}")?;
-        self.tell(self.line, what.as_str())?;
-        let both = format!(in self.alloc; "  wanted {wanted}\n  came   {came}\n")?;
-        self.told.push_str(both.as_str())
+        wanted: Result<String, AllocError>,
+        came: Result<String, AllocError>,
+    ) {
+        self.tell_row(way, part);
+        self.say("\n  wanted ");
+        self.say_made(wanted);
+        self.say("\n  came   ");
+        self.say_made(came);
+        self.say("\n");
     }
 
     /// A run of the row by a call, as words: those that are wanted, and those that came.
-    pub fn compare_words(
-        &mut self,
-        way: &str,
-        part: Part<'_>,
-        wanted: &str,
-        came: &str,
-    ) -> Result<(), AllocError> {
+    pub fn compare_words(&mut self, way: &str, part: Part<'_>, wanted: &str, came: &str) {
         if self.count(wanted == came) {
-            return self.tell_both(way, part, wanted, came);
+            self.tell_both(way, part, wanted, came);
         }
-        Ok(())
+    }
+
+    /// The same, if there was memory for the words.
+    pub fn compare_made(&mut self, way: &str, wanted: &str, came: Result<String, AllocError>) {
+        match came {
+            Ok(came) => self.compare_words(way, Part::Whole, wanted, came.as_str()),
+            Err(_) => self.wants_memory = true,
+        }
     }
 
     /// A run of the row by a way.
-    pub fn compare(
-        &mut self,
-        way: &str,
-        part: Part<'_>,
-        wanted: Outcome<'_>,
-        came: Outcome<'_>,
-    ) -> Result<(), AllocError> {
+    pub fn compare(&mut self, way: &str, part: Part<'_>, wanted: Outcome<'_>, came: Outcome<'_>) {
         if self.count(wanted.told == came.told && wanted.text == came.text) {
-            let wanted = outcome_text(self.alloc, wanted)?;
-            let came = outcome_text(self.alloc, came)?;
-            return self.tell_both(way, part, wanted.as_str(), came.as_str());
+            match outcome_text(self.alloc, wanted) {
+                Ok(wanted) => self.tell_came(way, part, wanted.as_str(), came),
+                Err(_) => self.wants_memory = true,
+            }
         }
-        Ok(())
     }
 
     /// A run of the row, of which something is wanted that is said in words.
@@ -166,12 +216,18 @@ impl<'a> Report<'a> {
         holds: bool,
         wanted: &str,
         came: Outcome<'_>,
-    ) -> Result<(), AllocError> {
+    ) {
         if self.count(holds) {
-            let came = outcome_text(self.alloc, came)?;
-            return self.tell_both(way, part, wanted, came.as_str());
+            self.tell_came(way, part, wanted, came);
         }
-        Ok(())
+    }
+
+    /// Tells what was wanted, and what was written and answered.
+    fn tell_came(&mut self, way: &str, part: Part<'_>, wanted: &str, came: Outcome<'_>) {
+        match outcome_text(self.alloc, came) {
+            Ok(came) => self.tell_both(way, part, wanted, came.as_str()),
+            Err(_) => self.wants_memory = true,
+        }
     }
 }
 
@@ -185,13 +241,15 @@ fn outcome_text(alloc: Global, outcome: Outcome<'_>) -> Result<String, AllocErro
 /// How a row was run: by which way, and what of it.
 fn part_text(alloc: Global, way: &str, part: Part<'_>) -> Result<String, AllocError> {
     match part {
-        Part::Whole => format!(in alloc; "by {way}"),
-        Part::Room(room) => format!(in alloc; "by {way} to a writer of {room} characters"),
-        Part::Bytes(bytes) => format!(in alloc; "by {way} to a writer of {bytes} bytes"),
+        Part::Whole => format!(in alloc; ", by {way}"),
+        Part::Room(room) => format!(in alloc; ", by {way} to a writer of {room} characters"),
+        Part::Bytes(bytes) => format!(in alloc; ", by {way} to a writer of {bytes} bytes"),
         Part::Beginning(beginning) => {
             let beginning = quoted(alloc, beginning)?;
-            format!(in alloc; "cut to {beginning}, by {way}")
+            format!(in alloc; ", cut to {beginning}, by {way}")
         }
-        Part::Joined(line) => format!(in alloc; "joined with the row of line {line}, by {way}"),
+        Part::Joined(line) => {
+            format!(in alloc; ", joined with the row of line {line}, by {way}")
+        }
     }
 }

@@ -3,6 +3,7 @@
 use crate::arguments::{run_argument, start_of};
 use crate::cells::Cell;
 use crate::contexts::{Holding, context_of, values_of};
+use crate::costs::run_cost;
 use crate::cuts::run_cuts;
 use crate::files::{Block, Facts, Row, blocks_of};
 use crate::formats::{FormatRow, Kind, run_format};
@@ -14,7 +15,7 @@ use crate::templates::run_known;
 use crate::trouble::Read;
 use crate::ways::Room;
 use crate::words::Words;
-use interpolator::ContextMap;
+use interpolator::{ContextMap, Limits};
 use std::alloc::{AllocError, Global};
 
 /// What stands under the names of a context.
@@ -58,12 +59,11 @@ fn run_format_row(
 }
 
 /// A row of an argument, if it is one.
-fn run_argument_row(report: &mut Report<'_>, row: &Row, facts: &mut Facts<'_>) -> Read<bool> {
+fn run_argument_row(report: &mut Report<'_>, facts: &mut Facts<'_>) -> Read<bool> {
     let Some(start) = start_of(facts)? else {
         return Ok(false);
     };
-    run_argument(report, row, &start)?;
-    facts.leave()?;
+    run_argument(report, facts, &start)?;
     Ok(true)
 }
 
@@ -98,7 +98,7 @@ fn run_any(
     if let Some(format) = FormatRow::read(row, facts)? {
         return run_format_row(report, context, &format, facts);
     }
-    if run_argument_row(report, row, facts)?
+    if run_argument_row(report, facts)?
         || run_rendering_row(report, facts)?
         || run_small(report, facts)?
     {
@@ -111,10 +111,10 @@ fn run_any(
 fn run_row(report: &mut Report<'_>, context: &ContextMap<'_, Cell>, row: &Row) -> Read<()> {
     let mut facts = Facts::new(report.alloc, row);
     report.count_row();
-    report.begin(row)?;
+    report.begin(row);
     run_any(report, context, row, &mut facts)?;
     facts.done()?;
-    report.end()?;
+    report.end();
     Ok(())
 }
 
@@ -134,14 +134,15 @@ fn run_more(
     formats: &[FormatRow<'_>],
     row: &FormatRow<'_>,
 ) -> Result<(), AllocError> {
-    report.begin(row.row)?;
+    report.begin(row.row);
     if block.cut && row.kind != Kind::Parts {
-        run_cuts(report, context, row.format(), row.room)?;
+        run_cuts(report, context, row.format(), row.room);
     }
     if block.join {
         run_joins(report, context, row, formats)?;
     }
-    report.end()
+    report.end();
+    Ok(())
 }
 
 /// The cuts and joins of the formats of a context.
@@ -157,9 +158,9 @@ fn run_formats(report: &mut Report<'_>, block: &Block, context: &ContextMap<'_, 
 fn cut_argument(report: &mut Report<'_>, context: &ContextMap<'_, Cell>, row: &Row) -> Read<()> {
     let mut facts = Facts::new(report.alloc, row);
     if let Some(start) = start_of(&mut facts)? {
-        report.begin(row)?;
-        run_cuts(report, context, start.text.as_str(), Room::All)?;
-        report.end()?;
+        report.begin(row);
+        run_cuts(report, context, start.text.as_str(), Room::All);
+        report.end();
     }
     Ok(())
 }
@@ -172,6 +173,23 @@ fn cut_arguments(
 ) -> Read<()> {
     for row in &block.rows {
         cut_argument(report, context, row)?;
+    }
+    Ok(())
+}
+
+/// What the formats of a context cost.
+fn run_costs(
+    report: &mut Report<'_>,
+    block: &Block,
+    context: &ContextMap<'_, Cell>,
+    limits: &Limits,
+) -> Read<()> {
+    for row in &formats_of(report.alloc, &block.rows)? {
+        if row.kind == Kind::Format {
+            report.begin(row.row);
+            run_cost(report, context, row.format(), limits);
+            report.end();
+        }
     }
     Ok(())
 }
@@ -200,6 +218,7 @@ fn run_block(report: &mut Report<'_>, block: &Block) -> Read<()> {
     let items = values_of(alloc, &holding, 1, &inner)?;
     let values = values_of(alloc, &holding, 0, &items)?;
     let context = context_of(alloc, &holding, &values)?;
+    run_costs(report, block, &context, &holding.limits())?;
     run_rows(report, block, &context)
 }
 

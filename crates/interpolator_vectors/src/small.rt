@@ -1,40 +1,53 @@
 //! Rows of small calls: what a range chooses, seams, escapes, and texts of faults.
 
 use crate::files::Facts;
-use crate::printing::quoted;
+use crate::formats::compare_text;
 use crate::report::{Outcome, Part, Report};
+use crate::told::Told;
 use crate::trouble::Read;
-use interpolator::{
-    Error, Formattable, NumberError, Pairs, ParseError, chosen, escape, format, seam,
-};
-use interpolator_testing::told::{Told, told_by};
+use crate::words::Words;
+use interpolator::{Error, Formattable, Pairs, Range, chosen, escape, format, seam};
 use std::alloc::{AllocError, Global};
+
+/// The range of a row, if it has one.
+fn range_of(facts: &mut Facts<'_>) -> Read<Option<Range>> {
+    match facts.next("range")? {
+        Some(mut words) => {
+            let range = words.range()?;
+            words.done()?;
+            Ok(Some(range))
+        }
+        None => Ok(None),
+    }
+}
 
 /// `chosen`: the places that a range chooses.
 pub fn run_chosen(report: &mut Report<'_>, facts: &mut Facts<'_>) -> Read<bool> {
-    let alloc = report.alloc;
     let Some(mut words) = facts.next("chosen")? else {
         return Ok(false);
     };
-    let from = words.number()?;
-    let to = words.number()?;
+    let wanted = (words.number()?, words.number()?);
     words.done()?;
     let Some(items) = facts.number("items")? else {
         return Err(facts.trouble("the number of `items` is wanted"));
     };
-    let range = match facts.next("range")? {
-        Some(mut words) => {
-            let range = words.range()?;
-            words.done()?;
-            Some(range)
-        }
-        None => None,
-    };
-    let wanted = format!(in alloc; "{from} {to}")?;
-    let (from, to) = chosen(items, range);
-    let came = format!(in alloc; "{from} {to}")?;
-    report.compare_words("`chosen`", Part::Whole, wanted.as_str(), came.as_str())?;
+    let came = chosen(items, range_of(facts)?);
+    compare_places(report, wanted, came);
     Ok(true)
+}
+
+/// Places of items are compared.
+fn compare_places(report: &mut Report<'_>, wanted: (usize, usize), came: (usize, usize)) {
+    if report.count(wanted == came) {
+        let wanted = places_text(report.alloc, wanted);
+        let came = places_text(report.alloc, came);
+        report.tell_made("`chosen`", Part::Whole, wanted, came);
+    }
+}
+
+fn places_text(alloc: Global, places: (usize, usize)) -> Result<String, AllocError> {
+    let (from, to) = places;
+    format!(in alloc; "{from} {to}")
 }
 
 /// The word of a truth value.
@@ -52,7 +65,7 @@ pub fn run_seam(report: &mut Report<'_>, facts: &mut Facts<'_>) -> Read<bool> {
     let wanted = truth_name(words.truth()?);
     words.done()?;
     let came = truth_name(seam(first.as_str(), second.as_str()));
-    report.compare_words("`seam`", Part::Whole, wanted, came)?;
+    report.compare_words("`seam`", Part::Whole, wanted, came);
     Ok(true)
 }
 
@@ -65,81 +78,57 @@ fn text_of(facts: &mut Facts<'_>) -> Read<String> {
 }
 
 /// What a call made is compared.
-fn compare_made(
-    report: &mut Report<'_>,
-    way: &str,
-    wanted: &str,
-    made: &Result<String, Error>,
-) -> Result<(), AllocError> {
-    let told = told_by(made);
-    let text = match made {
-        Ok(text) => text.as_str(),
-        Err(_) => "",
-    };
-    report.compare(
-        way,
-        Part::Whole,
-        Outcome::new(wanted, Told::Done),
-        Outcome::new(text, told),
-    )
+fn compare_made(report: &mut Report<'_>, way: &str, wanted: &str, made: Result<String, Error>) {
+    let wanted = Outcome::new(wanted, Told::Done);
+    compare_text(report, way, Part::Whole, wanted, &made);
 }
 
 /// `escape`: a text with its braces doubled, which is a format that means the text.
 pub fn run_escape(report: &mut Report<'_>, facts: &mut Facts<'_>) -> Read<bool> {
-    let alloc = report.alloc;
     let Some(text) = facts.text("escape")? else {
         return Ok(false);
     };
     let wanted = text_of(facts)?;
-    let made = escape(alloc, text.as_str());
-    compare_made(report, "`escape`", wanted.as_str(), &made)?;
-    let nothing: [(&str, Formattable<'_, u64>); 0] = [];
-    let made = format(alloc, wanted.as_str(), &Pairs(&nothing));
-    compare_made(report, "`format` of the escaped text", text.as_str(), &made)?;
+    escapes(report, text.as_str(), wanted.as_str());
     Ok(true)
 }
 
-/// A fault whose text a row has.
-#[derive(Drop)]
-enum Printed {
-    Fault(Error),
-    Parsing(ParseError),
-    Number(NumberError),
+/// The text is escaped so, and back.
+fn escapes(report: &mut Report<'_>, text: &str, wanted: &str) {
+    let alloc = report.alloc;
+    compare_made(report, "`escape`", wanted, escape(alloc, text));
+    let nothing: [(&str, Formattable<'_, u64>); 0] = [];
+    let back = format(alloc, wanted, &Pairs(&nothing));
+    compare_made(report, "`format` of the escaped text", text, back);
 }
 
-/// The fault of a row, if it is of one.
-fn printed_of(facts: &mut Facts<'_>) -> Read<Option<Printed>> {
-    let Some(mut words) = facts.next("prints")? else {
-        return Ok(None);
-    };
-    let printed = if let Some(fault) = words.fault_of_number() {
-        Printed::Number(fault)
-    } else if let Some(fault) = words.fault_of_parsing()? {
-        Printed::Parsing(fault)
-    } else {
-        Printed::Fault(words.fault()?)
-    };
-    words.done()?;
-    Ok(Some(printed))
-}
-
-/// The text of a fault.
-fn printed_text(alloc: Global, printed: &Printed) -> Result<String, AllocError> {
-    match printed {
-        Printed::Fault(fault) => format!(in alloc; "{fault}"),
-        Printed::Parsing(fault) => format!(in alloc; "{fault}"),
-        Printed::Number(fault) => format!(in alloc; "{fault}"),
+/// The text of the fault that stands here: of a number, of parsing, or any other.
+fn printed_text(alloc: Global, words: &mut Words<'_>) -> Read<String> {
+    if let Some(fault) = words.fault_of_number() {
+        return Ok(format!(in alloc; "{fault}")?);
     }
+    if let Some(fault) = words.fault_of_parsing()? {
+        return Ok(format!(in alloc; "{fault}")?);
+    }
+    let fault = words.fault()?;
+    Ok(format!(in alloc; "{fault}")?)
+}
+
+/// The text of a row's fault, to the end of its line.
+fn printed_of(alloc: Global, words: Words<'_>) -> Read<String> {
+    let mut words = words;
+    let text = printed_text(alloc, &mut words)?;
+    words.done()?;
+    Ok(text)
 }
 
 /// `prints`: the text of a fault.
 pub fn run_prints(report: &mut Report<'_>, facts: &mut Facts<'_>) -> Read<bool> {
-    let alloc = report.alloc;
-    let Some(printed) = printed_of(facts)? else {
+    let Some(words) = facts.next("prints")? else {
         return Ok(false);
     };
-    let wanted = quoted(alloc, text_of(facts)?.as_str())?;
-    let came = quoted(alloc, printed_text(alloc, &printed)?.as_str())?;
-    report.compare_words("its text", Part::Whole, wanted.as_str(), came.as_str())?;
+    let came = printed_of(report.alloc, words)?;
+    let wanted = text_of(facts)?;
+    report.compare_words("its text", Part::Whole, wanted.as_str(), came.as_str());
     Ok(true)
 }

@@ -1,156 +1,149 @@
 //! Rows of what is known of a format before it is written.
+//!
+//! A key more is a variant more of `Asked`, with its key, its call and its answer, and a place in
+//! the list.
 
 use crate::cells::Cell;
 use crate::files::Facts;
 use crate::names::kind_name;
 use crate::printing::{push_word, quoted, quoted_all, told_text};
 use crate::report::{Part, Report};
+use crate::told::told_by;
 use crate::trouble::Read;
 use interpolator::{Argument, ContextMap, Error, Piece, Template, check};
-use interpolator_testing::told::told_by;
 use std::alloc::{AllocError, Global};
 
-/// A format that is read, and the row that asks of it.
-#[derive(Clone, Copy)]
-struct Known<'a> {
-    alloc: Global,
-    format: &'a str,
-    template: &'a Template,
+/// What a row asks of a format, in words that stand after its key.
+#[derive(Clone, Copy, PartialEq)]
+enum Asked {
+    Check,
+    Names,
+    Lacks,
+    Arguments,
+    Widest,
+    Depth,
 }
 
-/// What comes of a call that failed.
+const ALL: [Asked; 6] = [
+    Asked::Check,
+    Asked::Names,
+    Asked::Lacks,
+    Asked::Arguments,
+    Asked::Widest,
+    Asked::Depth,
+];
+
+impl Asked {
+    fn key(self) -> &'static str {
+        match self {
+            Asked::Check => "check",
+            Asked::Names => "names",
+            Asked::Lacks => "lacks",
+            Asked::Arguments => "arguments",
+            Asked::Widest => "widest",
+            Asked::Depth => "depth",
+        }
+    }
+
+    /// The call that answers it.
+    fn way(self) -> &'static str {
+        match self {
+            Asked::Check => "`Template::check`",
+            Asked::Names => "`Template::names`",
+            Asked::Lacks => "`Template::lacks`",
+            Asked::Arguments => "`Template::arguments`",
+            Asked::Widest => "`Template::widest`",
+            Asked::Depth => "`Template::depth`",
+        }
+    }
+
+    /// What the call answers, in such words.
+    fn answer(
+        self,
+        alloc: Global,
+        template: &Template,
+        context: &ContextMap<'_, Cell>,
+    ) -> Result<String, AllocError> {
+        match self {
+            Asked::Check => told_text(alloc, told_by(&template.check())),
+            Asked::Names => names_text(alloc, template),
+            Asked::Lacks => lacking_text(alloc, template.lacks(context)),
+            Asked::Arguments => arguments_text(alloc, template),
+            Asked::Widest => number_text(alloc, template.widest()),
+            Asked::Depth => number_text(alloc, template.depth()),
+        }
+    }
+}
+
+fn number_text(alloc: Global, number: usize) -> Result<String, AllocError> {
+    format!(in alloc; "{number}")
+}
+
+/// The fault of a call that failed.
 fn failed_text(alloc: Global, error: Error) -> Result<String, AllocError> {
     let answer: Result<(), Error> = Err(error);
     told_text(alloc, told_by(&answer))
 }
 
-/// `check`: the first fault of its own.
-fn run_check(report: &mut Report<'_>, known: Known<'_>, facts: &mut Facts<'_>) -> Read<()> {
-    let Some(mut words) = facts.next("check")? else {
-        return Ok(());
-    };
-    let answer = if words.takes("ok") {
-        Ok(())
-    } else {
-        Err(words.fault()?)
-    };
-    words.done()?;
-    let wanted = told_text(known.alloc, told_by(&answer))?;
-    let came = told_text(known.alloc, told_by(&known.template.check()))?;
-    report.compare_words(
-        "`Template::check`",
-        Part::Whole,
-        wanted.as_str(),
-        came.as_str(),
-    )?;
-    let came = told_text(known.alloc, told_by(&check(known.alloc, known.format)))?;
-    report.compare_words("`check`", Part::Whole, wanted.as_str(), came.as_str())?;
-    Ok(())
+/// The names that are asked.
+fn names_text(alloc: Global, template: &Template) -> Result<String, AllocError> {
+    match template.names(alloc) {
+        Ok(names) => quoted_all(alloc, &names),
+        Err(error) => failed_text(alloc, error),
+    }
 }
 
-/// `names`: the asked names.
-fn run_names(report: &mut Report<'_>, known: Known<'_>, facts: &mut Facts<'_>) -> Read<()> {
-    let Some(mut words) = facts.next("names")? else {
-        return Ok(());
-    };
-    let wanted = quoted_all(known.alloc, &words.texts()?)?;
-    let came = match known.template.names(known.alloc) {
-        Ok(names) => quoted_all(known.alloc, &names)?,
-        Err(error) => failed_text(known.alloc, error)?,
-    };
-    report.compare_words(
-        "`Template::names`",
-        Part::Whole,
-        wanted.as_str(),
-        came.as_str(),
-    )?;
-    Ok(())
+/// The first asked name that the context lacks.
+fn lacking_text(alloc: Global, name: Option<&str>) -> Result<String, AllocError> {
+    match name {
+        Some(name) => quoted(alloc, name),
+        None => String::from_str(alloc, "none"),
+    }
 }
 
-/// `lacks`: the first asked name that the context lacks.
-fn run_lacks(
-    report: &mut Report<'_>,
-    known: Known<'_>,
-    facts: &mut Facts<'_>,
-    context: &ContextMap<'_, Cell>,
-) -> Read<()> {
-    let Some(mut words) = facts.next("lacks")? else {
-        return Ok(());
-    };
-    let wanted = if words.takes("none") {
-        String::from_str(known.alloc, "none")?
-    } else {
-        quoted(known.alloc, words.text()?.as_str())?
-    };
-    words.done()?;
-    let came = match known.template.lacks(context) {
-        Some(name) => quoted(known.alloc, name)?,
-        None => String::from_str(known.alloc, "none")?,
-    };
-    report.compare_words(
-        "`Template::lacks`",
-        Part::Whole,
-        wanted.as_str(),
-        came.as_str(),
-    )?;
-    Ok(())
-}
-
-/// Appends a name and its place.
-fn push_place(out: &mut String, alloc: Global, name: &str, place: usize) -> Result<(), AllocError> {
-    let name = quoted(alloc, name)?;
-    let word = format!(in alloc; "{name} {place}")?;
-    push_word(out, word.as_str())
+/// A name and its place.
+fn place_text(alloc: Global, argument: &Argument<'_>) -> Result<String, AllocError> {
+    let name = quoted(alloc, argument.name)?;
+    let place = argument.name_place;
+    format!(in alloc; "{name} {place}")
 }
 
 /// The name of each argument, and where it begins.
-fn arguments_text(alloc: Global, arguments: &[Argument<'_>]) -> Result<String, AllocError> {
+fn places_text(alloc: Global, arguments: &[Argument<'_>]) -> Result<String, AllocError> {
     let mut out = String::new(alloc);
     for argument in arguments {
-        push_place(&mut out, alloc, argument.name, argument.name_place)?;
+        let text = place_text(alloc, argument)?;
+        push_word(&mut out, text.as_str())?;
     }
     Ok(out)
 }
 
-/// `arguments`: their names, and where these begin.
-fn run_arguments(report: &mut Report<'_>, known: Known<'_>, facts: &mut Facts<'_>) -> Read<()> {
-    let Some(mut words) = facts.next("arguments")? else {
-        return Ok(());
-    };
-    let mut wanted = String::new(known.alloc);
-    for _ in 0..words.len() {
-        if words.is_done() {
-            break;
-        }
-        let name = words.text()?;
-        let place = words.number()?;
-        push_place(&mut wanted, known.alloc, name.as_str(), place)?;
+/// The arguments.
+fn arguments_text(alloc: Global, template: &Template) -> Result<String, AllocError> {
+    match template.arguments(alloc) {
+        Ok(arguments) => places_text(alloc, &arguments),
+        Err(error) => failed_text(alloc, error),
     }
-    let came = match known.template.arguments(known.alloc) {
-        Ok(arguments) => arguments_text(known.alloc, &arguments)?,
-        Err(error) => failed_text(known.alloc, error)?,
-    };
-    report.compare_words(
-        "`Template::arguments`",
-        Part::Whole,
-        wanted.as_str(),
-        came.as_str(),
-    )?;
-    Ok(())
 }
 
-/// A number of a format: its extent, or its depth.
-fn run_number(
+/// What a row asks is answered as it says.
+fn run_asked(
     report: &mut Report<'_>,
-    known: Known<'_>,
-    wanted: Option<usize>,
-    way: &str,
-    came: usize,
+    context: &ContextMap<'_, Cell>,
+    template: &Template,
+    facts: &mut Facts<'_>,
+    asked: Asked,
 ) -> Read<()> {
-    if let Some(wanted) = wanted {
-        let wanted = format!(in known.alloc; "{wanted}")?;
-        let came = format!(in known.alloc; "{came}")?;
-        report.compare_words(way, Part::Whole, wanted.as_str(), came.as_str())?;
+    let Some(words) = facts.next(asked.key())? else {
+        return Ok(());
+    };
+    let wanted = words.rest()?;
+    let came = asked.answer(report.alloc, template, context);
+    report.compare_made(asked.way(), wanted.as_str(), came);
+    if asked == Asked::Check {
+        let answer = check(report.alloc, template.text());
+        let came = told_text(report.alloc, told_by(&answer));
+        report.compare_made("`check`", wanted.as_str(), came);
     }
     Ok(())
 }
@@ -158,20 +151,18 @@ fn run_number(
 /// How many levels of pieces are listed.
 const LEVELS: usize = 8;
 
-/// Appends how many pieces a group has, if it is there.
-fn push_count(
-    out: &mut String,
+/// How many pieces a group has, if it is there.
+fn count_text(
     alloc: Global,
     word: &str,
     pieces: &Option<Vec<Piece>>,
-) -> Result<(), AllocError> {
+) -> Result<String, AllocError> {
     match pieces {
         Some(pieces) => {
             let count = pieces.len();
-            let text = format!(in alloc; " {word} {count}")?;
-            out.push_str(text.as_str())
+            format!(in alloc; " {word} {count}")
         }
-        None => Ok(()),
+        None => Ok(String::new(alloc)),
     }
 }
 
@@ -180,10 +171,9 @@ fn piece_text(alloc: Global, depth: usize, piece: &Piece) -> Result<String, Allo
     let kind = kind_name(piece.kind);
     let place = piece.place;
     let end = piece.end;
-    let mut out = format!(in alloc; "\n    piece {depth} {kind} {place} {end}")?;
-    push_count(&mut out, alloc, "item", &piece.item)?;
-    push_count(&mut out, alloc, "join", &piece.join)?;
-    Ok(out)
+    let item = count_text(alloc, "item", &piece.item)?;
+    let join = count_text(alloc, "join", &piece.join)?;
+    format!(in alloc; "\n    piece {depth} {kind} {place} {end}{item}{join}")
 }
 
 /// Appends pieces of a level, each before those of its item format and of its join.
@@ -209,86 +199,77 @@ fn push_pieces(
     Ok(())
 }
 
-/// The pieces of a row, as it says them.
-fn pieces_wanted(alloc: Global, facts: &mut Facts<'_>) -> Read<Option<String>> {
-    let mut wanted = String::new(alloc);
-    for _ in 0..facts.len() {
-        let Some(words) = facts.next("piece")? else {
-            break;
-        };
-        wanted.push_str("\n    ")?;
-        let piece = words.whole()?;
-        wanted.push_str(piece.as_str())?;
-    }
-    if let Some(mut words) = facts.next("pieces")? {
-        if !wanted.is_empty() || !words.takes("none") {
-            return Err(words.trouble("`pieces none` stands without a `piece`"));
-        }
-        words.done()?;
-        return Ok(Some(wanted));
-    }
-    if wanted.is_empty() {
-        Ok(None)
-    } else {
-        Ok(Some(wanted))
-    }
+/// All pieces.
+fn pieces_text(alloc: Global, template: &Template) -> Result<String, AllocError> {
+    let mut out = String::new(alloc);
+    push_pieces(&mut out, alloc, template.pieces(), 0)?;
+    Ok(out)
 }
 
-/// `piece`: the nodes of its tree.
-fn run_pieces(report: &mut Report<'_>, known: Known<'_>, facts: &mut Facts<'_>) -> Read<()> {
-    let Some(wanted) = pieces_wanted(known.alloc, facts)? else {
-        return Ok(());
+/// Appends the next line of a piece; whether there is one.
+fn takes_piece(out: &mut String, facts: &mut Facts<'_>) -> Read<bool> {
+    let Some(words) = facts.next("piece")? else {
+        return Ok(false);
     };
-    let mut came = String::new(known.alloc);
-    push_pieces(&mut came, known.alloc, known.template.pieces(), 0)?;
-    report.compare_words(
-        "`Template::pieces`",
-        Part::Whole,
-        wanted.as_str(),
-        came.as_str(),
-    )?;
+    out.push_str("\n    piece ")?;
+    let text = words.rest()?;
+    out.push_str(text.as_str())?;
+    Ok(true)
+}
+
+/// Whether the row says that there are no pieces.
+fn has_none(facts: &mut Facts<'_>) -> Read<bool> {
+    let Some(mut words) = facts.next("pieces")? else {
+        return Ok(false);
+    };
+    if !words.takes("none") {
+        return Err(words.trouble("`none` is wanted after `pieces`"));
+    }
+    words.done()?;
+    Ok(true)
+}
+
+/// `piece`: the nodes of its tree; `pieces none`, where there are none.
+fn run_pieces(report: &mut Report<'_>, template: &Template, facts: &mut Facts<'_>) -> Read<()> {
+    let is_empty = has_none(facts)?;
+    let mut wanted = String::new(report.alloc);
+    for _ in 0..facts.len() {
+        if !takes_piece(&mut wanted, facts)? {
+            break;
+        }
+    }
+    if is_empty || !wanted.is_empty() {
+        let came = pieces_text(report.alloc, template);
+        report.compare_made("`Template::pieces`", wanted.as_str(), came);
+    }
     Ok(())
 }
 
 /// All that a row asks of a format before it is written.
+fn run_template(
+    report: &mut Report<'_>,
+    context: &ContextMap<'_, Cell>,
+    template: &Template,
+    facts: &mut Facts<'_>,
+) -> Read<()> {
+    for asked in ALL {
+        run_asked(report, context, template, facts, asked)?;
+    }
+    run_pieces(report, template, facts)
+}
+
+/// The same, of a format that can be read.
 pub fn run_known(
     report: &mut Report<'_>,
     context: &ContextMap<'_, Cell>,
     format: &str,
     facts: &mut Facts<'_>,
 ) -> Read<()> {
-    let alloc = report.alloc;
-    let template = match Template::parse(alloc, format) {
-        Ok(template) => template,
-        Err(error) => {
-            let came = failed_text(alloc, error)?;
-            report.compare_words(
-                "`Template::parse`",
-                Part::Whole,
-                "the template of the format",
-                came.as_str(),
-            )?;
-            return facts.leave();
+    match Template::parse(report.alloc, format) {
+        Ok(template) => run_template(report, context, &template, facts),
+        Err(_) => {
+            report.compare_words("`Template::parse`", Part::Whole, "a template", "none");
+            facts.leave()
         }
-    };
-    let known = Known {
-        alloc,
-        format,
-        template: &template,
-    };
-    run_check(report, known, facts)?;
-    run_names(report, known, facts)?;
-    run_lacks(report, known, facts, context)?;
-    run_arguments(report, known, facts)?;
-    let widest = facts.number("widest")?;
-    run_number(
-        report,
-        known,
-        widest,
-        "`Template::widest`",
-        template.widest(),
-    )?;
-    let depth = facts.number("depth")?;
-    run_number(report, known, depth, "`Template::depth`", template.depth())?;
-    run_pieces(report, known, facts)
+    }
 }

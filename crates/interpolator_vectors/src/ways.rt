@@ -4,13 +4,15 @@
 //! list.
 
 use crate::cells::Cell;
+use crate::limited::Limited;
+use crate::report::Outcome;
+use crate::sizes::parts_fit;
+use crate::told::told_by;
 use interpolator::{
     Bounded, ContextMap, Error, Interpolate, Template, TextBuffer, TextWrite, format, iwriteln,
     write, write_parts,
 };
-use interpolator_testing::limited::Limited;
-use interpolator_testing::sizes::parts_fit;
-use std::alloc::{AllocError, Global};
+use std::alloc::Global;
 
 /// A way to write.
 #[derive(Clone, Copy)]
@@ -147,6 +149,67 @@ pub struct Came {
     pub answer: Result<(), Error>,
 }
 
+impl Came {
+    /// The text, and what is told of the answer.
+    pub fn outcome(&self) -> Outcome<'_> {
+        Outcome::new(self.text.as_str(), told_by(&self.answer))
+    }
+
+    /// Memory for the writer was refused.
+    fn nothing(alloc: Global) -> Came {
+        Came {
+            text: String::new(alloc),
+            answer: Err(Error::NoMemory),
+        }
+    }
+}
+
+/// What comes of a way with a writer of so many characters.
+fn came_in_room(
+    alloc: Global,
+    way: Way,
+    count: usize,
+    parts: &[&str],
+    context: &ContextMap<'_, Cell>,
+) -> Came {
+    match Limited::new(alloc, count) {
+        Ok(mut out) => {
+            let answer = way.write(alloc, &mut out, parts, context);
+            Came {
+                text: out.into_string(),
+                answer,
+            }
+        }
+        Err(_) => Came::nothing(alloc),
+    }
+}
+
+/// What comes of a way with a writer of so many bytes.
+fn came_in_bytes(
+    alloc: Global,
+    way: Way,
+    count: usize,
+    parts: &[&str],
+    context: &ContextMap<'_, Cell>,
+) -> Came {
+    let mut out = Bounded::new(alloc, count);
+    let answer = way.write(alloc, &mut out, parts, context);
+    Came {
+        text: out.into_string(),
+        answer,
+    }
+}
+
+/// What comes of a way with a writer that takes all.
+fn came_whole(alloc: Global, way: Way, parts: &[&str], context: &ContextMap<'_, Cell>) -> Came {
+    let mut out = TextBuffer::new(alloc);
+    let answer = way.write(alloc, &mut out, parts, context);
+    Came {
+        text: out.into_string(),
+        answer,
+    }
+}
+
 /// What comes of a way with a writer.
 pub fn came_by(
     alloc: Global,
@@ -154,31 +217,10 @@ pub fn came_by(
     room: Room,
     parts: &[&str],
     context: &ContextMap<'_, Cell>,
-) -> Result<Came, AllocError> {
+) -> Came {
     match room {
-        Room::All => {
-            let mut out = TextBuffer::new(alloc);
-            let answer = way.write(alloc, &mut out, parts, context);
-            Ok(Came {
-                text: out.into_string(),
-                answer,
-            })
-        }
-        Room::Characters(count) => {
-            let mut out = Limited::new(alloc, count)?;
-            let answer = way.write(alloc, &mut out, parts, context);
-            Ok(Came {
-                text: String::from_str(alloc, out.as_str())?,
-                answer,
-            })
-        }
-        Room::Bytes(count) => {
-            let mut out = Bounded::new(alloc, count);
-            let answer = way.write(alloc, &mut out, parts, context);
-            Ok(Came {
-                text: out.into_string(),
-                answer,
-            })
-        }
+        Room::All => came_whole(alloc, way, parts, context),
+        Room::Characters(count) => came_in_room(alloc, way, count, parts, context),
+        Room::Bytes(count) => came_in_bytes(alloc, way, count, parts, context),
     }
 }

@@ -2,7 +2,8 @@
 
 use crate::lexing::Word;
 use crate::names::{named, named_number, named_trait};
-use crate::printing::words_text;
+use crate::printing::{push_word, quoted};
+use crate::told::put_at;
 use crate::trouble::{Read, Trouble};
 use interpolator::{Alignment, Error, HexDebug, NumberError, ParseError, Range, Sign, Spec, Trait};
 use std::alloc::Global;
@@ -55,7 +56,35 @@ impl<'a> Words<'a> {
 
     /// The words of the whole line, a space between two.
     pub fn whole(&self) -> Read<String> {
-        Ok(words_text(self.alloc, self.words)?)
+        let mut words = *self;
+        words.at = 0;
+        words.rest()
+    }
+
+    /// The words from here on, a space between two; texts with their repeats and joined.
+    pub fn rest(&self) -> Read<String> {
+        let mut words = *self;
+        let mut out = String::new(self.alloc);
+        for _ in 0..self.len() {
+            if words.is_done() {
+                break;
+            }
+            let word = words.next()?;
+            push_word(&mut out, word.as_str())?;
+        }
+        Ok(out)
+    }
+
+    /// The word that stands here, or the text with its repeats and what is joined to it.
+    fn next(&mut self) -> Read<String> {
+        if self.is_text() {
+            let text = self.text()?;
+            return Ok(quoted(self.alloc, text.as_str())?);
+        }
+        match self.bare() {
+            Some(word) => Ok(String::from_str(self.alloc, word)?),
+            None => Err(self.trouble("a parenthesis has no place here")),
+        }
     }
 
     /// No word stands here.
@@ -193,30 +222,26 @@ impl<'a> Words<'a> {
         }
     }
 
-    /// The fault of parsing of this name, if there is one.
+    /// The fault of parsing of this name, at place 0, if there is one.
+    fn fault_of_name(&mut self, name: &str) -> Read<Option<ParseError>> {
+        Ok(match name {
+            "FormatSpecUnclosed" => Some(ParseError::FormatSpecUnclosed(0)),
+            "Expected" => Some(ParseError::Expected(self.expected()?, 0)),
+            "InvalidWidth" => Some(ParseError::InvalidWidth(self.number_fault()?, 0)),
+            "InvalidPrecision" => Some(ParseError::InvalidPrecision(self.number_fault()?, 0)),
+            "RangeBound" => Some(ParseError::RangeBound(self.number_fault()?, 0)),
+            "Fill" => Some(ParseError::Fill(0)),
+            "Iter" => Some(ParseError::Iter(0)),
+            _ => None,
+        })
+    }
+
+    /// The fault of parsing of this name, with its place, if there is one.
     fn parse_fault(&mut self, name: &str) -> Read<Option<ParseError>> {
-        Ok(Some(match name {
-            "FormatSpecUnclosed" => ParseError::FormatSpecUnclosed(self.number()?),
-            "Expected" => {
-                let sign = self.expected()?;
-                ParseError::Expected(sign, self.number()?)
-            }
-            "InvalidWidth" => {
-                let fault = self.number_fault()?;
-                ParseError::InvalidWidth(fault, self.number()?)
-            }
-            "InvalidPrecision" => {
-                let fault = self.number_fault()?;
-                ParseError::InvalidPrecision(fault, self.number()?)
-            }
-            "RangeBound" => {
-                let fault = self.number_fault()?;
-                ParseError::RangeBound(fault, self.number()?)
-            }
-            "Fill" => ParseError::Fill(self.number()?),
-            "Iter" => ParseError::Iter(self.number()?),
-            _ => return Ok(None),
-        }))
+        match self.fault_of_name(name)? {
+            Some(fault) => Ok(Some(put_at(fault, self.number()?))),
+            None => Ok(None),
+        }
     }
 
     /// `UnsupportedOption`, after its name.

@@ -1,26 +1,49 @@
 -- The fields of a line as pairs, one letter, and letters one after the other.
 use Rattle.std.proofs.Common.{◌≡◌, inl, inr, ℕ, ◌+◌, ◌<◌, List, [], ◌∷◌, ◌++◌, length, get_or}
 use Rattle.std.proofs.Common.{map, drop, Option, None, Some, Ok, Err, Result, refl, sym, ap, ◌∙◌, subst}
-use Rattle.std.proofs.Common.{Bool, true, false, ◌⊎◌, option_map, append-nil, length-drop, arith, ◌-◌}
+use Rattle.std.proofs.Common.{Bool, true, false, ◌⊎◌, ◌≢◌, option_map, append-nil, length-drop}
+use Rattle.std.proofs.Common.{arith, ◌-◌, take, Decides}
 use Rattle.std.specs.Borrow.{Bor}
 use Rattle.std.specs.List.{AllZip, concat, slice_get, zip}
 use Rattle.std.specs.Option.{unwrap_or}
 use Rattle.std.proofs.lemmas.Iterator.{YieldsList}
 use Rattle.std.proofs.lemmas.Iterator.Consumers.{YieldsList-end, YieldsList-turn}
-use Rattle.std.proofs.lemmas.List.{map-append, get_or_default}
+use Rattle.std.proofs.lemmas.List.{length-map, map-append, get_or_default}
 use Rattle.std.proofs.lemmas.List.Folds.{concat-append}
 use Rattle.std.proofs.lemmas.Slice.Zip.{all_zipped_more}
 use Rattle.std.proofs.lemmas.Option.{slice_get_read}
 use Rattle.std.proofs.lemmas.Grind.{get_or_after_one}
-use Rattle.interpolator.specs.At.{text_of}
+use Rattle.std.specs.Str.{chars}
+use Rattle.interpolator.proofs.TemplateLemmas.ResembleLemmas.{no_fault}
+use Rattle.interpolator.proofs.TemplateLemmas.SamplePairLemmas.{kind_has_text, pairs_resemble}
+use Rattle.interpolator.specs.At.{outermost, text_of}
+use Rattle.interpolator.specs.Contexts.{found_by_pairs}
 use Rattle.interpolator.specs.Faults.{Answer, Fault, answer_of, answered, fault, no_memory}
+use Rattle.interpolator.specs.Meaning.AskedNames.{asked_names}
+use Rattle.interpolator.specs.Meaning.Environments.{environment}
 use Rattle.interpolator.specs.Meaning.Meanings.{Meaning}
 use Rattle.interpolator.specs.Meaning.Outcomes.{Outcome}
+use Rattle.interpolator.specs.Meaning.Resembling.{Resembles, ResemblesSlot}
+use Rattle.interpolator.specs.Meaning.SamplePairs.{PairsResemble}
+use Rattle.interpolator.specs.Slots.{empty_slots, slot_at, slots_of, values_of, with_debug_display}
+use Rattle.interpolator.specs.Template.NodeChecks.{first_fault}
+use Rattle.interpolator.specs.Template.NodeSamples.{faults_over}
+use Rattle.interpolator.specs.Template.Telling.{AnswersFirst}
+use Rattle.interpolator.specs.Views.{Shown, some_text}
 use Rattle.interpolator.specs.Written.{Written}
 use Rattle.interpolator.specs.declared.Error.{Error}
 use Rattle.interpolator.specs.declared.Formattable.{Formattable}
-use Rattle.merge.specs.Letters.{AreLetters, FailsWith, IsLetter, PutsLetter, ShowFields}
-use Rattle.merge.specs.Letters.{letter_means}
+use Rattle.interpolator.specs.declared.Spec.{Spec}
+use Rattle.interpolator.specs.declared.Trait.{Trait}
+use Rattle.interpolator.specs.declared.Trait.TheVariants.{Binary, Debug, Display, Iter}
+use Rattle.interpolator.specs.declared.Trait.TheVariants.{LowerExp, LowerHex, Octal}
+use Rattle.interpolator.specs.declared.Trait.TheVariants.{UpperExp, UpperHex}
+use Rattle.merge.specs.Letters.{AreLetters, ChecksTemplate, FailsWith, IsLetter, IsSound, IsWrong}
+use Rattle.merge.specs.Letters.{HasNone, IsOther, Prevents, PutsLetter, Row, ShowFields, Shows}
+use Rattle.merge.specs.Letters.{fields_of, letter_means, names_of, rows_of}
+use Rattle.merge.specs.declared.letters.Fault.{Fault as WhyNone}
+use Rattle.merge.specs.declared.letters.Fault.TheVariants as whys
+use Rattle.std.specs.Str.Lines.{lines}
 
 -- one more of each list, of which the first is read
 pub one_more : {A B C : Type 0} (R : B → C → Type 0) (v : A → B) (xs : List A) (ys : List C) (x : A)
@@ -85,29 +108,130 @@ failed m old new error down (inl f) = inr f.told
 failed m old new error down (inr (inl r)) = absurd (not_refused new.refused r.flag down)
 failed m old new error down (inr (inr w)) = inl (same_answer _ _ w.told)
 
--- the fault of a line's letter, by pairs that show its fields
-as_fault : (template : List ℕ) (names : List (List ℕ)) (line : List ℕ) (error : Error)
-    (pairs : List (Bor (List ℕ) × Formattable (Bor (List ℕ)))) → ShowFields names line pairs
+-- the fault of a letter, by pairs that show its fields
+as_fault : (template : List ℕ) (names fields : List (List ℕ)) (error : Error) (pairs : Row)
+    → ShowFields names fields pairs
     → (answer_of error ≡ no_memory)
     ⊎ (Some (answer_of error) ≡ option_map fault (letter_means template pairs).fault)
-    → FailsWith template names line error
-as_fault template names line error pairs shown (inl e) = inl e
-as_fault template names line error pairs shown (inr e) =
-    inr (record { pairs = pairs; shown = shown; told = e })
+    → FailsWith template names fields error
+as_fault template names fields error pairs shown (inl e) = inl e
+as_fault template names fields error pairs shown (inr e) = inr (pairs, shown, e)
 
--- a call that writes what a template means over a line's pairs, where the writer did not refuse, puts
--- its letter
-pub letter_put : (template : List ℕ) (names : List (List ℕ)) (line : List ℕ)
-    (pairs : List (Bor (List ℕ) × Formattable (Bor (List ℕ)))) (old new : Written)
-    (result : Result (Unit {0}) Error) → ShowFields names line pairs
+-- a call that writes what a template means over pairs, where the writer did not refuse, puts a letter
+pub letter_put : (template : List ℕ) (names fields : List (List ℕ)) (pairs : Row) (old new : Written)
+    (result : Result (Unit {0}) Error) → ShowFields names fields pairs
     → Outcome (letter_means template pairs) old new (answered result) → new.refused ≡ false
-    → PutsLetter template names line old.text new.text result
-letter_put template names line pairs old new (Ok _) shown h down =
+    → PutsLetter template names fields old.text new.text result
+letter_put template names fields pairs old new (Ok _) shown h down =
     let done = finished (letter_means template pairs) old new h in
     (_, record { pairs = pairs; shown = shown; sound = done.0; said = refl }, done.1)
-letter_put template names line pairs old new (Err error) shown h down =
-    as_fault template names line error pairs shown
+letter_put template names fields pairs old new (Err error) shown h down =
+    as_fault template names fields error pairs shown
     (failed (letter_means template pairs) old new error down h)
+
+-- ---- the names as an example of every row
+
+-- what a text shows
+abbrev text_shows : Bor (List ℕ) → Trait → Spec → Shown
+text_shows text _ _ = some_text (chars text.now)
+
+-- a slot that is filled by a text where the sample's is
+slots_alike : (mine theirs : Bor (List ℕ)) (t : Trait) → ResemblesSlot text_shows text_shows t
+    (slot_at t (values_of (with_debug_display empty_slots mine)))
+    (slot_at t (values_of (with_debug_display empty_slots theirs)))
+slots_alike mine theirs Debug = λ spec h. kind_has_text (some_text (chars theirs.now))
+    (some_text (chars mine.now)) Debug spec refl refl h
+slots_alike mine theirs Display = λ spec h. kind_has_text (some_text (chars theirs.now))
+    (some_text (chars mine.now)) Display spec refl refl h
+slots_alike mine theirs Binary = tt
+slots_alike mine theirs LowerExp = tt
+slots_alike mine theirs LowerHex = tt
+slots_alike mine theirs Octal = tt
+slots_alike mine theirs UpperExp = tt
+slots_alike mine theirs UpperHex = tt
+slots_alike mine theirs Iter = tt
+
+-- one field resembles another
+fields_alike : (mine theirs : Bor (List ℕ)) → Resembles text_shows text_shows
+    (with_debug_display empty_slots mine) (with_debug_display empty_slots theirs)
+fields_alike mine theirs = slots_alike mine theirs
+
+-- so it is of the pairs that show them
+pairs_alike : (name field example : List ℕ) (p q : Bor (List ℕ) × Formattable (Bor (List ℕ)))
+    → Shows name field p → Shows name example q
+    → (p.0.now ≡ q.0.now) × Resembles text_shows text_shows (slots_of p.1) (slots_of q.1)
+pairs_alike name field example p q mine theirs = (
+  mine.same_name ∙ sym theirs.same_name,
+  rw (mine.same_text, theirs.same_text) (fields_alike mine.lent theirs.lent),
+)
+
+-- rows of as many fields resemble each other
+rows_alike : (names fields examples : List (List ℕ)) (pairs sample : Row)
+    → length fields ≡ length names → length examples ≡ length names
+    → ShowFields names fields pairs → ShowFields names examples sample
+    → PairsResemble text_shows text_shows pairs sample
+rows_alike [] fields examples [] [] e d h k = tt
+rows_alike [] fields examples (p ∷ ps) sample e d h k = absurd h
+rows_alike [] fields examples [] (q ∷ qs) e d h k = absurd k
+rows_alike (n ∷ names) [] examples pairs sample e d h k = absurd (omega (arith, e))
+rows_alike (n ∷ names) (f ∷ fields) [] pairs sample e d h k = absurd (omega (arith, d))
+rows_alike (n ∷ names) (f ∷ fields) (x ∷ examples) [] sample e d h k = absurd h
+rows_alike (n ∷ names) (f ∷ fields) (x ∷ examples) (p ∷ ps) [] e d h k = absurd k
+rows_alike (n ∷ names) (f ∷ fields) (x ∷ examples) (p ∷ ps) (q ∷ qs) e d h k =
+    let both = pairs_alike n f x p q h.0 k.0 in (
+      both.0,
+      both.1,
+      rows_alike names fields examples ps qs (omega (arith, e)) (omega (arith, d)) h.1 k.1,
+    )
+
+-- no first fault is no fault
+none_first : (fs : List Fault) → option_map fault (first_fault fs) ≡ None → fs ≡ []
+none_first [] e = refl
+none_first (f ∷ fs) e = cc
+
+-- a sound template means no fault over as many fields as there are names
+pub no_letter_fails : (template : List ℕ) (names fields : List (List ℕ)) (pairs : Row)
+    → IsSound template names → length fields ≡ length names → ShowFields names fields pairs
+    → (letter_means template pairs).fault ≡ None
+no_letter_fails template names fields pairs sound as_many shown =
+    no_fault text_shows text_shows (found_by_pairs sound.sample)
+    (environment (found_by_pairs pairs)) (outermost (chars template))
+    (none_first _ sound.none)
+    (pairs_resemble text_shows text_shows pairs sound.sample
+    (asked_names (outermost (chars template)))
+    (rows_alike names fields names pairs sound.sample as_many refl shown sound.shown))
+
+-- so its letter fails only where memory was refused
+pub fails_of_memory : (template : List ℕ) (names fields : List (List ℕ)) (error : Error)
+    → IsSound template names → length fields ≡ length names
+    → FailsWith template names fields error → answer_of error ≡ no_memory
+fails_of_memory template names fields error sound as_many (inl e) = e
+fails_of_memory template names fields error sound as_many (inr h) =
+    absurd (none_some _ (sym (h.2 ∙ ap (λ (f : Option Fault). option_map fault f)
+    (no_letter_fails template names fields h.0 sound as_many h.1))))
+
+-- what is wrong, by what was answered
+wrong : (template : List ℕ) (names : List (List ℕ)) (sample : Row) (error : Error) (a : Answer)
+    → answer_of error ≡ a → ShowFields names names sample
+    → AnswersFirst (faults_over text_shows (found_by_pairs sample) (outermost (chars template)))
+    (Some a) → IsWrong template names error
+wrong template names sample error no_memory e shown h = inl e
+wrong template names sample error (fault f) e shown h = inr (record {
+  sample = sample;
+  shown = shown;
+  told = ap (λ (x : Option Fault). option_map fault x) h ∙ ap (λ (x : Answer). Some x) (sym e);
+})
+
+-- what a check of the template over the names has answered
+pub checked : (template : List ℕ) (names : List (List ℕ)) (sample : Row)
+    (result : Result (Unit {0}) Error) → ShowFields names names sample
+    → AnswersFirst (faults_over text_shows (found_by_pairs sample) (outermost (chars template)))
+    (answered result)
+    → ChecksTemplate template names result
+checked template names sample (Ok _) shown h =
+    record { sample = sample; shown = shown; none = ap (λ (f : Option Fault). option_map fault f) h }
+checked template names sample (Err error) shown h =
+    wrong template names sample error (answer_of error) refl shown h
 
 -- one letter more
 pub letters_more : {A : Type 0} (template : List ℕ) (names : List (List ℕ)) (v : A → List ℕ)
@@ -121,6 +245,46 @@ letters_more template names v lines old new line letter so_far one e = record {
       ∙ sym (concat-append so_far.letters (letter ∷ [])
       ∙ ap (λ (x : List ℕ). concat so_far.letters ++ x) (append-nil letter)));
 }
+
+-- the line that has no letter is why there are none
+pub prevented : (template table : List ℕ) (row : ℕ) (line before : List ℕ) (why : WhyNone)
+    → IsSound template (names_of table) → 1 < row
+    → slice_get (lines table) (row - 1) ≡ Some line
+    → AreLetters template (names_of table) (take (row - 2) (rows_of table)) before
+    → HasNone (names_of table) row line why → Prevents template table why
+prevented template table row line before (whys.Template error) sound later at written h = inl h
+prevented template table row line before (whys.Fields told) sound later at written h =
+    subst (λ r. IsOther template table r) (sym h.0) (record {
+      sound = sound;
+      line = line;
+      after_first = later;
+      at = at;
+      other = h.1;
+      before = before;
+      written = written;
+    })
+
+-- false is not true
+no_bool : false ≡ true → ⊥
+no_bool e = cc
+
+-- a line has as many fields as there are names, if that was the answer
+pub whole : (names fields : List (Bor (List ℕ))) (answer : Bool) (line : List ℕ)
+    → map (λ x. x.now) fields ≡ fields_of line → answer ≡ true
+    → Decides answer (length fields ≡ length names)
+    → length (fields_of line) ≡ length (map (λ x. x.now) names)
+whole names fields answer line read is h =
+    sym (ap (λ (xs : List (List ℕ)). length xs) read) ∙ length-map fields (λ x. x.now) ∙ h.0 is
+    ∙ sym (length-map names (λ x. x.now))
+
+-- and another number, if that was the answer
+pub not_whole : (names fields : List (Bor (List ℕ))) (answer : Bool) (line : List ℕ)
+    → map (λ x. x.now) fields ≡ fields_of line → answer ≡ false
+    → Decides answer (length fields ≡ length names)
+    → length (fields_of line) ≢ length (map (λ x. x.now) names)
+not_whole names fields answer line read is h = λ same.
+    no_bool (sym is ∙ h.1 (sym (length-map fields (λ x. x.now))
+    ∙ ap (λ (xs : List (List ℕ)). length xs) read ∙ same ∙ length-map names (λ x. x.now)))
 
 -- the line that an iterator over all lines after the first has given
 pub line_at : (all : List (List ℕ)) (n row : ℕ) (line : List ℕ) → row ≡ n + 1

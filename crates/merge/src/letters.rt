@@ -1,40 +1,38 @@
 //! The letters of a template and a table.
 
-ghost use Rattle.std.specs.Prelude.{◌≡◌, IfOk, IfErr, IfSome, None, map, string_bytes};
+ghost use Rattle.std.specs.Prelude.{◌≡◌, Decides, IfOk, IfErr, length, map, string_bytes};
 ghost use Rattle.std.specs.List.{AllZip, zip};
 ghost use Rattle.std.specs.Str.{chars};
-ghost use Rattle.interpolator.specs.Faults.{answer_of, no_memory};
+ghost use Rattle.interpolator.specs.declared.Error.TheVariants.{NoMemory};
 ghost use Rattle.merge.specs.Letters.{fields_of, names_of, rows_of, Shows, AreLetters};
-ghost use Rattle.merge.specs.Letters.{FailsAt, PutsLetter};
+ghost use Rattle.merge.specs.Letters.{ChecksTemplate, IsSound, PutsLetter, PutsRow, Prevents};
+ghost use Rattle.merge.specs.declared.letters.Fault.TheVariants.{Template};
 
 use interpolator::{Error, Formattable, Interpolate, Pairs, Template, TextBuffer, TextWrite};
 use std::alloc::{AllocError, Global};
 
 /// Why there are no letters.
 #[derive(Drop)]
-pub struct Fault {
-    pub error: Error,
-    /// The line of the table whose letter has the fault, from 1 on; none where it is in no letter.
-    pub row: Option<usize>,
+pub enum Fault {
+    /// The first fault that the template has over the names of the table, or `NoMemory`.
+    Template(Error),
+    /// The line of the table, from 1 on, that has another number of fields than the first.
+    Fields(usize),
 }
 
 impl From<Error> for Fault {
-    ghost from_gives = { λ error fault. (fault.error ≡ error) × (fault.row ≡ None) };
+    ghost from_gives = { λ error fault. fault ≡ Template error };
 
     fn from(error: Error) -> Fault {
-        Fault { error, row: None }
+        Fault::Template(error)
     }
 }
 
 impl From<AllocError> for Fault {
-    ghost from_gives = { λ _ fault.
-        (answer_of fault.error ≡ no_memory) × (fault.row ≡ None) };
+    ghost from_gives = { λ _ fault. fault ≡ Template NoMemory };
 
     fn from(_refused: AllocError) -> Fault {
-        Fault {
-            error: Error::NoMemory,
-            row: None,
-        }
+        Fault::Template(Error::NoMemory)
     }
 }
 
@@ -68,20 +66,27 @@ fn pairs_of<'a>(
     Ok(pairs)
 }
 
-/// Writes the letter of a line, whose fields have these names. Where the buffer refuses a text, memory
+/// Checks the template over the names, each as an example of what stands under it.
+fn check_template<'a>(alloc: Global, template: &Template, names: &'a [&'a str]) -> Result<(), Error>
+    ensures { ChecksTemplate template.now (map (λ x. x.now) names.now) result }
+{
+    let sample = pairs_of(alloc, names, names)?;
+    Pairs(&sample).check_template(alloc, template)
+}
+
+/// Writes the letter of a line with these fields under these names. If the buffer refuses a text, memory
 /// was refused.
 fn write_letter<'a>(
     alloc: Global,
     out: &mut TextBuffer,
     template: &Template,
     names: &[&'a str],
-    line: &'a str,
+    fields: &'a [&'a str],
 ) -> Result<(), Error>
-    ensures { PutsLetter template.now (map (λ x. x.now) names.now) line.now
+    ensures { PutsLetter template.now (map (λ x. x.now) names.now) (map (λ x. x.now) fields.now)
         out.old.text out.new.text result }
 {
-    let fields = fields_of(alloc, line)?;
-    let pairs = pairs_of(alloc, &*names, &fields)?;
+    let pairs = pairs_of(alloc, names, fields)?;
     let answer = Pairs(&pairs).write_template_to(alloc, out, template);
     if out.refused() {
         return Err(Error::NoMemory);
@@ -89,30 +94,61 @@ fn write_letter<'a>(
     answer
 }
 
-/// A letter for each line of the table after the first, which names the fields. The template is
-/// read once.
+/// Whether there is a field for each name, and no more.
+fn is_whole(names: &[&str], fields: &[&str]) -> bool
+    ensures { Decides result (length fields.now ≡ length names.now) }
+{
+    fields.len() == names.len()
+}
+
+/// Writes the letter of a line, if it has as many fields as there are names.
+fn write_row<'a>(
+    alloc: Global,
+    out: &mut TextBuffer,
+    template: &Template,
+    names: &[&'a str],
+    row: usize,
+    line: &'a str,
+) -> Result<(), Fault>
+    ensures { IsSound template.now (map (λ x. x.now) names.now)
+        → PutsRow template.now (map (λ x. x.now) names.now) row line.now
+        out.old.text out.new.text result }
+{
+    let held = fields_of(alloc, line)?;
+    let fields = held.as_slice();
+    if !is_whole(&*names, fields) {
+        return Err(Fault::Fields(row));
+    }
+    match write_letter(alloc, out, template, &*names, fields) {
+        Ok(()) => Ok(()),
+        Err(error) => Err(Fault::Template(error)),
+    }
+}
+
+/// A letter for each line of the table after the first, which names the fields. The template is read
+/// and checked once, before the first letter: after that no letter can have a fault.
 ///
 /// # Errors
 ///
-/// The fault of the first letter that has one, with the line of the table, or `NoMemory`.
+/// The first fault that the template has over the names; the first line with another number of fields
+/// than there are names; `NoMemory`.
 pub fn merged(alloc: Global, template: &str, table: &str) -> Result<String, Fault>
+    ensures sound { IfOk result (λ _. IsSound template.now (names_of table.now)) }
     ensures letters { IfOk result (λ letters.
         AreLetters template.now (names_of table.now) (rows_of table.now)
         (chars (string_bytes letters))) }
-    ensures at { IfErr result (λ fault. IfSome fault.row (λ row.
-        FailsAt template.now table.now row fault.error)) }
-    ensures refused { IfErr result (λ fault.
-        fault.row ≡ None → answer_of fault.error ≡ no_memory) }
+    ensures fault { IfErr result (λ fault. Prevents template.now table.now fault) }
 {
     let template = Template::parse(alloc, template)?;
-    let names = names_of(alloc, table)?;
+    let held = names_of(alloc, table)?;
+    let names = held.as_slice();
+    check_template(alloc, &template, names)?;
     let mut out = TextBuffer::new(alloc);
     let mut row = 1usize;
     for line in table.lines().skip(1) {
         row += 1;
-        if let Err(error) = write_letter(alloc, &mut out, &template, &names, line) {
-            let row = Some(row);
-            return Err(Fault { error, row });
+        if let Err(fault) = write_row(alloc, &mut out, &template, names, row, line) {
+            return Err(fault);
         }
     }
     Ok(out.into_string())

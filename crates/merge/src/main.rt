@@ -1,54 +1,64 @@
 //! `merge TEMPLATE TABLE`: a letter for each row of the table.
 //!
-//! A fault is told with the line and the column of the template at which it is, and the line of the
-//! table whose letter has it. Then no letter is written.
+//! The template is checked before the first letter, over the names of the table. A fault is told with
+//! its line and column, and a row of another number of fields with its line. Then no letter is written.
 #![tactic(auto)]
 
 mod letters;
 
-use interpolator::Error;
+use interpolator::{Error, Position};
 use letters::{Fault, merged};
-use places::{place_of, position_of};
 use std::alloc::{AllocError, Global};
 use std::process::ExitCode;
 use std::{env, fs, io};
 
 /// The files and their texts.
 #[derive(Drop)]
-struct Asked {
+struct Request {
     words: Vec<String>,
     template: String,
     table: String,
 }
 
-/// Where a fault is, in the template and in the table, and what it is.
-fn told(alloc: Global, asked: &Asked, fault: &Fault) -> Result<String, AllocError> {
+/// What a fault of the template is, and where.
+fn told_error(
+    alloc: Global,
+    file: &str,
+    template: &str,
+    error: &Error,
+) -> Result<String, AllocError> {
+    match error.place() {
+        Some(place) => {
+            let at = Position::of(template, place);
+            format!(in alloc; "{file}:{}:{}: {error}", at.line, at.column)
+        }
+        None => format!(in alloc; "{error}"),
+    }
+}
+
+/// Why there are no letters, with the place in the template or the line of the table.
+fn told(alloc: Global, asked: &Request, fault: &Fault) -> Result<String, AllocError> {
     let [template, table] = asked.words.as_slice() else {
         return Ok(String::new(alloc));
     };
-    let error = &fault.error;
-    let mut told = match place_of(error) {
-        Some(place) => {
-            let at = position_of(asked.template.as_str(), place);
-            format!(in alloc; "{template}:{}:{}: {error}", at.line, at.column)?
+    match fault {
+        Fault::Template(error) => {
+            told_error(alloc, template.as_str(), asked.template.as_str(), error)
         }
-        None => format!(in alloc; "{error}")?,
-    };
-    if let Some(row) = fault.row {
-        let of_row = format!(in alloc; ", in the letter of {table}:{row}")?;
-        told.push_str(of_row.as_str())?;
+        Fault::Fields(row) => {
+            format!(in alloc; "{table}:{row}: another number of fields than line 1 has")
+        }
     }
-    Ok(told)
 }
 
-fn read_files(rt: &HostRuntime) -> io::Result<Asked> {
+fn read_files(rt: &HostRuntime) -> io::Result<Request> {
     let words = env::args(rt)?.skip(1).collect::<Vec<String>>(rt.alloc())?;
     let [template, table] = words.as_slice() else {
         return Err(io::Error::from(io::ErrorKind::InvalidInput));
     };
     let template = fs::read_to_string(rt, template.as_str())?;
     let table = fs::read_to_string(rt, table.as_str())?;
-    Ok(Asked {
+    Ok(Request {
         words,
         template,
         table,

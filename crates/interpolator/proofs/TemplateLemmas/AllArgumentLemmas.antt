@@ -5,7 +5,7 @@ use Rattle.std.proofs.lemmas.List.{append-nil, map-append}
 use Rattle.std.specs.Char.{len_utf8}
 use Rattle.std.specs.Prelude.{option_map}
 use Rattle.interpolator_syntax.specs.At.{At, at, strip}
-use Rattle.interpolator_syntax.specs.Arguments.{Argument, argument_at, named_argument, asked_of}
+use Rattle.interpolator_syntax.specs.Arguments.{Argument, argument_at, named_argument, request_of}
 use Rattle.interpolator_syntax.specs.Arguments.{argument_of, kind_of, taken_read}
 use Rattle.interpolator_syntax.specs.Classes.{close_brace}
 use Rattle.interpolator_syntax.specs.Groups.{Group}
@@ -21,16 +21,16 @@ use Rattle.interpolator_syntax.specs.declared.token.Token.TheVariants as tokens
 use Rattle.interpolator_syntax.specs.declared.argument.TakenArgument.{TakenArgument}
 use Rattle.interpolator_syntax.proofs.ScanLemmas.{hands_on, hands_nothing}
 use Rattle.interpolator_syntax.proofs.SizeLemmas.{GroupIfIn, KindIn, PieceIn, PiecesIn, pieces_in}
-use Rattle.interpolator_meaning.specs.Meaning.AskedNames.{without_empty, group_asks, kind_asks, piece_asks}
-use Rattle.interpolator_meaning.specs.Meaning.AskedNames.{pieces_ask, asked_within, asked_names}
-use Rattle.interpolator_meaning.specs.Meaning.Meanings.{inside}
+use Rattle.interpolator_eval.specs.Meaning.AskedNames.{without_empty, group_asks, kind_asks, piece_asks}
+use Rattle.interpolator_eval.specs.Meaning.AskedNames.{pieces_ask, asked_within, asked_names}
+use Rattle.interpolator_syntax.specs.Groups.{inside}
 use Rattle.interpolator.specs.Template.AllArguments.{group_arguments, kind_arguments}
 use Rattle.interpolator.specs.Template.AllArguments.{piece_arguments, pieces_arguments}
 use Rattle.interpolator.specs.Template.AllArguments.{arguments_within, arguments_of, names_of}
 use Rattle.interpolator.specs.Template.Reading.{taken_step}
-use Rattle.interpolator_meaning.proofs.MeaningLemmas.DepthLemmas.{by_groups}
-use Rattle.interpolator_meaning.proofs.MeaningLemmas.ListLemmas.{kind_size, groups_within}
-use Rattle.interpolator_meaning.proofs.MeaningLemmas.MeaningLemmas.{scan_shorter}
+use Rattle.interpolator_eval.proofs.MeaningLemmas.DepthLemmas.{by_groups}
+use Rattle.interpolator_eval.proofs.MeaningLemmas.ListLemmas.{kind_size, groups_within}
+use Rattle.interpolator_syntax.proofs.TokenLemmas.{scan_shorter}
 use Rattle.interpolator.proofs.TemplateLemmas.NodeNameLemmas.{any_kind, without_append, without_twice}
 use Rattle.interpolator.proofs.TemplateLemmas.ParseLemmas.{taken_is}
 
@@ -150,7 +150,7 @@ step_gives run p b x q (Some rest) = refl
 module _ (b : At) (t : TakenArgument) (read : taken_read (Ok t) ≡ argument_at b)
     (closes : option_map at t.rest ≡ strip close_brace (at t.end)) where
   abbrev taken : Argument
-  taken = named_argument t.name (asked_of t.asked)
+  taken = named_argument t.name (request_of t.asked)
 
   argument_gives : (argument_from b.place b).piece.kind ≡ (taken_step b t).piece.kind
   argument_gives = ap (λ s. s.piece.kind) (taken_is b t read closes)

@@ -9,17 +9,17 @@ use Rattle.interpolator_render.specs.declared.view.Spec.{Spec}
 use Rattle.interpolator_render.specs.declared.view.Trait.{Trait}
 use Rattle.interpolator_syntax.specs.At.{At}
 use Rattle.interpolator_syntax.specs.Faults.{Fault}
-use Rattle.interpolator_meaning.specs.Slots.{Slots}
-use Rattle.interpolator_meaning.specs.Meaning.Environments.{Environment, bind}
-use Rattle.interpolator_meaning.specs.Meaning.Meanings.{Meaning, means}
+use Rattle.interpolator_eval.specs.Slots.{Slots}
+use Rattle.interpolator_eval.specs.Meaning.Environments.{Environment, bind}
+use Rattle.interpolator_eval.specs.Meaning.Meanings.{Meaning, means}
 use Rattle.interpolator.specs.Template.NodeChecks.{fault_list, first_fault, own_fault, end_fault}
 use Rattle.interpolator.specs.Template.NodeChecks.{node_faults, branch_faults, forest_faults}
 use Rattle.interpolator.specs.Template.NodeChecks.{text_faults, IsOfText, NodeHas, BranchHas}
 use Rattle.interpolator.specs.Template.NodeChecks.{ForestHas, FirstFaulty}
 use Rattle.interpolator.specs.Template.NodeMeanings.{node_means, join_branch_means}
 use Rattle.interpolator.specs.Template.NodeMeanings.{item_branch_means, forest_means}
-use Rattle.interpolator.specs.Template.Nodes.{Node, node, Branch, no_branch, branch, Forest}
-use Rattle.interpolator.specs.Template.Nodes.{no_nodes, nodes_and, as_forest, nodes}
+use Rattle.interpolator_syntax.specs.Nodes.{Node, node, Branch, no_branch, branch, Forest}
+use Rattle.interpolator_syntax.specs.Nodes.{no_nodes, nodes_and, as_forest, nodes}
 use Rattle.interpolator.proofs.TemplateLemmas.NodeMeaningLemmas.{nodes_mean}
 use Rattle.interpolator.proofs.TemplateLemmas.FaultLemmas.{May, may_none, may_joined, may_plain}
 use Rattle.interpolator.proofs.TemplateLemmas.FaultLemmas.{may_held, in_one, one_in, none_in}

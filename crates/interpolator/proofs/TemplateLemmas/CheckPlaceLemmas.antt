@@ -16,13 +16,14 @@ use Rattle.interpolator_syntax.specs.Groups.{Group}
 use Rattle.interpolator_syntax.specs.Pieces.{argument_from, argument_or_broken, argument_step}
 use Rattle.interpolator_syntax.specs.SpecTexts.{Kind, of_value, of_list}
 use Rattle.interpolator_syntax.specs.Tokens.{Token, argument, first_token, past_token}
-use Rattle.interpolator_meaning.specs.Meaning.Meanings.{forbids_list, inside}
+use Rattle.interpolator_eval.specs.Meaning.Meanings.{forbids_list}
+use Rattle.interpolator_syntax.specs.Groups.{inside}
 use Rattle.interpolator.specs.Template.NodeChecks.{fault_list, first_fault, own_fault, node_faults}
 use Rattle.interpolator.specs.Template.NodeChecks.{branch_faults, text_faults, IsOfText}
-use Rattle.interpolator.specs.Template.Nodes.{valued, bare_of, group_branch, item_branch}
-use Rattle.interpolator.specs.Template.Nodes.{join_branch, piece_node, token_node, nodes}
-use Rattle.interpolator_meaning.proofs.MeaningLemmas.MeaningLemmas.{token_shorter, scan_shorter}
-use Rattle.interpolator.proofs.TemplateLemmas.NodeLemmas.{by_length, nodes_first, nodes_none}
+use Rattle.interpolator_syntax.specs.Nodes.{valued, bare_of, group_branch, item_branch}
+use Rattle.interpolator_syntax.specs.Nodes.{join_branch, piece_node, token_node, nodes}
+use Rattle.interpolator_syntax.proofs.TokenLemmas.{token_shorter, scan_shorter}
+use Rattle.interpolator_syntax.proofs.NodeLemmas.{by_length, nodes_first, nodes_none}
 use Rattle.interpolator.proofs.TemplateLemmas.WithinLemmas.{handed_on, scan_taken}
 use Rattle.interpolator_syntax.proofs.ArgumentFaultLemmas.{fault_of_argument}
 use Rattle.interpolator_syntax.proofs.CharacterLemmas.{size-chars}

@@ -12,15 +12,15 @@ use Rattle.interpolator_syntax.specs.Faults.{Fault}
 use Rattle.interpolator_syntax.specs.GroupGrammar.{IsGroup}
 use Rattle.interpolator_syntax.specs.Groups.{Group}
 use Rattle.interpolator_syntax.specs.ListGrammar.{group_there, IsList}
-use Rattle.interpolator_syntax.specs.Lists.{ListAsked}
+use Rattle.interpolator_syntax.specs.Lists.{ListRequest}
 use Rattle.interpolator_syntax.specs.Pieces.{Piece, argument_from, argument_or_broken}
 use Rattle.interpolator_syntax.specs.Pieces.{argument_step}
 use Rattle.interpolator_syntax.specs.SpecGrammar.{kind, parts, IsSpec}
-use Rattle.interpolator_syntax.specs.SpecTexts.{Kind, of_value, of_list, Asked}
+use Rattle.interpolator_syntax.specs.SpecTexts.{Kind, of_value, of_list, Request}
 use Rattle.interpolator_syntax.specs.Tokens.{Token, argument, first_token, past_token}
-use Rattle.interpolator_meaning.specs.Meaning.Meanings.{inside}
-use Rattle.interpolator.specs.Template.Nodes.{as_forest, group_branch, item_branch, join_branch}
-use Rattle.interpolator.specs.Template.Nodes.{piece_node, token_node, nodes}
+use Rattle.interpolator_syntax.specs.Groups.{inside}
+use Rattle.interpolator_syntax.specs.Nodes.{as_forest, group_branch, item_branch, join_branch}
+use Rattle.interpolator_syntax.specs.Nodes.{piece_node, token_node, nodes}
 use Rattle.interpolator.specs.Template.Splits.{node_place, node_end, Contiguous, GroupsInside}
 use Rattle.interpolator.specs.Template.Splits.{GroupInside}
 use Rattle.interpolator_syntax.proofs.GrammarArgumentLemmas.{argument_is}
@@ -29,9 +29,9 @@ use Rattle.interpolator_syntax.proofs.PieceLemmas.{strip_after}
 use Rattle.interpolator_syntax.proofs.ReaderLemmas.{argument_takes}
 use Rattle.interpolator_syntax.proofs.ScanLemmas.{hands_nothing}
 use Rattle.interpolator_syntax.proofs.SizeLemmas.{GroupIfIn, KindIn, argument_in}
-use Rattle.interpolator_meaning.proofs.MeaningLemmas.MeaningLemmas.{scan_shorter, token_shorter}
-use Rattle.interpolator.proofs.TemplateLemmas.NodeLemmas.{by_length, argument_kind, nodes_first}
-use Rattle.interpolator.proofs.TemplateLemmas.NodeLemmas.{nodes_none}
+use Rattle.interpolator_syntax.proofs.TokenLemmas.{scan_shorter, token_shorter}
+use Rattle.interpolator_syntax.proofs.NodeLemmas.{by_length, argument_kind, nodes_first}
+use Rattle.interpolator_syntax.proofs.NodeLemmas.{nodes_none}
 use Rattle.interpolator.proofs.TemplateLemmas.SplitLemmas.{texts}
 use Rattle.interpolator.proofs.TemplateLemmas.WithinLemmas.{handed_on, scan_taken}
 
@@ -60,7 +60,7 @@ group_before start a o q (inl h) =
     rw (h.1.3.0, h.1.3.1) (group_ends a h.1.0 h.1.1 h.1.2)
 group_before start a o q (inr h) = rw (h.1, h.2) (omega arith, tt)
 
-list_before : (start : ℕ) (a : At) (l : ListAsked) (q : At) → IsList start a l q
+list_before : (start : ℕ) (a : At) (l : ListRequest) (q : At) → IsList start a l q
     → KindBefore q.place (of_list l)
 list_before start a l q h =
     let item = h.3 in
@@ -75,19 +75,19 @@ kind_before start traits.Iter a k q h =
     rw (h.3.0, h.3.1) (list_before start a h.0 h.1 h.2)
 kind_before start slot a k q h = rw h.0 tt
 
-parts_before : (start : ℕ) (a : At) (x : Asked) (q : At) → (parts start).is a x q
+parts_before : (start : ℕ) (a : At) (x : Request) (q : At) → (parts start).is a x q
     → KindBefore q.place x.kind
 parts_before start a x q h =
     let shown = h.3.3.3.3.3.3.3 in
     let end = shown.3 in
     rw (end.3.0, end.3.1) (kind_before start shown.0.slot shown.1 end.0 end.1 end.2)
 
-spec_before : (start : ℕ) (a : At) (x : Asked) (q : At) → IsSpec start a x q
+spec_before : (start : ℕ) (a : At) (x : Request) (q : At) → IsSpec start a x q
     → KindBefore q.place x.kind
 spec_before start a x q (inl h) = rw h.1 tt
 spec_before start a x q (inr h) = parts_before start a x q h.1
 
-asks_before : (start : ℕ) (a : At) (x : Asked) (q : At) → Asks start a x q
+asks_before : (start : ℕ) (a : At) (x : Request) (q : At) → Asks start a x q
     → KindBefore q.place x.kind
 asks_before start a x q (inl h) = rw h.1 tt
 asks_before start a x q (inr h) = spec_before start h.0 x q h.2

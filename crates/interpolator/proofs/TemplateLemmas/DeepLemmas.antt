@@ -20,12 +20,12 @@ use Rattle.interpolator_syntax.specs.Tokens.{Token, first_token, past_token, arg
 use Rattle.interpolator_syntax.proofs.GrammarGroupLemmas.{sign_length}
 use Rattle.interpolator_syntax.proofs.GuardLemmas.{GroupAfter, KindAfter, argument_after}
 use Rattle.interpolator_syntax.proofs.LocalityLemmas.{Takes, takes_then}
-use Rattle.interpolator_meaning.specs.Meaning.Meanings.{inside}
+use Rattle.interpolator_syntax.specs.Groups.{inside}
 use Rattle.interpolator.specs.Template.NodeExtents.{node_depth, branch_depth, forest_depth}
-use Rattle.interpolator.specs.Template.Nodes.{as_forest, group_branch, item_branch, join_branch}
-use Rattle.interpolator.specs.Template.Nodes.{piece_node, token_node, nodes}
-use Rattle.interpolator_meaning.proofs.MeaningLemmas.MeaningLemmas.{token_shorter, scan_shorter}
-use Rattle.interpolator.proofs.TemplateLemmas.NodeLemmas.{by_length, nodes_first, nodes_none}
+use Rattle.interpolator_syntax.specs.Nodes.{as_forest, group_branch, item_branch, join_branch}
+use Rattle.interpolator_syntax.specs.Nodes.{piece_node, token_node, nodes}
+use Rattle.interpolator_syntax.proofs.TokenLemmas.{token_shorter, scan_shorter}
+use Rattle.interpolator_syntax.proofs.NodeLemmas.{by_length, nodes_first, nodes_none}
 use Rattle.interpolator.proofs.TemplateLemmas.WithinLemmas.{handed_on, scan_taken}
 
 -- ---- what closes a group

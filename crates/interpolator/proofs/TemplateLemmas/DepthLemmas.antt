@@ -1,11 +1,7 @@
--- How deep pieces are: stored ones, one at a time, and those of a text, which are no deeper than it
--- has characters.
-use Rattle.std.proofs.Common.{◌≡◌, ◌∙◌, refl, sym, ap, arith, ℕ, ◌+◌, ◌<◌, ◌≤◌}
-use Rattle.std.proofs.Common.{nat_cmp, List, length, drop, get_or, Option, Some, None, subst}
-use Rattle.std.proofs.lemmas.List.{drop_more, drop_all}
-use Rattle.std.proofs.lemmas.List.Recursion.{max_bounds}
-use Rattle.std.proofs.Math.Nat.{max-zero, max-le}
-use Rattle.std.specs.Ordering.{ord_max}
+-- How deep the pieces of a text are: no deeper than it has characters.
+use Rattle.std.proofs.Common.{◌≡◌, refl, arith, ℕ, ◌<◌, ◌≤◌}
+use Rattle.std.proofs.Common.{length, Option, Some, None}
+use Rattle.std.proofs.Math.Nat.{max-le}
 use Rattle.std.specs.Prelude.{max}
 use Rattle.interpolator_syntax.specs.At.{At}
 use Rattle.interpolator_syntax.specs.Groups.{Group}
@@ -13,78 +9,13 @@ use Rattle.interpolator_syntax.specs.Pieces.{argument_from}
 use Rattle.interpolator_syntax.specs.SpecTexts.{Kind, of_value, of_list}
 use Rattle.interpolator_syntax.specs.Tokens.{Token, first_token, past_token, argument}
 use Rattle.interpolator_syntax.proofs.SizeLemmas.{GroupIfIn, KindIn}
-use Rattle.interpolator_meaning.specs.Meaning.Meanings.{inside}
+use Rattle.interpolator_syntax.specs.Groups.{inside}
 use Rattle.interpolator.specs.Template.NodeExtents.{node_depth, branch_depth, forest_depth}
-use Rattle.interpolator.specs.Template.Nodes.{as_forest, group_branch, item_branch, join_branch}
-use Rattle.interpolator.specs.Template.Nodes.{piece_node, token_node, nodes}
-use Rattle.interpolator.specs.Template.Stored.{node_of, nodes_of, branch_of}
-use Rattle.interpolator.specs.declared.template.piece.Piece.{Piece}
-use Rattle.interpolator.specs.declared.template.piece.Piece.TheViews.{out-Piece}
-use Rattle.interpolator_meaning.proofs.MeaningLemmas.MeaningLemmas.{token_shorter, scan_shorter}
-use Rattle.interpolator.proofs.TemplateLemmas.ExtentLemmas.{greater}
-use Rattle.interpolator.proofs.TemplateLemmas.NodeLemmas.{by_length, argument_kind, nodes_first}
-use Rattle.interpolator.proofs.TemplateLemmas.NodeLemmas.{nodes_none}
-use Rattle.interpolator.proofs.TemplateLemmas.StoredLemmas.{node_of_out}
-
--- ---- stored pieces
-
--- the depth of a stored piece, by its groups
-piece_depth : (bs : List ℕ) (x : Piece) → node_depth (node_of bs x)
-    ≡ max (branch_depth (branch_of bs (out-Piece x).item))
-    (branch_depth (branch_of bs (out-Piece x).join))
-piece_depth bs x = ap node_depth (node_of_out bs x)
-
-module _ (bs : List ℕ) (xs : List Piece) (i : ℕ) (x : Piece) where
-  -- no piece is deeper than all of them
-  piece_fits : i < length xs → x ≡ get_or xs i x
-      → node_depth (node_of bs x) ≤ forest_depth (as_forest (nodes_of bs xs))
-  piece_fits l is =
-      subst (λ y. node_depth (node_of bs y) ≤ forest_depth (as_forest (nodes_of bs xs))) (sym is)
-      (max_bounds (λ ys. forest_depth (as_forest (nodes_of bs ys))) (λ y. node_depth (node_of bs y))
-      refl (λ y ys. refl) xs i x l)
-
-  -- nor is a group
-  pub item_fits : (most : ℕ) → i < length xs → x ≡ get_or xs i x
-      → forest_depth (as_forest (nodes_of bs xs)) < most
-      → branch_depth (branch_of bs (out-Piece x).item) < most
-  item_fits most l is h = omega (arith, piece_fits l is, piece_depth bs x, h)
-
-  pub join_fits : (most : ℕ) → i < length xs → x ≡ get_or xs i x
-      → forest_depth (as_forest (nodes_of bs xs)) < most
-      → branch_depth (branch_of bs (out-Piece x).join) < most
-  join_fits most l is h = omega (arith, piece_fits l is, piece_depth bs x, h)
-
-module _ (bs : List ℕ) (xs : List Piece) (i : ℕ) where
-  abbrev left : ℕ → ℕ
-  left n = forest_depth (as_forest (nodes_of bs (drop n xs)))
-
-  -- the first of the pieces that are left, and those after it
-  depth_next : (x : Piece) → i < length xs → x ≡ get_or xs i x
-      → left i ≡ max (node_depth (node_of bs x)) (left (i + 1))
-  depth_next x l is =
-      ap (λ ys. forest_depth (as_forest (nodes_of bs ys))) (drop_more xs i x l)
-      ∙ ap (λ y. max (node_depth (node_of bs y)) (left (i + 1))) (sym is)
-
-  -- after a piece
-  pub depth_goes_on : (x : Piece) (old item join most new whole : ℕ) → i < length xs
-      → x ≡ get_or xs i x → item ≡ branch_depth (branch_of bs (out-Piece x).item)
-      → join ≡ branch_depth (branch_of bs (out-Piece x).join)
-      → most ≡ ord_max nat_cmp old item → new ≡ max most join
-      → max old (left i) ≡ whole → max new (left (i + 1)) ≡ whole
-  depth_goes_on x old item join most new whole l is a b m n h =
-      let told : most ≡ max old item = m ∙ greater old item in
-      let next : left i ≡ max (max item join) (left (i + 1)) =
-      depth_next x l is ∙ ap (λ k. max k (left (i + 1))) (piece_depth bs x ∙ rw (a, b) refl) in
-      omega (arith, told, n, next, h)
-
-  -- after the last piece
-  pub depth_over : (most whole : ℕ) → length xs ≤ i → max most (left i) ≡ whole → most ≡ whole
-  depth_over most whole l h =
-      sym (max-zero most)
-      ∙ ap (λ ys. max most (forest_depth (as_forest (nodes_of bs ys)))) (sym (drop_all i xs l))
-      ∙ h
-
--- ---- the pieces of a text
+use Rattle.interpolator_syntax.specs.Nodes.{as_forest, group_branch, item_branch, join_branch}
+use Rattle.interpolator_syntax.specs.Nodes.{piece_node, token_node, nodes}
+use Rattle.interpolator_syntax.proofs.TokenLemmas.{token_shorter, scan_shorter}
+use Rattle.interpolator_syntax.proofs.NodeLemmas.{by_length, argument_kind, nodes_first}
+use Rattle.interpolator_syntax.proofs.NodeLemmas.{nodes_none}
 
 -- they are no deeper than it has characters
 abbrev Shallow : At → Type 0

@@ -14,19 +14,19 @@ use Rattle.interpolator_syntax.specs.Faults.{missing_value}
 use Rattle.interpolator_syntax.specs.SpecTexts.{plain_spec}
 use Rattle.interpolator_syntax.specs.declared.range.Range.{Range}
 use Rattle.interpolator_syntax.proofs.CaseLemmas.{in_both}
-use Rattle.interpolator_meaning.specs.Slots.{Slots, values_of, items, slot_at}
-use Rattle.interpolator_meaning.specs.Meaning.Choices.{chosen_items}
-use Rattle.interpolator_meaning.specs.Meaning.Environments.{Environment, given}
-use Rattle.interpolator_meaning.specs.Meaning.Meanings.{Meaning, fault_alone, or_fault, joined, view_means}
-use Rattle.interpolator_meaning.specs.Meaning.Meanings.{value_means, forbids_list, made_whole, padded_list}
-use Rattle.interpolator_meaning.specs.Meaning.Meanings.{items_after, items_mean, under_name, listed_means}
+use Rattle.interpolator_eval.specs.Slots.{Slots, values_of, items, slot_at}
+use Rattle.interpolator_eval.specs.Meaning.Choices.{chosen_items}
+use Rattle.interpolator_eval.specs.Meaning.Environments.{Environment, given}
+use Rattle.interpolator_eval.specs.Meaning.Meanings.{Meaning, fault_alone, or_fault, joined, view_means}
+use Rattle.interpolator_eval.specs.Meaning.Meanings.{value_means, forbids_list, made_whole, padded_list}
+use Rattle.interpolator_eval.specs.Meaning.Meanings.{items_after, items_mean, under_name, listed_means}
 use Rattle.interpolator.specs.Template.NodeChecks.{fault_list, first_fault, own_fault, end_fault}
 use Rattle.interpolator.specs.Template.NodeMeanings.{and_closed, bare_means, held_means}
 use Rattle.interpolator.specs.Template.NodeMeanings.{plain_item_means}
-use Rattle.interpolator.specs.Template.Nodes.{Held, written, valued, refused, Bare, bare_value}
-use Rattle.interpolator.specs.Template.Nodes.{bare_list}
-use Rattle.interpolator.specs.declared.template.piece.PieceKind.{PieceKind}
-use Rattle.interpolator.specs.declared.template.piece.PieceKind.TheVariants as kinds
+use Rattle.interpolator_syntax.specs.Nodes.{Held, written, valued, refused, Bare, bare_value}
+use Rattle.interpolator_syntax.specs.Nodes.{bare_list}
+use Rattle.interpolator_syntax.specs.declared.piece_kind.PieceKind.{PieceKind}
+use Rattle.interpolator_syntax.specs.declared.piece_kind.PieceKind.TheVariants as kinds
 
 -- ---- meanings whose fault, if they have one, is of some kind
 

@@ -8,20 +8,20 @@ use Rattle.interpolator_render.specs.declared.view.Spec.{Spec}
 use Rattle.interpolator_render.specs.declared.view.Trait.{Trait}
 use Rattle.interpolator_syntax.specs.At.{At}
 use Rattle.interpolator_syntax.specs.Faults.{Fault, missing_trait_impl, fmt, missing_value}
-use Rattle.interpolator_meaning.specs.Slots.{Slots}
-use Rattle.interpolator_meaning.specs.Meaning.AskedNames.{asked_names}
-use Rattle.interpolator_meaning.specs.Meaning.Environments.{Environment, given, bind, environment}
-use Rattle.interpolator_meaning.specs.Meaning.Meanings.{Meaning, means}
+use Rattle.interpolator_eval.specs.Slots.{Slots}
+use Rattle.interpolator_eval.specs.Meaning.AskedNames.{asked_names}
+use Rattle.interpolator_eval.specs.Meaning.Environments.{Environment, given, bind, environment}
+use Rattle.interpolator_eval.specs.Meaning.Meanings.{Meaning, means}
 use Rattle.interpolator.specs.Template.NodeChecks.{fault_list, own_fault, end_fault, node_faults}
 use Rattle.interpolator.specs.Template.NodeChecks.{branch_faults, forest_faults, IsOfText}
 use Rattle.interpolator.specs.Template.NodeLacks.{first_lacking}
 use Rattle.interpolator.specs.Template.NodeMeanings.{node_means, join_branch_means}
 use Rattle.interpolator.specs.Template.NodeMeanings.{item_branch_means, forest_means}
-use Rattle.interpolator.specs.Template.NodeNames.{counted, held_asks, node_asks, branch_asks}
+use Rattle.interpolator.specs.Template.NodeNames.{context_names, held_asks, node_asks, branch_asks}
 use Rattle.interpolator.specs.Template.NodeNames.{forest_asks}
-use Rattle.interpolator.specs.Template.Nodes.{Node, node, Branch, no_branch, branch, Forest}
-use Rattle.interpolator.specs.Template.Nodes.{no_nodes, nodes_and, as_forest, nodes}
-use Rattle.interpolator_meaning.proofs.MeaningLemmas.RelatedLemmas.{bound_same}
+use Rattle.interpolator_syntax.specs.Nodes.{Node, node, Branch, no_branch, branch, Forest}
+use Rattle.interpolator_syntax.specs.Nodes.{no_nodes, nodes_and, as_forest, nodes}
+use Rattle.interpolator_eval.proofs.MeaningLemmas.RelatedLemmas.{bound_same}
 use Rattle.interpolator.proofs.TemplateLemmas.CheckPlaceLemmas.{faults_of_text}
 use Rattle.interpolator.proofs.TemplateLemmas.NodeMeaningLemmas.{nodes_mean}
 use Rattle.interpolator.proofs.TemplateLemmas.NodeNameLemmas.{nodes_ask}
@@ -66,7 +66,7 @@ module _ {X : Type 0} where
 
   -- an argument's own name
   own_missed : (in_item : Bool) (e : Environment X) (name : List ℕ) → Bound in_item e
-      → given e name ≡ None → Contains (counted in_item name) name
+      → given e name ≡ None → Contains (context_names in_item name) name
   own_missed true e [] b h = absurd (empty_given e b.0 b.1 h)
   own_missed true e (c ∷ cs) b h = one_name (c ∷ cs)
   own_missed false e name b h = one_name name

@@ -1,20 +1,17 @@
--- The first name that an environment lacks, from those of parts of some names.
-use Rattle.std.proofs.Common.{◌≡◌, ◌∙◌, refl, sym, ap, ℕ, ◌+◌, ◌<◌, ◌≤◌, Bool, true, false, List}
-use Rattle.std.proofs.Common.{[], ◌∷◌, ◌++◌, length, drop, get_or, Option, Some, None, is_some}
-use Rattle.std.proofs.Common.{option_map}
-use Rattle.std.proofs.lemmas.List.{drop_more, drop_all}
-use Rattle.std.specs.Prelude.{if◌then◌else◌, ◌==◌}
-use Rattle.std.specs.Str.{chars, IsUtf8}
-use Rattle.interpolator_syntax.proofs.FirstByteLemmas.{ends_told}
-use Rattle.interpolator_meaning.specs.Meaning.Environments.{Environment, given}
-use Rattle.interpolator.specs.Template.NodeLacks.{first_lacking}
-use Rattle.interpolator.specs.Template.NodeNames.{counted, held_asks, node_asks, branch_asks}
-use Rattle.interpolator.specs.Template.NodeNames.{forest_asks}
-use Rattle.interpolator.specs.Template.Nodes.{as_forest}
-use Rattle.interpolator.specs.Template.Stored.{held_of, node_of, nodes_of, branch_of}
-use Rattle.interpolator.specs.declared.template.piece.Piece.{Piece}
-use Rattle.interpolator.specs.declared.template.piece.Piece.TheViews.{out-Piece}
-use Rattle.interpolator.proofs.TemplateLemmas.StoredLemmas.{node_of_out}
+-- The first name that an environment lacks, of names and others after them, and of a text.
+use Rattle.std.proofs.Common.{◌≡◌, ◌∙◌, refl, ap, ℕ, Bool, true, false, List}
+use Rattle.std.proofs.Common.{[], ◌∷◌, ◌++◌, Option, Some, None, is_some}
+use Rattle.std.proofs.Common.{option_map, IsSome, IsErr, Result, Err}
+use Rattle.std.specs.Prelude.{if◌then◌else◌}
+use Rattle.interpolator_eval.specs.Meaning.Environments.{Environment, environment, given}
+use Rattle.interpolator_eval.specs.Slots.{Slots}
+use Rattle.interpolator_syntax.specs.At.{At}
+use Rattle.interpolator_eval.specs.Meaning.AskedNames.{asked_names}
+use Rattle.interpolator.specs.Template.NodeLacks.{first_lacking, stop_name}
+use Rattle.interpolator.specs.Template.NodeNames.{visit_asks}
+use Rattle.interpolator.specs.Template.Visits.{Visit, Walks, text_visits}
+use Rattle.interpolator.specs.Template.NodeNames.{name_list}
+use Rattle.interpolator.proofs.TemplateLemmas.VisitLemmas.{tells_first, text_asks}
 
 module _ {X : Type 0} (e : Environment X) where
   -- ---- of names and others after them
@@ -33,119 +30,65 @@ module _ {X : Type 0} (e : Environment X) where
       known_first (is_some (given e x)) n x (first_lacking e xs) (first_lacking e (xs ++ ys))
       (lacks_first xs ys n) h
 
+  pub found_first : (o : Option (List ℕ)) (xs ys : List (List ℕ)) → IsSome o
+      → o ≡ first_lacking e xs → o ≡ first_lacking e (xs ++ ys)
+  found_first None xs ys some h = absurd (cc)
+  found_first (Some n) xs ys some h = lacks_first xs ys n h
+
   known_after : (b : Bool) (x : List ℕ) (o k l : Option (List ℕ)) → (None ≡ o → l ≡ k)
       → None ≡ (if b then o else Some x) → l ≡ (if b then k else Some x)
   known_after true x o k l f h = f h
   known_after false x o k l f h = absurd (cc)
 
-  lacks_after : (xs ys : List (List ℕ)) → None ≡ first_lacking e xs
+  pub lacks_after : (xs ys : List (List ℕ)) → None ≡ first_lacking e xs
       → first_lacking e ys ≡ first_lacking e (xs ++ ys)
   lacks_after [] ys h = refl
   lacks_after (x ∷ xs) ys h =
       known_after (is_some (given e x)) x (first_lacking e xs) (first_lacking e (xs ++ ys))
       (first_lacking e ys) (lacks_after xs ys) h
 
-  -- ---- what a call answered
-
-  module _ {B : Type 0} (name : B → List ℕ) where
-    abbrev told : Option B → Option (List ℕ)
-    told r = option_map name r
-
-    -- a name of the first
-    answered_first : (r : Option B) (xs ys : List (List ℕ)) → is_some r ≡ true
-        → told r ≡ first_lacking e xs → told r ≡ first_lacking e (xs ++ ys)
-    answered_first None xs ys s h = absurd (cc)
-    answered_first (Some x) xs ys s h = lacks_first xs ys (name x) h
-
-    -- none of them
-    answered_after : (r : Option B) (xs ys : List (List ℕ)) → is_some r ≡ false
-        → told r ≡ first_lacking e xs → first_lacking e ys ≡ first_lacking e (xs ++ ys)
-    answered_after None xs ys s h = lacks_after xs ys h
-    answered_after (Some x) xs ys s h = absurd (cc)
-
-    -- ---- one piece
-
-    module _ (in_item : Bool) (bs : List ℕ) (x : Piece) where
-      abbrev own_asks : List (List ℕ)
-      own_asks = held_asks in_item (held_of bs x)
-
-      abbrev item_asks : List (List ℕ)
-      item_asks = branch_asks true (branch_of bs (out-Piece x).item)
-
-      abbrev join_asks : List (List ℕ)
-      join_asks = branch_asks in_item (branch_of bs (out-Piece x).join)
-
-      all_asks : first_lacking e (own_asks ++ (item_asks ++ join_asks))
-          ≡ first_lacking e (node_asks in_item (node_of bs x))
-      all_asks = ap (λ n. first_lacking e (node_asks in_item n)) (sym (node_of_out bs x))
-
-      -- its own name
-      pub lacks_own : (r : Option B) → is_some r ≡ true → told r ≡ first_lacking e own_asks
-          → told r ≡ first_lacking e (node_asks in_item (node_of bs x))
-      lacks_own r s h = answered_first r own_asks (item_asks ++ join_asks) s h ∙ all_asks
-
-      module _ (own : Option B) (no_own : is_some own ≡ false)
-          (own_is : told own ≡ first_lacking e own_asks) where
-        -- one of its item format
-        pub lacks_item : (r : Option B) → is_some r ≡ true → told r ≡ first_lacking e item_asks
-            → told r ≡ first_lacking e (node_asks in_item (node_of bs x))
-        lacks_item r s h =
-            answered_first r item_asks join_asks s h
-            ∙ answered_after own own_asks (item_asks ++ join_asks) no_own own_is ∙ all_asks
-
-        -- one of its join, or none
-        pub lacks_join : (item r : Option B) → is_some item ≡ false
-            → told item ≡ first_lacking e item_asks → told r ≡ first_lacking e join_asks
-            → told r ≡ first_lacking e (node_asks in_item (node_of bs x))
-        lacks_join item r s i h =
-            h ∙ answered_after item item_asks join_asks s i
-            ∙ answered_after own own_asks (item_asks ++ join_asks) no_own own_is ∙ all_asks
-
-    -- ---- pieces in order
-
-    module _ (in_item : Bool) (bs : List ℕ) (xs : List Piece) (i : ℕ)
-        (whole : Option (List ℕ)) where
-      abbrev left : ℕ → List (List ℕ)
-      left n = forest_asks in_item (as_forest (nodes_of bs (drop n xs)))
-
-      -- the first of the pieces that are left, and those after it
-      left_next : (x : Piece) → i < length xs → x ≡ get_or xs i x
-          → left i ≡ node_asks in_item (node_of bs x) ++ left (i + 1)
-      left_next x l is =
-          ap (λ ys. forest_asks in_item (as_forest (nodes_of bs ys))) (drop_more xs i x l)
-          ∙ ap (λ y. node_asks in_item (node_of bs y) ++ left (i + 1)) (sym is)
-
-      module _ (x : Piece) (r : Option B) (l : i < length xs) (is : x ≡ get_or xs i x)
-          (h : told r ≡ first_lacking e (node_asks in_item (node_of bs x)))
-          (all : first_lacking e (left i) ≡ whole) where
-        -- a piece asks one
-        pub pieces_lack : is_some r ≡ true → told r ≡ whole
-        pieces_lack s =
-            answered_first r (node_asks in_item (node_of bs x)) (left (i + 1)) s h
-            ∙ ap (first_lacking e) (sym (left_next x l is)) ∙ all
-
-        -- a piece asks none
-        pub lacks_goes_on : is_some r ≡ false → first_lacking e (left (i + 1)) ≡ whole
-        lacks_goes_on s =
-            answered_after r (node_asks in_item (node_of bs x)) (left (i + 1)) s h
-            ∙ ap (first_lacking e) (sym (left_next x l is)) ∙ all
-
-      -- after the last piece
-      pub lacks_over : length xs ≤ i → first_lacking e (left i) ≡ whole → None ≡ whole
-      lacks_over l all =
-          ap (λ ys. first_lacking e (forest_asks in_item (as_forest (nodes_of bs ys))))
-          (sym (drop_all i xs l))
-          ∙ all
-
   -- ---- one name
-
-  -- the empty name in an item format is not looked up
-  pub lacks_item_name : (in_item : Bool) (bs : List ℕ) (r : Bool) → IsUtf8 bs → in_item ≡ true
-      → r ≡ (length bs == 0) → r ≡ true → None ≡ first_lacking e (counted in_item (chars bs))
-  lacks_item_name in_item bs r u t told h =
-      let no_text : chars bs ≡ [] = ends_told bs true u (sym h ∙ told) in
-      rw (t, no_text) refl
 
   -- nothing is given under a name
   pub lacks_one : (name : List ℕ) → None ≡ given e name → Some name ≡ first_lacking e (name ∷ [])
   lacks_one name h = rw (← h) refl
+
+  -- no name is asked
+  pub lacks_none : {B : Type 0} (o : Option B) (text : B → List ℕ) (asks : List (List ℕ))
+      → o ≡ None → name_list (option_map text o) ≡ asks → None ≡ first_lacking e asks
+  lacks_none o text asks is h = rw (← h, is) refl
+
+  -- one is asked, by whether something is given under it
+  module _ {B : Type 0} (o : Option B) (text : B → List ℕ) (asks : List (List ℕ)) (x : B)
+      (is : o ≡ Some x) (h : name_list (option_map text o) ≡ asks) where
+    pub given_name : (s : Slots X) → Some s ≡ given e (text x) → None ≡ first_lacking e asks
+    given_name s some = rw (← h, is, ← some) refl
+
+    pub lacking_name : (part : Option (List ℕ)) → Some (text x) ≡ part → None ≡ given e (text x)
+        → (part ≡ first_lacking e asks) × IsSome part
+    lacking_name part at none = rw (← h, is, ← at) (lacks_one (text x) none, refl)
+
+-- ---- the names of a text
+
+-- a search that stops at the first name that is lacking tells the first that the text asks
+pub text_lacks : {X V Y : Type 0} (finds : Y → List ℕ → Option (Slots X)) (context : V → Y)
+    (text : List ℕ) (step : V → Visit → V → Result (Unit {0}) (ℕ × ℕ) → Type 0)
+    → ((old new : V) (x : Visit) (answer : Result (Unit {0}) (ℕ × ℕ)) → step old x new answer
+    → (new ≡ old)
+    × (stop_name text answer ≡ first_lacking (environment (finds (context old))) (visit_asks x))
+    × (IsErr answer → IsSome (stop_name text answer)))
+    → (a : At) (old new : V) (answer : Result (Unit {0}) (ℕ × ℕ))
+    → Walks step old (text_visits a) new answer
+    → (stop_name text answer ≡ first_lacking (environment (finds (context old))) (asked_names a))
+    × (IsErr answer → IsSome (stop_name text answer))
+text_lacks {V = V} finds context text step tells a old new answer h =
+    let e = environment (finds (context old)) in
+    let keeps : V → Type 0 = λ v. v ≡ old in
+    let all = tells_first step visit_asks (first_lacking e) (stop_name text) keeps refl
+    (λ name xs ys some k. found_first e (stop_name text (Err name)) xs ys some k) (lacks_after e)
+    (λ before after x answer k s. let told = tells before after x answer s in (
+      told.0 ∙ k,
+      told.1 ∙ ap (λ v. first_lacking (environment (finds (context v))) (visit_asks x)) k,
+      told.2,
+    )) old new (text_visits a) answer refl h in
+    (all.0 ∙ ap (first_lacking e) (text_asks a), all.1)

@@ -12,21 +12,22 @@ use Rattle.interpolator_syntax.specs.Groups.{Group}
 use Rattle.interpolator_syntax.specs.Pieces.{argument_from}
 use Rattle.interpolator_syntax.specs.SpecTexts.{Kind, of_value, of_list}
 use Rattle.interpolator_syntax.specs.Tokens.{Token, first_token, past_token, argument}
-use Rattle.interpolator_meaning.specs.Slots.{Slots, items}
-use Rattle.interpolator_meaning.specs.Meaning.Environments.{Environment, given, bind}
-use Rattle.interpolator_meaning.specs.Meaning.Meanings.{joined, fault_alone, inside, under_name}
-use Rattle.interpolator_meaning.specs.Meaning.Meanings.{listed_means, item_means, join_means, kind_means}
-use Rattle.interpolator_meaning.specs.Meaning.Meanings.{piece_means, token_means, means}
-use Rattle.interpolator.specs.Template.Nodes.{Node, as_forest, group_branch, item_branch}
-use Rattle.interpolator.specs.Template.Nodes.{join_branch}
-use Rattle.interpolator.specs.Template.Nodes.{bare_of, piece_node, token_node, nodes}
+use Rattle.interpolator_eval.specs.Slots.{Slots, items}
+use Rattle.interpolator_eval.specs.Meaning.Environments.{Environment, given, bind}
+use Rattle.interpolator_eval.specs.Meaning.Meanings.{joined, fault_alone, under_name}
+use Rattle.interpolator_syntax.specs.Groups.{inside}
+use Rattle.interpolator_eval.specs.Meaning.Meanings.{listed_means, item_means, join_means, kind_means}
+use Rattle.interpolator_eval.specs.Meaning.Meanings.{piece_means, token_means, means}
+use Rattle.interpolator_syntax.specs.Nodes.{Node, as_forest, group_branch, item_branch}
+use Rattle.interpolator_syntax.specs.Nodes.{join_branch}
+use Rattle.interpolator_syntax.specs.Nodes.{bare_of, piece_node, token_node, nodes}
 use Rattle.interpolator.specs.Template.NodeMeanings.{bare_means, node_means, join_branch_means}
 use Rattle.interpolator.specs.Template.NodeMeanings.{item_branch_means, forest_means}
-use Rattle.interpolator_meaning.proofs.MeaningLemmas.MeaningLemmas.{token_shorter, scan_shorter}
-use Rattle.interpolator_meaning.proofs.MeaningLemmas.MeaningLemmas.{means_first, means_end, joined_none}
-use Rattle.interpolator_meaning.proofs.MeaningLemmas.MeaningLemmas.{joined_assoc}
-use Rattle.interpolator.proofs.TemplateLemmas.NodeLemmas.{by_length, argument_kind, nodes_first}
-use Rattle.interpolator.proofs.TemplateLemmas.NodeLemmas.{nodes_none}
+use Rattle.interpolator_syntax.proofs.TokenLemmas.{token_shorter, scan_shorter}
+use Rattle.interpolator_eval.proofs.MeaningLemmas.MeaningLemmas.{means_first, means_end, joined_none}
+use Rattle.interpolator_eval.proofs.MeaningLemmas.MeaningLemmas.{joined_assoc}
+use Rattle.interpolator_syntax.proofs.NodeLemmas.{by_length, argument_kind, nodes_first}
+use Rattle.interpolator_syntax.proofs.NodeLemmas.{nodes_none}
 use Rattle.interpolator_syntax.proofs.SizeLemmas.{GroupIfIn, KindIn}
 
 module _ {X : Type 0} (shows : X → Trait → Spec → Shown) where

@@ -10,20 +10,20 @@ use Rattle.interpolator_syntax.specs.SpecTexts.{Kind, of_value, of_list}
 use Rattle.interpolator_syntax.specs.Tokens.{Token, first_token, past_token, literals, argument}
 use Rattle.interpolator_syntax.proofs.ScanLemmas.{hands_on, hands_nothing}
 use Rattle.interpolator_syntax.proofs.SizeLemmas.{GroupIfIn, KindIn}
-use Rattle.interpolator_meaning.specs.Meaning.AskedNames.{without_empty, group_asks, kind_asks, piece_asks}
-use Rattle.interpolator_meaning.specs.Meaning.AskedNames.{pieces_ask, asked_names}
-use Rattle.interpolator_meaning.specs.Meaning.Meanings.{inside}
-use Rattle.interpolator.specs.Template.NodeNames.{counted, held_asks, node_asks, branch_asks}
+use Rattle.interpolator_eval.specs.Meaning.AskedNames.{without_empty, group_asks, kind_asks, piece_asks}
+use Rattle.interpolator_eval.specs.Meaning.AskedNames.{pieces_ask, asked_names}
+use Rattle.interpolator_syntax.specs.Groups.{inside}
+use Rattle.interpolator.specs.Template.NodeNames.{context_names, held_asks, node_asks, branch_asks}
 use Rattle.interpolator.specs.Template.NodeNames.{forest_asks}
-use Rattle.interpolator.specs.Template.Nodes.{Held, written, valued, refused}
-use Rattle.interpolator.specs.Template.Nodes.{Node, node, Branch, no_branch, branch}
-use Rattle.interpolator.specs.Template.Nodes.{Forest, no_nodes, nodes_and, as_forest, nodes}
-use Rattle.interpolator.specs.Template.Nodes.{group_branch, item_branch, join_branch}
-use Rattle.interpolator.specs.Template.Nodes.{piece_node, token_node}
-use Rattle.interpolator_meaning.proofs.MeaningLemmas.DepthLemmas.{asked_pieces}
-use Rattle.interpolator_meaning.proofs.MeaningLemmas.MeaningLemmas.{token_shorter, scan_shorter}
-use Rattle.interpolator.proofs.TemplateLemmas.NodeLemmas.{by_length, argument_kind, nodes_first}
-use Rattle.interpolator.proofs.TemplateLemmas.NodeLemmas.{nodes_none}
+use Rattle.interpolator_syntax.specs.Nodes.{Held, written, valued, refused}
+use Rattle.interpolator_syntax.specs.Nodes.{Node, node, Branch, no_branch, branch}
+use Rattle.interpolator_syntax.specs.Nodes.{Forest, no_nodes, nodes_and, as_forest, nodes}
+use Rattle.interpolator_syntax.specs.Nodes.{group_branch, item_branch, join_branch}
+use Rattle.interpolator_syntax.specs.Nodes.{piece_node, token_node}
+use Rattle.interpolator_eval.proofs.MeaningLemmas.DepthLemmas.{asked_pieces}
+use Rattle.interpolator_syntax.proofs.TokenLemmas.{token_shorter, scan_shorter}
+use Rattle.interpolator_syntax.proofs.NodeLemmas.{by_length, argument_kind, nodes_first}
+use Rattle.interpolator_syntax.proofs.NodeLemmas.{nodes_none}
 
 -- ---- the names of a text, by what the scan hands on
 
@@ -74,7 +74,7 @@ without_twice [] = refl
 without_twice ([] ∷ xs) = without_twice xs
 without_twice ((c ∷ cs) ∷ xs) = ap (λ zs. (c ∷ cs) ∷ zs) (without_twice xs)
 
-counted_in_item : (name : List ℕ) → counted true name ≡ without_empty (counted false name)
+counted_in_item : (name : List ℕ) → context_names true name ≡ without_empty (context_names false name)
 counted_in_item [] = refl
 counted_in_item (c ∷ cs) = refl
 

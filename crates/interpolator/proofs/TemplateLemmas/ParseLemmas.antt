@@ -9,19 +9,19 @@ use Rattle.interpolator_render.specs.declared.view.Trait.{Trait}
 use Rattle.interpolator_render.specs.declared.view.Trait.TheVariants as traits
 use Rattle.interpolator_syntax.specs.At.{At, at, size, strip, after, all_after, outermost}
 use Rattle.interpolator_syntax.specs.Arguments.{Argument, argument, argument_at, asked_at}
-use Rattle.interpolator_syntax.specs.Arguments.{named_argument, asked_of, kind_of_asked, taken_read}
+use Rattle.interpolator_syntax.specs.Arguments.{named_argument, request_of, kind_of_request, taken_read}
 use Rattle.interpolator_syntax.specs.Arguments.{argument_after, plain_argument, list_of}
 use Rattle.interpolator_syntax.specs.Classes.{close_brace, in_class, front_of}
 use Rattle.interpolator_syntax.specs.Faults.{Fault}
 use Rattle.interpolator_syntax.specs.Groups.{Group, group_of}
 use Rattle.interpolator_syntax.specs.Pieces.{argument_from, argument_step, takes_all, broken}
 use Rattle.interpolator_syntax.specs.Readers.{on, give}
-use Rattle.interpolator_syntax.specs.SpecTexts.{Asked, of_value, of_list, plain_spec}
+use Rattle.interpolator_syntax.specs.SpecTexts.{Request, of_value, of_list, plain_spec}
 use Rattle.interpolator_syntax.specs.Tokens.{Token, literals, doubled, lone_close}
 use Rattle.interpolator_syntax.specs.Tokens.{argument as argument_token}
 use Rattle.interpolator_syntax.specs.Tokens.{first_token, past_token}
 use Rattle.interpolator_syntax.specs.declared.argument.ArgumentName.{ArgumentName}
-use Rattle.interpolator_syntax.specs.declared.argument.Asked as code_asked
+use Rattle.interpolator_syntax.specs.declared.argument.Request as code_request
 use Rattle.interpolator_syntax.specs.declared.argument.TakenArgument.{TakenArgument}
 use Rattle.interpolator_syntax.specs.declared.class.Class.TheVariants.{WhiteSpace, Name}
 use Rattle.interpolator_syntax.specs.declared.cursor.Cursor.{Cursor}
@@ -34,21 +34,21 @@ use Rattle.interpolator_syntax.proofs.LongestLemmas.{at_same}
 use Rattle.interpolator_syntax.proofs.PieceLemmas.{read_alone}
 use Rattle.interpolator_syntax.proofs.ReaderLemmas.{argument_takes}
 use Rattle.interpolator_syntax.proofs.SizeLemmas.{GroupIfIn, KindIn, ListIn, argument_in}
-use Rattle.interpolator_meaning.specs.Meaning.Meanings.{inside}
-use Rattle.interpolator.specs.Template.Nodes.{Node, node, Branch, no_branch, Held, written, valued}
-use Rattle.interpolator.specs.Template.Nodes.{bare_of, nodes, piece_node}
-use Rattle.interpolator.specs.Template.Nodes.{token_node, group_branch, item_branch, join_branch}
+use Rattle.interpolator_syntax.specs.Groups.{inside}
+use Rattle.interpolator_syntax.specs.Nodes.{Node, node, Branch, no_branch, Held, written, valued}
+use Rattle.interpolator_syntax.specs.Nodes.{bare_of, nodes, piece_node}
+use Rattle.interpolator_syntax.specs.Nodes.{token_node, group_branch, item_branch, join_branch}
 use Rattle.interpolator.specs.Template.Reading.{taken_step, ending_kind, ending_rest}
 use Rattle.interpolator.specs.Template.Stored.{Within, StandFor, Pushed, GroupStands}
 use Rattle.interpolator.specs.Template.Stored.{part, name_part}
 use Rattle.interpolator.specs.Template.Stored.{node_of, nodes_of, branch_of, stored_held, range_of}
 use Rattle.interpolator.specs.declared.template.piece.Form.TheVariants as forms
 use Rattle.interpolator.specs.declared.template.piece.Piece.{Piece}
-use Rattle.interpolator.specs.declared.template.piece.PieceKind as told
-use Rattle.interpolator.specs.declared.template.piece.PieceKind.TheVariants.{Literal, Doubled}
-use Rattle.interpolator.specs.declared.template.piece.PieceKind.TheVariants.{LoneClose, Closed}
-use Rattle.interpolator_meaning.proofs.MeaningLemmas.ListLemmas.{list_size, groups_within}
-use Rattle.interpolator.proofs.TemplateLemmas.NodeLemmas.{nodes_first, nodes_none}
+use Rattle.interpolator_syntax.specs.declared.piece_kind.PieceKind as told
+use Rattle.interpolator_syntax.specs.declared.piece_kind.PieceKind.TheVariants.{Literal, Doubled}
+use Rattle.interpolator_syntax.specs.declared.piece_kind.PieceKind.TheVariants.{LoneClose, Closed}
+use Rattle.interpolator_eval.proofs.MeaningLemmas.ListLemmas.{list_size, groups_within}
+use Rattle.interpolator_syntax.proofs.NodeLemmas.{nodes_first, nodes_none}
 use Rattle.interpolator.proofs.TemplateLemmas.PartLemmas.{part_lies, name_lies}
 use Rattle.interpolator.proofs.TemplateLemmas.StoredLemmas.{nodes_of_push}
 use Rattle.interpolator.proofs.TemplateLemmas.WithinLemmas.{within_then, after_front, front_within}
@@ -120,11 +120,11 @@ module _ (a : At) where
   abbrev From : At
   From = after (in_class WhiteSpace) a
 
-  abbrev Named : Asked → Argument
+  abbrev Named : Request → Argument
   Named asked = argument (front_of (in_class Name) From.text) From.place asked
 
   by_asked :
-      (x : Argument) (q : At) (r : Result (Asked × At) Fault)
+      (x : Argument) (q : At) (r : Result (Request × At) Fault)
       → on r (λ asked. give (Named asked)) ≡ Ok (x, q) → NameStands a x
   by_asked x q (Ok v) h =
       let same : (Named v.0, v.1) ≡ (x, q) = cc in
@@ -147,12 +147,12 @@ argument_stands place b x q None held item join h i j = rw (h, i, j) refl
 argument_stands place b x q (Some rest) held item join h i j = rw (h, i, j) refl
 
 -- an argument that was read after a brace at `place`, up to `end`
-module _ (place : ℕ) (b : At) (n : ArgumentName) (x : code_asked.Asked) (end : Cursor)
+module _ (place : ℕ) (b : At) (n : ArgumentName) (x : code_request.Request) (end : Cursor)
     (start : b.place ≡ place + 1)
-    (read : argument_at b ≡ Ok (named_argument n (asked_of x), at end))
+    (read : argument_at b ≡ Ok (named_argument n (request_of x), at end))
     (name_end : n.end.place ≡ n.place + size (chars n.name.now)) where
   abbrev taken : Argument
-  taken = named_argument n (asked_of x)
+  taken = named_argument n (request_of x)
 
   begins_after : b.place ≡ suc place
   begins_after = omega (arith, start)
@@ -164,13 +164,13 @@ module _ (place : ℕ) (b : At) (n : ArgumentName) (x : code_asked.Asked) (end :
         name_lies bs place n.place taken.name n.end.place u (within_then _ b _ w name.within)
         name_end (omega (arith, name.after, start))
 
-    value_held : (slot : Trait) → kind_of_asked x ≡ of_value slot
+    value_held : (slot : Trait) → kind_of_request x ≡ of_value slot
         → stored_held bs place n.place n.end.place end.place x.spec (forms.Value slot)
         ≡ Some (valued b.place taken.name taken.spec (bare_of taken.kind) end.place)
     value_held slot k = rw (taken_name, k, begins_after) refl
 
     list_held : (range : Option (Box Range)) → range_of range ≡ x.list.range
-        → kind_of_asked x ≡ of_list (list_of x.list)
+        → kind_of_request x ≡ of_list (list_of x.list)
         → stored_held bs place n.place n.end.place end.place x.spec (forms.List range)
         ≡ Some (valued b.place taken.name taken.spec (bare_of taken.kind) end.place)
     list_held range r k = rw (taken_name, k, begins_after, r) refl
@@ -180,7 +180,7 @@ module _ (place : ℕ) (b : At) (n : ArgumentName) (x : code_asked.Asked) (end :
     group_is None xs h g = rw g refl
     group_is (Some g) xs h k = k bs u (within_then _ b (inside g) w (group_stands b g h))
 
-    groups_in : kind_of_asked x ≡ of_list (list_of x.list) → ListIn (list_of x.list) b
+    groups_in : kind_of_request x ≡ of_list (list_of x.list) → ListIn (list_of x.list) b
     groups_in k = subst (λ kind. KindIn kind b) k (argument_in b taken (at end) read)
 
   -- the argument from its brace on
@@ -212,7 +212,7 @@ module _ (place : ℕ) (b : At) (n : ArgumentName) (x : code_asked.Asked) (end :
         (argument_stands place b taken (at end) (strip close_brace (at end)) held item join h i j)
 
     pub value_pushed :
-        (slot : Trait) → kind_of_asked x ≡ of_value slot
+        (slot : Trait) → kind_of_request x ≡ of_value slot
         → ((bs : List ℕ) → node_of bs piece
         ≡ node place rest.place kind (stored_held bs place n.place n.end.place end.place x.spec
         (forms.Value slot)) no_branch no_branch)
@@ -228,7 +228,7 @@ module _ (place : ℕ) (b : At) (n : ArgumentName) (x : code_asked.Asked) (end :
 
     pub list_pushed :
         (range : Option (Box Range)) (item join : Option (Vec Piece))
-        → kind_of_asked x ≡ of_list (list_of x.list) → range_of range ≡ x.list.range
+        → kind_of_request x ≡ of_list (list_of x.list) → range_of range ≡ x.list.range
         → GroupStands item (option_map group_of x.list.item)
         → GroupStands join (option_map group_of x.list.join)
         → ((bs : List ℕ) → node_of bs piece
@@ -248,7 +248,7 @@ module _ (place : ℕ) (b : At) (n : ArgumentName) (x : code_asked.Asked) (end :
         })
 
 -- a name alone is asked for plain display
-abbrev pub plainly : code_asked.Asked
+abbrev pub plainly : code_request.Request
 plainly = record {
   slot = traits.Display;
   spec = plain_spec;
@@ -283,11 +283,11 @@ module _ (place : ℕ) (b : At) (n : ArgumentName) (rest : At)
         old new piece rest Closed alone_ends alone_closed added traits.Display refl stored
 
 -- its groups are no longer than its text
-pub list_within : (b : At) (n : ArgumentName) (x : code_asked.Asked) (end : At)
-    → argument_at b ≡ Ok (named_argument n (asked_of x), end)
-    → kind_of_asked x ≡ of_list (list_of x.list) → list_size (list_of x.list) ≤ length b.text
+pub list_within : (b : At) (n : ArgumentName) (x : code_request.Request) (end : At)
+    → argument_at b ≡ Ok (named_argument n (request_of x), end)
+    → kind_of_request x ≡ of_list (list_of x.list) → list_size (list_of x.list) ≤ length b.text
 list_within b n x end read k =
-    rw k at (groups_within b (named_argument n (asked_of x)) end read)
+    rw k at (groups_within b (named_argument n (request_of x)) end read)
 
 -- the argument from its brace on, where it was read
 pub taken_is : (b : At) (t : TakenArgument) → taken_read (Ok t) ≡ argument_at b

@@ -17,13 +17,13 @@ use Rattle.interpolator_syntax.specs.Faults.{Fault, Answer, fault, argument_faul
 use Rattle.interpolator_syntax.specs.SpecTexts.{plain_spec}
 use Rattle.interpolator_syntax.specs.declared.argument_fault.ArgumentFault.{ArgumentFault}
 use Rattle.interpolator_syntax.specs.declared.range.Range.{Range}
-use Rattle.interpolator_meaning.specs.Meaning.Environments.{Environment, given}
-use Rattle.interpolator_meaning.specs.Meaning.Meanings.{Meaning, text_alone, under_name}
-use Rattle.interpolator_meaning.specs.Meaning.Meanings.{items_after, items_mean, means}
-use Rattle.interpolator_meaning.specs.Meaning.Outcomes.{Outcome}
-use Rattle.interpolator_meaning.specs.Meaning.Sinks.{Writes, taken_by}
-use Rattle.interpolator.specs.Template.Nodes.{Held, written, valued, refused, Bare}
-use Rattle.interpolator.specs.Template.Nodes.{bare_value, bare_list, as_forest, nodes}
+use Rattle.interpolator_eval.specs.Meaning.Environments.{Environment, given}
+use Rattle.interpolator_eval.specs.Meaning.Meanings.{Meaning, text_alone, under_name}
+use Rattle.interpolator_eval.specs.Meaning.Meanings.{items_after, items_mean, means}
+use Rattle.interpolator_eval.specs.Meaning.Outcomes.{Outcome}
+use Rattle.interpolator_eval.specs.Meaning.Sinks.{Writes, taken_by}
+use Rattle.interpolator_syntax.specs.Nodes.{Held, written, valued, refused, Bare}
+use Rattle.interpolator_syntax.specs.Nodes.{bare_value, bare_list, as_forest, nodes}
 use Rattle.interpolator.specs.Template.NodeMeanings.{and_closed, bare_means, held_means}
 use Rattle.interpolator.specs.Template.NodeMeanings.{forest_means}
 use Rattle.interpolator.specs.Template.Stored.{may_cut, part, range_of, held_of}
@@ -33,14 +33,14 @@ use Rattle.interpolator.specs.Template.StoredMeanings.{stored_part, stored_name,
 use Rattle.interpolator.specs.Template.StoredMeanings.{unclosed_fault_of, stored_pieces_mean}
 use Rattle.interpolator.specs.Template.StoredMeanings.{stored_piece_means, stored_join_means}
 use Rattle.interpolator.specs.Template.StoredMeanings.{stored_item_means}
-use Rattle.interpolator_meaning.specs.declared.meaning.sink.Sink.{Sink}
+use Rattle.interpolator_eval.specs.declared.meaning.sink.Sink.{Sink}
 use Rattle.interpolator.specs.declared.template.piece.Form.TheVariants as forms
 use Rattle.interpolator.specs.declared.template.piece.Piece.{Piece}
 use Rattle.interpolator.specs.declared.template.piece.Piece.TheViews.{out-Piece}
-use Rattle.interpolator.specs.declared.template.piece.PieceKind.{PieceKind}
-use Rattle.interpolator.specs.declared.template.piece.PieceKind.TheVariants as kinds
-use Rattle.interpolator_meaning.proofs.MeaningLemmas.SinkLemmas.{and_then, fault_first, nothing_done, ended}
-use Rattle.interpolator_meaning.proofs.MeaningLemmas.SinkLemmas.{same_end, same_then}
+use Rattle.interpolator_syntax.specs.declared.piece_kind.PieceKind.{PieceKind}
+use Rattle.interpolator_syntax.specs.declared.piece_kind.PieceKind.TheVariants as kinds
+use Rattle.interpolator_eval.proofs.MeaningLemmas.SinkLemmas.{and_then, fault_first, nothing_done, ended}
+use Rattle.interpolator_eval.proofs.MeaningLemmas.SinkLemmas.{same_end, same_then}
 use Rattle.interpolator.proofs.TemplateLemmas.NodeMeaningLemmas.{nodes_mean}
 use Rattle.interpolator.proofs.TemplateLemmas.StoredLemmas.{node_of_out}
 use Rattle.interpolator.proofs.TemplateLemmas.WholeLemmas.{nodes_whole}

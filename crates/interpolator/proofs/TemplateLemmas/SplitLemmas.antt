@@ -13,21 +13,21 @@ use Rattle.interpolator_syntax.specs.Tokens.{Token, literals, doubled, lone_clos
 use Rattle.interpolator_syntax.specs.Tokens.{first_token, past_token, open_scan, close_scan}
 use Rattle.interpolator_syntax.specs.Tokens.{no_open_scan, scan_by}
 use Rattle.interpolator_syntax.specs.declared.class.Class.TheVariants as classes
-use Rattle.interpolator.specs.Template.Nodes.{Node, node, text_node}
-use Rattle.interpolator.specs.Template.Nodes.{piece_node, token_node, leading_nodes, nodes}
+use Rattle.interpolator_syntax.specs.Nodes.{Node, node, text_node}
+use Rattle.interpolator_syntax.specs.Nodes.{piece_node, token_node, leading_nodes, nodes}
 use Rattle.interpolator.specs.Template.Splits.{node_alone, nodes_alone, with_literals, with_node}
 use Rattle.interpolator.specs.Template.Splits.{merged, literal_nodes, split_node, split_again}
 use Rattle.interpolator.specs.Template.Splits.{is_literal, begins_literal, NoTwoLiterals}
-use Rattle.interpolator.specs.declared.template.piece.PieceKind.TheVariants.{Literal, Doubled}
-use Rattle.interpolator.specs.declared.template.piece.PieceKind.TheVariants.{LoneClose, Closed}
-use Rattle.interpolator.specs.declared.template.piece.PieceKind.TheVariants.{Unclosed, Broken}
+use Rattle.interpolator_syntax.specs.declared.piece_kind.PieceKind.TheVariants.{Literal, Doubled}
+use Rattle.interpolator_syntax.specs.declared.piece_kind.PieceKind.TheVariants.{LoneClose, Closed}
+use Rattle.interpolator_syntax.specs.declared.piece_kind.PieceKind.TheVariants.{Unclosed, Broken}
 use Rattle.interpolator_syntax.proofs.GrammarLemmas.{pieces_joined}
 use Rattle.interpolator_syntax.proofs.GrammarPieceLemmas.{pieces_are}
 use Rattle.interpolator_syntax.proofs.LocalityLemmas.{Takes, stands, size-append, takes_reaches}
 use Rattle.interpolator_syntax.proofs.ScanLemmas.{hands_on, hands_nothing}
-use Rattle.interpolator_meaning.proofs.MeaningLemmas.MeaningLemmas.{scan_shorter}
-use Rattle.interpolator.proofs.TemplateLemmas.NodeLemmas.{by_length, argument_kind, nodes_lead}
-use Rattle.interpolator.proofs.TemplateLemmas.NodeLemmas.{nodes_first, nodes_none}
+use Rattle.interpolator_syntax.proofs.TokenLemmas.{scan_shorter}
+use Rattle.interpolator_syntax.proofs.NodeLemmas.{by_length, argument_kind, nodes_lead}
+use Rattle.interpolator_syntax.proofs.NodeLemmas.{nodes_first, nodes_none}
 use Rattle.interpolator.proofs.TemplateLemmas.WithinLemmas.{handed_on, scan_taken}
 
 -- ---- nodes that are not of literals

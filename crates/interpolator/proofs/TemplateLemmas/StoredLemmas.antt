@@ -1,12 +1,22 @@
 -- The node of a stored piece, one layer at a time.
-use Rattle.std.proofs.Common.{◌≡◌, refl, ap, ◌∙◌, ℕ, List, [], ◌∷◌, ◌++◌, Option, Some, None}
-use Rattle.std.specs.Global.{Vec}
+use Rattle.std.proofs.Common.{◌≡◌, refl, ap, ◌∙◌, ℕ, suc, List, [], ◌∷◌, ◌++◌, Option, Some, None}
+use Rattle.std.proofs.Common.{Bool, true, false, nat_lt, IsSome, option_map}
+use Rattle.std.specs.Prelude.{if◌then◌else◌}
+use Rattle.std.specs.Global.{Vec, Box}
+use Rattle.interpolator_render.specs.declared.view.Trait.{Trait}
+use Rattle.interpolator_render.specs.declared.view.Trait.TheVariants as traits
 use Rattle.interpolator_render.specs.declared.view.Spec.{Spec}
-use Rattle.interpolator.specs.Template.Nodes.{Node, node}
+use Rattle.interpolator_syntax.specs.Faults.{argument_fault_of}
+use Rattle.interpolator_syntax.specs.Nodes.{Node, node, Held, written, valued, refused}
+use Rattle.interpolator_syntax.specs.Nodes.{bare_value, bare_list}
+use Rattle.interpolator_syntax.specs.SpecTexts.{plain_spec}
+use Rattle.interpolator_syntax.specs.declared.argument_fault.ArgumentFault.{ArgumentFault}
+use Rattle.interpolator_syntax.specs.declared.range.Range.{Range}
 use Rattle.interpolator.specs.Template.Stored.{node_step, node_of, nodes_of, branch_of, held_of}
-use Rattle.interpolator.specs.Template.Stored.{stored_held}
-use Rattle.interpolator.specs.declared.template.piece.PieceKind.{PieceKind}
+use Rattle.interpolator.specs.Template.Stored.{stored_held, part, range_of}
+use Rattle.interpolator_syntax.specs.declared.piece_kind.PieceKind.{PieceKind}
 use Rattle.interpolator.specs.declared.template.piece.Form.{Form}
+use Rattle.interpolator.specs.declared.template.piece.Form.TheVariants as forms
 use Rattle.interpolator.specs.declared.template.piece.Piece.{Piece}
 use Rattle.interpolator.specs.declared.template.piece.Piece.TheOpen.{Piece-F}
 use Rattle.interpolator.specs.declared.template.piece.Piece.TheViews.{out-Piece, roll-Piece}
@@ -62,3 +72,38 @@ pub nodes_of_push :
     → nodes_of bs (xs ++ (x ∷ [])) ≡ nodes_of bs xs ++ (node_of bs x ∷ [])
 nodes_of_push bs [] x = refl
 nodes_of_push bs (y ∷ xs) x = ap (λ ys. node_of bs y ∷ ys) (nodes_of_push bs xs x)
+
+-- what a stored piece holds that fits its text, by how it is written
+module _ (bs : List ℕ) (place from to end : ℕ) (spec : Spec) (P : Form → Option Held → Type 0)
+    (of_text : (cs : List ℕ) → P forms.Text (Some (written from cs)))
+    (of_name : (name : List ℕ) → part bs from to ≡ Some name → P forms.Name
+    (Some (valued (suc place) name plain_spec (bare_value traits.Display) end)))
+    (of_value : (t : Trait) (name : List ℕ) → part bs from to ≡ Some name → P (forms.Value t)
+    (Some (valued (suc place) name spec (bare_value t) end)))
+    (of_list : (range : Option (Box Range)) (name : List ℕ) → part bs from to ≡ Some name
+    → P (forms.List range) (Some (valued (suc place) name spec (bare_list (range_of range)) end)))
+    (of_fault : (fault : Box ArgumentFault) → P (forms.Broken fault)
+    (Some (refused (argument_fault_of fault.value)))) where
+  by_text : (o : Option (List ℕ)) → IsSome (option_map (λ cs. written from cs) o)
+      → P forms.Text (option_map (λ cs. written from cs) o)
+  by_text None h = absurd (cc)
+  by_text (Some cs) h = of_text cs
+
+  by_name : (form : Form) (held : List ℕ → Held)
+      → ((name : List ℕ) → part bs from to ≡ Some name → P form (Some (held name)))
+      → (within : Bool) (o : Option (List ℕ)) → part bs from to ≡ o
+      → IsSome (option_map held (if within then o else None))
+      → P form (option_map held (if within then o else None))
+  by_name form held gives true None e h = absurd (cc)
+  by_name form held gives true (Some name) e h = gives name e
+  by_name form held gives false o e h = absurd (cc)
+
+  pub by_form : (form : Form) → IsSome (stored_held bs place from to end spec form)
+      → P form (stored_held bs place from to end spec form)
+  by_form forms.Text h = by_text (part bs from to) h
+  by_form forms.Name h = by_name forms.Name _ of_name (nat_lt place from) (part bs from to) refl h
+  by_form (forms.Value t) h =
+      by_name (forms.Value t) _ (of_value t) (nat_lt place from) (part bs from to) refl h
+  by_form (forms.List range) h =
+      by_name (forms.List range) _ (of_list range) (nat_lt place from) (part bs from to) refl h
+  by_form (forms.Broken fault) h = of_fault fault

@@ -7,15 +7,15 @@ use Rattle.interpolator_syntax.specs.Groups.{Group}
 use Rattle.interpolator_syntax.specs.Pieces.{argument_from}
 use Rattle.interpolator_syntax.specs.SpecTexts.{Kind, of_value, of_list}
 use Rattle.interpolator_syntax.specs.Tokens.{Token, first_token, past_token, argument}
-use Rattle.interpolator_meaning.specs.Meaning.Meanings.{inside}
-use Rattle.interpolator.specs.Template.Nodes.{as_forest, group_branch, argument_node, piece_node}
-use Rattle.interpolator.specs.Template.Nodes.{token_node, nodes}
+use Rattle.interpolator_syntax.specs.Groups.{inside}
+use Rattle.interpolator_syntax.specs.Nodes.{as_forest, group_branch, argument_node, piece_node}
+use Rattle.interpolator_syntax.specs.Nodes.{token_node, nodes}
 use Rattle.interpolator.specs.Template.Stored.{node_whole, branch_whole, forest_whole}
-use Rattle.interpolator.specs.declared.template.piece.PieceKind as told
-use Rattle.interpolator.specs.declared.template.piece.PieceKind.TheVariants.{Closed, Unclosed}
-use Rattle.interpolator_meaning.proofs.MeaningLemmas.MeaningLemmas.{token_shorter, scan_shorter}
-use Rattle.interpolator.proofs.TemplateLemmas.NodeLemmas.{by_length, argument_kind, nodes_first}
-use Rattle.interpolator.proofs.TemplateLemmas.NodeLemmas.{nodes_none}
+use Rattle.interpolator_syntax.specs.declared.piece_kind.PieceKind as told
+use Rattle.interpolator_syntax.specs.declared.piece_kind.PieceKind.TheVariants.{Closed, Unclosed}
+use Rattle.interpolator_syntax.proofs.TokenLemmas.{token_shorter, scan_shorter}
+use Rattle.interpolator_syntax.proofs.NodeLemmas.{by_length, argument_kind, nodes_first}
+use Rattle.interpolator_syntax.proofs.NodeLemmas.{nodes_none}
 use Rattle.interpolator_syntax.proofs.SizeLemmas.{GroupIfIn, KindIn}
 
 abbrev Whole : At → Type 0

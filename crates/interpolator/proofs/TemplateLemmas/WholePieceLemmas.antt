@@ -4,13 +4,13 @@ use Rattle.std.proofs.Common.{◌≡◌, refl, ap, arith, ℕ, zero, suc, ◌<�
 use Rattle.std.proofs.Common.{List, [], ◌∷◌, ◌++◌, length, drop, get_or, Option, None, Some, IsSome}
 use Rattle.std.proofs.lemmas.List.{drop_more}
 use Rattle.std.specs.Global.{Vec}
-use Rattle.interpolator.specs.Template.Nodes.{Node, Branch, Held, node, as_forest}
+use Rattle.interpolator_syntax.specs.Nodes.{Node, Branch, Held, node, as_forest}
 use Rattle.interpolator.specs.Template.Stored.{held_of, node_of, nodes_of, branch_of}
 use Rattle.interpolator.specs.Template.Stored.{node_whole, branch_whole, forest_whole}
 use Rattle.interpolator.specs.declared.template.piece.Piece.{Piece}
 use Rattle.interpolator.specs.declared.template.piece.Piece.TheViews.{out-Piece, size-Piece}
 use Rattle.interpolator.specs.declared.template.piece.Piece.TheViews.{size_is-Piece}
-use Rattle.interpolator.specs.declared.template.piece.PieceKind.{PieceKind}
+use Rattle.interpolator_syntax.specs.declared.piece_kind.PieceKind.{PieceKind}
 use Rattle.interpolator.proofs.TemplateLemmas.StoredLemmas.{node_of_out}
 
 -- what it holds is known, and so is that of its groups
@@ -72,11 +72,38 @@ most_at size [] i x l is = absurd (omega arith)
 most_at size (y ∷ ys) zero x l is = let same : size x ≡ size y = ap size is in omega (arith, same)
 most_at size (y ∷ ys) (suc i) x l is = omega (arith, most_at size ys i x (omega arith) is)
 
-group_whole :
+-- the pieces of a group
+pub group_whole :
     (bs : List ℕ) (group : Option (Vec Piece)) (v : Vec Piece) (xs : List Piece)
     → branch_whole (branch_of bs group) ≡ true → group ≡ Some v → xs ≡ v.items
     → forest_whole (as_forest (nodes_of bs xs)) ≡ true
 group_whole bs group v xs h is same = rw same (rw is at h)
+
+-- the greatest piece of a group
+abbrev pub group_most : Option (Vec Piece) → ℕ
+group_most None = 0
+group_most (Some v) = most size-Piece v.items
+
+module _ (x : Piece) where
+  item_by : (o : Option (Vec Piece)) → (out-Piece x).item ≡ o → group_most o < size-Piece x
+  item_by None is = let size = rw is at (size_is-Piece x) in omega (arith, size)
+  item_by (Some v) is = let size = rw is at (size_is-Piece x) in omega (arith, size)
+
+  join_by : (o : Option (Vec Piece)) → (out-Piece x).join ≡ o → group_most o < size-Piece x
+  join_by None is = let size = rw is at (size_is-Piece x) in omega (arith, size)
+  join_by (Some v) is = let size = rw is at (size_is-Piece x) in omega (arith, size)
+
+  -- a group is smaller than its piece
+  pub item_smaller : group_most (out-Piece x).item < size-Piece x
+  item_smaller = item_by (out-Piece x).item refl
+
+  pub join_smaller : group_most (out-Piece x).join < size-Piece x
+  join_smaller = join_by (out-Piece x).join refl
+
+-- the pieces of a group are no greater than it
+pub group_smaller : (group : Option (Vec Piece)) (v : Vec Piece) (xs : List Piece)
+    → group ≡ Some v → xs ≡ v.items → most size-Piece xs ≡ group_most group
+group_smaller group v xs is same = rw (same, is) refl
 
 -- the pieces of a group, which are whole, and fewer than their piece has
 pub record InGroup (bs : List ℕ) (x : Piece) (xs : List Piece) : Type 0 where
@@ -85,20 +112,14 @@ pub record InGroup (bs : List ℕ) (x : Piece) (xs : List Piece) : Type 0 where
 
 module _ (bs : List ℕ) (x : Piece) (v : Vec Piece) (xs : List Piece) (same : xs ≡ v.items)
     (h : node_whole (node_of bs x) ≡ true) where
-  item_smaller : (out-Piece x).item ≡ Some v → most size-Piece v.items < size-Piece x
-  item_smaller is = let size = rw is at (size_is-Piece x) in omega (arith, size)
-
-  join_smaller : (out-Piece x).join ≡ Some v → most size-Piece v.items < size-Piece x
-  join_smaller is = let size = rw is at (size_is-Piece x) in omega (arith, size)
-
   pub in_item : (out-Piece x).item ≡ Some v → InGroup bs x xs
   in_item is = record {
     whole = group_whole bs (out-Piece x).item v xs (fits_text bs x h).item is same;
-    smaller = rw same (item_smaller is);
+    smaller = rw same (item_by x (Some v) is);
   }
 
   pub in_join : (out-Piece x).join ≡ Some v → InGroup bs x xs
   in_join is = record {
     whole = group_whole bs (out-Piece x).join v xs (fits_text bs x h).join is same;
-    smaller = rw same (join_smaller is);
+    smaller = rw same (join_by x (Some v) is);
   }

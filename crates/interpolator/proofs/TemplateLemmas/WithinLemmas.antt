@@ -20,7 +20,7 @@ use Rattle.interpolator_syntax.proofs.LocalityLemmas.{takes_after, size-append}
 use Rattle.interpolator_syntax.proofs.PieceLemmas.{strip_after}
 use Rattle.interpolator_syntax.proofs.ReaderLemmas.{argument_takes}
 use Rattle.interpolator_syntax.proofs.SizeLemmas.{GroupIn}
-use Rattle.interpolator_meaning.specs.Meaning.Meanings.{inside}
+use Rattle.interpolator_syntax.specs.Groups.{inside}
 use Rattle.interpolator.specs.Template.Stored.{Within}
 
 nested : (f g cs k b : List ℕ) → f ++ ((g ++ (cs ++ k)) ++ b) ≡ (f ++ g) ++ (cs ++ (k ++ b))

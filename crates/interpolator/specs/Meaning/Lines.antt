@@ -1,6 +1,6 @@
 -- What a format means with a newline after it.
 use Rattle.std.specs.Prelude.{ℕ, [], ◌∷◌}
-use Rattle.interpolator_meaning.specs.Meaning.Meanings.{Meaning, text_alone, joined}
+use Rattle.interpolator_eval.specs.Meaning.Meanings.{Meaning, text_alone, joined}
 
 -- `\n`
 abbrev pub newline : ℕ

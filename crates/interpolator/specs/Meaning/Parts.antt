@@ -8,8 +8,8 @@ use Rattle.interpolator_render.specs.Views.{Shown}
 use Rattle.interpolator_syntax.specs.At.{size}
 use Rattle.interpolator_syntax.specs.Grammar.{from_place}
 use Rattle.interpolator.specs.Seams.{ending, seam_of}
-use Rattle.interpolator_meaning.specs.Meaning.Environments.{Environment}
-use Rattle.interpolator_meaning.specs.Meaning.Meanings.{Meaning, nothing, joined, means}
+use Rattle.interpolator_eval.specs.Meaning.Environments.{Environment}
+use Rattle.interpolator_eval.specs.Meaning.Meanings.{Meaning, nothing, joined, means}
 use Rattle.interpolator.specs.declared.parts.Ending.TheVariants.{Open}
 
 -- the parts, one after the other

@@ -5,7 +5,7 @@ use Rattle.interpolator_syntax.specs.Groups.{Group}
 use Rattle.interpolator_syntax.specs.SpecTexts.{Kind, of_value, of_list}
 use Rattle.interpolator_syntax.specs.Arguments.{Argument}
 use Rattle.interpolator_syntax.specs.Pieces.{Piece, PieceKind, closed, unclosed, pieces}
-use Rattle.interpolator_meaning.specs.Meaning.Meanings.{inside}
+use Rattle.interpolator_syntax.specs.Groups.{inside}
 
 -- `run` gives the arguments of a text within this one
 module _ (run : At → List Argument) where

@@ -3,18 +3,19 @@ use Rattle.std.specs.Prelude.{◌≡◌, ⊤, ◌⊎◌, ℕ, List, [], ◌∷�
 use Rattle.std.specs.Prelude.{if◌then◌else◌}
 use Rattle.interpolator_syntax.specs.At.{At}
 use Rattle.interpolator_syntax.specs.Faults.{Fault, parse, iter, unsupported_option}
-use Rattle.interpolator_meaning.specs.Meaning.Meanings.{forbids_list}
-use Rattle.interpolator.specs.Template.Nodes.{Node, node, Branch, no_branch, branch, as_forest}
-use Rattle.interpolator.specs.Template.Nodes.{Forest, no_nodes, nodes_and, nodes}
-use Rattle.interpolator.specs.Template.Nodes.{Held, written, valued, refused, bare_value, bare_list}
+use Rattle.interpolator_eval.specs.Meaning.Meanings.{forbids_list}
+use Rattle.interpolator_syntax.specs.Nodes.{Node, node, Branch, no_branch, branch, as_forest}
+use Rattle.interpolator_syntax.specs.Nodes.{Forest, no_nodes, nodes_and, nodes}
+use Rattle.interpolator_syntax.specs.Nodes.{Held, written, valued, refused, bare_value, bare_list}
 use Rattle.interpolator.specs.Template.StoredMeanings.{unclosed_fault_of}
+use Rattle.interpolator.specs.Template.Visits.{Visit, enter, leave}
 use Rattle.interpolator_syntax.specs.Faults.{argument_fault_of}
 use Rattle.interpolator_render.specs.declared.view.Spec.{Spec}
 use Rattle.interpolator.specs.declared.template.piece.Form.{Form}
 use Rattle.interpolator.specs.declared.template.piece.Form.TheVariants as forms
 use Rattle.interpolator.specs.declared.template.piece.Piece.{Piece}
 use Rattle.interpolator.specs.declared.template.piece.Piece.TheViews.{out-Piece}
-use Rattle.interpolator.specs.declared.template.piece.PieceKind.{PieceKind}
+use Rattle.interpolator_syntax.specs.declared.piece_kind.PieceKind.{PieceKind}
 
 -- at most one fault, as a list
 abbrev pub fault_list : Option Fault → List Fault
@@ -82,6 +83,13 @@ abbrev mutual
 -- all faults of a text itself, at every depth of groups, in order
 abbrev pub text_faults : At → List Fault
 text_faults a = forest_faults (as_forest (nodes a))
+
+-- the fault of a piece where it is entered, or where it is left
+abbrev pub visit_faults : Visit → List Fault
+visit_faults (enter spot (node place end kind (Some held) item join)) = fault_list (own_fault held)
+visit_faults (leave spot (node place end kind (Some held) item join)) =
+    fault_list (end_fault kind held)
+visit_faults _ = []
 
 -- a fault that a text has by itself, whatever its context
 abbrev pub IsOfText : Fault → Type 0

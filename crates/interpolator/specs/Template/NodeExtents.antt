@@ -1,9 +1,11 @@
 -- How wide and how deep a format is.
 use Rattle.std.specs.Prelude.{ℕ, suc, max, Option, Some, unwrap_or}
 use Rattle.interpolator_render.specs.declared.view.Spec.{Spec}
-use Rattle.interpolator.specs.Template.Nodes.{Node, node, Branch, no_branch, branch}
-use Rattle.interpolator.specs.Template.Nodes.{Forest, no_nodes, nodes_and}
-use Rattle.interpolator.specs.Template.Nodes.{Held, valued}
+use Rattle.interpolator_syntax.specs.Nodes.{Node, node, Branch, no_branch, branch}
+use Rattle.interpolator_syntax.specs.Nodes.{Forest, no_nodes, nodes_and}
+use Rattle.interpolator_syntax.specs.Nodes.{Held, valued}
+use Rattle.interpolator.specs.Template.Visits.{Visit, enter, leave, greatest}
+use Rattle.interpolator.specs.Template.Visits.{forest_visits, outermost_spot}
 use Rattle.interpolator.specs.declared.template.piece.Form.{Form}
 use Rattle.interpolator.specs.declared.template.piece.Form.TheVariants as forms
 use Rattle.interpolator.specs.declared.template.piece.Piece.{Piece}
@@ -27,19 +29,14 @@ form_extent spec _ = 0
 abbrev pub stored_extent : Piece → ℕ
 stored_extent x = form_extent (out-Piece x).spec (out-Piece x).form
 
-abbrev mutual
-  -- the greatest width or precision of a piece and of those in its groups
-  pub node_extent : Node → ℕ
-  node_extent (node place end kind held item join) =
-      max (held_extent held) (max (branch_extent item) (branch_extent join))
+-- what a piece asks by itself where it is entered
+abbrev pub visit_extent : Visit → ℕ
+visit_extent (enter spot (node place end kind held item join)) = held_extent held
+visit_extent (leave spot x) = 0
 
-  pub branch_extent : Branch → ℕ
-  branch_extent no_branch = 0
-  branch_extent (branch xs) = forest_extent xs
-
-  pub forest_extent : Forest → ℕ
-  forest_extent no_nodes = 0
-  forest_extent (nodes_and x xs) = max (node_extent x) (forest_extent xs)
+-- the greatest width or precision of pieces and of those in their groups
+abbrev pub forest_extent : Forest → ℕ
+forest_extent xs = greatest visit_extent (forest_visits outermost_spot xs)
 
 abbrev mutual
   -- how many groups stand in one another, at most
@@ -53,3 +50,14 @@ abbrev mutual
   pub forest_depth : Forest → ℕ
   forest_depth no_nodes = 0
   forest_depth (nodes_and x xs) = max (node_depth x) (forest_depth xs)
+
+-- in how many groups the pieces of a group stand, whose argument stands in so many
+abbrev pub inner_depth : (depth : ℕ) → Branch → ℕ
+inner_depth depth no_branch = 0
+inner_depth depth (branch xs) = suc depth
+
+-- the same of the groups of a piece where it is entered
+abbrev pub visit_depth : Visit → ℕ
+visit_depth (enter spot (node place end kind held item join)) =
+    max (inner_depth spot.depth item) (inner_depth spot.depth join)
+visit_depth (leave spot x) = 0

@@ -7,16 +7,16 @@ use Rattle.interpolator_render.specs.Views.{Shown}
 use Rattle.interpolator_syntax.specs.At.{placed_from}
 use Rattle.interpolator_syntax.specs.Faults.{parse, expected}
 use Rattle.interpolator_syntax.specs.SpecTexts.{plain_spec}
-use Rattle.interpolator_meaning.specs.Slots.{Slots, values_of, items, slot_at}
-use Rattle.interpolator_meaning.specs.Meaning.Environments.{Environment, given, bind}
-use Rattle.interpolator_meaning.specs.Meaning.Meanings.{Meaning, nothing, text_alone, fault_alone, joined}
-use Rattle.interpolator_meaning.specs.Meaning.Meanings.{value_means, listed_means, under_name}
-use Rattle.interpolator.specs.Template.Nodes.{Node, node, Branch, no_branch, branch}
-use Rattle.interpolator.specs.Template.Nodes.{Forest, no_nodes, nodes_and}
-use Rattle.interpolator.specs.Template.Nodes.{Held, written, valued, refused}
-use Rattle.interpolator.specs.Template.Nodes.{Bare, bare_value, bare_list}
-use Rattle.interpolator.specs.declared.template.piece.PieceKind.{PieceKind}
-use Rattle.interpolator.specs.declared.template.piece.PieceKind.TheVariants.{Unclosed}
+use Rattle.interpolator_eval.specs.Slots.{Slots, values_of, items, slot_at}
+use Rattle.interpolator_eval.specs.Meaning.Environments.{Environment, given, bind}
+use Rattle.interpolator_eval.specs.Meaning.Meanings.{Meaning, nothing, text_alone, fault_alone, joined}
+use Rattle.interpolator_eval.specs.Meaning.Meanings.{value_means, listed_means, under_name}
+use Rattle.interpolator_syntax.specs.Nodes.{Node, node, Branch, no_branch, branch}
+use Rattle.interpolator_syntax.specs.Nodes.{Forest, no_nodes, nodes_and}
+use Rattle.interpolator_syntax.specs.Nodes.{Held, written, valued, refused}
+use Rattle.interpolator_syntax.specs.Nodes.{Bare, bare_value, bare_list}
+use Rattle.interpolator_syntax.specs.declared.piece_kind.PieceKind.{PieceKind}
+use Rattle.interpolator_syntax.specs.declared.piece_kind.PieceKind.TheVariants.{Unclosed}
 
 -- after an argument that is not closed: the fault of the missing brace
 abbrev pub and_closed : PieceKind → (end : ℕ) → Meaning → Meaning

@@ -1,16 +1,16 @@
 -- An argument that was read, as the code has it, and what stands after it.
 use Rattle.std.specs.Prelude.{Option, Some, None, option_map}
 use Rattle.interpolator_syntax.specs.At.{At, at, all_after}
-use Rattle.interpolator_syntax.specs.Arguments.{named_argument, asked_of}
+use Rattle.interpolator_syntax.specs.Arguments.{named_argument, request_of}
 use Rattle.interpolator_syntax.specs.Pieces.{Step, argument_step}
 use Rattle.interpolator_syntax.specs.declared.argument.TakenArgument.{TakenArgument}
-use Rattle.interpolator.specs.declared.template.piece.PieceKind.{PieceKind}
-use Rattle.interpolator.specs.declared.template.piece.PieceKind.TheVariants.{Closed, Unclosed}
+use Rattle.interpolator_syntax.specs.declared.piece_kind.PieceKind.{PieceKind}
+use Rattle.interpolator_syntax.specs.declared.piece_kind.PieceKind.TheVariants.{Closed, Unclosed}
 
 -- the argument whose text begins at b, after its brace
 abbrev pub taken_step : (b : At) → TakenArgument → Step
 taken_step b t =
-    argument_step b.place b (named_argument t.name (asked_of t.asked)) (at t.end)
+    argument_step b.place b (named_argument t.name (request_of t.asked)) (at t.end)
     (option_map at t.rest)
 
 -- whether it is closed, by what stands after its closing brace, if there is one

@@ -5,10 +5,10 @@ use Rattle.std.specs.Prelude.{map, flat_map, Some}
 use Rattle.std.specs.Char.{len_utf8}
 use Rattle.interpolator_syntax.specs.At.{At, size}
 use Rattle.interpolator_syntax.specs.Pieces.{Piece, pieces}
-use Rattle.interpolator.specs.Template.Nodes.{Node, node, written, text_node, piece_node, nodes}
-use Rattle.interpolator.specs.Template.Nodes.{Branch, no_branch, branch}
-use Rattle.interpolator.specs.Template.Nodes.{Forest, no_nodes, nodes_and}
-use Rattle.interpolator.specs.declared.template.piece.PieceKind.TheVariants.{Literal}
+use Rattle.interpolator_syntax.specs.Nodes.{Node, node, written, text_node, piece_node, nodes}
+use Rattle.interpolator_syntax.specs.Nodes.{Branch, no_branch, branch}
+use Rattle.interpolator_syntax.specs.Nodes.{Forest, no_nodes, nodes_and}
+use Rattle.interpolator_syntax.specs.declared.piece_kind.PieceKind.TheVariants.{Literal}
 
 -- a piece as a node: of an argument, with the trees of the texts of its groups
 abbrev pub node_alone : Piece → Node

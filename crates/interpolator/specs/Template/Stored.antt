@@ -12,11 +12,11 @@ use Rattle.interpolator_syntax.specs.Faults.{argument_fault_of}
 use Rattle.interpolator_syntax.specs.Groups.{Group}
 use Rattle.interpolator_syntax.specs.SpecTexts.{plain_spec}
 use Rattle.interpolator_syntax.specs.declared.range.Range.{Range}
-use Rattle.interpolator.specs.Template.Nodes.{Node, node, Branch, no_branch, branch, Forest}
-use Rattle.interpolator_meaning.specs.Meaning.Meanings.{inside}
-use Rattle.interpolator.specs.Template.Nodes.{no_nodes, nodes_and, as_branch, nodes, group_branch}
-use Rattle.interpolator.specs.Template.Nodes.{Held, written, valued, refused}
-use Rattle.interpolator.specs.Template.Nodes.{bare_value, bare_list}
+use Rattle.interpolator_syntax.specs.Nodes.{Node, node, Branch, no_branch, branch, Forest}
+use Rattle.interpolator_syntax.specs.Groups.{inside}
+use Rattle.interpolator_syntax.specs.Nodes.{no_nodes, nodes_and, as_branch, nodes, group_branch}
+use Rattle.interpolator_syntax.specs.Nodes.{Held, written, valued, refused}
+use Rattle.interpolator_syntax.specs.Nodes.{bare_value, bare_list}
 use Rattle.interpolator.specs.declared.template.piece.Form.{Form}
 use Rattle.interpolator.specs.declared.template.piece.Form.TheVariants as forms
 use Rattle.interpolator.specs.declared.template.piece.Piece.{Piece}

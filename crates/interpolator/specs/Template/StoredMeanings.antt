@@ -4,16 +4,16 @@ use Rattle.interpolator_render.specs.declared.view.Trait.{Trait}
 use Rattle.interpolator_render.specs.declared.view.Spec.{Spec}
 use Rattle.interpolator_render.specs.Views.{Shown}
 use Rattle.interpolator_syntax.specs.Faults.{Fault, parse, expected}
-use Rattle.interpolator_meaning.specs.Slots.{Slots}
-use Rattle.interpolator_meaning.specs.Meaning.Environments.{Environment}
-use Rattle.interpolator_meaning.specs.Meaning.Meanings.{Meaning, items_mean}
-use Rattle.interpolator.specs.Template.Nodes.{as_forest}
+use Rattle.interpolator_eval.specs.Slots.{Slots}
+use Rattle.interpolator_eval.specs.Meaning.Environments.{Environment}
+use Rattle.interpolator_eval.specs.Meaning.Meanings.{Meaning, items_mean}
+use Rattle.interpolator_syntax.specs.Nodes.{as_forest}
 use Rattle.interpolator.specs.Template.NodeMeanings.{node_means, forest_means}
 use Rattle.interpolator.specs.Template.NodeMeanings.{item_branch_means, join_branch_means}
 use Rattle.interpolator.specs.Template.Stored.{node_of, nodes_of, branch_of}
 use Rattle.interpolator.specs.Template.Stored.{part, name_part}
-use Rattle.interpolator.specs.declared.template.piece.PieceKind.{PieceKind}
-use Rattle.interpolator.specs.declared.template.piece.PieceKind.TheVariants.{Unclosed}
+use Rattle.interpolator_syntax.specs.declared.piece_kind.PieceKind.{PieceKind}
+use Rattle.interpolator_syntax.specs.declared.piece_kind.PieceKind.TheVariants.{Unclosed}
 use Rattle.interpolator.specs.declared.template.piece.Piece.{Piece}
 use Rattle.interpolator.specs.declared.template.piece.Piece.TheViews.{out-Piece}
 

@@ -3,7 +3,7 @@
 ghost use Rattle.std.specs.Prelude.{◌≡◌, [], ◌∷◌, map, codes};
 ghost use Rattle.interpolator_syntax.specs.At.{At, outermost};
 ghost use Rattle.interpolator_syntax.specs.Pieces.{pieces};
-ghost use Rattle.interpolator_meaning.specs.Meaning.AskedNames.{asked_names, without_empty};
+ghost use Rattle.interpolator_eval.specs.Meaning.AskedNames.{asked_names, without_empty};
 ghost use Rattle.interpolator.specs.Template.AllArguments.{arguments_of, names_of};
 ghost use Rattle.interpolator.specs.Template.AllArguments.{pieces_arguments};
 

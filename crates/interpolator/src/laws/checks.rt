@@ -4,14 +4,14 @@
 ghost use Rattle.std.specs.Prelude.{◌≡◌, ◌≢◌, ◌↔◌, ℕ, List, Option, None, Some, Contains, codes};
 ghost use Rattle.interpolator_syntax.specs.At.{At, outermost};
 ghost use Rattle.interpolator_syntax.specs.Faults.{Fault, parse, unclosed, missing_value};
-ghost use Rattle.interpolator_meaning.specs.Slots.{Slots};
-ghost use Rattle.interpolator_meaning.specs.Meaning.AskedNames.{asked_names};
-ghost use Rattle.interpolator_meaning.specs.Meaning.Environments.{Environment, environment};
-ghost use Rattle.interpolator_meaning.specs.Meaning.Meanings.{means};
+ghost use Rattle.interpolator_eval.specs.Slots.{Slots};
+ghost use Rattle.interpolator_eval.specs.Meaning.AskedNames.{asked_names};
+ghost use Rattle.interpolator_eval.specs.Meaning.Environments.{Environment, environment};
+ghost use Rattle.interpolator_eval.specs.Meaning.Meanings.{means};
 ghost use Rattle.interpolator.specs.Template.NodeChecks.{first_fault, text_faults, IsOfText};
 ghost use Rattle.interpolator.specs.Template.NodeChecks.{ForestHas, FirstFaulty};
 ghost use Rattle.interpolator.specs.Template.NodeLacks.{first_lacking};
-ghost use Rattle.interpolator.specs.Template.Nodes.{as_forest, nodes};
+ghost use Rattle.interpolator_syntax.specs.Nodes.{as_forest, nodes};
 
 use interpolator_render::Value;
 

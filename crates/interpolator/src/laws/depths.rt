@@ -3,7 +3,7 @@
 ghost use Rattle.std.specs.Prelude.{◌≡◌, ◌+◌, ◌*◌, ◌≤◌, codes, length};
 ghost use Rattle.interpolator_syntax.specs.At.{At, outermost};
 ghost use Rattle.interpolator.specs.Template.NodeExtents.{forest_depth};
-ghost use Rattle.interpolator.specs.Template.Nodes.{as_forest, nodes};
+ghost use Rattle.interpolator_syntax.specs.Nodes.{as_forest, nodes};
 
 /// A format in which groups stand deep in one another is long: where it is `d` deep, it has `d`
 /// times `d + 4` characters or more. A group that stands in another has fewer signs `#` on each

@@ -3,8 +3,8 @@
 ghost use Rattle.std.specs.Prelude.{List, ℕ};
 ghost use Rattle.interpolator_syntax.specs.At.{At, outermost};
 ghost use Rattle.interpolator_syntax.specs.Pieces.{pieces};
-ghost use Rattle.interpolator_meaning.specs.Meaning.Environments.{Environment};
-ghost use Rattle.interpolator_meaning.specs.Meaning.Meanings.{means};
+ghost use Rattle.interpolator_eval.specs.Meaning.Environments.{Environment};
+ghost use Rattle.interpolator_eval.specs.Meaning.Meanings.{means};
 ghost use Rattle.interpolator.specs.Escaping.{braces_doubled, ArePlain, SaysAlone};
 
 use interpolator_render::Value;

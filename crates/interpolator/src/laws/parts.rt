@@ -8,9 +8,9 @@ ghost use Rattle.interpolator_syntax.specs.Arguments.{Argument, argument_at};
 ghost use Rattle.interpolator_syntax.specs.Grammar.{from_place};
 ghost use Rattle.interpolator_syntax.specs.Pieces.{pieces};
 ghost use Rattle.interpolator.specs.Seams.{ending, may_follow, seam_of};
-ghost use Rattle.interpolator_meaning.specs.Meaning.Environments.{Environment};
-ghost use Rattle.interpolator_meaning.specs.Meaning.Meanings.{joined, means};
-ghost use Rattle.interpolator_meaning.specs.Meaning.Moves.{moved_meaning};
+ghost use Rattle.interpolator_eval.specs.Meaning.Environments.{Environment};
+ghost use Rattle.interpolator_eval.specs.Meaning.Meanings.{joined, means};
+ghost use Rattle.interpolator_eval.specs.Meaning.Moves.{moved_meaning};
 ghost use Rattle.interpolator.specs.Meaning.Parts.{joined_text, parts_mean, Clean, FrontsClose};
 ghost use Rattle.interpolator.specs.declared.parts.Ending.TheVariants.{Open};
 

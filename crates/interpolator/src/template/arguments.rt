@@ -8,9 +8,8 @@ ghost use Rattle.interpolator.specs.Template.AllArguments.{arguments_of, group_a
 ghost use Rattle.interpolator.specs.Template.AllArguments.{kind_arguments, piece_arguments};
 
 use crate::template::parse::{ending, skip_all};
-use interpolator_meaning::inside;
 use interpolator_syntax::{
-    Argument, Cursor, Group, Kind, Token, argument_of, next_token, take_argument,
+    Argument, Cursor, Group, Kind, Token, argument_of, inside, next_token, take_argument,
 };
 use std::alloc::{AllocError, Global};
 

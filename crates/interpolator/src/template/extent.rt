@@ -1,37 +1,19 @@
 //! How wide and how deep pieces are.
-ghost use Rattle.std.specs.Prelude.{◌≡◌, ◌^◌, ◌<◌, ℕ, List, true};
-ghost use Rattle.interpolator.specs.Template.NodeExtents.{spec_extent, stored_extent, node_extent};
-ghost use Rattle.interpolator.specs.Template.NodeExtents.{branch_extent, forest_extent};
-ghost use Rattle.interpolator.specs.Template.NodeExtents.{branch_depth, forest_depth};
-ghost use Rattle.interpolator.specs.Template.Nodes.{as_forest};
-ghost use Rattle.interpolator.specs.Template.Stored.{node_of, nodes_of, node_whole, forest_whole};
+ghost use Rattle.std.specs.Prelude.{◌≡◌, ◌+◌, ◌<◌, ◌^◌, ℕ, List, IsSome, Ok, max};
+ghost use Rattle.interpolator.specs.Template.NodeExtents.{spec_extent, stored_extent};
+ghost use Rattle.interpolator.specs.Template.NodeExtents.{inner_depth, visit_depth, visit_extent};
 ghost use Rattle.interpolator.specs.Template.Stored.{branch_of};
-ghost use Rattle.interpolator.specs.declared.template.piece.Piece.TheViews.{out-Piece};
 
 use crate::template::piece::{Form, Piece};
+use crate::template::walk::{Spot, Visitor};
 use interpolator_render::Spec;
+use std::convert::Infallible;
 
-/// The greatest width or precision that pieces ask, and 0 where they ask none.
-#[cycle(widest)]
-pub(crate) fn widest_of(pieces: &[Piece]) -> usize
-    ensures { (bs : List ℕ) → forest_whole (as_forest (nodes_of bs pieces.now)) ≡ true
-        → result ≡ forest_extent (as_forest (nodes_of bs pieces.now)) }
+/// The width or the precision of a spec, whichever is greater.
+fn extent_of(spec: &Spec) -> usize
+    ensures { result ≡ spec_extent spec.now }
 {
-    let mut widest = 0;
-    for piece in pieces {
-        widest = widest.max(widest_of_piece(piece));
-    }
-    widest
-}
-
-/// The greatest that a piece asks, and those in its groups.
-#[cycle(widest)]
-fn widest_of_piece(piece: &Piece) -> usize
-    ensures { (bs : List ℕ) → node_whole (node_of bs piece.now) ≡ true
-        → result ≡ node_extent (node_of bs piece.now) }
-{
-    let groups = widest_of_item(piece).max(widest_of_join(piece));
-    own_extent(piece).max(groups)
+    spec.width.unwrap_or(0).max(spec.precision.unwrap_or(0))
 }
 
 /// What a piece asks by itself.
@@ -45,72 +27,55 @@ fn own_extent(piece: &Piece) -> usize
     }
 }
 
-/// The width or the precision of a spec, whichever is greater.
-fn extent_of(spec: &Spec) -> usize
-    ensures { result ≡ spec_extent spec.now }
-{
-    spec.width.unwrap_or(0).max(spec.precision.unwrap_or(0))
+/// The greatest width or precision that pieces ask.
+#[derive(Drop)]
+pub(crate) struct Widest(pub(crate) usize);
+
+impl Visitor for Widest {
+    type Stop = Infallible;
+
+    ghost step = { λ text old visit new answer.
+        (answer ≡ Ok tt) × (new.0 ≡ max old.0 (visit_extent visit)) };
+
+    fn enter(&mut self, _text: &str, piece: &Piece, _spot: Spot) -> Result<(), Infallible> {
+        self.0 = self.0.max(own_extent(piece));
+        Ok(())
+    }
+
+    fn leave(&mut self, _text: &str, _piece: &Piece, _spot: Spot) -> Result<(), Infallible> {
+        Ok(())
+    }
 }
 
-/// The greatest that the item format of a piece asks.
-#[cycle(widest)]
-fn widest_of_item(piece: &Piece) -> usize
-    ensures { (bs : List ℕ) → node_whole (node_of bs piece.now) ≡ true
-        → result ≡ branch_extent (branch_of bs (out-Piece piece.now).item) }
+/// In how many groups the pieces of a group stand whose argument stands in `depth`; 0 without one.
+fn inner_depth(group: &Option<Vec<Piece>>, depth: usize) -> usize
+    requires { IsSome group.now → depth + 1 < 2 ^ 64 }
+    ensures { (bs : List ℕ) → result ≡ inner_depth depth (branch_of bs group.now) }
 {
-    match &piece.item {
-        Some(pieces) => widest_of(pieces),
+    match group {
+        Some(_) => depth + 1,
         None => 0,
     }
 }
 
-/// The greatest that the join of a piece asks.
-#[cycle(widest)]
-fn widest_of_join(piece: &Piece) -> usize
-    ensures { (bs : List ℕ) → node_whole (node_of bs piece.now) ≡ true
-        → result ≡ branch_extent (branch_of bs (out-Piece piece.now).join) }
-{
-    match &piece.join {
-        Some(pieces) => widest_of(pieces),
-        None => 0,
-    }
-}
+/// In how many groups the deepest group of pieces stands, itself among them.
+#[derive(Drop)]
+pub(crate) struct Deepest(pub(crate) usize);
 
-/// How many groups of pieces stand in one another, at most.
-#[cycle(depth)]
-pub(crate) fn depth_of(pieces: &[Piece]) -> usize
-    requires fits { (bs : List ℕ) × (forest_depth (as_forest (nodes_of bs pieces.now)) < 2 ^ 64) }
-    ensures { (bs : List ℕ) → result ≡ forest_depth (as_forest (nodes_of bs pieces.now)) }
-{
-    let mut depth = 0;
-    for piece in pieces {
-        depth = depth.max(depth_of_item(piece)).max(depth_of_join(piece));
-    }
-    depth
-}
+impl Visitor for Deepest {
+    type Stop = Infallible;
 
-/// The same of the item format of a piece, the item format itself among them.
-#[cycle(depth)]
-fn depth_of_item(piece: &Piece) -> usize
-    requires fits { (bs : List ℕ)
-        × (branch_depth (branch_of bs (out-Piece piece.now).item) < 2 ^ 64) }
-    ensures { (bs : List ℕ) → result ≡ branch_depth (branch_of bs (out-Piece piece.now).item) }
-{
-    match &piece.item {
-        Some(pieces) => depth_of(pieces) + 1,
-        None => 0,
-    }
-}
+    ghost step = { λ text old visit new answer.
+        (answer ≡ Ok tt) × (new.0 ≡ max old.0 (visit_depth visit)) };
 
-/// The same of the join of a piece, the join itself among them.
-#[cycle(depth)]
-fn depth_of_join(piece: &Piece) -> usize
-    requires fits { (bs : List ℕ)
-        × (branch_depth (branch_of bs (out-Piece piece.now).join) < 2 ^ 64) }
-    ensures { (bs : List ℕ) → result ≡ branch_depth (branch_of bs (out-Piece piece.now).join) }
-{
-    match &piece.join {
-        Some(pieces) => depth_of(pieces) + 1,
-        None => 0,
+    fn enter(&mut self, _text: &str, piece: &Piece, spot: Spot) -> Result<(), Infallible> {
+        let item = inner_depth(&piece.item, spot.depth);
+        let join = inner_depth(&piece.join, spot.depth);
+        self.0 = self.0.max(item.max(join));
+        Ok(())
+    }
+
+    fn leave(&mut self, _text: &str, _piece: &Piece, _spot: Spot) -> Result<(), Infallible> {
+        Ok(())
     }
 }

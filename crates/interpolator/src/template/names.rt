@@ -1,107 +1,66 @@
 //! The names that pieces ask.
-ghost use Rattle.std.specs.Prelude.{◌≡◌, ◌++◌, IfOk, IsSome, Some, true};
+ghost use Rattle.std.specs.Prelude.{◌≡◌, ◌++◌, IfOk, IfSome, Some, true, option_map};
 ghost use Rattle.std.specs.Str.{chars};
-ghost use Rattle.interpolator.specs.Template.NodeNames.{forest_asks, node_asks, branch_asks};
-ghost use Rattle.interpolator.specs.Template.NodeNames.{held_asks, name_texts, counted};
-ghost use Rattle.interpolator.specs.Template.Nodes.{as_forest};
-ghost use Rattle.interpolator.specs.Template.Stored.{node_of, nodes_of, node_whole, forest_whole};
-ghost use Rattle.interpolator.specs.Template.Stored.{branch_of, held_of};
-ghost use Rattle.interpolator.specs.declared.template.piece.Piece.TheViews.{out-Piece};
+ghost use Rattle.interpolator.specs.Template.NodeNames.{context_names, held_asks, name_list};
+ghost use Rattle.interpolator.specs.Template.NodeNames.{name_texts, visit_asks};
+ghost use Rattle.interpolator.specs.Template.Stored.{held_of, node_of, node_whole};
+ghost use Rattle.interpolator.specs.Template.StoredMeanings.{stored_part};
 
 use crate::template::piece::{Form, Piece};
+use crate::template::walk::{Spot, Visitor};
 use crate::tree::text_of;
 use std::alloc::{AllocError, Global};
 
-/// Adds a copy of a name, but not of the empty one in an item format.
-fn push_name(
-    alloc: Global,
-    names: &mut Vec<String>,
-    name: &str,
-    in_item: bool,
-) -> Result<(), AllocError>
-    ensures { IfOk result (λ _. name_texts names.new.items
-        ≡ name_texts names.old.items ++ counted in_item (chars name.now)) }
+/// A name, but for the empty one in an item format, which is the item.
+fn context_name(name: &str, in_item: bool) -> Option<&str>
+    ensures names { name_list (option_map (λ name. chars name.now) result)
+        ≡ context_names in_item (chars name.now) }
+    ensures same { IfSome result (λ found. found.now ≡ name.now) }
 {
     if in_item && name.is_empty() {
-        return Ok(());
+        return None;
     }
-    names.push(String::from_str(alloc, name)?)?;
-    Ok(())
+    Some(name)
 }
 
-/// Adds the names that pieces of a text ask, in order.
-#[cycle(names)]
-pub(crate) fn push_names(
-    alloc: Global,
-    names: &mut Vec<String>,
-    text: &str,
-    pieces: &[Piece],
-    in_item: bool,
-) -> Result<(), AllocError>
-    requires whole { forest_whole (as_forest (nodes_of text.now pieces.now)) ≡ true }
-    ensures { IfOk result (λ _. name_texts names.new.items ≡ name_texts names.old.items
-        ++ forest_asks in_item (as_forest (nodes_of text.now pieces.now))) }
-{
-    for piece in pieces {
-        push_own(alloc, names, text, piece, in_item)?;
-        push_item(alloc, names, text, piece)?;
-        push_join(alloc, names, text, piece, in_item)?;
-    }
-    Ok(())
-}
-
-/// Adds the name of a piece, if it is an argument.
-fn push_own(
-    alloc: Global,
-    names: &mut Vec<String>,
-    text: &str,
-    piece: &Piece,
-    in_item: bool,
-) -> Result<(), AllocError>
-    requires whole { node_whole (node_of text.now piece.now) ≡ true }
-    ensures { IfOk result (λ _. name_texts names.new.items ≡ name_texts names.old.items
-        ++ held_asks in_item (held_of text.now piece.now)) }
+/// The name that a piece asks, where it is an argument.
+pub(crate) fn asked_name<'t>(text: &'t str, piece: &Piece, in_item: bool) -> Option<&'t str>
+    requires { node_whole (node_of text.now piece.now) ≡ true }
+    ensures asked { name_list (option_map (λ name. chars name.now) result)
+        ≡ held_asks in_item (held_of text.now piece.now) }
+    ensures part { IfSome result (λ name. Some (chars name.now) ≡ stored_part text.now piece.now) }
 {
     match &piece.form {
-        Form::Text => Ok(()),
-        Form::Broken(_) => Ok(()),
-        _ => push_name(alloc, names, text_of(text, piece), in_item),
+        Form::Text => None,
+        Form::Broken(_) => None,
+        _ => context_name(text_of(text, piece), in_item),
     }
 }
 
-/// Adds the names that the item format of a piece asks, where there is one.
-#[cycle(names)]
-fn push_item(
-    alloc: Global,
-    names: &mut Vec<String>,
-    text: &str,
-    piece: &Piece,
-) -> Result<(), AllocError>
-    requires whole { node_whole (node_of text.now piece.now) ≡ true }
-    ensures { IfOk result (λ _. name_texts names.new.items ≡ name_texts names.old.items
-        ++ branch_asks true (branch_of text.now (out-Piece piece.now).item)) }
-{
-    match &piece.item {
-        Some(pieces) => push_names(alloc, names, text, pieces, true),
-        None => Ok(()),
-    }
+/// Copies of the names that pieces ask, in order.
+#[derive(Drop)]
+pub(crate) struct Names {
+    pub(crate) alloc: Global,
+    pub(crate) names: Vec<String>,
 }
 
-/// Adds the names that the join of a piece asks, where there is one.
-#[cycle(names)]
-fn push_join(
-    alloc: Global,
-    names: &mut Vec<String>,
-    text: &str,
-    piece: &Piece,
-    in_item: bool,
-) -> Result<(), AllocError>
-    requires whole { node_whole (node_of text.now piece.now) ≡ true }
-    ensures { IfOk result (λ _. name_texts names.new.items ≡ name_texts names.old.items
-        ++ branch_asks in_item (branch_of text.now (out-Piece piece.now).join)) }
-{
-    match &piece.join {
-        Some(pieces) => push_names(alloc, names, text, pieces, in_item),
-        None => Ok(()),
+impl Visitor for Names {
+    type Stop = AllocError;
+
+    ghost step = { λ text old visit new answer. IfOk answer (λ _. name_texts new.names.items
+        ≡ name_texts old.names.items ++ visit_asks visit) };
+
+    fn enter(&mut self, text: &str, piece: &Piece, spot: Spot) -> Result<(), AllocError> {
+        match asked_name(text, piece, spot.in_item) {
+            Some(name) => {
+                self.names.push(String::from_str(self.alloc, name)?)?;
+                Ok(())
+            }
+            None => Ok(()),
+        }
+    }
+
+    fn leave(&mut self, _text: &str, _piece: &Piece, _spot: Spot) -> Result<(), AllocError> {
+        Ok(())
     }
 }

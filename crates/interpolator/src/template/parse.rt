@@ -4,7 +4,7 @@ ghost use Rattle.std.specs.Prelude.{option_map, vec_capacity};
 ghost use Rattle.std.specs.Str.{chars};
 ghost use Rattle.interpolator_syntax.specs.At.{at, size, strip, all_after};
 ghost use Rattle.interpolator_syntax.specs.Arguments.{argument_at, argument_after, plain_argument};
-ghost use Rattle.interpolator_syntax.specs.Arguments.{named_argument, asked_of, kind_of_asked};
+ghost use Rattle.interpolator_syntax.specs.Arguments.{named_argument, request_of, kind_of_request};
 ghost use Rattle.interpolator_syntax.specs.Arguments.{list_of};
 ghost use Rattle.interpolator_syntax.specs.Classes.{close_brace};
 ghost use Rattle.interpolator_syntax.specs.Faults.{argument_fault_of};
@@ -12,19 +12,18 @@ ghost use Rattle.interpolator_syntax.specs.Groups.{group_of};
 ghost use Rattle.interpolator_syntax.specs.Pieces.{argument_from, broken};
 ghost use Rattle.interpolator_syntax.specs.SpecTexts.{of_value, of_list, plain_spec};
 ghost use Rattle.interpolator_syntax.specs.Tokens.{argument};
-ghost use Rattle.interpolator.specs.Template.Nodes.{nodes, node, no_branch, written, piece_node};
-ghost use Rattle.interpolator.specs.Template.Nodes.{token_node};
+ghost use Rattle.interpolator_syntax.specs.Nodes.{nodes, node, no_branch, written, piece_node};
+ghost use Rattle.interpolator_syntax.specs.Nodes.{token_node};
 ghost use Rattle.interpolator.specs.Template.Stored.{StandFor, Pushed, GroupStands, part, node_of};
 ghost use Rattle.interpolator.specs.Template.Stored.{stored_held, range_of};
 ghost use Rattle.interpolator.specs.declared.template.piece.Form.TheVariants as forms;
 ghost use Rattle.interpolator.specs.Template.Reading.{ending_kind, ending_rest};
 
-use crate::template::piece::{Form, Piece, PieceKind};
-use interpolator_meaning::inside;
+use crate::template::piece::{Form, Piece};
 use interpolator_render::{Spec, Trait};
 use interpolator_syntax::{
-    ArgumentFault, ArgumentName, Asked, Cursor, Group, Range, Token, next_token, take_asked,
-    take_name,
+    ArgumentFault, ArgumentName, Cursor, Group, PieceKind, Range, Request, Token, inside,
+    next_token, take_name, take_request,
 };
 use std::alloc::{AllocError, Global};
 
@@ -218,8 +217,8 @@ fn push_asked<'t>(
         (token_node nodes place argument (at here.entry)) (at here.entry)) }
 {
     let mut end = named.end;
-    let mut asked = Asked::plain();
-    match take_asked(&mut end, &mut asked, here.place) {
+    let mut asked = Request::plain();
+    match take_request(&mut end, &mut asked, here.place) {
         Ok(()) => push_taken(alloc, pieces, place, here, named, &asked, end),
         Err(fault) => push_broken(alloc, pieces, place, here, fault),
     }
@@ -234,11 +233,11 @@ fn push_taken<'t>(
     place: usize,
     here: Cursor<'t>,
     named: ArgumentName<'t>,
-    asked: &Asked<'t>,
+    asked: &Request<'t>,
     end: Cursor<'t>,
 ) -> Result<Cursor<'t>, AllocError>
     requires start { here.place ≡ place + 1 }
-    requires read { argument_at (at here) ≡ Ok (named_argument named (asked_of asked.now), at end) }
+    requires read { argument_at (at here) ≡ Ok (named_argument named (request_of asked.now), at end) }
     requires name_end { named.end.place ≡ named.place + size (chars named.name.now) }
     ensures rest { IfOk result (λ r. at r ≡ (argument_from here.entry.place (at here.entry)).rest) }
     ensures pushed { IfOk result (λ _. Pushed pieces.old.items pieces.new.items
@@ -258,13 +257,13 @@ fn push_value<'t>(
     here: Cursor<'t>,
     named: ArgumentName<'t>,
     t: Trait,
-    asked: &Asked<'t>,
+    asked: &Request<'t>,
     end: Cursor<'t>,
 ) -> Result<Cursor<'t>, AllocError>
     requires start { here.place ≡ place + 1 }
-    requires read { argument_at (at here) ≡ Ok (named_argument named (asked_of asked.now), at end) }
+    requires read { argument_at (at here) ≡ Ok (named_argument named (request_of asked.now), at end) }
     requires name_end { named.end.place ≡ named.place + size (chars named.name.now) }
-    requires asked { kind_of_asked asked.now ≡ of_value t }
+    requires asked { kind_of_request asked.now ≡ of_value t }
     ensures rest { IfOk result (λ r. at r ≡ (argument_from here.entry.place (at here.entry)).rest) }
     ensures pushed { IfOk result (λ _. Pushed pieces.old.items pieces.new.items
         (token_node nodes place argument (at here.entry)) (at here.entry)) }
@@ -295,13 +294,13 @@ fn push_list<'t>(
     place: usize,
     here: Cursor<'t>,
     named: ArgumentName<'t>,
-    asked: &Asked<'t>,
+    asked: &Request<'t>,
     end: Cursor<'t>,
 ) -> Result<Cursor<'t>, AllocError>
     requires start { here.place ≡ place + 1 }
-    requires read { argument_at (at here) ≡ Ok (named_argument named (asked_of asked.now), at end) }
+    requires read { argument_at (at here) ≡ Ok (named_argument named (request_of asked.now), at end) }
     requires name_end { named.end.place ≡ named.place + size (chars named.name.now) }
-    requires asked { kind_of_asked asked.now ≡ of_list (list_of asked.now.list) }
+    requires asked { kind_of_request asked.now ≡ of_list (list_of asked.now.list) }
     ensures rest { IfOk result (λ r. at r ≡ (argument_from here.entry.place (at here.entry)).rest) }
     ensures pushed { IfOk result (λ _. Pushed pieces.old.items pieces.new.items
         (token_node nodes place argument (at here.entry)) (at here.entry)) }

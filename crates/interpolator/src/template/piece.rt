@@ -1,24 +1,7 @@
 //! The pieces of a format that was read once.
 
 use interpolator_render::{Spec, Trait};
-use interpolator_syntax::{ArgumentFault, Range};
-
-/// What a piece of a format is.
-#[derive(Clone, Copy, Debug, PartialEq, Eq)]
-pub enum PieceKind {
-    /// Characters that are no braces, as many as stand side by side.
-    Literal,
-    /// A doubled brace, of which one is written.
-    Doubled,
-    /// A closing brace by itself, which is written.
-    LoneClose,
-    /// An argument with its closing brace.
-    Closed,
-    /// An argument without a closing brace. It ends where its text ends.
-    Unclosed,
-    /// What cannot be read as an argument. It ends where its text ends.
-    Broken,
-}
+use interpolator_syntax::{ArgumentFault, PieceKind, Range};
 
 /// How a piece is written.
 #[derive(Drop)]

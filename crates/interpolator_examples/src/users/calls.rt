@@ -1,12 +1,12 @@
 //! Calls as README and the doc comments have them.
 
+use crate::page::Page;
 use interpolator::{
-    Context, ContextMap, Error, Formattable, Interpolate, Pairs, Template, TextBuffer, TextWrite,
-    View,
+    Context, ContextMap, Error, Formattable, Interpolate, Pairs, Refusal, Template, TextBuffer,
+    TextWrite, View,
 };
 use std::alloc::Global;
 use std::collections::HashMap;
-use std::test::Fail;
 
 /// A map, and pairs: who comes from the Rust crate writes these.
 fn from_the_crate(alloc: Global, n: u32) -> Result<String, Error> {
@@ -58,61 +58,100 @@ fn fault_of(alloc: Global, format: &str) -> Result<String, Error> {
     }
 }
 
-// Expected texts by hand, from the formats and the values.
-#[test]
-fn calls_of_readme(rt: HostRuntime) -> Result<(), Fail> {
-    let alloc = rt.alloc();
-    assert_eq!(rt; from_the_crate(alloc, 255)?.as_str(), "  255255 0xff");
-    assert_eq!(rt;
-        of_several_types(alloc, "Ann", 12)?.as_str(),
-        "\"Ann\": 12 words"
-    );
+/// The calls of README.
+fn show_readme(page: &mut Page) -> Result<(), Error> {
+    let alloc = page.alloc;
+    page.put_made("from_the_crate", from_the_crate(alloc, 255));
+    page.put_made("of_several_types", of_several_types(alloc, "Ann", 12));
     let text = String::from_str(alloc, "é")?;
-    assert_eq!(rt; of_an_owned_text(alloc, &text)?.as_str(), "é\"é\"");
-    assert_eq!(rt; of_a_list(alloc, &["a", "b"])?.as_str(), "a, b");
-    assert_eq!(rt;
-        fault_of(alloc, "{q}")?.as_str(),
-        "specified value not in context `q` at 1"
-    );
+    page.put_made("of_an_owned_text", of_an_owned_text(alloc, &text));
+    page.put_made("of_a_list", of_a_list(alloc, &["a", "b"]));
+    page.put_made("fault_of", fault_of(alloc, "{q}"));
     Ok(())
 }
 
-// Expected texts by hand, from the formats and the values.
-#[test]
-fn calls_of_a_context(rt: HostRuntime) -> Result<(), Fail> {
-    let alloc = rt.alloc();
+/// Writes by each method of a context.
+fn write_all(
+    alloc: Global,
+    out: &mut TextBuffer,
+    context: Pairs<'_, u64>,
+    template: &Template,
+) -> Result<(), Error> {
+    context.write_to(alloc, out, "{n};")?;
+    context.write_line_to(alloc, out, "{n}")?;
+    context.write_parts_to(alloc, out, &["{n}", "-{n}"])?;
+    context.write_template_to(alloc, out, template)
+}
+
+/// What is written by each method of a context.
+fn by_methods(alloc: Global) -> Result<String, Error> {
+    let context = Pairs(&[("n", Formattable::display(&7u64))]);
+    let template = Template::parse(alloc, "{n:>3}")?;
+    let mut out = TextBuffer::new(alloc);
+    write_all(alloc, &mut out, context, &template)?;
+    Ok(out.into_string())
+}
+
+/// What is made by a method of a context.
+fn made(alloc: Global, format: &str) -> Result<String, Error> {
+    Pairs(&[("n", Formattable::display(&7u64))]).format(alloc, format)
+}
+
+/// What is made by a template.
+fn made_by_template(alloc: Global, format: &str) -> Result<String, Error> {
+    let template = Template::parse(alloc, format)?;
+    Pairs(&[("n", Formattable::display(&7u64))]).format_template(alloc, &template)
+}
+
+/// Whether a name is found.
+fn found(name: &str) -> bool {
     let n = 7u64;
     let context = Pairs(&[("n", Formattable::display(&n))]);
-    assert!(rt; context.get("n").is_some());
-    assert!(rt; context.get("m").is_none());
-    assert_eq!(rt; context.format(alloc, "{n:>3}")?.as_str(), "  7");
-    let template = Template::parse(alloc, "{n:>3}")?;
-    assert_eq!(rt; context.format_template(alloc, &template)?.as_str(), "  7");
-    let mut out = TextBuffer::new(alloc);
-    context.write_to(alloc, &mut out, "{n};")?;
-    context.write_line_to(alloc, &mut out, "{n}")?;
-    context.write_parts_to(alloc, &mut out, &["{n}", "-{n}"])?;
-    context.write_template_to(alloc, &mut out, &template)?;
-    assert_eq!(rt; out.as_str(), "7;7\n7-7  7");
-    Ok(())
+    context.get(name).is_some()
 }
 
-// Expected texts by hand.
-#[test]
-fn calls_of_maps_and_writers(rt: HostRuntime) -> Result<(), Fail> {
-    let alloc = rt.alloc();
+/// Fills two slots of one name, one after the other.
+fn of_two_slots(alloc: Global) -> Result<String, Error> {
     let n = 7u64;
     let mut map = ContextMap::new(alloc);
     map.entry("n")?.set_display(&n);
     map.entry("n")?.set_binary(&n);
-    assert_eq!(rt; map.format(alloc, "{n} {n:b}")?.as_str(), "7 111");
-    assert!(rt; matches!(Error::NoMemory.try_clone(alloc), Ok(Error::NoMemory)));
-    let mut out = TextBuffer::new(alloc);
+    map.format(alloc, "{n} {n:b}")
+}
+
+/// Writes to a writer, and asks it for room.
+fn written(out: &mut TextBuffer) -> Result<(), Refusal> {
     out.write_str("né")?;
     out.write_char('!')?;
-    out.reserve(100)?;
-    assert_eq!(rt; out.as_str(), "né!");
-    assert!(rt; !out.refused());
-    assert!(rt; out.room().is_none());
+    out.reserve(100)
+}
+
+/// The calls of a writer.
+fn by_a_writer(alloc: Global) -> Result<String, Error> {
+    let mut out = TextBuffer::new(alloc);
+    let is_written = written(&mut out).is_ok();
+    let refused = out.refused();
+    let is_endless = out.room().is_none();
+    let text = out.into_string();
+    Ok(format!(in alloc; "{text} {is_written} {refused} {is_endless}")?)
+}
+
+/// A copy of a fault.
+fn of_a_copy(alloc: Global) -> Result<String, Error> {
+    let copy = Error::NoMemory.try_clone(alloc)?;
+    Ok(format!(in alloc; "{copy}")?)
+}
+
+pub fn show(page: &mut Page) -> Result<(), Error> {
+    let alloc = page.alloc;
+    show_readme(page)?;
+    page.put_made("by_methods", by_methods(alloc));
+    page.put_made("made", made(alloc, "{n:>3}"));
+    page.put_made("made_by_template", made_by_template(alloc, "{n:>3}"));
+    page.put("found", if found("n") { "yes" } else { "no" });
+    page.put("found under another", if found("m") { "yes" } else { "no" });
+    page.put_made("of_two_slots", of_two_slots(alloc));
+    page.put_made("by_a_writer", by_a_writer(alloc));
+    page.put_made("of_a_copy", of_a_copy(alloc));
     Ok(())
 }

@@ -1,9 +1,9 @@
 //! Messages by key, whose templates stand in a catalogue.
 
+use crate::page::Page;
 use interpolator::{ContextMap, Error, Formattable, Interpolate, Template, View};
 use std::alloc::{AllocError, Global};
 use std::collections::HashMap;
-use std::test::Fail;
 
 /// Templates under keys: each format is read once.
 #[derive(Drop)]
@@ -71,22 +71,28 @@ fn done(catalogue: &Catalogue, name: &str, words: u32) -> Result<String, Message
     catalogue.message("done", &values)
 }
 
-// Expected texts by hand, from the formats and the values.
-#[test]
-fn messages_by_key(rt: HostRuntime) -> Result<(), Fail> {
-    let mut catalogue = Catalogue::new(rt.alloc());
-    assert!(rt; matches!(done(&catalogue, "a", 1), Err(MessageError::NoSuchKey)));
+/// A message, or why there is none.
+fn message_text(
+    alloc: Global,
+    message: Result<String, MessageError>,
+) -> Result<String, AllocError> {
+    match message {
+        Ok(message) => Ok(message),
+        Err(error) => format!(in alloc; "{error:?}"),
+    }
+}
+
+/// A message under no key, one that is there, and one whose name is missing.
+pub fn show(page: &mut Page) -> Result<(), Error> {
+    let alloc = page.alloc;
+    let mut catalogue = Catalogue::new(alloc);
+    let text = message_text(alloc, done(&catalogue, "a", 1))?;
+    page.put("no key", text.as_str());
     catalogue.add("done", "{name:?}: {words} words")?;
-    match done(&catalogue, "a.txt", 12) {
-        Ok(message) => assert_eq!(rt; message.as_str(), "\"a.txt\": 12 words"),
-        Err(_) => assert!(rt; false, "there is a message"),
-    }
+    let text = message_text(alloc, done(&catalogue, "a.txt", 12))?;
+    page.put("done", text.as_str());
     catalogue.add("done", "{nom}")?;
-    match done(&catalogue, "a.txt", 12) {
-        Err(MessageError::Format(Error::MissingValue(name, 1))) => {
-            assert_eq!(rt; name.as_str(), "nom");
-        }
-        _ => assert!(rt; false, "there is no such name"),
-    }
+    let text = message_text(alloc, done(&catalogue, "a.txt", 12))?;
+    page.put("no name", text.as_str());
     Ok(())
 }

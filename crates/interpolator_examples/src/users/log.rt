@@ -1,8 +1,8 @@
 //! A layout for log lines: pairs of a record's fields.
 
+use crate::page::Page;
 use interpolator::{Error, Formattable, Interpolate, Pairs, Template, TextBuffer, View};
 use std::alloc::Global;
-use std::test::Fail;
 
 /// What is logged.
 #[derive(Clone, Copy)]
@@ -39,6 +39,7 @@ impl Layout {
         .write_template_to(alloc, out, &self.line)
     }
 }
+
 /// All records, each as the layout says.
 fn laid_out(alloc: Global, layout: &str, records: &[Record<'_>]) -> Result<String, Error> {
     let layout = Layout::new(alloc, layout)?;
@@ -49,28 +50,26 @@ fn laid_out(alloc: Global, layout: &str, records: &[Record<'_>]) -> Result<Strin
     Ok(out.into_string())
 }
 
-// Expected texts by hand, from the layout and the records.
-#[test]
-fn a_line_for_each_record(rt: HostRuntime) -> Result<(), Fail> {
-    let records = [
-        Record {
-            level: "INFO",
-            line: 7,
-            message: "ready",
-        },
-        Record {
-            level: "WARN",
-            line: 1234,
-            message: "\"{é}\"",
-        },
-    ];
-    assert_eq!(rt;
-        laid_out(rt.alloc(), "{level:<6}{line:>5} {message}\n", &records)?.as_str(),
-        "INFO      7 ready\nWARN   1234 \"{é}\"\n"
+/// Two records.
+const RECORDS: [Record<'static>; 2] = [
+    Record {
+        level: "INFO",
+        line: 7,
+        message: "ready",
+    },
+    Record {
+        level: "WARN",
+        line: 1234,
+        message: "\"{é}\"",
+    },
+];
+
+pub fn show(page: &mut Page) {
+    let alloc = page.alloc;
+    let log = laid_out(alloc, "{level:<6}{line:>5} {message}\n", &RECORDS);
+    page.put_made("log", log);
+    page.put_made(
+        "short log",
+        laid_out(alloc, "{line:04x} {message:?};", &RECORDS),
     );
-    assert_eq!(rt;
-        laid_out(rt.alloc(), "{line:04x} {message:?};", &records)?.as_str(),
-        "0007 \"ready\";04d2 \"\\\"{é}\\\"\";"
-    );
-    Ok(())
 }

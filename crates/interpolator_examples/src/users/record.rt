@@ -3,9 +3,9 @@ ghost use Rattle.std.specs.Prelude.{Some, None, if◌then◌else◌, codes};
 ghost use Rattle.std.specs.Str.{bytes_eq, encode_utf8_all};
 ghost use Rattle.interpolator.specs.Slots.{empty_slots, with_debug_display};
 
+use crate::page::Page;
 use interpolator::{Context, Error, Formattable, Interpolate, Template, View, is_name};
 use std::alloc::Global;
-use std::test::Fail;
 
 /// What is logged.
 #[derive(Clone, Copy)]
@@ -55,27 +55,17 @@ fn logged(alloc: Global, level: &str, line: u32, layout: &str) -> Result<String,
     entry.format(alloc, layout)
 }
 
-// Expected texts by hand, from the layout and the fields.
-#[test]
-fn fields_by_name(rt: HostRuntime) -> Result<(), Fail> {
-    assert_eq!(rt;
-        logged(rt.alloc(), "INFO", 7, "[{level}] {line:>3}")?.as_str(),
-        "[INFO]   7"
-    );
-    let layout = Template::parse(rt.alloc(), "[{level}] {line:>3}")?;
-    for (level, line, text) in [("INFO", 7, "[INFO]   7"), ("WARN", 1234, "[WARN] 1234")] {
-        assert_eq!(rt; logged_by(rt.alloc(), level, line, &layout)?.as_str(), text);
+/// Records, at once and by a layout that is read once; and names that no field has.
+pub fn show(page: &mut Page) -> Result<(), Error> {
+    let alloc = page.alloc;
+    let layout = "[{level}] {line:>3}";
+    page.put_made("record", logged(alloc, "INFO", 7, layout));
+    let layout = Template::parse(alloc, layout)?;
+    for (level, line) in [("INFO", 7), ("WARN", 1234)] {
+        page.put_made("record", logged_by(alloc, level, line, &layout));
     }
-    for (format, absent) in [
-        ("{Level}", "Level"),
-        ("{leve}", "leve"),
-        ("{}", ""),
-        ("{line }", "line "),
-    ] {
-        match logged(rt.alloc(), "INFO", 7, format) {
-            Err(Error::MissingValue(name, 1)) => assert_eq!(rt; name.as_str(), absent),
-            _ => assert!(rt; false, "a missing name at {format}"),
-        }
+    for format in ["{Level}", "{leve}", "{}", "{line }"] {
+        page.put_made(format, logged(alloc, "INFO", 7, format));
     }
     Ok(())
 }

@@ -1,8 +1,8 @@
 //! Lists of lists whose rows come when the program runs.
 
+use crate::page::Page;
 use interpolator::{ContextMap, Error, Formattable, Interpolate, View, items_of, rows_of};
 use std::alloc::Global;
-use std::test::Fail;
 
 /// A list whose items are the lines of a text.
 fn listed(alloc: Global, text: &str) -> Result<String, Error> {
@@ -30,26 +30,8 @@ fn table(alloc: Global, text: &str) -> Result<String, Error> {
     context.format(alloc, "{rows:i#({:i0({:<6})}{:i1..({:>4})})#(\n)}")
 }
 
-// Expected texts by hand, from the formats and the texts.
-#[test]
-fn rows_of_run_time(rt: HostRuntime) -> Result<(), Fail> {
-    let alloc = rt.alloc();
-    assert_eq!(rt; listed(alloc, "a\nbc\n")?.as_str(), "   a,   bc");
-    assert_eq!(rt;
-        table(alloc, "crème,7,12\nbread,1234\n\ntea,5,6,7")?.as_str(),
-        "crème    7  12\nbread 1234\n      \ntea      5   6   7"
-    );
-    Ok(())
-}
-
-/// How many items stand up to each row's end, and what the rows of 1, 2 and 3 are then.
-const ENDS: [(&[usize], &str); 5] = [
-    (&[2, 3], "1,2;3"),
-    (&[], ""),
-    (&[0, 1, 1], ";1;"),
-    (&[2, 1, 9], "1,2;;2,3"),
-    (&[7, 8], "1,2,3;"),
-];
+/// How many items stand up to each row's end.
+const ENDS: [&[usize]; 5] = [&[2, 3], &[], &[0, 1, 1], &[2, 1, 9], &[7, 8]];
 
 /// The rows that these ends make.
 fn by_ends(alloc: Global, cells: &[u64], ends: &[usize]) -> Result<String, Error> {
@@ -60,11 +42,15 @@ fn by_ends(alloc: Global, cells: &[u64], ends: &[usize]) -> Result<String, Error
     map.format(alloc, "{rows:i#({:i({})(,)})#(;)}")
 }
 
-#[test]
-fn rows_by_their_ends(rt: HostRuntime) -> Result<(), Fail> {
-    for (ends, text) in &ENDS {
-        let made = by_ends(rt.alloc(), &[1, 2, 3], ends)?;
-        assert_eq!(rt; made.as_str(), *text, "{ends:?}");
+/// A list, a table, and rows by their ends.
+pub fn show(page: &mut Page) -> Result<(), Error> {
+    let alloc = page.alloc;
+    page.put_made("listed", listed(alloc, "a\nbc\n"));
+    let table = table(alloc, "crème,7,12\nbread,1234\n\ntea,5,6,7");
+    page.put_made("table", table);
+    for ends in &ENDS {
+        let name = format!(in alloc; "by_ends {ends:?}")?;
+        page.put_made(name.as_str(), by_ends(alloc, &[1, 2, 3], ends));
     }
     Ok(())
 }

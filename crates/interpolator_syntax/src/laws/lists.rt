@@ -3,7 +3,7 @@
 ghost use Rattle.std.specs.Prelude.{◌≡◌, ℕ, Option, Ok, Err};
 ghost use Rattle.interpolator_syntax.specs.At.{At};
 ghost use Rattle.interpolator_syntax.specs.Ranges.{range_at};
-ghost use Rattle.interpolator_syntax.specs.Lists.{ListAsked, list_at};
+ghost use Rattle.interpolator_syntax.specs.Lists.{ListRequest, list_at};
 ghost use Rattle.interpolator_syntax.specs.ListGrammar.{IsRange, IsNoRange, IsList, IsNoList};
 ghost use Rattle.interpolator_syntax.specs.Faults.{Fault};
 ghost use Rattle.interpolator_syntax.specs.declared.range.Range.{Range};
@@ -49,9 +49,9 @@ pub fn range_is_refused_otherwise()
 /// the join `, `; after that of `{l:i( )}` an item format alone; and after that of `{l:i}`
 /// nothing.
 pub fn list_is_its_parts()
-    ensures is { (start : ℕ) (a q : At) (list : ListAsked) → list_at start a ≡ Ok (list, q)
+    ensures is { (start : ℕ) (a q : At) (list : ListRequest) → list_at start a ≡ Ok (list, q)
         → IsList start a list q }
-    ensures only { (start : ℕ) (a q : At) (list : ListAsked) → IsList start a list q
+    ensures only { (start : ℕ) (a q : At) (list : ListRequest) → IsList start a list q
         → list_at start a ≡ Ok (list, q) }
 {}
 

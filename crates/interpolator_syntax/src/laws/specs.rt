@@ -2,7 +2,7 @@
 
 ghost use Rattle.std.specs.Prelude.{◌≡◌, ℕ, Ok, Err};
 ghost use Rattle.interpolator_syntax.specs.At.{At};
-ghost use Rattle.interpolator_syntax.specs.SpecTexts.{Asked, spec_after};
+ghost use Rattle.interpolator_syntax.specs.SpecTexts.{Request, spec_after};
 ghost use Rattle.interpolator_syntax.specs.SpecGrammar.{IsSpec, IsNoSpec};
 ghost use Rattle.interpolator_syntax.specs.Faults.{Fault};
 
@@ -27,9 +27,9 @@ ghost use Rattle.interpolator_syntax.specs.Faults.{Fault};
 /// width, nor does `}<5}`, and `>6i1..({})(,)}` asks for the list from its second item on, with
 /// `{}` for an item and `,` between two.
 pub fn spec_is_its_parts()
-    ensures is { (start : ℕ) (a q : At) (asked : Asked) → spec_after start a ≡ Ok (asked, q)
+    ensures is { (start : ℕ) (a q : At) (asked : Request) → spec_after start a ≡ Ok (asked, q)
         → IsSpec start a asked q }
-    ensures only { (start : ℕ) (a q : At) (asked : Asked) → IsSpec start a asked q
+    ensures only { (start : ℕ) (a q : At) (asked : Request) → IsSpec start a asked q
         → spec_after start a ≡ Ok (asked, q) }
 {}
 

@@ -1,40 +1,41 @@
 //! Lists of many items.
 
-use interpolator::{Formattable, Interpolate, Pairs, Template, TextBuffer};
+use crate::report::Report;
+use interpolator::{Error, Formattable, Interpolate, Pairs, Template, TextBuffer};
 use std::alloc::Global;
-use std::test::Fail;
 
-/// How many times the digits stand in the lists.
+/// How many times the ten digits stand in the lists.
 const TIMES: usize = 10_000;
 
-/// This beginning, and after it the digits, so often.
-fn digits(alloc: Global, beginning: &str) -> Result<String, Fail> {
-    let mut text = String::from_str(alloc, beginning)?;
-    for _ in 0..TIMES {
-        text.push_str("0123456789")?;
-    }
-    Ok(text)
+const DIGITS: [&str; 10] = ["0", "1", "2", "3", "4", "5", "6", "7", "8", "9"];
+
+/// A hundred thousand items are written as this text.
+fn gives(report: &mut Report, items: &[Formattable<'_, &str>], format: &str, text: &str) {
+    let alloc = report.alloc;
+    let pairs = Pairs(&[("l", Formattable::iter(&*items))]);
+    report.made(format, (text, ""), pairs.format(alloc, format));
+    let mut out = TextBuffer::new(alloc);
+    let answer = pairs.write_to(alloc, &mut out, format);
+    report.written(format, (text, ""), out.as_str(), answer);
+    report.made(format, (text, ""), by_template(alloc, pairs, format));
 }
 
-// A hundred thousand items, without a width and with one.
-#[test]
-fn long_lists(rt: HostRuntime) -> Result<(), Fail> {
-    let values = ["0", "1", "2", "3", "4", "5", "6", "7", "8", "9"];
-    let mut items = Vec::new(rt.alloc());
+/// The text of the format's template.
+fn by_template(alloc: Global, pairs: Pairs<'_, &str>, format: &str) -> Result<String, Error> {
+    let template = Template::parse(alloc, format)?;
+    pairs.format_template(alloc, &template)
+}
+
+/// Many items, without a width and with one.
+pub fn run(report: &mut Report) -> Result<(), Error> {
+    let alloc = report.alloc;
+    let mut items = Vec::new(alloc);
     for place in 0..10 * TIMES {
-        items.push(Formattable::display(&values[place % values.len()]))?;
+        items.push(Formattable::display(&DIGITS[place % DIGITS.len()]))?;
     }
-    for (format, beginning) in [("{l:i}", ""), ("{l:>100003i}", "   ")] {
-        let pairs = Pairs(&[("l", Formattable::iter(&items))]);
-        let wanted = digits(rt.alloc(), beginning)?;
-        let text = pairs.format(rt.alloc(), format)?;
-        assert!(rt; text.as_str() == wanted.as_str(), "at {format}");
-        let mut out = TextBuffer::new(rt.alloc());
-        pairs.write_to(rt.alloc(), &mut out, format)?;
-        assert!(rt; out.as_str() == wanted.as_str(), "at {format}");
-        let template = Template::parse(rt.alloc(), format)?;
-        let text = pairs.format_template(rt.alloc(), &template)?;
-        assert!(rt; text.as_str() == wanted.as_str(), "at {format}");
-    }
+    let text = "0123456789".repeat(alloc, TIMES)?;
+    gives(report, &items, "{l:i}", text.as_str());
+    let text = format!(in alloc; "   {text}")?;
+    gives(report, &items, "{l:>100003i}", text.as_str());
     Ok(())
 }

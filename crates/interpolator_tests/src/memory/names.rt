@@ -2,19 +2,16 @@
 //! for a text whose braces are doubled. Asked again, each call gives its row.
 
 use crate::own::Nowhere;
-use interpolator::{Context, ContextMap, Error, Formattable, escape, write};
-use interpolator_testing::limited::Limited;
-use interpolator_testing::told::{Told, told_by};
+use crate::report::Report;
+use interpolator::{Context, ContextMap, Error, Formattable, TextBuffer, escape, write};
 use std::alloc::{AllocError, Global};
-use std::process::Abort;
-use std::test::Fail;
 
 /// Whether the name is lent. Else memory was refused.
-fn is_lent(rt: &impl Abort, map: &mut ContextMap<'_, u64>, name: &str) -> bool {
+fn is_lent(report: &mut Report, map: &mut ContextMap<'_, u64>, name: &str) -> bool {
     match map.entry(name) {
         Ok(_) => true,
         Err(error) => {
-            assert!(rt; error == Error::NoMemory, "at {name}");
+            report.refused(name, error == Error::NoMemory);
             false
         }
     }
@@ -25,27 +22,27 @@ fn is_put<'a>(map: &mut ContextMap<'a, u64>, name: &str, value: Formattable<'a, 
     map.put(name, value).is_ok()
 }
 
-// What is refused leaves the map as it was.
-#[test]
-fn names_are_put_and_entered_or_want_memory(rt: HostRuntime) {
+/// Whether the map has these names, and so many.
+fn has(map: &ContextMap<'_, u64>, a: bool, b: bool, count: usize) -> bool {
+    map.get("a").is_some() == a && map.get("b").is_some() == b && map.len() == count
+}
+
+/// What is refused leaves the map as it was.
+fn maps(report: &mut Report) {
     let value = 7u64;
     let shown = Formattable::display(&value);
-    let mut map = ContextMap::new(rt.alloc());
+    let mut map = ContextMap::new(report.alloc);
     if !is_put(&mut map, "a", shown) {
-        assert_eq!(rt; map.len(), 0);
-        assert!(rt; map.get("a").is_none());
-        assert!(rt; is_put(&mut map, "a", shown));
+        report.refused("a put that is refused", has(&map, false, false, 0));
+        report.refused("a put again", is_put(&mut map, "a", shown));
     }
-    assert_eq!(rt; map.len(), 1);
-    if !is_lent(&rt, &mut map, "b") {
-        assert_eq!(rt; map.len(), 1);
-        assert!(rt; map.get("b").is_none());
-        assert!(rt; map.get("a").is_some());
-        assert!(rt; is_lent(&rt, &mut map, "b"));
+    report.holds("a name that is put", has(&map, true, false, 1));
+    if !is_lent(report, &mut map, "b") {
+        report.refused("an entry that is refused", has(&map, true, false, 1));
+        let lent = is_lent(report, &mut map, "b");
+        report.refused("an entry again", lent);
     }
-    assert_eq!(rt; map.len(), 2);
-    assert!(rt; map.get("b").is_some());
-    assert!(rt; map.get("a").is_some());
+    report.holds("a name that is entered", has(&map, true, true, 2));
 }
 
 /// A copy of a text. Where memory is refused, it is asked once more.
@@ -57,26 +54,32 @@ fn copied(alloc: Global, text: &str) -> Result<String, AllocError> {
 }
 
 /// Whether the fault is copied. Else memory was refused.
-fn is_cloned(rt: &impl Abort, alloc: Global, fault: &Error) -> bool {
-    match fault.try_clone(alloc) {
+fn is_cloned(report: &mut Report, fault: &Error) -> bool {
+    match fault.try_clone(report.alloc) {
         Ok(copy) => {
-            assert!(rt; copy == *fault);
+            report.holds("a copy of a fault", copy == *fault);
             true
         }
         Err(error) => {
-            assert!(rt; error == Error::NoMemory);
+            report.refused("a copy of a fault", error == Error::NoMemory);
             false
         }
     }
 }
 
-#[test]
-fn faults_are_cloned_or_want_memory(rt: HostRuntime) -> Result<(), Fail> {
-    let alloc = rt.alloc();
-    let fault = Error::MissingValue(copied(alloc, "q")?, 1);
-    assert!(rt; is_cloned(&rt, alloc, &fault) || is_cloned(&rt, alloc, &fault));
-    let kept: Result<(), Error> = Err(fault);
-    assert_eq!(rt; told_by(&kept), Told::MissingValue("q", 1));
+/// Whether the fault is that no value is under `q`, at this place.
+fn is_missing(fault: &Error, wanted: usize) -> bool {
+    match fault {
+        Error::MissingValue(name, place) => name.as_str() == "q" && *place == wanted,
+        _ => false,
+    }
+}
+
+fn faults(report: &mut Report) -> Result<(), AllocError> {
+    let fault = Error::MissingValue(copied(report.alloc, "q")?, 1);
+    let cloned = is_cloned(report, &fault) || is_cloned(report, &fault);
+    report.holds("a fault is copied", cloned);
+    report.holds("the copied fault stays", is_missing(&fault, 1));
     Ok(())
 }
 
@@ -90,40 +93,51 @@ const ESCAPED: [(&str, &str); 4] = [
 ];
 
 /// Whether a text is doubled to this one. Else memory was refused.
-fn is_doubled(rt: &impl Abort, alloc: Global, text: &str, doubled: &str) -> bool {
-    match escape(alloc, text) {
+fn is_doubled(report: &mut Report, text: &str, doubled: &str) -> bool {
+    match escape(report.alloc, text) {
         Ok(format) => {
-            assert_eq!(rt; format.as_str(), doubled, "at {text}");
+            report.text(text, doubled, format.as_str());
             true
         }
         Err(error) => {
-            assert!(rt; error == Error::NoMemory, "at {text}");
+            report.refused(text, error == Error::NoMemory);
             false
         }
     }
 }
 
-#[test]
-fn escape_gives_the_format_or_wants_memory(rt: HostRuntime) {
+fn escapes(report: &mut Report) {
     for (text, doubled) in ESCAPED {
-        let given = is_doubled(&rt, rt.alloc(), text, doubled)
-            || is_doubled(&rt, rt.alloc(), text, doubled);
-        assert!(rt; given, "at {text}");
+        let given = is_doubled(report, text, doubled) || is_doubled(report, text, doubled);
+        report.holds(text, given);
     }
 }
 
-// Where the name's copy is refused, the answer is `NoMemory`, and the text before it stands. The
-// writer takes its room before, so that N is 2 or more.
-#[test]
-fn a_missing_name_is_told_or_wants_memory(rt: HostRuntime) -> Result<(), Fail> {
-    let mut out = Limited::new(rt.alloc(), 2)?;
-    let mut answer = write(rt.alloc(), &mut out, "ab{q}", &Nowhere);
-    if told_by(&answer) == Told::NoMemory {
-        assert_eq!(rt; out.as_str(), "ab");
-        out = Limited::new(rt.alloc(), 2)?;
-        answer = write(rt.alloc(), &mut out, "ab{q}", &Nowhere);
+/// Whether the name is told that is missing. Where its copy is refused, the answer is `NoMemory`, and
+/// the text before it stands. The writer has its room before.
+fn is_told(report: &mut Report) -> bool {
+    let alloc = report.alloc;
+    let Ok(room) = String::with_capacity(alloc, 8) else {
+        return false;
+    };
+    let mut out = TextBuffer::from_string(room);
+    let answer = write(alloc, &mut out, "ab{q}", &Nowhere);
+    report.refused("the text before a missing name", out.as_str() == "ab");
+    match answer {
+        Err(Error::NoMemory) => false,
+        Err(fault) => is_missing(&fault, 3),
+        Ok(()) => false,
     }
-    assert_eq!(rt; told_by(&answer), Told::MissingValue("q", 3));
-    assert_eq!(rt; out.as_str(), "ab");
-    Ok(())
+}
+
+fn missing_names(report: &mut Report) {
+    let told = is_told(report) || is_told(report);
+    report.holds("a missing name is told", told);
+}
+
+pub fn run(report: &mut Report) -> Result<(), AllocError> {
+    maps(report);
+    escapes(report);
+    missing_names(report);
+    faults(report)
 }

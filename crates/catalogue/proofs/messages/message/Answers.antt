@@ -8,7 +8,7 @@ pub returns : goal.returns
 returns c =
     let t = told_fault (answer_of c.in-Err.error)
     (message_means c.args.found.now.template c.in_ok-pairs.pairs.items).fault c.in-Some.field-0
-    (sym c.in-Some.is ∙ c.place_of.ensures)
+    (sym c.in-Some.is ∙ c.place.ensures)
     (rw c.deref.ensures.value at c.in-Err.ensures.formats) in
     record {
       f = t.0;

@@ -2,8 +2,8 @@ use Rattle.std.proofs.Common.{◌+◌, length, ap, arith, Some}
 use Rattle.std.proofs.lemmas.List.{drop_all}
 use Rattle.interpolator_syntax.specs.Faults.{answer_of}
 use Rattle.interpolator.specs.Meaning.Parts.{bytes_of}
-use Rattle.interpolator_meaning.proofs.MeaningLemmas.SinkLemmas.{same_then, goes_on}
-use Rattle.interpolator_meaning.proofs.MeaningLemmas.PlaceLemmas.{lies_in_more}
+use Rattle.interpolator_eval.proofs.MeaningLemmas.SinkLemmas.{same_then, goes_on}
+use Rattle.interpolator_eval.proofs.MeaningLemmas.PlaceLemmas.{lies_in_more}
 use Rattle.interpolator.proofs.PartLemmas.{part_runs, part_faults, no_parts_run}
 use Rattle.interpolator.proofs.PartLemmas.{part_at, rest_at}
 use Rattle.interpolator.proofs.parts.write_each.Goals as goal

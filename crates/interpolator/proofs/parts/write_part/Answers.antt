@@ -1,8 +1,8 @@
 use Rattle.std.proofs.Common.{ap, sym, ℕ, ◌+◌}
 use Rattle.std.specs.Str.{chars}
-use Rattle.interpolator_meaning.specs.Meaning.Scopes.{environment_of}
+use Rattle.interpolator_eval.specs.Meaning.Scopes.{environment_of}
 use Rattle.interpolator_syntax.proofs.CharacterLemmas.{size-chars}
-use Rattle.interpolator_meaning.proofs.MeaningLemmas.PlaceLemmas.{outcome_lies_from}
+use Rattle.interpolator_eval.proofs.MeaningLemmas.PlaceLemmas.{outcome_lies_from}
 use Rattle.interpolator.proofs.parts.write_part.Goals as goal
 
 pub returns-in-Ok-clause-after : goal.returns-in-Ok-clause-after

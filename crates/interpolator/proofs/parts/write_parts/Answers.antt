@@ -1,4 +1,4 @@
-use Rattle.interpolator_meaning.specs.Meaning.Environments.{environment}
+use Rattle.interpolator_eval.specs.Meaning.Environments.{environment}
 use Rattle.interpolator.specs.Meaning.Parts.{texts_of}
 use Rattle.interpolator.proofs.PartLemmas.{parts_are_one}
 use Rattle.interpolator.proofs.parts.write_parts.Goals as goal

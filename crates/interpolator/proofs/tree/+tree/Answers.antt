@@ -3,15 +3,15 @@ use Rattle.std.specs.Str.{chars}
 use Rattle.std.proofs.lemmas.Result.{err_from_is_err_and}
 use Rattle.interpolator_render.specs.declared.view.Trait.TheVariants as traits
 use Rattle.interpolator_syntax.specs.SpecTexts.{plain_spec}
-use Rattle.interpolator_meaning.specs.Slots.{slots_of}
-use Rattle.interpolator_meaning.specs.Meaning.Scopes.{environment_of}
-use Rattle.interpolator.specs.Template.Nodes.{bare_value, bare_list}
+use Rattle.interpolator_eval.specs.Slots.{slots_of}
+use Rattle.interpolator_eval.specs.Meaning.Scopes.{environment_of}
+use Rattle.interpolator_syntax.specs.Nodes.{bare_value, bare_list}
 use Rattle.interpolator.specs.Template.Stored.{range_of}
 use Rattle.interpolator.specs.Template.StoredMeanings.{stored_join_means, stored_item_means}
 use Rattle.interpolator.specs.Template.StoredMeanings.{stored_items_mean}
 use Rattle.interpolator.specs.declared.template.piece.Piece.TheViews.{out-Piece}
-use Rattle.interpolator_meaning.proofs.MeaningLemmas.SinkLemmas.{same_then, same_end, goes_on}
-use Rattle.interpolator_meaning.proofs.MeaningLemmas.SinkLemmas.{whole_refused, whole_fault}
+use Rattle.interpolator_eval.proofs.MeaningLemmas.SinkLemmas.{same_then, same_end, goes_on}
+use Rattle.interpolator_eval.proofs.MeaningLemmas.SinkLemmas.{whole_refused, whole_fault}
 use Rattle.interpolator.proofs.TemplateLemmas.RunLemmas.{text_fits}
 use Rattle.interpolator.proofs.TemplateLemmas.RunLemmas.{name_fits, value_fits, list_fits}
 use Rattle.interpolator.proofs.TemplateLemmas.RunLemmas.{text_held, broken_held, name_held}

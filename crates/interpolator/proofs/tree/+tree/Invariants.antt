@@ -1,11 +1,11 @@
 use Rattle.std.proofs.Common.{map, drop, Option}
 use Rattle.interpolator_syntax.specs.Faults.{Answer}
-use Rattle.interpolator_meaning.specs.Slots.{slots_of}
-use Rattle.interpolator_meaning.specs.Meaning.Meanings.{items_after}
-use Rattle.interpolator_meaning.specs.Meaning.Scopes.{environment_of}
-use Rattle.interpolator_meaning.specs.Meaning.Outcomes.{Outcome}
+use Rattle.interpolator_eval.specs.Slots.{slots_of}
+use Rattle.interpolator_eval.specs.Meaning.Meanings.{items_after}
+use Rattle.interpolator_eval.specs.Meaning.Scopes.{environment_of}
+use Rattle.interpolator_eval.specs.Meaning.Outcomes.{Outcome}
 use Rattle.interpolator_render.specs.Written.{Written}
-use Rattle.interpolator_meaning.specs.Meaning.Sinks.{SameEnd, taken_by}
+use Rattle.interpolator_eval.specs.Meaning.Sinks.{SameEnd, taken_by}
 use Rattle.interpolator.specs.Template.StoredMeanings.{stored_pieces_mean, stored_join_means}
 use Rattle.interpolator.specs.Template.StoredMeanings.{stored_item_means, stored_items_mean}
 use Rattle.interpolator.specs.declared.template.piece.Piece.TheViews.{out-Piece}

@@ -1,15 +1,43 @@
-use Rattle.std.proofs.Common.{◌≡◌, ◌+◌, ◌-◌, ◌∷◌, [], length, arith}
+use Rattle.std.proofs.Common.{◌≡◌, ◌+◌, ◌-◌, ◌∷◌, [], inl, length, refl, arith}
 use Rattle.std.proofs.Common.{length-append}
 use Rattle.std.specs.Str.Lines.{lines}
 use Rattle.std.proofs.lemmas.Iterator.Adapters.{YieldsList-from_skip}
 use Rattle.std.proofs.lemmas.Iterator.Consumers.{YieldsList-at, YieldsList-end, YieldsList-so_far}
 use Rattle.std.proofs.lemmas.Iterator.Consumers.{YieldsList-turn}
 use Rattle.std.proofs.lemmas.Iterator.Splits.{YieldsList-from_lines}
-use Rattle.merge.proofs.LetterLemmas.{letters_more, line_at}
+use Rattle.std.proofs.lemmas.Result.{err_from_is_err_and}
+use Rattle.merge.proofs.LetterLemmas.{letters_more, line_at, prevented}
 use Rattle.merge.proofs.letters.merged.Goals as goal
 
-pub returns-in-Err-clause-at : goal.returns-in-Err-clause-at
-returns-in-Err-clause-at c =
+pub returns-in_err-check_template-clause-fault : goal.returns-in_err-check_template-clause-fault
+returns-in_err-check_template-clause-fault c =
+    let err = err_from_is_err_and c.from_residual-in_err-check_template.result
+    c.from_residual-in_err-check_template.ensures.1 in
+    rw (err.1, err.2)
+    (rw (c.in_ok-template.ensures.template, c.as_slice-names.ensures.value, c.in_ok-held.ensures)
+    at c.in_err-check_template.ensures)
+
+pub returns-in_err-template-clause-fault : goal.returns-in_err-template-clause-fault
+returns-in_err-template-clause-fault c =
+    let err = err_from_is_err_and c.from_residual.result c.from_residual.ensures.1 in
+    rw (err.1, err.2) (inl c.in_err-template.ensures.refused)
+
+pub returns-in_err-held-clause-fault : goal.returns-in_err-held-clause-fault
+returns-in_err-held-clause-fault c =
+    let err = err_from_is_err_and c.from_residual-in_err-held.result
+    c.from_residual-in_err-held.ensures.1 in
+    rw (err.1, err.2) (inl refl)
+
+pub returns-clause-sound : goal.returns-clause-sound
+returns-clause-sound c =
+    rw (c.in_ok-template.ensures.template, c.as_slice-names.ensures.value, c.in_ok-held.ensures)
+    at c.in_ok-check_template.ensures
+
+pub returns-in-Err-clause-fault : goal.returns-in-Err-clause-fault
+returns-in-Err-clause-fault c =
+    let sound =
+    rw (c.in_ok-template.ensures.template, c.as_slice-names.ensures.value, c.in_ok-held.ensures)
+    at c.in_ok-check_template.ensures in
     let road = YieldsList-at c.into_iter-line-iterator.ensures.into_iter_gives
     (YieldsList-from_skip 1 (YieldsList-at c.skip-line-items.ensures.source
     (YieldsList-from_lines c.args.table.now c.lines.ensures.rest))
@@ -21,22 +49,19 @@ returns-in-Err-clause-at c =
     c.loop-line.yielded_by in
     let count : length c.loop-line.yielded ≡ c.loop-line.row + 1 - 2 =
     omega (arith, c.loop-line.invariant.counted) in
-    record {
-      line = c.in-Some.line.now;
-      after_first = omega (arith, c.loop-line.invariant.counted);
-      at = line_at (lines c.args.table.now) (length c.loop-line.yielded) c.loop-line.row
-          c.in-Some.line.now c.loop-line.invariant.counted turn.0 turn.1;
-      fails =
-          rw (c.in_ok-template.ensures.template, c.deref.ensures.value, c.in_ok-names.ensures)
-          at c.in-Err.ensures;
-      before = c.loop-line.out.text;
-      written = rw count at (rw so_far at c.loop-line.invariant.letters);
-    }
+    prevented c.args.template.now c.args.table.now (c.loop-line.row + 1) c.in-Some.line.now
+    c.loop-line.out.text c.in-Err.fault sound
+    (omega (arith, c.loop-line.invariant.counted))
+    (line_at (lines c.args.table.now) (length c.loop-line.yielded) c.loop-line.row
+    c.in-Some.line.now c.loop-line.invariant.counted turn.0 turn.1)
+    (rw count at (rw so_far at c.loop-line.invariant.letters))
+    (rw (c.as_slice-names.ensures.value, c.in_ok-held.ensures)
+    at (c.in-Err.ensures c.in_ok-check_template.ensures))
 
 pub loop-line-preserved : goal.loop-line-preserved
 loop-line-preserved c =
-    let put = rw (c.in_ok-template.ensures.template, c.deref.ensures.value, c.in_ok-names.ensures)
-    at c.in_default.ensures in
+    let put = rw (c.in_ok-template.ensures.template, c.as_slice-names.ensures.value, c.in_ok-held.ensures)
+    at (c.in_default.ensures c.in_ok-check_template.ensures) in
     record {
       counted = omega (
         arith,

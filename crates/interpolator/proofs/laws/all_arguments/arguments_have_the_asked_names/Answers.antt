@@ -5,7 +5,7 @@ use Rattle.interpolator_syntax.specs.Lists.{list_at}
 use Rattle.interpolator_syntax.specs.Pieces.{pieces, argument_from}
 use Rattle.interpolator_syntax.specs.Ranges.{range_at}
 use Rattle.interpolator_syntax.specs.SpecTexts.{spec_from_sign, spec_after}
-use Rattle.interpolator_meaning.specs.Meaning.AskedNames.{asked_names}
+use Rattle.interpolator_eval.specs.Meaning.AskedNames.{asked_names}
 use Rattle.interpolator.specs.Template.AllArguments.{arguments_of}
 use Rattle.interpolator.proofs.TemplateLemmas.AllArgumentLemmas.{arguments_name}
 use Rattle.interpolator.proofs.laws.all_arguments.arguments_have_the_asked_names.Goals as goal

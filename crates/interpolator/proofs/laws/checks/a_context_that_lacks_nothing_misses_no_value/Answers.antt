@@ -1,5 +1,5 @@
-use Rattle.interpolator_meaning.specs.Meaning.AskedNames.{asked_names}
-use Rattle.interpolator_meaning.specs.Meaning.Environments.{environment}
+use Rattle.interpolator_eval.specs.Meaning.AskedNames.{asked_names}
+use Rattle.interpolator_eval.specs.Meaning.Environments.{environment}
 use Rattle.interpolator.proofs.TemplateLemmas.LackLawLemmas.{value_missed, nothing_missed}
 use Rattle.interpolator.proofs.TemplateLemmas.LackLawLemmas.{lacked_name}
 use Rattle.interpolator.proofs.laws.checks.a_context_that_lacks_nothing_misses_no_value.Goals as goal

@@ -6,7 +6,7 @@ use Rattle.interpolator_syntax.specs.Pieces.{argument_from}
 use Rattle.interpolator_syntax.specs.Ranges.{range_at}
 use Rattle.interpolator_syntax.specs.SpecTexts.{spec_from_sign, spec_after}
 use Rattle.interpolator_syntax.specs.Tokens.{first_token}
-use Rattle.interpolator.specs.Template.Nodes.{nodes}
+use Rattle.interpolator_syntax.specs.Nodes.{nodes}
 use Rattle.interpolator.proofs.TemplateLemmas.CheckLawLemmas.{text_has, none_has, first_faulty}
 use Rattle.interpolator.proofs.TemplateLemmas.CheckPlaceLemmas.{faults_of_text}
 use Rattle.interpolator.proofs.laws.checks.a_fault_of_its_own_is_that_of_some_piece.Goals as goal

@@ -6,7 +6,7 @@ use Rattle.interpolator_syntax.specs.Pieces.{argument_from}
 use Rattle.interpolator_syntax.specs.Ranges.{range_at}
 use Rattle.interpolator_syntax.specs.SpecTexts.{spec_from_sign, spec_after}
 use Rattle.interpolator_syntax.specs.Tokens.{first_token}
-use Rattle.interpolator.specs.Template.Nodes.{nodes}
+use Rattle.interpolator_syntax.specs.Nodes.{nodes}
 use Rattle.interpolator.proofs.TemplateLemmas.DeepLemmas.{deep_is_long}
 use Rattle.interpolator.proofs.laws.depths.a_deep_format_is_long.Goals as goal
 

@@ -1,5 +1,5 @@
 use Rattle.std.proofs.Common.{refl}
-use Rattle.interpolator_meaning.specs.Meaning.Meanings.{inside}
+use Rattle.interpolator_syntax.specs.Groups.{inside}
 use Rattle.interpolator.proofs.TemplateLemmas.ContiguousLemmas.{nodes_contiguous}
 use Rattle.interpolator.proofs.laws.templates.nodes_stand_one_after_the_other.Goals as goal
 

@@ -1,7 +1,7 @@
 use Rattle.std.proofs.Common.{◌∙◌, ap, rules}
 use Rattle.std.specs.Str.{chars}
 use Rattle.interpolator_syntax.specs.At.{outermost}
-use Rattle.interpolator_meaning.specs.Meaning.Environments.{environment}
+use Rattle.interpolator_eval.specs.Meaning.Environments.{environment}
 use Rattle.interpolator.specs.Template.Stored.{nodes_of}
 use Rattle.interpolator.proofs.TemplateLemmas.RunLemmas.{rest_whole, rest_outcome}
 use Rattle.interpolator.proofs.laws.templates.rest_of_the_pieces_is_written.Goals as goal

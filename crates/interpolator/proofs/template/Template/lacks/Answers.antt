@@ -1,37 +1,32 @@
-use Rattle.std.proofs.Common.{ap, ◌∙◌, false}
-use Rattle.std.specs.Prelude.{string_bytes}
+use Rattle.std.proofs.Common.{refl, ap, ◌∙◌}
 use Rattle.std.specs.Str.{chars}
 use Rattle.interpolator_syntax.specs.At.{outermost}
-use Rattle.interpolator_meaning.specs.Meaning.Environments.{environment}
-use Rattle.interpolator.specs.Template.NodeLacks.{first_lacking}
-use Rattle.interpolator.specs.Template.NodeNames.{forest_asks}
-use Rattle.interpolator.specs.Template.Nodes.{as_forest, nodes}
-use Rattle.interpolator.specs.Template.Stored.{nodes_of, forest_whole}
-use Rattle.interpolator.proofs.TemplateLemmas.NodeNameLemmas.{nodes_ask}
-use Rattle.interpolator.proofs.TemplateLemmas.WholeLemmas.{nodes_whole}
+use Rattle.interpolator.specs.Template.Stored.{part}
+use Rattle.interpolator.specs.declared.template.lacks.Lacking.{Lacking}
+use Rattle.interpolator.proofs.TemplateLemmas.LackLemmas.{text_lacks}
 use Rattle.interpolator.proofs.template.Template.lacks.Goals as goal
 
-pub lacking-requires : goal.lacking-requires
-lacking-requires g c =
-    let all =
-    ap (λ bs. nodes_of bs c.deref.result.now) c.as_str.ensures.value
-    ∙ ap (nodes_of (string_bytes c.self.inside.text)) c.deref.ensures.value ∙ c.self.invariant
-    ∙ ap (λ bs. nodes (outermost (chars bs))) c.self.view_is in
-    record {
-      whole = ap (λ xs. forest_whole (as_forest xs)) all
-          ∙ nodes_whole (outermost (chars c.args.self.now));
-    }
+pub returns-in-Ok : goal.returns-in-Ok
+returns-in-Ok g c =
+    let text = c.args.self.now in
+    let all = text_lacks {V = Lacking g.row.C.Denot} g.C.Context.finds (λ v. v.context.now) text _
+    (λ old new x answer told. told) (outermost (chars text)) _ _ _ c.in-Ok.ensures.walks in
+    record { first = all.0 }
 
-pub returns : goal.returns
-returns g c =
-    let all =
-    ap (λ bs. nodes_of bs c.deref.result.now) c.as_str.ensures.value
-    ∙ ap (nodes_of (string_bytes c.self.inside.text)) c.deref.ensures.value ∙ c.self.invariant
-    ∙ ap (λ bs. nodes (outermost (chars bs))) c.self.view_is in
-    let e = environment (g.C.Context.finds c.args.context.now) in
+pub cut-requires : goal.cut-requires
+cut-requires g c =
+    let text = c.args.self.now in
+    let all = text_lacks {V = Lacking g.row.C.Denot} g.C.Context.finds (λ v. v.context.now) text _
+    (λ old new x answer told. told) (outermost (chars text)) _ _ _ c.in-Err.ensures.walks in
+    record { fits = rw (c.as_str.ensures.value, c.self.view_is) (all.1 refl) }
+
+pub returns-in-Err : goal.returns-in-Err
+returns-in-Err g c =
+    let text = c.args.self.now in
+    let all = text_lacks {V = Lacking g.row.C.Denot} g.C.Context.finds (λ v. v.context.now) text _
+    (λ old new x answer told. told) (outermost (chars text)) _ _ _ c.in-Err.ensures.walks in
     record {
-      first =
-          c.lacking.ensures
-          ∙ ap (λ xs. first_lacking e (forest_asks false (as_forest xs))) all
-          ∙ ap (first_lacking e) (nodes_ask (outermost (chars c.args.self.now)));
+      first = c.cut.ensures.text
+          ∙ ap (λ bs. part bs c.in-Err.from c.in-Err.to) (c.as_str.ensures.value ∙ c.self.view_is)
+          ∙ all.0;
     }

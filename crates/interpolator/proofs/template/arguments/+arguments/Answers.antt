@@ -1,10 +1,10 @@
 use Rattle.std.proofs.Common.{◌≡◌, ◌∙◌, sym, arith, map, Some}
 use Rattle.std.proofs.lemmas.List.{append-nil}
-use Rattle.interpolator_syntax.specs.Arguments.{argument_of, named_argument, asked_of}
+use Rattle.interpolator_syntax.specs.Arguments.{argument_of, named_argument, request_of}
 use Rattle.interpolator_syntax.specs.At.{at, strip}
 use Rattle.interpolator_syntax.specs.Classes.{close_brace}
 use Rattle.interpolator_syntax.specs.Tokens.{argument, first_token, token_of}
-use Rattle.interpolator_meaning.proofs.MeaningLemmas.MeaningLemmas.{token_shorter, scan_shorter}
+use Rattle.interpolator_syntax.proofs.TokenLemmas.{token_shorter, scan_shorter}
 use Rattle.interpolator.proofs.TemplateLemmas.AllArgumentLemmas.{no_argument, gathers_on}
 use Rattle.interpolator.proofs.TemplateLemmas.AllArgumentLemmas.{all_gathered, gathers_nothing}
 use Rattle.interpolator.proofs.TemplateLemmas.AllArgumentLemmas.{argument_pushed, kind_fits}
@@ -26,7 +26,7 @@ push_argument-returns-in_ok-push_groups-in-Ok-clause-rest t c =
     let taken = c.in-Ok.taken in
     rw (taken_is here taken c.in-Ok.ensures.read c.in-Ok.ensures.rest, c.in-Ok.ensures.rest)
     (c.ending.ensures.rest
-    ∙ ending_is c.args.here.place here (named_argument taken.name (asked_of taken.asked))
+    ∙ ending_is c.args.here.place here (named_argument taken.name (request_of taken.asked))
     (at taken.end) (strip close_brace (at taken.end)) (sym c.in-Ok.ensures.read))
 
 pub push_argument-returns-in_ok-push_groups-in-Ok-clause-pushed :

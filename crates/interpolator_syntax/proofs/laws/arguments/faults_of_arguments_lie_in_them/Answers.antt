@@ -1,8 +1,7 @@
 use Rattle.interpolator_syntax.specs.Arguments.{from_byte}
-use Rattle.interpolator_syntax.proofs.ArgumentFaultLemmas.{fault_of_argument}
-use Rattle.interpolator_syntax.proofs.FaultPlaceLemmas.{fault_from, fault_in_bytes}
+use Rattle.interpolator_syntax.proofs.ArgumentFaultLemmas.{fault_of_argument, fault_in_bytes}
 use Rattle.interpolator_syntax.proofs.GrammarArgumentLemmas.{broken_is}
-use Rattle.interpolator_syntax.proofs.ReaderLemmas.{argument_refuses}
+use Rattle.interpolator_syntax.proofs.ReaderLemmas.{argument_refuses, fault_from}
 use Rattle.interpolator_syntax.proofs.laws.arguments.faults_of_arguments_lie_in_them.Goals as goal
 
 pub returns-clause-kinds : goal.returns-clause-kinds

@@ -1,8 +1,10 @@
-use Rattle.interpolator_syntax.proofs.GrammarListLemmas.{list_is, only_list}
+use Rattle.interpolator_syntax.proofs.GrammarListLemmas.{law_list}
+use Rattle.interpolator_syntax.proofs.GrammarPartLemmas.{agrees_is}
+use Rattle.interpolator_syntax.proofs.KeepLemmas.{still}
 use Rattle.interpolator_syntax.proofs.laws.lists.list_is_its_parts.Goals as goal
 
 pub returns-clause-is : goal.returns-clause-is
-returns-clause-is c = list_is
+returns-clause-is c = λ start. agrees_is (law_list (still start)).agrees
 
 pub returns-clause-only : goal.returns-clause-only
-returns-clause-only c = only_list
+returns-clause-only c = λ start. (law_list (still start)).agrees.only

@@ -1,8 +1,10 @@
-use Rattle.interpolator_syntax.proofs.GrammarListLemmas.{range_is, only_range}
+use Rattle.interpolator_syntax.proofs.GrammarListLemmas.{law_range}
+use Rattle.interpolator_syntax.proofs.GrammarPartLemmas.{agrees_is}
+use Rattle.interpolator_syntax.proofs.KeepLemmas.{still}
 use Rattle.interpolator_syntax.proofs.laws.lists.range_is_its_parts.Goals as goal
 
 pub returns-clause-is : goal.returns-clause-is
-returns-clause-is c = range_is
+returns-clause-is c = λ start. agrees_is (law_range (still start)).agrees
 
 pub returns-clause-only : goal.returns-clause-only
-returns-clause-only c = only_range
+returns-clause-only c = λ start. (law_range (still start)).agrees.only

@@ -1,8 +1,10 @@
-use Rattle.interpolator_syntax.proofs.GrammarListLemmas.{no_range_is, only_no_range}
+use Rattle.interpolator_syntax.proofs.GrammarListLemmas.{law_range}
+use Rattle.interpolator_syntax.proofs.GrammarPartLemmas.{agrees_is_not}
+use Rattle.interpolator_syntax.proofs.KeepLemmas.{still}
 use Rattle.interpolator_syntax.proofs.laws.lists.range_is_refused_otherwise.Goals as goal
 
 pub returns-clause-is : goal.returns-clause-is
-returns-clause-is c = no_range_is
+returns-clause-is c = λ start. agrees_is_not (law_range (still start)).agrees
 
 pub returns-clause-only : goal.returns-clause-only
-returns-clause-only c = only_no_range
+returns-clause-only c = λ start. (law_range (still start)).agrees.only_not

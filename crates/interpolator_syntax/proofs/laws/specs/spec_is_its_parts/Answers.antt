@@ -1,9 +1,11 @@
 -- A spec is its parts: a lemma a clause.
-use Rattle.interpolator_syntax.proofs.GrammarSpecLemmas.{spec_is, only_spec}
+use Rattle.interpolator_syntax.proofs.GrammarPartLemmas.{agrees_is}
+use Rattle.interpolator_syntax.proofs.GrammarSpecLemmas.{law_spec}
+use Rattle.interpolator_syntax.proofs.KeepLemmas.{still}
 use Rattle.interpolator_syntax.proofs.laws.specs.spec_is_its_parts.Goals as goal
 
 pub returns-clause-is : goal.returns-clause-is
-returns-clause-is c = spec_is
+returns-clause-is c = λ start. agrees_is (law_spec (still start)).agrees
 
 pub returns-clause-only : goal.returns-clause-only
-returns-clause-only c = only_spec
+returns-clause-only c = λ start. (law_spec (still start)).agrees.only

@@ -1,9 +1,11 @@
 -- A spec is refused where no parts make it: a lemma a clause.
-use Rattle.interpolator_syntax.proofs.GrammarSpecLemmas.{no_spec_is, only_no_spec}
+use Rattle.interpolator_syntax.proofs.GrammarPartLemmas.{agrees_is_not}
+use Rattle.interpolator_syntax.proofs.GrammarSpecLemmas.{law_spec}
+use Rattle.interpolator_syntax.proofs.KeepLemmas.{still}
 use Rattle.interpolator_syntax.proofs.laws.specs.spec_is_refused_otherwise.Goals as goal
 
 pub returns-clause-is : goal.returns-clause-is
-returns-clause-is c = no_spec_is
+returns-clause-is c = λ start. agrees_is_not (law_spec (still start)).agrees
 
 pub returns-clause-only : goal.returns-clause-only
-returns-clause-only c = only_no_spec
+returns-clause-only c = λ start. (law_spec (still start)).agrees.only_not

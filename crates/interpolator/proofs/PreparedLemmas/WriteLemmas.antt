@@ -1,0 +1,126 @@
+-- What is written for stored steps over a row is what their format means.
+use Rattle.std.proofs.Common.{◌≡◌, ◌∙◌, refl, sym, ap, arith, ℕ, zero, suc, ◌<◌, ◌≤◌, List, [], ◌∷◌, length, map}
+use Rattle.std.proofs.Common.{Option, None, Some, IsSome, get_or, option_map}
+use Rattle.std.proofs.lemmas.Option.{slice_get_past}
+use Rattle.std.proofs.lemmas.List.{length-map}
+use Rattle.std.specs.Prelude.{String, string_bytes}
+use Rattle.std.specs.Str.{chars, IsUtf8}
+use Rattle.interpolator_render.specs.declared.view.Trait.{Trait}
+use Rattle.interpolator_render.specs.declared.view.Spec.{Spec}
+use Rattle.interpolator_render.specs.Views.{Shown}
+use Rattle.interpolator_render.specs.Written.{Written}
+use Rattle.interpolator_syntax.specs.At.{outermost, placed_from}
+use Rattle.interpolator_syntax.specs.Faults.{Answer}
+use Rattle.interpolator_syntax.specs.Nodes.{nodes}
+use Rattle.interpolator_eval.specs.Slots.{Slots, slots_of, values_of, slot_at}
+use Rattle.interpolator_eval.specs.declared.slots.Formattable.{Formattable}
+use Rattle.interpolator_eval.specs.Meaning.Environments.{Environment, environment, given, bind}
+use Rattle.interpolator_eval.specs.Meaning.Meanings.{Meaning, means, under_name, value_means, text_alone}
+use Rattle.interpolator_eval.specs.Meaning.Outcomes.{Outcome}
+use Rattle.interpolator_eval.specs.Meaning.Sinks.{Writes}
+use Rattle.interpolator_eval.specs.declared.meaning.sink.Sink.{Sink}
+use Rattle.interpolator.specs.Prepared.Programs.{program, position_means}
+use Rattle.interpolator.specs.Prepared.Rows.{found_by_row, row_at, name_bytes, last_position}
+use Rattle.std.specs.Option.{option_and_then}
+use Rattle.std.proofs.lemmas.Str.{encodes-chars}
+use Rattle.interpolator.specs.Prepared.StoredSteps.{step_of, stored_steps_mean, fitting_means}
+use Rattle.interpolator.specs.Prepared.StoredSteps.{parts_size, joined_placed}
+use Rattle.interpolator.specs.Prepared.Programs.{Instruction, text_step, node_step}
+use Rattle.interpolator.specs.Template.NodeMeanings.{node_means}
+use Rattle.interpolator.specs.Template.Stored.{part, node_of, node_whole}
+use Rattle.interpolator.specs.declared.template.piece.Piece.{Piece}
+use Rattle.interpolator.specs.declared.prepared.step.Asked.{Asked}
+use Rattle.interpolator.specs.declared.prepared.step.JoinedText.{JoinedText}
+use Rattle.interpolator.specs.declared.prepared.step.Step.TheVariants.{Literal, Joined, Plain, Under, Whole}
+use Rattle.interpolator_render.specs.declared.view.Trait.TheVariants as traits
+use Rattle.interpolator_syntax.specs.SpecTexts.{plain_spec}
+use Rattle.std.specs.Global.{Box}
+use Rattle.std.specs.Prelude.{◌==◌, if◌then◌else◌}
+use Rattle.std.proofs.Common.{Bool, true, false}
+use Rattle.interpolator.specs.declared.prepared.step.Step.{Step}
+use Rattle.interpolator.proofs.PreparedLemmas.ProgramLemmas.{program_means}
+use Rattle.interpolator.proofs.PreparedLemmas.StepLemmas.{program_stored}
+use Rattle.interpolator.proofs.TemplateLemmas.NodeMeaningLemmas.{nodes_mean}
+
+-- a row reaches each position below its length
+pub row_reaches : {X : Type 0} (row : List (Formattable X)) (k : ℕ) → k < length row
+    → IsSome (row_at row k)
+row_reaches [] k h = absurd (omega (arith, h))
+row_reaches (x ∷ row) zero h = refl
+row_reaches (x ∷ row) (suc k) h = row_reaches row k (omega (arith, h))
+
+-- the value of a row at a position
+pub item_at : {X : Type 0} (row : List (Formattable X)) (k : ℕ) (x : Formattable X)
+    → k < length row → x ≡ get_or row k x → row_at row k ≡ Some (slots_of x)
+item_at [] k x h is = absurd (omega (arith, h))
+item_at (y ∷ row) zero x h is = ap (λ z. Some (slots_of z)) (sym is)
+item_at (y ∷ row) (suc k) x h is = item_at row k x (omega (arith, h)) is
+
+pub none_at : {X : Type 0} (row : List (Formattable X)) (k : ℕ) → length row ≤ k
+    → row_at row k ≡ None
+none_at row k h = ap (option_map slots_of) (slice_get_past row k h)
+
+-- what a row and its names give under a name
+module _ {X Z : Type 0} (names : List (String Z)) (row : List (Formattable X)) (key : List ℕ)
+    (utf8 : IsUtf8 key) where
+  abbrev Found : Option (Slots X)
+  Found = found_by_row (name_bytes names) (row_at row) (chars key)
+
+  found_at : (o : Option ℕ) → o ≡ last_position (name_bytes names) key
+      → option_and_then (row_at row) o ≡ Found
+  found_at o is =
+      ap (option_and_then (row_at row)) is
+      ∙ ap (λ bs. option_and_then (row_at row) (last_position (name_bytes names) bs))
+      (sym (encodes-chars key utf8))
+
+  pub row_found : (k : ℕ) (x : Formattable X) → Some k ≡ last_position (name_bytes names) key
+      → k < length row → x ≡ get_or row k x → Some (slots_of x) ≡ Found
+  row_found k x is h at = sym (item_at row k x h at) ∙ found_at (Some k) is
+
+  pub row_short : (k : ℕ) → Some k ≡ last_position (name_bytes names) key → length row ≤ k
+      → None ≡ Found
+  row_short k is h = sym (none_at row k h) ∙ found_at (Some k) is
+
+  pub row_absent : None ≡ last_position (name_bytes names) key → None ≡ Found
+  row_absent is = found_at None is
+
+-- and each name of as many, or fewer
+pub names_reached : {X Z : Type 0} (names : List (String Z)) (row : List (Formattable X))
+    → length names ≤ length row → (k : ℕ) → k < length (name_bytes names) → IsSome (row_at row k)
+names_reached names row h k l =
+    let all : length (name_bytes names) ≡ length names = length-map names (λ name. string_bytes name) in
+    row_reaches row k (omega (arith, all, h, l))
+
+-- what a row's value means is what the bound item does under the empty name
+pub item_writes :
+    {X W : Type 0} (shows : X → Trait → Spec → Shown) (into : W → Written) (e f : Environment X)
+    (value_at : ℕ → Option (Slots X)) (t : Trait) (spec : Spec) (end : ℕ) (found : Slots X)
+    (name : List ℕ) (o : Option (Slots X)) (s u : Sink W) (answer : Option Answer)
+    → f ≡ bind e found → name ≡ [] → o ≡ Some found
+    → Writes into (under_name name 0
+    (λ found. value_means shows t spec end (slot_at t (values_of found))) (given f name)) s u answer
+    → Writes into (position_means shows e value_at t spec end o) s u answer
+item_writes shows into e f value_at t spec end found name o s u answer bound empty is w =
+    let same : position_means shows e value_at t spec end o
+    ≡ under_name name 0 (λ found. value_means shows t spec end (slot_at t (values_of found)))
+    (given f name) =
+    rw (bound, empty, is) refl in
+    record { outcome = rw same w.outcome; same = w.same }
+
+pub row_outcome :
+    {X : Type 0} (shows : X → Trait → Spec → Shown) (f : Environment X) (names : List (List ℕ))
+    (value_at : ℕ → Option (Slots X)) (bs : List ℕ) (steps : List Step) (old new : Written)
+    (answer : Option Answer) → f ≡ environment (found_by_row names value_at)
+    → ((k : ℕ) → k < length names → IsSome (value_at k))
+    → map (step_of bs) steps ≡ map Some (program names (nodes (outermost (chars bs))))
+    → Outcome (stored_steps_mean shows f value_at bs steps) old new answer
+    → Outcome (means shows (environment (found_by_row names value_at)) (outermost (chars bs))) old new
+    answer
+row_outcome shows f names value_at bs steps old new answer is reached stands o =
+    let e = environment (found_by_row names value_at) in
+    let a = outermost (chars bs) in
+    let same : stored_steps_mean shows f value_at bs steps ≡ means shows e a =
+    ap (λ g. stored_steps_mean shows g value_at bs steps) is
+    ∙ program_stored shows e value_at bs steps (program names (nodes a)) stands
+    ∙ program_means shows names value_at reached (nodes a) ∙ nodes_mean shows e a in
+    rw same at o

@@ -1,0 +1,650 @@
+-- What pieces mean costs no more than what is said of them, within limits.
+use Rattle.std.proofs.Common.{◌≡◌, ◌∙◌, refl, sym, subst, arith, ℕ, suc, ◌+◌, ◌-◌, ◌*◌, ◌≤◌, max}
+use Rattle.std.proofs.Common.{Bool, true, false, List, [], ◌∷◌, ◌++◌, length, Option, None, Some}
+use Rattle.std.proofs.Common.{is_some, unwrap_or, length-append, inl, inr, ◌≢◌, ◌⊎◌, ◌^◌, codes}
+use Rattle.std.proofs.lemmas.List.{length-map}
+use Rattle.std.proofs.Math.Nat.{mul-le-mul_right, mul-le-mul_left}
+use Rattle.std.specs.Prelude.{⊤, if◌then◌else◌}
+use Rattle.std.specs.Char.{len_utf8}
+use Rattle.interpolator_render.specs.Lengths.{HasAtMost, most_written, capped}
+use Rattle.interpolator_render.specs.Texts.{ViewText, has_text, has_no_text, has_failed, view_text}
+use Rattle.interpolator_render.specs.Views.{Shown}
+use Rattle.interpolator_render.specs.declared.view.Spec.{Spec}
+use Rattle.interpolator_render.specs.declared.view.Trait.{Trait}
+use Rattle.interpolator_render.specs.declared.view.Trait.TheVariants as traits
+use Rattle.interpolator_render.proofs.LawLemmas.{padded_text_count}
+use Rattle.interpolator_render.proofs.LengthLemmas.{view_within, written_grows}
+use Rattle.interpolator_syntax.specs.At.{At, Placed, placed_from, text_of}
+use Rattle.interpolator_syntax.specs.Faults.{Fault, parse, iter, expected, missing_value}
+use Rattle.interpolator_syntax.specs.SpecTexts.{plain_spec}
+use Rattle.interpolator_syntax.specs.Nodes.{Node, node, Branch, no_branch, branch, Forest, no_nodes}
+use Rattle.interpolator_syntax.specs.Nodes.{nodes_and, as_forest, nodes, Held, written, valued}
+use Rattle.interpolator_syntax.specs.Nodes.{refused, Bare, bare_value, bare_list}
+use Rattle.interpolator_syntax.specs.declared.piece_kind.PieceKind.{PieceKind}
+use Rattle.interpolator_syntax.specs.declared.piece_kind.PieceKind.TheVariants as kinds
+use Rattle.interpolator_syntax.specs.declared.range.Range.{Range}
+use Rattle.interpolator_syntax.proofs.CaseLemmas.{in_both}
+use Rattle.interpolator_eval.specs.Slots.{Slots, SlotsList, bare, listed, no_slots, slots_and}
+use Rattle.interpolator_eval.specs.Slots.{values_of, items, slot_at, slots_listed}
+use Rattle.interpolator_eval.specs.Meaning.AskedNames.{asked_names}
+use Rattle.interpolator_eval.specs.Meaning.Choices.{chosen_items}
+use Rattle.interpolator_eval.specs.Meaning.Environments.{Environment, given, bind}
+use Rattle.interpolator_eval.specs.Meaning.Limits.{SlotWithin, ValuesWithin, SlotsWithin, ItemsWithin}
+use Rattle.interpolator_eval.specs.Meaning.Limits.{FoundWithin, IsWithin, most_chosen}
+use Rattle.interpolator_eval.specs.Meaning.Meanings.{Meaning, nothing, fault_alone, or_fault, joined}
+use Rattle.interpolator_eval.specs.Meaning.Meanings.{view_means, value_means, forbids_list, made_whole}
+use Rattle.interpolator_eval.specs.Meaning.Meanings.{items_after, items_mean, under_name}
+use Rattle.interpolator_eval.specs.Meaning.Meanings.{listed_means, means}
+use Rattle.interpolator_eval.proofs.MeaningLemmas.RelatedLemmas.{bound_same}
+use Rattle.interpolator.specs.Template.NodeCosts.{piece_cost, then_cost, item_cost}
+use Rattle.interpolator.specs.Template.NodeCosts.{items_cost, padded_cost, value_cost}
+use Rattle.interpolator.specs.Template.NodeCosts.{held_cost, node_cost, item_branch_cost}
+use Rattle.interpolator.specs.Template.NodeCosts.{join_branch_cost, forest_cost, text_cost}
+use Rattle.interpolator.specs.Template.NodeMeanings.{and_closed, bare_means, held_means}
+use Rattle.interpolator.specs.Template.NodeMeanings.{plain_item_means, node_means, join_branch_means}
+use Rattle.interpolator.specs.Template.NodeMeanings.{item_branch_means, forest_means}
+use Rattle.interpolator.specs.Template.NodeNames.{context_names, held_asks, node_asks, branch_asks}
+use Rattle.interpolator.specs.Template.NodeNames.{forest_asks}
+use Rattle.interpolator.specs.Template.NodeWork.{Work, no_work, piece_and, or_stop, item_work}
+use Rattle.interpolator.specs.Template.NodeWork.{work_after, items_work, chosen_work, listed_work}
+use Rattle.interpolator.specs.Template.NodeWork.{under_work, bare_work, held_work, node_work}
+use Rattle.interpolator.specs.Template.NodeWork.{join_branch_work, item_branch_work, forest_work}
+use Rattle.interpolator.specs.Template.NodeWork.{text_work}
+use Rattle.interpolator.specs.declared.template.cost.Cost.{Cost}
+use Rattle.interpolator.specs.declared.template.cost.Limits.{Limits}
+use Rattle.interpolator.proofs.TemplateLemmas.NodeMeaningLemmas.{nodes_mean}
+use Rattle.interpolator.proofs.TemplateLemmas.NodeNameLemmas.{nodes_ask}
+use Rattle.interpolator.proofs.TemplateLemmas.RangeLemmas.{Each, each_chosen, chosen_fewer, chosen_grows}
+
+-- ---- what costs no more
+
+-- a meaning, and what writing it goes through, cost at most so much
+pub record AtMost (m : Meaning) (w : Work) (c : Cost) : Type 0 where
+  pub characters : length m.text ≤ c.characters
+  pub pieces : w.pieces ≤ c.pieces
+  pub buffered : w.held ≤ c.buffered
+
+none_at_most : (c : Cost) → AtMost nothing no_work c
+none_at_most c = record {
+  characters = omega arith;
+  pieces = omega arith;
+  buffered = omega arith;
+}
+
+fault_at_most : (f : Fault) (points : List ℕ) (c : Cost)
+    → AtMost (record { text = []; fault = Some f; memory_points = points }) no_work c
+fault_at_most f points c = record {
+  characters = omega arith;
+  pieces = omega arith;
+  buffered = omega arith;
+}
+
+joined_at_most : (m k : Meaning) (w v : Work) (c d : Cost) → AtMost m w c → AtMost k v d
+    → AtMost (joined m k) (or_stop m.fault w v) (then_cost c d)
+joined_at_most m k w v c d h j =
+    elim m.fault as (λ o. AtMost (or_fault o m k) (or_stop o w v) (then_cost c d)) [
+      | Some f ↦ record {
+        characters = omega (arith, h.characters);
+        pieces = omega (arith, h.pieces);
+        buffered = omega (arith, h.buffered);
+      }
+      | None ↦ record {
+        characters = rw length-append (omega (arith, h.characters, j.characters));
+        pieces = omega (arith, h.pieces, j.pieces);
+        buffered = omega (arith, h.buffered, j.buffered);
+      }
+    ]
+
+-- ---- items
+
+-- so many items, each with the join before it
+abbrev after_cost : ℕ → (item join : Cost) → Cost
+after_cost n item join = record {
+  characters = n * item.characters + n * join.characters;
+  pieces = n * item.pieces + n * join.pieces;
+  buffered = max item.buffered join.buffered;
+}
+
+more_cost : {m : Meaning} {w : Work} (c d : Cost) → c.characters ≤ d.characters
+    → c.pieces ≤ d.pieces → c.buffered ≤ d.buffered → AtMost m w c → AtMost m w d
+more_cost c d h k l a = record {
+  characters = omega (arith, h, a.characters);
+  pieces = omega (arith, k, a.pieces);
+  buffered = omega (arith, l, a.buffered);
+}
+
+-- more items cost more
+more_items : (n most item join : ℕ) → suc n ≤ most
+    → item + (n * item + n * join) ≤ most * item + (most - 1) * join
+more_items n most item join h =
+    let first = mul-le-mul_right item h in
+    let less : n ≤ most - 1 = omega (arith, h) in
+    let second = mul-le-mul_right join less in omega (arith, first, second)
+
+module _ {A : Type 0} (P : A → Type 0) (join : Meaning) (joins : Work) (joined_by : Cost)
+    (item : A → Meaning) (each : A → Work) (one : Cost)
+    (join_costs : AtMost join joins joined_by)
+    (item_costs : (x : A) → P x → AtMost (item x) (each x) one) where
+  after_at_most : (xs : List A) → Each P xs
+      → AtMost (items_after join item xs) (work_after join joins item each xs)
+      (after_cost (length xs) one joined_by)
+  after_at_most [] h = none_at_most _
+  after_at_most (x ∷ xs) h =
+      let rest = after_at_most xs h.1 in
+      more_cost (then_cost joined_by (then_cost one (after_cost (length xs) one joined_by))) _
+      (omega arith) (omega arith) (omega arith)
+      (joined_at_most join _ joins _ _ _ join_costs
+      (joined_at_most (item x) _ (each x) _ _ _ (item_costs x h.0) rest))
+
+  items_at_most : (xs : List A) → Each P xs → (most : ℕ) → length xs ≤ most
+      → AtMost (items_mean join item xs) (items_work join joins item each xs)
+      (items_cost most one joined_by)
+  items_at_most [] h most l = none_at_most _
+  items_at_most (x ∷ xs) h most l =
+      let rest = after_at_most xs h.1 in
+      let n = length xs in
+      more_cost (then_cost one (after_cost n one joined_by)) _
+      (more_items n most one.characters joined_by.characters l)
+      (more_items n most one.pieces joined_by.pieces l) (omega arith)
+      (joined_at_most (item x) _ (each x) _ _ _ (item_costs x h.0) rest)
+
+  -- made whole and padded
+  whole_at_most : (spec : Spec) (q width : ℕ) (w : Work) (o : Option Fault) (text : Placed)
+      (c : Cost) → spec.width ≡ Some width → length text ≤ c.characters → w.pieces ≤ c.pieces
+      → w.held ≤ c.buffered
+      → AtMost (made_whole spec q o (text_of text))
+      (record { pieces = w.pieces; held = length text + w.held }) (padded_cost (Some width) c)
+  whole_at_most spec q width w (Some f) text c e h k l = record {
+    characters = omega arith;
+    pieces = k;
+    buffered = omega (arith, h, l);
+  }
+  whole_at_most spec q width w None text c e h k l = record {
+    characters =
+        let size : unwrap_or spec.width 0 ≡ width = rw e refl in
+        rw (length-map, padded_text_count spec (text_of text), length-map)
+        (omega (arith, size, h));
+    pieces = k;
+    buffered = omega (arith, h, l);
+  }
+
+  padded_at_most : (spec : Spec) (q : ℕ) (width : Option ℕ) → spec.width ≡ width → (xs : List A)
+      → Each P xs → (most : ℕ) → length xs ≤ most
+      → AtMost (if is_some width then made_whole spec q (items_mean join item xs).fault
+      (text_of (items_mean join item xs).text) else items_mean join item xs)
+      (chosen_work join joins item each width xs)
+      (padded_cost width (items_cost most one joined_by))
+  padded_at_most spec q None e xs h most l = items_at_most xs h most l
+  padded_at_most spec q (Some width) e xs h most l =
+      let all = items_at_most xs h most l in
+      let m = items_mean join item xs in
+      whole_at_most spec q width (items_work join joins item each xs) m.fault m.text _ e
+      all.characters all.pieces all.buffered
+
+  -- one piece more
+  with_piece : (m : Meaning) (w : Work) (c : Cost) → AtMost m w c
+      → AtMost m (piece_and w) (then_cost (piece_cost 0) c)
+  with_piece m w c a = record {
+    characters = omega (arith, a.characters);
+    pieces = omega (arith, a.pieces);
+    buffered = omega (arith, a.buffered);
+  }
+
+  listed_at_most : (limit : ℕ) (range : Option Range) (spec : Spec) (q : ℕ) (o : Option (List A))
+      → ((xs : List A) → o ≡ Some xs → Each P xs × (length xs ≤ limit))
+      → AtMost (listed_means range spec q join item o)
+      (piece_and (listed_work join joins item each range spec o))
+      (then_cost (piece_cost 0)
+      (padded_cost spec.width (items_cost (most_chosen limit range) one joined_by)))
+  listed_at_most limit range spec q None h = with_piece _ _ _ (fault_at_most _ [] _)
+  listed_at_most limit range spec q (Some xs) h =
+      let within = h xs refl in
+      with_piece _ _ _ (by_test (forbids_list spec)
+      (padded_at_most spec q spec.width refl (chosen_items range xs)
+      (each_chosen P range xs within.0) (most_chosen limit range)
+      (chosen_fewer limit range xs within.1)))
+    where
+      by_test : (b : Bool) {m : Meaning} {w : Work} {c : Cost} → AtMost m w c
+          → AtMost (if b then fault_alone (parse (iter q)) else m) (if b then no_work else w) c
+      by_test true a = record {
+        characters = omega arith;
+        pieces = omega arith;
+        buffered = omega arith;
+      }
+      by_test false a = a
+
+-- ---- values within limits
+
+module _ {X : Type 0} (shows : X → Trait → Spec → Shown) (limits : Limits) where
+  abbrev Slotted : Slots X → Type 0
+  Slotted tree = SlotsWithin shows limits.text limits.items tree
+
+  abbrev Found : Option (Slots X) → Type 0
+  Found o = FoundWithin shows limits.text limits.items o
+
+  abbrev Within : Environment X → List (List ℕ) → Type 0
+  Within e names = IsWithin shows limits.text limits.items e names
+
+  values_within : (tree : Slots X) → Slotted tree
+      → ValuesWithin shows limits.text limits.items (values_of tree)
+  values_within (bare filled) h = h
+  values_within (listed filled others) h = h.0
+
+  each_listed : (others : SlotsList X) → ItemsWithin shows limits.text limits.items others
+      → Each Slotted (slots_listed others)
+  each_listed no_slots h = tt
+  each_listed (slots_and tree others) h = (h.0, each_listed others h.1)
+
+  items_within : (tree : Slots X) → Slotted tree → (ts : List (Slots X)) → items tree ≡ Some ts
+      → Each Slotted ts × (length ts ≤ limits.items)
+  items_within (bare filled) h ts e = absurd (cc)
+  items_within (listed filled others) h ts e =
+      let same : slots_listed others ≡ ts = cc in
+      subst (λ xs. Each Slotted xs × (length xs ≤ limits.items)) same
+      (each_listed others h.2, h.1)
+
+  -- ---- names
+
+  within_parts : (e : Environment X) (xs ys : List (List ℕ)) → Within e (xs ++ ys)
+      → Within e xs × Within e ys
+  within_parts e [] ys h = (tt, h)
+  within_parts e (x ∷ xs) ys h = let parts = within_parts e xs ys h.1 in ((h.0, parts.0), parts.1)
+
+  -- in an item format the item stands under the empty name
+  within_bound : (e : Environment X) (tree : Slots X) (names : List (List ℕ)) → Slotted tree
+      → Within e names → Within (bind e tree) names
+  within_bound e tree [] k h = tt
+  within_bound e tree ([] ∷ names) k h = (k, within_bound e tree names k h.1)
+  within_bound e tree ((c ∷ cs) ∷ names) k h =
+      (subst Found (sym (bound_same e tree c cs)) h.0, within_bound e tree names k h.1)
+
+  -- there the empty name is not among the asked ones
+  abbrev Inner : (in_item : Bool) → Environment X → Type 0
+  Inner true e = Found (given e [])
+  Inner false e = ⊤
+
+  own_within : (in_item : Bool) (e : Environment X) (name : List ℕ) → Inner in_item e
+      → Within e (context_names in_item name) → Found (given e name)
+  own_within true e [] i h = i
+  own_within true e (c ∷ cs) i h = h.0
+  own_within false e name i h = h.0
+
+  -- ---- one piece
+
+  view_at_most : (t : Trait) (q : ℕ) (v : ViewText) (most : ℕ) → HasAtMost most v
+      → AtMost (view_means t q v) (piece_and no_work) (piece_cost most)
+  view_at_most t q (has_text cs) most h = record {
+    characters = rw length-map h;
+    pieces = omega arith;
+    buffered = omega arith;
+  }
+  view_at_most t q has_no_text most h =
+      record { characters = omega arith; pieces = omega arith; buffered = omega arith }
+  view_at_most t q has_failed most h =
+      record { characters = omega arith; pieces = omega arith; buffered = omega arith }
+
+  slot_at_most : (t : Trait) (spec : Spec) (q : ℕ) (o : Option X)
+      → SlotWithin shows limits.text limits.items t o
+      → AtMost (value_means shows t spec q o) (piece_and no_work) (value_cost limits t spec)
+  slot_at_most t spec q None h =
+      record { characters = omega arith; pieces = omega arith; buffered = omega arith }
+  slot_at_most t spec q (Some x) h =
+      view_at_most t q (view_text (shows x t spec) t spec) (most_written t spec limits.text)
+      (view_within t spec limits.text (shows x t spec) (h spec))
+
+  module _ (join : Meaning) (joins : Work) (joined_by : Cost) (one : Cost)
+      (join_costs : AtMost join joins joined_by) where
+    bare_at_most : (what : Bare) (start : ℕ) (name : List ℕ) (spec : Spec) (q : ℕ)
+        (item : Slots X → Meaning) (each : Slots X → Work)
+        → ((x : Slots X) → Slotted x → AtMost (item x) (each x) one) → (found : Slots X)
+        → Slotted found
+        → AtMost (bare_means shows what spec q join item found)
+        (piece_and (bare_work shows what spec join joins item each found))
+        (held_cost limits (valued start name spec what q) one joined_by)
+    bare_at_most (bare_value t) start name spec q item each i found h =
+        slot_at_most t spec q (slot_at t (values_of found)) (values_within found h t)
+    bare_at_most (bare_list range) start name spec q item each i found h =
+        listed_at_most Slotted join joins joined_by item each one join_costs i limits.items range
+        spec q (items found) (items_within found h)
+
+    found_at_most : (what : Bare) (start : ℕ) (name : List ℕ) (spec : Spec) (q : ℕ)
+        (item : Slots X → Meaning) (each : Slots X → Work)
+        → ((x : Slots X) → Slotted x → AtMost (item x) (each x) one) → (o : Option (Slots X))
+        → Found o
+        → AtMost (under_name name start (bare_means shows what spec q join item) o)
+        (piece_and (under_work (bare_work shows what spec join joins item each) o))
+        (held_cost limits (valued start name spec what q) one joined_by)
+    found_at_most (bare_value t) start name spec q item each i None h =
+        record { characters = omega arith; pieces = omega arith; buffered = omega arith }
+    found_at_most (bare_list range) start name spec q item each i None h =
+        record { characters = omega arith; pieces = omega arith; buffered = omega arith }
+    found_at_most what start name spec q item each i (Some found) h =
+        bare_at_most what start name spec q item each i found h
+
+  fault_after : (m : Meaning) (f : Fault)
+      → length (joined m (fault_alone f)).text ≡ length m.text
+  fault_after m f =
+      elim m.fault as (λ o. length (or_fault o m (fault_alone f)).text ≡ length m.text) [
+        | Some g ↦ refl
+        | None ↦ rw length-append (omega arith)
+      ]
+
+  closed_at_most : (kind : PieceKind) (q : ℕ) (m : Meaning) (w : Work) (c : Cost) → AtMost m w c
+      → AtMost (and_closed kind q m) w c
+  closed_at_most kinds.Literal q m w c a = a
+  closed_at_most kinds.Doubled q m w c a = a
+  closed_at_most kinds.LoneClose q m w c a = a
+  closed_at_most kinds.Closed q m w c a = a
+  closed_at_most kinds.Unclosed q m w c a = record {
+    characters =
+        omega (arith, fault_after m (parse (expected (codes "}") q)), a.characters);
+    pieces = a.pieces;
+    buffered = a.buffered;
+  }
+  closed_at_most kinds.Broken q m w c a = a
+
+  length-placed : (p : ℕ) (cs : List ℕ) → length (placed_from p cs) ≡ length cs
+  length-placed p [] = refl
+  length-placed p (c ∷ cs) = omega (arith, length-placed (p + len_utf8 c) cs)
+
+  held_at_most : (e : Environment X) (kind : PieceKind) (held : Held) (in_item : Bool)
+      (join : Meaning) (joins : Work) (joined_by one : Cost) (item : ℕ → Slots X → Meaning)
+      (each : ℕ → Slots X → Work) → Inner in_item e → Within e (held_asks in_item (Some held))
+      → AtMost join joins joined_by
+      → ((q : ℕ) (x : Slots X) → Slotted x → AtMost (item q x) (each q x) one)
+      → AtMost (held_means shows e kind held join item)
+      (held_work shows e held join joins item each) (held_cost limits held one joined_by)
+  held_at_most e kind (written from cs) in_item join joins joined_by one item each b h j i =
+      record {
+        characters = omega (arith, length-placed from cs);
+        pieces = omega arith;
+        buffered = omega arith;
+      }
+  held_at_most e kind (valued start name spec what q) in_item join joins joined_by one item each
+      b h j i =
+      closed_at_most kind q _ _ _
+      (found_at_most join joins joined_by one j what start name spec q (item q) (each q) (i q)
+      (given e name) (own_within in_item e name b h))
+  held_at_most e kind (refused f) in_item join joins joined_by one item each b h j i =
+      record { characters = omega arith; pieces = omega arith; buffered = omega arith }
+
+  -- ---- with its groups
+
+  plain_at_most : (q : ℕ) (x : Slots X) → Slotted x
+      → AtMost (plain_item_means shows q x) (piece_and no_work)
+      (value_cost limits traits.Display plain_spec)
+  plain_at_most q x h =
+      slot_at_most traits.Display plain_spec q (slot_at traits.Display (values_of x))
+      (values_within x h traits.Display)
+
+  item_counts : (m : Meaning) (w : Work) (c : Cost) → AtMost m w c
+      → AtMost m (item_work w) (item_cost c)
+  item_counts m w c a = record {
+    characters = a.characters;
+    pieces = omega (arith, a.pieces);
+    buffered = a.buffered;
+  }
+
+  mutual
+    node_at_most : (x : Node) (in_item : Bool) (e : Environment X) → Inner in_item e
+        → Within e (node_asks in_item x)
+        → AtMost (node_means shows e x) (node_work shows e x) (node_cost limits x)
+    node_at_most (node place end kind None item join) in_item e b h = none_at_most _
+    node_at_most (node place end kind (Some held) item join) in_item e b h =
+        let own = within_parts e (held_asks in_item (Some held))
+        (branch_asks true item ++ branch_asks in_item join) h in
+        let groups = within_parts e (branch_asks true item) (branch_asks in_item join) own.1 in
+        held_at_most e kind held in_item (join_branch_means shows e join)
+        (join_branch_work shows e join) (join_branch_cost limits join)
+        (item_branch_cost limits item) (item_branch_means shows e item)
+        (item_branch_work shows e item) b own.0 (join_at_most join in_item e b groups.1)
+        (λ q x k. item_at_most item e q x k groups.0)
+
+    join_at_most : (x : Branch) (in_item : Bool) (e : Environment X) → Inner in_item e
+        → Within e (branch_asks in_item x)
+        → AtMost (join_branch_means shows e x) (join_branch_work shows e x)
+        (join_branch_cost limits x)
+    join_at_most no_branch in_item e b h = none_at_most _
+    join_at_most (branch xs) in_item e b h = forest_at_most xs in_item e b h
+
+    item_at_most : (x : Branch) (e : Environment X) (q : ℕ) (found : Slots X) → Slotted found
+        → Within e (branch_asks true x)
+        → AtMost (item_branch_means shows e x q found) (item_branch_work shows e x q found)
+        (item_branch_cost limits x)
+    item_at_most no_branch e q found k h = plain_at_most q found k
+    item_at_most (branch xs) e q found k h =
+        item_counts _ _ _
+        (forest_at_most xs true (bind e found) k
+        (within_bound e found (forest_asks true xs) k h))
+
+    forest_at_most : (xs : Forest) (in_item : Bool) (e : Environment X) → Inner in_item e
+        → Within e (forest_asks in_item xs)
+        → AtMost (forest_means shows e xs) (forest_work shows e xs) (forest_cost limits xs)
+    forest_at_most no_nodes in_item e b h = none_at_most _
+    forest_at_most (nodes_and x xs) in_item e b h =
+        let parts = within_parts e (node_asks in_item x) (forest_asks in_item xs) h in
+        joined_at_most (node_means shows e x) (forest_means shows e xs) (node_work shows e x)
+        (forest_work shows e xs) (node_cost limits x) (forest_cost limits xs)
+        (node_at_most x in_item e b parts.0) (forest_at_most xs in_item e b parts.1)
+
+  -- ---- a text
+
+  pub text_at_most : (e : Environment X) (a : At) → Within e (asked_names a)
+      → AtMost (means shows e a) (text_work shows e a) (text_cost limits a)
+  text_at_most e a h =
+      subst (λ m. AtMost m (text_work shows e a) (text_cost limits a)) (nodes_mean shows e a)
+      (forest_at_most (as_forest (nodes a)) false e tt (subst (Within e) (sym (nodes_ask a)) h))
+
+-- what is told below the greatest `usize` is the count itself
+pub told_exactly : (n count : ℕ) → n ≤ count → capped count ≢ 2 ^ 64 - 1 → n ≤ capped count
+told_exactly n count h k = omega (arith, h, k)
+
+-- ---- no memory
+
+-- whatever is found, no memory is taken, but for a missing value
+abbrev Unheld : Meaning → Type 0
+Unheld m =
+    (m.memory_points ≡ []) ⊎ ((name : List ℕ) × (place : ℕ)
+    × (m.fault ≡ Some (missing_value name place)))
+
+unheld_joined : (m k : Meaning) → Unheld m → Unheld k → Unheld (joined m k)
+unheld_joined m k h j = by_fault m.fault refl
+  where
+    by_fault : (o : Option Fault) → m.fault ≡ o → Unheld (or_fault o m k)
+    by_fault (Some f) e = h
+    by_fault None e = first h
+      where
+        first : Unheld m → Unheld (or_fault None m k)
+        first (inr missing) = absurd (let none = sym e ∙ missing.2 in cc)
+        first (inl none) = second j
+          where
+            second : Unheld k → Unheld (or_fault None m k)
+            second (inl nothing) = inl (rw (none, nothing) refl)
+            second (inr missing) = inr missing
+
+module _ {A : Type 0} (join : Meaning) (item : A → Meaning) (joins : Unheld join)
+    (each : (x : A) → Unheld (item x)) where
+  unheld_after : (xs : List A) → Unheld (items_after join item xs)
+  unheld_after [] = inl refl
+  unheld_after (x ∷ xs) =
+      unheld_joined _ _ joins (unheld_joined _ _ (each x) (unheld_after xs))
+
+  unheld_items : (xs : List A) → Unheld (items_mean join item xs)
+  unheld_items [] = inl refl
+  unheld_items (x ∷ xs) = unheld_joined _ _ (each x) (unheld_after xs)
+
+  unheld_listed : (range : Option Range) (spec : Spec) (q : ℕ) (o : Option (List A))
+      → spec.width ≡ None → Unheld (listed_means range spec q join item o)
+  unheld_listed range spec q None w = inl refl
+  unheld_listed range spec q (Some xs) w =
+      in_both Unheld (forbids_list spec) _ _ (inl refl)
+      (rw w (unheld_items (chosen_items range xs)))
+
+-- the items of a list are not held
+no_width : (width : Option ℕ) (c : Cost) → (then_cost (piece_cost 0) (padded_cost width c)).buffered ≡ 0
+    → (width ≡ None) × (c.buffered ≡ 0)
+no_width None c h = (refl, omega (arith, h))
+no_width (Some w) c h = absurd (omega (arith, h))
+
+module _ {X : Type 0} (shows : X → Trait → Spec → Shown) (limits : Limits) where
+  unheld_view : (t : Trait) (q : ℕ) (v : ViewText) → Unheld (view_means t q v)
+  unheld_view t q (has_text cs) = inl refl
+  unheld_view t q has_no_text = inl refl
+  unheld_view t q has_failed = inl refl
+
+  unheld_slot : (t : Trait) (spec : Spec) (q : ℕ) (o : Option X)
+      → Unheld (value_means shows t spec q o)
+  unheld_slot t spec q None = inl refl
+  unheld_slot t spec q (Some x) = unheld_view t q (view_text (shows x t spec) t spec)
+
+  unheld_closed : (kind : PieceKind) (q : ℕ) (m : Meaning) → Unheld m → Unheld (and_closed kind q m)
+  unheld_closed kinds.Literal q m h = h
+  unheld_closed kinds.Doubled q m h = h
+  unheld_closed kinds.LoneClose q m h = h
+  unheld_closed kinds.Closed q m h = h
+  unheld_closed kinds.Unclosed q m h = unheld_joined _ _ h (inl refl)
+  unheld_closed kinds.Broken q m h = h
+
+  unheld_found : (name : List ℕ) (start : ℕ) (what : Slots X → Meaning) (o : Option (Slots X))
+      → ((x : Slots X) → Unheld (what x)) → Unheld (under_name name start what o)
+  unheld_found name start what None h = inr (name, start, refl)
+  unheld_found name start what (Some found) h = h found
+
+  mutual
+    unheld_node : (x : Node) (e : Environment X) → (node_cost limits x).buffered ≡ 0
+        → Unheld (node_means shows e x)
+    unheld_node (node place end kind None item join) e h = inl refl
+    unheld_node (node place end kind (Some (written from cs)) item join) e h = inl refl
+    unheld_node (node place end kind (Some (refused f)) item join) e h = inl refl
+    unheld_node (node place end kind (Some (valued start name spec (bare_value t) q)) item join) e h =
+        unheld_closed kind q _ (unheld_found name start _ (given e name)
+        (λ x. unheld_slot t spec q (slot_at t (values_of x))))
+    unheld_node (node place end kind (Some (valued start name spec (bare_list range) q)) item join) e h =
+        let w = no_width spec.width (items_cost (most_chosen limits.items range)
+        (item_branch_cost limits item) (join_branch_cost limits join)) h in
+        let i : (item_branch_cost limits item).buffered ≡ 0 = omega (arith, w.1) in
+        let j : (join_branch_cost limits join).buffered ≡ 0 = omega (arith, w.1) in
+        unheld_closed kind q _ (unheld_found name start _ (given e name)
+        (λ x. unheld_listed (join_branch_means shows e join) (item_branch_means shows e item q)
+        (unheld_join join e j) (unheld_item item e q i) range spec q (items x) w.0))
+
+    unheld_join : (x : Branch) (e : Environment X) → (join_branch_cost limits x).buffered ≡ 0
+        → Unheld (join_branch_means shows e x)
+    unheld_join no_branch e h = inl refl
+    unheld_join (branch xs) e h = unheld_forest xs e h
+
+    unheld_item : (x : Branch) (e : Environment X) (q : ℕ)
+        → (item_branch_cost limits x).buffered ≡ 0 → (found : Slots X)
+        → Unheld (item_branch_means shows e x q found)
+    unheld_item no_branch e q h found =
+        unheld_slot traits.Display plain_spec q (slot_at traits.Display (values_of found))
+    unheld_item (branch xs) e q h found = unheld_forest xs (bind e found) h
+
+    unheld_forest : (xs : Forest) (e : Environment X) → (forest_cost limits xs).buffered ≡ 0
+        → Unheld (forest_means shows e xs)
+    unheld_forest no_nodes e h = inl refl
+    unheld_forest (nodes_and x xs) e h =
+        let first : (node_cost limits x).buffered ≡ 0 = omega (arith, h) in
+        let rest : (forest_cost limits xs).buffered ≡ 0 = omega (arith, h) in
+        unheld_joined _ _ (unheld_node x e first) (unheld_forest xs e rest)
+
+  pub no_memory_taken : (e : Environment X) (a : At) → (text_cost limits a).buffered ≡ 0
+      → ((name : List ℕ) (place : ℕ) → (means shows e a).fault ≢ Some (missing_value name place))
+      → (means shows e a).memory_points ≡ []
+  no_memory_taken e a h n =
+      by_case (subst Unheld (nodes_mean shows e a) (unheld_forest (as_forest (nodes a)) e h))
+    where
+      by_case : Unheld (means shows e a) → (means shows e a).memory_points ≡ []
+      by_case (inl none) = none
+      by_case (inr missing) = absurd (n missing.0 missing.1 missing.2)
+
+-- ---- greater limits
+
+pub record LeCost (c d : Cost) : Type 0 where
+  pub characters : c.characters ≤ d.characters
+  pub pieces : c.pieces ≤ d.pieces
+  pub buffered : c.buffered ≤ d.buffered
+
+same_le : (c : Cost) → LeCost c c
+same_le c = record { characters = omega arith; pieces = omega arith; buffered = omega arith }
+
+then_le : (a b c d : Cost) → LeCost a b → LeCost c d → LeCost (then_cost a c) (then_cost b d)
+then_le a b c d h k = record {
+  characters = omega (arith, h.characters, k.characters);
+  pieces = omega (arith, h.pieces, k.pieces);
+  buffered = omega (arith, h.buffered, k.buffered);
+}
+
+product_le : (a b c d : ℕ) → a ≤ b → c ≤ d → a * c ≤ b * d
+product_le a b c d h k =
+    let first = mul-le-mul_right c h in let second = mul-le-mul_left b k in
+    omega (arith, first, second)
+
+repeated_le : (n m a b c d : ℕ) → n ≤ m → a ≤ b → c ≤ d
+    → n * a + (n - 1) * c ≤ m * b + (m - 1) * d
+repeated_le n m a b c d h k l =
+    let first = product_le n m a b h k in
+    let less : n - 1 ≤ m - 1 = omega (arith, h) in
+    let second = product_le (n - 1) (m - 1) c d less l in omega (arith, first, second)
+
+items_le : (n m : ℕ) (a b c d : Cost) → n ≤ m → LeCost a b → LeCost c d
+    → LeCost (items_cost n a c) (items_cost m b d)
+items_le n m a b c d h k l = record {
+  characters = repeated_le n m _ _ _ _ h k.characters l.characters;
+  pieces = repeated_le n m _ _ _ _ h k.pieces l.pieces;
+  buffered = omega (arith, k.buffered, l.buffered);
+}
+
+padded_le : (width : Option ℕ) (c d : Cost) → LeCost c d
+    → LeCost (padded_cost width c) (padded_cost width d)
+padded_le None c d h = h
+padded_le (Some w) c d h = record {
+  characters = omega (arith, h.characters);
+  pieces = h.pieces;
+  buffered = omega (arith, h.characters, h.buffered);
+}
+
+module _ (few many : Limits) (text : few.text ≤ many.text) (more : few.items ≤ many.items) where
+  value_le : (t : Trait) (spec : Spec) → LeCost (value_cost few t spec) (value_cost many t spec)
+  value_le t spec = record {
+    characters = written_grows t spec few.text many.text text;
+    pieces = omega arith;
+    buffered = omega arith;
+  }
+
+  held_le : (h : Held) (a b c d : Cost) → LeCost a b → LeCost c d
+      → LeCost (held_cost few h a c) (held_cost many h b d)
+  held_le (written from cs) a b c d i j = same_le _
+  held_le (valued start name spec (bare_value t) q) a b c d i j = value_le t spec
+  held_le (valued start name spec (bare_list range) q) a b c d i j =
+      then_le (piece_cost 0) (piece_cost 0) _ _ (same_le _)
+      (padded_le spec.width _ _
+      (items_le _ _ a b c d (chosen_grows few.items many.items more range) i j))
+  held_le (refused f) a b c d i j = same_le _
+
+  mutual
+    node_le : (x : Node) → LeCost (node_cost few x) (node_cost many x)
+    node_le (node place end kind None item join) = same_le _
+    node_le (node place end kind (Some held) item join) =
+        held_le held _ _ _ _ (item_le item) (join_le join)
+
+    item_le : (x : Branch) → LeCost (item_branch_cost few x) (item_branch_cost many x)
+    item_le no_branch = value_le traits.Display plain_spec
+    item_le (branch xs) =
+        let all = forest_le xs in
+        record {
+          characters = all.characters;
+          pieces = omega (arith, all.pieces);
+          buffered = all.buffered;
+        }
+
+    join_le : (x : Branch) → LeCost (join_branch_cost few x) (join_branch_cost many x)
+    join_le no_branch = same_le _
+    join_le (branch xs) = forest_le xs
+
+    forest_le : (xs : Forest) → LeCost (forest_cost few xs) (forest_cost many xs)
+    forest_le no_nodes = same_le _
+    forest_le (nodes_and x xs) = then_le _ _ _ _ (node_le x) (forest_le xs)
+
+  pub text_le : (a : At) → LeCost (text_cost few a) (text_cost many a)
+  text_le a = forest_le (as_forest (nodes a))

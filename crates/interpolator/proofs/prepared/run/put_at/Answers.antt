@@ -1,0 +1,35 @@
+use Rattle.std.proofs.Common.{◌≡◌, refl, Some, None}
+use Rattle.interpolator_syntax.proofs.CharacterLemmas.{no_text}
+use Rattle.interpolator_eval.specs.Slots.{slots_of}
+use Rattle.interpolator_eval.specs.Meaning.Scopes.{environment_of}
+use Rattle.interpolator.specs.Prepared.Rows.{row_at}
+use Rattle.interpolator_eval.proofs.MeaningLemmas.SinkLemmas.{nothing_done, same_end}
+use Rattle.interpolator.proofs.PreparedLemmas.WriteLemmas.{item_writes, item_at, none_at}
+use Rattle.interpolator.proofs.prepared.run.put_at.Goals as goal
+
+pub returns-in-Some : goal.returns-in-Some
+returns-in-Some g c =
+    let row = c.args.row.now in
+    let item = c.in-Some.item.now in
+    let found : row_at row c.args.position ≡ Some (slots_of item) =
+    item_at row c.args.position item c.in-Some.ensures.lookup.3.0 c.in-Some.ensures.lookup.1 in
+    record {
+      writes =
+          item_writes g.C.Object.Value.shows g.W.TextWrite.written
+          (environment_of g.C.Context.finds c.args.scope.now)
+          (environment_of g.C.Context.finds c.bind.result) (row_at row) c.args.t c.args.spec.now
+          c.args.end (slots_of item) _ (row_at row c.args.position) c.args.sink.now
+          c.write_value.new.sink _ c.bind.ensures (no_text _ refl) found
+          c.write_value.ensures.writes;
+    }
+
+pub returns-in-None : goal.returns-in-None
+returns-in-None g c =
+    let none : row_at c.args.row.now c.args.position ≡ None =
+    none_at c.args.row.now c.args.position c.in-None.ensures.lookup.3 in
+    record {
+      writes = record {
+        outcome = rw none (nothing_done _);
+        same = same_end c.args.sink.now;
+      };
+    }

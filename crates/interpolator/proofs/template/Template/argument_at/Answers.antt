@@ -1,0 +1,19 @@
+use Rattle.std.proofs.Common.{ap, ◌∙◌}
+use Rattle.std.specs.Prelude.{string_bytes}
+use Rattle.std.specs.Str.{chars}
+use Rattle.interpolator_syntax.specs.At.{outermost}
+use Rattle.interpolator.specs.Template.NodePlaces.{argument_among}
+use Rattle.interpolator_syntax.specs.Nodes.{as_forest, nodes}
+use Rattle.interpolator.specs.Template.Stored.{nodes_of}
+use Rattle.interpolator.proofs.template.Template.argument_at.Goals as goal
+
+pub returns : goal.returns
+returns c =
+    let bs = string_bytes c.self.inside.text in
+    let all =
+    ap (nodes_of bs) c.deref.ensures.value ∙ c.self.invariant
+    ∙ ap (λ bs. nodes (outermost (chars bs))) c.self.view_is in
+    record {
+      argument = c.argument_among.ensures bs
+          ∙ ap (λ xs. argument_among c.args.place (as_forest xs)) all;
+    }

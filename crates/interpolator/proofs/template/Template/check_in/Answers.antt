@@ -1,0 +1,60 @@
+use Rattle.std.proofs.Common.{ap, ◌∙◌, subst, rules, ◌<◌, ◌^◌, length}
+use Rattle.std.proofs.lemmas.Str.{IsUtf8-string_bytes}
+use Rattle.std.specs.Prelude.{string_bytes}
+use Rattle.std.specs.Str.{chars, IsUtf8}
+use Rattle.interpolator_syntax.specs.At.{outermost}
+use Rattle.interpolator_syntax.specs.Faults.{answered}
+use Rattle.interpolator_syntax.specs.Nodes.{nodes}
+use Rattle.interpolator_eval.specs.Meaning.Samples.{sample_of, level_in}
+use Rattle.interpolator.specs.Template.NodeSamples.{faults_over}
+use Rattle.interpolator.specs.Template.Stored.{nodes_of}
+use Rattle.interpolator.proofs.TemplateLemmas.SamplePlaceLemmas.{first_lies_over}
+use Rattle.interpolator.proofs.TemplateLemmas.SampleWalkLemmas.{walk_whole, walk_deep, walk_tells}
+use Rattle.interpolator.proofs.TemplateLemmas.TellLemmas.{answers_first}
+use Rattle.interpolator.proofs.template.Template.check_in.Goals as goal
+
+pub tell_pieces-requires : goal.tell_pieces-requires
+tell_pieces-requires g c =
+    let utf8 = IsUtf8-string_bytes c.self.inside.text in
+    let all = ap (λ bs. nodes_of bs c.deref.result.now) c.as_str.ensures.value
+    ∙ ap (nodes_of (string_bytes c.self.inside.text)) c.deref.ensures.value ∙ c.self.invariant in
+    let small : length (string_bytes c.self.inside.text) < 2 ^ 64 = search rules in
+    record {
+      whole = walk_whole _ _ (string_bytes c.self.inside.text) utf8 all;
+      deep = walk_deep _ _ (string_bytes c.self.inside.text) utf8 all
+          (level_in c.outermost-scope.result) c.outermost-scope.ensures.level small;
+    }
+
+pub returns-clause-first : goal.returns-clause-first
+returns-clause-first g c =
+    let utf8 = subst IsUtf8 c.self.view_is (IsUtf8-string_bytes c.self.inside.text) in
+    let all = ap (λ bs. nodes_of bs c.deref.result.now) c.as_str.ensures.value
+    ∙ ap (nodes_of (string_bytes c.self.inside.text)) c.deref.ensures.value ∙ c.self.invariant
+    ∙ ap (λ bs. nodes (outermost (chars bs))) c.self.view_is in
+    answers_first
+    (faults_over g.C.Object.Value.shows (g.C.Context.finds c.args.sample.now)
+    (outermost (chars c.args.self.now)))
+    c.first-telling.result c.tell_pieces.new.telling (answered c.tell_pieces.result)
+    c.first-telling.ensures
+    (walk_tells _ _ c.args.self.now utf8 all g.C.Object.Value.shows
+    (g.C.Context.finds c.args.sample.now) (sample_of g.C.Context.finds c.outermost-scope.result)
+    c.first-telling.result c.tell_pieces.new.telling (answered c.tell_pieces.result)
+    c.outermost-scope.ensures.sample c.tell_pieces.ensures.tells)
+
+pub returns-clause-place : goal.returns-clause-place
+returns-clause-place g c =
+    let utf8 = subst IsUtf8 c.self.view_is (IsUtf8-string_bytes c.self.inside.text) in
+    let all = ap (λ bs. nodes_of bs c.deref.result.now) c.as_str.ensures.value
+    ∙ ap (nodes_of (string_bytes c.self.inside.text)) c.deref.ensures.value ∙ c.self.invariant
+    ∙ ap (λ bs. nodes (outermost (chars bs))) c.self.view_is in
+    let first = answers_first
+    (faults_over g.C.Object.Value.shows (g.C.Context.finds c.args.sample.now)
+    (outermost (chars c.args.self.now)))
+    c.first-telling.result c.tell_pieces.new.telling (answered c.tell_pieces.result)
+    c.first-telling.ensures
+    (walk_tells _ _ c.args.self.now utf8 all g.C.Object.Value.shows
+    (g.C.Context.finds c.args.sample.now) (sample_of g.C.Context.finds c.outermost-scope.result)
+    c.first-telling.result c.tell_pieces.new.telling (answered c.tell_pieces.result)
+    c.outermost-scope.ensures.sample c.tell_pieces.ensures.tells) in
+    first_lies_over g.C.Object.Value.shows (g.C.Context.finds c.args.sample.now) c.args.self.now
+    (answered c.tell_pieces.result) utf8 first

@@ -1,0 +1,31 @@
+use Rattle.std.proofs.Common.{ap, ◌∙◌}
+use Rattle.std.specs.Prelude.{string_bytes}
+use Rattle.std.specs.Str.{chars}
+use Rattle.interpolator_syntax.specs.At.{outermost}
+use Rattle.interpolator_syntax.specs.Nodes.{as_forest, nodes}
+use Rattle.interpolator.specs.Template.NodeCosts.{capped_cost, forest_cost}
+use Rattle.interpolator.specs.Template.Stored.{nodes_of, forest_whole}
+use Rattle.interpolator.proofs.TemplateLemmas.WholeLemmas.{nodes_whole}
+use Rattle.interpolator.proofs.template.Template.cost.Goals as goal
+
+pub cost_of-requires : goal.cost_of-requires
+cost_of-requires c =
+    let all =
+    ap (λ bs. nodes_of bs c.deref.result.now) c.as_str.ensures.value
+    ∙ ap (nodes_of (string_bytes c.self.inside.text)) c.deref.ensures.value ∙ c.self.invariant
+    ∙ ap (λ bs. nodes (outermost (chars bs))) c.self.view_is in
+    record {
+      whole = ap (λ xs. forest_whole (as_forest xs)) all
+          ∙ nodes_whole (outermost (chars c.args.self.now));
+    }
+
+pub returns : goal.returns
+returns c =
+    let all =
+    ap (λ bs. nodes_of bs c.deref.result.now) c.as_str.ensures.value
+    ∙ ap (nodes_of (string_bytes c.self.inside.text)) c.deref.ensures.value ∙ c.self.invariant
+    ∙ ap (λ bs. nodes (outermost (chars bs))) c.self.view_is in
+    record {
+      cost = c.cost_of.ensures
+          ∙ ap (λ xs. capped_cost (forest_cost c.args.limits.now (as_forest xs))) all;
+    }

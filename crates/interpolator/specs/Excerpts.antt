@@ -1,0 +1,64 @@
+-- A line of a text, shown with marks under some of its characters.
+use Rattle.std.specs.Prelude.{ℕ, Bool, ◌+◌, ◌-◌, ◌==◌, nat_lt, nat_le, max, if◌then◌else◌}
+use Rattle.std.specs.Prelude.{List, [], ◌++◌, length, take, drop, map, replicate, codes}
+use Rattle.std.specs.Prelude.{encode_utf8_all}
+use Rattle.std.specs.Fmt.{decimal}
+
+-- a line, cut around a place where it is long: the characters before the marked ones, those that
+-- are marked, and those after them; and whether more stands in front of these and behind
+pub record Excerpt : Type 0 where
+  pub cut_before : Bool
+  pub before : List ℕ
+  pub marked : List ℕ
+  pub after : List ℕ
+  pub cut_after : Bool
+
+-- how many characters of a line are shown
+abbrev pub most_shown : ℕ
+most_shown = 120
+
+-- the first character that is shown of a line of so many, around one of them
+abbrev pub first_shown : ℕ → ℕ → ℕ
+first_shown count around = if nat_le count most_shown then 0 else around - 60
+
+-- the excerpt of a line around one of its characters, of which those from `from` up to `to` are marked
+abbrev pub excerpt_of : List ℕ → (around from to : ℕ) → Excerpt
+excerpt_of line around from to =
+    let left = first_shown (length line) around in
+    let shown = take most_shown (drop left line) in
+    let rest = drop (from - left) shown in
+    record {
+      cut_before = nat_lt 0 left;
+      before = take (from - left) shown;
+      marked = take ((to - left) - (from - left)) rest;
+      after = drop ((to - left) - (from - left)) rest;
+      cut_after = nat_lt most_shown (length line - left);
+    }
+
+-- `..` where something is cut off
+abbrev pub dots : Bool → List ℕ
+dots cut = if cut then codes ".." else []
+
+-- the line as it is shown
+abbrev pub shown_line : Excerpt → List ℕ
+shown_line e = dots e.cut_before ++ (encode_utf8_all e.before ++ (encode_utf8_all e.marked
+    ++ (encode_utf8_all e.after ++ dots e.cut_after)))
+
+-- what stands under a character that is not marked: a tab under a tab, else a space
+abbrev pub blank : ℕ → ℕ
+blank c = if c == 9 then 9 else 32
+
+-- the marks: blanks under all that stands before the marked characters, and a mark under each of
+-- these; one mark where none is marked
+abbrev pub marks_under : Excerpt → List ℕ
+marks_under e = map blank (dots e.cut_before) ++ (map blank e.before
+    ++ replicate (max 1 (length e.marked)) 94)
+
+-- spaces as wide as a number
+abbrev pub gap : ℕ → List ℕ
+gap number = replicate (length (decimal number)) 32
+
+-- an excerpt of the line of this number, with its marks
+abbrev pub picture : ℕ → Excerpt → List ℕ
+picture number e = gap number ++ (codes " |\n" ++ (decimal number ++ (codes " | "
+    ++ (shown_line e ++ (codes "\n" ++ (gap number ++ (codes " | " ++ marks_under e)))))))

@@ -1,0 +1,65 @@
+-- A fault as a compiler shows it: where it is, what it is, and the line with its argument marked.
+use Rattle.std.specs.Prelude.{ℕ, ◌+◌, ◌-◌, ◌^◌, min, nat_lt, if◌then◌else◌, List, [], ◌++◌, length}
+use Rattle.std.specs.Prelude.{get_or, codes, Option, None, Some, unwrap_or}
+use Rattle.std.specs.Fmt.{decimal}
+use Rattle.std.specs.Str.{chars}
+use Rattle.std.specs.Str.Lines.{lines}
+use Rattle.interpolator_syntax.specs.At.{outermost}
+use Rattle.interpolator_syntax.specs.Faults.{Answer, answer_place}
+use Rattle.interpolator_syntax.specs.FaultTexts.{answer_text}
+use Rattle.interpolator_syntax.specs.Nodes.{as_forest, nodes}
+use Rattle.interpolator.specs.Excerpts.{Excerpt, excerpt_of, picture}
+use Rattle.interpolator.specs.Positions.{line_at, column_at}
+use Rattle.interpolator.specs.Template.NodePlaces.{argument_among}
+use Rattle.interpolator.specs.declared.explaining.Source.{Source}
+
+-- the sum, or the greatest `usize` where it is greater
+abbrev pub capped : ℕ → ℕ → ℕ
+capped a b = min (a + b) (2 ^ 64 - 1)
+
+-- the bytes of a format that are marked: those of the innermost argument that has the place, or none
+-- but the place
+abbrev pub marked_bytes : List ℕ → ℕ → ℕ × ℕ
+marked_bytes format place =
+    unwrap_or (argument_among place (as_forest (nodes (outermost (chars format))))) (place, place)
+
+-- the line of this number, from 1 on, in a text; empty if there is none
+abbrev pub line_of : List ℕ → ℕ → List ℕ
+line_of text number = get_or (lines text) (number - 1) []
+
+-- how many characters of a line of so many, that has this number, stand before a byte of the text
+abbrev pub before_in_line : List ℕ → (number count place : ℕ) → ℕ
+before_in_line text number count place =
+    if nat_lt (line_at text place) number then 0
+    else (if nat_lt number (line_at text place) then count else column_at text place - 1)
+
+-- the line of a source that has a byte of its text, with the marked bytes of its format
+abbrev pub excerpt_at : Source → (at : ℕ) → ℕ × ℕ → Excerpt
+excerpt_at s at marked =
+    let number = line_at s.text.now at in
+    let line = chars (line_of s.text.now number) in
+    excerpt_of line (column_at s.text.now at - 1)
+    (before_in_line s.text.now number (length line) (capped s.start marked.0))
+    (before_in_line s.text.now number (length line) (capped s.start marked.1))
+
+-- what stands before the line: name, line, column and what it is
+abbrev pub head : List ℕ → (number column : ℕ) → List ℕ → List ℕ
+head name number column what = name ++ (codes ":" ++ (decimal number ++ (codes ":"
+    ++ (decimal column ++ (codes ": " ++ what)))))
+
+-- what is told of something at a byte of the text, which has a number and a column, and its line
+abbrev pub told_at : Source → (at : ℕ) → ℕ × ℕ → List ℕ → List ℕ
+told_at s at marked what =
+    let number = capped s.first_line (line_at s.text.now at - 1) in
+    head s.name.now number (column_at s.text.now at) what
+    ++ (codes "\n" ++ picture number (excerpt_at s at marked))
+
+-- the same of something at a byte of the format, or without a place
+abbrev pub explanation : Source → Option ℕ → List ℕ → List ℕ
+explanation s None what = s.name.now ++ (codes ": " ++ what)
+explanation s (Some place) what =
+    told_at s (capped s.start place) (marked_bytes s.format.now place) what
+
+-- what is told of an answer
+abbrev pub explained : Source → Answer → List ℕ
+explained s answer = explanation s (answer_place answer) (answer_text answer)

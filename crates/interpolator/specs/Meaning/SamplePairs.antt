@@ -1,0 +1,20 @@
+-- Pairs that resemble those of a sample.
+use Rattle.std.specs.Prelude.{◌≡◌, ⊤, ℕ, List, [], ◌∷◌}
+use Rattle.std.specs.Borrow.{Bor}
+use Rattle.interpolator_render.specs.declared.view.Trait.{Trait}
+use Rattle.interpolator_render.specs.declared.view.Spec.{Spec}
+use Rattle.interpolator_render.specs.Views.{Shown}
+use Rattle.interpolator_eval.specs.Slots.{slots_of}
+use Rattle.interpolator_eval.specs.Meaning.Resembling.{Resembles}
+use Rattle.interpolator_eval.specs.declared.slots.Formattable.{Formattable}
+
+-- the same names in order, and under each what resembles the sample's; `shows` is what the values of
+-- the sample show
+abbrev pub PairsResemble : {X Y : Type 0} → (shows : X → Trait → Spec → Shown)
+    → (others : Y → Trait → Spec → Shown) → List (Bor (List ℕ) × Formattable Y)
+    → List (Bor (List ℕ) × Formattable X) → Type 0
+PairsResemble shows others [] [] = ⊤
+PairsResemble shows others (p ∷ ps) (q ∷ qs) =
+    (p.0.now ≡ q.0.now) × Resembles shows others (slots_of p.1) (slots_of q.1)
+    × PairsResemble shows others ps qs
+PairsResemble shows others _ _ = ⊥

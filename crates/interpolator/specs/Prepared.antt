@@ -1,0 +1,4 @@
+-- A format that was prepared for rows of values: its program, and what that means over a row.
+pub mod Programs
+pub mod Rows
+pub mod StoredSteps

@@ -1,0 +1,44 @@
+-- A row of values, in the order of names, as an environment.
+use Rattle.std.specs.Prelude.{ℕ, suc, Bool, true, false, List, [], ◌∷◌, map, Option, Some, None}
+use Rattle.std.specs.Prelude.{option_map, slice_get, string_bytes}
+use Rattle.std.specs.Option.{option_and_then}
+use Rattle.std.specs.Str.{bytes_eq, encode_utf8_all}
+use Rattle.std.specs.Borrow.{Bor}
+use Rattle.std.specs.declared.string.String.{String}
+use Rattle.interpolator_eval.specs.Slots.{Slots, slots_of}
+use Rattle.interpolator_eval.specs.declared.slots.Formattable.{Formattable}
+
+-- the bytes of names that the code has
+abbrev pub name_bytes : {Z : Type 0} → List (String Z) → List (List ℕ)
+name_bytes names = map (λ name. string_bytes name) names
+
+-- the bytes of the names of pairs
+abbrev pub pair_names : {Y : Type 0} → List (Bor (List ℕ) × Y) → List (List ℕ)
+pair_names pairs = map (λ pair. pair.0.now) pairs
+
+-- a later position, one further, or that of the first
+abbrev pub later_or_first : Option ℕ → (is_first : Bool) → Option ℕ
+later_or_first (Some k) is_first = Some (suc k)
+later_or_first None true = Some 0
+later_or_first None false = None
+
+-- the last position of a name among these, if it is one of them
+abbrev pub last_position : List (List ℕ) → List ℕ → Option ℕ
+last_position [] name = None
+last_position (own ∷ names) name =
+    later_or_first (last_position names name) (bytes_eq name own)
+
+-- the value at a position of a row, if the row reaches it
+abbrev pub row_at : {X : Type 0} → List (Formattable X) → ℕ → Option (Slots X)
+row_at row k = option_map slots_of (slice_get row k)
+
+-- the value at the last position of a name, where `value_at` gives that at each position
+abbrev pub found_by_row : {X : Type 0} → List (List ℕ) → (value_at : ℕ → Option (Slots X))
+    → List ℕ → Option (Slots X)
+found_by_row names value_at name =
+    option_and_then value_at (last_position names (encode_utf8_all name))
+
+-- a prepared format, as its user sees it: its text, and its names in order, all in bytes
+pub record PreparedFormat : Type 0 where
+  pub text : List ℕ
+  pub names : List (List ℕ)

@@ -1,0 +1,86 @@
+-- How the code stores a program.
+use Rattle.std.specs.Prelude.{◌≡◌, ℕ, ◌+◌, ◌-◌, Bool, true, nat_lt, ◌==◌, if◌then◌else◌, List, [], ◌∷◌}
+use Rattle.std.specs.Prelude.{length, map, Option, Some, None, option_map, string_bytes}
+use Rattle.std.specs.Str.{chars}
+use Rattle.interpolator_render.specs.declared.view.Trait.{Trait}
+use Rattle.interpolator_render.specs.declared.view.Trait.TheVariants as traits
+use Rattle.interpolator_render.specs.declared.view.Spec.{Spec}
+use Rattle.interpolator_render.specs.Views.{Shown}
+use Rattle.interpolator_syntax.specs.At.{Placed, placed_from}
+use Rattle.interpolator_syntax.specs.Faults.{Answer, fault, missing_trait_impl, fmt}
+use Rattle.interpolator_syntax.specs.SpecTexts.{plain_spec}
+use Rattle.interpolator_eval.specs.Slots.{Slots}
+use Rattle.interpolator_eval.specs.Meaning.Environments.{Environment}
+use Rattle.interpolator_eval.specs.Meaning.Meanings.{Meaning, nothing, joined}
+use Rattle.interpolator_eval.specs.declared.meaning.sink.WriteFault.{WriteFault}
+use Rattle.interpolator_eval.specs.declared.meaning.sink.WriteFault.TheVariants.{MissingTraitImpl, Fmt}
+use Rattle.interpolator_syntax.specs.Nodes.{Node}
+use Rattle.interpolator.specs.Template.Stored.{part, node_of, node_whole}
+use Rattle.interpolator.specs.Prepared.Programs.{Instruction, text_step, value_step, node_step}
+use Rattle.interpolator.specs.Prepared.Programs.{step_means}
+use Rattle.interpolator.specs.declared.prepared.step.Part.{Part}
+use Rattle.interpolator.specs.declared.prepared.step.JoinedText.{JoinedText}
+use Rattle.interpolator.specs.declared.prepared.step.Step.{Step}
+use Rattle.interpolator.specs.declared.prepared.step.Step.TheVariants.{Literal, Joined, Plain, Under, Whole}
+
+-- how many bytes parts of a format have together
+abbrev pub parts_size : List Part → ℕ
+parts_size [] = 0
+parts_size (x ∷ xs) = (x.to - x.from) + parts_size xs
+
+-- the place in the format of a byte of parts that are joined
+abbrev pub joined_place : List Part → ℕ → ℕ
+joined_place [] offset = offset
+joined_place (x ∷ xs) offset =
+    if nat_lt offset (x.to - x.from) then x.from + offset
+    else joined_place xs (offset - (x.to - x.from))
+
+-- characters at other places
+abbrev pub placed_by : (ℕ → ℕ) → Placed → Placed
+placed_by place xs = map (λ x. (x.0, place x.1)) xs
+
+-- the characters of joined text, each at its place in the format
+abbrev pub joined_placed : List Part → List ℕ → Placed
+joined_placed parts bytes = placed_by (joined_place parts) (placed_from 0 (chars bytes))
+
+-- joined text, where its parts have as many bytes as it has
+abbrev pub joined_step : List Part → List ℕ → Option Instruction
+joined_step parts bytes =
+    if parts_size parts == length bytes then Some (text_step (joined_placed parts bytes)) else None
+
+-- a node whose stored pieces fit the format
+abbrev pub whole_step : Node → Option Instruction
+whole_step x = if node_whole x then Some (node_step x) else None
+
+-- what a stored step of a format stands for, if it fits the format
+abbrev pub step_of : List ℕ → Step → Option Instruction
+step_of bs (Literal from to) = option_map (λ cs. text_step (placed_from from cs)) (part bs from to)
+step_of bs (Joined x) = joined_step x.value.parts.items (string_bytes x.value.text)
+step_of bs (Plain position end) = Some (value_step position traits.Display plain_spec end)
+step_of bs (Under position asked) =
+    Some (value_step position asked.value.slot asked.value.spec asked.value.end)
+step_of bs (Whole x) = whole_step (node_of bs x.value)
+
+-- steps that stand for a program become steps that stand for what is made of it
+abbrev pub Becomes : List ℕ → (old new : List Step) → (List Instruction → List Instruction) → Type 0
+Becomes bs old new made =
+    (program : List Instruction) → map (step_of bs) old ≡ map Some program
+    → map (step_of bs) new ≡ map Some (made program)
+
+-- the answer of a refusal that tells a place, at another place
+abbrev pub moved_fault : (ℕ → ℕ) → WriteFault → Answer
+moved_fault place (MissingTraitImpl wanted end) = fault (missing_trait_impl wanted end)
+moved_fault place (Fmt offset) = fault (fmt (place offset))
+
+module _ {X : Type 0} (shows : X → Trait → Spec → Shown) (e : Environment X)
+    (value_at : ℕ → Option (Slots X)) where
+  -- what a step means that fits its format
+  abbrev pub fitting_means : Option Instruction → Meaning
+  fitting_means None = nothing
+  fitting_means (Some step) = step_means shows e value_at step
+
+  -- stored steps in order, up to the first fault
+  abbrev pub stored_steps_mean : List ℕ → List Step → Meaning
+  stored_steps_mean bs [] = nothing
+  stored_steps_mean bs (step ∷ steps) =
+      joined (fitting_means (step_of bs step)) (stored_steps_mean bs steps)

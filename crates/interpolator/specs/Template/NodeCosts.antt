@@ -1,0 +1,112 @@
+-- What a format can cost at most, where its values are within limits.
+use Rattle.std.specs.Prelude.{ℕ, ◌+◌, ◌-◌, ◌*◌, max, length}
+use Rattle.std.specs.Prelude.{Option, None, Some}
+use Rattle.interpolator_render.specs.declared.view.Spec.{Spec}
+use Rattle.interpolator_render.specs.declared.view.Trait.{Trait}
+use Rattle.interpolator_render.specs.declared.view.Trait.TheVariants.{Display}
+use Rattle.interpolator_render.specs.Lengths.{most_written, capped}
+use Rattle.interpolator_syntax.specs.At.{At}
+use Rattle.interpolator_syntax.specs.SpecTexts.{plain_spec}
+use Rattle.interpolator_syntax.specs.declared.range.Range.{Range}
+use Rattle.interpolator_syntax.specs.Nodes.{Node, node, Branch, no_branch, branch}
+use Rattle.interpolator_syntax.specs.Nodes.{Forest, no_nodes, nodes_and, as_forest, nodes}
+use Rattle.interpolator_syntax.specs.Nodes.{Held, written, valued, refused, bare_value, bare_list}
+use Rattle.interpolator_eval.specs.Meaning.Limits.{most_chosen}
+use Rattle.interpolator.specs.declared.template.cost.Cost.{Cost}
+use Rattle.interpolator.specs.declared.template.cost.Limits.{Limits}
+
+-- nothing
+abbrev pub no_cost : Cost
+no_cost = record { characters = 0; pieces = 0; buffered = 0 }
+
+-- one piece, of so many characters
+abbrev pub piece_cost : (characters : ℕ) → Cost
+piece_cost characters = record { characters = characters; pieces = 1; buffered = 0 }
+
+-- one after the other: only one of them holds a buffer at one time
+abbrev pub then_cost : Cost → Cost → Cost
+then_cost a b = record {
+  characters = a.characters + b.characters;
+  pieces = a.pieces + b.pieces;
+  buffered = max a.buffered b.buffered;
+}
+
+-- an item by its format: where that has no pieces, the item counts as one
+abbrev pub item_cost : Cost → Cost
+item_cost c = record c { pieces = max 1 c.pieces }
+
+-- so many items, and the join between two of them
+abbrev pub items_cost : (count : ℕ) → (item join : Cost) → Cost
+items_cost count item join = record {
+  characters = count * item.characters + (count - 1) * join.characters;
+  pieces = count * item.pieces + (count - 1) * join.pieces;
+  buffered = max item.buffered join.buffered;
+}
+
+-- the items of a list, which are held in a buffer and padded under a width: at least one character
+-- is context_names there, so that none is where there is no such list
+abbrev pub padded_cost : (width : Option ℕ) → Cost → Cost
+padded_cost None c = c
+padded_cost (Some width) c = record {
+  characters = max width c.characters;
+  pieces = c.pieces;
+  buffered = max 1 c.characters + c.buffered;
+}
+
+-- within these limits
+module _ (limits : Limits) where
+  -- a value under a trait and a spec
+  abbrev pub value_cost : Trait → Spec → Cost
+  value_cost t spec = piece_cost (most_written t spec limits.text)
+
+  -- a list of which a range chooses the items: its argument, and its items
+  abbrev pub list_cost : Option Range → Spec → (item join : Cost) → Cost
+  list_cost range spec item join =
+      then_cost (piece_cost 0)
+      (padded_cost spec.width (items_cost (most_chosen limits.items range) item join))
+
+  -- what a piece holds, where this is what an item and the join cost
+  abbrev pub held_cost : Held → (item join : Cost) → Cost
+  held_cost (written from cs) item join = piece_cost (length cs)
+  held_cost (valued start name spec (bare_value t) end) item join = value_cost t spec
+  held_cost (valued start name spec (bare_list range) end) item join =
+      list_cost range spec item join
+  held_cost (refused f) item join = piece_cost 0
+
+  abbrev mutual
+    -- a piece, with those of its groups
+    pub node_cost : Node → Cost
+    node_cost (node place end kind None item join) = no_cost
+    node_cost (node place end kind (Some held) item join) =
+        held_cost held (item_branch_cost item) (join_branch_cost join)
+
+    -- an item by its format, or displayed plainly
+    pub item_branch_cost : Branch → Cost
+    item_branch_cost no_branch = value_cost Display plain_spec
+    item_branch_cost (branch xs) = item_cost (forest_cost xs)
+
+    -- what stands between two items
+    pub join_branch_cost : Branch → Cost
+    join_branch_cost no_branch = no_cost
+    join_branch_cost (branch xs) = forest_cost xs
+
+    -- pieces in order
+    pub forest_cost : Forest → Cost
+    forest_cost no_nodes = no_cost
+    forest_cost (nodes_and x xs) = then_cost (node_cost x) (forest_cost xs)
+
+  -- a text
+  abbrev pub text_cost : At → Cost
+  text_cost a = forest_cost (as_forest (nodes a))
+
+-- each count as a `usize` tells it
+abbrev pub capped_cost : Cost → Cost
+capped_cost c = record {
+  characters = capped c.characters;
+  pieces = capped c.pieces;
+  buffered = capped c.buffered;
+}
+
+-- limits of worked costs: texts of ten characters, lists of three items
+abbrev pub ten_and_three : Limits
+ten_and_three = record { text = 10; items = 3 }

@@ -1,0 +1,119 @@
+-- What writing the pieces of a format goes through, up to the first fault: how many pieces, and how
+-- many characters lists under a width hold in buffers at one time.
+use Rattle.std.specs.Prelude.{ℕ, ◌+◌, max, length, List, [], ◌∷◌, Option, None, Some}
+use Rattle.std.specs.Prelude.{if◌then◌else◌}
+use Rattle.interpolator_render.specs.declared.view.Spec.{Spec}
+use Rattle.interpolator_render.specs.declared.view.Trait.{Trait}
+use Rattle.interpolator_render.specs.Views.{Shown}
+use Rattle.interpolator_syntax.specs.At.{At}
+use Rattle.interpolator_syntax.specs.Faults.{Fault}
+use Rattle.interpolator_syntax.specs.Nodes.{Node, node, Branch, no_branch, branch}
+use Rattle.interpolator_syntax.specs.Nodes.{Forest, no_nodes, nodes_and, as_forest, nodes}
+use Rattle.interpolator_syntax.specs.Nodes.{Held, written, valued, refused}
+use Rattle.interpolator_syntax.specs.Nodes.{Bare, bare_value, bare_list}
+use Rattle.interpolator_syntax.specs.declared.range.Range.{Range}
+use Rattle.interpolator_eval.specs.Slots.{Slots, items}
+use Rattle.interpolator_eval.specs.Meaning.Choices.{chosen_items}
+use Rattle.interpolator_eval.specs.Meaning.Environments.{Environment, given, bind}
+use Rattle.interpolator_eval.specs.Meaning.Meanings.{Meaning, forbids_list, items_mean}
+use Rattle.interpolator.specs.Template.NodeMeanings.{join_branch_means, item_branch_means}
+use Rattle.interpolator.specs.Template.NodeMeanings.{node_means}
+
+-- how many pieces are gone through, and the most characters that are held at one time
+pub record Work : Type 0 where
+  pub pieces : ℕ
+  pub held : ℕ
+
+-- nothing
+abbrev pub no_work : Work
+no_work = record { pieces = 0; held = 0 }
+
+-- one more piece
+abbrev pub piece_and : Work → Work
+piece_and w = record w { pieces = 1 + w.pieces }
+
+-- one after the other, where the first has this fault or none
+abbrev pub or_stop : Option Fault → Work → Work → Work
+or_stop (Some f) w v = w
+or_stop None w v = record { pieces = w.pieces + v.pieces; held = max w.held v.held }
+
+-- an item by its format: where no piece is gone through, the item counts as one
+abbrev pub item_work : Work → Work
+item_work w = record w { pieces = max 1 w.pieces }
+
+-- where this is what the join and an item mean and go through
+module _ {A : Type 0} (join : Meaning) (joins : Work) (item : A → Meaning) (each : A → Work) where
+  -- items, each with the join before it
+  abbrev pub work_after : List A → Work
+  work_after [] = no_work
+  work_after (x ∷ xs) =
+      or_stop join.fault joins (or_stop (item x).fault (each x) (work_after xs))
+
+  -- items in order, and the join between two of them
+  abbrev pub items_work : List A → Work
+  items_work [] = no_work
+  items_work (x ∷ xs) = or_stop (item x).fault (each x) (work_after xs)
+
+  -- under a width their text is held, and what lists in them hold beside it
+  abbrev pub chosen_work : (width : Option ℕ) → List A → Work
+  chosen_work None chosen = items_work chosen
+  chosen_work (Some width) chosen = record {
+    pieces = (items_work chosen).pieces;
+    held = length (items_mean join item chosen).text + (items_work chosen).held;
+  }
+
+  -- the items of what was found, if it is a list, of which a range chooses some
+  abbrev pub listed_work : Option Range → Spec → Option (List A) → Work
+  listed_work range spec None = no_work
+  listed_work range spec (Some ts) =
+      if forbids_list spec then no_work else chosen_work spec.width (chosen_items range ts)
+
+-- what was found under a name
+abbrev pub under_work : {A : Type 0} → (A → Work) → Option A → Work
+under_work work None = no_work
+under_work work (Some found) = work found
+
+module _ {X : Type 0} (shows : X → Trait → Spec → Shown) where
+  -- what was found, by what is asked for
+  abbrev pub bare_work : Bare → Spec → (join : Meaning) → (joins : Work) → (Slots X → Meaning)
+      → (Slots X → Work) → Slots X → Work
+  bare_work (bare_value t) spec join joins item each found = no_work
+  bare_work (bare_list range) spec join joins item each found =
+      listed_work join joins item each range spec (items found)
+
+  -- what a piece holds
+  abbrev pub held_work : Environment X → Held → (join : Meaning) → (joins : Work)
+      → (item : ℕ → Slots X → Meaning) → (each : ℕ → Slots X → Work) → Work
+  held_work e (written from cs) join joins item each = piece_and no_work
+  held_work e (valued start name spec bare end) join joins item each =
+      piece_and
+      (under_work (bare_work bare spec join joins (item end) (each end)) (given e name))
+  held_work e (refused f) join joins item each = piece_and no_work
+
+  abbrev mutual
+    -- a piece, with those of its groups
+    pub node_work : Environment X → Node → Work
+    node_work e (node place end kind None item join) = no_work
+    node_work e (node place end kind (Some held) item join) =
+        held_work e held (join_branch_means shows e join) (join_branch_work e join)
+        (item_branch_means shows e item) (item_branch_work e item)
+
+    -- what stands between two items
+    pub join_branch_work : Environment X → Branch → Work
+    join_branch_work e no_branch = no_work
+    join_branch_work e (branch xs) = forest_work e xs
+
+    -- an item by its format, or displayed plainly
+    pub item_branch_work : Environment X → Branch → (end : ℕ) → Slots X → Work
+    item_branch_work e no_branch = λ end item. piece_and no_work
+    item_branch_work e (branch xs) = λ end item. item_work (forest_work (bind e item) xs)
+
+    -- pieces in order
+    pub forest_work : Environment X → Forest → Work
+    forest_work e no_nodes = no_work
+    forest_work e (nodes_and x xs) =
+        or_stop (node_means shows e x).fault (node_work e x) (forest_work e xs)
+
+  -- a text
+  abbrev pub text_work : Environment X → At → Work
+  text_work e a = forest_work e (as_forest (nodes a))

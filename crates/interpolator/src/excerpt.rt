@@ -1,0 +1,161 @@
+//! A line of a text, shown with marks under some of its characters.
+ghost use Rattle.std.specs.Prelude.{◌≡◌, ◌<◌, ◌+◌, ◌-◌, ◌++◌, length, take, drop, map, replicate, max};
+ghost use Rattle.std.specs.Prelude.{IfOk, encode_utf8_all, string_bytes};
+ghost use Rattle.std.specs.Str.{chars};
+ghost use Rattle.interpolator.specs.Excerpts.{excerpt_of, first_shown, dots, blank};
+ghost use Rattle.interpolator.specs.Excerpts.{gap, picture};
+
+use std::alloc::{AllocError, Global};
+
+/// How many characters of a line are shown.
+const MOST_SHOWN: usize = 120;
+
+/// How many of these stand before the place around which a longer line is cut.
+const SHOWN_BEFORE: usize = 60;
+
+/// The first `count` characters of a text, and the rest.
+fn split_after(text: &str, count: usize) -> (&str, &str)
+    ensures front { chars result.0.now ≡ take count (chars text.now) }
+    ensures rest { chars result.1.now ≡ drop count (chars text.now) }
+    ensures front_bytes { result.0.now ≡ encode_utf8_all (take count (chars text.now)) }
+    ensures rest_bytes { result.1.now ≡ encode_utf8_all (drop count (chars text.now)) }
+{
+    let mut seen = 0usize;
+    let mut end = 0usize;
+    for c in text.chars() {
+        if seen >= count {
+            return text.split_at(end);
+        }
+        seen += 1;
+        end += c.len_utf8();
+    }
+    (text, "")
+}
+
+/// What stands under a character that is not marked.
+fn blank_of(c: char) -> char
+    ensures blank { result ≡ blank c }
+    ensures ascii { result < 128 }
+{
+    if c == '\t' { '\t' } else { ' ' }
+}
+
+/// The same of a text.
+fn blanks(alloc: Global, text: &str) -> Result<String, AllocError>
+    ensures { IfOk result (λ under. string_bytes under ≡ map blank (chars text.now)) }
+{
+    let mut under = String::new(alloc);
+    for c in text.chars() {
+        under.push(blank_of(c))?;
+    }
+    Ok(under)
+}
+
+/// So many copies of a character.
+fn copies(alloc: Global, c: char, count: usize) -> Result<String, AllocError>
+    requires { c < 128 }
+    ensures { IfOk result (λ text. string_bytes text ≡ replicate count c) }
+{
+    let mut text = String::new(alloc);
+    for _i in 0..count {
+        text.push(c)?;
+    }
+    Ok(text)
+}
+
+/// What stands where a line is cut.
+fn dots(cut: bool) -> &'static str
+    ensures { result.now ≡ dots cut }
+{
+    if cut { ".." } else { "" }
+}
+
+/// What stands under that.
+fn dot_blanks(cut: bool) -> &'static str
+    ensures { result.now ≡ map blank (dots cut) }
+{
+    if cut { "  " } else { "" }
+}
+
+/// The parts of a line as they are shown.
+fn shown_line(
+    alloc: Global,
+    cut: (bool, bool),
+    before: &str,
+    marked: &str,
+    after: &str,
+) -> Result<String, AllocError>
+    ensures { IfOk result (λ shown. string_bytes shown ≡ dots cut.0 ++ (before.now ++ (marked.now
+        ++ (after.now ++ dots cut.1)))) }
+{
+    let (left, right) = (dots(cut.0), dots(cut.1));
+    let shown = format!(in alloc; "{left}{before}{marked}{after}{right}")?;
+    Ok(shown)
+}
+
+/// The marks under a line that is shown.
+fn marks_under(alloc: Global, cut: bool, before: &str, marked: &str) -> Result<String, AllocError>
+    ensures { IfOk result (λ marks. string_bytes marks ≡ map blank (dots cut)
+        ++ (map blank (chars before.now) ++ replicate (max 1 (length (chars marked.now))) 94)) }
+{
+    let left = dot_blanks(cut);
+    let under = blanks(alloc, before)?;
+    let count = count_of(marked).max(1);
+    let marks = copies(alloc, '^', count)?;
+    let marks = format!(in alloc; "{left}{under}{marks}")?;
+    Ok(marks)
+}
+
+/// The first character that is shown of a line of so many, around one of them.
+fn first_shown(count: usize, around: usize) -> usize
+    ensures { result ≡ first_shown count around }
+{
+    if count <= MOST_SHOWN {
+        0
+    } else {
+        around.saturating_sub(SHOWN_BEFORE)
+    }
+}
+
+/// How many characters a text has.
+pub(crate) fn count_of(text: &str) -> usize
+    ensures { result ≡ length (chars text.now) }
+{
+    text.chars().count()
+}
+
+/// Spaces as wide as a number.
+fn gap(alloc: Global, number: usize) -> Result<String, AllocError>
+    ensures { IfOk result (λ spaces. string_bytes spaces ≡ gap number) }
+{
+    let digits = format!(in alloc; "{number}")?;
+    let gap = copies(alloc, ' ', digits.len())?;
+    Ok(gap)
+}
+
+/// The line of this number, cut around one of its characters, with marks under those from `from` up
+/// to `to`, which are counted from 0 on.
+pub(crate) fn draw(
+    alloc: Global,
+    number: usize,
+    line: &str,
+    around: usize,
+    marked: (usize, usize),
+) -> Result<String, AllocError>
+    ensures { IfOk result (λ drawn. string_bytes drawn
+        ≡ picture number (excerpt_of (chars line.now) around marked.0 marked.1)) }
+{
+    let count = count_of(line);
+    let left = first_shown(count, around);
+    let (_, rest) = split_after(line, left);
+    let (shown, _) = split_after(rest, MOST_SHOWN);
+    let from = marked.0.saturating_sub(left);
+    let (before, rest) = split_after(shown, from);
+    let (marked, after) = split_after(rest, marked.1.saturating_sub(left).saturating_sub(from));
+    let cut = (0 < left, MOST_SHOWN < count.saturating_sub(left));
+    let shown = shown_line(alloc, cut, before, marked, after)?;
+    let marks = marks_under(alloc, cut.0, before, marked)?;
+    let gap = gap(alloc, number)?;
+    let drawn = format!(in alloc; "{gap} |\n{number} | {shown}\n{gap} | {marks}")?;
+    Ok(drawn)
+}

@@ -1,0 +1,193 @@
+//! Faults as a compiler shows them.
+ghost use Rattle.std.specs.Prelude.{◌≡◌, ◌<◌, ◌++◌, codes, IfErr, IfOk, string_bytes};
+ghost use Rattle.interpolator.specs.Explained.{before_in_line, explained, head as head_of};
+ghost use Rattle.interpolator.specs.Explained.{line_of, marked_bytes, told_at};
+ghost use Rattle.interpolator_syntax.specs.Faults.{answer_of, no_memory};
+
+use crate::excerpt::{count_of, draw};
+use crate::position::Position;
+use crate::template::Template;
+use interpolator_syntax::Error;
+use std::alloc::{AllocError, Global};
+
+/// Where a format is: a text, as a file or a line of one, and the part of it that is the format.
+///
+/// ```text
+/// // the format of line 3 of a file of messages, `greeting = Hello {name, you`
+/// let start = line.len() - format.len();
+/// Source { name: "messages.txt", first_line: 3, text: line, start, format }
+/// ```
+#[derive(Clone, Copy, Debug)]
+pub struct Source<'a> {
+    /// What the text is called, as the name of a file.
+    pub name: &'a str,
+    /// The number of the text's first line: 1 for a whole file.
+    pub first_line: usize,
+    /// The text.
+    pub text: &'a str,
+    /// The byte of the text at which the format begins.
+    pub start: usize,
+    /// The format.
+    pub format: &'a str,
+}
+
+/// Shows a fault of a format as a compiler does: [`explain_in`] of a text that is the format.
+///
+/// ```text
+/// // of a file `greeting.txt`, `Hello {name`, whose fault is `FormatSpecUnclosed(7)`
+/// greeting.txt:1:8: error while parsing input: Format spec at 7 is nether closed with a `}`
+///   |
+/// 1 | Hello {name
+///   |       ^^^^^
+/// ```
+///
+/// # Errors
+///
+/// `NoMemory`.
+pub fn explain(alloc: Global, name: &str, text: &str, error: &Error) -> Result<String, Error>
+    ensures told { IfOk result (λ told. string_bytes told ≡ explained (record {
+      name = name.entry;
+      first_line = 1;
+      text = text.entry;
+      start = 0;
+      format = text.entry;
+    }) (answer_of error.now)) }
+    ensures refused { IfErr result (λ error. answer_of error ≡ no_memory) }
+{
+    let source = Source {
+        name,
+        first_line: 1,
+        text,
+        start: 0,
+        format: text,
+    };
+    explain_in(alloc, &source, error)
+}
+
+/// Shows a fault of a format as a compiler does: the name of the text, the line and the column of the
+/// fault's place, what it is, and the line with marks under the argument that has the place.
+///
+/// The innermost argument that has the place is marked from its opening brace to its end, as far as
+/// it is in the line; at any other place one mark stands. Under a tab is a tab. A line of more than
+/// 120 characters is cut around the place, with `..` where it is cut. A fault without a place is shown
+/// with the name alone. The answer has no newline at its end.
+///
+/// The format is read again, and memory is taken for that.
+///
+/// ```text
+/// messages.txt:3:19: error while parsing input: Format spec at 7 is nether closed with a `}`
+///   |
+/// 3 | greeting = Hello {name, you
+///   |                  ^^^^^^^^^^
+/// ```
+///
+/// # Errors
+///
+/// `NoMemory`.
+pub fn explain_in(alloc: Global, source: &Source<'_>, error: &Error) -> Result<String, Error>
+    ensures told { IfOk result (λ told.
+        string_bytes told ≡ explained source.now (answer_of error.now)) }
+    ensures refused { IfErr result (λ error. answer_of error ≡ no_memory) }
+{
+    let what = format!(in alloc; "{error}")?;
+    match error.place() {
+        None => {
+            let told = without_place(alloc, source.name, what.as_str())?;
+            Ok(told)
+        }
+        Some(place) => {
+            let marked = marked_bytes(alloc, source.format, place)?;
+            let at = source.start.saturating_add(place);
+            let told = told_at(alloc, source, at, marked, what.as_str())?;
+            Ok(told)
+        }
+    }
+}
+
+/// What is told of something without a place.
+fn without_place(alloc: Global, name: &str, what: &str) -> Result<String, AllocError>
+    ensures { IfOk result (λ told.
+        string_bytes told ≡ name.now ++ (codes ": " ++ what.now)) }
+{
+    let told = format!(in alloc; "{name}: {what}")?;
+    Ok(told)
+}
+
+/// The bytes of a format that are marked for a place.
+fn marked_bytes(alloc: Global, format: &str, place: usize) -> Result<(usize, usize), Error>
+    ensures marked { IfOk result (λ marked. marked ≡ marked_bytes format.now place) }
+    ensures refused { IfErr result (λ error. answer_of error ≡ no_memory) }
+{
+    let template = Template::parse(alloc, format)?;
+    Ok(template.argument_at(place).unwrap_or((place, place)))
+}
+
+/// The line of this number, from 1 on; empty if the text has none such.
+fn line_of(text: &str, number: usize) -> &str
+    requires { 0 < number }
+    ensures { result.now ≡ line_of text.now number }
+{
+    let mut count = 1usize;
+    for line in text.lines() {
+        if count >= number {
+            return line;
+        }
+        count += 1;
+    }
+    ""
+}
+
+/// How many characters of a line of so many, that has this number, stand before a byte of the text.
+fn before_in_line(text: &str, number: usize, count: usize, place: usize) -> usize
+    ensures { result ≡ before_in_line text.now number count place }
+{
+    let at = Position::of(text, place);
+    if at.line < number {
+        return 0;
+    }
+    if number < at.line {
+        return count;
+    }
+    at.column - 1
+}
+
+/// What stands before the line that is shown.
+fn head(
+    alloc: Global,
+    name: &str,
+    number: usize,
+    column: usize,
+    what: &str,
+) -> Result<String, AllocError>
+    ensures { IfOk result (λ head. string_bytes head ≡ head_of name.now number column what.now) }
+{
+    let head = format!(in alloc; "{name}:{number}:{column}: {what}")?;
+    Ok(head)
+}
+
+/// What is told of something at a byte of the text.
+fn told_at(
+    alloc: Global,
+    source: &Source<'_>,
+    at: usize,
+    marked: (usize, usize),
+    what: &str,
+) -> Result<String, AllocError>
+    ensures { IfOk result (λ told.
+        string_bytes told ≡ told_at source.now at marked what.now) }
+{
+    let position = Position::of(source.text, at);
+    let line = line_of(source.text, position.line);
+    let count = count_of(line);
+    let (from, to) = (
+        source.start.saturating_add(marked.0),
+        source.start.saturating_add(marked.1),
+    );
+    let from = before_in_line(source.text, position.line, count, from);
+    let to = before_in_line(source.text, position.line, count, to);
+    let number = source.first_line.saturating_add(position.line - 1);
+    let head = head(alloc, source.name, number, position.column, what)?;
+    let picture = draw(alloc, number, line, position.column - 1, (from, to))?;
+    let told = format!(in alloc; "{head}\n{picture}")?;
+    Ok(told)
+}

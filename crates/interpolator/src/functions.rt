@@ -1,0 +1,219 @@
+//! Formats: text and values in, the formatted text or one located fault out.
+
+ghost use Rattle.std.specs.Prelude.{◌≡◌, ◌≤◌, ◌⊎◌, [], false, length, IfOk, Some, option_map};
+ghost use Rattle.std.specs.Str.{chars};
+ghost use Rattle.interpolator_syntax.specs.At.{outermost};
+ghost use Rattle.interpolator_eval.specs.Meaning.AskedNames.{asked_names};
+ghost use Rattle.interpolator_eval.specs.Meaning.Environments.{environment, cut};
+ghost use Rattle.interpolator_syntax.specs.Faults.{answered, fault, no_memory, PlaceWithin};
+ghost use Rattle.interpolator_eval.specs.Meaning.Meanings.{means};
+ghost use Rattle.interpolator_eval.specs.Meaning.Outcomes.{Outcome, Formats};
+ghost use Rattle.interpolator.specs.Template.NodeChecks.{first_fault, text_faults};
+ghost use Rattle.interpolator_syntax.specs.Nodes.{nodes};
+ghost use Rattle.interpolator.specs.Template.Stored.{nodes_of};
+ghost use Rattle.interpolator_render.specs.Written.{as_writer};
+
+use crate::template::check::Check;
+use crate::template::parse::parse_pieces;
+use crate::template::piece::Piece;
+use crate::template::walk::walk_text;
+use crate::tree::run_pieces;
+use interpolator_eval::{Context, Scope, Sink, write_text};
+use interpolator_render::{TextBuffer, TextWrite};
+use interpolator_syntax::{Cursor, Error};
+use std::alloc::{AllocError, Global};
+
+/// Writes what the format means in the context, up to its first fault.
+///
+/// The pieces of the format are read once, from left to right, and written as they come: `{{` as
+/// `{`, `}}` as `}`, `{name}` as the text of the value under the name, and every other character
+/// as it stands. `{name:i}` writes the items of a list one after the other: each displayed plainly
+/// or, where a group `(..)` follows, by the format in it, in which the empty name is the item. A
+/// second group is written between two items.
+///
+/// Under a width the text of a list is made whole in a buffer and then padded, and of a list in
+/// which a fault is found nothing is written. Memory is taken for such a buffer, before anything of
+/// its argument is written, and for the name in a `MissingValue`; and for nothing else. The buffer
+/// takes as many bytes as the writer's [`room`](TextWrite::room) tells when the list begins, where
+/// it tells it: a list with more bytes is refused before it is made, since the writer would refuse
+/// it.
+///
+/// # Errors
+///
+/// - `Parse`: an argument is broken, or asks of a list a precision, a sign, `#` or the zero flag.
+///   The text before it was written.
+/// - `MissingValue`: the context has nothing under the name.
+/// - `MissingTraitImpl`: the value has no slot for the trait, or no text under it.
+/// - `Fmt`: a value failed, or the writer refused. Where the writer refused a literal character,
+///   the place is that of the first which was not appended; where it refused a value or a padded
+///   list, the byte after the argument's spec.
+/// - `NoMemory`: a missing name could not be copied, or a padded list's text found no memory, or has
+///   more bytes than the writer's room.
+///
+/// Every place counts bytes from the beginning of the format, and is at most its length.
+///
+/// # Example
+///
+/// ```text
+/// write(alloc, &mut out, "Hello {name}, {{n}} is {n} }", &context)?;
+/// // with `Ann` under `name` and -7 under `n`: Hello Ann, {n} is -7 }
+/// write(alloc, &mut out, "{l:i(<{}>)(, )}", &context)?;
+/// // with the list of 1, 2 and 3 under `l`: <1>, <2>, <3>
+/// ```
+pub fn write<W: TextWrite, C: Context>(
+    alloc: Global,
+    out: &mut W,
+    format: &str,
+    context: &C,
+) -> Result<(), Error>
+    ensures outcome { Outcome
+        (means C.Object.shows (environment (C.finds context.now)) (outermost (chars format.now)))
+        (W.written out.old) (W.written out.new) (answered result) }
+    ensures asked { let a = outermost (chars format.now) in Outcome
+        (means C.Object.shows (cut (environment (C.finds context.now)) (asked_names a)) a)
+        (W.written out.old) (W.written out.new) (answered result) }
+    ensures place { PlaceWithin (length format.now) (answered result) }
+{
+    let text = Cursor {
+        place: 0,
+        rest: format,
+    };
+    let mut sink = Sink::Writer(out);
+    let answer = write_text(&mut sink, &Scope::outermost(alloc, context), text);
+    match sink {
+        Sink::Writer(end) => {
+            let _ = end;
+        }
+        Sink::Aside(_) => unreachable!(),
+    }
+    answer
+}
+
+/// The most bytes that a buffer has room for beyond its format, for what values take.
+const MOST_MORE: usize = 256;
+
+/// An empty buffer with room for the format and, up to a bound, as many bytes again.
+#[tactic(auto, using(interpolator_syntax::proofs::CharacterLemmas::no_text))]
+pub(crate) fn buffer_for(alloc: Global, format: &str) -> Result<TextBuffer, AllocError>
+    ensures empty { IfOk result
+        (λ buffer. as_writer buffer ≡ record { text = []; refused = false }) }
+    ensures room { IfOk result (λ buffer. length format.now ≤ buffer.room) }
+{
+    let len = format.len();
+    let text = String::with_capacity(alloc, len.saturating_add(len.min(MOST_MORE)))?;
+    Ok(TextBuffer::from_string(text))
+}
+
+/// Writes what the stored pieces of a format mean in the context.
+pub(crate) fn write_pieces<W: TextWrite, C: Context>(
+    alloc: Global,
+    out: &mut W,
+    format: &str,
+    pieces: &[Piece],
+    context: &C,
+) -> Result<(), Error>
+    requires pieces { nodes_of format.now pieces.now ≡ nodes (outermost (chars format.now)) }
+    ensures outcome { Outcome
+        (means C.Object.shows (environment (C.finds context.now)) (outermost (chars format.now)))
+        (W.written out.old) (W.written out.new) (answered result) }
+    ensures asked { let a = outermost (chars format.now) in Outcome
+        (means C.Object.shows (cut (environment (C.finds context.now)) (asked_names a)) a)
+        (W.written out.old) (W.written out.new) (answered result) }
+    ensures place { PlaceWithin (length format.now) (answered result) }
+{
+    let mut sink = Sink::Writer(out);
+    let answer = run_pieces(&mut sink, &Scope::outermost(alloc, context), format, pieces);
+    match sink {
+        Sink::Writer(end) => {
+            let _ = end;
+        }
+        Sink::Aside(_) => unreachable!(),
+    }
+    answer
+}
+
+/// The text that the stored pieces of a format mean in the context, in a new `String`.
+pub(crate) fn format_pieces<C: Context>(
+    alloc: Global,
+    format: &str,
+    pieces: &[Piece],
+    context: &C,
+) -> Result<String, Error>
+    requires pieces { nodes_of format.now pieces.now ≡ nodes (outermost (chars format.now)) }
+    ensures formats { Formats
+        (means C.Object.shows (environment (C.finds context.now)) (outermost (chars format.now)))
+        result }
+    ensures asked { let a = outermost (chars format.now) in Formats
+        (means C.Object.shows (cut (environment (C.finds context.now)) (asked_names a)) a) result }
+    ensures place { PlaceWithin (length format.now) (answered result) }
+{
+    let mut out = buffer_for(alloc, format)?;
+    let answer = write_pieces(alloc, &mut out, format, pieces, context);
+    if out.refused() {
+        return Err(Error::NoMemory);
+    }
+    answer?;
+    Ok(out.into_string())
+}
+
+/// The format's text in a new `String`.
+///
+/// The format is read into its pieces first, which then are written. A text that is written once
+/// into a buffer takes less by [`write`], and one that is written often by a
+/// [`Template`](crate::Template).
+///
+/// # Errors
+///
+/// Those of `write` over the same format and context, where `Fmt` means that a value failed; and
+/// `NoMemory` where the text, the room that is taken for it at the beginning, or the pieces of the
+/// format find no memory.
+///
+/// # Example
+///
+/// ```text
+/// let text = format(alloc, "{{{x}}}", &context)?; // with 1 under `x`: {1}
+/// ```
+pub fn format<C: Context>(alloc: Global, format: &str, context: &C) -> Result<String, Error>
+    ensures formats { Formats
+        (means C.Object.shows (environment (C.finds context.now)) (outermost (chars format.now)))
+        result }
+    ensures asked { let a = outermost (chars format.now) in Formats
+        (means C.Object.shows (cut (environment (C.finds context.now)) (asked_names a)) a) result }
+    ensures place { PlaceWithin (length format.now) (answered result) }
+{
+    let start = Cursor {
+        place: 0,
+        rest: format,
+    };
+    let pieces = parse_pieces(alloc, start)?;
+    format_pieces(alloc, format, &pieces, context)
+}
+
+/// Tells the first fault that a format has by itself, as
+/// [`Template::check`](crate::Template::check) does of a format that was read.
+///
+/// Where it answers `Ok`, no context makes the format answer `Parse` or `UnsupportedOption`.
+///
+/// # Errors
+///
+/// `Parse` and `UnsupportedOption`, each at its place in the text; and `NoMemory` where the pieces of
+/// the format find no memory.
+///
+/// # Example
+///
+/// ```text
+/// check(alloc, "{a:i({z)}{b")?    // Err(Parse(FormatSpecUnclosed(6)))
+/// ```
+pub fn check(alloc: Global, text: &str) -> Result<(), Error>
+    ensures first { (answered result
+        ≡ option_map fault (first_fault (text_faults (outermost (chars text.now)))))
+        ⊎ (answered result ≡ Some no_memory) }
+    ensures place { PlaceWithin (length text.now) (answered result) }
+{
+    let start = Cursor {
+        place: 0,
+        rest: text,
+    };
+    let pieces = parse_pieces(alloc, start)?;
+    walk_text(&mut Check, text, &pieces)
+}

@@ -1,0 +1,20 @@
+//! Laws of the walk over the pieces of a format, each the contract of a small function.
+
+ghost use Rattle.std.specs.Prelude.{◌≡◌, flat_map};
+ghost use Rattle.interpolator_syntax.specs.At.{At};
+ghost use Rattle.interpolator_syntax.specs.Nodes.{as_forest, nodes};
+ghost use Rattle.interpolator_eval.specs.Meaning.AskedNames.{asked_names};
+ghost use Rattle.interpolator.specs.Template.NodeChecks.{text_faults, visit_faults};
+ghost use Rattle.interpolator.specs.Template.NodeExtents.{forest_depth, visit_depth};
+ghost use Rattle.interpolator.specs.Template.NodeNames.{visit_asks};
+ghost use Rattle.interpolator.specs.Template.Visits.{greatest, text_visits};
+
+/// The names that a format asks, its faults, and how deep it is are what one walk over its pieces
+/// gathers: each piece is entered, then the pieces of its item format and of its join are walked,
+/// and then it is left.
+pub fn one_walk_gathers_all()
+    ensures names { (a : At) → flat_map visit_asks (text_visits a) ≡ asked_names a }
+    ensures faults { (a : At) → flat_map visit_faults (text_visits a) ≡ text_faults a }
+    ensures depth { (a : At)
+        → greatest visit_depth (text_visits a) ≡ forest_depth (as_forest (nodes a)) }
+{}

@@ -1,0 +1,64 @@
+//! The line and the column of a byte of a text.
+ghost use Rattle.std.specs.Prelude.{◌≡◌, ◌+◌, length};
+ghost use Rattle.std.specs.Str.{chars};
+ghost use Rattle.interpolator.specs.Positions.{begun_before, lines_ended, last_line, line_at, column_at};
+
+/// A line and a column, each from 1 on. Columns count characters.
+#[derive(Clone, Copy, Debug, PartialEq, Eq)]
+pub struct Position {
+    /// How many line ends stand before it, and one.
+    pub line: usize,
+    /// How many characters stand before it in its line, and one.
+    pub column: usize,
+}
+
+impl Position {
+    /// The line and the column of a byte of a text, by the characters that begin before it. A byte
+    /// past the text's end is taken as its end.
+    ///
+    /// ```text
+    /// Position::of("a\né{x}", 4)    // line 2, column 2: `é` has two bytes
+    /// ```
+    pub fn of(text: &str, place: usize) -> Position
+        ensures line { result.line ≡ line_at text.now place }
+        ensures column { result.column ≡ column_at text.now place }
+    {
+        let before = text_before(text, place);
+        Position {
+            line: line_at_end(before),
+            column: column_at_end(before),
+        }
+    }
+}
+
+/// The characters of a text that begin before a byte.
+fn text_before(text: &str, place: usize) -> &str
+    ensures { chars result.now ≡ begun_before place (chars text.now) }
+{
+    let mut end = 0usize;
+    for c in text.chars() {
+        if end >= place {
+            return &text[..end];
+        }
+        end += c.len_utf8();
+    }
+    text
+}
+
+/// How many lines have ended in a text, and one.
+fn line_at_end(text: &str) -> usize
+    ensures { result ≡ lines_ended (chars text.now) + 1 }
+{
+    text.chars().filter(|c| *c == '\n').count() + 1
+}
+
+/// How many characters stand after the last line end of a text, and one.
+fn column_at_end(text: &str) -> usize
+    ensures { result ≡ length (last_line (chars text.now)) + 1 }
+{
+    let mut column = 1usize;
+    for c in text.chars() {
+        column = if c == '\n' { 1 } else { column + 1 };
+    }
+    column
+}

@@ -1,0 +1,248 @@
+//! Formats that were prepared for rows of values: names are positions, and text is joined.
+ghost use Rattle.std.specs.Prelude.{◌≡◌, ◌≤◌, length, map, IfErr, IfOk, Some};
+ghost use Rattle.std.specs.Str.{chars};
+ghost use Rattle.interpolator_syntax.specs.At.{outermost};
+ghost use Rattle.interpolator_syntax.specs.Faults.{answer_of, answered, no_memory, PlaceWithin};
+ghost use Rattle.interpolator_syntax.specs.Nodes.{nodes};
+ghost use Rattle.interpolator_eval.specs.Meaning.Environments.{environment};
+ghost use Rattle.interpolator_eval.specs.Meaning.Meanings.{means};
+ghost use Rattle.interpolator_eval.specs.Meaning.Outcomes.{Outcome, Formats};
+ghost use Rattle.interpolator.specs.Prepared.Programs.{program};
+ghost use Rattle.interpolator.specs.Prepared.Rows.{found_by_row, name_bytes, row_at};
+ghost use Rattle.interpolator.specs.Prepared.StoredSteps.{step_of};
+
+pub(crate) mod compile;
+pub(crate) mod joined;
+pub(crate) mod row;
+pub(crate) mod run;
+pub(crate) mod step;
+
+use crate::functions::{buffer_for, write};
+use crate::prepared::compile::compile;
+use crate::prepared::row::{Named, Row};
+use crate::prepared::run::run_steps;
+use crate::prepared::step::Step;
+use crate::template::parse::parse_pieces;
+use interpolator_eval::{Scope, Sink};
+use interpolator_render::{TextWrite, Value};
+use interpolator_syntax::{Cursor, Error};
+use std::alloc::Global;
+use std::marker::Model;
+
+/// A format that was prepared for rows of values: each of its names is a position, and the text
+/// between two arguments is one, in which a doubled brace stands once.
+///
+/// It is written as its text is by [`write`](crate::write) over pairs of the names and the values, to
+/// the byte and to the fault: use it for a format that is written often over values of the same
+/// names. [`Template::prepare`](crate::Template::prepare) makes it.
+///
+/// # Example
+///
+/// ```text
+/// let line = template.prepare(alloc, &sample)?;
+/// for row in &rows {
+///     line.write(alloc, &mut out, &Row(row))?;
+/// }
+/// ```
+#[derive(Drop)]
+pub struct Prepared {
+    text: String,
+    names: Vec<String>,
+    steps: Vec<Step>,
+}
+
+impl Model for Prepared {
+    ghost use Rattle.std.specs.Prelude.{◌≡◌, Some, map, string_bytes};
+    ghost use Rattle.std.specs.Str.{chars};
+    ghost use Rattle.interpolator_syntax.specs.At.{outermost};
+    ghost use Rattle.interpolator_syntax.specs.Nodes.{nodes};
+    ghost use Rattle.interpolator.specs.Prepared.Programs.{program};
+    ghost use Rattle.interpolator.specs.Prepared.Rows.{PreparedFormat, name_bytes};
+    ghost use Rattle.interpolator.specs.Prepared.StoredSteps.{step_of};
+
+    ghost Value = { PreparedFormat };
+
+    ghost view = { λ p. record { text = string_bytes p.text; names = name_bytes p.names.items } };
+
+    ghost invariant = { λ p. map (step_of (string_bytes p.text)) p.steps.items
+        ≡ map Some (program (name_bytes p.names.items)
+        (nodes (outermost (chars (string_bytes p.text))))) };
+}
+
+/// Writes the steps of a format over a row that reaches each name.
+fn write_steps<'a, W: TextWrite, V: Value>(
+    alloc: Global,
+    out: &mut W,
+    text: &str,
+    named: &Named<'a, V>,
+    steps: &[Step],
+) -> Result<(), Error>
+    requires program { map (step_of text.now) steps.now
+        ≡ map Some (program (name_bytes named.now.names.now) (nodes (outermost (chars text.now)))) }
+    requires reached { length named.now.names.now ≤ length named.now.row.now }
+    ensures outcome { Outcome
+        (means V.shows (environment (found_by_row (name_bytes named.now.names.now)
+        (row_at named.now.row.now))) (outermost (chars text.now)))
+        (W.written out.old) (W.written out.new) (answered result) }
+{
+    let mut sink = Sink::Writer(out);
+    let scope = Scope::outermost(alloc, named);
+    let answer = run_steps(&mut sink, &scope, text, named.row, steps);
+    match sink {
+        Sink::Writer(end) => {
+            let _ = end;
+        }
+        Sink::Aside(_) => unreachable!(),
+    }
+    answer
+}
+
+/// Writes the steps of a format over a row. A row that is too short is written by the text.
+pub(crate) fn write_row<'a, W: TextWrite, V: Value>(
+    alloc: Global,
+    out: &mut W,
+    text: &str,
+    named: &Named<'a, V>,
+    steps: &[Step],
+) -> Result<(), Error>
+    requires program { map (step_of text.now) steps.now
+        ≡ map Some (program (name_bytes named.now.names.now) (nodes (outermost (chars text.now)))) }
+    ensures outcome { Outcome
+        (means V.shows (environment (found_by_row (name_bytes named.now.names.now)
+        (row_at named.now.row.now))) (outermost (chars text.now)))
+        (W.written out.old) (W.written out.new) (answered result) }
+    ensures place { PlaceWithin (length text.now) (answered result) }
+{
+    if named.row.len() < named.names.len() {
+        return write(alloc, out, text, named);
+    }
+    write_steps(alloc, out, text, named, steps)
+}
+
+/// The text of the steps of a format over a row, in a new `String`.
+fn format_row<'a, V: Value>(
+    alloc: Global,
+    text: &str,
+    named: &Named<'a, V>,
+    steps: &[Step],
+) -> Result<String, Error>
+    requires program { map (step_of text.now) steps.now
+        ≡ map Some (program (name_bytes named.now.names.now) (nodes (outermost (chars text.now)))) }
+    ensures formats { Formats
+        (means V.shows (environment (found_by_row (name_bytes named.now.names.now)
+        (row_at named.now.row.now))) (outermost (chars text.now)))
+        result }
+    ensures place { PlaceWithin (length text.now) (answered result) }
+{
+    let mut out = buffer_for(alloc, text)?;
+    let answer = write_row(alloc, &mut out, text, named, steps);
+    if out.refused() {
+        return Err(Error::NoMemory);
+    }
+    answer?;
+    Ok(out.into_string())
+}
+
+impl Prepared {
+    /// The format with these names, in order.
+    pub(crate) fn of(alloc: Global, text: &str, names: Vec<String>) -> Result<Prepared, Error>
+        ensures prepared { IfOk result (λ made. made
+            ≡ record { text = text.now; names = name_bytes names.items }) }
+        ensures refused { IfErr result (λ error. answer_of error ≡ no_memory) }
+    {
+        let start = Cursor {
+            place: 0,
+            rest: text,
+        };
+        let pieces = parse_pieces(alloc, start)?;
+        let steps = compile(alloc, text, &names, pieces)?;
+        let text = String::from_str(alloc, text)?;
+        Ok(Prepared { text, names, steps })
+    }
+
+    /// Writes what the format means over a row of values, as [`write`](crate::write) does over pairs
+    /// of the names and these values. Of two equal names the last has the value. A name whose position
+    /// the row does not reach is missing.
+    ///
+    /// Memory is taken where `write` takes it, and for nothing else.
+    ///
+    /// # Errors
+    ///
+    /// Those of `write` over the text, each at its place in it.
+    ///
+    /// # Example
+    ///
+    /// ```text
+    /// prepared.write(alloc, &mut out, &Row(&[Formattable::display(&name)]))?;
+    /// ```
+    pub fn write<W: TextWrite, V: Value>(
+        &self,
+        alloc: Global,
+        out: &mut W,
+        row: &Row<'_, V>,
+    ) -> Result<(), Error>
+        ensures outcome { Outcome
+            (means V.shows (environment (found_by_row self.now.names (row_at row.now.0.now)))
+            (outermost (chars self.now.text)))
+            (W.written out.old) (W.written out.new) (answered result) }
+        ensures place { PlaceWithin (length self.now.text) (answered result) }
+    {
+        let named = Named {
+            names: &self.names,
+            row: row.0,
+        };
+        write_row(alloc, out, self.text.as_str(), &named, &self.steps)
+    }
+
+    /// The text that it means over a row, in a new `String`.
+    ///
+    /// # Errors
+    ///
+    /// Those of `write`, where `Fmt` means that a value failed; and `NoMemory` where the text, or the
+    /// room that is taken for it at the beginning, finds no memory.
+    ///
+    /// # Example
+    ///
+    /// ```text
+    /// prepared.format(alloc, &Row(&[Formattable::display(&name)]))?
+    /// ```
+    pub fn format<V: Value>(&self, alloc: Global, row: &Row<'_, V>) -> Result<String, Error>
+        ensures formats { Formats
+            (means V.shows (environment (found_by_row self.now.names (row_at row.now.0.now)))
+            (outermost (chars self.now.text)))
+            result }
+        ensures place { PlaceWithin (length self.now.text) (answered result) }
+    {
+        let named = Named {
+            names: &self.names,
+            row: row.0,
+        };
+        format_row(alloc, self.text.as_str(), &named, &self.steps)
+    }
+
+    /// The names, in the order of a row's values.
+    ///
+    /// # Example
+    ///
+    /// ```text
+    /// prepared.names()    // those of the sample
+    /// ```
+    pub fn names(&self) -> &[String]
+        ensures names { name_bytes result.now ≡ self.now.names }
+    {
+        &self.names
+    }
+
+    /// The text of the format.
+    ///
+    /// # Example
+    ///
+    /// ```text
+    /// prepared.text()    // the text of the template
+    /// ```
+    pub fn text(&self) -> &str
+        ensures text { result.now ≡ self.now.text }
+    {
+        self.text.as_str()
+    }
+}

@@ -1,0 +1,213 @@
+//! Makes the steps of a format's pieces, for names in order.
+ghost use Rattle.std.specs.Prelude.{◌≡◌, ◌≢◌, ℕ, List, [], ◌∷◌, ◌++◌, IfOk};
+ghost use Rattle.std.specs.Prelude.{IsSome, Some, map, true};
+ghost use Rattle.std.specs.List.{All};
+ghost use Rattle.std.specs.Str.{encode_utf8_all};
+ghost use Rattle.interpolator_syntax.specs.At.{placed_from};
+ghost use Rattle.interpolator_syntax.specs.Nodes.{as_forest};
+ghost use Rattle.interpolator.specs.Prepared.Programs.{program, with_node, with_text, argument_step};
+ghost use Rattle.interpolator.specs.Prepared.Programs.{node_position, node_step, value_step};
+ghost use Rattle.interpolator.specs.Prepared.Rows.{last_position, name_bytes};
+ghost use Rattle.interpolator.specs.Prepared.StoredSteps.{step_of, Becomes};
+ghost use Rattle.interpolator.specs.Template.Stored.{node_of, nodes_of, node_whole, forest_whole, part};
+ghost use Rattle.interpolator.specs.Template.StoredMeanings.{stored_name};
+ghost use Rattle.interpolator.specs.declared.template.piece.Form.TheVariants as forms;
+ghost use Rattle.interpolator.specs.declared.template.piece.Piece.TheViews.{out-Piece};
+
+use crate::prepared::joined::{join_more, join_two};
+use crate::prepared::row::last_position;
+use crate::prepared::step::{Asked, Part, Step};
+use crate::template::piece::{Form, Piece};
+use crate::tree::text_of;
+use interpolator_render::Trait;
+use interpolator_syntax::PieceKind;
+use std::alloc::{AllocError, Global};
+
+/// The steps of the pieces of a text.
+pub(crate) fn compile(
+    alloc: Global,
+    text: &str,
+    names: &[String],
+    pieces: Vec<Piece>,
+) -> Result<Vec<Step>, AllocError>
+    requires whole { forest_whole (as_forest (nodes_of text.now pieces.items)) ≡ true }
+    ensures program { IfOk result (λ made. map (step_of text.now) made.items
+        ≡ map Some (program (name_bytes names.now) (nodes_of text.now pieces.items))) }
+{
+    let mut made = Vec::new(alloc);
+    let mut left = pieces;
+    left.reverse();
+    while let Some(piece) = left.pop() {
+        push_piece(alloc, &mut made, text, names, piece)?;
+    }
+    Ok(made)
+}
+
+/// Adds what a piece means.
+fn push_piece(
+    alloc: Global,
+    made: &mut Vec<Step>,
+    text: &str,
+    names: &[String],
+    piece: Piece,
+) -> Result<(), AllocError>
+    requires whole { node_whole (node_of text.now piece) ≡ true }
+    requires stand { All (λ step. IsSome (step_of text.now step)) made.old.items }
+    ensures pushed { IfOk result (λ _. Becomes text.now made.old.items made.new.items
+        (λ before. with_node (name_bytes names.now) before (node_of text.now piece))) }
+{
+    match &piece.form {
+        Form::Text => push_text(alloc, made, text, piece.from, piece.to),
+        _ => push_argument(alloc, made, text, names, piece),
+    }
+}
+
+/// Adds bytes of the text, from one up to another, to the last step if that is text too.
+fn push_text(
+    alloc: Global,
+    made: &mut Vec<Step>,
+    text: &str,
+    from: usize,
+    to: usize,
+) -> Result<(), AllocError>
+    requires fits { IsSome (part text.now from to) }
+    requires stand { All (λ step. IsSome (step_of text.now step)) made.old.items }
+    ensures pushed { IfOk result (λ _. (cs : List ℕ) → part text.now from to ≡ Some cs
+        → Becomes text.now made.old.items made.new.items
+        (λ before. with_text before (placed_from from cs))) }
+{
+    match made.pop() {
+        None => push_step(made, Step::Literal(from, to)),
+        Some(Step::Literal(first, end)) => {
+            let first = Part {
+                from: first,
+                to: end,
+            };
+            let joined = join_two(alloc, text, first, Part { from, to })?;
+            push_step(made, Step::Joined(joined))
+        }
+        Some(Step::Joined(joined)) => {
+            let joined = join_more(joined, text, from, to)?;
+            push_step(made, Step::Joined(joined))
+        }
+        Some(Step::Plain(position, end)) => {
+            push_after(made, Step::Plain(position, end), Step::Literal(from, to))
+        }
+        Some(Step::Under(position, asked)) => {
+            push_after(made, Step::Under(position, asked), Step::Literal(from, to))
+        }
+        Some(Step::Whole(piece)) => push_after(made, Step::Whole(piece), Step::Literal(from, to)),
+    }
+}
+
+/// Adds a step.
+#[inline(always)]
+fn push_step(made: &mut Vec<Step>, step: Step) -> Result<(), AllocError>
+    ensures { IfOk result (λ _. made.new.items ≡ made.old.items ++ (step ∷ [])) }
+{
+    made.reserve(1)?;
+    made.push_reserved(step);
+    Ok(())
+}
+
+/// Adds a step, and one after it.
+fn push_after(made: &mut Vec<Step>, step: Step, next: Step) -> Result<(), AllocError>
+    ensures { IfOk result (λ _. made.new.items ≡ (made.old.items ++ (step ∷ [])) ++ (next ∷ [])) }
+{
+    push_step(made, step)?;
+    push_step(made, next)
+}
+
+/// Adds the step of an argument.
+fn push_argument(
+    alloc: Global,
+    made: &mut Vec<Step>,
+    text: &str,
+    names: &[String],
+    piece: Piece,
+) -> Result<(), AllocError>
+    requires whole { node_whole (node_of text.now piece) ≡ true }
+    requires asks { (out-Piece piece).form ≢ forms.Text }
+    ensures pushed { IfOk result (λ _. Becomes text.now made.old.items made.new.items
+        (λ before. with_node (name_bytes names.now) before (node_of text.now piece))) }
+{
+    let step = argument_step(alloc, text, names, piece)?;
+    push_step(made, step)
+}
+
+/// The step of an argument: its value at the position of its name, or what its piece means.
+fn argument_step(
+    alloc: Global,
+    text: &str,
+    names: &[String],
+    piece: Piece,
+) -> Result<Step, AllocError>
+    requires whole { node_whole (node_of text.now piece) ≡ true }
+    ensures step { IfOk result (λ step. let x = node_of text.now piece in
+        let known = name_bytes names.now in
+        step_of text.now step ≡ Some (argument_step known (node_position known x) x)) }
+{
+    match position_of(text, names, &piece) {
+        Some(position) => match &piece.form {
+            Form::Name => Ok(Step::Plain(position, piece.spec_end)),
+            Form::Value(t) => under(alloc, position, *t, &piece),
+            Form::Text => whole(alloc, text, piece),
+            Form::List(_) => whole(alloc, text, piece),
+            Form::Broken(_) => whole(alloc, text, piece),
+        },
+        None => whole(alloc, text, piece),
+    }
+}
+
+/// The value at a position, under a trait and the spec of a piece.
+fn under(alloc: Global, position: usize, t: Trait, piece: &Piece) -> Result<Step, AllocError>
+    ensures step { IfOk result (λ step. (bs : List ℕ) → step_of bs step
+        ≡ Some (value_step position t (out-Piece piece.now).spec (out-Piece piece.now).spec_end)) }
+{
+    let asked = Asked {
+        slot: t,
+        spec: piece.spec,
+        end: piece.spec_end,
+    };
+    Ok(Step::Under(position, Box::new(alloc, asked)?))
+}
+
+/// What a piece means.
+fn whole(alloc: Global, text: &str, piece: Piece) -> Result<Step, AllocError>
+    requires whole { node_whole (node_of text.now piece) ≡ true }
+    ensures step { IfOk result (λ step. step_of text.now step
+        ≡ Some (node_step (node_of text.now piece))) }
+{
+    let _ = text;
+    Ok(Step::Whole(Box::new(alloc, piece)?))
+}
+
+/// The position of the name of a closed argument that asks for a value, if it is one of the names.
+fn position_of(text: &str, names: &[String], piece: &Piece) -> Option<usize>
+    requires whole { node_whole (node_of text.now piece.now) ≡ true }
+    ensures { result ≡ node_position (name_bytes names.now) (node_of text.now piece.now) }
+{
+    match piece.kind {
+        PieceKind::Closed => match &piece.form {
+            Form::Name => position_in(text, names, piece),
+            Form::Value(_) => position_in(text, names, piece),
+            Form::Text => None,
+            Form::List(_) => None,
+            Form::Broken(_) => None,
+        },
+        PieceKind::Literal => None,
+        PieceKind::Doubled => None,
+        PieceKind::LoneClose => None,
+        PieceKind::Unclosed => None,
+        PieceKind::Broken => None,
+    }
+}
+
+/// The position of the name of an argument, if it is one of the names.
+fn position_in(text: &str, names: &[String], piece: &Piece) -> Option<usize>
+    requires fits { IsSome (stored_name text.now piece.now) }
+    ensures position { (name : List ℕ) → stored_name text.now piece.now ≡ Some name
+        → result ≡ last_position (name_bytes names.now) (encode_utf8_all name) }
+{
+    last_position(names, text_of(text, piece))
+}

@@ -1,0 +1,85 @@
+//! A row of values, in the order of names.
+ghost use Rattle.std.specs.Prelude.{◌≡◌, ⊤, IfOk, Some, if◌then◌else◌};
+ghost use Rattle.interpolator.specs.Prepared.Rows.{found_by_row, last_position, name_bytes, row_at};
+ghost use Rattle.interpolator.specs.Prepared.Rows.{pair_names};
+
+use interpolator_eval::{Context, Formattable};
+use interpolator_render::Value;
+use std::alloc::{AllocError, Global};
+
+/// A row of values, in the order of the names of a prepared format.
+///
+/// ```text
+/// prepared.write(alloc, &mut out, &Row(&[
+///     Formattable::display(&name),
+///     Formattable::integer(&count),
+/// ]))?;
+/// ```
+pub struct Row<'a, V>(pub &'a [Formattable<'a, V>]);
+
+impl<'a, V> Clone for Row<'a, V> {
+    ghost is_clone = { λ old new. new ≡ old };
+
+    ghost is_infallible = { λ _. ⊤ };
+
+    fn clone(&self) -> Result<Self, AllocError> {
+        Ok(*self)
+    }
+}
+
+impl<'a, V> Copy for Row<'a, V> {}
+
+/// This position, if it is the name's, or else the one that was found before.
+fn later(is: bool, position: usize, found: Option<usize>) -> Option<usize>
+    ensures { result ≡ (if is then Some position else found) }
+{
+    if is { Some(position) } else { found }
+}
+
+/// The last position of a name.
+pub(crate) fn last_position(names: &[String], name: &str) -> Option<usize>
+    ensures { result ≡ last_position (name_bytes names.now) name.now }
+{
+    let mut found = None;
+    for (i, own) in names.iter().enumerate() {
+        found = later(name == own.as_str(), i, found);
+    }
+    found
+}
+
+/// A row, and the names of its positions.
+#[derive(Drop)]
+pub(crate) struct Named<'a, V> {
+    pub(crate) names: &'a [String],
+    pub(crate) row: &'a [Formattable<'a, V>],
+}
+
+impl<'a, V: Value> Context for Named<'a, V> {
+    type Object = V;
+
+    ghost finds = { λ named name. found_by_row (name_bytes named.names.now) (row_at named.row.now) name };
+
+    fn get(&self, key: &str) -> Option<Formattable<'_, V>> {
+        match last_position(self.names, key) {
+            Some(position) => match self.row.get(position) {
+                Some(found) => Some(*found),
+                None => None,
+            },
+            None => None,
+        }
+    }
+}
+
+/// The names of pairs, in order.
+pub(crate) fn names_of<'a, V>(
+    alloc: Global,
+    pairs: &[(&'a str, Formattable<'a, V>)],
+) -> Result<Vec<String>, AllocError>
+    ensures names { IfOk result (λ names. name_bytes names.items ≡ pair_names pairs.now) }
+{
+    let mut names = Vec::new(alloc);
+    for pair in pairs {
+        names.push(String::from_str(alloc, pair.0)?)?;
+    }
+    Ok(names)
+}

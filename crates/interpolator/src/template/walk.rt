@@ -1,0 +1,125 @@
+//! The walk over the pieces of a format, at every depth of groups.
+ghost use Rattle.std.specs.Prelude.{◌≡◌, ◌+◌, ◌^◌, ◌<◌, ℕ, List, Result, true};
+ghost use Rattle.interpolator.specs.Template.NodeExtents.{forest_depth, node_depth, branch_depth};
+ghost use Rattle.interpolator.specs.Template.Visits.{Visit, enter, leave, Walks, inner};
+ghost use Rattle.interpolator.specs.Template.Visits.{node_visits, branch_visits, forest_visits};
+ghost use Rattle.interpolator.specs.Template.Visits.{text_visits};
+ghost use Rattle.interpolator_syntax.specs.At.{outermost};
+ghost use Rattle.interpolator_syntax.specs.Nodes.{as_forest, nodes};
+ghost use Rattle.std.specs.Str.{chars};
+ghost use Rattle.interpolator.specs.Template.Stored.{node_of, nodes_of, branch_of};
+ghost use Rattle.interpolator.specs.Template.Stored.{node_whole, branch_whole, forest_whole};
+
+use crate::template::piece::Piece;
+
+/// Where a piece stands.
+#[derive(Clone, Copy)]
+pub(crate) struct Spot {
+    /// In how many groups.
+    pub(crate) depth: usize,
+    /// Whether in an item format: in it, or in a join in it.
+    pub(crate) in_item: bool,
+}
+
+/// Who is shown the pieces of a format, in order and at every depth of groups.
+pub(crate) trait Visitor {
+    /// What it answers where it wants to see no more.
+    type Stop;
+
+    // what it does at a visit, in a text: how it changes, and whether it stops there
+    ghost step: { List ℕ → Self → Visit → Self → Result (Unit {0}) Self.Stop → Type 0 };
+
+    /// It comes to a piece.
+    fn enter(&mut self, text: &str, piece: &Piece, spot: Spot) -> Result<(), Self::Stop>
+        requires whole { node_whole (node_of text.now piece.now) ≡ true }
+        requires fits { spot.depth + node_depth (node_of text.now piece.now) < 2 ^ 64 }
+        ensures { step text.now self.old (enter spot (node_of text.now piece.now)) self.new
+            result };
+
+    /// It leaves a piece, after its groups.
+    fn leave(&mut self, text: &str, piece: &Piece, spot: Spot) -> Result<(), Self::Stop>
+        requires { node_whole (node_of text.now piece.now) ≡ true }
+        ensures { step text.now self.old (leave spot (node_of text.now piece.now)) self.new
+            result };
+}
+
+/// Shows the visitor pieces of a text, and those of their groups.
+#[cycle(walk)]
+pub(crate) fn walk<V: Visitor>(
+    visitor: &mut V,
+    text: &str,
+    pieces: &[Piece],
+    spot: Spot,
+) -> Result<(), V::Stop>
+    requires whole { forest_whole (as_forest (nodes_of text.now pieces.now)) ≡ true }
+    requires fits { spot.depth + forest_depth (as_forest (nodes_of text.now pieces.now)) < 2 ^ 64 }
+    ensures { Walks (V.step text.now) visitor.old
+        (forest_visits spot (as_forest (nodes_of text.now pieces.now))) visitor.new result }
+{
+    for piece in pieces {
+        walk_piece(visitor, text, piece, spot)?;
+    }
+    Ok(())
+}
+
+/// Shows the visitor a piece, before and after those of its groups.
+#[cycle(walk)]
+fn walk_piece<V: Visitor>(
+    visitor: &mut V,
+    text: &str,
+    piece: &Piece,
+    spot: Spot,
+) -> Result<(), V::Stop>
+    requires whole { node_whole (node_of text.now piece.now) ≡ true }
+    requires fits { spot.depth + node_depth (node_of text.now piece.now) < 2 ^ 64 }
+    ensures { Walks (V.step text.now) visitor.old (node_visits spot (node_of text.now piece.now))
+        visitor.new result }
+{
+    visitor.enter(text, piece, spot)?;
+    walk_group(visitor, text, &piece.item, spot, true)?;
+    walk_group(visitor, text, &piece.join, spot, spot.in_item)?;
+    visitor.leave(text, piece, spot)
+}
+
+/// Shows the visitor the pieces of a group, where there is one, whose argument stands here.
+#[cycle(walk)]
+fn walk_group<V: Visitor>(
+    visitor: &mut V,
+    text: &str,
+    group: &Option<Vec<Piece>>,
+    spot: Spot,
+    in_item: bool,
+) -> Result<(), V::Stop>
+    requires whole { branch_whole (branch_of text.now group.now) ≡ true }
+    requires fits { spot.depth + branch_depth (branch_of text.now group.now) < 2 ^ 64 }
+    ensures { Walks (V.step text.now) visitor.old
+        (branch_visits (inner in_item spot) (branch_of text.now group.now)) visitor.new result }
+{
+    match group {
+        Some(pieces) => {
+            let spot = Spot {
+                depth: spot.depth + 1,
+                in_item,
+            };
+            walk(visitor, text, pieces, spot)
+        }
+        None => Ok(()),
+    }
+}
+
+/// Shows the visitor the pieces of a whole text.
+pub(crate) fn walk_text<V: Visitor>(
+    visitor: &mut V,
+    text: &str,
+    pieces: &[Piece],
+) -> Result<(), V::Stop>
+    requires { nodes_of text.now pieces.now ≡ nodes (outermost (chars text.now)) }
+    ensures { Walks (V.step text.now) visitor.old (text_visits (outermost (chars text.now)))
+        visitor.new result }
+{
+    let spot = Spot {
+        depth: 0,
+        in_item: false,
+    };
+    walk(visitor, text, pieces, spot)
+}

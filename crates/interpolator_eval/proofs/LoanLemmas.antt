@@ -1,0 +1,134 @@
+-- What an insertion into a map of names leaves, and what a loan of a value does.
+use Rattle.std.proofs.Common.{◌≡◌, ◌≢◌, refl, sym, ◌∙◌, ℕ, ◌+◌, List, Option, None, Some}
+use Rattle.std.proofs.Common.{MatchOption, true, false, arith, String, Global}
+use Rattle.std.specs.Borrow.{Bor, MutBor}
+use Rattle.std.specs.Option.{option_copied, option_copied_mut, is_some, OnSome}
+use Rattle.std.specs.Str.{bytes_eq, encode_utf8_all}
+use Rattle.std.specs.String.{string_bytes, string_eq}
+use Rattle.std.specs.Prelude.{if◌then◌else◌}
+use Rattle.std.specs.HashMap.{get_by_text, WritesThrough, Updates, UpdatesBy}
+use Rattle.std.proofs.lemmas.Bool.{false_from_ne_true}
+use Rattle.std.proofs.lemmas.Map.Text.{hash_map_updates_text}
+use Rattle.std.proofs.lemmas.Slice.Eq.{bytes_eq-Decides}
+use Rattle.std.proofs.lemmas.Str.{encodes_same}
+use Rattle.interpolator_eval.specs.NameMaps.{under, name_count, HasPut, IsSame, HasAdded, IsEntry}
+use Rattle.interpolator_eval.specs.declared.context_map.NameMap.{NameMap}
+
+-- two names with the same bytes are the same name
+other_bytes : (name other : List ℕ) → other ≢ name
+    → bytes_eq (encode_utf8_all name) (encode_utf8_all other) ≡ false
+other_bytes name other differs = false_from_ne_true _
+    (λ e. differs
+    (sym (encodes_same name other
+    ((bytes_eq-Decides (encode_utf8_all name) (encode_utf8_all other)).0 e))))
+
+module _ {T : Type 0} where
+  -- a change at the bytes of one name leaves the others
+  others_kept :
+      (old new : NameMap T) (name bytes : List ℕ) (value : Option T) → bytes ≡ encode_utf8_all name
+      → UpdatesBy string_eq (λ key. bytes_eq bytes (string_bytes key)) old.map new.map value
+      → (other : List ℕ) → other ≢ name → under new other ≡ under old other
+  others_kept old new name bytes value spelt updates other differs =
+      let unequal : bytes_eq bytes (encode_utf8_all other) ≡ false =
+      rw spelt (other_bytes name other differs) in
+      hash_map_updates_text bytes old.map new.map value updates (encode_utf8_all other)
+      ∙ rw unequal refl
+
+  -- what was written through a loan of the value under a name
+  pub lent_in :
+      (old new : NameMap T) (lent : Option (MutBor T)) (name bytes : List ℕ) (last : T)
+      → bytes ≡ encode_utf8_all name
+      → option_copied_mut lent ≡ under old name
+      → WritesThrough string_eq (λ key. bytes_eq bytes (string_bytes key)) old.map last new.map
+      → OnSome lent (HasPut old name last new)
+  lent_in old new None name bytes last spelt value writes = tt
+  lent_in old new (Some lent) name bytes last spelt value writes =
+      let updates = writes.3 (rw spelt (rw (← value) refl)) in record {
+        here = rw (← spelt) updates.1;
+        others = others_kept old new name bytes (Some last) spelt updates;
+        count = rw (← value) (grind (arith, writes.2));
+      }
+
+  pub same : (old new : NameMap T) → new.map ≡ old.map → IsSame old new
+  same old new e = record { finds = λ name. rw e refl; count = rw e refl }
+
+  -- what an insertion under a name leaves
+  pub put_in : (old new : NameMap T) (key : String Global) (name : List ℕ) (value : T)
+      (replaced : Option T)
+      → string_bytes key ≡ encode_utf8_all name → Updates string_eq old.map new.map key (Some value)
+      → replaced ≡ get_by_text old.map (string_bytes key)
+      → name_count new ≡ name_count old + (if is_some replaced then 0 else 1)
+      → HasPut old name value new
+  put_in old new key name value replaced spelt updates was count = record {
+    here = rw (← spelt) updates.1;
+    others = others_kept old new name (string_bytes key) (Some value) spelt updates;
+    count = let stood : under old name ≡ replaced = rw (← spelt) (sym was) in rw stood count;
+  }
+
+  -- what a look-up that finds nothing says
+  pub absent_name :
+      (old : NameMap T) (name : List ℕ) (found : Option (Bor T))
+      → option_copied found ≡ under old name
+      → is_some found ≡ false → under old name ≡ None
+  absent_name old name None value e = sym value
+  absent_name old name (Some there) value e = cc
+
+  module _ (IsDefault : T → Type 0) where
+    -- a name that was there
+    pub kept :
+        (old : NameMap T) (name : List ℕ) (found : Option (Bor T))
+        → option_copied found ≡ under old name
+        → is_some found ≡ true → HasAdded IsDefault old name old
+    kept old name None value e = cc
+    kept old name (Some there) value e =
+        rw (← value) (record { finds = λ other. refl; count = refl })
+
+    -- a name that was absent
+    pub new_name :
+        (old new : NameMap T) (name : List ℕ) (value : T) → under old name ≡ None → IsDefault value
+        → HasPut old name value new → HasAdded IsDefault old name new
+    new_name old new name value e default put = rw e (value, (default, put))
+
+    put_cases :
+        (old added new : NameMap T) (name : List ℕ) (last : T) (was : Option T)
+        → under old name ≡ was
+        → MatchOption was ((value : T) × (IsDefault value × HasPut old name value added))
+        (λ _. IsSame old added)
+        → HasPut added name last new → HasPut old name last new
+    put_cases old added new name last None e put written = let first = put.1.1 in record {
+      here = written.here;
+      others = λ other differs. written.others other differs ∙ first.others other differs;
+      count =
+          let after : name_count new ≡ name_count added + 0 = written.count ∙ rw first.here refl in
+          let before : name_count added ≡ name_count old + 1 = first.count ∙ rw e refl in
+          rw e (omega (arith, after, before));
+    }
+    put_cases old added new name last (Some value) e as_before written = record {
+      here = written.here;
+      others = λ other differs. written.others other differs ∙ as_before.finds other;
+      count = written.count ∙ rw (as_before.finds name, as_before.count) refl;
+    }
+
+    -- the last value after a loan of a name that was put in first
+    pub put_after :
+        (old added new : NameMap T) (name : List ℕ) (last : T) → HasAdded IsDefault old name added
+        → HasPut added name last new → HasPut old name last new
+    put_after old added new name last adds written =
+        put_cases old added new name last (under old name) refl adds written
+
+    value_cases :
+        (old added : NameMap T) (name : List ℕ) (lent : T) (was : Option T) → under old name ≡ was
+        → MatchOption was ((value : T) × (IsDefault value × HasPut old name value added))
+        (λ _. IsSame old added)
+        → Some lent ≡ under added name → MatchOption was (IsDefault lent) (λ value. lent ≡ value)
+    value_cases old added name lent None e put found =
+        let same_value : lent ≡ put.0 = (let here = put.1.1.here in cc) in rw same_value put.1.0
+    value_cases old added name lent (Some value) e as_before found =
+        let there = as_before.finds name in cc
+
+    -- the value that is lent of a name that was put in first
+    pub value_after :
+        (old added : NameMap T) (name : List ℕ) (lent : T) → HasAdded IsDefault old name added
+        → Some lent ≡ under added name → IsEntry IsDefault old name lent
+    value_after old added name lent adds found =
+        value_cases old added name lent (under old name) refl adds found

@@ -1,0 +1,211 @@
+-- A text at another base means the same, with every place moved.
+use Rattle.std.proofs.Common.{◌≡◌, ℕ, zero, suc, ◌+◌, Bool, true, false, cond, List, [], ◌∷◌, ◌++◌}
+use Rattle.std.proofs.Common.{length, map, arith, refl, ap, ◌∙◌, sym, Option, Some, None, option_map}
+use Rattle.std.specs.Prelude.{is_some, codes}
+use Rattle.std.proofs.lemmas.List.{map-append, length-map}
+use Rattle.interpolator_render.specs.declared.view.Trait.{Trait}
+use Rattle.interpolator_render.specs.declared.view.Trait.TheVariants as traits
+use Rattle.interpolator_render.specs.declared.view.Spec.{Spec}
+use Rattle.interpolator_render.specs.Padding.{padded_text}
+use Rattle.interpolator_render.specs.Texts.{ViewText, has_text, has_no_text, has_failed, view_text}
+use Rattle.interpolator_render.specs.Views.{Shown}
+use Rattle.interpolator_syntax.specs.At.{At, Placed, placed_at, text_of, outermost}
+use Rattle.interpolator_syntax.specs.Groups.{Group}
+use Rattle.interpolator_syntax.specs.Lists.{ListRequest}
+use Rattle.interpolator_syntax.specs.SpecTexts.{Kind, of_value, of_list, plain_spec}
+use Rattle.interpolator_syntax.specs.Arguments.{Argument}
+use Rattle.interpolator_syntax.specs.Pieces.{Piece, PieceKind, literal, doubled, lone_close, closed}
+use Rattle.interpolator_syntax.specs.Pieces.{unclosed, broken, pieces}
+use Rattle.interpolator_syntax.specs.Faults.{Fault, parse, expected}
+use Rattle.interpolator_syntax.specs.Grammar.{from_place}
+use Rattle.interpolator_syntax.specs.Moved.{moved_at, moved_fault, moved_group, moved_list}
+use Rattle.interpolator_syntax.specs.Moved.{moved_kind, moved_argument, moved_piece_kind, moved_piece}
+use Rattle.interpolator_eval.specs.Slots.{Slots, values_of, items, slot_at}
+use Rattle.interpolator_eval.specs.Meaning.Choices.{chosen_items}
+use Rattle.interpolator_eval.specs.Meaning.Environments.{Environment, given, bind}
+use Rattle.interpolator_eval.specs.Meaning.Meanings.{Meaning, fault_alone, or_fault, joined}
+use Rattle.interpolator_eval.specs.Meaning.Meanings.{view_means, value_means, forbids_list, made_whole}
+use Rattle.interpolator_eval.specs.Meaning.Meanings.{padded_list, items_after, items_mean}
+use Rattle.interpolator_syntax.specs.Groups.{inside}
+use Rattle.interpolator_eval.specs.Meaning.Meanings.{item_means, join_means, list_means, kind_means}
+use Rattle.interpolator_eval.specs.Meaning.Meanings.{found_means, piece_means}
+use Rattle.interpolator_eval.specs.Meaning.Meanings.{pieces_mean, means_within, means}
+use Rattle.interpolator_eval.specs.Meaning.Moves.{moved_text, moved_meaning}
+use Rattle.interpolator_syntax.proofs.LongestLemmas.{at_same}
+use Rattle.interpolator_syntax.proofs.MovePieceLemmas.{pieces_move}
+
+module _ (by : ℕ) where
+  -- ---- placed texts
+
+  placed_at_moves : (q : ℕ) (cs : List ℕ) → placed_at (q + by) cs ≡ moved_text by (placed_at q cs)
+  placed_at_moves q [] = refl
+  placed_at_moves q (c ∷ cs) = ap (λ xs. (c, q + by) ∷ xs) (placed_at_moves q cs)
+
+  text_of_moves : (xs : Placed) → text_of (moved_text by xs) ≡ text_of xs
+  text_of_moves [] = refl
+  text_of_moves (x ∷ xs) = ap (λ cs. x.0 ∷ cs) (text_of_moves xs)
+
+  -- ---- joining
+
+  meaning_same : {text other : Placed} {o : Option Fault} {points more : List ℕ} → text ≡ other
+      → points ≡ more
+      → ◌≡◌ {A = Meaning} (record { text = text; fault = o; memory_points = points })
+      (record { text = other; fault = o; memory_points = more })
+  meaning_same e h = cc
+
+  or_fault_moves : (o : Option Fault) (m k : Meaning)
+      → or_fault (option_map (moved_fault by) o) (moved_meaning by m) (moved_meaning by k)
+      ≡ moved_meaning by (or_fault o m k)
+  or_fault_moves (Some f) m k = refl
+  or_fault_moves None m k =
+      let count : length (moved_text by m.text) ≡ length m.text =
+      length-map m.text (λ (x : ℕ × ℕ). (x.0, x.1 + by)) in
+      meaning_same (sym (map-append (λ (x : ℕ × ℕ). (x.0, x.1 + by)) m.text k.text))
+      (ap (λ (n : ℕ). m.memory_points ++ map (λ (p : ℕ). n + p) k.memory_points) count)
+
+  joined_moves : (m k : Meaning)
+      → joined (moved_meaning by m) (moved_meaning by k) ≡ moved_meaning by (joined m k)
+  joined_moves m k = or_fault_moves m.fault m k
+
+  both_move : (m k l o : Meaning) → m ≡ moved_meaning by l → k ≡ moved_meaning by o
+      → joined m k ≡ moved_meaning by (joined l o)
+  both_move m k l o e h =
+      ap (λ (x : Meaning). joined x k) e ∙ ap (joined (moved_meaning by l)) h ∙ joined_moves l o
+
+  either_moves : (b : Bool) (m k l o : Meaning) → m ≡ moved_meaning by l → k ≡ moved_meaning by o
+      → cond b m k ≡ moved_meaning by (cond b l o)
+  either_moves true m k l o e h = e
+  either_moves false m k l o e h = h
+
+  -- ---- values
+
+  text_moves : (q : ℕ) (cs : List ℕ) (points : List ℕ)
+      → ◌≡◌ {A = Meaning}
+      (record { text = placed_at (q + by) cs; fault = None; memory_points = points })
+      (moved_meaning by
+      (record { text = placed_at q cs; fault = None; memory_points = points }))
+  text_moves q cs points = meaning_same (placed_at_moves q cs) refl
+
+  view_moves : (t : Trait) (q : ℕ) (v : ViewText)
+      → view_means t (q + by) v ≡ moved_meaning by (view_means t q v)
+  view_moves t q (has_text cs) = text_moves q cs []
+  view_moves t q has_no_text = refl
+  view_moves t q has_failed = refl
+
+  value_moves :
+      {X : Type 0} (shows : X → Trait → Spec → Shown) (t : Trait) (spec : Spec) (q : ℕ)
+      (o : Option X)
+      → value_means shows t spec (q + by) o ≡ moved_meaning by (value_means shows t spec q o)
+  value_moves shows t spec q None = refl
+  value_moves shows t spec q (Some x) = view_moves t q (view_text (shows x t spec) t spec)
+
+  -- ---- lists
+
+  whole_moves : (spec : Spec) (q : ℕ) (o : Option Fault) (cs : List ℕ)
+      → made_whole spec (q + by) (option_map (moved_fault by) o) cs
+      ≡ moved_meaning by (made_whole spec q o cs)
+  whole_moves spec q (Some f) cs = refl
+  whole_moves spec q None cs = text_moves q (padded_text spec cs) (0 ∷ [])
+
+  padded_moves : (spec : Spec) (q : ℕ) (m k : Meaning) → m ≡ moved_meaning by k
+      → padded_list spec (q + by) m ≡ moved_meaning by (padded_list spec q k)
+  padded_moves spec q m k e =
+      let fault = option_map (moved_fault by) k.fault in
+      ap (padded_list spec (q + by)) e
+      ∙ either_moves (is_some spec.width) _ _ _ _
+      (ap (made_whole spec (q + by) fault) (text_of_moves k.text)
+      ∙ whole_moves spec q k.fault (text_of k.text)) refl
+
+  module _ {A : Type 0} (j k : Meaning) (f g : A → Meaning) (joins : j ≡ moved_meaning by k)
+      (each : (x : A) → f x ≡ moved_meaning by (g x)) where
+    after_moves : (xs : List A) → items_after j f xs ≡ moved_meaning by (items_after k g xs)
+    after_moves [] = refl
+    after_moves (x ∷ xs) = both_move _ _ _ _ joins (both_move _ _ _ _ (each x) (after_moves xs))
+
+    items_move : (xs : List A) → items_mean j f xs ≡ moved_meaning by (items_mean k g xs)
+    items_move [] = refl
+    items_move (x ∷ xs) = both_move _ _ _ _ (each x) (after_moves xs)
+
+  module _ {X : Type 0} (shows : X → Trait → Spec → Shown) where
+    module _ (run : Environment X → At → Meaning)
+        (moves : (e : Environment X) (a : At) → run e (moved_at by a) ≡ moved_meaning by (run e a))
+        (e : Environment X) where
+      item_moves : (q : ℕ) (o : Option Group) (item : Slots X)
+          → item_means shows run e (q + by) (option_map (moved_group by) o) item
+          ≡ moved_meaning by (item_means shows run e q o item)
+      item_moves q (Some g) item = moves (bind e item) (inside g)
+      item_moves q None item =
+          value_moves shows traits.Display plain_spec q (slot_at traits.Display (values_of item))
+
+      join_moves : (o : Option Group)
+          → join_means shows run e (option_map (moved_group by) o)
+          ≡ moved_meaning by (join_means shows run e o)
+      join_moves (Some g) = moves e (inside g)
+      join_moves None = refl
+
+      list_moves : (l : ListRequest) (spec : Spec) (q : ℕ) (o : Option (List (Slots X)))
+          → list_means shows run e (moved_list by l) spec (q + by) o
+          ≡ moved_meaning by (list_means shows run e l spec q o)
+      list_moves l spec q None = refl
+      list_moves l spec q (Some ts) =
+          either_moves (forbids_list spec) _ _ _ _ refl
+          (padded_moves spec q _ _
+          (items_move (join_means shows run e (option_map (moved_group by) l.join))
+          (join_means shows run e l.join)
+          (item_means shows run e (q + by) (option_map (moved_group by) l.item))
+          (item_means shows run e q l.item) (join_moves l.join) (item_moves q l.item)
+          (chosen_items l.range ts)))
+
+      kind_moves : (kind : Kind) (spec : Spec) (q : ℕ) (found : Slots X)
+          → kind_means shows run e (moved_kind by kind) spec (q + by) found
+          ≡ moved_meaning by (kind_means shows run e kind spec q found)
+      kind_moves (of_value t) spec q found =
+          value_moves shows t spec q (slot_at t (values_of found))
+      kind_moves (of_list l) spec q found = list_moves l spec q (items found)
+
+      found_moves : (start : ℕ) (x : Argument) (q : ℕ) (o : Option (Slots X))
+          → found_means shows run e (start + by) (moved_argument by x) (q + by) o
+          ≡ moved_meaning by (found_means shows run e start x q o)
+      found_moves start x q None = refl
+      found_moves start x q (Some found) = kind_moves x.kind x.spec q found
+
+      piece_moves : (p : ℕ) (kind : PieceKind)
+          → piece_means shows run e (p + by) (moved_piece_kind by kind)
+          ≡ moved_meaning by (piece_means shows run e p kind)
+      piece_moves p (closed start x q) = found_moves start x q (given e x.name)
+      piece_moves p (unclosed start x q) =
+          both_move _ _ _ (fault_alone (parse (expected (codes "}") q)))
+          (found_moves start x q (given e x.name)) refl
+      piece_moves p (broken f) = refl
+      piece_moves p (literal c) = refl
+      piece_moves p (doubled c) = refl
+      piece_moves p lone_close = refl
+
+      pieces_mean_moves : (xs : List Piece)
+          → pieces_mean shows run e (map (moved_piece by) xs)
+          ≡ moved_meaning by (pieces_mean shows run e xs)
+      pieces_mean_moves [] = refl
+      pieces_mean_moves (x ∷ xs) =
+          both_move _ _ _ _ (piece_moves x.place x.kind) (pieces_mean_moves xs)
+
+    within_moves : (depth : ℕ) (e : Environment X) (a : At)
+        → means_within shows depth e (moved_at by a)
+        ≡ moved_meaning by (means_within shows depth e a)
+    within_moves zero e a = refl
+    within_moves (suc depth) e a =
+        ap (pieces_mean shows (means_within shows depth) e) (pieces_move by a)
+        ∙ pieces_mean_moves (means_within shows depth) (within_moves depth) e (pieces a)
+
+    -- a text at another base means the same, moved
+    pub means_moves : (e : Environment X) (a : At)
+        → means shows e (moved_at by a) ≡ moved_meaning by (means shows e a)
+    unfolding means
+    means_moves e a = within_moves (suc (length a.text)) e a
+
+-- so a text at a place means what it means by itself, moved by the place
+pub means_from :
+    {X : Type 0} (shows : X → Trait → Spec → Shown) (e : Environment X) (p : ℕ) (cs : List ℕ)
+    → means shows e (from_place p cs) ≡ moved_meaning p (means shows e (outermost cs))
+means_from shows e p cs =
+    let there : from_place p cs ≡ moved_at p (outermost cs) = at_same (omega arith) refl in
+    ap (means shows e) there ∙ means_moves p shows e (outermost cs)

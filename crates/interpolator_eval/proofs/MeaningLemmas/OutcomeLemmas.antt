@@ -1,0 +1,95 @@
+-- One outcome after another.
+use Rattle.std.proofs.Common.{◌≡◌, refl, sym, ◌∙◌, ap, ◌+◌, List, ◌++◌, map, length}
+use Rattle.std.proofs.Common.{Option, None, Some, option_map, inl, inr, append_assoc, length-append}
+use Rattle.std.proofs.lemmas.List.{map-append, length-map}
+use Rattle.std.proofs.Math.ListN.{get_or-map}
+use Rattle.std.proofs.lemmas.List.Elements.{Contains-append_left, Contains-append_right}
+use Rattle.std.specs.List.{Contains}
+use Rattle.interpolator_render.proofs.LayoutLemmas.{appends_both}
+use Rattle.interpolator_render.specs.Written.{Written}
+use Rattle.interpolator_syntax.specs.At.{Placed, text_of}
+use Rattle.interpolator_syntax.specs.Faults.{Fault, Answer, fault}
+use Rattle.interpolator_eval.specs.Meaning.Meanings.{Meaning, or_fault, joined}
+use Rattle.interpolator_eval.specs.Meaning.Outcomes.{Finished, Outcome}
+
+text_of-append : (xs ys : Placed) → text_of (xs ++ ys) ≡ text_of xs ++ text_of ys
+text_of-append xs ys = map-append (λ c. c.0) xs ys
+
+pub no_fault : (o : Option Fault) → None ≡ option_map fault o → o ≡ None
+no_fault None e = refl
+no_fault (Some f) e = cc
+
+-- of the three outcomes only the first answers no fault
+pub finished_if_none : (m : Meaning) (old new : Written) → Outcome m old new None
+    → Finished m old new None
+finished_if_none m old new (inl h) = h
+finished_if_none m old new (inr (inl h)) = absurd (let e = h.told in cc)
+finished_if_none m old new (inr (inr h)) = absurd (let e = h.told in cc)
+
+Contains-map :
+    {A B : Type 0} (f : A → B) (xs : List A) (x : A) → Contains xs x → Contains (map f xs) (f x)
+Contains-map f xs x h = let k = h.1 in (h.0, rw length-map k, get_or-map f xs h.0 x ∙ ap f h.2)
+
+-- after a meaning that was finished without a fault
+pub after_finished :
+    (m k : Meaning) (old mid new : Written) (answer : Option Answer) → Finished m old mid None
+    → Outcome k mid new answer → Outcome (joined m k) old new answer
+after_finished m k old mid new answer h (inl o) = rw (no_fault m.fault h.told)
+    (inl (record {
+      all = rw (text_of-append m.text k.text)
+          (appends_both old mid new _ _ h.all o.all);
+      told = o.told;
+    }))
+after_finished m k old mid new answer h (inr (inl o)) = rw (no_fault m.fault h.told)
+    (inr (inl (record {
+      front = m.text ++ o.front;
+      c = o.c;
+      place = o.place;
+      back = o.back;
+      split = ap (λ l. m.text ++ l) o.split ∙ sym (append_assoc m.text o.front _);
+      appended = rw (text_of-append m.text o.front, o.appended, h.all.appended)
+          (append_assoc old.text (text_of m.text) (text_of o.front));
+      flag = o.flag;
+      none_after_refusal = λ r.
+          let none = o.none_after_refusal (h.all.same_flag ∙ r) in
+          rw (text_of-append m.text o.front, h.all.only_empty r) none;
+      told = o.told;
+    })))
+after_finished m k old mid new answer h (inr (inr o)) = rw (no_fault m.fault h.told)
+    (inr (inr (record {
+      front = m.text ++ o.front;
+      back = o.back;
+      split = ap (λ l. m.text ++ l) o.split ∙ sym (append_assoc m.text o.front _);
+      point = rw (length-append m.text o.front) (Contains-append_right m.memory_points _ _
+          (Contains-map (λ n. length m.text + n) k.memory_points _ o.point));
+      begun = rw (text_of-append m.text o.front) (appends_both old mid new _ _ h.all o.begun);
+      told = o.told;
+    })))
+
+-- a fault ends the run: what would follow is neither written nor read
+pub before_fault :
+    (m k : Meaning) (old new : Written) (q : Answer) (o : Option Fault) → m.fault ≡ o
+    → Outcome m old new (Some q) → Outcome (or_fault o m k) old new (Some q)
+before_fault m k old new q (Some _) e h = h
+before_fault m k old new q None e (inl h) = absurd (let f = h.told ∙ ap (option_map fault) e in cc)
+before_fault m k old new q None e (inr (inl h)) =
+    inr (inl (record {
+      front = h.front;
+      c = h.c;
+      place = h.place;
+      back = h.back ++ k.text;
+      split = ap (λ l. l ++ k.text) h.split ∙ append_assoc h.front _ k.text;
+      appended = h.appended;
+      flag = h.flag;
+      none_after_refusal = h.none_after_refusal;
+      told = h.told;
+    }))
+before_fault m k old new q None e (inr (inr h)) =
+    inr (inr (record {
+      front = h.front;
+      back = h.back ++ k.text;
+      split = ap (λ l. l ++ k.text) h.split ∙ append_assoc h.front _ k.text;
+      point = Contains-append_left m.memory_points _ _ h.point;
+      begun = h.begun;
+      told = h.told;
+    }))

@@ -1,0 +1,124 @@
+-- What a writer leaves of a text whose characters have places.
+use Rattle.std.proofs.Common.{◌≡◌, refl, ◌∙◌, ap, ℕ, ◌+◌, ◌<◌, List, [], ◌∷◌}
+use Rattle.std.proofs.Common.{◌++◌, length, None, Some, inl, inr, arith, subst}
+use Rattle.std.proofs.lemmas.List.{map-append}
+use Rattle.std.specs.Char.{len_utf8}
+use Rattle.std.specs.Prelude.{Ok, Err}
+use Rattle.interpolator_render.specs.declared.view.Spec.{Spec}
+use Rattle.interpolator_render.specs.declared.view.Trait.{Trait}
+use Rattle.interpolator_render.specs.declared.view.RenderFault.TheVariants.{Refused as RefusedFault}
+use Rattle.interpolator_render.specs.Characters.{cut}
+use Rattle.interpolator_render.specs.Padding.{padded_text, displayed_text}
+use Rattle.interpolator_render.specs.Texts.{ViewText, has_text, Renders}
+use Rattle.interpolator_render.specs.Written.{Written, Appends, AppendsBeginning, Refuses}
+use Rattle.interpolator_syntax.specs.At.{Placed, text_of, placed_at, placed_from, size}
+use Rattle.interpolator_syntax.specs.Faults.{fault, fmt}
+use Rattle.interpolator_eval.specs.Meaning.Meanings.{text_alone, view_means}
+use Rattle.interpolator_eval.specs.Meaning.Outcomes.{Outcome}
+use Rattle.interpolator_syntax.proofs.LocalityLemmas.{size-append}
+use Rattle.interpolator_syntax.proofs.CharacterLemmas.{length-encodes}
+
+text_of-placed_at : (p : ℕ) (cs : List ℕ) → text_of (placed_at p cs) ≡ cs
+text_of-placed_at p [] = refl
+text_of-placed_at p (c ∷ cs) = ap (λ xs. c ∷ xs) (text_of-placed_at p cs)
+
+text_of-placed_from : (p : ℕ) (cs : List ℕ) → text_of (placed_from p cs) ≡ cs
+text_of-placed_from p [] = refl
+text_of-placed_from p (c ∷ cs) = ap (λ xs. c ∷ xs) (text_of-placed_from (p + len_utf8 c) cs)
+
+pub placed_from-append : (p : ℕ) (xs ys : List ℕ)
+    → placed_from p (xs ++ ys) ≡ placed_from p xs ++ placed_from (p + size xs) ys
+placed_from-append p [] ys = let e : p + 0 ≡ p = omega arith in rw e refl
+placed_from-append p (c ∷ cs) ys =
+    let e : p + (len_utf8 c + size cs) ≡ p + len_utf8 c + size cs = omega arith in
+    rw e (ap (λ xs. (c, p) ∷ xs) (placed_from-append (p + len_utf8 c) cs ys))
+
+-- a text whose characters are placed, where the next one stands at the end of those before it, was
+-- refused
+module _ (placed : List ℕ → Placed) (own : (cs : List ℕ) → text_of (placed cs) ≡ cs)
+    (end : List ℕ → ℕ)
+    (split : (front : List ℕ) (c : ℕ) (rest : List ℕ)
+    → (back : Placed) × (placed (front ++ (c ∷ rest)) ≡ placed front ++ ((c, end front) ∷ back)))
+    (cs : List ℕ) (old new : Written) (h : AppendsBeginning old cs new) where
+  abbrev IsRefused : Type 0
+  IsRefused =
+      Outcome (text_alone (placed cs)) old new (Some (fault (fmt (end h.beginning))))
+
+  refused_before : (rest : List ℕ) → cs ≡ h.beginning ++ rest → 0 < length rest → IsRefused
+  refused_before [] e n = absurd (omega arith)
+  refused_before (c ∷ rest) e n =
+      inr (inl (record {
+        front = placed h.beginning;
+        c = c;
+        place = end h.beginning;
+        back = (split h.beginning c rest).0;
+        split = ap placed e ∙ (split h.beginning c rest).1;
+        appended = rw (own h.beginning) h.appended;
+        flag = h.flag_set;
+        none_after_refusal = λ r. own h.beginning ∙ h.none_after_refusal r;
+        told = refl;
+      }))
+
+  refused : IsRefused
+  refused = refused_before h.rest h.parts h.not_whole
+
+-- at one place
+pub wrote_at : (p : ℕ) (cs : List ℕ) (old new : Written) → Appends old cs new
+    → Outcome (text_alone (placed_at p cs)) old new None
+wrote_at p cs old new h = inl (record { all = rw (text_of-placed_at p cs) h; told = refl })
+
+pub refused_at : (p : ℕ) (cs : List ℕ) (old new : Written) → AppendsBeginning old cs new
+    → Outcome (text_alone (placed_at p cs)) old new (Some (fault (fmt p)))
+refused_at p =
+    refused (placed_at p) (text_of-placed_at p) (λ xs. p)
+    (λ front c rest. (placed_at p rest, map-append (λ c. (c, p)) front (c ∷ rest)))
+
+-- one after the other
+pub wrote_from : (p : ℕ) (cs : List ℕ) (old new : Written) → Appends old cs new
+    → Outcome (text_alone (placed_from p cs)) old new None
+wrote_from p cs old new h = inl (record { all = rw (text_of-placed_from p cs) h; told = refl })
+
+pub refused_from :
+    (p : ℕ) (cs : List ℕ) (taken : ℕ) (old new : Written) → Refuses old cs taken new
+    → Outcome (text_alone (placed_from p cs)) old new (Some (fault (fmt (p + taken))))
+refused_from p cs taken old new h =
+    let back = λ (xs : List ℕ) (c : ℕ) (rest : List ℕ).
+    placed_from (p + size xs + len_utf8 c) rest in
+    rw (h.counted ∙ length-encodes h.part.beginning)
+    (refused (placed_from p) (text_of-placed_from p) (λ xs. p + size xs)
+    (λ front c rest. (back front c rest, placed_from-append p front (c ∷ rest))) cs old new h.part)
+
+-- a writer takes less of a refused text than all of it
+pub taken_fits :
+    (cs : List ℕ) (taken : ℕ) (old new : Written) → Refuses old cs taken new → taken < size cs + 1
+taken_fits cs taken old new h =
+    let whole = ap size h.part.parts ∙ size-append h.part.beginning h.part.rest in
+    let part = h.counted ∙ length-encodes h.part.beginning in omega arith
+
+-- a view was written whole, or refused
+pub view_wrote :
+    (t : Trait) (p : ℕ) (m : ViewText) (old new : Written) (u : Unit {0}) → Renders m old (Ok u) new
+    → Outcome (view_means t p m) old new None
+view_wrote t p (has_text cs) old new u h = wrote_at p cs old new h
+view_wrote t p m old new u h = absurd h
+
+pub view_refused :
+    (t : Trait) (p : ℕ) (m : ViewText) (old new : Written) → Renders m old (Err RefusedFault) new
+    → Outcome (view_means t p m) old new (Some (fault (fmt p)))
+view_refused t p (has_text cs) old new h = refused_at p cs old new h
+view_refused t p m old new h = absurd h
+
+-- a padded text was written whole, or refused
+module _ (spec : Spec) (cs : List ℕ) (p : ℕ) (old new : Written) (none : spec.precision
+    ≡ None) where
+  pub pad_wrote : Appends old (displayed_text spec cs) new
+      → Outcome (text_alone (placed_at p (padded_text spec cs))) old new None
+  pad_wrote h =
+      wrote_at p (padded_text spec cs) old new
+      (subst (λ o. Appends old (padded_text spec (cut o cs)) new) none h)
+
+  pub pad_refused : AppendsBeginning old (displayed_text spec cs) new
+      → Outcome (text_alone (placed_at p (padded_text spec cs))) old new (Some (fault (fmt p)))
+  pad_refused h =
+      refused_at p (padded_text spec cs) old new
+      (subst (λ o. AppendsBeginning old (padded_text spec (cut o cs)) new) none h)

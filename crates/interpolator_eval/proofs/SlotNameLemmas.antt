@@ -1,0 +1,90 @@
+-- The text of the filled slots' names, while they are written one by one.
+use Rattle.std.proofs.Common.{◌≡◌, refl, sym, ◌∙◌, ap, ℕ, ◌+◌, ◌<◌, List, [], ◌∷◌, ◌++◌}
+use Rattle.std.proofs.Common.{append_assoc, append-nil, get_or, take, map, Bool, true, false}
+use Rattle.std.specs.Prelude.{filter, codes}
+use Rattle.std.specs.List.{join_by}
+use Rattle.std.specs.Fmt.{HasWrittenStyled, IsFlush}
+use Rattle.std.specs.declared.fmt.Formatter.{Formatter}
+use Rattle.std.proofs.Output.{has_written_styled_append, has_written_styled_of_eq}
+use Rattle.std.proofs.lemmas.List.{take_more, map-append}
+use Rattle.std.proofs.lemmas.Bool.{false≢true}
+use Rattle.std.proofs.lemmas.List.Concat.{flat_map-append}
+use Rattle.std.proofs.lemmas.List.Elements.{filter-append}
+use Rattle.interpolator_render.specs.declared.view.Trait.{Trait}
+use Rattle.interpolator_render.specs.declared.view.Trait.TheVariants.{Binary}
+use Rattle.interpolator_eval.specs.SlotNames.{slot_name, slot_order, name_after, in_parentheses}
+
+-- the names so far, with no closing parenthesis yet
+abbrev pub opened : List (List ℕ) → List ℕ
+opened [] = []
+opened (name ∷ names) = codes "(" ++ join_by (λ part. part) (codes ", ") (name ∷ names)
+
+-- there is no name so far
+abbrev pub no_name : List (List ℕ) → Bool
+no_name [] = true
+no_name (name ∷ names) = false
+
+-- the names of the filled ones of these slots
+abbrev pub names_of : (Trait → Bool) → List Trait → List (List ℕ)
+names_of filled slots = map slot_name (filter filled slots)
+
+pub opened-more : (names : List (List ℕ)) (name : List ℕ)
+    → opened (names ++ name ∷ []) ≡ opened names ++ name_after (no_name names) name
+opened-more [] name = ap (λ text. codes "(" ++ text) (append-nil name)
+opened-more (first ∷ names) name =
+    let more = flat_map-append (λ part. codes ", " ++ part) names (name ∷ []) in
+    rw more (simp (append_assoc, append-nil))
+
+pub no_name-more : (names : List (List ℕ)) (name : List ℕ) → no_name (names ++ name ∷ []) ≡ false
+no_name-more [] name = refl
+no_name-more (first ∷ names) name = refl
+
+module _ (filled : Trait → Bool) (index : ℕ) (below : index < 9) where
+  next_names : names_of filled (take (index + 1) slot_order)
+      ≡ names_of filled (take index slot_order)
+      ++ names_of filled (get_or slot_order index Binary ∷ [])
+  next_names =
+      let passed = take index slot_order in
+      let slot = get_or slot_order index Binary in
+      rw (take_more slot_order index Binary below, filter-append filled passed (slot ∷ []))
+      (map-append slot_name _ _)
+
+  -- the name of a slot that is filled comes after the names so far
+  pub one_more : filled (get_or slot_order index Binary) ≡ true
+      → names_of filled (take (index + 1) slot_order)
+      ≡ names_of filled (take index slot_order) ++ slot_name (get_or slot_order index Binary) ∷
+      []
+  one_more passes = rw passes at next_names
+
+  -- one that is not changes no name
+  pub none_more : filled (get_or slot_order index Binary) ≡ false
+      → names_of filled (take (index + 1) slot_order) ≡ names_of filled (take index slot_order)
+  none_more fails = (rw fails at next_names) ∙ append-nil _
+
+-- the names that are all written, and the parenthesis after them
+pub closed : (front : List ℕ) (names : List (List ℕ)) → no_name names ≡ false
+    → (front ++ opened names) ++ codes ")" ≡ front ++ in_parentheses names
+closed front [] is = absurd (false≢true (sym is))
+closed front (name ∷ names) is = simp (append_assoc)
+
+module _ {W : Type 0} (took : W → List ℕ → W → Type 0) where
+  -- a text that is written after another
+  pub written_after : (f g h : Formatter W) (a b all : List ℕ) → HasWrittenStyled took f a g
+      → (IsFlush g → true ≡ true → HasWrittenStyled took g b h) → a ++ b ≡ all
+      → HasWrittenStyled took f all h
+  written_after f g h a b all before after is =
+      has_written_styled_of_eq took f (a ++ b) all h is
+      (has_written_styled_append took f a g b h before (after before.flush refl))
+
+  -- a name that is written after the names so far
+  pub name_written : (f g h : Formatter W) (front : List ℕ) (names : List (List ℕ))
+      (name shown : List ℕ) (is_first : Bool)
+      → is_first ≡ no_name names → shown ≡ name → HasWrittenStyled took f (front ++ opened names) g
+      → (IsFlush g → true ≡ true → HasWrittenStyled took g (name_after is_first shown) h)
+      → HasWrittenStyled took f (front ++ opened (names ++ name ∷ [])) h
+  name_written f g h front names name shown is_first e same before after =
+      let joined : (front ++ opened names) ++ name_after is_first shown
+      ≡ front ++ opened (names ++ name ∷ []) =
+      rw (e, same) (append_assoc front (opened names) (name_after (no_name names) name)
+      ∙ ap (λ text. front ++ text) (sym (opened-more names name))) in
+      written_after f g h _ _ _ before after joined

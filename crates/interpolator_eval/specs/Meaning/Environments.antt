@@ -1,0 +1,52 @@
+-- What names mean while a format is written.
+use Rattle.std.specs.Prelude.{ℕ, List, [], ◌∷◌, Option, None, Some, Bool, false, ◌||◌}
+use Rattle.std.specs.Prelude.{if◌then◌else◌}
+use Rattle.std.specs.Str.{bytes_eq}
+use Rattle.interpolator_eval.specs.Slots.{Slots}
+
+-- a context, at most one inner value, and at most one list of the names that the context may be
+-- asked for
+pub record Environment (X : Type 0) : Type 0 where
+  pub finds : List ℕ → Option (Slots X)
+  pub inner : Option (Slots X)
+  pub names : Option (List (List ℕ))
+
+-- a name is one of these
+abbrev pub is_among : List ℕ → List (List ℕ) → Bool
+is_among name [] = false
+is_among name (x ∷ xs) = bytes_eq name x || is_among name xs
+
+-- of these names the ones that are among those of a list, if there is one
+abbrev pub kept : Option (List (List ℕ)) → List (List ℕ) → List (List ℕ)
+kept None names = names
+kept (Some own) [] = []
+kept (Some own) (name ∷ names) =
+    if is_among name own then name ∷ kept (Some own) names else kept (Some own) names
+
+module _ {X : Type 0} where
+  -- what the context gives, and nothing for a name outside the list
+  abbrev pub within : Option (List (List ℕ)) → (List ℕ → Option (Slots X)) → List ℕ → Option (Slots X)
+  within None finds name = finds name
+  within (Some names) finds name = if is_among name names then finds name else None
+
+  -- the inner value at the empty name, if there is one
+  abbrev pub inner_or : Option (Slots X) → (List ℕ → Option (Slots X)) → List ℕ → Option (Slots X)
+  inner_or (Some t) gives [] = Some t
+  inner_or (Some t) gives (c ∷ cs) = gives (c ∷ cs)
+  inner_or None gives name = gives name
+
+  -- what the environment gives under a name
+  abbrev pub given : Environment X → List ℕ → Option (Slots X)
+  given e name = inner_or e.inner (within e.names e.finds) name
+
+  -- a context alone
+  abbrev pub environment : (List ℕ → Option (Slots X)) → Environment X
+  environment finds = record { finds = finds; inner = None; names = None }
+
+  -- the same with this inner value
+  abbrev pub bind : Environment X → Slots X → Environment X
+  bind e t = record { finds = e.finds; inner = Some t; names = e.names }
+
+  -- the same cut to these names: under another name the context is not asked
+  abbrev pub cut : Environment X → List (List ℕ) → Environment X
+  cut e names = record { finds = e.finds; inner = e.inner; names = Some (kept e.names names) }

@@ -1,0 +1,63 @@
+-- Arguments that ask for a list, what their chosen items mean before they are padded, and where
+-- that ends.
+use Rattle.std.specs.Prelude.{◌≡◌, ℕ, ⊤, ◌⊎◌, List, [], ◌∷◌, ◌++◌, flat_map, None, Some}
+use Rattle.interpolator_render.specs.declared.view.Trait.{Trait}
+use Rattle.interpolator_render.specs.declared.view.Spec.{Spec}
+use Rattle.interpolator_render.specs.Views.{Shown}
+use Rattle.interpolator_syntax.specs.At.{Placed}
+use Rattle.interpolator_syntax.specs.Lists.{ListRequest}
+use Rattle.interpolator_syntax.specs.SpecTexts.{of_list}
+use Rattle.interpolator_syntax.specs.Arguments.{Argument}
+use Rattle.interpolator_syntax.specs.Faults.{Fault}
+use Rattle.interpolator_eval.specs.Slots.{Slots, items}
+use Rattle.interpolator_eval.specs.Meaning.Choices.{chosen_items}
+use Rattle.interpolator_eval.specs.Meaning.Environments.{Environment, given}
+use Rattle.interpolator_eval.specs.Meaning.Meanings.{Meaning, item_means, join_means, chosen_means}
+use Rattle.interpolator_eval.specs.Meaning.Meanings.{argument_means, means}
+
+-- the argument asks for a list that is written so, and under its name stands a list of these items
+pub record FindsList {X : Type 0} (e : Environment X) (x : Argument) (l : ListRequest)
+    (ts : List (Slots X)) : Type 0 where
+  pub asked : x.kind ≡ of_list l
+  pub found : Slots X
+  pub gives : given e x.name ≡ Some found
+  pub listed : items found ≡ Some ts
+
+module _ {A : Type 0} (join : Meaning) (item : A → Meaning) where
+  -- none of the items has a fault
+  abbrev pub AllFinish : List A → Type 0
+  AllFinish [] = ⊤
+  AllFinish (x ∷ xs) = ((item x).fault ≡ None) × AllFinish xs
+
+  -- the texts of the items in order, and that of the join between two of them
+  abbrev pub joined_texts : List A → Placed
+  joined_texts [] = []
+  joined_texts (x ∷ xs) = (item x).text ++ flat_map (λ y. join.text ++ (item y).text) xs
+
+  -- the first fault, and the text up to it: it is that of an item, before which no item has one,
+  -- nor the join; or that of the join after the first item
+  pub data FirstFault (xs : List A) (f : Fault) (text : Placed) : Type 0 where
+    in_item :
+        (front : List A) (x : A) (back : List A) → xs ≡ front ++ (x ∷ back) → AllFinish front
+        → (front ≡ []) ⊎ (join.fault ≡ None) → (item x).fault ≡ Some f
+        → text ≡ joined_texts (front ++ (x ∷ [])) → FirstFault xs f text
+    in_join :
+        (x y : A) (back : List A) → xs ≡ x ∷ y ∷ back → (item x).fault ≡ None
+        → join.fault ≡ Some f → text ≡ (item x).text ++ join.text → FirstFault xs f text
+
+module _ {X : Type 0} (shows : X → Trait → Spec → Shown) (e : Environment X) where
+  -- an argument that starts at `start` and whose spec ends at end
+  abbrev pub written : (start : ℕ) → Argument → (end : ℕ) → Meaning
+  written start x end = argument_means shows (means shows) e start x end
+
+  -- what the join of a list means
+  abbrev pub join_of : ListRequest → Meaning
+  join_of l = join_means shows (means shows) e l.join
+
+  -- what an item of a list means
+  abbrev pub item_of : ListRequest → (end : ℕ) → Slots X → Meaning
+  item_of l end item = item_means shows (means shows) e end l.item item
+
+  -- what the chosen items mean, one after the other, before they are padded
+  abbrev pub unpadded : ListRequest → (end : ℕ) → List (Slots X) → Meaning
+  unpadded l end ts = chosen_means shows (means shows) e l end (chosen_items l.range ts)

@@ -1,0 +1,50 @@
+-- The three outcomes of writing what a format means.
+use Rattle.std.specs.Prelude.{◌≡◌, ℕ, [], ◌∷◌, ◌++◌, length, Contains, Option, None}
+use Rattle.std.specs.Prelude.{Some, option_map, true, ◌⊎◌, Result, MatchResult}
+use Rattle.std.specs.Prelude.{string_bytes}
+use Rattle.std.specs.Str.{chars}
+use Rattle.std.specs.declared.string.String.{String}
+use Rattle.interpolator_render.specs.Written.{Written, Appends}
+use Rattle.interpolator_syntax.specs.declared.error.Error.{Error}
+use Rattle.interpolator_syntax.specs.At.{Placed, text_of}
+use Rattle.interpolator_syntax.specs.Faults.{Answer, fault, no_memory, fmt, answer_of}
+use Rattle.interpolator_eval.specs.Meaning.Meanings.{Meaning}
+
+-- a writer before and after, and what was answered
+module _ (m : Meaning) (old new : Written) (answer : Option Answer) where
+  -- all of the meaning's text is appended, and the answer is its fault, or Ok where it has none
+  pub record Finished : Type 0 where
+    pub all : Appends old (text_of m.text) new
+    pub told : answer ≡ option_map fault m.fault
+
+  -- a proper beginning of the text is appended, none of it where the writer had refused before; the
+  -- answer is `Fmt` at the place of the first character that was not
+  pub record Refused : Type 0 where
+    pub front : Placed
+    pub c : ℕ
+    pub place : ℕ
+    pub back : Placed
+    pub split : m.text ≡ front ++ ((c, place) ∷ back)
+    pub appended : new.text ≡ old.text ++ text_of front
+    pub flag : new.refused ≡ true
+    pub none_after_refusal : old.refused ≡ true → text_of front ≡ []
+    pub told : answer ≡ Some (fault (fmt place))
+
+  -- exactly the characters before one of the memory points are appended
+  pub record WantsMemory : Type 0 where
+    pub front : Placed
+    pub back : Placed
+    pub split : m.text ≡ front ++ back
+    pub point : Contains m.memory_points (length front)
+    pub begun : Appends old (text_of front) new
+    pub told : answer ≡ Some no_memory
+
+  -- finished, refused, or memory was wanted
+  abbrev pub Outcome : Type 0
+  Outcome = Finished ⊎ Refused ⊎ WantsMemory
+
+-- a new text: the meaning's, where it has no fault; else its fault, or that memory was wanted
+abbrev pub Formats : {Z : Type 0} → Meaning → Result (String Z) Error → Type 0
+Formats m result = MatchResult result
+    (λ s. (m.fault ≡ None) × (chars (string_bytes s) ≡ text_of m.text))
+    (λ e. (answer_of e ≡ no_memory) ⊎ (Some (answer_of e) ≡ option_map fault m.fault))

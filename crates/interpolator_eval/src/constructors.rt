@@ -1,0 +1,243 @@
+//! Formattables made of one value, and more slots filled in a chain of calls.
+ghost use Rattle.std.specs.Prelude.{◌≡◌, map};
+ghost use Rattle.interpolator_eval.specs.Slots.{slots_of, empty_slots};
+ghost use Rattle.interpolator_eval.specs.Slots.{with_debug_display, with_debug, with_display};
+ghost use Rattle.interpolator_eval.specs.Slots.{with_integer, with_float, with_binary, with_iter};
+ghost use Rattle.interpolator_eval.specs.Slots.{with_lower_exp, with_lower_hex, with_octal};
+ghost use Rattle.interpolator_eval.specs.Slots.{with_upper_exp, with_upper_hex};
+
+use crate::slots::Formattable;
+
+/// The slots of the name are filled, and no other.
+impl<'a, V> Formattable<'a, V> {
+    /// Only the debug and display slots are filled.
+    ///
+    /// `Formattable::debug_display(&n)` of 255: `{n} {n:?}` is `255 255`.
+    pub fn debug_display(value: &'a V) -> Self
+        ensures { slots_of result ≡ with_debug_display empty_slots value.now }
+    {
+        Formattable::default().and_debug_display(value)
+    }
+
+    /// Only the debug slot is filled.
+    ///
+    /// `Formattable::debug(&n)` of 255: `{n:?}` is `255`.
+    pub fn debug(value: &'a V) -> Self
+        ensures { slots_of result ≡ with_debug empty_slots value.now }
+    {
+        Formattable::default().and_debug(value)
+    }
+
+    /// Only the display slot is filled.
+    ///
+    /// `Formattable::display(&n)` of 255: `{n:>5}` is `  255`.
+    pub fn display(value: &'a V) -> Self
+        ensures { slots_of result ≡ with_display empty_slots value.now }
+    {
+        Formattable::default().and_display(value)
+    }
+
+    /// Only the eight slots of the formatting traits are filled.
+    ///
+    /// `Formattable::integer(&n)` of 255: `{n:#x}` is `0xff`.
+    pub fn integer(value: &'a V) -> Self
+        ensures { slots_of result ≡ with_integer empty_slots value.now }
+    {
+        Formattable::default().and_integer(value)
+    }
+
+    /// Only the debug, display, lower_exp and upper_exp slots are filled.
+    ///
+    /// `Formattable::float(&n)` of 255: `{n:.1e}` is `2.6e2`.
+    pub fn float(value: &'a V) -> Self
+        ensures { slots_of result ≡ with_float empty_slots value.now }
+    {
+        Formattable::default().and_float(value)
+    }
+
+    /// Only the binary slot is filled.
+    ///
+    /// `Formattable::binary(&n)` of 255: `{n:b}` is `11111111`.
+    pub fn binary(value: &'a V) -> Self
+        ensures { slots_of result ≡ with_binary empty_slots value.now }
+    {
+        Formattable::default().and_binary(value)
+    }
+
+    /// Only the lower_exp slot is filled.
+    ///
+    /// `Formattable::lower_exp(&n)` of 255: `{n:e}` is `2.55e2`.
+    pub fn lower_exp(value: &'a V) -> Self
+        ensures { slots_of result ≡ with_lower_exp empty_slots value.now }
+    {
+        Formattable::default().and_lower_exp(value)
+    }
+
+    /// Only the lower_hex slot is filled.
+    ///
+    /// `Formattable::lower_hex(&n)` of 255: `{n:x}` is `ff`.
+    pub fn lower_hex(value: &'a V) -> Self
+        ensures { slots_of result ≡ with_lower_hex empty_slots value.now }
+    {
+        Formattable::default().and_lower_hex(value)
+    }
+
+    /// Only the octal slot is filled.
+    ///
+    /// `Formattable::octal(&n)` of 255: `{n:o}` is `377`.
+    pub fn octal(value: &'a V) -> Self
+        ensures { slots_of result ≡ with_octal empty_slots value.now }
+    {
+        Formattable::default().and_octal(value)
+    }
+
+    /// Only the upper_exp slot is filled.
+    ///
+    /// `Formattable::upper_exp(&n)` of 255: `{n:E}` is `2.55E2`.
+    pub fn upper_exp(value: &'a V) -> Self
+        ensures { slots_of result ≡ with_upper_exp empty_slots value.now }
+    {
+        Formattable::default().and_upper_exp(value)
+    }
+
+    /// Only the upper_hex slot is filled.
+    ///
+    /// `Formattable::upper_hex(&n)` of 255: `{n:X}` is `FF`.
+    pub fn upper_hex(value: &'a V) -> Self
+        ensures { slots_of result ≡ with_upper_hex empty_slots value.now }
+    {
+        Formattable::default().and_upper_hex(value)
+    }
+
+    /// Only the iter slot, with the items of a list, is filled.
+    ///
+    /// `Formattable::iter(&items)` of 255 twice: `{n:i({})(, )}` is `255, 255`.
+    pub fn iter(value: &'a [Formattable<'a, V>]) -> Self
+        ensures { slots_of result ≡ with_iter empty_slots (map slots_of value.now) }
+    {
+        Formattable::default().and_iter(value)
+    }
+}
+
+/// The slots of the name are filled as well, and the others stay as they were.
+impl<'a, V> Formattable<'a, V> {
+    /// The same with the debug and display slots filled.
+    ///
+    /// `Formattable::octal(&n).and_debug_display(&n)` of 255: `{n} {n:?}` is `255 255`.
+    pub fn and_debug_display(mut self, value: &'a V) -> Self
+        ensures { slots_of result ≡ with_debug_display (slots_of self.entry) value.now }
+    {
+        self.set_debug_display(value);
+        self
+    }
+
+    /// The same with the debug slot filled.
+    ///
+    /// `Formattable::display(&n).and_debug(&n)` of 255: `{n:?}` is `255`.
+    pub fn and_debug(mut self, value: &'a V) -> Self
+        ensures { slots_of result ≡ with_debug (slots_of self.entry) value.now }
+    {
+        self.set_debug(value);
+        self
+    }
+
+    /// The same with the display slot filled.
+    ///
+    /// `Formattable::debug(&n).and_display(&n)` of 255: `{n:>5}` is `  255`.
+    pub fn and_display(mut self, value: &'a V) -> Self
+        ensures { slots_of result ≡ with_display (slots_of self.entry) value.now }
+    {
+        self.set_display(value);
+        self
+    }
+
+    /// The same with the eight slots of the formatting traits filled.
+    ///
+    /// `Formattable::display(&n).and_integer(&n)` of 255: `{n:#x}` is `0xff`.
+    pub fn and_integer(mut self, value: &'a V) -> Self
+        ensures { slots_of result ≡ with_integer (slots_of self.entry) value.now }
+    {
+        self.set_integer(value);
+        self
+    }
+
+    /// The same with the debug, display, lower_exp and upper_exp slots filled.
+    ///
+    /// `Formattable::display(&n).and_float(&n)` of 255: `{n:.1e}` is `2.6e2`.
+    pub fn and_float(mut self, value: &'a V) -> Self
+        ensures { slots_of result ≡ with_float (slots_of self.entry) value.now }
+    {
+        self.set_float(value);
+        self
+    }
+
+    /// The same with the binary slot filled.
+    ///
+    /// `Formattable::display(&n).and_binary(&n)` of 255: `{n:b}` is `11111111`.
+    pub fn and_binary(mut self, value: &'a V) -> Self
+        ensures { slots_of result ≡ with_binary (slots_of self.entry) value.now }
+    {
+        self.set_binary(value);
+        self
+    }
+
+    /// The same with the lower_exp slot filled.
+    ///
+    /// `Formattable::display(&n).and_lower_exp(&n)` of 255: `{n:e}` is `2.55e2`.
+    pub fn and_lower_exp(mut self, value: &'a V) -> Self
+        ensures { slots_of result ≡ with_lower_exp (slots_of self.entry) value.now }
+    {
+        self.set_lower_exp(value);
+        self
+    }
+
+    /// The same with the lower_hex slot filled.
+    ///
+    /// `Formattable::display(&n).and_lower_hex(&n)` of 255: `{n:x}` is `ff`.
+    pub fn and_lower_hex(mut self, value: &'a V) -> Self
+        ensures { slots_of result ≡ with_lower_hex (slots_of self.entry) value.now }
+    {
+        self.set_lower_hex(value);
+        self
+    }
+
+    /// The same with the octal slot filled.
+    ///
+    /// `Formattable::display(&n).and_octal(&n)` of 255: `{n:o}` is `377`.
+    pub fn and_octal(mut self, value: &'a V) -> Self
+        ensures { slots_of result ≡ with_octal (slots_of self.entry) value.now }
+    {
+        self.set_octal(value);
+        self
+    }
+
+    /// The same with the upper_exp slot filled.
+    ///
+    /// `Formattable::display(&n).and_upper_exp(&n)` of 255: `{n:E}` is `2.55E2`.
+    pub fn and_upper_exp(mut self, value: &'a V) -> Self
+        ensures { slots_of result ≡ with_upper_exp (slots_of self.entry) value.now }
+    {
+        self.set_upper_exp(value);
+        self
+    }
+
+    /// The same with the upper_hex slot filled.
+    ///
+    /// `Formattable::display(&n).and_upper_hex(&n)` of 255: `{n:X}` is `FF`.
+    pub fn and_upper_hex(mut self, value: &'a V) -> Self
+        ensures { slots_of result ≡ with_upper_hex (slots_of self.entry) value.now }
+    {
+        self.set_upper_hex(value);
+        self
+    }
+
+    /// The same with the iter slot, with the items of a list, filled.
+    ///
+    /// `Formattable::display(&n).and_iter(&items)` of 255 twice: `{n:i({})(, )}` is `255, 255`.
+    pub fn and_iter(mut self, value: &'a [Formattable<'a, V>]) -> Self
+        ensures { slots_of result ≡ with_iter (slots_of self.entry) (map slots_of value.now) }
+    {
+        self.set_iter(value);
+        self
+    }
+}

@@ -1,0 +1,165 @@
+//! A map from names that is built name by name.
+ghost use Rattle.std.specs.Prelude.{◌≡◌, ◌↔◌, ℕ, List, None, Some, Option, IsTrue};
+ghost use Rattle.std.specs.Prelude.{IfOk, IfErr, OnOk, OnErr};
+ghost use Rattle.std.specs.Option.{option_copied, option_copied_mut};
+ghost use Rattle.std.specs.Str.{chars};
+ghost use Rattle.std.specs.Borrow.{sem};
+ghost use Rattle.interpolator_eval.specs.NameMaps.{under, name_count, found, HasPut, IsSame};
+ghost use Rattle.interpolator_eval.specs.NameMaps.{HasAdded, IsEntry, LendsUnder, LendsEntry};
+
+use crate::context::{Context, copied};
+use crate::slots::Formattable;
+use interpolator_render::Value;
+use interpolator_syntax::Error;
+use std::alloc::{AllocError, Global};
+use std::collections::HashMap;
+use std::marker::PhantomData;
+
+/// A context that is built name by name: each name stands for a [`Formattable`].
+///
+/// ```text
+/// let name = View::from("Ann");
+/// let words = View::from(12u32);
+/// let mut map = ContextMap::new(alloc);
+/// map.put("name", Formattable::debug_display(&name))?;
+/// map.put("words", Formattable::integer(&words))?;
+/// map.format(alloc, "{name:?}: {words} words")?    // "Ann": 12 words
+/// ```
+pub type ContextMap<'a, V> = NameMap<Formattable<'a, V>>;
+
+/// A map from names, which are compared by their characters. It keeps the allocator that `new`
+/// took, and copies each name that it puts in.
+#[derive(Drop)]
+pub struct NameMap<T> {
+    map: HashMap<String, T>,
+    alloc: Global,
+    of: PhantomData<T>,
+}
+
+impl<T> NameMap<T> {
+    /// A map with no name. It takes no memory.
+    pub fn new(alloc: Global) -> NameMap<T>
+        ensures names { (name : List ℕ) → under result name ≡ None }
+        ensures count { name_count result ≡ 0 }
+    {
+        NameMap {
+            map: HashMap::new(alloc),
+            alloc,
+            of: PhantomData,
+        }
+    }
+
+    /// How many names the map has: after `put` of `a`, of `b` and of `a` again, 2.
+    pub fn len(&self) -> usize
+        ensures { result ≡ name_count self.now }
+    {
+        self.map.len()
+    }
+
+    /// Whether the map has no name.
+    pub fn is_empty(&self) -> bool
+        ensures { IsTrue result ↔ (name_count self.now ≡ 0) }
+    {
+        self.map.is_empty()
+    }
+
+    // The value under a name.
+    #[inline(always)]
+    fn find(&self, name: &str) -> Option<&T>
+        ensures { option_copied result ≡ under self.now (chars name.now) }
+    {
+        self.map.get(name)
+    }
+
+    // Lends the value under a name, to be written.
+    fn lend(&mut self, name: &str) -> Option<&mut T>
+        ensures* writes_back { sem 𝓛 (LendsUnder T.row self.entry (chars name.now) result) }
+        ensures value { option_copied_mut result ≡ under self.old (chars name.now) }
+    {
+        self.map.get_mut(name)
+    }
+}
+
+impl<T: Default + Drop> NameMap<T> {
+    // Puts an absent name in, with a default value.
+    #[tactic(auto, using(crate::proofs::LoanLemmas::absent_name))]
+    fn add(&mut self, name: &str) -> Result<(), AllocError>
+        ensures ok { OnOk result (HasAdded T.is_default self.old (chars name.now) self.new) }
+        ensures err { OnErr result (IsSame self.old self.new) }
+        ensures absent { OnErr result (under self.old (chars name.now) ≡ None) }
+    {
+        if self.find(name).is_some() {
+            return Ok(());
+        }
+        let key = String::from_str(self.alloc, name)?;
+        self.map.insert(key, T::default())?;
+        Ok(())
+    }
+
+    // Lends the value under a name, which is put in first where it is absent.
+    fn lend_or_add(&mut self, name: &str) -> Result<&mut T, AllocError>
+        ensures* writes_back { sem 𝓛 (LendsEntry T.row self.entry (chars name.now) result) }
+        ensures value { IfOk result (λ lent.
+            IsEntry T.is_default self.old (chars name.now) lent.now) }
+        ensures absent { OnErr result (under self.old (chars name.now) ≡ None) }
+    {
+        self.add(name)?;
+        match self.lend(name) {
+            Some(lent) => Ok(lent),
+            None => unreachable!(),
+        }
+    }
+
+    /// Lends the value under a name, to be written; an absent name is put in first, with a default
+    /// value (a [`Formattable`] with no slot filled). The other names stay as they were.
+    ///
+    /// # Errors
+    ///
+    /// `NoMemory`, only for an absent name. The map is then as it was.
+    ///
+    /// ```text
+    /// let mut map: ContextMap<'_, u64> = ContextMap::new(alloc);
+    /// map.entry("n")?.set_display(&7);
+    /// map.entry("n")?.set_binary(&7);    // both slots are filled now
+    /// ```
+    pub fn entry(&mut self, name: &str) -> Result<&mut T, Error>
+        ensures* writes_back { sem 𝓛 (LendsEntry T.row self.entry (chars name.now) result) }
+        ensures value { IfOk result (λ lent.
+            IsEntry T.is_default self.old (chars name.now) lent.now) }
+        ensures kind { IfErr result (λ error. error ≡ Error.NoMemory) }
+        ensures absent { OnErr result (under self.old (chars name.now) ≡ None) }
+    {
+        match self.lend_or_add(name) {
+            Ok(lent) => Ok(lent),
+            Err(_) => Err(Error::NoMemory),
+        }
+    }
+
+    /// Puts a value under a name, in place of the one that stood there. The other names stay.
+    ///
+    /// A list goes so, too: `map.put("l", Formattable::iter(&items))?`.
+    ///
+    /// # Errors
+    ///
+    /// `AllocError`, which `?` makes `NoMemory`, and only for an absent name. The map is then as it
+    /// was.
+    pub fn put(&mut self, name: &str, value: T) -> Result<(), AllocError>
+        ensures ok { OnOk result (HasPut self.old (chars name.now) value self.new) }
+        ensures err { OnErr result (IsSame self.old self.new) }
+        ensures absent { OnErr result (under self.old (chars name.now) ≡ None) }
+    {
+        *self.lend_or_add(name)? = value;
+        Ok(())
+    }
+}
+
+impl<'a, V: Value> Context for NameMap<Formattable<'a, V>> {
+    type Object = V;
+
+    ghost finds = { λ map name. found map name };
+
+    #[inline(always)]
+    fn get(&self, key: &str) -> Option<Formattable<'_, V>> {
+        copied(self.find(key))
+    }
+}

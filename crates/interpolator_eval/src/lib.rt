@@ -1,0 +1,28 @@
+//! What a format means, and the scan that writes it: slots, contexts, and where names are looked up.
+//!
+//! `interpolator` re-exports what a caller names. The rest is for its templates.
+#![tactic(auto)]
+
+mod constructors;
+mod context;
+mod context_map;
+mod field_names;
+pub mod laws;
+mod meaning;
+mod pairs;
+mod rows;
+mod slot_names;
+mod slots;
+
+pub use context::{ByNames, Context};
+pub use context_map::{ContextMap, NameMap};
+pub use field_names::is_name;
+pub use meaning::evaluate::write_text;
+pub use meaning::list::{chosen, forbids_list};
+pub use meaning::sample::{Candidates, Items, Need, SampleScope};
+pub use meaning::scope::Scope;
+pub use meaning::sink::{Sink, WriteFault, write_char};
+pub use meaning::value::{chosen_list, list_buffer, write_plain_item, write_value};
+pub use pairs::Pairs;
+pub use rows::{items_of, rows_of};
+pub use slots::Formattable;

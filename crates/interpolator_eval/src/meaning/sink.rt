@@ -1,0 +1,188 @@
+//! Where text goes: to the writer, or aside into a buffer.
+ghost use Rattle.std.specs.Prelude.{◌≡◌, ◌+◌, ◌^◌, ◌<◌, length, [], ◌∷◌};
+ghost use Rattle.std.specs.Str.{chars};
+ghost use Rattle.std.specs.Option.{option_copied};
+ghost use Rattle.interpolator_render.specs.Views.{IsInRange, shown_by};
+ghost use Rattle.interpolator_render.specs.Padding.{padded_text};
+ghost use Rattle.interpolator_render.specs.Texts.{view_text};
+ghost use Rattle.interpolator_syntax.specs.At.{placed_at, placed_from};
+ghost use Rattle.interpolator_syntax.specs.Faults.{answer_of};
+ghost use Rattle.interpolator_eval.specs.Meaning.Meanings.{text_alone, view_means, value_means};
+ghost use Rattle.interpolator_eval.specs.Meaning.Outcomes.{Outcome};
+ghost use Rattle.interpolator_eval.specs.Meaning.Sinks.{HasRoom, Writes, write_answered};
+ghost use Rattle.interpolator_eval.specs.Meaning.Sinks.{write_fault_answer};
+
+use interpolator_render::{Bounded, RenderFault, Spec, TextWrite, Trait, Value, View, pad, render};
+use interpolator_syntax::Error;
+use std::fmt;
+
+/// Why something was not written, and where in the format. An [`Error`] is made of it only where
+/// there is one, since its room, which is bigger, would be cleared for each piece that is written.
+#[derive(Clone, Copy)]
+pub enum WriteFault {
+    /// The value has no slot for the trait, or no text under it.
+    MissingTraitImpl(Trait, usize),
+    /// A value failed, or the writer refused.
+    Fmt(usize),
+}
+
+impl From<WriteFault> for Error {
+    ghost from_gives = { λ fault error. answer_of error ≡ write_fault_answer fault };
+
+    #[cold]
+    fn from(fault: WriteFault) -> Error {
+        match fault {
+            WriteFault::MissingTraitImpl(t, place) => Error::MissingTraitImpl(t, place),
+            WriteFault::Fmt(place) => Error::Fmt(fmt::Error, place),
+        }
+    }
+}
+
+/// Writes one character of the format.
+#[inline(always)]
+pub fn write_char<W: TextWrite>(out: &mut W, c: char, place: usize) -> Result<(), WriteFault>
+    ensures outcome { Outcome (text_alone ((c, place) ∷ []))
+        (W.written out.old) (W.written out.new) (write_answered result) }
+{
+    match out.write_char(c) {
+        Ok(()) => Ok(()),
+        Err(_) => Err(WriteFault::Fmt(place)),
+    }
+}
+
+/// Writes characters of the format that stand from a place on. A single one is not written as a
+/// text, which costs more.
+#[inline(always)]
+fn write_run<W: TextWrite>(out: &mut W, text: &str, place: usize) -> Result<(), WriteFault>
+    requires fits { place + length text.now < 2 ^ 64 }
+    ensures outcome { Outcome (text_alone (placed_from place (chars text.now)))
+        (W.written out.old) (W.written out.new) (write_answered result) }
+{
+    if let [byte] = text.as_bytes() {
+        if byte.is_ascii() {
+            return write_char(out, *byte as char, place);
+        }
+    }
+    match out.write_str(text) {
+        Ok(()) => Ok(()),
+        Err(refusal) => Err(WriteFault::Fmt(place + refusal.taken)),
+    }
+}
+
+/// Writes a view, each character of which stands at one place.
+#[inline(always)]
+fn write_view<W: TextWrite>(
+    out: &mut W,
+    view: View<'_>,
+    t: Trait,
+    spec: &Spec,
+    place: usize,
+) -> Result<(), WriteFault>
+    requires in_range { IsInRange (shown_by view) }
+    ensures outcome { Outcome (view_means t place (view_text (shown_by view.entry) t spec.now))
+        (W.written out.old) (W.written out.new) (write_answered result) }
+{
+    match render(out, view, t, spec) {
+        Ok(()) => Ok(()),
+        Err(RenderFault::NotImplemented) => Err(WriteFault::MissingTraitImpl(t, place)),
+        Err(RenderFault::Failed) => Err(WriteFault::Fmt(place)),
+        Err(RenderFault::Refused) => Err(WriteFault::Fmt(place)),
+    }
+}
+
+/// Writes a text padded to the width, each character of which stands at one place.
+fn write_padded<W: TextWrite>(
+    out: &mut W,
+    text: &str,
+    spec: &Spec,
+    place: usize,
+) -> Result<(), WriteFault>
+    requires no_precision { spec.now.precision ≡ None }
+    ensures outcome { Outcome (text_alone (placed_at place (padded_text spec.now (chars text.now))))
+        (W.written out.old) (W.written out.new) (write_answered result) }
+{
+    match pad(out, text, spec) {
+        Ok(()) => Ok(()),
+        Err(_) => Err(WriteFault::Fmt(place)),
+    }
+}
+
+/// Where text goes: to the writer, or aside into a buffer, for a list that is made whole.
+pub enum Sink<'s, W> {
+    Writer(&'s mut W),
+    Aside(&'s mut Bounded),
+}
+
+impl<'s, W: TextWrite> Sink<'s, W> {
+    /// Characters of the format that stand from a place on, as one slice.
+    #[inline(always)]
+    pub fn put_run(&mut self, text: &str, place: usize) -> Result<(), WriteFault>
+        requires fits { place + length text.now < 2 ^ 64 }
+        ensures writes { Writes W.written (text_alone (placed_from place (chars text.now)))
+            self.old self.new (write_answered result) }
+    {
+        match self {
+            Sink::Writer(out) => write_run(&mut **out, text, place),
+            Sink::Aside(buffer) => write_run(&mut **buffer, text, place),
+        }
+    }
+
+    /// One character of the format.
+    #[inline(always)]
+    pub fn put_char(&mut self, c: char, place: usize) -> Result<(), WriteFault>
+        ensures writes { Writes W.written (text_alone ((c, place) ∷ []))
+            self.old self.new (write_answered result) }
+    {
+        match self {
+            Sink::Writer(out) => write_char(&mut **out, c, place),
+            Sink::Aside(buffer) => write_char(&mut **buffer, c, place),
+        }
+    }
+
+    /// A text padded to the width, each character at one place.
+    pub fn put_padded(&mut self, text: &str, spec: &Spec, place: usize) -> Result<(), WriteFault>
+        requires no_precision { spec.now.precision ≡ None }
+        ensures writes { Writes W.written
+            (text_alone (placed_at place (padded_text spec.now (chars text.now))))
+            self.old self.new (write_answered result) }
+    {
+        match self {
+            Sink::Writer(out) => write_padded(&mut **out, text, spec, place),
+            Sink::Aside(buffer) => write_padded(&mut **buffer, text, spec, place),
+        }
+    }
+
+    /// How many bytes it could still take at most: what is left of the buffer; of the writer what that
+    /// tells, and the greatest `usize` if it tells nothing.
+    pub(crate) fn room(&self) -> usize
+        ensures room { HasRoom W.limit self.now result }
+    {
+        match self {
+            Sink::Writer(out) => out.room().unwrap_or(usize::MAX),
+            Sink::Aside(buffer) => buffer.left(),
+        }
+    }
+
+    /// What stands in a slot, under a trait and a spec, each character at one place.
+    #[inline(always)]
+    pub fn put_value<V: Value>(
+        &mut self,
+        value: Option<&V>,
+        t: Trait,
+        spec: &Spec,
+        place: usize,
+    ) -> Result<(), WriteFault>
+        ensures writes { Writes W.written
+            (value_means V.shows t spec.now place (option_copied value.entry))
+            self.old self.new (write_answered result) }
+    {
+        let Some(value) = value else {
+            return Err(WriteFault::MissingTraitImpl(t, place));
+        };
+        let view = value.view(t, spec);
+        match self {
+            Sink::Writer(out) => write_view(&mut **out, view, t, spec, place),
+            Sink::Aside(buffer) => write_view(&mut **buffer, view, t, spec, place),
+        }
+    }
+}

@@ -1,0 +1,119 @@
+//! The value and the list under a name, for formats as texts and for those that were read once.
+ghost use Rattle.std.specs.Prelude.{◌≡◌, ◌⊎◌, [], IfOk, MatchResult, Some, false, map};
+ghost use Rattle.std.specs.Str.{chars};
+ghost use Rattle.interpolator_render.specs.Bounds.{bounded_writer};
+ghost use Rattle.interpolator_render.specs.declared.view.Trait.TheVariants.{Display};
+ghost use Rattle.interpolator_syntax.specs.Faults.{answered, fault, missing_value, no_memory};
+ghost use Rattle.interpolator_syntax.specs.SpecTexts.{plain_spec};
+ghost use Rattle.interpolator_eval.specs.Meaning.Environments.{given};
+ghost use Rattle.interpolator_eval.specs.Meaning.Lists.{IsChosen, IsNotChosen};
+ghost use Rattle.interpolator_eval.specs.Meaning.Meanings.{under_name, value_means, forbids_list};
+ghost use Rattle.interpolator_eval.specs.Meaning.Scopes.{environment_of};
+ghost use Rattle.interpolator_eval.specs.Meaning.Sinks.{HasRoom, Writes};
+ghost use Rattle.interpolator_eval.specs.Slots.{slots_of, slot_at, values_of};
+
+use crate::context::Context;
+use crate::meaning::list::{choose, forbids_list};
+use crate::meaning::scope::Scope;
+use crate::meaning::sink::Sink;
+use crate::slots::Formattable;
+use interpolator_render::{Bounded, Spec, TextWrite, Trait, Value};
+use interpolator_syntax::{Error, ParseError, Range};
+
+/// The fault of an absent name, for an argument that starts at `start`. It is a function of its own,
+/// since a function clears the room for its faults where it begins.
+#[inline(always)]
+fn refused<'a, C: Context>(
+    scope: &Scope<'a, C, C::Object>,
+    start: usize,
+    name: &str,
+) -> Result<(), Error>
+    ensures told { (answered result ≡ Some (fault (missing_value (chars name.now) start)))
+        ⊎ (answered result ≡ Some no_memory) }
+{
+    Err(scope.missing(name, start))
+}
+
+/// Writes the value under a name, for an argument that starts at `start` and whose spec ends at
+/// `end`.
+#[inline(always)]
+pub fn write_value<'a, W: TextWrite, C: Context>(
+    sink: &mut Sink<'_, W>,
+    scope: &Scope<'a, C, C::Object>,
+    start: usize,
+    name: &str,
+    t: Trait,
+    spec: &Spec,
+    end: usize,
+) -> Result<(), Error>
+    ensures writes { Writes W.written
+        (under_name (chars name.now) start
+        (λ found. value_means C.Object.shows t spec.now end (slot_at t (values_of found)))
+        (given (environment_of C.finds scope.now) (chars name.now)))
+        sink.old sink.new (answered result) }
+{
+    let Some(value) = scope.value(name, t) else {
+        return refused(scope, start, name);
+    };
+    sink.put_value(value, t, spec, end)?;
+    Ok(())
+}
+
+/// Writes an item of a list that has no format for it: displayed plainly, for an argument whose spec
+/// ends at `end`.
+#[inline(always)]
+pub fn write_plain_item<'a, W: TextWrite, V: Value>(
+    sink: &mut Sink<'_, W>,
+    item: &'a Formattable<'a, V>,
+    end: usize,
+) -> Result<(), Error>
+    ensures writes { Writes W.written
+        (value_means V.shows Display plain_spec end (slot_at Display (values_of (slots_of item.now))))
+        sink.old sink.new (answered result) }
+{
+    let value = item.slot(Trait::Display);
+    sink.put_value(value, Trait::Display, &Spec::default(), end)?;
+    Ok(())
+}
+
+/// The items that a range chooses of the list under a name, for an argument that starts at `start`
+/// and whose spec ends at `end`.
+#[inline(always)]
+pub fn chosen_list<'a, C: Context>(
+    scope: &Scope<'a, C, C::Object>,
+    start: usize,
+    name: &str,
+    range: Option<Range>,
+    spec: &Spec,
+    end: usize,
+) -> Result<&'a [Formattable<'a, C::Object>], Error>
+    ensures chosen { MatchResult result
+        (λ items. IsChosen (environment_of C.finds scope.now) (chars name.now) start range spec.now
+        end (map slots_of items.now))
+        (λ error. IsNotChosen (environment_of C.finds scope.now) (chars name.now) start range
+        spec.now end error) }
+    ensures allowed { IfOk result (λ _. forbids_list spec.now ≡ false) }
+{
+    let Some(found) = scope.items(name) else {
+        return Err(scope.missing(name, start));
+    };
+    let Some(items) = found else {
+        return Err(Error::MissingTraitImpl(Trait::Iter, end));
+    };
+    if forbids_list(spec) {
+        return Err(Error::Parse(ParseError::Iter(end)));
+    }
+    Ok(choose(items, range))
+}
+
+/// An empty buffer for the text of a list that is made whole before it is written. It takes as many
+/// bytes as the sink has room for.
+pub fn list_buffer<'a, W: TextWrite, C: Context>(
+    sink: &Sink<'_, W>,
+    scope: &Scope<'a, C, C::Object>,
+) -> Bounded
+    ensures empty { bounded_writer result ≡ record { text = []; refused = false } }
+    ensures most { HasRoom W.limit sink.now result.most }
+{
+    Bounded::new(scope.alloc(), sink.room())
+}

@@ -1,0 +1,61 @@
+//! Pairs of a name and what it stands for, as a context.
+ghost use Rattle.std.specs.Prelude.{◌≡◌, ⊤, option_map};
+ghost use Rattle.std.specs.Option.{option_copied};
+ghost use Rattle.interpolator_eval.specs.Contexts.{found_by_pairs, held_last};
+
+use crate::context::Context;
+use crate::slots::Formattable;
+use interpolator_render::Value;
+use std::alloc::AllocError;
+
+/// A context of pairs: a name, and the [`Formattable`] that it stands for.
+///
+/// The last pair of a name stands. Names are compared by their characters, from the last pair to
+/// the first, which costs less than a map where the names are few. Making it takes no memory.
+///
+/// ```text
+/// struct Guest<'a> { name: &'a str, city: &'a str }
+///
+/// for guest in guests {
+///     Pairs(&[
+///         ("name", Formattable::display(&guest.name)),
+///         ("city", Formattable::display(&guest.city)),
+///     ])
+///     .write_to(alloc, &mut out, "Hello {name}, how is {city}?\n")?;
+/// }
+/// ```
+pub struct Pairs<'a, V>(pub &'a [(&'a str, Formattable<'a, V>)]);
+
+impl<'a, V> Clone for Pairs<'a, V> {
+    ghost is_clone = { λ old new. new ≡ old };
+
+    ghost is_infallible = { λ _. ⊤ };
+
+    fn clone(&self) -> Result<Self, AllocError> {
+        Ok(*self)
+    }
+}
+
+impl<'a, V> Copy for Pairs<'a, V> {}
+
+// The last pair of that name. It is not inlined, so that its few words stay in registers.
+#[inline(never)]
+fn last_pair<'s, 'k, T>(pairs: &'s [(&'k str, T)], name: &str) -> Option<&'s (&'k str, T)>
+    ensures { option_map (λ pair. pair.1) (option_copied result) ≡ held_last pairs.now name.now }
+{
+    pairs.iter().rev().find(|pair| pair.0 == name)
+}
+
+impl<'a, V: Value> Context for Pairs<'a, V> {
+    type Object = V;
+
+    ghost finds = { λ pairs name. found_by_pairs pairs.0.now name };
+
+    #[inline(always)]
+    fn get(&self, key: &str) -> Option<Formattable<'_, V>> {
+        match last_pair(self.0, key) {
+            Some(pair) => Some(pair.1),
+            None => None,
+        }
+    }
+}

@@ -1,9 +1,0 @@
-use Rattle.std.proofs.Common.{◌∙◌, ap}
-use Rattle.interpolator_meaning.specs.Slots.{slots_of, empty_slots, with_iter}
-use Rattle.interpolator_meaning.proofs.RowLemmas.{cut_row}
-use Rattle.interpolator_meaning.proofs.rows.row.Goals as goal
-
-pub returns : goal.returns
-returns g c =
-    c.iter.ensures ∙ ap (with_iter empty_slots)
-    (cut_row slots_of c.args.items.now c.args.from c.args.to _ _ c.min.ensures c.min-2.ensures)

@@ -1,7 +1,0 @@
-//! What a format means, written: names are looked up, and texts go to the writer.
-
-pub mod evaluate;
-pub mod list;
-pub mod scope;
-pub mod sink;
-pub mod value;

@@ -1,0 +1,153 @@
+-- What a writer over a writer of bytes takes and hands on.
+use Rattle.std.proofs.Common.{◌≡◌, ℕ, ◌+◌, ◌-◌, ◌<◌, ◌≤◌, List, [], ◌++◌, Option, None, Some, length}
+use Rattle.std.proofs.Common.{take, drop, refl, sym, ◌∙◌, ap, subst, append_assoc, append-nil}
+use Rattle.std.proofs.Common.{Bool, true, false, Result, Ok, Err, OnOk, OnErr, MatchResult}
+use Rattle.std.proofs.Common.{string_bytes}
+use Rattle.std.specs.Io.KnownBytes.{Appends, Keeps}
+use Rattle.std.proofs.lemmas.List.{take-append-drop}
+use Rattle.interpolator_render.specs.IoWriters.{HandsOn}
+use Rattle.interpolator_render.specs.Written.{Written, Refuses, RefusesWhole}
+use Rattle.interpolator_render.specs.Written.{Appends as Extends}
+use Rattle.interpolator_render.specs.declared.io_writer.IoWriter.{IoWriter}
+use Rattle.interpolator_render.specs.declared.text_write.Refusal.{Refusal}
+use Rattle.interpolator_render.proofs.WrittenLemmas.{refuses_all}
+
+-- bytes that grow by some and then by more
+pub gets_more : (a b c : Option (List ℕ)) (bs cs : List ℕ) → Appends a b bs → Appends b c cs
+    → Appends a c (bs ++ cs)
+gets_more None b c bs cs p q = tt
+gets_more (Some x) None c bs cs p q = absurd p
+gets_more (Some x) (Some y) None bs cs p q = absurd q
+gets_more (Some x) (Some y) (Some z) bs cs p q =
+    q ∙ (ap (λ (l : List ℕ). l ++ cs) p ∙ append_assoc x bs cs)
+
+-- bytes that stay grow by none
+pub gets_none : (a b : Option (List ℕ)) → Keeps a b → Appends a b []
+gets_none None b p = tt
+gets_none (Some x) None p = absurd p
+gets_none (Some x) (Some y) p = p ∙ sym (append-nil x)
+
+pub keeps_all : (a : Option (List ℕ)) → Keeps a a
+keeps_all None = tt
+keeps_all (Some x) = refl
+
+-- a writer after a text
+abbrev pub after_text : List ℕ → Written → Written
+after_text front w = record { text = front ++ w.text; refused = w.refused }
+
+-- what is written after a text is written to the whole
+pub written_after : (front text : List ℕ) (old new : Written) (answer : Result (Unit {0}) Refusal)
+    → MatchResult answer (λ _. Extends old text new) (λ r. Refuses old text r.taken new)
+    → MatchResult answer (λ _. Extends (after_text front old) text (after_text front new))
+    (λ r. Refuses (after_text front old) text r.taken (after_text front new))
+written_after front text old new (Ok x) h = record {
+  appended = ap (λ (l : List ℕ). front ++ l) h.appended ∙ sym (append_assoc front old.text text);
+  same_flag = h.same_flag;
+  only_empty = h.only_empty;
+}
+written_after front text old new (Err r) h = record {
+  part = record {
+    beginning = h.part.beginning;
+    rest = h.part.rest;
+    parts = h.part.parts;
+    not_whole = h.part.not_whole;
+    appended = ap (λ (l : List ℕ). front ++ l) h.part.appended
+        ∙ sym (append_assoc front old.text h.part.beginning);
+    flag_set = h.part.flag_set;
+    none_after_refusal = h.part.none_after_refusal;
+  };
+  counted = h.counted;
+}
+
+-- the same, where the whole is known by another name
+pub writes_on : (front text : List ℕ) (whole old new : Written) (answer : Result (Unit {0}) Refusal)
+    → after_text front old ≡ whole
+    → MatchResult answer (λ _. Extends old text new) (λ r. Refuses old text r.taken new)
+    → MatchResult answer (λ _. Extends whole text (after_text front new))
+    (λ r. Refuses whole text r.taken (after_text front new))
+writes_on front text whole old new answer e h =
+    subst (λ (w : Written). MatchResult answer (λ _. Extends w text (after_text front new))
+    (λ r. Refuses w text r.taken (after_text front new))) e
+    (written_after front text old new answer h)
+
+-- a refusal of all that follows is one of a text
+pub refuses_whole : (old new : Written) (text : List ℕ) (taken : ℕ) → 0 < length text
+    → RefusesWhole old taken new → Refuses old text taken new
+refuses_whole old new text taken n h =
+    rw h.0 (refuses_all old new text n (ap (λ (w : Written). w.text) h.1)
+    (ap (λ (w : Written). w.refused) h.1))
+
+-- two writers of which as much is known
+pub same_written : (a b : Written) → a.text ≡ b.text → a.refused ≡ b.refused → a ≡ b
+same_written a b e f =
+    ap (λ (t : List ℕ). record { text = t; refused = a.refused }) e
+    ∙ ap (λ (r : Bool). record { text = b.text; refused = r }) f
+
+-- ---- what is handed on
+
+not_refused : (b : Bool) (A : Type 0) → b ≡ true → b ≡ false → A
+not_refused b A e f = absurd (cc)
+
+module _ {W : Type 0} (told : W → Option (List ℕ)) where
+  -- nothing
+  pub hands_none : (w : IoWriter W) → HandsOn told w w []
+  hands_none w = record {
+    front = [];
+    rest = string_bytes w.held;
+    parts = append-nil (string_bytes w.held);
+    got = gets_none _ _ (keeps_all (told w.inner));
+    held = λ _. refl;
+  }
+
+  -- all that was held
+  pub hands_all : (old new : IoWriter W) → string_bytes new.held ≡ []
+      → Appends (told old.inner) (told new.inner) (string_bytes old.held) → HandsOn told old new []
+  hands_all old new e g = record {
+    front = string_bytes old.held;
+    rest = [];
+    parts = refl;
+    got = g;
+    held = λ _. e;
+  }
+
+  -- a part of it, before a write failed
+  pub hands_part : (old new : IoWriter W) (count : ℕ) (bytes : List ℕ)
+      → bytes ≡ string_bytes old.held → new.refused ≡ true
+      → Appends (told old.inner) (told new.inner) (take count bytes) → HandsOn told old new []
+  hands_part old new count bytes e r g = record {
+    front = take count bytes;
+    rest = drop count bytes;
+    parts = append-nil (string_bytes old.held) ∙ (sym e ∙ sym (take-append-drop count bytes));
+    got = g;
+    held = λ f. not_refused new.refused _ r f;
+  }
+
+  -- and more was gathered, or refused
+  pub hands_more : (old mid new : IoWriter W) (more : List ℕ) (answer : Result (Unit {0}) Refusal)
+      → HandsOn told old mid [] → new.inner ≡ mid.inner
+      → OnOk answer ((string_bytes new.held ≡ string_bytes mid.held ++ more)
+      × (mid.refused ≡ false) × (new.refused ≡ false))
+      → OnErr answer ((string_bytes new.held ≡ string_bytes mid.held) × (new.refused ≡ true))
+      → MatchResult answer (λ _. HandsOn told old new more) (λ _. HandsOn told old new [])
+  hands_more old mid new more (Ok x) h same ok err = record {
+    front = h.front;
+    rest = h.rest ++ more;
+    parts = ap (λ (l : List ℕ). l ++ more) (sym (append-nil (string_bytes old.held)) ∙ h.parts)
+        ∙ append_assoc h.front h.rest more;
+    got = subst (λ (w : W). Appends (told old.inner) (told w) h.front) (sym same) h.got;
+    held = λ _. ok.0 ∙ ap (λ (l : List ℕ). l ++ more) (h.held ok.1);
+  }
+  hands_more old mid new more (Err r) h same ok err = record {
+    front = h.front;
+    rest = h.rest;
+    parts = h.parts;
+    got = subst (λ (w : W). Appends (told old.inner) (told w) h.front) (sym same) h.got;
+    held = λ f. not_refused new.refused _ err.1 f;
+  }
+
+-- bytes that stay after they grew
+pub gets_kept : (a b c : Option (List ℕ)) (bs : List ℕ) → Appends a b bs → Keeps b c → Appends a c bs
+gets_kept None b c bs p q = tt
+gets_kept (Some x) None c bs p q = absurd p
+gets_kept (Some x) (Some y) None bs p q = absurd q
+gets_kept (Some x) (Some y) (Some z) bs p q = q ∙ p

@@ -1,0 +1,15 @@
+use Rattle.std.proofs.Common.{refl, ◌∙◌, append-nil}
+use Rattle.std.proofs.lemmas.Str.{chars-nil}
+use Rattle.interpolator_render.proofs.IoWriterLemmas.{hands_part}
+use Rattle.interpolator_render.proofs.io_writer.IoWriter.hand_on.Goals as goal
+
+pub returns-in-Ok-clause-text : goal.returns-in-Ok-clause-text
+returns-in-Ok-clause-text g c =
+    rw (c.and-self.ensures, c.clear.ensures.bytes, chars-nil) (append-nil _)
+
+pub returns-in-Err-clause-err : goal.returns-in-Err-clause-err
+returns-in-Err-clause-err g c = (
+  refl,
+  hands_part g.W.Write.contents _ _ c.write_out-result.result.0 c.as_bytes.result.now
+      (c.as_bytes.ensures.value ∙ c.as_str.ensures.value) refl c.write_out-result.ensures.got,
+)

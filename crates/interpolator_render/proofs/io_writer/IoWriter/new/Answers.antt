@@ -1,0 +1,6 @@
+use Rattle.std.proofs.Common.{refl}
+use Rattle.std.proofs.lemmas.Str.{chars-nil}
+use Rattle.interpolator_render.proofs.io_writer.IoWriter.new.Goals as goal
+
+pub returns-clause-written : goal.returns-clause-written
+returns-clause-written g c = rw (c.new-2.ensures, c.new.ensures.bytes, chars-nil) refl

@@ -1,0 +1,28 @@
+use Rattle.std.proofs.Common.{refl, rules, string_bytes}
+use Rattle.std.proofs.lemmas.Str.{IsUtf8-string_bytes}
+use Rattle.interpolator_render.proofs.IoWriterLemmas.{hands_more, refuses_whole, writes_on}
+use Rattle.interpolator_render.proofs.WrittenLemmas.{appends_nothing, buffer_writes, chars_nonempty}
+use Rattle.interpolator_render.proofs.io_writer.IoWriterTextWrite.write_str.Goals as goal
+
+pub returns-then-is_empty-clause-written : goal.returns-then-is_empty-clause-written
+returns-then-is_empty-clause-written g c = appends_nothing _ _ (search rules)
+
+pub returns-in-Ok-clause-written : goal.returns-in-Ok-clause-written
+returns-in-Ok-clause-written g c =
+    let mid = c.make_way.new.self in
+    let put = c.append in
+    writes_on mid.handed.text _ _ _ _ put.result c.in-Ok.ensures.ok.0
+    (buffer_writes _ (string_bytes mid.held) _ c.args.text.now _ mid.refused _ put.result
+    (IsUtf8-string_bytes mid.held) refl refl
+    (chars_nonempty c.args.text.now c.utf8.text (search rules)) put.ensures.ok put.ensures.err
+    put.ensures.taken)
+
+pub returns-in-Ok-clause-handed : goal.returns-in-Ok-clause-handed
+returns-in-Ok-clause-handed g c =
+    hands_more g.W.Write.contents _ c.make_way.new.self _ c.args.text.now c.append.result
+    c.in-Ok.ensures.ok.1 refl c.append.ensures.ok c.append.ensures.err
+
+pub returns-in-Err-clause-written : goal.returns-in-Err-clause-written
+returns-in-Err-clause-written g c =
+    refuses_whole _ _ _ _ (chars_nonempty c.args.text.now c.utf8.text (search rules))
+    c.in-Err.ensures.err.0

@@ -1,0 +1,10 @@
+use Rattle.std.proofs.Common.{◌-◌, ◌≤◌, length, take}
+use Rattle.interpolator_render.specs.IoWriters.{Gets}
+use Rattle.interpolator_render.proofs.io_writer.write_out.Given as goal
+
+abbrev pub invariant-loop-done : goal.invariant-loop-done
+invariant-loop-done g l = (l.done ≤ length l.bytes)
+    × Gets (g.W.Write.contents l.initial.to) (g.W.Write.contents l.to) (take l.done l.bytes)
+
+abbrev pub decreases-loop-done : goal.decreases-loop-done
+decreases-loop-done g l = length l.bytes - l.done

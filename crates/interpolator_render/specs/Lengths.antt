@@ -1,0 +1,74 @@
+-- How many characters the text of a view has at most.
+use Rattle.std.specs.Prelude.{ℕ, zero, suc, ◌+◌, ◌*◌, ◌^◌, ◌<◌, ◌≤◌, ◌-◌, ⊤, max, min, false, length, unwrap_or}
+use Rattle.std.specs.Prelude.{Option, None, Some, FitsSigned}
+use Rattle.interpolator_render.specs.declared.number_form.NumberForm.{NumberForm}
+use Rattle.interpolator_render.specs.declared.number_form.NumberForm.TheVariants.{Digits as InDigits}
+use Rattle.interpolator_render.specs.declared.number_form.NumberForm.TheVariants.{Exponent as InExponent}
+use Rattle.interpolator_render.specs.declared.number_form.Radix.{Radix}
+use Rattle.interpolator_render.specs.declared.number_form.Radix.TheVariants.{Decimal}
+use Rattle.interpolator_render.specs.declared.number_form.Radix.TheVariants.{Binary as InBinary}
+use Rattle.interpolator_render.specs.declared.number_form.Radix.TheVariants.{Octal as InOctal}
+use Rattle.interpolator_render.specs.declared.number_form.Radix.TheVariants.{LowerHex as InLowerHex}
+use Rattle.interpolator_render.specs.declared.number_form.Radix.TheVariants.{UpperHex as InUpperHex}
+use Rattle.interpolator_render.specs.declared.view.Spec.{Spec}
+use Rattle.interpolator_render.specs.declared.view.Trait.{Trait}
+use Rattle.interpolator_render.specs.declared.view.Trait.TheVariants.{Debug}
+use Rattle.interpolator_render.specs.Numbers.{front_text, number_form}
+use Rattle.interpolator_render.specs.Texts.{ViewText, has_text}
+use Rattle.interpolator_render.specs.Views.{Shown, signed_number, unsigned_number, some_text}
+use Rattle.interpolator_render.specs.Views.{plain_text, integer_width}
+
+-- a view whose text has at most so many characters; its number is one that a view can have
+abbrev pub IsShownWithin : (most : ℕ) → Shown → Type 0
+IsShownWithin most (signed_number z bits) = FitsSigned (integer_width bits) z
+IsShownWithin most (unsigned_number n) = n < 2 ^ 128
+IsShownWithin most (some_text text) = length text ≤ most
+IsShownWithin most (plain_text text) = length text ≤ most
+IsShownWithin most _ = ⊤
+
+-- the digits of a number below 2 ^ 128 in a base
+abbrev pub most_digits : Radix → ℕ
+most_digits Decimal = 39
+most_digits InBinary = 128
+most_digits InOctal = 43
+most_digits InLowerHex = 32
+most_digits InUpperHex = 32
+
+-- sign and prefix: in decimal and exponent form a number may be negative
+abbrev pub most_front : NumberForm → Spec → ℕ
+most_front (InDigits Decimal) spec = 1
+most_front (InDigits radix) spec = length (front_text (InDigits radix) spec false)
+most_front (InExponent upper) spec = 1
+
+-- the digits, in an exponent form with a point where more than one digit stands, the mark, and an
+-- exponent of two digits
+abbrev pub most_body : NumberForm → (precision : Option ℕ) → ℕ
+most_body (InDigits radix) precision = most_digits radix
+most_body (InExponent upper) None = 43
+most_body (InExponent upper) (Some zero) = 4
+most_body (InExponent upper) (Some (suc places)) = suc places + 5
+
+-- a number in the form that a trait asks, if it asks one
+abbrev pub most_number : Option NumberForm → Spec → ℕ
+most_number None spec = 0
+most_number (Some form) spec = most_front form spec + most_body form spec.precision
+
+-- a text of at most so many characters: under debug each may take six, between two quotes
+abbrev pub most_text : Trait → (most : ℕ) → ℕ
+most_text Debug most = most * 6 + 2
+most_text _ most = most
+
+-- what is written of a view within that bound: a number or a text, or the width if it is more
+unfoldable pub most_written : Trait → Spec → (most : ℕ) → ℕ
+most_written t spec most =
+    max (unwrap_or spec.width 0)
+    (max (most_number (number_form t spec.hex_debug) spec) (most_text t most))
+
+-- a text has at most so many characters; where there is none, nothing is written
+abbrev pub HasAtMost : (most : ℕ) → ViewText → Type 0
+HasAtMost most (has_text text) = length text ≤ most
+HasAtMost most _ = ⊤
+
+-- a count as a `usize` tells it: the greatest means as many or more
+abbrev pub capped : ℕ → ℕ
+capped count = min count (2 ^ 64 - 1)

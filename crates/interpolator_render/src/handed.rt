@@ -1,0 +1,34 @@
+//! The text that a writer has handed on, for proofs alone.
+ghost use Rattle.std.specs.Prelude.{◌≡◌, ℕ, List, [], ◌++◌, string_bytes};
+ghost use Rattle.std.specs.Borrow.{ftrue};
+ghost use Rattle.std.specs.Str.{chars};
+
+use std::marker::{Model, PhantomData};
+
+/// The text that a writer has handed on. Only proofs read it: it takes no memory, and its methods do
+/// nothing when they run.
+#[derive(Drop)]
+pub(crate) struct Handed {
+    of: PhantomData<()>,
+    pub ghost text: { List ℕ },
+}
+
+impl Model for Handed {
+    ghost also_owns = { λ _. ftrue };
+}
+
+impl Handed {
+    /// No text.
+    pub(crate) fn new() -> Handed
+        ensures { result.text ≡ [] }
+    {
+        Handed { of: PhantomData }
+    }
+
+    /// This text, and another after it.
+    pub(crate) fn and(&self, more: &String) -> Handed
+        ensures { result.text ≡ self.now.text ++ chars (string_bytes more.now) }
+    {
+        Handed { of: PhantomData }
+    }
+}

@@ -1,0 +1,99 @@
+-- What the reader of a group keeps.
+use Rattle.std.proofs.Common.{◌≡◌, ◌≢◌, ℕ, zero, suc, ◌+◌, eqb, List, [], ◌∷◌, ◌++◌, length, arith}
+use Rattle.std.proofs.Common.{refl, ap, ◌∙◌, sym, Some, None, append_assoc, Option, append-nil}
+use Rattle.interpolator_syntax.specs.At.{At, size}
+use Rattle.interpolator_syntax.specs.Classes.{hash, open_bracket, close_bracket}
+use Rattle.interpolator_syntax.specs.Groups.{close_from, closed_group, bracket_first, bracket_at}
+use Rattle.interpolator_syntax.specs.Groups.{group_at}
+use Rattle.interpolator_syntax.specs.GroupGrammar.{sign_text, close_text, NoneCloses}
+use Rattle.interpolator_syntax.specs.Moved.{moved_group}
+use Rattle.interpolator_syntax.specs.declared.class.Class.TheVariants.{Hash}
+use Rattle.interpolator_syntax.proofs.GrammarGroupLemmas.{IsClose, Closes, close_says, only_close}
+use Rattle.interpolator_syntax.proofs.GrammarGroupLemmas.{only_no_close, close_size}
+use Rattle.interpolator_syntax.proofs.KeepLemmas.{Setting, elsewhere, Keeps, Reads, keeps_past}
+use Rattle.interpolator_syntax.proofs.KeepLemmas.{keeps_either, keeps_first, reads_then}
+use Rattle.interpolator_syntax.proofs.LocalityLemmas.{Takes, stands}
+use Rattle.interpolator_syntax.proofs.SimpleReaderLemmas.{reads_span}
+
+bracket_no_sign : close_bracket ≢ hash
+bracket_no_sign e = omega (arith, e)
+
+-- signs in front of which a bracket stands are the same whatever comes after the bracket
+signs_before :
+    (k : ℕ) (cs after more rest : List ℕ) → cs ++ (close_bracket ∷ after) ≡ sign_text k ++ rest
+    → (left : List ℕ) × (cs ++ (close_bracket ∷ more) ≡ sign_text k ++ left)
+signs_before zero cs after more rest e = (cs ++ (close_bracket ∷ more), refl)
+signs_before (suc k) [] after more rest e = absurd (bracket_no_sign cc)
+signs_before (suc k) (c ∷ cs) after more rest e =
+    let first : c ≡ hash = cc in
+    let others : cs ++ (close_bracket ∷ after) ≡ sign_text k ++ rest = cc in
+    let s = signs_before k cs after more rest others in
+    (s.0, ap (λ n. n ∷ (cs ++ (close_bracket ∷ more))) first ∙ ap (λ xs. hash ∷ xs) s.1)
+
+-- a text of which no bracket closes has none that does, whatever comes after the one that closes
+none_closes_with :
+    (k : ℕ) (inner after more : List ℕ) → NoneCloses k inner (close_bracket ∷ after)
+    → NoneCloses k inner (close_bracket ∷ more)
+none_closes_with k inner after more h front cs rest e f =
+    let s = signs_before k cs more after rest f in h front cs s.0 e s.1
+
+-- a text that closes closes there elsewhere, whatever comes after it
+close_elsewhere :
+    (s : Setting) (k p : ℕ) (cs : List ℕ) (w : List ℕ × At) → IsClose k p cs w.0 w.1
+    → close_from k (p + s.by) (cs ++ s.more) ≡ Some (w.0, elsewhere s w.1)
+close_elsewhere s k p cs w h =
+    let q = w.1 in
+    let signs = sign_text k in
+    let whole : cs ++ s.more ≡ w.0 ++ (close_text k ++ (q.text ++ s.more)) =
+    rw h.split (simp append_assoc) in
+    let none = none_closes_with k w.0 (signs ++ q.text) (signs ++ (q.text ++ s.more)) h.first in
+    let there : (p + s.by) + size w.0 + 1 + k ≡ q.place + s.by = omega (arith, h.place) in
+    rw whole (only_close k (p + s.by) w.0 (q.text ++ s.more) none
+    ∙ ap (λ n. Some (w.0, stands n (q.text ++ s.more))) there)
+
+-- what closes is a front of the text
+close_takes :
+    (k : ℕ) (a : At) (inner : List ℕ) (q : At) → IsClose k a.place a.text inner q → Takes a q
+close_takes k a inner q h = record {
+  front = inner ++ close_text k;
+  split = h.split ∙ sym (append_assoc inner (close_text k) q.text);
+  place = omega (arith, h.place, close_size inner k);
+}
+
+module _ (s : Setting) where
+  keeps_close :
+      (k : ℕ) (a : At) (o : Option (List ℕ × At)) → Closes k a.place a.text o
+      → Keeps s (moved_group s.by) a (closed_group s.start a.place o)
+      (closed_group (s.start + s.by) (a.place + s.by)
+      (close_from k (a.place + s.by) (a.text ++ s.more)))
+  keeps_close k a None none = (
+    tt,
+    λ from. omega arith,
+    λ from. omega arith,
+    λ no_more. rw (no_more, append-nil a.text, only_no_close k (a.place + s.by) a.text none) refl,
+  )
+  keeps_close k a (Some w) is = (
+    close_takes k a w.0 w.1 is,
+    λ t.
+        ap (closed_group (s.start + s.by) (a.place + s.by))
+        (close_elsewhere s k a.place a.text w is),
+  )
+
+  reads_bracket :
+      (k : ℕ) → Reads s (moved_group s.by) (bracket_at s.start k) (bracket_at (s.start + s.by) k)
+  reads_bracket k = record {
+    keeps = λ a.
+        let move = moved_group s.by in
+        keeps_first s move a.place a.text (bracket_first s.start k a)
+        (bracket_first (s.start + s.by) k (elsewhere s a))
+        (tt, λ from. omega arith, λ from. omega arith, λ none. refl)
+        (λ c rest t.
+        keeps_either s move a (eqb c open_bracket) _ _ _ _
+        (keeps_past s move a rest _ _ _ t (λ settled. refl)
+        (keeps_close k rest _ (close_says k rest.place rest.text)))
+        (tt, λ from. omega arith, λ from. omega arith, λ none. refl));
+  }
+
+  pub reads_group : Reads s (moved_group s.by) (group_at s.start) (group_at (s.start + s.by))
+  unfolding group_at
+  reads_group = reads_then _ (reads_span s Hash) (λ signs. reads_bracket (length signs))

@@ -1,0 +1,212 @@
+-- What a reader keeps: what it takes is a front of its text, its faults lie there, and elsewhere it
+-- answers the same; and how it keeps this where readers are put together.
+use Rattle.std.proofs.Common.{◌≡◌, ℕ, ◌+◌, ◌≤◌, Bool, true, false, cond, eqb, List, [], ◌∷◌, ◌++◌}
+use Rattle.std.proofs.Common.{arith, refl, ap, ◌∙◌, sym, subst, Result, Ok, Err, Option, Some, None}
+use Rattle.std.proofs.Common.{inl, inr, ◌⊎◌}
+use Rattle.std.specs.Char.{len_utf8}
+use Rattle.std.proofs.lemmas.Bool.{eqb-true}
+use Rattle.interpolator_syntax.specs.At.{At, size, first, first_of, strip_of}
+use Rattle.interpolator_syntax.specs.ArgumentFaults.{IsArgumentFault}
+use Rattle.interpolator_syntax.specs.Readers.{Reader, on, ◌>>=◌}
+use Rattle.interpolator_syntax.specs.Faults.{Fault, fault_place}
+use Rattle.interpolator_syntax.specs.Moved.{moved_fault}
+use Rattle.interpolator_syntax.proofs.LocalityLemmas.{Takes, stands, takes_none, takes_one}
+use Rattle.interpolator_syntax.proofs.LocalityLemmas.{takes_then, takes_reaches, Guarded}
+use Rattle.interpolator_syntax.proofs.LocalityLemmas.{takes_guards}
+
+-- the argument that is read begins at `start`; elsewhere the same text stands so many bytes further
+-- on, with more after it
+pub record Setting : Type 0 where
+  pub start : ℕ
+  pub by : ℕ
+  pub more : List ℕ
+
+-- the same text at the same place
+abbrev pub still : ℕ → Setting
+still start = record { start = start; by = 0; more = [] }
+
+-- a step after a move is a move after the step
+pub step_moved : (p by n : ℕ) → (p + by) + n ≡ (p + n) + by
+step_moved p by n = omega arith
+
+-- what is read stays as it is
+abbrev pub stays : {A : Type 0} → A → A
+stays x = x
+
+module _ (s : Setting) where
+  abbrev pub elsewhere : At → At
+  elsewhere a = record { place = a.place + s.by; text = a.text ++ s.more }
+
+  -- what stands after the text changes nothing: a closing brace is left in front of it, or nothing
+  -- stands there
+  abbrev pub IsSettled : List ℕ → Type 0
+  IsSettled cs = Guarded cs ⊎ (s.more ≡ [])
+
+  pub nothing_more : IsSettled [] → s.more ≡ []
+  nothing_more (inl guard) = absurd guard
+  nothing_more (inr e) = e
+
+  settled_before : (a q : At) → Takes a q → IsSettled q.text → IsSettled a.text
+  settled_before a q h (inl guard) = inl (takes_guards a q h guard)
+  settled_before a q h (inr e) = inr e
+
+  -- what was read at a is after a front of the text and, elsewhere, the same moved
+  abbrev pub KeepsValue :
+      {A : Type 0} → (A → A) → (a : At) → (x : A) → (q : At) → (other : Result (A × At) Fault)
+      → Type 0
+  KeepsValue move a x q other =
+      Takes a q × (IsSettled q.text → other ≡ Ok (move x, elsewhere q))
+
+  -- a fault at a is such as an argument can have, lies in it and, elsewhere, is the same moved
+  abbrev pub KeepsFault :
+      {A : Type 0} → (a : At) → (f : Fault) → (other : Result (A × At) Fault) → Type 0
+  KeepsFault a f other =
+      IsArgumentFault f × (s.start ≤ a.place → s.start ≤ fault_place f)
+      × (s.start ≤ a.place → fault_place f ≤ a.place + size a.text)
+      × (s.more ≡ [] → other ≡ Err (moved_fault s.by f))
+
+  -- what an answer at a keeps, where `other` is the answer elsewhere and `move` moves what was read
+  abbrev pub Keeps :
+      {A : Type 0} → (A → A) → (a : At) → (answer other : Result (A × At) Fault) → Type 0
+  Keeps move a (Ok w) other = KeepsValue move a w.0 w.1 other
+  Keeps move a (Err f) other = KeepsFault a f other
+
+  -- what every reader of an argument keeps, where `other` reads elsewhere: what it takes is a front
+  -- of the text; a fault is such as an argument can have, and lies in the text; and the answer
+  -- moves with the text, whatever stands after a closing brace that is not passed
+  pub record Reads {A : Type 0} (move : A → A) (read other : Reader A) : Type 0 where
+    pub keeps : (a : At) → Keeps move a (read a) (other (elsewhere a))
+
+  -- ---- answers
+
+  module _ {A : Type 0} (move : A → A) (a : At) where
+    -- nothing is taken
+    pub keeps_stay : (x : A) → Keeps move a (Ok (x, a)) (Ok (move x, elsewhere a))
+    keeps_stay x = (takes_none a, λ settled. refl)
+
+    -- an answer after a front
+    pub keeps_past :
+        (b : At) (o k l : Result (A × At) Fault) → Takes a b → (IsSettled b.text → l ≡ k)
+        → Keeps move b o k → Keeps move a o l
+    keeps_past b (Ok w) k l h e r =
+        (takes_then a b w.1 h r.0, λ t. e (settled_before b w.1 r.0 t) ∙ r.1 t)
+    keeps_past b (Err d) k l h e r = (
+      r.0,
+      λ from. r.1 (omega (arith, h.place)),
+      λ from. omega (arith, r.2 (omega (arith, h.place)), takes_reaches _ a b h refl),
+      λ none. e (inr none) ∙ r.3 none,
+    )
+
+    -- a test decides
+    pub keeps_either :
+        (t : Bool) (o k p l : Result (A × At) Fault) → Keeps move a o k → Keeps move a p l
+        → Keeps move a (cond t o p) (cond t k l)
+    keeps_either true o k p l h g = h
+    keeps_either false o k p l h g = g
+
+  -- after an answer another, by what that keeps of the text at a, where l is the other elsewhere
+  pub keeps_through :
+      {A B : Type 0} (move : A → A) (next : B → B) (a : At) (o k : Result (A × At) Fault)
+      (g h : A → Reader B) → Keeps move a o k
+      → ((x : A) (b : At) (l : Result (B × At) Fault) → Takes a b
+      → (IsSettled b.text → l ≡ h (move x) (elsewhere b)) → Keeps next a (g x b) l)
+      → Keeps next a (on o g) (on k h)
+  keeps_through move next a (Ok w) k g h kept r =
+      r w.0 w.1 (on k h) kept.0 (λ t. ap (λ answer. on answer h) (kept.1 t))
+  keeps_through move next a (Err f) k g h kept r =
+      (kept.0, kept.1, kept.2, λ none. ap (λ answer. on answer h) (kept.3 none))
+
+  -- after an answer the next reader
+  pub keeps_then :
+      {A B : Type 0} (move : A → A) (next : B → B) (a : At) (o k : Result (A × At) Fault)
+      (g h : A → Reader B) → Keeps move a o k
+      → ((x : A) (b : At) → Takes a b → Keeps next b (g x b) (h (move x) (elsewhere b)))
+      → Keeps next a (on o g) (on k h)
+  keeps_then move next a o k g h kept r =
+      keeps_through move next a o k g h kept (λ x b l t e.
+      keeps_past next a b (g x b) (h (move x) (elsewhere b)) l t e (r x b t))
+
+  -- ---- what decides by the first character
+
+  module _ {A : Type 0} (move : A → A) where
+    -- an answer by the first character, if one stands there
+    pub keeps_first :
+        (p : ℕ) (cs : List ℕ) (f g : Option (ℕ × At) → Result (A × At) Fault)
+        → Keeps move (stands p cs) (f None) (g None)
+        → ((c : ℕ) (b : At) → Takes (stands p cs) b
+        → Keeps move (stands p cs) (f (Some (c, b))) (g (Some (c, elsewhere b))))
+        → Keeps move (stands p cs) (f (first_of p cs)) (g (first_of (p + s.by) (cs ++ s.more)))
+    keeps_first p [] f g none some =
+        let a = stands p [] in
+        keeps_past move a a (f None) (g None) _ (takes_none a)
+        (λ t. ap (λ cs. g (first_of (p + s.by) cs)) (nothing_more t)) none
+    keeps_first p (c ∷ cs) f g none some =
+        subst (λ q. Keeps move (stands p (c ∷ cs)) (f (first_of p (c ∷ cs)))
+        (g (Some (c, stands q (cs ++ s.more))))) (sym (step_moved p s.by (len_utf8 c)))
+        (some c (stands (p + len_utf8 c) cs) (takes_one p c cs))
+
+    -- an answer at a by whether a text that ends where that at a does begins with c
+    pub keeps_strip_at :
+        (a : At) (c p : ℕ) (cs : List ℕ) (f g : Option At → Result (A × At) Fault)
+        → (IsSettled a.text → IsSettled cs)
+        → Keeps move a (f None) (g None)
+        → ((b : At) → cs ≡ c ∷ b.text → Takes (stands p cs) b
+        → Keeps move a (f (Some b)) (g (Some (elsewhere b))))
+        → Keeps move a (f (strip_of c p cs)) (g (strip_of c (p + s.by) (cs ++ s.more)))
+    keeps_strip_at a c p [] f g settled none some =
+        keeps_past move a a (f None) (g None) _ (takes_none a)
+        (λ t. ap (λ cs. g (strip_of c (p + s.by) cs)) (nothing_more (settled t))) none
+    keeps_strip_at a c p (d ∷ ds) f g settled none some =
+        let rest = stands (p + len_utf8 d) ds in
+        let there = λ (q : ℕ). stands q (ds ++ s.more) in
+        subst (λ q. Keeps move a (f (strip_of c p (d ∷ ds)))
+        (g (cond (eqb d c) (Some (there q)) None))) (sym (step_moved p s.by (len_utf8 d)))
+        (elim (eqb d c) as (λ t. (t ≡ true → d ≡ c)
+        → Keeps move a (f (cond t (Some rest) None)) (g (cond t (Some (elsewhere rest)) None))) [
+          | true ↦ λ e. some rest (ap (λ n. n ∷ ds) (e refl)) (takes_one p d ds)
+          | false ↦ λ e. none
+        ] (eqb-true d c))
+
+    -- an answer by whether the first character is c
+    pub keeps_strip :
+        (c p : ℕ) (cs : List ℕ) (f g : Option At → Result (A × At) Fault)
+        → Keeps move (stands p cs) (f None) (g None)
+        → ((b : At) → cs ≡ c ∷ b.text → Takes (stands p cs) b
+        → Keeps move (stands p cs) (f (Some b)) (g (Some (elsewhere b))))
+        → Keeps move (stands p cs) (f (strip_of c p cs))
+        (g (strip_of c (p + s.by) (cs ++ s.more)))
+    keeps_strip c p cs f g = keeps_strip_at (stands p cs) c p cs f g (λ t. t)
+
+-- ---- readers
+
+module _ {s : Setting} {A : Type 0} {move : A → A} {read other : Reader A}
+    (h : Reads s move read other) where
+  abbrev after_it : At → Result (A × At) Fault → Type 0
+  after_it a o = Keeps s move a o (other (elsewhere s a))
+
+  -- what was read
+  pub value_kept : (a : At) (x : A) (q : At) → read a ≡ Ok (x, q)
+      → KeepsValue s move a x q (other (elsewhere s a))
+  value_kept a x q e = subst (after_it a) e (h.keeps a)
+
+  -- why nothing was read
+  pub fault_kept : (a : At) (f : Fault) → read a ≡ Err f → KeepsFault s a f (other (elsewhere s a))
+  fault_kept a f e = subst (after_it a) e (h.keeps a)
+
+-- a reader after a front
+pub keeps_on :
+    {s : Setting} {A : Type 0} {move : A → A} {read other : Reader A} → Reads s move read other
+    → (a b : At) → Takes a b → Keeps s move a (read b) (other (elsewhere s b))
+keeps_on {s} {A} {move} {read} {other} h a b t =
+    keeps_past s move a b (read b) (other (elsewhere s b)) _ t (λ settled. refl) (h.keeps b)
+
+-- one reader, and after it the next
+pub reads_then :
+    {s : Setting} {A B : Type 0} {move : A → A} {next : B → B} {read other : Reader A}
+    {g : A → Reader B} (h : A → Reader B) → Reads s move read other
+    → ((x : A) → Reads s next (g x) (h (move x))) → Reads s next (read >>= g) (other >>= h)
+reads_then {s} {A} {B} {move} {next} {read} {other} {g} h first then = record {
+  keeps = λ a.
+      keeps_then s move next a (read a) (other (elsewhere s a)) g h (first.keeps a)
+      (λ x b t. (then x).keeps b);
+}

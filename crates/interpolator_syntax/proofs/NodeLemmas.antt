@@ -1,0 +1,125 @@
+-- The pieces of a text: the first, and then those of what stands after it.
+use Rattle.std.proofs.Common.{◌≡◌, ℕ, zero, suc, ◌<◌, ◌≤◌, List, [], ◌∷◌, length, arith, refl, ap}
+use Rattle.std.proofs.Common.{◌∙◌, sym, Option, Some, None, Result, Ok, Err}
+use Rattle.interpolator_syntax.specs.At.{At, strip}
+use Rattle.interpolator_syntax.specs.Arguments.{Argument, argument_at}
+use Rattle.interpolator_syntax.specs.Classes.{close_brace}
+use Rattle.interpolator_syntax.specs.Faults.{Fault}
+use Rattle.interpolator_syntax.specs.Groups.{Group}
+use Rattle.interpolator_syntax.specs.Pieces.{PieceKind, closed, unclosed, broken, argument_from}
+use Rattle.interpolator_syntax.specs.Pieces.{argument_or_broken, argument_step}
+use Rattle.interpolator_syntax.specs.SpecTexts.{Kind, of_value, of_list}
+use Rattle.interpolator_syntax.specs.Tokens.{Token, first_token, past_token, argument}
+use Rattle.interpolator_syntax.specs.Groups.{inside}
+use Rattle.interpolator_syntax.specs.Nodes.{Node, as_branch, group_branch}
+use Rattle.interpolator_syntax.specs.Nodes.{argument_node, piece_node, token_node}
+use Rattle.interpolator_syntax.specs.Nodes.{leading_nodes, nodes_within, nodes}
+use Rattle.interpolator_syntax.specs.declared.piece_kind.PieceKind as told
+use Rattle.interpolator_syntax.proofs.TokenLemmas.{token_shorter, scan_shorter}
+use Rattle.interpolator_syntax.proofs.SizeLemmas.{GroupIfIn, KindIn, argument_in}
+
+-- ---- induction by length
+
+below : (P : At → Type 0) → ((a : At) → ((b : At) → length b.text < length a.text → P b) → P a)
+    → (n : ℕ) (a : At) → length a.text < n → P a
+below P step zero a h = absurd (omega (arith, h))
+below P step (suc n) a h = step a (λ b l. below P step n b (omega (arith, h, l)))
+
+-- what holds of a text where it holds of each shorter one holds of all
+pub by_length : (P : At → Type 0)
+    → ((a : At) → ((b : At) → length b.text < length a.text → P b) → P a) → (a : At) → P a
+by_length P step a = below P step (suc (length a.text)) a (omega arith)
+
+-- ---- the kind of an argument
+
+-- of an argument whose groups lie in its text, or of a broken one
+abbrev pub ArgumentKind : (PieceKind → Type 0) → At → Type 0
+ArgumentKind P b =
+    ((start : ℕ) (x : Argument) (q : ℕ) → KindIn x.kind b → P (closed start x q) × P (unclosed start x q))
+    × ((f : Fault) → P (broken f))
+
+-- what holds of each such kind holds of that of the argument that begins at b
+pub argument_kind : (P : PieceKind → Type 0) (b : At) → ArgumentKind P b
+    → P (argument_from b.place b).piece.kind
+unfolding argument_from
+argument_kind P b h = by_answer (argument_at b) refl
+  where
+    by_strip : (x : Argument) (q : At) (o : Option At) → KindIn x.kind b
+        → P (argument_step b.place b x q o).piece.kind
+    by_strip x q None k = (h.0 b.place x q.place k).1
+    by_strip x q (Some rest) k = (h.0 b.place x q.place k).0
+
+    by_answer : (r : Result (Argument × At) Fault) → argument_at b ≡ r
+        → P (argument_or_broken b.place b r).piece.kind
+    by_answer (Ok w) e = by_strip w.0 w.1 (strip close_brace w.1) (argument_in b w.0 w.1 e)
+    by_answer (Err f) e = h.1 f
+
+-- ---- the pieces do not depend on how many characters are allowed
+
+module _ (a : At) (run other : At → List Node)
+    (same : (b : At) → length b.text < length a.text → run b ≡ other b) where
+  group_same : (b : At) (o : Option Group) → length b.text < length a.text → GroupIfIn o b
+      → group_branch run o ≡ group_branch other o
+  group_same b None l h = refl
+  group_same b (Some g) l h =
+      ap (λ xs. as_branch (Some xs)) (same (inside g) (omega (arith, l, h.shorter)))
+
+  argument_same : (b : At) (p end : ℕ) (kind : told.PieceKind) (start : ℕ) (x : Argument) (q : ℕ)
+      → length b.text < length a.text → (k : Kind) → x.kind ≡ k → KindIn k b
+      → argument_node run p end kind start x q ≡ argument_node other p end kind start x q
+  argument_same b p end kind start x q l (of_value t) e h = rw e refl
+  argument_same b p end kind start x q l (of_list asked) e h =
+      rw (e, group_same b asked.item l h.item, group_same b asked.join l h.join) refl
+
+  token_same : (p : ℕ) (t : Token) (b : At) → length b.text < length a.text
+      → token_node run p t b ≡ token_node other p t b
+  token_same p argument b l =
+      let end = (argument_from b.place b).rest.place in
+      argument_kind (λ k. piece_node run p end k ≡ piece_node other p end k) b (
+        λ start x q h. (
+          argument_same b p end _ start x q l x.kind refl h,
+          argument_same b p end _ start x q l x.kind refl h,
+        ),
+        λ f. refl,
+      )
+  token_same p t b l = refl
+
+  leading_same : (o : Option (Token × At)) → first_token a ≡ o
+      → leading_nodes run a.place o ≡ leading_nodes other a.place o
+  leading_same None e = refl
+  leading_same (Some w) e =
+      rw (
+        token_same a.place w.0 w.1 (token_shorter a w e),
+        same (past_token w.0 w.1) (scan_shorter a _ w e refl),
+      ) refl
+
+-- a text without characters has no pieces
+empty_leads : (a : At) (run : At → List Node) (o : Option (Token × At)) → first_token a ≡ o
+    → length a.text ≤ 0 → leading_nodes run a.place o ≡ []
+empty_leads a run None e h = refl
+empty_leads a run (Some w) e h = absurd (omega (arith, h, token_shorter a w e))
+
+enough : (n m : ℕ) (a : At) → length a.text ≤ n → length a.text ≤ m
+    → nodes_within n a ≡ nodes_within m a
+enough zero zero a h k = refl
+enough zero (suc m) a h k = sym (empty_leads a (nodes_within m) (first_token a) refl h)
+enough (suc n) zero a h k = empty_leads a (nodes_within n) (first_token a) refl k
+enough (suc n) (suc m) a h k =
+    leading_same a (nodes_within n) (nodes_within m)
+    (λ b l. enough n m b (omega (arith, h, l)) (omega (arith, k, l))) (first_token a) refl
+
+-- the pieces of a text are the first one, and those of what stands after it
+pub nodes_lead : (a : At) → nodes a ≡ leading_nodes nodes a.place (first_token a)
+unfolding nodes
+nodes_lead a =
+    let n = length a.text in
+    enough n (suc n) a (omega arith) (omega arith)
+    ∙ leading_same a (nodes_within n) nodes
+    (λ b l. enough n (length b.text) b (omega (arith, l)) (omega arith)) (first_token a) refl
+
+pub nodes_first : (a b : At) (t : Token) → first_token a ≡ Some (t, b)
+    → nodes a ≡ token_node nodes a.place t b ∷ nodes (past_token t b)
+nodes_first a b t h = nodes_lead a ∙ ap (leading_nodes nodes a.place) h
+
+pub nodes_none : (a : At) → first_token a ≡ None → nodes a ≡ []
+nodes_none a h = nodes_lead a ∙ ap (leading_nodes nodes a.place) h

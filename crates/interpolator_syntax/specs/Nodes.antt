@@ -1,0 +1,123 @@
+-- A format text as a tree: its pieces in order, neighbouring literals as one, and under each list
+-- the pieces of its groups.
+use Rattle.std.specs.Prelude.{ℕ, zero, suc, List, [], ◌∷◌, length, Option, Some, None, option_map}
+use Rattle.interpolator_render.specs.declared.view.Trait.{Trait}
+use Rattle.interpolator_render.specs.declared.view.Spec.{Spec}
+use Rattle.interpolator_syntax.specs.At.{At}
+use Rattle.interpolator_syntax.specs.Arguments.{Argument}
+use Rattle.interpolator_syntax.specs.Classes.{close_brace}
+use Rattle.interpolator_syntax.specs.Faults.{Fault}
+use Rattle.interpolator_syntax.specs.Groups.{Group}
+use Rattle.interpolator_syntax.specs.Pieces.{PieceKind, literal, doubled, lone_close, closed}
+use Rattle.interpolator_syntax.specs.Pieces.{unclosed, broken, argument_from}
+use Rattle.interpolator_syntax.specs.SpecTexts.{Kind, of_value, of_list}
+use Rattle.interpolator_syntax.specs.Tokens.{Token, literals, argument, first_token, past_token}
+use Rattle.interpolator_syntax.specs.Tokens.{doubled as doubled_token, lone_close as lone_token}
+use Rattle.interpolator_syntax.specs.declared.range.Range.{Range}
+use Rattle.interpolator_syntax.specs.Groups.{inside}
+use Rattle.interpolator_syntax.specs.declared.piece_kind.PieceKind as told
+use Rattle.interpolator_syntax.specs.declared.piece_kind.PieceKind.TheVariants.{Literal, Doubled}
+use Rattle.interpolator_syntax.specs.declared.piece_kind.PieceKind.TheVariants.{LoneClose, Closed}
+use Rattle.interpolator_syntax.specs.declared.piece_kind.PieceKind.TheVariants.{Unclosed, Broken}
+
+-- what an argument asks for, without its groups: a value under a trait, or a list, of which a range
+-- chooses the items
+pub data Bare : Type 0 where
+  bare_value : Trait → Bare
+  bare_list : (range : Option Range) → Bare
+
+-- the same of what stands in braces
+abbrev pub bare_of : Kind → Bare
+bare_of (of_value t) = bare_value t
+bare_of (of_list l) = bare_list l.range
+
+-- what a piece comes to: text that is written, whose first character stands at `from`; a name, of
+-- an argument that begins at `start` and whose spec ends at `end`; or a fault
+pub data Held : Type 0 where
+  written : (from : ℕ) (text : List ℕ) → Held
+  valued : (start : ℕ) (name : List ℕ) (spec : Spec) (bare : Bare) (end : ℕ) → Held
+  refused : (fault : Fault) → Held
+
+mutual
+  -- a piece from byte `place` up to `end`, with the pieces of its item format and of its join;
+  -- where `held` is None, what is stored of it fits no text
+  pub data Node : Type 0 where
+    node :
+        (place end : ℕ) (kind : told.PieceKind) (held : Option Held) (item join : Branch) → Node
+
+  -- the pieces of a group, if there is one
+  pub data Branch : Type 0 where
+    no_branch : Branch
+    branch : Forest → Branch
+
+  -- pieces in order
+  pub data Forest : Type 0 where
+    no_nodes : Forest
+    nodes_and : Node → Forest → Forest
+
+-- a list of pieces
+abbrev pub as_forest : List Node → Forest
+as_forest [] = no_nodes
+as_forest (x ∷ xs) = nodes_and x (as_forest xs)
+
+-- the pieces of a group that may be absent
+abbrev pub as_branch : Option (List Node) → Branch
+as_branch None = no_branch
+as_branch (Some xs) = branch (as_forest xs)
+
+-- a piece that is written as it stands, from its first byte on
+abbrev pub text_node : (p end : ℕ) → told.PieceKind → List ℕ → Node
+text_node p end kind cs = node p end kind (Some (written p cs)) no_branch no_branch
+
+-- `run` gives the pieces of a text within this one
+module _ (run : At → List Node) where
+  -- those of a group
+  abbrev pub group_branch : Option Group → Branch
+  group_branch g = as_branch (option_map (λ g. run (inside g)) g)
+
+  -- those of an item format
+  abbrev pub item_branch : Kind → Branch
+  item_branch (of_value t) = no_branch
+  item_branch (of_list l) = group_branch l.item
+
+  -- those of a join
+  abbrev pub join_branch : Kind → Branch
+  join_branch (of_value t) = no_branch
+  join_branch (of_list l) = group_branch l.join
+
+  -- an argument that begins at `start` and whose spec ends at `q`
+  abbrev pub argument_node : (p end : ℕ) → told.PieceKind → (start : ℕ) → Argument → (q : ℕ) → Node
+  argument_node p end kind start x q =
+      node p end kind (Some (valued start x.name x.spec (bare_of x.kind) q))
+      (item_branch x.kind) (join_branch x.kind)
+
+  -- a piece from p up to `end`, by its kind
+  abbrev pub piece_node : (p end : ℕ) → PieceKind → Node
+  piece_node p end (literal c) = text_node p end Literal (c ∷ [])
+  piece_node p end (doubled c) = text_node p end Doubled (c ∷ [])
+  piece_node p end lone_close = text_node p end LoneClose (close_brace ∷ [])
+  piece_node p end (closed start x q) = argument_node p end Closed start x q
+  piece_node p end (unclosed start x q) = argument_node p end Unclosed start x q
+  piece_node p end (broken f) = node p end Broken (Some (refused f)) no_branch no_branch
+
+  -- what the scan hands on at p, where b stands after it
+  abbrev pub token_node : (p : ℕ) → Token → (b : At) → Node
+  token_node p (literals cs) b = text_node p b.place Literal cs
+  token_node p (doubled_token c) b = text_node p b.place Doubled (c ∷ [])
+  token_node p lone_token b = text_node p b.place LoneClose (close_brace ∷ [])
+  token_node p argument b =
+      let s = argument_from b.place b in piece_node p s.rest.place s.piece.kind
+
+  -- the first piece at p, and then the pieces of what stands after it
+  abbrev pub leading_nodes : (p : ℕ) → Option (Token × At) → List Node
+  leading_nodes p None = []
+  leading_nodes p (Some w) = token_node p w.0 w.1 ∷ run (past_token w.0 w.1)
+
+-- the pieces of a text of at most so many characters
+abbrev pub nodes_within : (most : ℕ) → At → List Node
+nodes_within zero a = []
+nodes_within (suc most) a = leading_nodes (nodes_within most) a.place (first_token a)
+
+-- the pieces of a text: what stands after a piece, and each group, is shorter than the text
+unfoldable pub nodes : At → List Node
+nodes a = nodes_within (length a.text) a

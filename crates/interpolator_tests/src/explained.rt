@@ -1,0 +1,140 @@
+//! Faults as a compiler shows them, lines and columns, and which argument has a place.
+
+use crate::report::Report;
+use interpolator::{Error, ParseError, Position, Source, Template, Trait, explain, explain_in};
+use std::alloc::{AllocError, Global};
+use std::fmt;
+
+/// A place, its line and its column in the text `a\né{x}\n\nb`, by hand.
+#[rattlefmt::skip]
+const POSITIONS: [(usize, usize, usize); 9] = [
+    (0, 1, 1), (1, 1, 2), (2, 2, 1), (3, 2, 2), (4, 2, 2), (6, 2, 4), (8, 3, 1), (9, 4, 1),
+    (99, 4, 2),
+];
+
+fn lines_and_columns(report: &mut Report) {
+    for (place, line, column) in POSITIONS {
+        let position = Position::of("a\né{x}\n\nb", place);
+        report.number("the line", line, position.line);
+        report.number("the column", column, position.column);
+    }
+}
+
+/// A place and the argument that has it in the text `{a:i({:?})} {b} {c:y`, by hand.
+#[rattlefmt::skip]
+const ARGUMENTS: [(usize, Option<(usize, usize)>); 9] = [
+    (0, None), (1, Some((0, 11))), (5, Some((0, 11))), (6, Some((5, 9))), (8, Some((5, 9))),
+    (9, Some((0, 11))), (11, None), (20, Some((16, 20))), (21, None),
+];
+
+fn arguments_at_places(report: &mut Report) -> Result<(), Error> {
+    let template = Template::parse(report.alloc, "{a:i({:?})} {b} {c:y")?;
+    for (place, argument) in ARGUMENTS {
+        report.holds("the argument", template.argument_at(place) == argument);
+    }
+    Ok(())
+}
+
+/// The fault of a format is shown so.
+fn check_shown(report: &mut Report, text: &str, error: &Error, wanted: &str) {
+    let told = explain(report.alloc, "f", text, error);
+    report.made(text, (wanted, ""), told);
+}
+
+/// By hand.
+fn faults_are_shown(report: &mut Report) {
+    check_shown(
+        report,
+        "Hello {name",
+        &Error::Parse(ParseError::FormatSpecUnclosed(7)),
+        "f:1:8: error while parsing input: Format spec at 7 is nether closed with a `}`\n  |\n\
+         1 | Hello {name\n  |       ^^^^^",
+    );
+    check_shown(
+        report,
+        "{a:i({:?})}",
+        &Error::MissingTraitImpl(Trait::Debug, 8),
+        "f:1:9: trait `Debug` not implemented, used by format argument at 8\n  |\n\
+         1 | {a:i({:?})}\n  |      ^^^^",
+    );
+    check_shown(
+        report,
+        "a\tb",
+        &Error::Fmt(fmt::Error, 2),
+        "f:1:3: error while formatting at 2: an error occurred when formatting an argument\n  |\n\
+         1 | a\tb\n  |  \t^",
+    );
+    check_shown(report, "x", &Error::NoMemory, "f: out of memory");
+}
+
+/// By hand: `é` has two bytes, and its line is the second.
+fn missing_name_is_shown(report: &mut Report) -> Result<(), Error> {
+    let name = String::from_str(report.alloc, "q")?;
+    check_shown(
+        report,
+        "x\né{q}\n",
+        &Error::MissingValue(name, 5),
+        "f:2:3: specified value not in context `q` at 5\n  |\n2 | é{q}\n  |  ^^^",
+    );
+    Ok(())
+}
+
+/// By hand.
+fn line_of_a_file(report: &mut Report) {
+    let source = Source {
+        name: "messages.txt",
+        first_line: 13,
+        text: "greeting = Hello {name, you",
+        start: 11,
+        format: "Hello {name, you",
+    };
+    let error = Error::Parse(ParseError::FormatSpecUnclosed(7));
+    let told = explain_in(report.alloc, &source, &error);
+    let wanted = "messages.txt:13:19: error while parsing input: Format spec at 7 is nether closed \
+                  with a `}`\n   |\n13 | greeting = Hello {name, you\n   |                  ^^^^^^^^^^";
+    report.made("a line of a file", (wanted, ""), told);
+}
+
+/// A text with so many copies of another in it.
+fn with_copies(
+    alloc: Global,
+    front: &str,
+    copy: &str,
+    count: usize,
+    back: &str,
+) -> Result<String, AllocError> {
+    let mut text = String::from_str(alloc, front)?;
+    for _ in 0..count {
+        text.push_str(copy)?;
+    }
+    text.push_str(back)?;
+    Ok(text)
+}
+
+/// Of 132 characters those from the 71st on are shown, 60 before the one at the place.
+fn long_line(report: &mut Report) -> Result<(), Error> {
+    let alloc = report.alloc;
+    let text = with_copies(alloc, "", "a", 130, "{x")?;
+    let head =
+        "f:1:132: error while parsing input: Format spec at 131 is nether closed with a `}`\n";
+    let line = with_copies(alloc, "  |\n1 | ..", "a", 59, "{x\n")?;
+    let marks = with_copies(alloc, "  |   ", " ", 59, "^^")?;
+    let error = Error::Parse(ParseError::FormatSpecUnclosed(131));
+    let told = explain(alloc, "f", text.as_str(), &error);
+    let wanted = format!(in alloc; "{head}{line}{marks}")?;
+    report.made("a long line", (wanted.as_str(), ""), told);
+    Ok(())
+}
+
+pub fn run(report: &mut Report) {
+    report.begin("explained");
+    lines_and_columns(report);
+    let answer = arguments_at_places(report);
+    report.done("arguments at places", answer);
+    faults_are_shown(report);
+    let answer = missing_name_is_shown(report);
+    report.done("a missing name", answer);
+    line_of_a_file(report);
+    let answer = long_line(report);
+    report.done("a long line", answer);
+}

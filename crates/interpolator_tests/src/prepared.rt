@@ -1,0 +1,94 @@
+//! Formats prepared for rows: names at positions, joined text in little room, rows too short.
+
+use crate::report::Report;
+use interpolator::{Bounded, Error, Formattable, Pairs, Row, Template, View};
+
+/// A format, how many values the row has, how many bytes the writer takes, what it then holds, and
+/// the fault that is answered: by hand. The names are `x`, `y`, `x` and `l`, of which the last `x` has
+/// the value; the row is 1, 7, `Ann`, and a list of 1 and 5.
+#[rattlefmt::skip]
+const ROWS: [(&str, usize, usize, &str, &str); 20] = [
+    ("a{{b{x}}}c", 4, 99, "a{bAnn}c", ""),
+    ("{y:>3}|{x:?}", 4, 99, "  7|\"Ann\"", ""),
+    ("{y}{y:#x}{x}", 4, 99, "70x7Ann", ""),
+    ("", 4, 0, "", ""),
+    ("{{}}}{{", 4, 99, "{}}{", ""),
+    ("{{}}}{{", 4, 3, "{}}", "Fmt(Error, 5)"),
+    ("{{}}}{{", 4, 2, "{}", "Fmt(Error, 4)"),
+    ("{{}}}{{", 4, 1, "{", "Fmt(Error, 2)"),
+    ("{{}}}{{", 4, 0, "", "Fmt(Error, 0)"),
+    ("é{{é{x}", 4, 3, "é{", "Fmt(Error, 4)"),
+    ("é{{é{x}", 4, 4, "é{", "Fmt(Error, 4)"),
+    ("é{{é{x}", 4, 2, "é", "Fmt(Error, 2)"),
+    ("é{{é{x}", 4, 6, "é{éA", "Fmt(Error, 8)"),
+    ("ab{y}cd", 4, 3, "ab7", "Fmt(Error, 5)"),
+    ("ab{y}cd", 4, 4, "ab7c", "Fmt(Error, 6)"),
+    ("<{l:i({})(, )}>", 4, 99, "<1, 5>", ""),
+    ("{{{l:i(<{}{y}>)({x})}", 4, 99, "{<17>Ann<57>", ""),
+    ("{y}{x}", 2, 99, "7", "MissingValue(\"x\", 4)"),
+    ("{{{x}", 2, 99, "{", "MissingValue(\"x\", 3)"),
+    ("{y}", 1, 99, "", "MissingValue(\"y\", 1)"),
+];
+
+fn rows_are_written(report: &mut Report) -> Result<(), Error> {
+    let alloc = report.alloc;
+    let numbers = [View::from(1u32), View::from(7i64), View::from(5u8)];
+    let ann = View::Text("Ann");
+    let items = [
+        Formattable::display(&numbers[0]),
+        Formattable::display(&numbers[2]),
+    ];
+    let values = [
+        Formattable::integer(&numbers[0]),
+        Formattable::integer(&numbers[1]),
+        Formattable::debug_display(&ann),
+        Formattable::iter(&items),
+    ];
+    let pairs = [
+        ("x", values[0]),
+        ("y", values[1]),
+        ("x", values[2]),
+        ("l", values[3]),
+    ];
+    for (format, len, room, text, fault) in ROWS {
+        let template = Template::parse(alloc, format)?;
+        let prepared = template.prepare(alloc, &Pairs(&pairs))?;
+        let mut out = Bounded::new(alloc, room);
+        let (row, _) = values.split_at(len.min(values.len()));
+        let answer = prepared.write(alloc, &mut out, &Row(row));
+        report.written(format, (text, fault), out.as_str(), answer);
+    }
+    Ok(())
+}
+
+/// By hand: a prepared format is the same after a refusal, and over another row.
+fn used_again(report: &mut Report) -> Result<(), Error> {
+    let alloc = report.alloc;
+    let numbers = [View::from(1u32), View::from(2u32)];
+    let row = [
+        Formattable::display(&numbers[0]),
+        Formattable::display(&numbers[1]),
+    ];
+    let turned = [row[1], row[0]];
+    let pairs = [("a", row[0]), ("b", row[1])];
+    let template = Template::parse(alloc, "{{{a}}}{b}")?;
+    let prepared = template.prepare(alloc, &Pairs(&pairs))?;
+    let mut none = Bounded::new(alloc, 0);
+    let answer = prepared.write(alloc, &mut none, &Row(&row));
+    report.fault("no room", "Fmt(Error, 0)", answer);
+    let text = prepared.format(alloc, &Row(&row));
+    report.made("a row", ("{1}2", ""), text);
+    let text = prepared.format(alloc, &Row(&turned));
+    report.made("another row", ("{2}1", ""), text);
+    report.text("its text", "{{{a}}}{b}", prepared.text());
+    report.number("its names", 2, prepared.names().len());
+    Ok(())
+}
+
+pub fn run(report: &mut Report) {
+    report.begin("prepared");
+    let answer = rows_are_written(report);
+    report.done("rows", answer);
+    let answer = used_again(report);
+    report.done("used again", answer);
+}

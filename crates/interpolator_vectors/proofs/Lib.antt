@@ -1,0 +1,2 @@
+-- The lemmas of the rows' writers.
+pub mod LimitLemmas

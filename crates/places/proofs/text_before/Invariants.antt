@@ -1,6 +1,0 @@
-use Rattle.std.specs.Str.Iter.{chars_rest}
-use Rattle.places.proofs.LineLemmas.{Reached}
-use Rattle.places.proofs.text_before.Given as goal
-
-abbrev pub invariant-loop-c : goal.invariant-loop-c
-invariant-loop-c l = Reached l.text l.place (chars_rest l.c-iterator) l.end

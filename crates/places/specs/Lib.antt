@@ -1,2 +1,0 @@
--- Where faults stand.
-pub mod Places
