@@ -64,13 +64,12 @@ fn rows_are_written(report: &mut Report) -> Result<(), Error> {
 /// By hand: a prepared format is the same after a refusal, and over another row.
 fn used_again(report: &mut Report) -> Result<(), Error> {
     let alloc = report.alloc;
-    let numbers = [View::from(1u32), View::from(2u32)];
-    let row = [
-        Formattable::display(&numbers[0]),
-        Formattable::display(&numbers[1]),
+    let row = [Formattable::display(&1u32), Formattable::display(&2u32)];
+    let turned = [Formattable::display(&2u32), Formattable::display(&1u32)];
+    let pairs = [
+        ("a", Formattable::display(&1u32)),
+        ("b", Formattable::display(&2u32)),
     ];
-    let turned = [row[1], row[0]];
-    let pairs = [("a", row[0]), ("b", row[1])];
     let template = Template::parse(alloc, "{{{a}}}{b}")?;
     let prepared = template.prepare(alloc, &Pairs(&pairs))?;
     let mut none = Bounded::new(alloc, 0);
