@@ -3,6 +3,7 @@
 //! when it is asked again.
 
 mod lists;
+mod loaded;
 mod names;
 mod templates;
 
@@ -13,6 +14,8 @@ pub fn run(report: &mut Report) {
     report.begin("memory");
     let answer = lists::run(report);
     report.done("lists", answer);
+    let answer = loaded::run(report);
+    report.done("loaded", answer);
     let answer = names::run(report);
     report.done("names", answer.map_err(Error::from));
     let answer = templates::run(report);

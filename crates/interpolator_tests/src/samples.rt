@@ -1,106 +1,10 @@
-//! Formats that are checked against a sample.
+//! A map as a sample; and a format that was checked, over contexts that resemble its sample. Rows of
+//! formats over samples are in the files of `interpolator_vectors`.
 
 use crate::report::Report;
-use interpolator::{Error, Formattable, Interpolate, Pairs, Template, View};
+use interpolator::{Error, Formattable, Interpolate, Pairs, Prepared, Row, Template, View};
+use std::alloc::{AllocError, Global};
 use std::collections::HashMap;
-
-/// A format, the first of its faults over the sample, and how many it has.
-struct Checked<'a> {
-    format: &'a str,
-    first: &'a str,
-    count: usize,
-}
-
-/// Worked by hand from the rules of samples in docs/DEFINITIONS.md. In the sample `name` is a text and
-/// `n` a number; `bad` fails, and `void` has no text; `texts` is a list of the text, `mixed` of the
-/// text and the number, and `none` is an empty list.
-#[rattlefmt::skip]
-const ROWS: [Checked<'static>; 15] = [
-    Checked { format: "{name:>8}{n:x}{mixed:i({})(, )}", first: "", count: 0 },
-    Checked { format: "{name:x}", first: "MissingTraitImpl(LowerHex, 7)", count: 1 },
-    Checked { format: "{z}", first: "MissingValue(\"z\", 1)", count: 1 },
-    Checked { format: "{bad}", first: "Fmt(Error, 4)", count: 1 },
-    Checked { format: "{void}", first: "MissingTraitImpl(Display, 5)", count: 1 },
-    Checked { format: "{mixed:i5({:x})}", first: "MissingTraitImpl(LowerHex, 13)", count: 1 },
-    Checked { format: "{mixed:i0..0({n:+}{z})}", first: "MissingValue(\"z\", 19)", count: 1 },
-    Checked { format: "{mixed:i(, )({z})}", first: "MissingValue(\"z\", 14)", count: 1 },
-    Checked { format: "{texts:i({})({:x})}", first: "MissingValue(\"\", 14)", count: 1 },
-    Checked { format: "{none:i({:x}{z})}", first: "MissingValue(\"z\", 13)", count: 1 },
-    Checked { format: "{none:i({:x})}", first: "", count: 0 },
-    Checked { format: "{name:i({:x})({z})}", first: "MissingTraitImpl(Iter, 18)", count: 2 },
-    Checked { format: "{mixed:+i({:x})}", first: "Parse(Iter(15))", count: 2 },
-    Checked { format: "{z:x", first: "MissingValue(\"z\", 1)", count: 2 },
-    Checked { format: "{a:i({z)}", first: "MissingValue(\"a\", 1)", count: 2 },
-];
-
-/// In the sample `nested` is a list of one list, which has a text.
-#[rattlefmt::skip]
-const NESTED: [Checked<'static>; 3] = [
-    Checked { format: "{nested:i#({:i({:x})})#}", first: "MissingTraitImpl(LowerHex, 18)", count: 1 },
-    Checked { format: "{nested:i({})}", first: "MissingTraitImpl(Display, 11)", count: 1 },
-    Checked { format: "{nested:i}", first: "MissingTraitImpl(Display, 9)", count: 1 },
-];
-
-fn formats_over_a_sample(report: &mut Report) -> Result<(), Error> {
-    let views = [
-        View::Text("Ann"),
-        View::from(7i32),
-        View::Failed,
-        View::NotImplemented,
-    ];
-    let items = [
-        Formattable::debug_display(&views[0]),
-        Formattable::integer(&views[1]),
-    ];
-    let (texts, _) = items.split_at(1);
-    let (none, _) = items.split_at(0);
-    let values = [
-        Formattable::debug_display(&views[0]),
-        Formattable::integer(&views[1]),
-        Formattable::display(&views[2]),
-        Formattable::display(&views[3]),
-        Formattable::iter(texts),
-        Formattable::iter(&items),
-        Formattable::iter(none),
-    ];
-    let sample = [
-        ("name", values[0]),
-        ("n", values[1]),
-        ("bad", values[2]),
-        ("void", values[3]),
-        ("texts", values[4]),
-        ("mixed", values[5]),
-        ("none", values[6]),
-    ];
-    check_rows(report, &ROWS, &Pairs(&sample))
-}
-
-/// Formats over a sample list of one list, `items`.
-fn formats_over_lists(report: &mut Report, items: Formattable<'_, View<'_>>) -> Result<(), Error> {
-    let lists = [items];
-    check_rows(
-        report,
-        &NESTED,
-        &Pairs(&[("nested", Formattable::iter(&lists))]),
-    )
-}
-
-/// The rows over this sample.
-fn check_rows(
-    report: &mut Report,
-    rows: &[Checked<'static>],
-    sample: &Pairs<'_, View<'_>>,
-) -> Result<(), Error> {
-    let alloc = report.alloc;
-    for row in rows {
-        let template = Template::parse(alloc, row.format)?;
-        let answer = sample.check_template(alloc, &template);
-        report.fault(row.format, row.first, answer);
-        let faults = sample.template_faults(alloc, &template)?;
-        report.number(row.format, row.count, faults.len());
-    }
-    Ok(())
-}
 
 fn map_as_a_sample(report: &mut Report) -> Result<(), Error> {
     let alloc = report.alloc;
@@ -115,13 +19,145 @@ fn map_as_a_sample(report: &mut Report) -> Result<(), Error> {
     Ok(())
 }
 
+/// A format that is checked over one context, and used over others.
+const FORMAT: &str = "{m:>8}|{n:#06x}|{l:i({:>3})(, )}";
+
+/// The text of the format, as std has it.
+fn expected(alloc: Global, m: u64, n: u64, count: usize) -> Result<String, AllocError> {
+    let mut text = format!(in alloc; "{m:>8}|{n:#06x}|")?;
+    for index in 0..count {
+        if index > 0 {
+            text.push_str(", ")?;
+        }
+        let item = format!(in alloc; "{n:>3}")?;
+        text.push_str(item.as_str())?;
+    }
+    Ok(text)
+}
+
+/// A list of so many of a number.
+fn items_of(alloc: Global, n: &u64, count: usize) -> Result<Vec<Formattable<'_, u64>>, AllocError> {
+    let mut items = Vec::new(alloc);
+    for _ in 0..count {
+        items.push(Formattable::display(n))?;
+    }
+    Ok(items)
+}
+
+/// The values of a context: two numbers and a list.
+fn values_of<'a>(
+    alloc: Global,
+    m: &'a u64,
+    n: &'a u64,
+    items: &'a [Formattable<'a, u64>],
+) -> Result<Vec<Formattable<'a, u64>>, AllocError> {
+    let mut values = Vec::new(alloc);
+    values.push(Formattable::integer(m))?;
+    values.push(Formattable::integer(n))?;
+    values.push(Formattable::iter(items))?;
+    Ok(values)
+}
+
+/// The name of the value at a position.
+fn name_of<'a>(index: usize) -> &'a str {
+    match index {
+        0 => "m",
+        1 => "n",
+        _ => "l",
+    }
+}
+
+/// A value under its name.
+type Named<'a> = (&'a str, Formattable<'a, u64>);
+
+/// The values under these names.
+fn pairs_of<'a>(
+    alloc: Global,
+    values: &[Formattable<'a, u64>],
+) -> Result<Vec<Named<'a>>, AllocError> {
+    let mut pairs = Vec::new(alloc);
+    let mut index = 0usize;
+    for value in values {
+        pairs.push((name_of(index), *value))?;
+        index += 1;
+    }
+    Ok(pairs)
+}
+
+/// The text of a context is made by each way.
+fn is_made(
+    report: &mut Report,
+    template: &Template,
+    prepared: &Prepared,
+    pairs: &[Named<'_>],
+    values: &[Formattable<'_, u64>],
+    wanted: &str,
+) {
+    let alloc = report.alloc;
+    let made = Pairs(pairs).format(alloc, FORMAT);
+    report.made("a resembling context, by its text", (wanted, ""), made);
+    let made = Pairs(pairs).format_template(alloc, template);
+    report.made("a resembling context, by a template", (wanted, ""), made);
+    let made = prepared.format(alloc, &Row(values));
+    report.made("a resembling context, prepared", (wanted, ""), made);
+}
+
+/// The format is checked over these pairs, and prepared.
+fn loaded_over(
+    report: &mut Report,
+    template: &Template,
+    pairs: &[Named<'_>],
+) -> Result<Prepared, Error> {
+    let answer = Pairs(pairs).check_template(report.alloc, template);
+    report.fault("the sample", "", answer);
+    template.prepare(report.alloc, &Pairs(pairs))
+}
+
+/// The format is checked over two numbers and a list of one, and prepared.
+fn loaded(report: &mut Report, template: &Template, m: u64, n: u64) -> Result<Prepared, Error> {
+    let alloc = report.alloc;
+    let items = items_of(alloc, &n, 1)?;
+    let values = values_of(alloc, &m, &n, &items)?;
+    let pairs = pairs_of(alloc, &values)?;
+    loaded_over(report, template, &pairs)
+}
+
+/// A context of these numbers, and a list of so many of the second.
+fn resembling_context(
+    report: &mut Report,
+    template: &Template,
+    prepared: &Prepared,
+    m: u64,
+    n: u64,
+    count: usize,
+) -> Result<(), Error> {
+    let alloc = report.alloc;
+    let items = items_of(alloc, &n, count)?;
+    let values = values_of(alloc, &m, &n, &items)?;
+    let pairs = pairs_of(alloc, &values)?;
+    let wanted = expected(alloc, m, n, count)?;
+    is_made(report, template, prepared, &pairs, &values, wanted.as_str());
+    Ok(())
+}
+
+/// A format that was checked makes its text over a hundred contexts.
+fn resembling_contexts(report: &mut Report) -> Result<(), Error> {
+    let template = Template::parse(report.alloc, FORMAT)?;
+    let prepared = loaded(report, &template, 5, 7)?;
+    let mut m = 0u64;
+    let mut n = 1u64;
+    for index in 0..100usize {
+        resembling_context(report, &template, &prepared, m, n, index % 4)?;
+        m = n.wrapping_mul(7).wrapping_add(3);
+        n = m.wrapping_mul(5) % 1_000_000;
+    }
+    Ok(())
+}
+
 pub fn run(report: &mut Report) {
     report.begin("samples");
-    let answer = formats_over_a_sample(report);
-    report.done("formats over a sample", answer);
-    let texts = [Formattable::debug_display(&View::Text("Ann"))];
-    let answer = formats_over_lists(report, Formattable::iter(&texts));
-    report.done("formats over lists", answer);
     let answer = map_as_a_sample(report);
     report.done("a map as a sample", answer);
+    let answer = resembling_contexts(report);
+    report.done("resembling contexts", answer);
 }

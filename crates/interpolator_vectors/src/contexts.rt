@@ -392,3 +392,30 @@ pub fn context_of<'a>(
     }
     Ok(context)
 }
+
+/// The values with their names, in order.
+pub fn pairs_of<'a>(
+    alloc: Global,
+    holding: &'a Holding,
+    values: &[Formattable<'a, Cell>],
+) -> Result<Vec<(&'a str, Formattable<'a, Cell>)>, AllocError> {
+    let mut pairs = Vec::new(alloc);
+    let mut values = values.iter();
+    for held in &holding.all {
+        if held.level == 0 {
+            if let Some(value) = values.next() {
+                pairs.push((held.name.as_str(), *value))?;
+            }
+        }
+    }
+    Ok(pairs)
+}
+
+/// The last first.
+pub fn turned<T: Copy>(alloc: Global, all: &[T]) -> Result<Vec<T>, AllocError> {
+    let mut turned = Vec::new(alloc);
+    for one in all.iter().rev() {
+        turned.push(*one)?;
+    }
+    Ok(turned)
+}

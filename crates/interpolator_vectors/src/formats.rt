@@ -254,7 +254,7 @@ const SHORT: usize = 200;
 const ENDS: usize = 4;
 
 /// Whether a writer of so many characters is tried, of all that a text has.
-fn is_tried(count: usize, all: usize) -> bool {
+pub fn is_tried(count: usize, all: usize) -> bool {
     all <= SHORT || count < ENDS || all.saturating_sub(count) <= ENDS
 }
 

@@ -16,6 +16,7 @@ mod formats;
 mod joins;
 mod lexing;
 mod limited;
+mod loaded;
 mod names;
 mod printing;
 mod rendering;

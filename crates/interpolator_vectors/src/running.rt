@@ -2,12 +2,13 @@
 
 use crate::arguments::{run_argument, start_of};
 use crate::cells::Cell;
-use crate::contexts::{Holding, context_of, values_of};
+use crate::contexts::{Holding, context_of, pairs_of, turned, values_of};
 use crate::costs::run_cost;
 use crate::cuts::run_cuts;
 use crate::files::{Block, Facts, Row, blocks_of};
 use crate::formats::{FormatRow, Kind, run_format};
 use crate::joins::run_joins;
+use crate::loaded::{Named, run_loaded};
 use crate::rendering::{Rendering, run_rendering};
 use crate::report::Report;
 use crate::small::{run_chosen, run_escape, run_prints, run_seam};
@@ -15,7 +16,7 @@ use crate::templates::run_known;
 use crate::trouble::Read;
 use crate::ways::Room;
 use crate::words::Words;
-use interpolator::{ContextMap, Limits};
+use interpolator::{ContextMap, Formattable, Limits};
 use std::alloc::{AllocError, Global};
 
 /// What stands under the names of a context.
@@ -208,6 +209,22 @@ fn run_rows(report: &mut Report<'_>, block: &Block, context: &ContextMap<'_, Cel
     Ok(())
 }
 
+/// What is known of the formats of a context when they are loaded.
+fn run_each_loaded(
+    report: &mut Report<'_>,
+    block: &Block,
+    context: &ContextMap<'_, Cell>,
+    pairs: &[Named<'_>],
+    values: &[Formattable<'_, Cell>],
+) -> Read<()> {
+    for row in &formats_of(report.alloc, &block.rows)? {
+        report.begin(row.row);
+        run_loaded(report, context, pairs, values, row);
+        report.end();
+    }
+    Ok(())
+}
+
 /// A context with its rows. Lists in its lists are made from the innermost on.
 fn run_block(report: &mut Report<'_>, block: &Block) -> Read<()> {
     let alloc = report.alloc;
@@ -218,7 +235,12 @@ fn run_block(report: &mut Report<'_>, block: &Block) -> Read<()> {
     let items = values_of(alloc, &holding, 1, &inner)?;
     let values = values_of(alloc, &holding, 0, &items)?;
     let context = context_of(alloc, &holding, &values)?;
+    let pairs = pairs_of(alloc, &holding, &values)?;
     run_costs(report, block, &context, &holding.limits())?;
+    run_each_loaded(report, block, &context, &pairs, &values)?;
+    let pairs = turned(alloc, &pairs)?;
+    let last_first = turned(alloc, &values)?;
+    run_each_loaded(report, block, &context, &pairs, &last_first)?;
     run_rows(report, block, &context)
 }
 

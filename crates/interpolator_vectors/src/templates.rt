@@ -10,13 +10,15 @@ use crate::printing::{push_word, quoted, quoted_all, told_text};
 use crate::report::{Part, Report};
 use crate::told::told_by;
 use crate::trouble::Read;
-use interpolator::{Argument, ContextMap, Error, Piece, Template, check};
+use interpolator::{Argument, ContextMap, Error, Interpolate, Piece, Template, check};
 use std::alloc::{AllocError, Global};
 
 /// What a row asks of a format, in words that stand after its key.
 #[derive(Clone, Copy, PartialEq)]
 enum Asked {
     Check,
+    Sample,
+    Faults,
     Names,
     Lacks,
     Arguments,
@@ -24,8 +26,10 @@ enum Asked {
     Depth,
 }
 
-const ALL: [Asked; 6] = [
+const ALL: [Asked; 8] = [
     Asked::Check,
+    Asked::Sample,
+    Asked::Faults,
     Asked::Names,
     Asked::Lacks,
     Asked::Arguments,
@@ -37,6 +41,8 @@ impl Asked {
     fn key(self) -> &'static str {
         match self {
             Asked::Check => "check",
+            Asked::Sample => "sample",
+            Asked::Faults => "faults",
             Asked::Names => "names",
             Asked::Lacks => "lacks",
             Asked::Arguments => "arguments",
@@ -49,6 +55,8 @@ impl Asked {
     fn way(self) -> &'static str {
         match self {
             Asked::Check => "`Template::check`",
+            Asked::Sample => "`check_template`",
+            Asked::Faults => "`template_faults`",
             Asked::Names => "`Template::names`",
             Asked::Lacks => "`Template::lacks`",
             Asked::Arguments => "`Template::arguments`",
@@ -66,6 +74,8 @@ impl Asked {
     ) -> Result<String, AllocError> {
         match self {
             Asked::Check => told_text(alloc, told_by(&template.check())),
+            Asked::Sample => sample_text(alloc, template, context),
+            Asked::Faults => faults_text(alloc, template, context),
             Asked::Names => names_text(alloc, template),
             Asked::Lacks => lacking_text(alloc, template.lacks(context)),
             Asked::Arguments => arguments_text(alloc, template),
@@ -83,6 +93,28 @@ fn number_text(alloc: Global, number: usize) -> Result<String, AllocError> {
 fn failed_text(alloc: Global, error: Error) -> Result<String, AllocError> {
     let answer: Result<(), Error> = Err(error);
     told_text(alloc, told_by(&answer))
+}
+
+/// The first fault over the context as a sample.
+fn sample_text(
+    alloc: Global,
+    template: &Template,
+    context: &ContextMap<'_, Cell>,
+) -> Result<String, AllocError> {
+    let answer = context.check_template(alloc, template);
+    told_text(alloc, told_by(&answer))
+}
+
+/// How many faults there are over the context as a sample.
+fn faults_text(
+    alloc: Global,
+    template: &Template,
+    context: &ContextMap<'_, Cell>,
+) -> Result<String, AllocError> {
+    match context.template_faults(alloc, template) {
+        Ok(faults) => number_text(alloc, faults.len()),
+        Err(error) => failed_text(alloc, error),
+    }
 }
 
 /// The names that are asked.

@@ -156,7 +156,7 @@ impl Came {
     }
 
     /// Memory for the writer was refused.
-    fn nothing(alloc: Global) -> Came {
+    pub fn nothing(alloc: Global) -> Came {
         Came {
             text: String::new(alloc),
             answer: Err(Error::NoMemory),
