@@ -2,9 +2,8 @@
 
 use crate::failure::Failure;
 use crate::uses::{How, repeat_format};
-use interpolator::{Bits, Formattable, View};
+use interpolator::{Bits, Formattable, Pairs, View};
 use std::alloc::{AllocError, Global};
-use std::collections::HashMap;
 
 /// An order in JSON: 2,048 bytes with their line ends, 40 doubled braces and 12 names.
 #[rattlefmt::skip]
@@ -184,11 +183,11 @@ fn repeat_lines(
     repeats: u32,
 ) -> Result<String, Failure> {
     let format = lines_of(alloc, lines)?;
-    let mut context = HashMap::new(alloc);
+    let mut pairs = Vec::new(alloc);
     for (name, value) in values {
-        context.insert(*name, Formattable::integer(value))?;
+        pairs.push((*name, Formattable::integer(value)))?;
     }
-    repeat_format(alloc, how, format.as_str(), &context, repeats)
+    repeat_format(alloc, how, format.as_str(), &Pairs(&pairs), repeats)
 }
 
 // The lines, each with its end.

@@ -2,9 +2,8 @@
 
 use crate::failure::Failure;
 use crate::uses::{How, repeat_format};
-use interpolator::{Formattable, Value, View};
+use interpolator::{Formattable, Pairs, Value, View};
 use std::alloc::{AllocError, Global};
-use std::collections::HashMap;
 
 const LAYOUT: &str = "{time} {level} [{module}] {message} (line {line})";
 
@@ -59,18 +58,21 @@ const TEXTS: [&str; 18] = [
 
 /// A layout of log lines, over texts and a number.
 pub fn log_line(alloc: Global, how: How, repeats: u32) -> Result<String, Failure> {
-    let time = View::Text("2024-05-17T12:34:56Z");
-    let level = View::Text("INFO");
-    let module = View::Text("store::index");
-    let message = View::Text("rebuilt the index of all orders");
-    let line = View::Unsigned(217);
-    let mut context = HashMap::new(alloc);
-    context.insert("time", Formattable::display(&time))?;
-    context.insert("level", Formattable::display(&level))?;
-    context.insert("module", Formattable::display(&module))?;
-    context.insert("message", Formattable::display(&message))?;
-    context.insert("line", Formattable::integer(&line))?;
-    repeat_format(alloc, how, LAYOUT, &context, repeats)
+    let values = [
+        View::Text("2024-05-17T12:34:56Z"),
+        View::Text("INFO"),
+        View::Text("store::index"),
+        View::Text("rebuilt the index of all orders"),
+        View::Unsigned(217),
+    ];
+    let pairs = [
+        ("time", Formattable::display(&values[0])),
+        ("level", Formattable::display(&values[1])),
+        ("module", Formattable::display(&values[2])),
+        ("message", Formattable::display(&values[3])),
+        ("line", Formattable::integer(&values[4])),
+    ];
+    repeat_format(alloc, how, LAYOUT, &Pairs(&pairs), repeats)
 }
 
 /// Thirty-two short names, of these numbers.
@@ -81,21 +83,21 @@ pub fn number_names<V: Value>(
     repeats: u32,
 ) -> Result<String, Failure> {
     let format = names_format(alloc, &NUMBER_NAMES)?;
-    let mut context = HashMap::new(alloc);
+    let mut pairs = Vec::new(alloc);
     for (name, number) in NUMBER_NAMES.iter().zip(numbers) {
-        context.insert(*name, Formattable::integer(number))?;
+        pairs.push((*name, Formattable::integer(number)))?;
     }
-    repeat_format(alloc, how, format.as_str(), &context, repeats)
+    repeat_format(alloc, how, format.as_str(), &Pairs(&pairs), repeats)
 }
 
 /// Eighteen names, of texts.
 pub fn text_names(alloc: Global, how: How, repeats: u32) -> Result<String, Failure> {
     let format = names_format(alloc, &TEXT_NAMES)?;
-    let mut context = HashMap::new(alloc);
+    let mut pairs = Vec::new(alloc);
     for (name, text) in TEXT_NAMES.iter().zip(&TEXTS) {
-        context.insert(*name, Formattable::display(text))?;
+        pairs.push((*name, Formattable::display(text)))?;
     }
-    repeat_format(alloc, how, format.as_str(), &context, repeats)
+    repeat_format(alloc, how, format.as_str(), &Pairs(&pairs), repeats)
 }
 
 /// So many copies of a text, as a format that asks no name.
@@ -110,8 +112,8 @@ pub fn copies(
     for _ in 0..count {
         format.push_str(piece)?;
     }
-    let context: HashMap<&str, Formattable<'_, u32>> = HashMap::new(alloc);
-    repeat_format(alloc, how, format.as_str(), &context, repeats)
+    let none: Pairs<'_, u32> = Pairs(&[]);
+    repeat_format(alloc, how, format.as_str(), &none, repeats)
 }
 
 // A format that asks each name, and has a space after it.

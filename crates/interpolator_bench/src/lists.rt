@@ -2,9 +2,8 @@
 
 use crate::failure::Failure;
 use crate::uses::{How, repeat_format};
-use interpolator::Formattable;
+use interpolator::{Formattable, Pairs};
 use std::alloc::{AllocError, Global};
-use std::collections::HashMap;
 
 /// How deep lists are nested.
 const DEPTH: usize = 32;
@@ -33,9 +32,8 @@ fn repeat_list(
     format: &str,
     repeats: u32,
 ) -> Result<String, Failure> {
-    let mut context = HashMap::new(alloc);
-    context.insert("n", list)?;
-    repeat_format(alloc, how, format, &context, repeats)
+    let pairs = [("n", list)];
+    repeat_format(alloc, how, format, &Pairs(&pairs), repeats)
 }
 
 /// A number in a list of one item, in a list of one item, and so on.
@@ -86,9 +84,8 @@ fn repeat_nested(
     repeats: u32,
 ) -> Result<String, Failure> {
     if depth == 0 {
-        let mut context = HashMap::new(alloc);
-        context.insert("", value)?;
-        return repeat_format(alloc, how, format, &context, repeats);
+        let pairs = [("", value)];
+        return repeat_format(alloc, how, format, &Pairs(&pairs), repeats);
     }
     let items = [value];
     repeat_nested(

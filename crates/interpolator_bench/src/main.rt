@@ -20,7 +20,7 @@ use failure::Failure;
 use std::process::ExitCode;
 use std::rt::Env;
 use std::{env, io};
-use workloads::{ALL, Workload};
+use workloads::{FORMATS, PREPARED, Workload};
 
 const FAULT: u8 = 1;
 
@@ -58,12 +58,24 @@ fn run(rt: &(impl Print + AllocGlobal), command: Command) -> Result<(), Failure>
     match workload {
         Some(workload) => report(rt, workload, repeats),
         None => {
-            for workload in ALL {
-                report(rt, workload, repeats)?;
-            }
-            Ok(())
+            report_formats(rt, repeats)?;
+            report_prepared(rt, repeats)
         }
     }
+}
+
+fn report_formats(rt: &(impl Print + AllocGlobal), repeats: u32) -> Result<(), Failure> {
+    for workload in FORMATS {
+        report(rt, workload, repeats)?;
+    }
+    Ok(())
+}
+
+fn report_prepared(rt: &(impl Print + AllocGlobal), repeats: u32) -> Result<(), Failure> {
+    for workload in PREPARED {
+        report(rt, workload, repeats)?;
+    }
+    Ok(())
 }
 
 // Runs a workload, and prints how long its text is, and its checksum.
@@ -92,9 +104,23 @@ fn complain(rt: &impl Eprint, failure: &Failure) -> io::Result<()> {
 
 fn usage(rt: &impl Eprint) -> io::Result<()> {
     eprint!(rt; "usage: interpolator_bench WORKLOAD REPEATS, a workload being all")?;
-    for workload in &ALL {
+    name_formats(rt)?;
+    name_prepared(rt)?;
+    eprintln!(rt; "")
+}
+
+fn name_formats(rt: &impl Eprint) -> io::Result<()> {
+    for workload in &FORMATS {
         let name = workload.name();
         eprint!(rt; ", {name}")?;
     }
-    eprintln!(rt; "")
+    Ok(())
+}
+
+fn name_prepared(rt: &impl Eprint) -> io::Result<()> {
+    for workload in &PREPARED {
+        let name = workload.name();
+        eprint!(rt; ", {name}")?;
+    }
+    Ok(())
 }

@@ -3,7 +3,9 @@
 //! A merge by another kind of context is a variant of `Kind`, over the same records.
 
 use crate::failure::Failure;
-use interpolator::{Error, Formattable, Interpolate, Pairs, Template, TextBuffer, View};
+use interpolator::{
+    Error, Formattable, Interpolate, Pairs, Prepared, Row, Template, TextBuffer, View,
+};
 use std::alloc::Global;
 use std::collections::HashMap;
 
@@ -77,6 +79,63 @@ fn put_letters(
         }
     }
     Ok(out.into_string())
+}
+
+/// The letters of all records, by a format that was prepared once.
+pub fn by_row(alloc: Global, repeats: u32) -> Result<String, Failure> {
+    let letter = prepared_letter(alloc)?;
+    let mut text = String::new(alloc);
+    for _ in 0..repeats {
+        text.clear();
+        text = put_rows(alloc, text, &letter)?;
+    }
+    Ok(text)
+}
+
+// The letter, prepared for rows of the fields of a record.
+fn prepared_letter(alloc: Global) -> Result<Prepared, Error> {
+    let letter = Template::parse(alloc, LETTER)?;
+    let values = [View::Text(""), View::Unsigned(0)];
+    let pairs = [
+        ("name", Formattable::display(&values[0])),
+        ("city", Formattable::display(&values[0])),
+        ("goods", Formattable::display(&values[0])),
+        ("count", Formattable::integer(&values[1])),
+        ("order", Formattable::integer(&values[1])),
+    ];
+    letter.prepare(alloc, &Pairs(&pairs))
+}
+
+// Appends the letters of all records.
+fn put_rows(alloc: Global, text: String, letter: &Prepared) -> Result<String, Error> {
+    let mut out = TextBuffer::from_string(text);
+    for order in 0..RECORDS {
+        put_by_row(alloc, &mut out, letter, &record_of(order))?;
+    }
+    Ok(out.into_string())
+}
+
+fn put_by_row(
+    alloc: Global,
+    out: &mut TextBuffer,
+    letter: &Prepared,
+    record: &Record,
+) -> Result<(), Error> {
+    let values = [
+        View::Text(record.name),
+        View::Text(record.city),
+        View::Text(record.goods),
+        View::Unsigned(u128::from(record.count)),
+        View::Unsigned(u128::from(record.order)),
+    ];
+    let row = [
+        Formattable::display(&values[0]),
+        Formattable::display(&values[1]),
+        Formattable::display(&values[2]),
+        Formattable::integer(&values[3]),
+        Formattable::integer(&values[4]),
+    ];
+    letter.write(alloc, out, &Row(&row))
 }
 
 fn put_by_hash_map(

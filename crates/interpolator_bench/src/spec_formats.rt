@@ -2,9 +2,8 @@
 
 use crate::failure::Failure;
 use crate::uses::{How, repeat_format};
-use interpolator::{Formattable, Value, View};
+use interpolator::{Formattable, Pairs, Value, View};
 use std::alloc::{AllocError, Global};
-use std::collections::HashMap;
 
 const NAMES: [&str; 6] = ["a", "b", "c", "d", "e", "f"];
 
@@ -73,12 +72,12 @@ fn repeat_specs<V: Value>(
     repeats: u32,
 ) -> Result<String, Failure> {
     let mut format = String::new(alloc);
-    let mut context = HashMap::new(alloc);
+    let mut pairs = Vec::new(alloc);
     for (name, value) in NAMES.iter().zip(values) {
         put_specs(&mut format, name, specs)?;
-        context.insert(*name, Formattable::integer(value))?;
+        pairs.push((*name, Formattable::integer(value)))?;
     }
-    repeat_format(alloc, how, format.as_str(), &context, repeats)
+    repeat_format(alloc, how, format.as_str(), &Pairs(&pairs), repeats)
 }
 
 // Appends what asks a name under each spec, with a space after each.

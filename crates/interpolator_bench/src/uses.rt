@@ -1,7 +1,9 @@
 //! Uses of a format, again and again.
 
 use crate::failure::Failure;
-use interpolator::{Error, Formattable, Interpolate, Template, TextBuffer, Value};
+use interpolator::{
+    Error, Formattable, Interpolate, Pairs, Prepared, Row, Template, TextBuffer, Value,
+};
 use std::alloc::Global;
 use std::collections::HashMap;
 
@@ -14,27 +16,51 @@ pub enum How {
     Write,
     /// By a template that was parsed once, into a buffer that keeps its room.
     Template,
+    /// Prepared once for rows of the context's values, into a buffer that keeps its room.
+    Prepared,
     /// It is parsed into a template, and not written.
     Parse,
+    /// A template that was parsed once is prepared, and not written.
+    Prepare,
 }
 
-/// Uses a format so often. Gives the last text: that of the format itself where it is only parsed.
+/// Uses a format so often. Gives the last text: that of the format itself where it is not written.
 pub fn repeat_format<V: Value>(
     alloc: Global,
     how: How,
     format: &str,
-    context: &HashMap<&str, Formattable<'_, V>>,
+    pairs: &Pairs<'_, V>,
     repeats: u32,
 ) -> Result<String, Failure> {
     match how {
-        How::Format => repeat_new(alloc, format, context, repeats),
-        How::Write => repeat_write(alloc, format, None, context, repeats),
+        How::Format => repeat_new(alloc, format, &map_of(alloc, pairs)?, repeats),
+        How::Write => repeat_write(alloc, format, None, &map_of(alloc, pairs)?, repeats),
         How::Template => {
             let template = Template::parse(alloc, format)?;
-            repeat_write(alloc, format, Some(&template), context, repeats)
+            repeat_write(
+                alloc,
+                format,
+                Some(&template),
+                &map_of(alloc, pairs)?,
+                repeats,
+            )
         }
+        How::Prepared => repeat_prepared(alloc, format, pairs, repeats),
         How::Parse => repeat_parse(alloc, format, repeats),
+        How::Prepare => repeat_prepare(alloc, format, pairs, repeats),
     }
+}
+
+// The pairs as a map.
+fn map_of<'a, V: Value>(
+    alloc: Global,
+    pairs: &Pairs<'a, V>,
+) -> Result<HashMap<&'a str, Formattable<'a, V>>, Failure> {
+    let mut map = HashMap::new(alloc);
+    for (name, value) in pairs.0 {
+        map.insert(*name, *value)?;
+    }
+    Ok(map)
 }
 
 // Formats each time into a new text.
@@ -93,4 +119,64 @@ fn repeat_parse(alloc: Global, format: &str, repeats: u32) -> Result<String, Fai
         Some(template) => Ok(String::from_str(alloc, template.text())?),
         None => Ok(String::new(alloc)),
     }
+}
+
+// Prepares a template of the format, each time anew.
+fn repeat_prepare<V: Value>(
+    alloc: Global,
+    format: &str,
+    pairs: &Pairs<'_, V>,
+    repeats: u32,
+) -> Result<String, Failure> {
+    let template = Template::parse(alloc, format)?;
+    let mut last = None;
+    for _ in 0..repeats {
+        last = Some(template.prepare(alloc, pairs)?);
+    }
+    match &last {
+        Some(prepared) => Ok(String::from_str(alloc, prepared.text())?),
+        None => Ok(String::new(alloc)),
+    }
+}
+
+// Prepares the format, and writes the row of the values anew in the same buffer.
+fn repeat_prepared<V: Value>(
+    alloc: Global,
+    format: &str,
+    pairs: &Pairs<'_, V>,
+    repeats: u32,
+) -> Result<String, Failure> {
+    let prepared = Template::parse(alloc, format)?.prepare(alloc, pairs)?;
+    let mut row = Vec::new(alloc);
+    for (_, value) in pairs.0 {
+        row.push(*value)?;
+    }
+    repeat_row(alloc, &prepared, &Row(&row), repeats)
+}
+
+// Writes a row anew in the same buffer.
+fn repeat_row<V: Value>(
+    alloc: Global,
+    prepared: &Prepared,
+    row: &Row<'_, V>,
+    repeats: u32,
+) -> Result<String, Failure> {
+    let mut text = String::new(alloc);
+    for _ in 0..repeats {
+        text.clear();
+        text = put_row(alloc, text, prepared, row)?;
+    }
+    Ok(text)
+}
+
+// Appends what the prepared format means over a row.
+fn put_row<V: Value>(
+    alloc: Global,
+    text: String,
+    prepared: &Prepared,
+    row: &Row<'_, V>,
+) -> Result<String, Error> {
+    let mut out = TextBuffer::from_string(text);
+    prepared.write(alloc, &mut out, row)?;
+    Ok(out.into_string())
 }

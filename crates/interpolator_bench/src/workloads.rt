@@ -18,7 +18,7 @@ const COPIES_64K: u32 = 1024;
 /// How many times sixty-four bytes are 1 MiB.
 const COPIES_1M: u32 = 16 * COPIES_64K;
 
-/// What is made again and again. A new one is a line of `ALL`.
+/// What is made again and again. A new one is a line of `FORMATS`.
 #[derive(Clone, Copy)]
 pub struct Workload(&'static str, Task);
 
@@ -31,6 +31,8 @@ enum Task {
     Merge(Kind),
     /// Letters are written by a template.
     MergeByTemplate(Kind),
+    /// Letters are written by a prepared format.
+    MergeByRow,
     /// Values are rendered.
     Render(Rows),
 }
@@ -81,9 +83,9 @@ enum Rows {
     SixteenHex,
 }
 
-/// Every workload, in the order in which `all` runs them.
+/// The workloads of formats and templates, in the order in which `all` runs them.
 #[rattlefmt::skip]
-pub const ALL: [Workload; 85] = [
+pub const FORMATS: [Workload; 85] = [
     Workload("log-line", Task::Use(How::Format, Shape::LogLine)),
     Workload("names-32-numbers", Task::Use(How::Format, Shape::NumberNames)),
     Workload("names-18-texts", Task::Use(How::Format, Shape::TextNames)),
@@ -171,6 +173,39 @@ pub const ALL: [Workload; 85] = [
     Workload("template-names-32-negative", Task::Use(How::Template, Shape::NegativeNames)),
 ];
 
+/// Those of prepared formats, which `all` runs after these.
+#[rattlefmt::skip]
+pub const PREPARED: [Workload; 28] = [
+    Workload("prepared-log-line", Task::Use(How::Prepared, Shape::LogLine)),
+    Workload("prepared-names-32-numbers", Task::Use(How::Prepared, Shape::NumberNames)),
+    Workload("prepared-names-18-texts", Task::Use(How::Prepared, Shape::TextNames)),
+    Workload("prepared-json", Task::Use(How::Prepared, Shape::Json)),
+    Workload("prepared-letter-4k", Task::Use(How::Prepared, Shape::Letter4K)),
+    Workload("prepared-table-row", Task::Use(How::Prepared, Shape::TableRow)),
+    Workload("prepared-braces-64k", Task::Use(How::Prepared, Shape::Braces64K)),
+    Workload("prepared-literal-64k", Task::Use(How::Prepared, Shape::Literal64K)),
+    Workload("prepared-specs", Task::Use(How::Prepared, Shape::Specs)),
+    Workload("prepared-radix", Task::Use(How::Prepared, Shape::Radix)),
+    Workload("prepared-exponents", Task::Use(How::Prepared, Shape::Exponents)),
+    Workload("prepared-padded-texts", Task::Use(How::Prepared, Shape::PaddedTexts)),
+    Workload("prepared-wide", Task::Use(How::Prepared, Shape::Wide)),
+    Workload("prepared-list-1000", Task::Use(How::Prepared, Shape::List)),
+    Workload("prepared-list-1000-angled", Task::Use(How::Prepared, Shape::AngledList)),
+    Workload("prepared-lists-32-deep", Task::Use(How::Prepared, Shape::NestedLists)),
+    Workload("prepared-starred-texts", Task::Use(How::Prepared, Shape::StarredTexts)),
+    Workload("prepared-accented-texts", Task::Use(How::Prepared, Shape::AccentedTexts)),
+    Workload("prepared-wide-accents", Task::Use(How::Prepared, Shape::WideAccents)),
+    Workload("prepared-names-32-signed", Task::Use(How::Prepared, Shape::SignedNames)),
+    Workload("prepared-names-32-negative", Task::Use(How::Prepared, Shape::NegativeNames)),
+    Workload("prepared-merge-10000", Task::MergeByRow),
+    Workload("prepare-log-line", Task::Use(How::Prepare, Shape::LogLine)),
+    Workload("prepare-names-32-numbers", Task::Use(How::Prepare, Shape::NumberNames)),
+    Workload("prepare-letter-4k", Task::Use(How::Prepare, Shape::Letter4K)),
+    Workload("prepare-literal-64k", Task::Use(How::Prepare, Shape::Literal64K)),
+    Workload("prepare-specs", Task::Use(How::Prepare, Shape::Specs)),
+    Workload("prepare-list-1000", Task::Use(How::Prepare, Shape::List)),
+];
+
 impl Workload {
     /// Its name on the command line.
     pub fn name(self) -> &'static str {
@@ -183,6 +218,7 @@ impl Workload {
             Task::Use(how, shape) => shape.repeat(alloc, how, repeats),
             Task::Merge(kind) => merge::by_text(alloc, kind, repeats),
             Task::MergeByTemplate(kind) => merge::by_template(alloc, kind, repeats),
+            Task::MergeByRow => merge::by_row(alloc, repeats),
             Task::Render(rows) => rows.repeat(alloc, repeats),
         }
     }
@@ -248,7 +284,25 @@ impl Rows {
 
 /// The workload of a name.
 pub fn workload_of(name: &str) -> Option<Workload> {
-    for workload in ALL {
+    match format_of(name) {
+        Some(workload) => Some(workload),
+        None => prepared_of(name),
+    }
+}
+
+// The workload of a name, among those of formats and templates.
+fn format_of(name: &str) -> Option<Workload> {
+    for workload in FORMATS {
+        if workload.name() == name {
+            return Some(workload);
+        }
+    }
+    None
+}
+
+// The workload of a name, among those of prepared formats.
+fn prepared_of(name: &str) -> Option<Workload> {
+    for workload in PREPARED {
         if workload.name() == name {
             return Some(workload);
         }
