@@ -1,2 +1,3 @@
 -- What a file of messages says.
 pub mod Messages
+pub mod Declarations

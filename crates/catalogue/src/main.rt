@@ -6,6 +6,7 @@
 //! message is written.
 #![tactic(auto)]
 
+mod declarations;
 mod messages;
 
 use messages::{Answer, look_up};
