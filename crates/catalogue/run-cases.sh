@@ -8,7 +8,7 @@ set -u
 
 here=$(cd "$(dirname "$0")" && pwd)
 name=catalogue
-wanted=16
+wanted=19
 . "$here/../../.ci/cases.sh"
 
 # message WANTED WORD..: a message, which goes to the output, with status 0.
@@ -27,8 +27,11 @@ all_cases() {
     message 'Hello Zoë!' m.txt hello name=Zoë
     message 'Bye,   Ann.' m.txt bye name=Ann x=1
     message '2=c=d' m.txt twice a=1 b=c=d a=2
-    told 'm.txt:3:16: specified value not in context `name` at 7' m.txt hello
-    told 'm.txt:5:20: trait `Iter` not implemented, used by format argument at 12' m.txt list x=1
+    told "$(printf '%s\n' 'm.txt:3:16: specified value not in context `name` at 7' \
+        '  |' '3 | hello = Hello {name}!' '  |               ^^^^^^')" m.txt hello
+    told "$(printf '%s\n' \
+        'm.txt:5:20: trait `Iter` not implemented, used by format argument at 12' \
+        '  |' '5 | list = {x:i#({:?})#}' '  |        ^^^^^^^^^^^^^')" m.txt list x=1
     told 'm.txt: no message `gone`' m.txt gone
     told 'm.txt: no message `# greetings`' m.txt '# greetings'
     told 'a value is `NAME=TEXT`' m.txt hello name
@@ -40,17 +43,39 @@ all_cases() {
         'e={x:+#' >broken.txt
     told "$(printf '%s\n' \
         'broken.txt:2:11: error while parsing input: Expected `}` at 7' \
+        '  |' '2 | b = é {x:?y}' '  |       ^^^^^^' \
         'broken.txt:3:1: no `=`' \
         'broken.txt:4:11: error while parsing input: Format spec at 6 is nether closed with a `}`' \
+        '  |' '4 | c = {h:i({z)}' '  |          ^^' \
         'broken.txt:5:12: error while parsing input: Width, precision, `-`, `+` and `#` are not supported for `i` at 5' \
-        'broken.txt:6:4: error while parsing input: Format spec at 1 is nether closed with a `}`')" \
+        '  |' '5 |   d = {q:+i}' '  |       ^^^^^^' \
+        'broken.txt:6:4: error while parsing input: Format spec at 1 is nether closed with a `}`' \
+        '  |' '6 | e={x:+#' '  |   ^^^^^')" \
         broken.txt a x=1
 
     printf '%s\n' 'é = {x' 'ok = {x}' 'ü = é{x}{y' >accents.txt
     told "$(printf '%s\n' \
         'accents.txt:1:6: error while parsing input: Format spec at 1 is nether closed with a `}`' \
-        'accents.txt:3:10: error while parsing input: Format spec at 6 is nether closed with a `}`')" \
+        '  |' '1 | é = {x' '  |     ^^' \
+        'accents.txt:3:10: error while parsing input: Format spec at 6 is nether closed with a `}`' \
+        '  |' '3 | ü = é{x}{y' '  |         ^^')" \
         accents.txt ok x=1
+
+    printf '%s\n' 'hi( name ) = Hi {name:>4}' 'none() = nothing' >declared.txt
+    message 'Hi  Ann' declared.txt hi name=Ann
+    message 'nothing' declared.txt none
+    printf '%s\n' 'a(name) = {name:x}' 'b(n:) = {n:x} {m}' 'c(l[]) = {l:i({:x})}' \
+        'd(n:, l[],) = {n}' 'e(n = {n}' 'f(n:x) = {n}' >kinds.txt
+    told "$(printf '%s\n' \
+        'kinds.txt:1:18: trait `LowerHex` not implemented, used by format argument at 7' \
+        '  |' '1 | a(name) = {name:x}' '  |           ^^^^^^^^' \
+        'kinds.txt:2:16: specified value not in context `m` at 7' \
+        '  |' '2 | b(n:) = {n:x} {m}' '  |               ^^^' \
+        'kinds.txt:3:18: trait `LowerHex` not implemented, used by format argument at 8' \
+        '  |' '3 | c(l[]) = {l:i({:x})}' '  |               ^^^^' \
+        'kinds.txt:4:11: declarations are `(NAME, NAME:, NAME[])`' \
+        'kinds.txt:5:2: declarations are `(NAME, NAME:, NAME[])`' \
+        'kinds.txt:6:3: declarations are `(NAME, NAME:, NAME[])`')" kinds.txt a name=Ann
     case_of file file 2 '' ''
     case_of file file 2 '' '' m.txt
     case_of file file 2 '' '' none.txt hello

@@ -6,7 +6,9 @@ use Rattle.std.specs.Option.{option_map}
 use Rattle.std.specs.Str.Lines.{lines}
 use Rattle.std.specs.declared.string.String.{String}
 use Rattle.interpolator.specs.declared.Error.{Error}
-use Rattle.catalogue.specs.Messages.{Answers, GiveValues, IsMadeOrTold, IsSound, format_of}
+use Rattle.catalogue.specs.Messages.{Answers, GiveValues, IsMadeOrTold, IsSound, declared_of}
+use Rattle.catalogue.specs.Messages.{format_of}
+use Rattle.catalogue.specs.Declarations.{Declared}
 use Rattle.catalogue.specs.Messages.{last_under, with_format}
 use Rattle.catalogue.specs.declared.messages.Answer.{Answer}
 use Rattle.catalogue.specs.declared.messages.Answer.TheVariants.{Message, Faults}
@@ -16,14 +18,16 @@ not_none : {A : Type 0} (x : A) → Some x ≡ None → ⊥
 not_none x e = cc
 
 -- the line that was found is the last one of the key, with its format
-pub found_under : (number : ℕ) (line format : List ℕ) (o : Option (ℕ × List ℕ))
-    → Some (number, line, format) ≡ option_map with_format o
-    → (o ≡ Some (number, line)) × (format ≡ format_of line)
-found_under number line format None h = absurd (not_none _ h)
-found_under number line format (Some one) h =
-    let e = ap (λ x. unwrap_or x (number, line, format)) h in (
+pub found_under : (number : ℕ) (line format : List ℕ) (declared : Declared)
+    (o : Option (ℕ × List ℕ)) → Some (number, line, format, declared) ≡ option_map with_format o
+    → (o ≡ Some (number, line)) × (format ≡ format_of line) × (declared ≡ declared_of line)
+found_under number line format declared None h = absurd (not_none _ h)
+found_under number line format declared (Some one) h =
+    let e = ap (λ x. unwrap_or x (number, line, format, declared)) h in
+    let same = ap (λ x. x.1) e in (
       ap {B = Option (ℕ × List ℕ)} (λ x. Some (x.0, x.1)) (sym e),
-      ap (λ x. x.2) e ∙ ap format_of (sym (ap (λ x. x.1) e)),
+      ap (λ x. x.2) e ∙ ap format_of (sym same),
+      ap (λ x. x.3) e ∙ ap declared_of (sym same),
     )
 
 -- the message of the line, or its fault, is the answer

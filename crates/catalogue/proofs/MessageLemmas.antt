@@ -1,7 +1,7 @@
 -- Lines that are checked one after the other, and lists made one after the other.
 use Rattle.std.proofs.Common.{◌≡◌, ℕ, ◌+◌, ◌<◌, Bool, true, false, cond, List, [], ◌∷◌, ◌++◌, take}
 use Rattle.std.proofs.Common.{length, get_or, map, Option, None, Some, refl, sym, ap, ◌∙◌, subst}
-use Rattle.std.proofs.Common.{reverse, arith, append-nil, length-append, ◌⊎◌, inl, inr}
+use Rattle.std.proofs.Common.{codes, reverse, arith, append-nil, length-append, ◌⊎◌, inl, inr}
 use Rattle.std.specs.Borrow.{Bor}
 use Rattle.std.specs.List.{All, AllZip, concat, enumerate_from, find}
 use Rattle.std.specs.Option.{option_map, option_or}
@@ -9,8 +9,15 @@ use Rattle.std.proofs.lemmas.List.{length-map, take_more, map-append, reverse-ap
 use Rattle.std.proofs.lemmas.List.Folds.{concat-append}
 use Rattle.std.proofs.lemmas.List.Elements.{All-append, All-cons}
 use Rattle.std.proofs.lemmas.Slice.Zip.{all_zipped_more}
-use Rattle.catalogue.specs.Messages.{IsSound, is_under, format_of, last_under, told_of_line}
-use Rattle.catalogue.specs.Messages.{told_of_lines, numbered, with_format}
+use Rattle.catalogue.specs.Declarations.{Declared, nothing, these, broken}
+use Rattle.catalogue.specs.Messages.{IsSound, IsSoundOver, is_under, last_under, told_of_line}
+use Rattle.catalogue.specs.Messages.{HasEquals, declared_of, format_of, told_of_format}
+use Rattle.catalogue.specs.Messages.{told_of_message}
+use Rattle.catalogue.specs.Messages.{told_of_lines, numbered, source_of, what_is_declared}
+use Rattle.catalogue.specs.Messages.{with_format}
+use Rattle.std.specs.Fmt.{decimal}
+use Rattle.interpolator.specs.Positions.{column_at}
+use Rattle.interpolator.specs.Explained.{explained}
 use Rattle.interpolator.specs.Faults.{answer_place, Answer, Fault, fault, no_memory}
 
 module _ {A : Type 0} (xs : List A) (i : ℕ) (x : A) (within : i < length xs)
@@ -98,7 +105,7 @@ or_first g false x None before o e h = h
 -- a line's format, where it has the key
 with_format_of : (b : Bool) (number : ℕ) (line : List ℕ) (o : Option (ℕ × List ℕ))
     → option_map with_format (cond b (Some (number, line)) o)
-    ≡ cond b (Some (number, line, format_of line)) (option_map with_format o)
+    ≡ cond b (Some (with_format (number, line))) (option_map with_format o)
 with_format_of true number line o = refl
 with_format_of false number line o = refl
 
@@ -137,14 +144,46 @@ module _ (file key : List ℕ) (seen : List (Bor (List ℕ))) (line : Bor (List 
       (λ k d t. absurd (omega arith))))
 
   -- the last of them under the key
-  pub found_next : {A : Type 0} (g : A → ℕ × List ℕ × List ℕ) (one before : Option A)
+  pub found_next : {A : Type 0} (g : A → ℕ × List ℕ × List ℕ × Declared) (one before : Option A)
       → (length told ≡ 0 → option_map g before ≡ option_map with_format (last_under key texts))
       → (length more ≡ 0 → option_map g one
-      ≡ cond (is_under key line.now) (Some (number + 1, line.now, format_of line.now)) None)
+      ≡ cond (is_under key line.now) (Some (with_format (number + 1, line.now))) None)
       → length new ≡ 0 → option_map g (option_or one before)
       ≡ option_map with_format (last_under key (map (λ x. x.now) (seen ++ (line ∷ []))))
   found_next g one before so_far here h =
-      or_first g (is_under key line.now) (number + 1, line.now, format_of line.now) one before _
+      or_first g (is_under key line.now) (with_format (number + 1, line.now)) one before _
       (here (line_clean h)) (so_far (before_clean h))
       ∙ sym (rw (one_text, under_more file key texts line.now, its_number)
       (with_format_of (is_under key line.now) (number + 1) line.now (last_under key texts)))
+
+module _ (file : List ℕ) (number : ℕ) (line format : List ℕ) where
+  -- nothing is told only where there is no fault
+  clean_format : (o : Option Fault) → length (told_of_format file number line format o) ≡ 0
+      → o ≡ None
+  clean_format None e = refl
+  clean_format (Some f) e =
+      let some = ends_in_some (explained (source_of file number line format) (fault f)) [] 10 in
+      absurd (omega (arith, e, some))
+
+  -- nor is anything broken
+  pub clean_message : (declared : Declared)
+      → length (told_of_message file number line declared format) ≡ 0 → IsSoundOver declared format
+  clean_message nothing e = clean_format _ e
+  clean_message (these declared) e = clean_format _ e
+  clean_message (broken place) e =
+      let what = decimal number ++ (codes ":" ++ (decimal (column_at line place) ++ (codes ": "
+      ++ (what_is_declared ++ codes "\n")))) in
+      let some = ends_in_some file what 58 in absurd (omega (arith, e, some))
+
+-- a line of which nothing is told is sound
+pub sound_line : (file : List ℕ) (number : ℕ) (line format : List ℕ) (declared : Declared)
+    (told : List ℕ) → HasEquals line → declared ≡ declared_of line → format ≡ format_of line
+    → told ≡ told_of_message file number line declared format → length told ≡ 0 → IsSound line
+sound_line file number line format declared told cut same_declared same_format is empty =
+    let clean = clean_message file number line format declared
+    (ap (λ (x : List ℕ). length x) (sym is) ∙ empty) in
+    inr (
+      cut,
+      subst (λ d. IsSoundOver d (format_of line)) same_declared
+          (subst (λ f. IsSoundOver declared f) same_format clean),
+    )

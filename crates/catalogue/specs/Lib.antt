@@ -1,2 +1,5 @@
 -- What a file of messages says.
 pub mod Messages
+pub mod Declarations
+pub mod Examples
+pub mod Entries

@@ -11,17 +11,19 @@ use Rattle.std.specs.Str.Lines.{lines}
 use Rattle.std.specs.declared.string.String.{String}
 use Rattle.interpolator.specs.At.{outermost}
 use Rattle.interpolator.specs.Contexts.{found_by_pairs}
-use Rattle.interpolator.specs.Faults.{Fault, fault_place}
-use Rattle.interpolator.specs.Explained.{capped}
-use Rattle.interpolator.specs.FaultTexts.{fault_text}
+use Rattle.interpolator.specs.Faults.{Answer as Reply, Fault, fault}
+use Rattle.interpolator.specs.Explained.{explained}
+use Rattle.interpolator.specs.declared.Source.{Source}
 use Rattle.interpolator.specs.Meaning.Environments.{environment}
 use Rattle.interpolator.specs.Meaning.Meanings.{Meaning, means}
 use Rattle.interpolator.specs.Meaning.Outcomes.{Formats}
 use Rattle.interpolator.specs.Positions.{column_at}
 use Rattle.interpolator.specs.Slots.{slots_of, empty_slots, with_debug_display}
-use Rattle.interpolator.specs.Template.NodeChecks.{first_fault, text_faults}
+use Rattle.interpolator.specs.Template.NodeChecks.{first_fault}
 use Rattle.interpolator.specs.Views.{some_text}
 use Rattle.interpolator.specs.declared.Formattable.{Formattable}
+use Rattle.catalogue.specs.Declarations.{Declared, nothing, these, broken, declared_in, has, key_in}
+use Rattle.catalogue.specs.Examples.{faults_of}
 use Rattle.catalogue.specs.declared.messages.Answer.{Answer}
 use Rattle.catalogue.specs.declared.messages.Answer.TheVariants.{Message, Faults}
 
@@ -41,26 +43,32 @@ is_passed_over line = length (trim line) == 0 || slice_index line 0 == hash
 abbrev pub HasEquals : List ℕ → Type 0
 HasEquals text = position_or_len is_equals text < length text
 
--- the same, as a test
-abbrev pub has_equals : List ℕ → Bool
-has_equals text = nat_lt (position_or_len is_equals text) (length text)
+-- the head of a line, before its first `=`
+abbrev pub head_of : List ℕ → List ℕ
+head_of line = before_first is_equals line
 
--- the key of a line, before its first `=`
+-- the key of a line
 abbrev pub key_of : List ℕ → List ℕ
-key_of line = trim (before_first is_equals line)
+key_of line = key_in (head_of line)
+
+-- what a line declares that its format is given
+abbrev pub declared_of : List ℕ → Declared
+declared_of line = declared_in (head_of line)
 
 -- the format of a line, after its first `=`
 abbrev pub format_of : List ℕ → List ℕ
 format_of line = trim_start (after_first is_equals line)
 
--- the first fault that a format has by itself
-abbrev pub own_fault : List ℕ → Option Fault
-own_fault format = first_fault (text_faults (outermost (chars format)))
+-- a format has no fault: by itself, if nothing is declared, or over examples of what is declared
+abbrev pub IsSoundOver : Declared → List ℕ → Type 0
+IsSoundOver nothing format = first_fault (faults_of nothing format) ≡ None
+IsSoundOver (these declared) format = first_fault (faults_of (these declared) format) ≡ None
+IsSoundOver (broken place) format = ⊥
 
--- a line is sound: it says nothing, or its format has no fault of its own
+-- a line is sound: it says nothing, or nothing is broken in its head and its format has no fault
 abbrev pub IsSound : List ℕ → Type 0
-IsSound line =
-    (is_passed_over line ≡ true) ⊎ (HasEquals line × (own_fault (format_of line) ≡ None))
+IsSound line = (is_passed_over line ≡ true)
+    ⊎ (HasEquals line × IsSoundOver (declared_of line) (format_of line))
 
 -- whether a line has a message under a key
 abbrev pub is_under : List ℕ → List ℕ → Bool
@@ -74,35 +82,58 @@ numbered some_lines = enumerate_from 1 some_lines
 abbrev pub last_under : List ℕ → List (List ℕ) → Option (ℕ × List ℕ)
 last_under key some_lines = find (λ one. is_under key one.1) (reverse (numbered some_lines))
 
--- a line with its number, and its format
-abbrev pub with_format : ℕ × List ℕ → ℕ × List ℕ × List ℕ
-with_format one = (one.0, one.1, format_of one.1)
-
--- the column of a byte of a line's format, which ends the line
-abbrev pub column_in : List ℕ → List ℕ → ℕ → ℕ
-column_in line format place = column_at line (capped (length line - length format) place)
+-- a line with its number, its format and what it declares
+abbrev pub with_format : ℕ × List ℕ → ℕ × List ℕ × List ℕ × Declared
+with_format one = (one.0, one.1, format_of one.1, declared_of one.1)
 
 -- what is told of something in a file: the file, the line's number, the column, and what it is
 abbrev pub told_at : List ℕ → ℕ → ℕ → List ℕ → List ℕ
 told_at file number column what = file ++ (codes ":" ++ (decimal number ++ (codes ":"
     ++ (decimal column ++ (codes ": " ++ (what ++ codes "\n"))))))
 
--- what is told of a fault of a line's format
-abbrev pub told_of_fault : List ℕ → ℕ → List ℕ → Fault → List ℕ
-told_of_fault file number line f =
-    told_at file number (column_in line (format_of line) (fault_place f)) (fault_text f)
+-- a text that is lent, from wherever
+abbrev pub lent : List ℕ → Bor (List ℕ)
+lent text = record { ref_ptr = (0, 0); now = text }
 
--- what is told where a line's format has a fault or none
-abbrev pub told_of_format : List ℕ → ℕ → List ℕ → Option Fault → List ℕ
-told_of_format file number line None = []
-told_of_format file number line (Some f) = told_of_fault file number line f
+-- a line of a file, which its format ends
+abbrev pub source_of : List ℕ → ℕ → (line format : List ℕ) → Source
+source_of file number line format = record {
+  name = lent file;
+  first_line = number;
+  text = lent line;
+  start = length line - length format;
+  format = lent format;
+}
 
--- what is told of a line: nothing of one that is sound; else that it has no `=`, or its format's fault
+-- what is told of a fault of a line's format: the fault as it is shown in its line
+abbrev pub told_of_fault : List ℕ → ℕ → (line format : List ℕ) → Reply → List ℕ
+told_of_fault file number line format why =
+    explained (source_of file number line format) why ++ codes "\n"
+
+-- what is told if a line's format has a fault, or none
+abbrev pub told_of_format : List ℕ → ℕ → (line format : List ℕ) → Option Fault → List ℕ
+told_of_format file number line format None = []
+told_of_format file number line format (Some f) = told_of_fault file number line format (fault f)
+
+-- what is told of a broken declaration
+abbrev pub what_is_declared : List ℕ
+what_is_declared = codes "declarations are `(NAME, NAME:, NAME[])`"
+
+-- what is told of a line's message: a broken declaration, or its format's first fault
+abbrev pub told_of_message : List ℕ → ℕ → (line : List ℕ) → Declared → (format : List ℕ) → List ℕ
+told_of_message file number line nothing format =
+    told_of_format file number line format (first_fault (faults_of nothing format))
+told_of_message file number line (these declared) format =
+    told_of_format file number line format (first_fault (faults_of (these declared) format))
+told_of_message file number line (broken place) format =
+    told_at file number (column_at line place) what_is_declared
+
+-- what is told of a line: nothing of one that is sound; else that it has no `=`, or its message's fault
 abbrev pub told_of_line : List ℕ → ℕ → List ℕ → List ℕ
 told_of_line file number line =
     if is_passed_over line then []
-    else (if has_equals line
-    then told_of_format file number line (own_fault (format_of line))
+    else (if has is_equals line
+    then told_of_message file number line (declared_of line) (format_of line)
     else told_at file number 1 (codes "no `=`"))
 
 -- what is told of the lines of a file, in their order
@@ -151,7 +182,7 @@ pub record IsToldOf (file : List ℕ) (number : ℕ) (line format : List ℕ)
     (values : List (Bor (List ℕ) × Bor (List ℕ))) (told : List ℕ) : Type 0 where
   pub f : Fault
   pub faulty : HasFault format values f
-  pub says : told ≡ told_at file number (column_in line format (fault_place f)) (fault_text f)
+  pub says : told ≡ told_of_fault file number line format (fault f)
 
 -- a message, or what is told of its fault
 abbrev pub IsMadeOrTold : List ℕ → ℕ → List ℕ → List ℕ → List (Bor (List ℕ) × Bor (List ℕ))

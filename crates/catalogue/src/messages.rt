@@ -1,19 +1,26 @@
 //! The messages of a file, checked, and the one that is asked for.
 
-ghost use Rattle.std.specs.Prelude.{◌≡◌, ◌<◌, ℕ, List, IfOk, IfSome, MatchOption, All};
+ghost use Rattle.std.specs.Prelude.{◌≡◌, ◌<◌, ℕ, List, IfOk, IfErr, IfSome, MatchOption, All};
 ghost use Rattle.std.specs.Prelude.{length, None, Some, if◌then◌else◌, string_bytes};
 ghost use Rattle.std.specs.List.{AllZip};
 ghost use Rattle.std.specs.Option.{option_map};
 ghost use Rattle.std.specs.Str.Lines.{lines};
-ghost use Rattle.interpolator.specs.Faults.{Fault, answer_of, fault, fault_place};
-ghost use Rattle.interpolator.specs.FaultTexts.{fault_text};
+ghost use Rattle.interpolator.specs.Faults.{answer_of, no_memory};
+ghost use Rattle.catalogue.specs.Declarations.{Declared, declared_by};
 ghost use Rattle.catalogue.specs.Messages.{HasEquals, IsSound, Gives, GiveValues, ShowValues};
-ghost use Rattle.catalogue.specs.Messages.{is_passed_over, is_under, key_of, format_of, last_under};
-ghost use Rattle.catalogue.specs.Messages.{column_in, told_at, told_of_line, told_of_lines};
+ghost use Rattle.catalogue.specs.Messages.{is_passed_over, is_under, head_of, format_of, last_under};
+ghost use Rattle.catalogue.specs.Messages.{told_at, told_of_fault, told_of_message, told_of_line, told_of_lines};
 ghost use Rattle.catalogue.specs.Messages.{with_format, IsMadeOrTold, Answers};
 
-use interpolator::{Error, Formattable, Interpolate, Pairs, Position, Template};
+use crate::declarations::{Heading, heading_of};
+use crate::examples::fault_of;
+use interpolator::{
+    Error, Formattable, Interpolate, Pairs, Position, Source, Template, explain_in,
+};
 use std::alloc::{AllocError, Global};
+
+/// What is told of a broken declaration.
+const WHAT_IS_DECLARED: &str = "declarations are `(NAME, NAME:, NAME[])`";
 
 /// What the program answers.
 #[derive(Drop)]
@@ -31,6 +38,7 @@ struct Found<'a> {
     number: usize,
     text: &'a str,
     template: Template,
+    heading: Heading<'a>,
 }
 
 /// What is wrong with some lines, and the last of them under the key.
@@ -56,15 +64,7 @@ fn told_at(
     Ok(told)
 }
 
-/// The column, from 1 on, of a byte of a line's format.
-fn column_of(line: &str, format: &str, place: usize) -> usize
-    ensures { result ≡ column_in line.now format.now place }
-{
-    let before = line.len().saturating_sub(format.len());
-    Position::of(line, before.saturating_add(place)).column
-}
-
-/// The fault of a line's format, as it is told.
+/// The fault of a line's format, shown in its line.
 fn told_of_fault(
     alloc: Global,
     file: &str,
@@ -72,25 +72,55 @@ fn told_of_fault(
     line: &str,
     format: &str,
     error: &Error,
-) -> Result<String, AllocError>
-    ensures told { IfOk result (λ told. (f : Fault) → answer_of error.now ≡ fault f →
-        string_bytes told
-        ≡ told_at file.now number (column_in line.now format.now (fault_place f)) (fault_text f)) }
-    ensures some { IfOk result (λ told. 0 < length (string_bytes told)) }
+) -> Result<String, Error>
+    ensures told { IfOk result (λ told. string_bytes told
+        ≡ told_of_fault file.now number line.now format.now (answer_of error.now)) }
+    ensures refused { IfErr result (λ error. answer_of error ≡ no_memory) }
 {
-    let column = column_of(line, format, error.place().unwrap_or(0));
-    let what = format!(in alloc; "{error}")?;
-    told_at(alloc, file, number, column, what.as_str())
+    let source = Source {
+        name: file,
+        first_line: number,
+        text: line,
+        start: line.len().saturating_sub(format.len()),
+        format,
+    };
+    let picture = explain_in(alloc, &source, error)?;
+    let told = format!(in alloc; "{picture}\n")?;
+    Ok(told)
 }
 
-/// The key and the format of a line, if it has an `=`.
+/// What is told of a line's message: a broken declaration, or the first fault of its format.
+fn told_of_message(
+    alloc: Global,
+    file: &str,
+    number: usize,
+    line: &str,
+    template: &Template,
+    heading: &Heading<'_>,
+) -> Result<String, Error>
+    ensures told { IfOk result (λ told. string_bytes told
+        ≡ told_of_message file.now number line.now (declared_by heading.now) template.now) }
+    ensures refused { IfErr result (λ error. answer_of error ≡ no_memory) }
+{
+    if let Heading::Broken(place) = heading {
+        let column = Position::of(line, *place).column;
+        let told = told_at(alloc, file, number, column, WHAT_IS_DECLARED)?;
+        return Ok(told);
+    }
+    match fault_of(alloc, template, heading)? {
+        None => Ok(String::new(alloc)),
+        Some(error) => told_of_fault(alloc, file, number, line, template.text(), &error),
+    }
+}
+
+/// The head and the format of a line, if it has an `=`.
 fn line_of(text: &str) -> Option<(&str, &str)>
     ensures none { MatchOption result (¬ HasEquals text.now) (λ _. HasEquals text.now) }
-    ensures key { IfSome result (λ line. line.0.now ≡ key_of text.now) }
+    ensures head { IfSome result (λ line. line.0.now ≡ head_of text.now) }
     ensures format { IfSome result (λ line. line.1.now ≡ format_of text.now) }
 {
-    let (key, format) = text.split_once('=')?;
-    Some((key.trim(), format.trim_start()))
+    let (head, format) = text.split_once('=')?;
+    Some((head, format.trim_start()))
 }
 
 /// Whether a line has no message.
@@ -114,29 +144,27 @@ fn checked_line<'a>(
     ensures sound { IfOk result (λ verdict. length (string_bytes verdict.told) ≡ 0
         → IsSound text.now) }
     ensures found { IfOk result (λ verdict. length (string_bytes verdict.told) ≡ 0
-        → option_map {U = ℕ × List ℕ × List ℕ}
-        (λ one. (one.number, one.text.now, one.template)) verdict.found
-        ≡ (if is_under key.now text.now then Some (number, text.now, format_of text.now)
-        else None)) }
+        → option_map {U = ℕ × List ℕ × List ℕ × Declared}
+        (λ one. (one.number, one.text.now, one.template, declared_by one.heading)) verdict.found
+        ≡ (if is_under key.now text.now then Some (with_format (number, text.now)) else None)) }
 {
     let told = String::new(alloc);
     if is_passed_over(text) {
         return Ok(Verdict { told, found: None });
     }
-    let Some((its_key, format)) = line_of(text) else {
+    let Some((head, format)) = line_of(text) else {
         let told = told_at(alloc, file, number, 1, "no `=`")?;
         return Ok(Verdict { told, found: None });
     };
+    let (its_key, heading) = heading_of(alloc, head)?;
     let template = Template::parse(alloc, format)?;
-    if let Err(error) = template.check() {
-        let told = told_of_fault(alloc, file, number, text, format, &error)?;
-        return Ok(Verdict { told, found: None });
-    }
+    let told = told_of_message(alloc, file, number, text, &template, &heading)?;
     if its_key == key {
         let found = Some(Found {
             number,
             text,
             template,
+            heading,
         });
         Ok(Verdict { told, found })
     } else {
@@ -151,8 +179,8 @@ fn checked<'a>(alloc: Global, file: &str, text: &'a str, key: &str) -> Result<Ve
     ensures sound { IfOk result (λ verdict. length (string_bytes verdict.told) ≡ 0
         → All IsSound (lines text.now)) }
     ensures found { IfOk result (λ verdict. length (string_bytes verdict.told) ≡ 0
-        → option_map {U = ℕ × List ℕ × List ℕ}
-        (λ one. (one.number, one.text.now, one.template)) verdict.found
+        → option_map {U = ℕ × List ℕ × List ℕ × Declared}
+        (λ one. (one.number, one.text.now, one.template, declared_by one.heading)) verdict.found
         ≡ option_map with_format (last_under key.now (lines text.now))) }
 {
     let mut told = String::new(alloc);

@@ -1,14 +1,15 @@
 //! `merge TEMPLATE TABLE`: a letter for each row of the table.
 //!
-//! The template is checked before the first letter, over the names of the table. A fault is told with
-//! its line and column, and a row of another number of fields with its line. Then no letter is written.
+//! The template is checked before the first letter, over the names of the table. A fault is shown in
+//! its line, as a compiler shows it, and a row of another number of fields with its line. Then no
+//! letter is written.
 #![tactic(auto)]
 
 mod letters;
 
-use interpolator::{Error, Position};
+use interpolator::{Error, explain};
 use letters::{Fault, merged};
-use std::alloc::{AllocError, Global};
+use std::alloc::Global;
 use std::process::ExitCode;
 use std::{env, fs, io};
 
@@ -20,33 +21,21 @@ struct Request {
     table: String,
 }
 
-/// What a fault of the template is, and where.
-fn told_error(
-    alloc: Global,
-    file: &str,
-    template: &str,
-    error: &Error,
-) -> Result<String, AllocError> {
-    match error.place() {
-        Some(place) => {
-            let at = Position::of(template, place);
-            format!(in alloc; "{file}:{}:{}: {error}", at.line, at.column)
-        }
-        None => format!(in alloc; "{error}"),
-    }
-}
-
-/// Why there are no letters, with the place in the template or the line of the table.
-fn told(alloc: Global, asked: &Request, fault: &Fault) -> Result<String, AllocError> {
+/// Why there are no letters: a fault of the template as a picture of its line, or the line of the table.
+fn told(alloc: Global, asked: &Request, fault: &Fault) -> Result<String, Error> {
     let [template, table] = asked.words.as_slice() else {
         return Ok(String::new(alloc));
     };
     match fault {
+        Fault::Template(Error::NoMemory) => Err(Error::NoMemory),
         Fault::Template(error) => {
-            told_error(alloc, template.as_str(), asked.template.as_str(), error)
+            explain(alloc, template.as_str(), asked.template.as_str(), error)
         }
         Fault::Fields(row) => {
-            format!(in alloc; "{table}:{row}: another number of fields than line 1 has")
+            let told = format!(in alloc;
+                "{table}:{row}: another number of fields than line 1 has"
+            )?;
+            Ok(told)
         }
     }
 }

@@ -1,6 +1,7 @@
 use Rattle.std.proofs.Common.{◌≡◌, ◌++◌, ◌∷◌, [], arith, length-append, string_bytes}
 use Rattle.std.proofs.lemmas.Iterator.Consumers.{YieldsList-end}
 use Rattle.std.proofs.lemmas.Iterator.Splits.{YieldsList-from_lines}
+use Rattle.catalogue.specs.Declarations.{declared_by}
 use Rattle.catalogue.proofs.MessageLemmas.{told_next, sound_next, found_next}
 use Rattle.catalogue.proofs.messages.checked.Goals as goal
 
@@ -22,7 +23,7 @@ loop-text-preserved c =
           c.loop-text.number _ _ _ so_far.counted pushed so_far.sound c.in_ok-more.ensures.sound;
       found = λ h. rw c.or-found.ensures (found_next c.args.file.now c.args.key.now
           c.loop-text.yielded c.in-Some.text c.loop-text.number _ _ _ so_far.counted pushed
-          (λ one. (one.number, one.text.now, one.template)) c.in_ok-more.field-0.found c.loop-text.found
+          (λ one. (one.number, one.text.now, one.template, declared_by one.heading)) c.in_ok-more.field-0.found c.loop-text.found
           so_far.found c.in_ok-more.ensures.found h);
     }
 

@@ -14,5 +14,5 @@ returns c =
       f = t.0;
       faulty =
           record { pairs = c.in_ok-pairs.pairs.items; shown = c.in_ok-pairs.ensures; told = t.2 };
-      says = rw c.text-format.ensures.text at (c.in_ok-told-in-Some.ensures.told t.0 t.1);
+      says = rw (c.text-format.ensures.text, t.1) at c.in_ok-told-in-Some.ensures.told;
     }

@@ -1,0 +1,82 @@
+-- Parts between commas that are read one after the other.
+use Rattle.std.proofs.Common.{◌≡◌, ℕ, List, [], ◌∷◌, ◌++◌, Option, None, Some, refl, sym, ap, ◌∙◌, map}
+use Rattle.std.proofs.Common.{append_assoc, append-nil, length, ◌==◌, false}
+use Rattle.std.specs.List.{slice_split}
+use Rattle.std.specs.Str.{trim}
+use Rattle.std.specs.Borrow.{Bor}
+use Rattle.std.specs.Option.{option_or}
+use Rattle.std.proofs.lemmas.List.{map-append}
+use Rattle.catalogue.specs.Declarations.{after_part, as_list, broken_at, broken_from, declarations}
+use Rattle.catalogue.specs.Declarations.{declared_between, is_comma, part_of, unless_broken}
+use Rattle.catalogue.specs.declared.declarations.Kind.{Kind}
+
+-- where the part after some parts comes
+abbrev pub after_all : ℕ → List (List ℕ) → ℕ
+after_all place [] = place
+after_all place (part ∷ parts) = after_all (after_part place part) parts
+
+-- the same of one more
+after_more : (place : ℕ) (parts : List (List ℕ)) (part : List ℕ)
+    → after_all place (parts ++ (part ∷ [])) ≡ after_part (after_all place parts) part
+after_more place [] part = refl
+after_more place (x ∷ parts) part = after_more (after_part place x) parts part
+
+-- one of the last is one of the rest
+or_nothing : (o : Option ℕ) → option_or o None ≡ o
+or_nothing None = refl
+or_nothing (Some n) = refl
+
+or_assoc : (a b c : Option ℕ) → option_or a (option_or b c) ≡ option_or (option_or a b) c
+or_assoc None b c = refl
+or_assoc (Some n) b c = refl
+
+-- the first that is broken among one more
+broken_more : (place : ℕ) (parts : List (List ℕ)) (part : List ℕ)
+    → broken_from place (parts ++ (part ∷ []))
+    ≡ option_or (broken_from place parts) (broken_at (after_all place parts) part)
+broken_more place [] part = or_nothing (broken_at place part)
+broken_more place (x ∷ parts) part =
+    ap (λ (o : Option ℕ). option_or (broken_at place x) o) (broken_more (after_part place x) parts part)
+    ∙ or_assoc (broken_at place x) (broken_from (after_part place x) parts) _
+
+-- the declarations among one more
+declarations_more : (parts : List (List ℕ)) (part : List ℕ)
+    → declarations (parts ++ (part ∷ [])) ≡ declarations parts ++ as_list (part_of part)
+declarations_more [] part = append-nil (as_list (part_of part))
+declarations_more (x ∷ parts) part =
+    ap (λ l. as_list (part_of x) ++ l) (declarations_more parts part)
+    ∙ sym (append_assoc (as_list (part_of x)) (declarations parts) (as_list (part_of part)))
+
+module _ (seen : List (Bor (List ℕ))) (part : Bor (List ℕ)) where
+  -- the texts of the parts
+  abbrev texts : List (List ℕ)
+  texts = map (λ x. x.now) seen
+
+  -- those and one more
+  one_text : map (λ x. x.now) (seen ++ (part ∷ [])) ≡ texts ++ (part.now ∷ [])
+  one_text = map-append (λ (x : Bor (List ℕ)). x.now) seen (part ∷ [])
+
+  -- where the next one comes
+  pub at_next : (place at : ℕ) → at ≡ after_all place texts
+      → after_part at part.now ≡ after_all place (map (λ x. x.now) (seen ++ (part ∷ [])))
+  at_next place at so_far = rw (one_text, after_more place texts part.now, so_far) refl
+
+  -- whether one is broken
+  pub broken_next : (place at : ℕ) (before : Option ℕ) → at ≡ after_all place texts
+      → before ≡ broken_from place texts
+      → option_or before (broken_at at part.now)
+      ≡ broken_from place (map (λ x. x.now) (seen ++ (part ∷ [])))
+  broken_next place at before here so_far =
+      rw (one_text, broken_more place texts part.now, here, so_far) refl
+
+  -- what they declare
+  pub declared_next : declarations texts ++ as_list (part_of part.now)
+      ≡ declarations (map (λ x. x.now) (seen ++ (part ∷ [])))
+  declared_next = rw (one_text, declarations_more texts part.now) refl
+
+-- what is declared between brackets, if it is not blank
+pub between : (place : ℕ) (inner : List ℕ) (parts : List (List ℕ)) (broken : Option ℕ)
+    (found : List (List ℕ × Kind)) → (length (trim inner) == 0) ≡ false
+    → parts ≡ slice_split is_comma inner → broken ≡ broken_from place parts
+    → found ≡ declarations parts → unless_broken broken found ≡ declared_between place inner
+between place inner parts broken found some split at all = rw (some, at, all, split) refl

@@ -1,0 +1,135 @@
+-- What the head of a line declares: names, each with a kind of value. Texts are bytes.
+use Rattle.std.specs.Prelude.{ℕ, Bool, not, ◌==◌, ◌+◌, ◌-◌, nat_lt, List, [], ◌∷◌, ◌++◌, map, length, codes}
+use Rattle.std.specs.Prelude.{if◌then◌else◌, Option, None, Some}
+use Rattle.std.specs.Option.{option_or}
+use Rattle.std.specs.List.{before_first, after_first, position_or_len, slice_split}
+use Rattle.std.specs.Str.{bytes_eq, trim, trim_start}
+use Rattle.interpolator.specs.Explained.{capped}
+use Rattle.catalogue.specs.declared.declarations.Declaration.{Declaration}
+use Rattle.catalogue.specs.declared.declarations.Heading.{Heading}
+use Rattle.catalogue.specs.declared.declarations.Heading.TheVariants as headings
+use Rattle.catalogue.specs.declared.declarations.Kind.{Kind}
+use Rattle.catalogue.specs.declared.declarations.Kind.TheVariants as kinds
+
+-- the signs `(`, `)`, `,`, `:` and `[`
+abbrev pub is_open : ℕ → Bool
+is_open b = b == 40
+
+abbrev pub is_close : ℕ → Bool
+is_close b = b == 41
+
+abbrev pub is_comma : ℕ → Bool
+is_comma b = b == 44
+
+abbrev pub is_colon : ℕ → Bool
+is_colon b = b == 58
+
+abbrev pub is_bracket : ℕ → Bool
+is_bracket b = b == 91
+
+-- such a sign is in the text
+abbrev pub has : (ℕ → Bool) → List ℕ → Bool
+has is_sign text = nat_lt (position_or_len is_sign text) (length text)
+
+-- a name and the kind of value under it, where borrows do not count
+abbrev pub as_declaration : Declaration → List ℕ × Kind
+as_declaration declared = (declared.name.now, declared.kind)
+
+-- a declaration, if nothing is wrong with it
+abbrev pub if_whole : Bool → List ℕ × Kind → Option (List ℕ × Kind)
+if_whole whole declared = if whole then Some declared else None
+
+-- the declaration that a text is: `name:` of a number, `name[]` of a list, else `name` of a text
+abbrev pub declaration_of : List ℕ → Option (List ℕ × Kind)
+declaration_of text =
+    if has is_colon text
+    then if_whole (length (after_first is_colon text) == 0) (before_first is_colon text, kinds.Number)
+    else (if has is_bracket text
+    then if_whole (bytes_eq (after_first is_bracket text) (codes "]"))
+    (before_first is_bracket text, kinds.List)
+    else Some (text, kinds.Text))
+
+-- a declaration whose name is not empty
+abbrev pub named : Option (List ℕ × Kind) → Option (List ℕ × Kind)
+named None = None
+named (Some declared) = if_whole (not (length declared.0 == 0)) declared
+
+-- the declaration between two commas
+abbrev pub part_of : List ℕ → Option (List ℕ × Kind)
+part_of part = named (declaration_of (trim part))
+
+-- where a part begins that comes at a byte, less the white space before it
+abbrev pub begin_of : ℕ → List ℕ → ℕ
+begin_of place part = capped place (length part - length (trim_start part))
+
+-- where the part after it comes, behind a comma
+abbrev pub after_part : ℕ → List ℕ → ℕ
+after_part place part = capped (capped place (length part)) 1
+
+-- where a part that is no declaration begins
+abbrev pub broken_by : ℕ → Option (List ℕ × Kind) → Option ℕ
+broken_by begin (Some declared) = None
+broken_by begin None = Some begin
+
+-- the same of a part that comes at a byte
+abbrev pub broken_at : ℕ → List ℕ → Option ℕ
+broken_at place part = broken_by (begin_of place part) (part_of part)
+
+-- where the first of some parts that is no declaration begins
+abbrev pub broken_from : ℕ → List (List ℕ) → Option ℕ
+broken_from place [] = None
+broken_from place (part ∷ parts) =
+    option_or (broken_at place part) (broken_from (after_part place part) parts)
+
+-- what there may be, as a list
+abbrev pub as_list : Option (List ℕ × Kind) → List (List ℕ × Kind)
+as_list None = []
+as_list (Some declared) = declared ∷ []
+
+-- the declarations among some parts
+abbrev pub declarations : List (List ℕ) → List (List ℕ × Kind)
+declarations [] = []
+declarations (part ∷ parts) = as_list (part_of part) ++ declarations parts
+
+-- what is declared: nothing, these names with their kinds, or what is broken at a byte of the line
+pub data Declared : Type 0 where
+  nothing : Declared
+  these : List (List ℕ × Kind) → Declared
+  broken : ℕ → Declared
+
+-- some declarations, if none is broken
+abbrev pub unless_broken : Option ℕ → List (List ℕ × Kind) → Declared
+unless_broken None declared = these declared
+unless_broken (Some place) declared = broken place
+
+-- what is declared between brackets, of which the first part comes at a byte
+abbrev pub declared_between : ℕ → List ℕ → Declared
+declared_between place inner =
+    if length (trim inner) == 0 then these []
+    else unless_broken (broken_from place (slice_split is_comma inner))
+    (declarations (slice_split is_comma inner))
+
+-- what is declared after a `(` at a byte: it is closed by a `)` with nothing behind it
+abbrev pub declared_after : ℕ → List ℕ → Declared
+declared_after opened rest =
+    if has is_close rest
+    then (if length (trim (after_first is_close rest)) == 0
+    then declared_between (capped opened 1) (before_first is_close rest) else broken opened)
+    else broken opened
+
+-- what the head of a line declares
+abbrev pub declared_in : List ℕ → Declared
+declared_in head =
+    if has is_open head
+    then declared_after (length (before_first is_open head)) (after_first is_open head)
+    else nothing
+
+-- the key in the head of a line, before its first `(`
+abbrev pub key_in : List ℕ → List ℕ
+key_in head = trim (before_first is_open head)
+
+-- what a heading declares, where borrows do not count
+abbrev pub declared_by : Heading → Declared
+declared_by headings.Plain = nothing
+declared_by (headings.Declares declared) = these (map as_declaration declared.items)
+declared_by (headings.Broken place) = broken place

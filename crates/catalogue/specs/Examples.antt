@@ -1,0 +1,70 @@
+-- An example of what a line declares, and the first fault that its format has over that.
+use Rattle.std.specs.Prelude.{◌≡◌, ⊤, ℕ, pos, List, [], ◌∷◌, map, reverse, Option, None, Some}
+use Rattle.std.specs.Borrow.{Bor}
+use Rattle.std.specs.List.{find}
+use Rattle.std.specs.Option.{option_map}
+use Rattle.std.specs.Str.{bytes_eq, chars, encode_utf8_all}
+use Rattle.interpolator.specs.At.{outermost}
+use Rattle.interpolator.specs.Faults.{Answer, Fault, fault, no_memory}
+use Rattle.interpolator.specs.Slots.{Slots, empty_slots, slots_of, with_debug_display, with_integer}
+use Rattle.interpolator.specs.Slots.{with_iter}
+use Rattle.interpolator.specs.Template.NodeChecks.{first_fault, text_faults}
+use Rattle.interpolator.specs.Template.NodeSamples.{faults_over}
+use Rattle.interpolator.specs.Views.{Shown, shown_as_value}
+use Rattle.interpolator.specs.declared.Bits.TheVariants.{B128}
+use Rattle.interpolator.specs.declared.Formattable.{Formattable}
+use Rattle.interpolator.specs.declared.Spec.{Spec}
+use Rattle.interpolator.specs.declared.Trait.{Trait}
+use Rattle.interpolator.specs.declared.View.{View}
+use Rattle.interpolator.specs.declared.View.TheVariants.{Character, Signed}
+use Rattle.catalogue.specs.Declarations.{Declared, nothing, these, broken}
+use Rattle.catalogue.specs.Entries.{object_slots}
+use Rattle.catalogue.specs.declared.entries.Object.{Object}
+use Rattle.catalogue.specs.declared.declarations.Kind.{Kind}
+use Rattle.catalogue.specs.declared.declarations.Kind.TheVariants as kinds
+
+-- what a view shows as a value, whatever the trait and the spec
+abbrev pub view_shows : View → Trait → Spec → Shown
+view_shows view t spec = shown_as_value view
+
+-- an example of a text: a character, which has a text under the same traits as any text
+abbrev pub text_example : View
+text_example = Character 97
+
+-- an example of a number
+abbrev pub number_example : View
+number_example = Signed (pos 0) B128
+
+-- the one item of an example of a list
+abbrev pub item_examples : List (Slots View)
+item_examples = with_debug_display empty_slots text_example ∷ []
+
+-- an example of a kind
+abbrev pub example_slots : Kind → Slots View
+example_slots kinds.Text = with_debug_display empty_slots text_example
+example_slots kinds.Number = with_integer empty_slots number_example
+example_slots kinds.List = with_iter empty_slots item_examples
+
+-- an object is an example of a declaration
+pub record IsExample (declared : List ℕ × Kind) (object : Object) : Type 0 where
+  pub same_name : object.name.now ≡ declared.0
+  pub same_slots : object_slots object ≡ example_slots declared.1
+
+-- what the examples of some declarations give under a name: that of the last declaration of the name
+abbrev pub example_under : List (List ℕ × Kind) → List ℕ → Option (Slots View)
+example_under declared name =
+    option_map (λ one. example_slots one.1)
+    (find (λ one. bytes_eq (encode_utf8_all name) one.0) (reverse declared))
+
+-- the faults of a format: by itself, if nothing is declared, or over examples of what is declared
+abbrev pub faults_of : Declared → List ℕ → List Fault
+faults_of nothing format = text_faults (outermost (chars format))
+faults_of (these declared) format =
+    faults_over view_shows (example_under declared) (outermost (chars format))
+faults_of (broken place) format = []
+
+-- the first of some faults was told, if there is one; or memory was refused
+abbrev pub TellsFirst : List Fault → Option Answer → Type 0
+TellsFirst fs None = first_fault fs ≡ None
+TellsFirst fs (Some (fault f)) = first_fault fs ≡ Some f
+TellsFirst fs (Some no_memory) = ⊤

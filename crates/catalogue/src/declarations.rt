@@ -1,0 +1,164 @@
+//! What the head of a line declares: the names that its format is given, each with a kind.
+
+ghost use Rattle.std.specs.Prelude.{◌≡◌, ◌++◌, IfOk, OnOk, map};
+ghost use Rattle.std.specs.Option.{option_map};
+ghost use Rattle.std.specs.Str.{trim};
+ghost use Rattle.catalogue.specs.Declarations.{as_declaration, as_list, if_whole, declaration_of};
+ghost use Rattle.catalogue.specs.Declarations.{part_of, begin_of, after_part, broken_at, declared_by};
+ghost use Rattle.catalogue.specs.Declarations.{declared_between, declared_after, declared_in, key_in};
+
+use std::alloc::{AllocError, Global};
+
+/// What kind of value is under a name.
+#[derive(Clone, Copy, Debug, PartialEq, Eq)]
+pub enum Kind {
+    /// A text.
+    Text,
+    /// A whole number.
+    Number,
+    /// A list of texts.
+    List,
+}
+
+/// A name, and the kind of value under it.
+#[derive(Clone, Copy, Debug)]
+pub struct Declaration<'a> {
+    pub name: &'a str,
+    pub kind: Kind,
+}
+
+/// What the head of a line declares.
+#[derive(Drop)]
+pub enum Heading<'a> {
+    /// Nothing: it is a key alone.
+    Plain,
+    /// These, in their order.
+    Declares(Vec<Declaration<'a>>),
+    /// What is no declaration stands at this byte of the line.
+    Broken(usize),
+}
+
+/// The declaration, if nothing is wrong with it.
+fn if_whole(name: &str, kind: Kind, whole: bool) -> Option<Declaration<'_>>
+    ensures { option_map as_declaration result ≡ if_whole whole (name.now, kind) }
+{
+    if whole {
+        Some(Declaration { name, kind })
+    } else {
+        None
+    }
+}
+
+/// The declaration that a text is: `NAME:` of a number, `NAME[]` of a list of texts, else `NAME` of a
+/// text. A name has no `:` and no `[`.
+pub fn declaration_of(text: &str) -> Option<Declaration<'_>>
+    ensures { option_map as_declaration result ≡ declaration_of text.now }
+{
+    if let Some((name, rest)) = text.split_once(':') {
+        return if_whole(name, Kind::Number, rest.is_empty());
+    }
+    if let Some((name, rest)) = text.split_once('[') {
+        return if_whole(name, Kind::List, rest == "]");
+    }
+    if_whole(text, Kind::Text, true)
+}
+
+/// The declaration between two commas: white space around it is passed over, and its name is not empty.
+fn part_of(part: &str) -> Option<Declaration<'_>>
+    ensures { option_map as_declaration result ≡ part_of part.now }
+{
+    let declared = declaration_of(part.trim())?;
+    if_whole(declared.name, declared.kind, !declared.name.is_empty())
+}
+
+/// Where a part begins that comes at a byte, less the white space before it.
+fn begin_of(place: usize, part: &str) -> usize
+    ensures { result ≡ begin_of place part.now }
+{
+    place.saturating_add(part.len().saturating_sub(part.trim_start().len()))
+}
+
+/// Where the part after this one comes.
+fn after_part(place: usize, part: &str) -> usize
+    ensures { result ≡ after_part place part.now }
+{
+    place.saturating_add(part.len()).saturating_add(1)
+}
+
+/// Where a part is broken that comes at a byte.
+fn broken_at(place: usize, part: &str) -> Option<usize>
+    ensures { result ≡ broken_at place part.now }
+{
+    match part_of(part) {
+        Some(_) => None,
+        None => Some(begin_of(place, part)),
+    }
+}
+
+/// Adds a declaration, if there is one.
+fn add<'a>(found: &mut Vec<Declaration<'a>>, one: Option<Declaration<'a>>) -> Result<(), AllocError>
+    ensures { OnOk result (map as_declaration found.new.items
+        ≡ map as_declaration found.old.items ++ as_list (option_map as_declaration one.entry)) }
+{
+    if let Some(one) = one {
+        found.push(one)?;
+    }
+    Ok(())
+}
+
+/// The declarations between brackets, of which the first comes at a byte of the line.
+fn declared_between<'a>(
+    alloc: Global,
+    place: usize,
+    inner: &'a str,
+) -> Result<Heading<'a>, AllocError>
+    ensures { IfOk result (λ found. declared_by found ≡ declared_between place inner.now) }
+{
+    let mut found = Vec::new(alloc);
+    if inner.trim().is_empty() {
+        return Ok(Heading::Declares(found));
+    }
+    let mut broken = None;
+    let mut at = place;
+    for part in inner.split(',') {
+        broken = broken.or(broken_at(at, part));
+        add(&mut found, part_of(part))?;
+        at = after_part(at, part);
+    }
+    match broken {
+        Some(place) => Ok(Heading::Broken(place)),
+        None => Ok(Heading::Declares(found)),
+    }
+}
+
+/// What is declared after a `(` at this byte of the line.
+fn declared_after<'a>(
+    alloc: Global,
+    opened: usize,
+    rest: &'a str,
+) -> Result<Heading<'a>, AllocError>
+    ensures { IfOk result (λ found. declared_by found ≡ declared_after opened rest.now) }
+{
+    let Some((inner, after)) = rest.split_once(')') else {
+        return Ok(Heading::Broken(opened));
+    };
+    if !after.trim().is_empty() {
+        return Ok(Heading::Broken(opened));
+    }
+    declared_between(alloc, opened.saturating_add(1), inner)
+}
+
+/// The key of a line's head, and what it declares.
+///
+/// `greeting(name, count:, items[])` declares a text `name`, a number `count` and a list of texts
+/// `items`.
+pub fn heading_of<'a>(alloc: Global, head: &'a str) -> Result<(&'a str, Heading<'a>), AllocError>
+    ensures key { IfOk result (λ found. found.0.now ≡ key_in head.now) }
+    ensures declared { IfOk result (λ found. declared_by found.1 ≡ declared_in head.now) }
+{
+    let Some((key, rest)) = head.split_once('(') else {
+        return Ok((head.trim(), Heading::Plain));
+    };
+    let heading = declared_after(alloc, key.len(), rest)?;
+    Ok((key.trim(), heading))
+}

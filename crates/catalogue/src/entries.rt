@@ -1,0 +1,90 @@
+//! Values under names, and as pairs of a context.
+
+ghost use Rattle.std.specs.Prelude.{◌≡◌, IfOk, IfErr, map};
+ghost use Rattle.std.specs.List.{AllZip};
+ghost use Rattle.interpolator.specs.Faults.{answer_of, no_memory};
+ghost use Rattle.interpolator.specs.Slots.{slots_of};
+ghost use Rattle.catalogue.specs.Entries.{entry_slots, item_slots, Enters, Lends};
+
+use crate::declarations::Kind;
+use interpolator::{Error, Formattable, View};
+use std::alloc::Global;
+
+/// A name, and what the value under it shows.
+#[derive(Drop)]
+pub struct Object<'a> {
+    pub name: &'a str,
+    pub kind: Kind,
+    /// Shows a text or a number.
+    pub value: View<'a>,
+    /// Show the items of a list.
+    pub items: Vec<View<'a>>,
+}
+
+/// The same, lent, with the slots of a list's items filled.
+#[derive(Drop)]
+pub struct Entry<'a> {
+    pub name: &'a str,
+    pub kind: Kind,
+    pub value: &'a View<'a>,
+    pub items: Vec<Formattable<'a, View<'a>>>,
+}
+
+/// Each view as an item of a list: its slots of debug and display are filled.
+fn as_items<'a>(
+    alloc: Global,
+    views: &'a [View<'a>],
+) -> Result<Vec<Formattable<'a, View<'a>>>, Error>
+    ensures items { IfOk result (λ items. map slots_of items.items ≡ item_slots views.now) }
+    ensures refused { IfErr result (λ error. answer_of error ≡ no_memory) }
+{
+    let mut items = Vec::with_capacity(alloc, views.len())?;
+    for view in views {
+        items.push(Formattable::debug_display(view))?;
+    }
+    Ok(items)
+}
+
+/// Each object, lent.
+pub fn entries_of<'e, 'a>(alloc: Global, objects: &'e [Object<'a>]) -> Result<Vec<Entry<'e>>, Error>
+    ensures entries { IfOk result (λ entries. AllZip Lends objects.now entries.items) }
+    ensures refused { IfErr result (λ error. answer_of error ≡ no_memory) }
+{
+    let mut entries = Vec::with_capacity(alloc, objects.len())?;
+    for object in objects {
+        entries.push(Entry {
+            name: object.name,
+            kind: object.kind,
+            value: &object.value,
+            items: as_items(alloc, object.items.as_slice())?,
+        })?;
+    }
+    Ok(entries)
+}
+
+/// The slots that a value fills, by its kind: a text those of debug and display, a number those of an
+/// integer, a list that of its items.
+fn slots_by<'p, 'e>(entry: &'p Entry<'e>) -> Formattable<'p, View<'e>>
+    ensures { slots_of result ≡ entry_slots entry.now }
+{
+    match entry.kind {
+        Kind::Text => Formattable::debug_display(entry.value),
+        Kind::Number => Formattable::integer(entry.value),
+        Kind::List => Formattable::iter(entry.items.as_slice()),
+    }
+}
+
+/// Each value under its name, as pairs of a context.
+pub fn pairs_of<'p, 'e>(
+    alloc: Global,
+    entries: &'p [Entry<'e>],
+) -> Result<Vec<(&'p str, Formattable<'p, View<'e>>)>, Error>
+    ensures pairs { IfOk result (λ pairs. AllZip Enters entries.now pairs.items) }
+    ensures refused { IfErr result (λ error. answer_of error ≡ no_memory) }
+{
+    let mut pairs = Vec::with_capacity(alloc, entries.len())?;
+    for entry in entries {
+        pairs.push((entry.name, slots_by(entry)))?;
+    }
+    Ok(pairs)
+}
