@@ -1,6 +1,6 @@
 -- The values of words are within their limits, so what a format means over them is within its cost.
-use Rattle.std.proofs.Common.{◌≡◌, ◌∙◌, sym, ap, subst, refl, ℕ, ◌+◌, ◌-◌, ◌^◌, ◌<◌, ◌≤◌, Bool, true}
-use Rattle.std.proofs.Common.{false, cond, List, [], ◌∷◌, ◌++◌, length, map, Option, Some, None}
+use Rattle.std.proofs.Common.{◌≡◌, ◌∙◌, sym, ap, subst, refl, ℕ, ◌-◌, ◌^◌, ◌<◌, ◌≤◌, Bool, true}
+use Rattle.std.proofs.Common.{false, cond, List, [], ◌∷◌, ◌++◌, length, map, Option, Some}
 use Rattle.std.proofs.Common.{option_map, arith, All, suc, min, Result, Ok, Err, string_bytes}
 use Rattle.std.proofs.lemmas.List.{length-map, reverse-append}
 use Rattle.std.proofs.lemmas.List.Elements.{All-head, All-tail}
@@ -10,13 +10,12 @@ use Rattle.std.specs.Prelude.{reverse, ⊤, IfOk, OnOk}
 use Rattle.std.specs.Str.{bytes_eq, chars, encode_utf8_all}
 use Rattle.std.specs.declared.string.String.{String}
 use Rattle.interpolator.proofs.TemplateLemmas.CostLawLemmas.{text_at_most}
-use Rattle.interpolator.specs.At.{outermost, text_of}
-use Rattle.interpolator.specs.Contexts.{found_by_pairs}
+use Rattle.interpolator.specs.At.{outermost}
 use Rattle.interpolator.specs.Meaning.AskedNames.{asked_names}
 use Rattle.interpolator.specs.Meaning.Limits.{FoundWithin, IsWithin, ItemsWithin, SlotsWithin}
 use Rattle.interpolator.specs.Meaning.Limits.{SlotWithin}
-use Rattle.interpolator.specs.Slots.{Slots, empty_slots, listed_slots, slot_at, slots_listed, slots_of}
-use Rattle.interpolator.specs.Slots.{values_of, with_integer}
+use Rattle.interpolator.specs.Slots.{Slots, empty_slots, listed_slots, slot_at, slots_listed}
+use Rattle.interpolator.specs.Slots.{slots_of, values_of, with_integer}
 use Rattle.interpolator.specs.declared.Formattable.{Formattable}
 use Rattle.interpolator.specs.declared.Limits.{Limits}
 use Rattle.interpolator.specs.declared.Trait.{Trait}
@@ -24,9 +23,8 @@ use Rattle.interpolator.specs.declared.Trait.TheVariants.{Binary, Debug, Display
 use Rattle.interpolator.specs.declared.Trait.TheVariants.{LowerExp, LowerHex, Octal}
 use Rattle.interpolator.specs.declared.Trait.TheVariants.{UpperExp, UpperHex}
 use Rattle.strangers.specs.Serving.{Affords, GiveWords, IsServed, IsWhole, meaning_over, names_over}
-use Rattle.strangers.specs.Serving.{shows, told_cost, work_over}
+use Rattle.strangers.specs.Serving.{shows, told_cost}
 use Rattle.strangers.specs.Values.{DatumWithin, GivenWithin, Named, Row, WordsWithin, given_tree}
-use Rattle.strangers.specs.Values.{pair_named, word_named}
 use Rattle.strangers.specs.declared.serving.Allowed.{Allowed}
 use Rattle.strangers.specs.declared.serving.Refused.{Refused}
 use Rattle.strangers.specs.declared.values.Datum.{Datum}
@@ -162,7 +160,8 @@ module _ (limits : Limits) where
   )
 
 -- a count that is told below the greatest `usize` is the count itself
-as_told : (n count : ℕ) → n ≤ count → min count (2 ^ 64 - 1) < 2 ^ 64 - 1 → n ≤ min count (2 ^ 64 - 1)
+as_told : (n count : ℕ) → n ≤ count → min count (2 ^ 64 - 1) < 2 ^ 64 - 1
+    → n ≤ min count (2 ^ 64 - 1)
 as_told n count h k = omega (arith, h, k)
 
 -- a format that is afforded over values within their limits is served
@@ -190,8 +189,8 @@ served_whole allowed format words pairs text kept given done affords =
     }
 
 -- so is what was answered, if that is a text
-pub served_if_ok : {Z : Type 0} (allowed : Allowed) (format : List ℕ) (words : List Word) (pairs : Row)
-    (result : Result (String Z) Refused) → WordsWithin allowed.values words
+pub served_if_ok : {Z : Type 0} (allowed : Allowed) (format : List ℕ) (words : List Word)
+    (pairs : Row) (result : Result (String Z) Refused) → WordsWithin allowed.values words
     → GiveWords words pairs
     → IfOk result (λ text. IsWhole format pairs (chars (string_bytes text)))
     → OnOk result (Affords allowed.most (told_cost allowed.values format))

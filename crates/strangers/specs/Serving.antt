@@ -1,9 +1,9 @@
--- When a format of a stranger is written, and why another is not. A format is bytes, and the text that
--- it is written as is characters.
+-- When a format of a stranger is written, and why another is not. A format is bytes, and the text
+-- that it is written as is characters.
 use Rattle.std.specs.Prelude.{◌≡◌, ◌⊎◌, ◌≤◌, ◌<◌, ◌-◌, ◌^◌, ℕ, List, [], length, map}
 use Rattle.std.specs.Prelude.{None, Some, option_map}
 use Rattle.std.specs.Str.{chars}
-use Rattle.interpolator.specs.At.{At, outermost, text_of}
+use Rattle.interpolator.specs.At.{outermost, text_of}
 use Rattle.interpolator.specs.Contexts.{found_by_pairs}
 use Rattle.interpolator.specs.Faults.{answer_of, fault, no_memory}
 use Rattle.interpolator.specs.Meaning.Environments.{Environment, environment}
@@ -21,7 +21,6 @@ use Rattle.interpolator.specs.declared.Spec.{Spec}
 use Rattle.interpolator.specs.declared.Trait.{Trait}
 use Rattle.strangers.specs.Values.{Row, datum_shows, pair_named, word_named}
 use Rattle.strangers.specs.declared.serving.Allowed.{Allowed}
-use Rattle.strangers.specs.declared.serving.Count.{Count}
 use Rattle.strangers.specs.declared.serving.Count.TheVariants as counts
 use Rattle.strangers.specs.declared.serving.Refused.{Refused}
 use Rattle.strangers.specs.declared.serving.Refused.TheVariants.{Format, Past}
@@ -71,8 +70,8 @@ pub record IsWhole (format : List ℕ) (pairs : Row) (text : List ℕ) : Type 0 
 abbrev pub GiveWords : List Word → Row → Type 0
 GiveWords words pairs = map pair_named pairs ≡ map word_named words
 
--- a format is served: its text is written whole, within the cost that was told of it, which is within
--- the limits
+-- a format is served: its text is written whole, within the cost that was told of it, which is
+-- within the limits
 pub record IsServed (allowed : Allowed) (format : List ℕ) (words : List Word) (text : List ℕ)
     : Type 0 where
   pub pairs : Row
@@ -120,8 +119,8 @@ RefusesOver allowed format pairs (Format error) = IsWrong format pairs error
 RefusesOver allowed format pairs (Past count told limit) =
     RefusesCost allowed.most (told_cost allowed.values format) (Past count told limit)
 
--- why a format is not served: memory was refused; the values are past their limits; or it is refused
--- over pairs that give what the words give
+-- why a format is not served: memory was refused; the values are past their limits; or it is
+-- refused over pairs that give what the words give
 abbrev pub Refuses : Allowed → List ℕ → List Word → Refused → Type 0
 Refuses allowed format words refused = (refused ≡ Format NoMemory)
     ⊎ (RefusesValues allowed.values refused

@@ -1,9 +1,11 @@
-//! `strangers [FLAG N..] FORMAT [NAME=TEXT | NAME:=NUMBER | NAME[]=ITEM,ITEM..]`: a format that a
-//! stranger wrote, printed only if it has no fault over the values and cannot cost more than is
+//! `strangers [FLAG NUMBER..] FORMAT [NAME=TEXT | NAME:=NUMBER | NAME[]=ITEM,ITEM..]`: a format that
+//! a stranger wrote, printed only if it has no fault over the values and cannot cost more than is
 //! allowed.
 //!
-//! The flags `--characters`, `--pieces` and `--buffered` limit what the format costs, and `--text` and
-//! `--items` the texts and lists among the values.
+//! `--text` and `--items` limit the characters of a text and the items of a list among the values:
+//! 80 and 20 where they are not given. `--characters`, `--pieces` and `--buffered` limit what the
+//! format costs within these: 10000, 1000 and 10000. A format that begins with `--` stands after a
+//! word `--`.
 #![tactic(auto)]
 
 mod lending;
@@ -17,6 +19,9 @@ use serving::{Count, Refused, served};
 use std::alloc::Global;
 use std::process::ExitCode;
 use std::{env, io};
+
+const USAGE: &str =
+    "usage: strangers [FLAG NUMBER..] FORMAT [NAME=TEXT | NAME:=NUMBER | NAME[]=ITEM,ITEM..]";
 
 const REFUSED: u8 = 1;
 
@@ -91,9 +96,7 @@ fn tell(rt: &HostRuntime, answer: &Answer) -> io::Result<u8> {
             Ok(BAD_USE)
         }
         Answer::BadUse => {
-            eprintln!(rt;
-                "usage: strangers [FLAG N..] FORMAT [NAME=TEXT | NAME:=NUMBER | NAME[]=ITEM,ITEM..]"
-            )?;
+            eprintln!(rt; "{USAGE}")?;
             Ok(BAD_USE)
         }
     }

@@ -14,7 +14,7 @@ const USUAL: Allowed = Allowed {
     most: Cost {
         characters: 10_000,
         pieces: 1_000,
-        buffered: 1_000,
+        buffered: 10_000,
     },
 };
 
@@ -40,8 +40,8 @@ fn with_limit(allowed: Allowed, flag: &str, limit: usize) -> Option<Allowed> {
     Some(now)
 }
 
-/// What a command line asks: flags with their numbers, a format, and words. A format that begins with
-/// `--` stands after a word `--`.
+/// What a command line asks: flags with their numbers, a format, and words. A format that begins
+/// with `--` stands after a word `--`.
 pub fn asked_by(line: &[String]) -> Option<Request<'_>> {
     let mut allowed = USUAL;
     let mut rest = line;

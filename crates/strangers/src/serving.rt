@@ -48,7 +48,8 @@ pub enum Count {
 pub enum Refused {
     /// The first fault that it has over the values as its sample, or `NoMemory`.
     Format(Error),
-    /// A count that is past its limit. The greatest `usize` means as many or more, and is past each.
+    /// A count that is past its limit. The greatest `usize` means as many or more, and is past
+    /// every limit.
     Past {
         count: Count,
         told: usize,
@@ -162,8 +163,8 @@ fn decided<'a>(
     }
 }
 
-/// The text of a format over what words give, if all that it can cost within the limits of the values
-/// is allowed: then it is whole, and within that cost. The values are the format's sample.
+/// The text of a format over what words give, if all that it can cost within the limits of the
+/// values is allowed: then it is whole, and within that cost. The values are the format's sample.
 ///
 /// Words past the limits of the values are refused first, then a format with a fault, and then one
 /// that costs too much. Of two words of a name the last counts.

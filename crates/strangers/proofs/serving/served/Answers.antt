@@ -1,5 +1,5 @@
 use Rattle.std.proofs.Common.{◌∙◌, ap, map}
-use Rattle.strangers.specs.Values.{entry_named, pair_named}
+use Rattle.strangers.specs.Values.{entry_named}
 use Rattle.strangers.proofs.WithinLemmas.{served_if_ok}
 use Rattle.strangers.proofs.serving.served.Goals as goal
 
