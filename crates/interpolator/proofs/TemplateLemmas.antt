@@ -10,6 +10,7 @@ pub mod DeepLemmas
 pub mod DepthLemmas
 pub mod ExtentLemmas
 pub mod FaultLemmas
+pub mod ItselfLemmas
 pub mod LackLawLemmas
 pub mod LackLemmas
 pub mod NodeMeaningLemmas

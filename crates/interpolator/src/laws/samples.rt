@@ -133,6 +133,15 @@ pub fn pairs_of_the_same_names_resemble<S: Value, V: Value>()
         (environment (found_by_pairs sample)) names }
 {}
 
+/// Each context resembles itself, under whatever names. So the values that a format is to be written
+/// with may be its sample: if it has no fault over them, it means none over them.
+pub fn a_context_resembles_itself<V: Value>()
+    ensures resembles { (e : Environment V) (names : List (List ℕ))
+        → ResemblesOn V.shows V.shows e e names }
+    ensures fault { (finds : List ℕ → Option (Slots V)) (a : At) → faults_over V.shows finds a ≡ []
+        → (means V.shows (environment finds) a).fault ≡ None }
+{}
+
 /// Whether a view has a text depends on its kind and on the trait, and not on what it holds. So each
 /// number has a text where any number of its type has one, each text where any text has one, and so
 /// with truth values and characters: a sample of one of them is a sample of all.

@@ -1,0 +1,200 @@
+-- The values of words are within their limits, so what a format means over them is within its cost.
+use Rattle.std.proofs.Common.{◌≡◌, ◌∙◌, sym, ap, subst, refl, ℕ, ◌-◌, ◌^◌, ◌<◌, ◌≤◌, Bool, true}
+use Rattle.std.proofs.Common.{false, cond, List, [], ◌∷◌, ◌++◌, length, map, Option, Some}
+use Rattle.std.proofs.Common.{option_map, arith, All, suc, min, Result, Ok, Err, string_bytes}
+use Rattle.std.proofs.lemmas.List.{length-map, reverse-append}
+use Rattle.std.proofs.lemmas.List.Elements.{All-head, All-tail}
+use Rattle.std.specs.Borrow.{Bor}
+use Rattle.std.specs.List.{find}
+use Rattle.std.specs.Prelude.{reverse, ⊤, IfOk, OnOk}
+use Rattle.std.specs.Str.{bytes_eq, chars, encode_utf8_all}
+use Rattle.std.specs.declared.string.String.{String}
+use Rattle.interpolator.proofs.TemplateLemmas.CostLawLemmas.{text_at_most}
+use Rattle.interpolator.specs.At.{outermost}
+use Rattle.interpolator.specs.Meaning.AskedNames.{asked_names}
+use Rattle.interpolator.specs.Meaning.Limits.{FoundWithin, IsWithin, ItemsWithin, SlotsWithin}
+use Rattle.interpolator.specs.Meaning.Limits.{SlotWithin}
+use Rattle.interpolator.specs.Slots.{Slots, empty_slots, listed_slots, slot_at, slots_listed}
+use Rattle.interpolator.specs.Slots.{slots_of, values_of, with_integer}
+use Rattle.interpolator.specs.declared.Formattable.{Formattable}
+use Rattle.interpolator.specs.declared.Limits.{Limits}
+use Rattle.interpolator.specs.declared.Trait.{Trait}
+use Rattle.interpolator.specs.declared.Trait.TheVariants.{Binary, Debug, Display, Iter}
+use Rattle.interpolator.specs.declared.Trait.TheVariants.{LowerExp, LowerHex, Octal}
+use Rattle.interpolator.specs.declared.Trait.TheVariants.{UpperExp, UpperHex}
+use Rattle.strangers.specs.Serving.{Affords, GiveWords, IsServed, IsWhole, meaning_over, names_over}
+use Rattle.strangers.specs.Serving.{shows, told_cost}
+use Rattle.strangers.specs.Values.{DatumWithin, GivenWithin, Named, Row, WordsWithin, given_tree}
+use Rattle.strangers.specs.declared.serving.Allowed.{Allowed}
+use Rattle.strangers.specs.declared.serving.Refused.{Refused}
+use Rattle.strangers.specs.declared.values.Datum.{Datum}
+use Rattle.strangers.specs.declared.values.Datum.TheVariants.{Text, Number}
+use Rattle.strangers.specs.declared.values.Given.{Given}
+use Rattle.strangers.specs.declared.values.Given.TheVariants.{One, Many}
+use Rattle.strangers.specs.declared.values.Word.{Word}
+
+module _ (limits : Limits) where
+  abbrev TreeWithin : Slots Datum → Type 0
+  TreeWithin tree = SlotsWithin shows limits.text limits.items tree
+
+  -- a value in a slot
+  slot_within : (t : Trait) (value : Datum) → DatumWithin limits.text value
+      → SlotWithin shows limits.text limits.items t (Some value)
+  slot_within t (Text text) h = λ spec. h
+  slot_within t (Number number) h = λ spec. h
+
+  -- a value in each slot
+  value_within : (value : Datum) → DatumWithin limits.text value
+      → TreeWithin (with_integer empty_slots value)
+  value_within value h = λ t. each t
+    where
+      each : (t : Trait) → SlotWithin shows limits.text limits.items t
+          (slot_at t (values_of (with_integer empty_slots value)))
+      each Binary = slot_within Binary value h
+      each Debug = slot_within Debug value h
+      each Display = slot_within Display value h
+      each LowerExp = slot_within LowerExp value h
+      each LowerHex = slot_within LowerHex value h
+      each Octal = slot_within Octal value h
+      each UpperExp = slot_within UpperExp value h
+      each UpperHex = slot_within UpperHex value h
+      each Iter = tt
+
+  -- nothing in any slot
+  none_within : (t : Trait) → SlotWithin shows limits.text limits.items t
+      (slot_at t (values_of (empty_slots {X = Datum})))
+  none_within Binary = tt
+  none_within Debug = tt
+  none_within Display = tt
+  none_within LowerExp = tt
+  none_within LowerHex = tt
+  none_within Octal = tt
+  none_within UpperExp = tt
+  none_within UpperHex = tt
+  none_within Iter = tt
+
+  -- the items of a list
+  items_within : (values : List Datum) → All (DatumWithin limits.text) values
+      → ItemsWithin shows limits.text limits.items
+      (listed_slots (map (with_integer empty_slots) values))
+  items_within [] h = tt
+  items_within (value ∷ values) h = (
+    value_within value (All-head (DatumWithin limits.text) value values h),
+    items_within values (All-tail (DatumWithin limits.text) value values h),
+  )
+
+  -- as many as there are values
+  as_many : (values : List Datum)
+      → length (slots_listed (listed_slots (map (with_integer empty_slots) values)))
+      ≡ length values
+  as_many [] = refl
+  as_many (value ∷ values) = ap suc (as_many values)
+
+  -- what a word gives
+  tree_within : (given : Given) → GivenWithin limits given → TreeWithin (given_tree given)
+  tree_within (One value) h = value_within value h
+  tree_within (Many values) h = (
+    none_within,
+    omega (arith, h.0, as_many values.items),
+    items_within values.items h.1,
+  )
+
+  -- ---- pairs
+
+  abbrev PairsWithin : Row → Type 0
+  PairsWithin [] = ⊤
+  PairsWithin (pair ∷ pairs) = TreeWithin (slots_of pair.1) × PairsWithin pairs
+
+  abbrev first_tree : Slots Datum → List Named → Slots Datum
+  first_tree tree [] = tree
+  first_tree tree (named ∷ others) = named.1
+
+  abbrev after_first : List Named → List Named
+  after_first [] = []
+  after_first (named ∷ others) = others
+
+  pairs_within : (words : List Word) (pairs : Row) → GiveWords words pairs
+      → WordsWithin limits words → PairsWithin pairs
+  pairs_within words [] e h = tt
+  pairs_within [] (pair ∷ pairs) e h = absurd (cc)
+  pairs_within (word ∷ words) (pair ∷ pairs) e h = (
+    subst TreeWithin (sym (ap (first_tree empty_slots) e))
+        (tree_within word.given
+        (All-head (λ (w : Word). GivenWithin limits w.given) word words h)),
+    pairs_within words pairs (ap after_first e)
+        (All-tail (λ (w : Word). GivenWithin limits w.given) word words h),
+  )
+
+  both_within : (front back : Row) → PairsWithin front → PairsWithin back
+      → PairsWithin (front ++ back)
+  both_within [] back h k = k
+  both_within (pair ∷ front) back h k = (h.0, both_within front back h.1 k)
+
+  reversed_within : (pairs : Row) → PairsWithin pairs → PairsWithin (reverse pairs)
+  reversed_within [] h = tt
+  reversed_within (pair ∷ pairs) h = rw (reverse-append (pair ∷ []) pairs)
+      (both_within (reverse pairs) (pair ∷ []) (reversed_within pairs h.1) (h.0, tt))
+
+  abbrev TreeFound : Option (Bor (List ℕ) × Formattable Datum) → Type 0
+  TreeFound found = FoundWithin shows limits.text limits.items
+      (option_map slots_of (option_map (λ pair. pair.1) found))
+
+  by_test : (same : Bool) (pair : Bor (List ℕ) × Formattable Datum)
+      (other : Option (Bor (List ℕ) × Formattable Datum))
+      → TreeWithin (slots_of pair.1) → TreeFound other → TreeFound (cond same (Some pair) other)
+  by_test true pair other h k = h
+  by_test false pair other h k = k
+
+  first_within : (pairs : Row) (name : List ℕ) → PairsWithin pairs
+      → TreeFound (find (λ pair. bytes_eq name pair.0.now) pairs)
+  first_within [] name h = tt
+  first_within (pair ∷ pairs) name h =
+      by_test (bytes_eq name pair.0.now) pair _ h.0 (first_within pairs name h.1)
+
+  names_within : (pairs : Row) (names : List (List ℕ)) → PairsWithin pairs
+      → IsWithin shows limits.text limits.items (names_over pairs) names
+  names_within pairs [] h = tt
+  names_within pairs (name ∷ names) h = (
+    first_within (reverse pairs) (encode_utf8_all name) (reversed_within pairs h),
+    names_within pairs names h,
+  )
+
+-- a count that is told below the greatest `usize` is the count itself
+as_told : (n count : ℕ) → n ≤ count → min count (2 ^ 64 - 1) < 2 ^ 64 - 1
+    → n ≤ min count (2 ^ 64 - 1)
+as_told n count h k = omega (arith, h, k)
+
+-- a format that is afforded over values within their limits is served
+pub served_whole : (allowed : Allowed) (format : List ℕ) (words : List Word) (pairs : Row)
+    (text : List ℕ) → WordsWithin allowed.values words → GiveWords words pairs
+    → IsWhole format pairs text → Affords allowed.most (told_cost allowed.values format)
+    → IsServed allowed format words text
+served_whole allowed format words pairs text kept given done affords =
+    let a = outermost (chars format) in
+    let most = text_at_most shows allowed.values (names_over pairs) a
+    (names_within allowed.values pairs (asked_names a)
+    (pairs_within allowed.values words pairs given kept)) in
+    let as_long : length text ≡ length (meaning_over format pairs).text =
+    ap (λ (cs : List ℕ). length cs) done.whole ∙ length-map (meaning_over format pairs).text _ in
+    record {
+      pairs = pairs;
+      given = given;
+      written = done;
+      characters =
+          subst (λ n. n ≤ (told_cost allowed.values format).characters) (sym as_long)
+          (as_told _ _ most.characters affords.characters.1);
+      pieces = as_told _ _ most.pieces affords.pieces.1;
+      buffered = as_told _ _ most.buffered affords.buffered.1;
+      afforded = affords;
+    }
+
+-- so is what was answered, if that is a text
+pub served_if_ok : {Z : Type 0} (allowed : Allowed) (format : List ℕ) (words : List Word)
+    (pairs : Row) (result : Result (String Z) Refused) → WordsWithin allowed.values words
+    → GiveWords words pairs
+    → IfOk result (λ text. IsWhole format pairs (chars (string_bytes text)))
+    → OnOk result (Affords allowed.most (told_cost allowed.values format))
+    → IfOk result (λ text. IsServed allowed format words (chars (string_bytes text)))
+served_if_ok allowed format words pairs (Ok text) kept given done affords =
+    served_whole allowed format words pairs (chars (string_bytes text)) kept given done affords
+served_if_ok allowed format words pairs (Err refused) kept given done affords = tt

@@ -1,0 +1,6 @@
+use Rattle.std.specs.List.{AllWithin}
+use Rattle.strangers.specs.Values.{GivenWithin}
+use Rattle.strangers.proofs.serving.check_words.Given as goal
+
+abbrev pub invariant-loop-word : goal.invariant-loop-word
+invariant-loop-word l = AllWithin (λ word. GivenWithin l.limits word.given) l.words 0 l.word-index

@@ -1,0 +1,68 @@
+-- The values that a format is given: what they show, and what limits they keep.
+use Rattle.std.specs.Prelude.{ℕ, ◌≤◌, FitsSigned, List, All, length, map}
+use Rattle.std.specs.Borrow.{Bor}
+use Rattle.std.specs.Int.{w128}
+use Rattle.std.specs.Str.{chars}
+use Rattle.interpolator.specs.Slots.{Slots, slots_of, empty_slots, with_integer, with_iter}
+use Rattle.interpolator.specs.Views.{Shown, some_text, signed_number}
+use Rattle.interpolator.specs.declared.Bits.TheVariants.{B128}
+use Rattle.interpolator.specs.declared.Formattable.{Formattable}
+use Rattle.interpolator.specs.declared.Limits.{Limits}
+use Rattle.strangers.specs.declared.values.Datum.{Datum}
+use Rattle.strangers.specs.declared.values.Datum.TheVariants.{Text, Number}
+use Rattle.strangers.specs.declared.values.Given.{Given}
+use Rattle.strangers.specs.declared.values.Given.TheVariants.{One, Many}
+use Rattle.strangers.specs.declared.values.Word.{Word}
+use Rattle.strangers.specs.declared.lending.Lent.{Lent}
+use Rattle.strangers.specs.declared.lending.Lent.TheVariants as lent
+use Rattle.strangers.specs.declared.lending.Entry.{Entry}
+
+-- what a value shows: its text, or its number at 128 bits
+abbrev pub datum_shows : Datum → Shown
+datum_shows (Text text) = some_text (chars text.now)
+datum_shows (Number number) = signed_number number B128
+
+-- what stands under the name of a word: one value in each slot, or a list of such values
+abbrev pub given_tree : Given → Slots Datum
+given_tree (One value) = with_integer empty_slots value
+given_tree (Many values) = with_iter empty_slots (map (with_integer empty_slots) values.items)
+
+-- the same, where the values are lent
+abbrev pub lent_tree : Lent → Slots Datum
+lent_tree (lent.One value) = with_integer empty_slots value.now
+lent_tree (lent.Many items) = with_iter empty_slots (map slots_of items.items)
+
+-- a name and what stands under it
+abbrev pub Named : Type 0
+Named = List ℕ × Slots Datum
+
+-- the name of a word, with what stands under it
+abbrev pub word_named : Word → Named
+word_named word = (word.name.now, given_tree word.given)
+
+-- the same of an entry, which lends the values of a word
+abbrev pub entry_named : Entry → Named
+entry_named entry = (entry.name.now, lent_tree entry.lent)
+
+-- the same of a pair of a context
+abbrev pub pair_named : Bor (List ℕ) × Formattable Datum → Named
+pair_named pair = (pair.0.now, slots_of pair.1)
+
+-- the pairs of a context
+abbrev pub Row : Type 0
+Row = List (Bor (List ℕ) × Formattable Datum)
+
+-- a text has at most so many characters; a number is one of 128 bits
+abbrev pub DatumWithin : ℕ → Datum → Type 0
+DatumWithin most (Text text) = length (chars text.now) ≤ most
+DatumWithin most (Number number) = FitsSigned w128 number
+
+-- what a word gives is within the limits
+abbrev pub GivenWithin : Limits → Given → Type 0
+GivenWithin limits (One value) = DatumWithin limits.text value
+GivenWithin limits (Many values) =
+    (length values.items ≤ limits.items) × All (DatumWithin limits.text) values.items
+
+-- so is each word
+abbrev pub WordsWithin : Limits → List Word → Type 0
+WordsWithin limits words = All (λ word. GivenWithin limits word.given) words

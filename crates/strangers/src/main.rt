@@ -1,0 +1,125 @@
+//! `strangers [FLAG NUMBER..] FORMAT [NAME=TEXT | NAME:=NUMBER | NAME[]=ITEM,ITEM..]`: a format that
+//! a stranger wrote, printed only if it has no fault over the values and cannot cost more than is
+//! allowed.
+//!
+//! `--text` and `--items` limit the characters of a text and the items of a list among the values:
+//! 80 and 20 where they are not given. `--characters`, `--pieces` and `--buffered` limit what the
+//! format costs within these: 10000, 1000 and 10000. A format that begins with `--` stands after a
+//! word `--`.
+#![tactic(auto)]
+
+mod lending;
+mod reading;
+mod serving;
+mod values;
+
+use interpolator::Error;
+use reading::{asked_by, words_of};
+use serving::{Count, Refused, served};
+use std::alloc::Global;
+use std::process::ExitCode;
+use std::{env, io};
+
+const USAGE: &str =
+    "usage: strangers [FLAG NUMBER..] FORMAT [NAME=TEXT | NAME:=NUMBER | NAME[]=ITEM,ITEM..]";
+
+const REFUSED: u8 = 1;
+
+const BAD_USE: u8 = 2;
+
+const NOT_WRITTEN: u8 = 3;
+
+/// What is printed: to the output, with status 0, or to the errors, with another.
+#[derive(Drop)]
+enum Answer {
+    Text(String),
+    Refused(Refused),
+    BadWord(String),
+    BadUse,
+}
+
+/// What is counted, as it is told.
+fn name_of(count: Count) -> &'static str {
+    match count {
+        Count::Characters => "characters",
+        Count::Pieces => "pieces",
+        Count::Buffered => "buffered characters",
+        Count::Text => "characters of a text",
+        Count::Items => "items of a list",
+    }
+}
+
+/// What a command line is answered with.
+fn answered(alloc: Global, line: &[String]) -> Result<Answer, Error> {
+    let Some(asked) = asked_by(line) else {
+        return Ok(Answer::BadUse);
+    };
+    match words_of(alloc, asked.words)? {
+        Err(word) => Ok(Answer::BadWord(String::from_str(alloc, word)?)),
+        Ok(words) => Ok(
+            match served(alloc, &asked.allowed, asked.format, words.as_slice()) {
+                Ok(text) => Answer::Text(text),
+                Err(refused) => Answer::Refused(refused),
+            },
+        ),
+    }
+}
+
+/// Tells why a format was refused.
+fn tell_refused(rt: &HostRuntime, refused: &Refused) -> io::Result<()> {
+    match refused {
+        Refused::Format(error) => eprintln!(rt; "{error}"),
+        Refused::Past { count, told, limit } => {
+            let what = name_of(*count);
+            if *told == usize::MAX {
+                eprintln!(rt; "{what}: {told} or more, where {limit} are allowed")
+            } else {
+                eprintln!(rt; "{what}: {told}, where {limit} are allowed")
+            }
+        }
+    }
+}
+
+/// Tells an answer, and gives the status.
+fn tell(rt: &HostRuntime, answer: &Answer) -> io::Result<u8> {
+    match answer {
+        Answer::Text(text) => {
+            println!(rt; "{text}")?;
+            Ok(0)
+        }
+        Answer::Refused(refused) => {
+            tell_refused(rt, refused)?;
+            Ok(REFUSED)
+        }
+        Answer::BadWord(word) => {
+            eprintln!(rt; "bad word: {word}")?;
+            Ok(BAD_USE)
+        }
+        Answer::BadUse => {
+            eprintln!(rt; "{USAGE}")?;
+            Ok(BAD_USE)
+        }
+    }
+}
+
+fn words(rt: &HostRuntime) -> io::Result<Vec<String>> {
+    let words = env::args(rt)?.skip(1).collect::<Vec<String>>(rt.alloc())?;
+    Ok(words)
+}
+
+fn main(rt: HostRuntime) -> ExitCode {
+    let answer = match words(&rt) {
+        Ok(line) => answered(rt.alloc(), line.as_slice()),
+        Err(error) if error.kind() == io::ErrorKind::OutOfMemory => Err(Error::NoMemory),
+        // An argument that is no text.
+        Err(_) => Ok(Answer::BadUse),
+    };
+    let answer = match answer {
+        Ok(answer) => answer,
+        Err(error) => Answer::Refused(Refused::Format(error)),
+    };
+    match tell(&rt, &answer) {
+        Ok(status) => ExitCode::from(status),
+        Err(_) => ExitCode::from(NOT_WRITTEN),
+    }
+}
