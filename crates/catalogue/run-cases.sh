@@ -8,7 +8,7 @@ set -u
 
 here=$(cd "$(dirname "$0")" && pwd)
 name=catalogue
-wanted=19
+wanted=22
 . "$here/../../.ci/cases.sh"
 
 # message WANTED WORD..: a message, which goes to the output, with status 0.
@@ -34,7 +34,8 @@ all_cases() {
         '  |' '5 | list = {x:i#({:?})#}' '  |        ^^^^^^^^^^^^^')" m.txt list x=1
     told 'm.txt: no message `gone`' m.txt gone
     told 'm.txt: no message `# greetings`' m.txt '# greetings'
-    told 'a value is `NAME=TEXT`' m.txt hello name
+    told 'a value is `NAME=TEXT`, `NAME:=NUMBER` or `NAME[]=ITEM,ITEM`' m.txt hello name
+    told 'a value is `NAME=TEXT`, `NAME:=NUMBER` or `NAME[]=ITEM,ITEM`' m.txt hello name:=x
     message 'Hello i!' m.txt hello a=1 b=2 c=3 d=4 e=5 f=6 g=7 h=8 name=i
     case_of closed file 3 '' '' m.txt hello name=Zoë
     case_of file full 3 '' '' m.txt gone
@@ -61,7 +62,10 @@ all_cases() {
         '  |' '3 | ü = é{x}{y' '  |         ^^')" \
         accents.txt ok x=1
 
-    printf '%s\n' 'hi( name ) = Hi {name:>4}' 'none() = nothing' >declared.txt
+    printf '%s\n' 'hi( name ) = Hi {name:>4}' 'none() = nothing' \
+        'cart(name, n:, l[]) = {name}: {n:03} of {l:i(<{}>)(, )}' >declared.txt
+    message 'Ann: -07 of <a>, <b>' declared.txt cart name=Ann n:=-7 'l[]=a,b'
+    message 'Ann: 007 of ' declared.txt cart 'l[]=' n:=7 name=Ann
     message 'Hi  Ann' declared.txt hi name=Ann
     message 'nothing' declared.txt none
     printf '%s\n' 'a(name) = {name:x}' 'b(n:) = {n:x} {m}' 'c(l[]) = {l:i({:x})}' \

@@ -1,7 +1,6 @@
 -- The answer, once the lines are sound, from the line that was found and what the words give.
 use Rattle.std.proofs.Common.{◌≡◌, ℕ, List, Option, None, Some, Ok, Err, Result, IfOk, sym, ap, ◌∙◌}
 use Rattle.std.proofs.Common.{All, inr, unwrap_or, refl}
-use Rattle.std.specs.Borrow.{Bor}
 use Rattle.std.specs.Option.{option_map}
 use Rattle.std.specs.Str.Lines.{lines}
 use Rattle.std.specs.declared.string.String.{String}
@@ -10,6 +9,7 @@ use Rattle.catalogue.specs.Messages.{Answers, GiveValues, IsMadeOrTold, IsSound,
 use Rattle.catalogue.specs.Messages.{format_of}
 use Rattle.catalogue.specs.Declarations.{Declared}
 use Rattle.catalogue.specs.Messages.{last_under, with_format}
+use Rattle.catalogue.specs.declared.entries.Object.{Object}
 use Rattle.catalogue.specs.declared.messages.Answer.{Answer}
 use Rattle.catalogue.specs.declared.messages.Answer.TheVariants.{Message, Faults}
 
@@ -32,7 +32,7 @@ found_under number line format declared (Some one) h =
 
 -- the message of the line, or its fault, is the answer
 pub answers_message : {Y : Type 0} (file text key : List ℕ) (words : List (String Y)) (number : ℕ)
-    (line : List ℕ) (values : List (Bor (List ℕ) × Bor (List ℕ))) (result : Result Answer Error)
+    (line : List ℕ) (values : List Object) (result : Result Answer Error)
     → All IsSound (lines text) → last_under key (lines text) ≡ Some (number, line)
     → GiveValues words values
     → IfOk result (λ answer. IsMadeOrTold file number line (format_of line) values answer)

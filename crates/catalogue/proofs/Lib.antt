@@ -4,3 +4,4 @@ pub mod PartLemmas
 pub mod ExampleLemmas
 pub mod EntryLemmas
 pub mod PlaceLemmas
+pub mod WordLemmas

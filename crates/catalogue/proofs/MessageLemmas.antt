@@ -11,8 +11,9 @@ use Rattle.std.proofs.lemmas.List.Elements.{All-append, All-cons}
 use Rattle.std.proofs.lemmas.Slice.Zip.{all_zipped_more}
 use Rattle.catalogue.specs.Declarations.{Declared, nothing, these, broken}
 use Rattle.catalogue.specs.Messages.{IsSound, IsSoundOver, is_under, last_under, told_of_line}
-use Rattle.catalogue.specs.Messages.{HasEquals, declared_of, format_of, told_of_format}
+use Rattle.catalogue.specs.Messages.{declared_of, format_of, told_of_format}
 use Rattle.catalogue.specs.Messages.{told_of_message}
+use Rattle.catalogue.specs.Words.{HasEquals}
 use Rattle.catalogue.specs.Messages.{told_of_lines, numbered, source_of, what_is_declared}
 use Rattle.catalogue.specs.Messages.{with_format}
 use Rattle.std.specs.Fmt.{decimal}

@@ -3,3 +3,4 @@ pub mod Messages
 pub mod Declarations
 pub mod Examples
 pub mod Entries
+pub mod Words

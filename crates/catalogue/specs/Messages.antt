@@ -23,13 +23,12 @@ use Rattle.interpolator.specs.Template.NodeChecks.{first_fault}
 use Rattle.interpolator.specs.Views.{some_text}
 use Rattle.interpolator.specs.declared.Formattable.{Formattable}
 use Rattle.catalogue.specs.Declarations.{Declared, nothing, these, broken, declared_in, has, key_in}
-use Rattle.catalogue.specs.Examples.{faults_of}
+use Rattle.catalogue.specs.Entries.{Holds, Pair}
+use Rattle.catalogue.specs.Examples.{faults_of, view_shows}
+use Rattle.catalogue.specs.Words.{Gives, HasEquals, IsGood, is_equals}
+use Rattle.catalogue.specs.declared.entries.Object.{Object}
 use Rattle.catalogue.specs.declared.messages.Answer.{Answer}
 use Rattle.catalogue.specs.declared.messages.Answer.TheVariants.{Message, Faults}
-
--- `=`
-abbrev pub is_equals : ℕ → Bool
-is_equals b = b == 61
 
 -- `#`
 abbrev pub hash : ℕ
@@ -38,10 +37,6 @@ hash = 35
 -- whether a line says nothing: it is blank, or begins with `#`
 abbrev pub is_passed_over : List ℕ → Bool
 is_passed_over line = length (trim line) == 0 || slice_index line 0 == hash
-
--- an `=` stands in the text
-abbrev pub HasEquals : List ℕ → Type 0
-HasEquals text = position_or_len is_equals text < length text
 
 -- the head of a line, before its first `=`
 abbrev pub head_of : List ℕ → List ℕ
@@ -141,60 +136,49 @@ abbrev pub told_of_lines : List ℕ → List (List ℕ) → List ℕ
 told_of_lines file some_lines =
     concat (map (λ one. told_of_line file one.0 one.1) (numbered some_lines))
 
--- a word `NAME=TEXT` gives its text under its name, cut at its first `=`
-pub record Gives (word name text : List ℕ) : Type 0 where
-  pub cut : HasEquals word
-  pub name_before : name ≡ before_first is_equals word
-  pub text_after : text ≡ after_first is_equals word
-
--- a pair of a context shows a text under a name, by display and by debug
-pub record Shows (name text : Bor (List ℕ)) (pair : Bor (List ℕ) × Formattable (Bor (List ℕ)))
-    : Type 0 where
-  pub same_name : pair.0 ≡ name
-  pub same_text : slots_of pair.1 ≡ with_debug_display empty_slots text
-
--- a value shows a text under a name, as a pair of a context
-abbrev pub ShowValues : List (Bor (List ℕ) × Bor (List ℕ))
-    → List (Bor (List ℕ) × Formattable (Bor (List ℕ))) → Type 0
-ShowValues values pairs = AllZip (λ value pair. Shows value.0 value.1 pair) values pairs
+-- pairs of a context hold what some objects do
+abbrev pub HoldAll : List Object → List Pair → Type 0
+HoldAll objects pairs = AllZip Holds objects pairs
 
 -- what a format means over pairs
-abbrev pub message_means : List ℕ → List (Bor (List ℕ) × Formattable (Bor (List ℕ))) → Meaning
-message_means format pairs = means (λ text _ _. some_text (chars text.now))
-    (environment (found_by_pairs pairs)) (outermost (chars format))
+abbrev pub message_means : List ℕ → List Pair → Meaning
+message_means format pairs =
+    means view_shows (environment (found_by_pairs pairs)) (outermost (chars format))
 
--- a message is what its format means over pairs of names and texts: it has no fault there
-pub record IsMade {Z : Type 0} (format : List ℕ) (values : List (Bor (List ℕ) × Bor (List ℕ)))
-    (message : String Z) : Type 0 where
-  pub pairs : List (Bor (List ℕ) × Formattable (Bor (List ℕ)))
-  pub shown : ShowValues values pairs
+-- a message is what its format means over pairs that hold some objects: it has no fault there
+pub record IsMade {Z : Type 0} (format : List ℕ) (objects : List Object) (message : String Z)
+    : Type 0 where
+  pub pairs : List Pair
+  pub shown : HoldAll objects pairs
   pub said : Formats (message_means format pairs) (Ok message)
 
--- a format has a fault over names and texts
-pub record HasFault (format : List ℕ) (values : List (Bor (List ℕ) × Bor (List ℕ))) (f : Fault)
-    : Type 0 where
-  pub pairs : List (Bor (List ℕ) × Formattable (Bor (List ℕ)))
-  pub shown : ShowValues values pairs
+-- a format has a fault over pairs that hold some objects
+pub record HasFault (format : List ℕ) (objects : List Object) (f : Fault) : Type 0 where
+  pub pairs : List Pair
+  pub shown : HoldAll objects pairs
   pub told : (message_means format pairs).fault ≡ Some f
 
--- what is told of a format's fault: with the file and the line that it stands in
-pub record IsToldOf (file : List ℕ) (number : ℕ) (line format : List ℕ)
-    (values : List (Bor (List ℕ) × Bor (List ℕ))) (told : List ℕ) : Type 0 where
+-- what is told of a format's fault: the fault as it is shown in its line
+pub record IsToldOf (file : List ℕ) (number : ℕ) (line format : List ℕ) (objects : List Object)
+    (told : List ℕ) : Type 0 where
   pub f : Fault
-  pub faulty : HasFault format values f
+  pub faulty : HasFault format objects f
   pub says : told ≡ told_of_fault file number line format (fault f)
 
 -- a message, or what is told of its fault
-abbrev pub IsMadeOrTold : List ℕ → ℕ → List ℕ → List ℕ → List (Bor (List ℕ) × Bor (List ℕ))
-    → Answer → Type 0
-IsMadeOrTold file number line format values (Message message) = IsMade format values message
-IsMadeOrTold file number line format values (Faults told) =
-    IsToldOf file number line format values (string_bytes told)
+abbrev pub IsMadeOrTold : List ℕ → ℕ → (line format : List ℕ) → List Object → Answer → Type 0
+IsMadeOrTold file number line format objects (Message message) = IsMade format objects message
+IsMadeOrTold file number line format objects (Faults told) =
+    IsToldOf file number line format objects (string_bytes told)
 
--- the words give names and texts, one each
-abbrev pub GiveValues : {Y : Type 0} → List (String Y) → List (Bor (List ℕ) × Bor (List ℕ)) → Type 0
-GiveValues words values =
-    AllZip (λ word value. Gives (string_bytes word) value.0.now value.1.now) words values
+-- each word gives an object
+abbrev pub GiveValues : {Y : Type 0} → List (String Y) → List Object → Type 0
+GiveValues words objects =
+    AllZip (λ word object. Gives (string_bytes word) object) words objects
+
+-- what is told of a word that gives nothing
+abbrev pub what_is_a_word : List ℕ
+what_is_a_word = codes "a value is `NAME=TEXT`, `NAME:=NUMBER` or `NAME[]=ITEM,ITEM`\n"
 
 module _ {Y : Type 0} (file text key : List ℕ) (words : List (String Y)) where
   -- the message under a key of a file, over words: every line is sound, and the format of the last
@@ -204,7 +188,7 @@ module _ {Y : Type 0} (file text key : List ℕ) (words : List (String Y)) where
     pub number : ℕ
     pub line : List ℕ
     pub under : last_under key (lines text) ≡ Some (number, line)
-    pub values : List (Bor (List ℕ) × Bor (List ℕ))
+    pub values : List Object
     pub given : GiveValues words values
     pub made : IsMade (format_of line) values message
 
@@ -219,12 +203,12 @@ module _ {Y : Type 0} (file text key : List ℕ) (words : List (String Y)) where
     pub none : last_under key (lines text) ≡ None
     pub says : told ≡ file ++ (codes ": no message `" ++ (key ++ codes "`\n"))
 
-  -- every line is sound, one has the key, and a word has no `=`
+  -- every line is sound, one has the key, and a word gives nothing
   pub record OfWord (told : List ℕ) : Type 0 where
     pub sound : All IsSound (lines text)
     pub under : IsSome (last_under key (lines text))
-    pub not_all : ¬ All (λ word. HasEquals (string_bytes word)) words
-    pub says : told ≡ codes "a value is `NAME=TEXT`\n"
+    pub not_all : ¬ All (λ word. IsGood (string_bytes word)) words
+    pub says : told ≡ what_is_a_word
 
   -- every line is sound, and the format of the last line of the key has a fault over what the words
   -- give
@@ -233,7 +217,7 @@ module _ {Y : Type 0} (file text key : List ℕ) (words : List (String Y)) where
     pub number : ℕ
     pub line : List ℕ
     pub under : last_under key (lines text) ≡ Some (number, line)
-    pub values : List (Bor (List ℕ) × Bor (List ℕ))
+    pub values : List Object
     pub given : GiveValues words values
     pub faulty : IsToldOf file number line (format_of line) values told
 

@@ -1,5 +1,5 @@
-//! `catalogue FILE KEY [NAME=TEXT..]`: the message under a key, of a file whose messages are all
-//! checked first.
+//! `catalogue FILE KEY [NAME=TEXT | NAME:=NUMBER | NAME[]=ITEM,ITEM..]`: the message under a key, of a
+//! file whose messages are all checked first.
 //!
 //! A line of the file is `key = format`, or `key(name, count:, items[]) = format`, which declares that
 //! the format is given a text `name`, a number `count` and a list of texts `items`; it is then checked
@@ -11,6 +11,7 @@ mod declarations;
 mod entries;
 mod examples;
 mod messages;
+mod words;
 
 use messages::{Answer, look_up};
 use std::process::ExitCode;

@@ -7,13 +7,16 @@ ghost use Rattle.std.specs.Option.{option_map};
 ghost use Rattle.std.specs.Str.Lines.{lines};
 ghost use Rattle.interpolator.specs.Faults.{answer_of, no_memory};
 ghost use Rattle.catalogue.specs.Declarations.{Declared, declared_by};
-ghost use Rattle.catalogue.specs.Messages.{HasEquals, IsSound, Gives, GiveValues, ShowValues};
+ghost use Rattle.catalogue.specs.Messages.{IsSound};
+ghost use Rattle.catalogue.specs.Words.{HasEquals};
 ghost use Rattle.catalogue.specs.Messages.{is_passed_over, is_under, head_of, format_of, last_under};
 ghost use Rattle.catalogue.specs.Messages.{told_at, told_of_fault, told_of_message, told_of_line, told_of_lines};
 ghost use Rattle.catalogue.specs.Messages.{with_format, IsMadeOrTold, Answers};
 
 use crate::declarations::{Heading, heading_of};
+use crate::entries::{Object, entries_of, pairs_of};
 use crate::examples::fault_of;
+use crate::words::objects_of;
 use interpolator::{
     Error, Formattable, Interpolate, Pairs, Position, Source, Template, explain_in,
 };
@@ -21,6 +24,9 @@ use std::alloc::{AllocError, Global};
 
 /// What is told of a broken declaration.
 const WHAT_IS_DECLARED: &str = "declarations are `(NAME, NAME:, NAME[])`";
+
+/// What is told of a word that gives nothing.
+const WHAT_IS_A_WORD: &str = "a value is `NAME=TEXT`, `NAME:=NUMBER` or `NAME[]=ITEM,ITEM`\n";
 
 /// What the program answers.
 #[derive(Drop)]
@@ -198,55 +204,18 @@ fn checked<'a>(alloc: Global, file: &str, text: &'a str, key: &str) -> Result<Ve
     Ok(Verdict { told, found })
 }
 
-/// The name and the text of a word `NAME=TEXT`, if it has an `=`.
-fn value_of(word: &str) -> Option<(&str, &str)>
-    ensures { MatchOption result (¬ HasEquals word.now)
-        (λ value. Gives word.now value.0.now value.1.now) }
-{
-    word.split_once('=')
-}
-
-/// The name and the text of each word `NAME=TEXT`; `None` where a word has no `=`.
-fn values_of(alloc: Global, words: &[String]) -> Result<Option<Vec<(&str, &str)>>, Error>
-    ensures { IfOk result (λ found. MatchOption found
-        (¬ All (λ word. HasEquals (string_bytes word)) words.now)
-        (λ values. GiveValues words.now values.items)) }
-{
-    let mut values = Vec::with_capacity(alloc, words.len())?;
-    for word in words {
-        match value_of(word.as_str()) {
-            Some(value) => values.push(value)?,
-            None => return Ok(None),
-        }
-    }
-    Ok(Some(values))
-}
-
-/// Each name with its text, as pairs of a context.
-fn pairs_of<'a>(
-    alloc: Global,
-    values: &'a [(&'a str, &'a str)],
-) -> Result<Vec<(&'a str, Formattable<'a, &'a str>)>, Error>
-    ensures { IfOk result (λ pairs. ShowValues values.now pairs.items) }
-{
-    let mut pairs = Vec::with_capacity(alloc, values.len())?;
-    for value in values {
-        pairs.push((value.0, Formattable::debug_display(&value.1)))?;
-    }
-    Ok(pairs)
-}
-
 /// The message of a line, or its fault.
 fn message(
     alloc: Global,
     file: &str,
     found: &Found<'_>,
-    values: &[(&str, &str)],
+    objects: &[Object<'_>],
 ) -> Result<Answer, Error>
     ensures { IfOk result (λ answer. IsMadeOrTold file.now found.now.number found.now.text.now
-        found.now.template values.now answer) }
+        found.now.template objects.now answer) }
 {
-    let pairs = pairs_of(alloc, values)?;
+    let entries = entries_of(alloc, objects)?;
+    let pairs = pairs_of(alloc, entries.as_slice())?;
     match Pairs(&pairs).format_template(alloc, &found.template) {
         Ok(message) => Ok(Answer::Message(message)),
         Err(error) => match error.place() {
@@ -260,7 +229,7 @@ fn message(
     }
 }
 
-/// The message under a key, over words `NAME=TEXT`; or all that is wrong with the file, or else
+/// The message under a key, over words `NAME=TEXT`, `NAME:=NUMBER` and `NAME[]=ITEM,ITEM`; or all that is wrong with the file, or else
 /// with the key, the words or the message.
 ///
 /// A message is answered only where every line that has to have one has one that checks. It is what
@@ -286,9 +255,9 @@ pub fn look_up(
         let told = format!(in alloc; "{file}: no message `{key}`\n")?;
         return Ok(Answer::Faults(told));
     };
-    let Some(values) = values_of(alloc, words)? else {
-        let told = String::from_str(alloc, "a value is `NAME=TEXT`\n")?;
+    let Some(objects) = objects_of(alloc, words)? else {
+        let told = String::from_str(alloc, WHAT_IS_A_WORD)?;
         return Ok(Answer::Faults(told));
     };
-    message(alloc, file, &found, &values)
+    message(alloc, file, &found, objects.as_slice())
 }

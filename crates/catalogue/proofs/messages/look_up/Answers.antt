@@ -9,9 +9,9 @@ returns c =
     let line = found_under c.in-Some.found.number c.in-Some.found.text.now
     c.in-Some.found.template _ _ (rw c.in-Some.is at (c.in_ok-told.ensures.found clean)) in
     answers_message c.args.file.now c.args.text.now c.args.key.now c.args.words.now
-    c.in-Some.found.number c.in-Some.found.text.now c.in-Some-2.values.items c.message.result
-    (c.in_ok-told.ensures.sound clean) line.0 (rw c.in-Some-2.is at c.in_ok-values.ensures)
-    (rw (line.1, c.deref.ensures.value) at c.message.ensures)
+    c.in-Some.found.number c.in-Some.found.text.now c.in-Some-2.objects.items c.message.result
+    (c.in_ok-told.ensures.sound clean) line.0 (rw c.in-Some-2.is at c.in_ok-objects.ensures.given)
+    (rw (line.1, c.as_slice.ensures.value) at c.message.ensures)
 
 pub returns-in_default : goal.returns-in_default
 returns-in_default c =
@@ -30,6 +30,6 @@ returns-in_default-2 c =
     inr (inr (inl (record {
       sound = c.in_ok-told.ensures.sound clean;
       under = rw line.0 refl;
-      not_all = rw c.in_default-2.is at c.in_ok-values.ensures;
+      not_all = rw c.in_default-2.is at c.in_ok-objects.ensures.given;
       says = c.in_ok-told-3.ensures.ok;
     })))

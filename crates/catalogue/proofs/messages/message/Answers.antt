@@ -1,6 +1,7 @@
 use Rattle.std.proofs.Common.{sym, ◌∙◌}
 use Rattle.interpolator.specs.Faults.{answer_of}
 use Rattle.catalogue.specs.Messages.{message_means}
+use Rattle.catalogue.proofs.EntryLemmas.{held}
 use Rattle.catalogue.proofs.MessageLemmas.{told_fault}
 use Rattle.catalogue.proofs.messages.message.Goals as goal
 
@@ -12,7 +13,19 @@ returns c =
     (rw c.deref.ensures.value at c.in-Err.ensures.formats) in
     record {
       f = t.0;
-      faulty =
-          record { pairs = c.in_ok-pairs.pairs.items; shown = c.in_ok-pairs.ensures; told = t.2 };
+      faulty = record {
+        pairs = c.in_ok-pairs.pairs.items;
+        shown = held _ _ _ c.in_ok-entries.ensures.entries
+            (rw c.as_slice.ensures.value at c.in_ok-pairs.ensures.pairs);
+        told = t.2;
+      };
       says = rw (c.text-format.ensures.text, t.1) at c.in_ok-told-in-Some.ensures.told;
     }
+
+pub returns-in-Ok : goal.returns-in-Ok
+returns-in-Ok c = record {
+  pairs = c.in_ok-pairs.pairs.items;
+  shown = held _ _ _ c.in_ok-entries.ensures.entries
+      (rw c.as_slice.ensures.value at c.in_ok-pairs.ensures.pairs);
+  said = rw c.deref.ensures.value at c.in-Ok.ensures.formats;
+}

@@ -1,0 +1,18 @@
+use Rattle.std.proofs.Common.{string_bytes}
+use Rattle.catalogue.specs.Words.{IsGood}
+use Rattle.catalogue.proofs.MessageLemmas.{zip_more}
+use Rattle.catalogue.proofs.WordLemmas.{not_all}
+use Rattle.catalogue.proofs.words.objects_of.Goals as goal
+
+pub loop-word-preserved : goal.loop-word-preserved
+loop-word-preserved c =
+    rw (c.in_ok-push-in-Some.ensures.items)
+    (zip_more c.args.words.now c.loop-word.word-index c.word-item.result c.loop-word-test.true
+    c.word-item.is _ c.loop-word.objects.items _ c.loop-word.invariant
+    (rw c.as_str.ensures.value at (rw c.in-Some.is at c.in_ok-object.ensures.given)))
+
+pub returns-in-None-clause-given : goal.returns-in-None-clause-given
+returns-in-None-clause-given c =
+    not_all (λ word. IsGood (string_bytes word)) c.args.words.now c.loop-word.word-index
+    c.word-item.result c.loop-word-test.true c.word-item.is
+    (rw c.as_str.ensures.value at (rw c.in-None.is at c.in_ok-object.ensures.given))
