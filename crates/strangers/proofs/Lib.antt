@@ -1,2 +1,3 @@
 pub mod ServingLemmas
+pub mod ValueLemmas
 pub mod WithinLemmas

@@ -19,7 +19,7 @@ use Rattle.interpolator.specs.declared.Error.TheVariants.{NoMemory}
 use Rattle.interpolator.specs.declared.Limits.{Limits}
 use Rattle.interpolator.specs.declared.Spec.{Spec}
 use Rattle.interpolator.specs.declared.Trait.{Trait}
-use Rattle.strangers.specs.Values.{Row, datum_shows, pair_named, word_named}
+use Rattle.strangers.specs.Values.{Row, WordsWithin, datum_shows, pair_named, word_named}
 use Rattle.strangers.specs.declared.serving.Allowed.{Allowed}
 use Rattle.strangers.specs.declared.serving.Count.TheVariants as counts
 use Rattle.strangers.specs.declared.serving.Refused.{Refused}
@@ -84,8 +84,8 @@ pub record IsServed (allowed : Allowed) (format : List ℕ) (words : List Word) 
 
 -- values are refused: a text, or a list, that is past its limit
 abbrev pub RefusesValues : Limits → Refused → Type 0
-RefusesValues limits (Past counts.Text told limit) = (limit ≡ limits.text) × IsPast told limit
-RefusesValues limits (Past counts.Items told limit) = (limit ≡ limits.items) × IsPast told limit
+RefusesValues limits (Past counts.Text told limit) = (limit ≡ limits.text) × (limit < told)
+RefusesValues limits (Past counts.Items told limit) = (limit ≡ limits.items) × (limit < told)
 RefusesValues limits _ = ⊥
 
 -- a cost is refused: a count of it that is past its limit
@@ -123,5 +123,5 @@ RefusesOver allowed format pairs (Past count told limit) =
 -- refused over pairs that give what the words give
 abbrev pub Refuses : Allowed → List ℕ → List Word → Refused → Type 0
 Refuses allowed format words refused = (refused ≡ Format NoMemory)
-    ⊎ (RefusesValues allowed.values refused
+    ⊎ ((¬ (WordsWithin allowed.values words) × RefusesValues allowed.values refused)
     ⊎ ((pairs : Row) × GiveWords words pairs × RefusesOver allowed format pairs refused))

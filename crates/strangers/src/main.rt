@@ -1,6 +1,6 @@
-//! `strangers [FLAG NUMBER..] FORMAT [NAME=TEXT | NAME:=NUMBER | NAME[]=ITEM,ITEM..]`: a format that
-//! a stranger wrote, printed only if it has no fault over the values and cannot cost more than is
-//! allowed.
+//! `strangers [FLAG NUMBER..] FORMAT [NAME=TEXT | NAME:=NUMBER | NAME[]=ITEM,ITEM..]`: a format
+//! that a stranger wrote, printed only if it has no fault over the values and cannot cost more than
+//! is allowed.
 //!
 //! `--text` and `--items` limit the characters of a text and the items of a list among the values:
 //! 80 and 20 where they are not given. `--characters`, `--pieces` and `--buffered` limit what the

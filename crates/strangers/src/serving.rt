@@ -1,5 +1,6 @@
 //! A format of a stranger, checked, weighed and written.
-ghost use Rattle.std.specs.Prelude.{◌≡◌, Decides, IfErr, IfOk, MatchResult, OnOk, string_bytes};
+ghost use Rattle.std.specs.Prelude.{◌≡◌, ◌<◌, ◌≤◌, Decides, IfErr, IfOk, MatchResult, OnOk};
+ghost use Rattle.std.specs.Prelude.{string_bytes};
 ghost use Rattle.std.specs.Str.{chars};
 ghost use Rattle.interpolator.specs.Faults.{answer_of, no_memory};
 ghost use Rattle.interpolator.specs.declared.Error.TheVariants.{NoMemory};
@@ -83,16 +84,27 @@ fn check(count: Count, told: usize, limit: usize) -> Result<(), Refused>
     Ok(())
 }
 
+/// Refuses a count of values that is more than its limit.
+fn check_value(count: Count, told: usize, limit: usize) -> Result<(), Refused>
+    ensures { MatchResult result (λ _. told ≤ limit)
+        (λ refused. (refused ≡ Past count told limit) × (limit < told)) }
+{
+    if told > limit {
+        return Err(Refused::Past { count, told, limit });
+    }
+    Ok(())
+}
+
 /// Refuses what a word gives, if it is past the limits.
 fn check_given(limits: &Limits, given: &Given<'_>) -> Result<(), Refused>
     ensures { MatchResult result (λ _. GivenWithin limits.now given.now)
-        (λ refused. RefusesValues limits.now refused) }
+        (λ refused. ¬ (GivenWithin limits.now given.now) × RefusesValues limits.now refused) }
 {
     match given {
-        Given::One(value) => check(Count::Text, characters_of(value), limits.text),
+        Given::One(value) => check_value(Count::Text, characters_of(value), limits.text),
         Given::Many(values) => {
-            check(Count::Items, values.len(), limits.items)?;
-            check(Count::Text, longest_of(values.as_slice()), limits.text)
+            check_value(Count::Items, values.len(), limits.items)?;
+            check_value(Count::Text, longest_of(values.as_slice()), limits.text)
         }
     }
 }
@@ -100,7 +112,7 @@ fn check_given(limits: &Limits, given: &Given<'_>) -> Result<(), Refused>
 /// Refuses words of which one is past the limits.
 fn check_words(limits: &Limits, words: &[Word<'_>]) -> Result<(), Refused>
     ensures { MatchResult result (λ _. WordsWithin limits.now words.now)
-        (λ refused. RefusesValues limits.now refused) }
+        (λ refused. ¬ (WordsWithin limits.now words.now) × RefusesValues limits.now refused) }
 {
     for word in words {
         check_given(limits, &word.given)?;

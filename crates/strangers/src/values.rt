@@ -1,5 +1,5 @@
 //! The values that a format is given.
-ghost use Rattle.std.specs.Prelude.{◌≡◌, ◌≤◌, ℕ, All, FitsSigned, length};
+ghost use Rattle.std.specs.Prelude.{◌≡◌, ◌↔◌, ◌≤◌, ℕ, All, FitsSigned, length};
 ghost use Rattle.std.specs.Int.{w128};
 ghost use Rattle.std.specs.Str.{chars};
 ghost use Rattle.strangers.specs.Values.{DatumWithin};
@@ -46,7 +46,7 @@ pub struct Word<'a> {
 
 /// How many characters a value's text has. A number is no text.
 pub fn characters_of(value: &Datum<'_>) -> usize
-    ensures { (most : ℕ) → result ≤ most → DatumWithin most value.now }
+    ensures { (most : ℕ) → (result ≤ most) ↔ DatumWithin most value.now }
 {
     match value {
         Datum::Text(text) => char_count(text),
@@ -64,7 +64,8 @@ fn char_count(text: &str) -> usize
 
 /// No text, and a number of 128 bits.
 fn characters_of_number(number: i128) -> usize
-    ensures { FitsSigned w128 number }
+    ensures none { result ≡ 0 }
+    ensures fits { FitsSigned w128 number }
 {
     let _ = number;
     0
@@ -72,7 +73,7 @@ fn characters_of_number(number: i128) -> usize
 
 /// How many characters the longest text has.
 pub fn longest_of(values: &[Datum<'_>]) -> usize
-    ensures { (most : ℕ) → result ≤ most → All (DatumWithin most) values.now }
+    ensures { (most : ℕ) → (result ≤ most) ↔ All (DatumWithin most) values.now }
 {
     let mut longest = 0usize;
     for value in values {

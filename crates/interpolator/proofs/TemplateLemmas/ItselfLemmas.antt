@@ -29,7 +29,8 @@ module _ {X : Type 0} (shows : X → Trait → Spec → Shown) where
 
     -- each of these trees resembles some of all
     each_some : (ts all : SlotsList X)
-        → ((item : Slots X) → ResemblesSome shows shows item ts → ResemblesSome shows shows item all)
+        → ((item : Slots X) → ResemblesSome shows shows item ts
+        → ResemblesSome shows shows item all)
         → All (λ item. ResemblesSome shows shows item all) (slots_listed ts)
     each_some no_slots all lift = All-nil (λ item. ResemblesSome shows shows item all)
     each_some (slots_and t ts) all lift =
@@ -47,8 +48,8 @@ module _ {X : Type 0} (shows : X → Trait → Spec → Shown) where
   resembles_itself e (name ∷ names) = (found_itself (given e name), resembles_itself e names)
 
   -- so a format without a fault over values means none over them
-  pub no_fault_itself : (finds : List ℕ → Option (Slots X)) (a : At) → faults_over shows finds a ≡ []
-      → (means shows (environment finds) a).fault ≡ None
+  pub no_fault_itself : (finds : List ℕ → Option (Slots X)) (a : At)
+      → faults_over shows finds a ≡ [] → (means shows (environment finds) a).fault ≡ None
   no_fault_itself finds a sound =
       no_fault shows shows finds (environment finds) a sound
       (resembles_itself (environment finds) (asked_names a))

@@ -133,12 +133,13 @@ pub fn pairs_of_the_same_names_resemble<S: Value, V: Value>()
         (environment (found_by_pairs sample)) names }
 {}
 
-/// Each context resembles itself, under whatever names. So the values that a format is to be written
-/// with may be its sample: if it has no fault over them, it means none over them.
+/// Each context resembles itself, under whatever names. So the values that a format is to be
+/// written with may be its sample: if it has no fault over them, it means none over them.
 pub fn a_context_resembles_itself<V: Value>()
     ensures resembles { (e : Environment V) (names : List (List ℕ))
         → ResemblesOn V.shows V.shows e e names }
-    ensures fault { (finds : List ℕ → Option (Slots V)) (a : At) → faults_over V.shows finds a ≡ []
+    ensures fault { (finds : List ℕ → Option (Slots V)) (a : At)
+        → faults_over V.shows finds a ≡ []
         → (means V.shows (environment finds) a).fault ≡ None }
 {}
 
