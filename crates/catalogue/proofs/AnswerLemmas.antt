@@ -1,11 +1,14 @@
 -- The answer, once the lines are sound, from the line that was found and what the words give.
 use Rattle.std.proofs.Common.{◌≡◌, ℕ, List, Option, None, Some, Ok, Err, Result, IfOk, sym, ap, ◌∙◌}
-use Rattle.std.proofs.Common.{All, inr, unwrap_or, refl}
+use Rattle.std.proofs.Common.{All, inr, unwrap_or, refl, subst, string_bytes}
 use Rattle.std.specs.Option.{option_map}
 use Rattle.std.specs.Str.Lines.{lines}
 use Rattle.std.specs.declared.string.String.{String}
 use Rattle.interpolator.specs.declared.Error.{Error}
-use Rattle.catalogue.specs.Messages.{Answers, GiveValues, IsMadeOrTold, IsSound, declared_of}
+use Rattle.catalogue.specs.Messages.{Answers, GiveValues, IsMadeOrTold, IsSound, IsSoundOver}
+use Rattle.catalogue.specs.Messages.{declared_of}
+use Rattle.catalogue.proofs.KindLemmas.{none_fails}
+use Rattle.catalogue.proofs.SoundLemmas.{sound_last}
 use Rattle.catalogue.specs.Messages.{format_of}
 use Rattle.catalogue.specs.Declarations.{Declared}
 use Rattle.catalogue.specs.Messages.{last_under, with_format}
@@ -56,6 +59,10 @@ answers_message file text key words number line values (Ok (Faults told)) sound 
       values = values;
       given = given;
       faulty = h;
+      other = λ declared is kinds. not_none h.f (sym h.faulty.told
+          ∙ none_fails string_bytes (format_of line) declared values words h.faulty.pairs
+          (subst (λ d. IsSoundOver d (format_of line)) is
+          (sound_last key (lines text) number line sound under)) kinds given h.faulty.shown);
     })))
 answers_message file text key words number line values (Err e) sound under given h = h
 

@@ -5,3 +5,5 @@ pub mod ExampleLemmas
 pub mod EntryLemmas
 pub mod PlaceLemmas
 pub mod WordLemmas
+pub mod KindLemmas
+pub mod SoundLemmas

@@ -24,8 +24,9 @@ use Rattle.interpolator.specs.Views.{some_text}
 use Rattle.interpolator.specs.declared.Formattable.{Formattable}
 use Rattle.catalogue.specs.Declarations.{Declared, nothing, these, broken, declared_in, has, key_in}
 use Rattle.catalogue.specs.Entries.{Holds, Pair}
-use Rattle.catalogue.specs.Examples.{faults_of, view_shows}
+use Rattle.catalogue.specs.Examples.{IsOfKind, faults_of, view_shows}
 use Rattle.catalogue.specs.Words.{Gives, HasEquals, IsGood, is_equals}
+use Rattle.catalogue.specs.declared.declarations.Kind.{Kind}
 use Rattle.catalogue.specs.declared.entries.Object.{Object}
 use Rattle.catalogue.specs.declared.messages.Answer.{Answer}
 use Rattle.catalogue.specs.declared.messages.Answer.TheVariants.{Message, Faults}
@@ -211,7 +212,7 @@ module _ {Y : Type 0} (file text key : List ℕ) (words : List (String Y)) where
     pub says : told ≡ what_is_a_word
 
   -- every line is sound, and the format of the last line of the key has a fault over what the words
-  -- give
+  -- give: which is then not of the names and kinds that the line declares, in that order
   pub record OfMessage (told : List ℕ) : Type 0 where
     pub sound : All IsSound (lines text)
     pub number : ℕ
@@ -220,6 +221,8 @@ module _ {Y : Type 0} (file text key : List ℕ) (words : List (String Y)) where
     pub values : List Object
     pub given : GiveValues words values
     pub faulty : IsToldOf file number line (format_of line) values told
+    pub other : (declared : List (List ℕ × Kind)) → declared_of line ≡ these declared
+        → ¬ AllZip IsOfKind declared values
 
   -- what is answered: the message; or what is wrong with the lines, else the key, a word or the
   -- message

@@ -4,6 +4,7 @@ ghost use Rattle.std.specs.Prelude.{◌≡◌, ◌<◌, ℕ, List, IfOk, IfErr, 
 ghost use Rattle.std.specs.Prelude.{length, None, Some, if◌then◌else◌, string_bytes};
 ghost use Rattle.std.specs.List.{AllZip};
 ghost use Rattle.std.specs.Option.{option_map};
+ghost use Rattle.std.specs.Str.{bytes_eq};
 ghost use Rattle.std.specs.Str.Lines.{lines};
 ghost use Rattle.interpolator.specs.Faults.{answer_of, no_memory};
 ghost use Rattle.catalogue.specs.Declarations.{Declared, declared_by};
@@ -129,6 +130,13 @@ fn line_of(text: &str) -> Option<(&str, &str)>
     Some((head, format.trim_start()))
 }
 
+/// Whether a line's key is the one that is asked for.
+fn is_key(its_key: &str, key: &str) -> bool
+    ensures { result ≡ bytes_eq its_key.now key.now }
+{
+    its_key == key
+}
+
 /// Whether a line has no message.
 fn is_passed_over(line: &str) -> bool
     ensures { result ≡ is_passed_over line.now }
@@ -165,7 +173,7 @@ fn checked_line<'a>(
     let (its_key, heading) = heading_of(alloc, head)?;
     let template = Template::parse(alloc, format)?;
     let told = told_of_message(alloc, file, number, text, &template, &heading)?;
-    if its_key == key {
+    if is_key(its_key, key) {
         let found = Some(Found {
             number,
             text,
@@ -229,11 +237,13 @@ fn message(
     }
 }
 
-/// The message under a key, over words `NAME=TEXT`, `NAME:=NUMBER` and `NAME[]=ITEM,ITEM`; or all that is wrong with the file, or else
-/// with the key, the words or the message.
+/// The message under a key, over words `NAME=TEXT`, `NAME:=NUMBER` and `NAME[]=ITEM,ITEM`; or all that
+/// is wrong with the file, or else with the key, the words or the message.
 ///
-/// A message is answered only where every line that has to have one has one that checks. It is what
-/// the last line of the key means over the words: of two messages under one key the last counts.
+/// A message is answered only where every line that has to have one has one that checks: by itself, or
+/// over an example of what the line declares. It is what the last line of the key means over the words:
+/// of two messages under one key the last counts. Over words of the names and kinds that the line
+/// declares, in that order, the message has no fault.
 ///
 /// # Errors
 ///

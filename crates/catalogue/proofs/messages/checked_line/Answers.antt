@@ -3,8 +3,8 @@ use Rattle.catalogue.specs.Declarations.{declared_in}
 use Rattle.catalogue.proofs.MessageLemmas.{sound_line}
 use Rattle.catalogue.proofs.messages.checked_line.Goals as goal
 
-pub returns-then-eq-clause-sound : goal.returns-then-eq-clause-sound
-returns-then-eq-clause-sound c =
+pub returns-then-is_key-clause-sound : goal.returns-then-is_key-clause-sound
+returns-then-is_key-clause-sound c =
     sound_line c.args.file.now c.args.number c.args.text.now c.in_ok-template.template _ _
     c.in-Some.ensures.none
     (c.in_ok-its_key.ensures.declared ∙ ap declared_in c.in-Some.ensures.head)

@@ -1,0 +1,183 @@
+-- Values of declared kinds resemble the examples of these, so that a sound format has no fault over them.
+use Rattle.std.proofs.Common.{◌≡◌, refl, sym, ap, subst, ◌⊎◌, inl, ℕ, ℤ, List, [], ◌∷◌, ◌++◌, map}
+use Rattle.std.proofs.Common.{Option, None, Some, option_map, ◌∙◌}
+use Rattle.std.proofs.lemmas.List.Elements.{All-nil, All-cons}
+use Rattle.std.specs.List.{All, AllZip}
+use Rattle.std.specs.Str.{bytes_eq, chars, encode_utf8_all}
+use Rattle.interpolator.proofs.TemplateLemmas.ResembleLemmas.{no_fault}
+use Rattle.interpolator.proofs.TemplateLemmas.SamplePairLemmas.{kind_has_text}
+use Rattle.interpolator.specs.At.{outermost}
+use Rattle.interpolator.specs.Contexts.{found_by_pairs}
+use Rattle.interpolator.specs.Faults.{Fault}
+use Rattle.interpolator.specs.Meaning.AskedNames.{asked_names}
+use Rattle.interpolator.specs.Meaning.Environments.{environment}
+use Rattle.interpolator.specs.Meaning.Resembling.{HasText, Resembles, ResemblesFound, ResemblesOn}
+use Rattle.interpolator.specs.Meaning.Resembling.{ResemblesSlot, ResemblesSome}
+use Rattle.interpolator.specs.Slots.{Slots, empty_slots, listed_slots, slot_at, slots_listed, slots_of}
+use Rattle.interpolator.specs.Slots.{values_of, with_debug_display, with_integer}
+use Rattle.interpolator.specs.Template.NodeChecks.{first_fault}
+use Rattle.interpolator.specs.Texts.{view_text}
+use Rattle.interpolator.specs.Views.{Shown, one_character, shown_as_value, signed_number, some_text}
+use Rattle.interpolator.specs.declared.Bits.TheVariants.{B128}
+use Rattle.interpolator.specs.declared.Spec.{Spec}
+use Rattle.interpolator.specs.declared.Trait.{Trait}
+use Rattle.interpolator.specs.declared.Trait.TheVariants.{Binary, Debug, Display, Iter}
+use Rattle.interpolator.specs.declared.Trait.TheVariants.{LowerExp, LowerHex, Octal}
+use Rattle.interpolator.specs.declared.Trait.TheVariants.{UpperExp, UpperHex}
+use Rattle.interpolator.specs.declared.View.{View}
+use Rattle.catalogue.specs.Declarations.{these}
+use Rattle.catalogue.specs.Entries.{Holds, Pair, item_slots, object_slots, slots_by}
+use Rattle.catalogue.specs.Examples.{IsOfKind, example_slots, example_under, faults_of, item_examples}
+use Rattle.catalogue.specs.Examples.{number_example, text_example, view_shows}
+use Rattle.catalogue.specs.Messages.{message_means}
+use Rattle.catalogue.specs.Words.{Gives, ShowsAs, items_in, items_of, texts_show}
+use Rattle.catalogue.specs.declared.declarations.Kind.{Kind}
+use Rattle.catalogue.specs.declared.declarations.Kind.TheVariants as kinds
+use Rattle.catalogue.specs.declared.entries.Object.{Object}
+use Rattle.catalogue.proofs.ExampleLemmas.{Alike, last_alike}
+
+-- a text has a text where its example has one
+text_alike : (y : Shown) (cs : List ℕ) → y ≡ some_text cs → (t : Trait) (spec : Spec)
+    → HasText (view_text (one_character 97) t spec) → HasText (view_text y t spec)
+text_alike y cs e t spec h = subst (λ s. HasText (view_text s t spec)) (sym e)
+    (kind_has_text (one_character 97) (some_text cs) t spec refl refl h)
+
+-- and a number where its example has one
+number_alike : (y : Shown) (n : ℤ) → y ≡ signed_number n B128 → (t : Trait) (spec : Spec)
+    → HasText (view_text (shown_as_value number_example) t spec) → HasText (view_text y t spec)
+number_alike y n e t spec h = subst (λ s. HasText (view_text s t spec)) (sym e)
+    (kind_has_text (shown_as_value number_example) (signed_number n B128) t spec refl refl h)
+
+-- the slots of a text
+text_slots : (value : View) (cs : List ℕ) → shown_as_value value ≡ some_text cs → (t : Trait)
+    → ResemblesSlot view_shows view_shows t
+    (slot_at t (values_of (with_debug_display empty_slots value)))
+    (slot_at t (values_of (with_debug_display empty_slots text_example)))
+text_slots value cs e Debug = λ spec h. text_alike (shown_as_value value) cs e Debug spec h
+text_slots value cs e Display = λ spec h. text_alike (shown_as_value value) cs e Display spec h
+text_slots value cs e Binary = tt
+text_slots value cs e LowerExp = tt
+text_slots value cs e LowerHex = tt
+text_slots value cs e Octal = tt
+text_slots value cs e UpperExp = tt
+text_slots value cs e UpperHex = tt
+text_slots value cs e Iter = tt
+
+-- those of a number
+number_slots : (value : View) (n : ℤ) → shown_as_value value ≡ signed_number n B128 → (t : Trait)
+    → ResemblesSlot view_shows view_shows t
+    (slot_at t (values_of (with_integer empty_slots value)))
+    (slot_at t (values_of (with_integer empty_slots number_example)))
+number_slots value n e Debug = λ spec h. number_alike (shown_as_value value) n e Debug spec h
+number_slots value n e Display = λ spec h. number_alike (shown_as_value value) n e Display spec h
+number_slots value n e Binary = λ spec h. number_alike (shown_as_value value) n e Binary spec h
+number_slots value n e LowerExp = λ spec h. number_alike (shown_as_value value) n e LowerExp spec h
+number_slots value n e LowerHex = λ spec h. number_alike (shown_as_value value) n e LowerHex spec h
+number_slots value n e Octal = λ spec h. number_alike (shown_as_value value) n e Octal spec h
+number_slots value n e UpperExp = λ spec h. number_alike (shown_as_value value) n e UpperExp spec h
+number_slots value n e UpperHex = λ spec h. number_alike (shown_as_value value) n e UpperHex spec h
+number_slots value n e Iter = tt
+
+-- no slot of a list but its items is filled
+no_slots_alike : (t : Trait) → ResemblesSlot view_shows view_shows t
+    (slot_at t (values_of (example_slots kinds.List)))
+    (slot_at t (values_of (example_slots kinds.List)))
+no_slots_alike Debug = tt
+no_slots_alike Display = tt
+no_slots_alike Binary = tt
+no_slots_alike LowerExp = tt
+no_slots_alike LowerHex = tt
+no_slots_alike Octal = tt
+no_slots_alike UpperExp = tt
+no_slots_alike UpperHex = tt
+no_slots_alike Iter = tt
+
+-- the items of a list resemble the one of its example
+items_alike : (views : List View) (texts : List (List ℕ))
+    → map shown_as_value views ≡ texts_show texts
+    → All (λ item. ResemblesSome view_shows view_shows item (listed_slots item_examples))
+    (slots_listed (listed_slots (item_slots views)))
+items_alike [] texts e = All-nil _
+items_alike (v ∷ vs) [] e = absurd (cc)
+items_alike (v ∷ vs) (t ∷ ts) e =
+    let first : shown_as_value v ≡ some_text (chars t) = cc in
+    let rest : map shown_as_value vs ≡ texts_show ts = cc in
+    All-cons (λ item. ResemblesSome view_shows view_shows item (listed_slots item_examples))
+    (with_debug_display empty_slots v) (slots_listed (listed_slots (item_slots vs)))
+    (inl (text_slots v (chars t) first)) (items_alike vs ts rest)
+
+-- a value of a kind resembles its example
+value_alike : (kind : Kind) (value : View) (items : List View) (text : List ℕ)
+    → ShowsAs kind text value → map shown_as_value items ≡ items_in kind text
+    → Resembles view_shows view_shows (slots_by kind value (item_slots items)) (example_slots kind)
+value_alike kinds.Text value items text h k = text_slots value (chars text) h
+value_alike kinds.Number value items text h k = number_slots value h.0 h.2
+value_alike kinds.List value items text h k =
+    (no_slots_alike, items_alike items (items_of text) k)
+
+-- a declaration and the pair of a value of its kind
+abbrev Resembling : List ℕ × Kind → Pair → Type 0
+Resembling declared pair = (pair.0.now ≡ declared.0)
+    × Resembles view_shows view_shows (slots_of pair.1) (example_slots declared.1)
+
+-- the pair of what a word gives
+pair_alike : (declared : List ℕ × Kind) (word : List ℕ) (object : Object) (pair : Pair)
+    → IsOfKind declared object → Gives word object → Holds object pair → Resembling declared pair
+pair_alike declared word object pair is given held = (
+  ap (λ x. x.now) held.name ∙ is.0,
+  rw (held.slots, ← is.1)
+      (value_alike object.kind object.value object.items.items given.text given.value given.items),
+)
+
+-- so it is of all of them
+all_alike : {W : Type 0} (bytes : W → List ℕ) (ds : List (List ℕ × Kind)) (objects : List Object)
+    (words : List W) (pairs : List Pair) → AllZip IsOfKind ds objects
+    → AllZip (λ word object. Gives (bytes word) object) words objects
+    → AllZip Holds objects pairs → AllZip Resembling ds pairs
+all_alike bytes [] [] words [] h g k = k
+all_alike bytes [] [] words (p ∷ ps) h g k = k
+all_alike bytes [] (o ∷ os) words pairs h g k = absurd h
+all_alike bytes (d ∷ ds) [] words pairs h g k = absurd h
+all_alike bytes (d ∷ ds) (o ∷ os) [] pairs h g k = absurd g
+all_alike bytes (d ∷ ds) (o ∷ os) (w ∷ ws) [] h g k = absurd k
+all_alike bytes (d ∷ ds) (o ∷ os) (w ∷ ws) (p ∷ ps) h g k = (
+  pair_alike d (bytes w) o p h.0 g.0 k.0,
+  all_alike bytes ds os ws ps h.1 g.1 k.1,
+)
+
+-- what was found under a name resembles the example that is
+found_alike : (o : Option (List ℕ × Kind)) (r : Option Pair) → Alike Resembling o r
+    → ResemblesFound view_shows view_shows
+    (option_map slots_of (option_map (λ pair. pair.1) r)) (option_map (λ one. example_slots one.1) o)
+found_alike None None h = tt
+found_alike None (Some p) h = absurd h
+found_alike (Some d) None h = absurd h
+found_alike (Some d) (Some p) h = h.1
+
+names_alike : (ds : List (List ℕ × Kind)) (pairs : List Pair) (names : List (List ℕ))
+    → AllZip Resembling ds pairs → ResemblesOn view_shows view_shows
+    (environment (found_by_pairs pairs)) (environment (example_under ds)) names
+names_alike ds pairs [] h = tt
+names_alike ds pairs (name ∷ names) h = (
+  found_alike _ _ (last_alike Resembling (λ one. bytes_eq (encode_utf8_all name) one.0)
+      (λ pair. bytes_eq (encode_utf8_all name) pair.0.now)
+      (λ d p is. ap (bytes_eq (encode_utf8_all name)) (sym is.0)) ds pairs h),
+  names_alike ds pairs names h,
+)
+
+-- no first fault is no fault
+no_first : (fs : List Fault) → first_fault fs ≡ None → fs ≡ []
+no_first [] e = refl
+no_first (f ∷ fs) e = cc
+
+-- a format that has no fault over examples has none over values of the declared kinds
+pub none_fails : {W : Type 0} (bytes : W → List ℕ) (format : List ℕ) (ds : List (List ℕ × Kind))
+    (objects : List Object) (words : List W) (pairs : List Pair)
+    → first_fault (faults_of (these ds) format) ≡ None → AllZip IsOfKind ds objects
+    → AllZip (λ word object. Gives (bytes word) object) words objects
+    → AllZip Holds objects pairs → (message_means format pairs).fault ≡ None
+none_fails bytes format ds objects words pairs sound h g k =
+    no_fault view_shows view_shows (example_under ds) (environment (found_by_pairs pairs))
+    (outermost (chars format)) (no_first _ sound)
+    (names_alike ds pairs (asked_names (outermost (chars format)))
+    (all_alike bytes ds objects words pairs h g k))
