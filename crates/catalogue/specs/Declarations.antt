@@ -1,5 +1,5 @@
 -- What the head of a line declares: names, each with a kind of value. Texts are bytes.
-use Rattle.std.specs.Prelude.{ℕ, Bool, not, ◌==◌, ◌+◌, ◌-◌, nat_lt, List, [], ◌∷◌, ◌++◌, map, length, codes}
+use Rattle.std.specs.Prelude.{ℕ, Bool, not, ◌==◌, ◌-◌, nat_lt, List, [], ◌∷◌, ◌++◌, map, length, codes}
 use Rattle.std.specs.Prelude.{if◌then◌else◌, Option, None, Some}
 use Rattle.std.specs.Option.{option_or}
 use Rattle.std.specs.List.{before_first, after_first, position_or_len, slice_split}

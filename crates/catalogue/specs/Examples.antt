@@ -1,18 +1,16 @@
 -- An example of what a line declares, and the first fault that its format has over that.
-use Rattle.std.specs.Prelude.{◌≡◌, ⊤, ℕ, pos, List, [], ◌∷◌, map, reverse, Option, None, Some}
-use Rattle.std.specs.Borrow.{Bor}
+use Rattle.std.specs.Prelude.{◌≡◌, ⊤, ℕ, pos, List, [], ◌∷◌, reverse, Option, None, Some}
 use Rattle.std.specs.List.{find}
 use Rattle.std.specs.Option.{option_map}
 use Rattle.std.specs.Str.{bytes_eq, chars, encode_utf8_all}
 use Rattle.interpolator.specs.At.{outermost}
 use Rattle.interpolator.specs.Faults.{Answer, Fault, fault, no_memory}
-use Rattle.interpolator.specs.Slots.{Slots, empty_slots, slots_of, with_debug_display, with_integer}
+use Rattle.interpolator.specs.Slots.{Slots, empty_slots, with_debug_display, with_integer}
 use Rattle.interpolator.specs.Slots.{with_iter}
 use Rattle.interpolator.specs.Template.NodeChecks.{first_fault, text_faults}
 use Rattle.interpolator.specs.Template.NodeSamples.{faults_over}
 use Rattle.interpolator.specs.Views.{Shown, shown_as_value}
 use Rattle.interpolator.specs.declared.Bits.TheVariants.{B128}
-use Rattle.interpolator.specs.declared.Formattable.{Formattable}
 use Rattle.interpolator.specs.declared.Spec.{Spec}
 use Rattle.interpolator.specs.declared.Trait.{Trait}
 use Rattle.interpolator.specs.declared.View.{View}
