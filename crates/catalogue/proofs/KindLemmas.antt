@@ -1,4 +1,4 @@
--- Values of declared kinds resemble the examples of these, so that a sound format has no fault over them.
+-- Values of declared kinds resemble the examples of these: a sound format has no fault over them.
 use Rattle.std.proofs.Common.{◌≡◌, refl, sym, ap, subst, inl, ℕ, ℤ, List, [], ◌∷◌, map}
 use Rattle.std.proofs.Common.{Option, None, Some, option_map, ◌∙◌}
 use Rattle.std.proofs.lemmas.List.Elements.{All-nil, All-cons}

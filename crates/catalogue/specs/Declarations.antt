@@ -43,7 +43,8 @@ if_whole whole declared = if whole then Some declared else None
 abbrev pub declaration_of : List ℕ → Option (List ℕ × Kind)
 declaration_of text =
     if has is_colon text
-    then if_whole (length (after_first is_colon text) == 0) (before_first is_colon text, kinds.Number)
+    then if_whole (length (after_first is_colon text) == 0)
+    (before_first is_colon text, kinds.Number)
     else (if has is_bracket text
     then if_whole (bytes_eq (after_first is_bracket text) (codes "]"))
     (before_first is_bracket text, kinds.List)

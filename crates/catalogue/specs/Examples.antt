@@ -52,7 +52,7 @@ pub record IsExample (declared : List ℕ × Kind) (object : Object) : Type 0 wh
 abbrev pub IsOfKind : List ℕ × Kind → Object → Type 0
 IsOfKind declared object = (object.name.now ≡ declared.0) × (object.kind ≡ declared.1)
 
--- what the examples of some declarations give under a name: that of the last declaration of the name
+-- what the examples of some declarations give under a name: that of the last one of the name
 abbrev pub example_under : List (List ℕ × Kind) → List ℕ → Option (Slots View)
 example_under declared name =
     option_map (λ one. example_slots one.1)
