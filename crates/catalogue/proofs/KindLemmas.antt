@@ -1,5 +1,5 @@
--- Values of declared kinds resemble the examples of these, so that a sound format has no fault over them.
-use Rattle.std.proofs.Common.{◌≡◌, refl, sym, ap, subst, ◌⊎◌, inl, ℕ, ℤ, List, [], ◌∷◌, ◌++◌, map}
+-- Values of declared kinds resemble the examples of these: a sound format has no fault over them.
+use Rattle.std.proofs.Common.{◌≡◌, refl, sym, ap, subst, inl, ℕ, ℤ, List, [], ◌∷◌, map}
 use Rattle.std.proofs.Common.{Option, None, Some, option_map, ◌∙◌}
 use Rattle.std.proofs.lemmas.List.Elements.{All-nil, All-cons}
 use Rattle.std.specs.List.{All, AllZip}
@@ -13,7 +13,7 @@ use Rattle.interpolator.specs.Meaning.AskedNames.{asked_names}
 use Rattle.interpolator.specs.Meaning.Environments.{environment}
 use Rattle.interpolator.specs.Meaning.Resembling.{HasText, Resembles, ResemblesFound, ResemblesOn}
 use Rattle.interpolator.specs.Meaning.Resembling.{ResemblesSlot, ResemblesSome}
-use Rattle.interpolator.specs.Slots.{Slots, empty_slots, listed_slots, slot_at, slots_listed, slots_of}
+use Rattle.interpolator.specs.Slots.{empty_slots, listed_slots, slot_at, slots_listed, slots_of}
 use Rattle.interpolator.specs.Slots.{values_of, with_debug_display, with_integer}
 use Rattle.interpolator.specs.Template.NodeChecks.{first_fault}
 use Rattle.interpolator.specs.Texts.{view_text}
@@ -26,7 +26,7 @@ use Rattle.interpolator.specs.declared.Trait.TheVariants.{LowerExp, LowerHex, Oc
 use Rattle.interpolator.specs.declared.Trait.TheVariants.{UpperExp, UpperHex}
 use Rattle.interpolator.specs.declared.View.{View}
 use Rattle.catalogue.specs.Declarations.{these}
-use Rattle.catalogue.specs.Entries.{Holds, Pair, item_slots, object_slots, slots_by}
+use Rattle.catalogue.specs.Entries.{Holds, Pair, item_slots, slots_by}
 use Rattle.catalogue.specs.Examples.{IsOfKind, example_slots, example_under, faults_of, item_examples}
 use Rattle.catalogue.specs.Examples.{number_example, text_example, view_shows}
 use Rattle.catalogue.specs.Messages.{message_means}

@@ -1,13 +1,12 @@
 -- The line that was found is sound, if all are.
-use Rattle.std.proofs.Common.{◌≡◌, refl, sym, subst, ℕ, ◌+◌, Bool, true, false, cond, List, [], ◌∷◌, ◌++◌}
-use Rattle.std.proofs.Common.{Option, None, Some, inl, inr, ◌⊎◌, ◌&&◌, not, reverse}
+use Rattle.std.proofs.Common.{◌≡◌, refl, subst, ℕ, ◌+◌, Bool, true, false, cond, List, [], ◌∷◌}
+use Rattle.std.proofs.Common.{Option, Some, inl, inr, ◌&&◌, not, reverse}
 use Rattle.std.proofs.lemmas.List.{reverse-append}
 use Rattle.std.proofs.lemmas.List.Elements.{All-append, All-cons, All-head, All-nil, All-tail}
 use Rattle.std.specs.List.{All, enumerate_from, find}
 use Rattle.std.specs.Str.{bytes_eq}
 use Rattle.catalogue.specs.Messages.{IsSound, IsSoundOver, declared_of, format_of, is_passed_over}
 use Rattle.catalogue.specs.Messages.{is_under, key_of, last_under, numbered}
-use Rattle.catalogue.specs.Words.{HasEquals}
 
 -- one that is found first, or later
 by_test : {A : Type 0} (p : A → Bool) (P : A → Type 0) (y x : A) (rest : Option A) (b : Bool)

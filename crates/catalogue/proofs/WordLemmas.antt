@@ -1,6 +1,6 @@
 -- What a word gives, and that it gives nothing.
-use Rattle.std.proofs.Common.{◌≡◌, ◌≢◌, ◌∙◌, ℕ, ℤ, List, [], ◌∷◌, length, eqb, refl, sym, ap, subst}
-use Rattle.std.proofs.Common.{None, Option, Some, ◌==◌, ◌<◌, ◌↔◌, All, get_or}
+use Rattle.std.proofs.Common.{◌≡◌, ◌≢◌, ◌∙◌, ℕ, ℤ, List, [], ◌∷◌, length, refl, sym, subst}
+use Rattle.std.proofs.Common.{None, Some, ◌<◌, ◌↔◌, All, get_or}
 use Rattle.std.specs.List.{slice_split}
 use Rattle.catalogue.specs.Declarations.{is_comma}
 use Rattle.catalogue.specs.Words.{Cuts, Fits, IsCut, IsGood, Spells, items_of}

@@ -1,5 +1,5 @@
 -- What the head of a line declares: names, each with a kind of value. Texts are bytes.
-use Rattle.std.specs.Prelude.{ℕ, Bool, not, ◌==◌, ◌+◌, ◌-◌, nat_lt, List, [], ◌∷◌, ◌++◌, map, length, codes}
+use Rattle.std.specs.Prelude.{ℕ, Bool, not, ◌==◌, ◌-◌, nat_lt, List, [], ◌∷◌, ◌++◌, map, length, codes}
 use Rattle.std.specs.Prelude.{if◌then◌else◌, Option, None, Some}
 use Rattle.std.specs.Option.{option_or}
 use Rattle.std.specs.List.{before_first, after_first, position_or_len, slice_split}
@@ -43,7 +43,8 @@ if_whole whole declared = if whole then Some declared else None
 abbrev pub declaration_of : List ℕ → Option (List ℕ × Kind)
 declaration_of text =
     if has is_colon text
-    then if_whole (length (after_first is_colon text) == 0) (before_first is_colon text, kinds.Number)
+    then if_whole (length (after_first is_colon text) == 0)
+    (before_first is_colon text, kinds.Number)
     else (if has is_bracket text
     then if_whole (bytes_eq (after_first is_bracket text) (codes "]"))
     (before_first is_bracket text, kinds.List)

@@ -1,18 +1,16 @@
 -- An example of what a line declares, and the first fault that its format has over that.
-use Rattle.std.specs.Prelude.{◌≡◌, ⊤, ℕ, pos, List, [], ◌∷◌, map, reverse, Option, None, Some}
-use Rattle.std.specs.Borrow.{Bor}
+use Rattle.std.specs.Prelude.{◌≡◌, ⊤, ℕ, pos, List, [], ◌∷◌, reverse, Option, None, Some}
 use Rattle.std.specs.List.{find}
 use Rattle.std.specs.Option.{option_map}
 use Rattle.std.specs.Str.{bytes_eq, chars, encode_utf8_all}
 use Rattle.interpolator.specs.At.{outermost}
 use Rattle.interpolator.specs.Faults.{Answer, Fault, fault, no_memory}
-use Rattle.interpolator.specs.Slots.{Slots, empty_slots, slots_of, with_debug_display, with_integer}
+use Rattle.interpolator.specs.Slots.{Slots, empty_slots, with_debug_display, with_integer}
 use Rattle.interpolator.specs.Slots.{with_iter}
 use Rattle.interpolator.specs.Template.NodeChecks.{first_fault, text_faults}
 use Rattle.interpolator.specs.Template.NodeSamples.{faults_over}
 use Rattle.interpolator.specs.Views.{Shown, shown_as_value}
 use Rattle.interpolator.specs.declared.Bits.TheVariants.{B128}
-use Rattle.interpolator.specs.declared.Formattable.{Formattable}
 use Rattle.interpolator.specs.declared.Spec.{Spec}
 use Rattle.interpolator.specs.declared.Trait.{Trait}
 use Rattle.interpolator.specs.declared.View.{View}
@@ -54,7 +52,7 @@ pub record IsExample (declared : List ℕ × Kind) (object : Object) : Type 0 wh
 abbrev pub IsOfKind : List ℕ × Kind → Object → Type 0
 IsOfKind declared object = (object.name.now ≡ declared.0) × (object.kind ≡ declared.1)
 
--- what the examples of some declarations give under a name: that of the last declaration of the name
+-- what the examples of some declarations give under a name: that of the last one of the name
 abbrev pub example_under : List (List ℕ × Kind) → List ℕ → Option (Slots View)
 example_under declared name =
     option_map (λ one. example_slots one.1)

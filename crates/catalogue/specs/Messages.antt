@@ -1,10 +1,10 @@
 -- What a file of messages says: its lines, their keys and formats, and a message. Texts are bytes.
-use Rattle.std.specs.Prelude.{◌≡◌, ◌⊎◌, ℕ, Bool, true, not, ◌==◌, ◌&&◌, ◌||◌, ◌<◌, ◌+◌, ◌-◌}
-use Rattle.std.specs.Prelude.{nat_lt, List, [], ◌++◌, map, length, reverse, codes, string_bytes}
+use Rattle.std.specs.Prelude.{◌≡◌, ◌⊎◌, ℕ, Bool, true, not, ◌==◌, ◌&&◌, ◌||◌, ◌<◌, ◌-◌}
+use Rattle.std.specs.Prelude.{List, [], ◌++◌, map, length, reverse, codes, string_bytes}
 use Rattle.std.specs.Prelude.{if◌then◌else◌, Option, None, Some, IsSome, Ok}
 use Rattle.std.specs.Borrow.{Bor}
 use Rattle.std.specs.Fmt.{decimal}
-use Rattle.std.specs.List.{All, AllZip, concat, enumerate_from, find, position_or_len}
+use Rattle.std.specs.List.{All, AllZip, concat, enumerate_from, find}
 use Rattle.std.specs.List.{before_first, after_first, slice_index}
 use Rattle.std.specs.Str.{bytes_eq, chars, trim, trim_start}
 use Rattle.std.specs.Str.Lines.{lines}
@@ -18,10 +18,7 @@ use Rattle.interpolator.specs.Meaning.Environments.{environment}
 use Rattle.interpolator.specs.Meaning.Meanings.{Meaning, means}
 use Rattle.interpolator.specs.Meaning.Outcomes.{Formats}
 use Rattle.interpolator.specs.Positions.{column_at}
-use Rattle.interpolator.specs.Slots.{slots_of, empty_slots, with_debug_display}
 use Rattle.interpolator.specs.Template.NodeChecks.{first_fault}
-use Rattle.interpolator.specs.Views.{some_text}
-use Rattle.interpolator.specs.declared.Formattable.{Formattable}
 use Rattle.catalogue.specs.Declarations.{Declared, nothing, these, broken, declared_in, has, key_in}
 use Rattle.catalogue.specs.Entries.{Holds, Pair}
 use Rattle.catalogue.specs.Examples.{IsOfKind, faults_of, view_shows}
@@ -124,7 +121,8 @@ told_of_message file number line (these declared) format =
 told_of_message file number line (broken place) format =
     told_at file number (column_at line place) what_is_declared
 
--- what is told of a line: nothing of one that is sound; else that it has no `=`, or its message's fault
+-- what is told of a line: nothing of one that is sound; else that it has no `=`, or the fault of its
+-- message
 abbrev pub told_of_line : List ℕ → ℕ → List ℕ → List ℕ
 told_of_line file number line =
     if is_passed_over line then []

@@ -4,8 +4,9 @@ ghost use Rattle.std.specs.Prelude.{◌≡◌, ◌++◌, IfOk, OnOk, map};
 ghost use Rattle.std.specs.Option.{option_map};
 ghost use Rattle.std.specs.Str.{trim};
 ghost use Rattle.catalogue.specs.Declarations.{as_declaration, as_list, if_whole, declaration_of};
-ghost use Rattle.catalogue.specs.Declarations.{part_of, begin_of, after_part, broken_at, declared_by};
-ghost use Rattle.catalogue.specs.Declarations.{declared_between, declared_after, declared_in, key_in};
+ghost use Rattle.catalogue.specs.Declarations.{part_of, begin_of, after_part, broken_at};
+ghost use Rattle.catalogue.specs.Declarations.{declared_by, declared_between, declared_after};
+ghost use Rattle.catalogue.specs.Declarations.{declared_in, key_in};
 
 use std::alloc::{AllocError, Global};
 
@@ -49,8 +50,8 @@ fn if_whole(name: &str, kind: Kind, whole: bool) -> Option<Declaration<'_>>
     }
 }
 
-/// The declaration that a text is: `NAME:` of a number, `NAME[]` of a list of texts, else `NAME` of a
-/// text. A name has no `:` and no `[`.
+/// The declaration that a text is: `NAME:` of a number, `NAME[]` of a list of texts, else `NAME` of
+/// a text. A name has no `:` and no `[`.
 pub fn declaration_of(text: &str) -> Option<Declaration<'_>>
     ensures { option_map as_declaration result ≡ declaration_of text.now }
 {
@@ -63,7 +64,8 @@ pub fn declaration_of(text: &str) -> Option<Declaration<'_>>
     if_whole(text, Kind::Text, true)
 }
 
-/// The declaration between two commas: white space around it is passed over, and its name is not empty.
+/// The declaration between two commas: white space around it is passed over, and its name is not
+/// empty.
 fn part_of(part: &str) -> Option<Declaration<'_>>
     ensures { option_map as_declaration result ≡ part_of part.now }
 {

@@ -62,8 +62,8 @@ pub fn entries_of<'e, 'a>(alloc: Global, objects: &'e [Object<'a>]) -> Result<Ve
     Ok(entries)
 }
 
-/// The slots that a value fills, by its kind: a text those of debug and display, a number those of an
-/// integer, a list that of its items.
+/// The slots that a value fills, by its kind: a text those of debug and display, a number those of
+/// an integer, a list that of its items.
 fn slots_by<'p, 'e>(entry: &'p Entry<'e>) -> Formattable<'p, View<'e>>
     ensures { slots_of result ≡ entry_slots entry.now }
 {

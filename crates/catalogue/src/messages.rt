@@ -10,8 +10,9 @@ ghost use Rattle.interpolator.specs.Faults.{answer_of, no_memory};
 ghost use Rattle.catalogue.specs.Declarations.{Declared, declared_by};
 ghost use Rattle.catalogue.specs.Messages.{IsSound};
 ghost use Rattle.catalogue.specs.Words.{HasEquals};
-ghost use Rattle.catalogue.specs.Messages.{is_passed_over, is_under, head_of, format_of, last_under};
-ghost use Rattle.catalogue.specs.Messages.{told_at, told_of_fault, told_of_message, told_of_line, told_of_lines};
+ghost use Rattle.catalogue.specs.Messages.{is_passed_over, is_under, head_of, format_of};
+ghost use Rattle.catalogue.specs.Messages.{last_under, told_at, told_of_fault, told_of_message};
+ghost use Rattle.catalogue.specs.Messages.{told_of_line, told_of_lines};
 ghost use Rattle.catalogue.specs.Messages.{with_format, IsMadeOrTold, Answers};
 
 use crate::declarations::{Heading, heading_of};
@@ -237,13 +238,13 @@ fn message(
     }
 }
 
-/// The message under a key, over words `NAME=TEXT`, `NAME:=NUMBER` and `NAME[]=ITEM,ITEM`; or all that
-/// is wrong with the file, or else with the key, the words or the message.
+/// The message under a key, over words `NAME=TEXT`, `NAME:=NUMBER` and `NAME[]=ITEM,ITEM`; or all
+/// that is wrong with the file, or else with the key, the words or the message.
 ///
-/// A message is answered only where every line that has to have one has one that checks: by itself, or
-/// over an example of what the line declares. It is what the last line of the key means over the words:
-/// of two messages under one key the last counts. Over words of the names and kinds that the line
-/// declares, in that order, the message has no fault.
+/// A message is answered only where every line that has to have one has one that checks: by itself,
+/// or over an example of what the line declares. It is what the last line of the key means over the
+/// words: of two messages under one key the last counts. Over words of the names and kinds that the
+/// line declares, in that order, the message has no fault.
 ///
 /// # Errors
 ///

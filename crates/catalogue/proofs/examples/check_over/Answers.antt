@@ -1,4 +1,3 @@
-use Rattle.std.proofs.lemmas.Result.{err_from_is_err_and}
 use Rattle.catalogue.specs.Declarations.{as_declaration}
 use Rattle.catalogue.specs.Examples.{IsExample}
 use Rattle.catalogue.proofs.EntryLemmas.{held}
