@@ -76,10 +76,8 @@ fn pairs_of<'a>(
     values: &[Formattable<'a, u64>],
 ) -> Result<Vec<Named<'a>>, AllocError> {
     let mut pairs = Vec::new(alloc);
-    let mut index = 0usize;
     for value in values {
-        pairs.push((name_of(index), *value))?;
-        index += 1;
+        pairs.push((name_of(pairs.len()), *value))?;
     }
     Ok(pairs)
 }
