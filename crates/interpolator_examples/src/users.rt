@@ -9,11 +9,11 @@ mod files;
 mod level;
 mod log;
 mod order;
+mod own_error;
 mod prepared;
 mod record;
 mod rows;
 mod slots;
-mod sums;
 mod teams;
 
 use crate::page::Page;
@@ -279,8 +279,8 @@ pub fn show(page: &mut Page) -> Result<(), Error> {
     explained::show(page);
     files::show(page);
     order::show(page);
+    own_error::show(page)?;
     prepared::show(page)?;
-    sums::show(page)?;
     teams::show(page);
     Ok(())
 }

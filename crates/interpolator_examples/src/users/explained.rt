@@ -19,9 +19,12 @@ fn letter_fault(alloc: Global, letter: &str) -> Result<String, Error> {
     }
 }
 
-/// What is wrong with the format in a line `key = format` of a file, or nothing.
-fn line_fault(alloc: Global, number: usize, line: &str) -> Result<String, Error> {
+/// Appends what is wrong with the format in a line `key = format` of a file, if anything is.
+fn push_fault(alloc: Global, told: &mut String, number: usize, line: &str) -> Result<(), Error> {
     let (_, format) = line.split_once(" = ").unwrap_or(("", line));
+    let Err(error) = check(alloc, format) else {
+        return Ok(());
+    };
     let source = Source {
         name: "messages.txt",
         first_line: number,
@@ -29,26 +32,26 @@ fn line_fault(alloc: Global, number: usize, line: &str) -> Result<String, Error>
         start: line.len().saturating_sub(format.len()),
         format,
     };
-    match check(alloc, format) {
-        Ok(()) => Ok(String::new(alloc)),
-        Err(error) => explain_in(alloc, &source, &error),
-    }
+    told.push_str(explain_in(alloc, &source, &error)?.as_str())?;
+    told.push('\n')?;
+    Ok(())
 }
 
-/// What is wrong with each line of a file.
+/// What is wrong with the lines of a file.
 fn file_faults(alloc: Global, file: &str) -> Result<String, Error> {
     let mut told = String::new(alloc);
     for (index, line) in file.lines().enumerate() {
-        let fault = line_fault(alloc, index.saturating_add(1), line)?;
-        told.push_str(fault.as_str())?;
+        push_fault(alloc, &mut told, index.saturating_add(1), line)?;
     }
     Ok(told)
 }
+
+/// A file of three lines, of which the first and the last have faults.
+const FILE: &str = "hello = Hello {name\nask = How is {city}?\nbye = Bye {name:5s}\n";
 
 pub fn show(page: &mut Page) {
     let alloc = page.alloc;
     let letter = letter_fault(alloc, "Hello {name},\nhow is {town}?");
     page.put_made("letter_fault", letter);
-    let file = "hello = Hello {name}!\nbye = Bye {name:5s}";
-    page.put_made("file_faults", file_faults(alloc, file));
+    page.put_made("file_faults", file_faults(alloc, FILE));
 }

@@ -4,9 +4,9 @@ use crate::page::Page;
 use interpolator::{Error, Formattable, Interpolate, Pairs, items_of};
 use std::alloc::{AllocError, AllocFailed, Global};
 
-/// Why there is no sum.
+/// Why there is no list.
 #[derive(Debug, Drop)]
-enum SumError {
+enum ListError {
     /// Memory was refused.
     NoMemory,
     /// This word, from 0 on, is no number.
@@ -15,26 +15,26 @@ enum SumError {
     Format(Error),
 }
 
-impl From<Error> for SumError {
-    fn from(error: Error) -> SumError {
-        SumError::Format(error)
+impl From<Error> for ListError {
+    fn from(error: Error) -> ListError {
+        ListError::Format(error)
     }
 }
 
 /// What `push` and `insert` answer where memory is refused, with what they did not take.
-impl<T: Drop> From<AllocFailed<T>> for SumError {
-    fn from(_refused: AllocFailed<T>) -> SumError {
-        SumError::NoMemory
+impl<T: Drop> From<AllocFailed<T>> for ListError {
+    fn from(_refused: AllocFailed<T>) -> ListError {
+        ListError::NoMemory
     }
 }
 
 /// The numbers of a text, as a format says.
-fn sum(alloc: Global, text: &str, format: &str) -> Result<String, SumError> {
+fn listed(alloc: Global, text: &str, format: &str) -> Result<String, ListError> {
     let mut numbers = Vec::new(alloc);
     for word in text.split(' ') {
         match word.parse::<u64>() {
             Ok(number) => numbers.push(number)?,
-            Err(_) => return Err(SumError::NoNumber(numbers.len())),
+            Err(_) => return Err(ListError::NoNumber(numbers.len())),
         }
     }
     let items = items_of(alloc, &numbers)?;
@@ -42,15 +42,15 @@ fn sum(alloc: Global, text: &str, format: &str) -> Result<String, SumError> {
     Ok(told)
 }
 
-/// A sum, or why there is none.
+/// A list, or why there is none.
 fn told(alloc: Global, text: &str, format: &str) -> Result<String, AllocError> {
-    match sum(alloc, text, format) {
-        Ok(sum) => Ok(sum),
+    match listed(alloc, text, format) {
+        Ok(list) => Ok(list),
         Err(error) => format!(in alloc; "{error:?}"),
     }
 }
 
-/// A sum, a word that is no number, and a format whose name is missing.
+/// A list, a word that is no number, and a format whose name is missing.
 pub fn show(page: &mut Page) -> Result<(), Error> {
     let alloc = page.alloc;
     for (text, format) in [
@@ -59,7 +59,7 @@ pub fn show(page: &mut Page) -> Result<(), Error> {
         ("1 20", "{number:i}"),
     ] {
         let told = told(alloc, text, format)?;
-        page.put("sum", told.as_str());
+        page.put("numbers", told.as_str());
     }
     Ok(())
 }
