@@ -1,13 +1,20 @@
 //! What a user writes: contexts and formats, with no proof of his own.
 
+mod amounts;
 mod calls;
 mod catalogue;
 mod cell;
+mod explained;
+mod files;
 mod level;
 mod log;
+mod order;
+mod own_error;
+mod prepared;
 mod record;
 mod rows;
 mod slots;
+mod teams;
 
 use crate::page::Page;
 use interpolator::{
@@ -268,5 +275,12 @@ pub fn show(page: &mut Page) -> Result<(), Error> {
     record::show(page)?;
     rows::show(page)?;
     slots::show(page);
+    amounts::show(page);
+    explained::show(page);
+    files::show(page);
+    order::show(page);
+    own_error::show(page)?;
+    prepared::show(page)?;
+    teams::show(page);
     Ok(())
 }

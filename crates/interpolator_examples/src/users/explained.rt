@@ -1,0 +1,57 @@
+//! Faults as a compiler shows them: of a format alone, and of one in a line of a file.
+
+use crate::page::Page;
+use interpolator::{
+    Error, Formattable, Interpolate, Pairs, Source, Template, check, explain, explain_in,
+};
+use std::alloc::Global;
+
+/// What is wrong with a letter over the names `name` and `city`, or nothing.
+fn letter_fault(alloc: Global, letter: &str) -> Result<String, Error> {
+    let template = Template::parse(alloc, letter)?;
+    let sample = Pairs(&[
+        ("name", Formattable::display(&"Ann")),
+        ("city", Formattable::display(&"Oslo")),
+    ]);
+    match sample.check_template(alloc, &template) {
+        Ok(()) => Ok(String::new(alloc)),
+        Err(error) => explain(alloc, "letter.txt", letter, &error),
+    }
+}
+
+/// Appends what is wrong with the format in a line `key = format` of a file, if anything is.
+fn push_fault(alloc: Global, told: &mut String, number: usize, line: &str) -> Result<(), Error> {
+    let (_, format) = line.split_once(" = ").unwrap_or(("", line));
+    let Err(error) = check(alloc, format) else {
+        return Ok(());
+    };
+    let source = Source {
+        name: "messages.txt",
+        first_line: number,
+        text: line,
+        start: line.len().saturating_sub(format.len()),
+        format,
+    };
+    told.push_str(explain_in(alloc, &source, &error)?.as_str())?;
+    told.push('\n')?;
+    Ok(())
+}
+
+/// What is wrong with the lines of a file.
+fn file_faults(alloc: Global, file: &str) -> Result<String, Error> {
+    let mut told = String::new(alloc);
+    for (index, line) in file.lines().enumerate() {
+        push_fault(alloc, &mut told, index.saturating_add(1), line)?;
+    }
+    Ok(told)
+}
+
+/// A file of three lines, of which the first and the last have faults.
+const FILE: &str = "hello = Hello {name\nask = How is {city}?\nbye = Bye {name:5s}\n";
+
+pub fn show(page: &mut Page) {
+    let alloc = page.alloc;
+    let letter = letter_fault(alloc, "Hello {name},\nhow is {town}?");
+    page.put_made("letter_fault", letter);
+    page.put_made("file_faults", file_faults(alloc, FILE));
+}

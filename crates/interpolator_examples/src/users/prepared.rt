@@ -1,0 +1,45 @@
+//! A format that is prepared for rows of the same names.
+
+use crate::page::Page;
+use interpolator::{Error, Formattable, Pairs, Prepared, Row, Template, TextBuffer, View};
+use std::alloc::Global;
+
+/// A format of the names `item` and `count`, in this order: a text and a number.
+fn prepared(alloc: Global, format: &str) -> Result<Prepared, Error> {
+    let template = Template::parse(alloc, format)?;
+    let sample = [View::Text("bread"), View::from(7u32)];
+    template.prepare(
+        alloc,
+        &Pairs(&[
+            ("item", Formattable::display(&sample[0])),
+            ("count", Formattable::integer(&sample[1])),
+        ]),
+    )
+}
+
+/// A line for each row, all by one buffer, which is cleared between them.
+fn put_lines(page: &mut Page, line: &Prepared, rows: &[(&str, u32)]) -> Result<(), Error> {
+    let alloc = page.alloc;
+    let mut out = TextBuffer::new(alloc);
+    for (item, count) in rows {
+        let values = [View::Text(item), View::from(*count)];
+        let row = [
+            Formattable::display(&values[0]),
+            Formattable::integer(&values[1]),
+        ];
+        out.clear();
+        line.write(alloc, &mut out, &Row(&row))?;
+        page.put("prepared", out.as_str());
+    }
+    Ok(())
+}
+
+/// The lines, and a format whose name the rows do not have.
+pub fn show(page: &mut Page) -> Result<(), Error> {
+    let alloc = page.alloc;
+    let line = prepared(alloc, "{count:>5} {item}")?;
+    put_lines(page, &line, &[("bread", 7), ("crème", 1234)])?;
+    let refused = prepared(alloc, "{count} {name}");
+    page.put_made("not prepared", refused.map(|_| String::new(alloc)));
+    Ok(())
+}
