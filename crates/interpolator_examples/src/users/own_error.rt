@@ -17,7 +17,10 @@ enum ListError {
 
 impl From<Error> for ListError {
     fn from(error: Error) -> ListError {
-        ListError::Format(error)
+        match error {
+            Error::NoMemory => ListError::NoMemory,
+            fault => ListError::Format(fault),
+        }
     }
 }
 
