@@ -12,6 +12,7 @@ mod declarations;
 mod entries;
 mod examples;
 mod messages;
+mod picks;
 mod words;
 
 use messages::{Answer, look_up};
