@@ -77,7 +77,8 @@ all_cases() {
     message 'Hi  Ann' declared.txt hi name=Ann
     message 'nothing' declared.txt none
     printf '%s\n' 'a(name) = {name:x}' 'b(n:) = {n:x} {m}' 'c(l[]) = {l:i({:x})}' \
-        'd(n:, l[],) = {n}' 'e(n = {n}' 'f(n:x) = {n}' >kinds.txt
+        'd(n:, l[],) = {n}' 'e(n = {n}' 'f(n:x) = {n}' \
+        'g(n, m, n:) = {n}{m}' >kinds.txt
     told "$(printf '%s\n' \
         'kinds.txt:1:18: trait `LowerHex` not implemented, used by format argument at 7' \
         '  |' '1 | a(name) = {name:x}' '  |           ^^^^^^^^' \
@@ -85,9 +86,10 @@ all_cases() {
         '  |' '2 | b(n:) = {n:x} {m}' '  |               ^^^' \
         'kinds.txt:3:18: trait `LowerHex` not implemented, used by format argument at 8' \
         '  |' '3 | c(l[]) = {l:i({:x})}' '  |               ^^^^' \
-        'kinds.txt:4:11: declarations are `(NAME, NAME:, NAME[])`' \
-        'kinds.txt:5:2: declarations are `(NAME, NAME:, NAME[])`' \
-        'kinds.txt:6:3: declarations are `(NAME, NAME:, NAME[])`')" kinds.txt a name=Ann
+        'kinds.txt:4:11: declarations are `(NAME, NAME:, NAME[])`, each name once' \
+        'kinds.txt:5:2: declarations are `(NAME, NAME:, NAME[])`, each name once' \
+        'kinds.txt:6:3: declarations are `(NAME, NAME:, NAME[])`, each name once' \
+        'kinds.txt:7:9: declarations are `(NAME, NAME:, NAME[])`, each name once')" kinds.txt a name=Ann
     case_of file file 2 '' ''
     case_of file file 2 '' '' m.txt
     case_of file file 2 '' '' none.txt hello

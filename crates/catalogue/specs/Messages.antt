@@ -111,7 +111,7 @@ told_of_format file number line format (Some f) = told_of_fault file number line
 
 -- what is told of a broken declaration
 abbrev pub what_is_declared : List ℕ
-what_is_declared = codes "declarations are `(NAME, NAME:, NAME[])`"
+what_is_declared = codes "declarations are `(NAME, NAME:, NAME[])`, each name once"
 
 -- what is told of a line's message: a broken declaration, or its format's first fault
 abbrev pub told_of_message : List ℕ → ℕ → (line : List ℕ) → Declared → (format : List ℕ) → List ℕ

@@ -28,7 +28,7 @@ use interpolator::{
 use std::alloc::{AllocError, Global};
 
 /// What is told of a broken declaration.
-const WHAT_IS_DECLARED: &str = "declarations are `(NAME, NAME:, NAME[])`";
+const WHAT_IS_DECLARED: &str = "declarations are `(NAME, NAME:, NAME[])`, each name once";
 
 /// What is told of a word that gives nothing.
 const WHAT_IS_A_WORD: &str = "a value is `NAME=TEXT`, `NAME:=NUMBER` or `NAME[]=ITEM,ITEM`\n";
