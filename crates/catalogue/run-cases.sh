@@ -89,7 +89,8 @@ all_cases() {
         'kinds.txt:4:11: declarations are `(NAME, NAME:, NAME[])`, each name once' \
         'kinds.txt:5:2: declarations are `(NAME, NAME:, NAME[])`, each name once' \
         'kinds.txt:6:3: declarations are `(NAME, NAME:, NAME[])`, each name once' \
-        'kinds.txt:7:9: declarations are `(NAME, NAME:, NAME[])`, each name once')" kinds.txt a name=Ann
+        'kinds.txt:7:9: declarations are `(NAME, NAME:, NAME[])`, each name once')" \
+        kinds.txt a name=Ann
     case_of file file 2 '' ''
     case_of file file 2 '' '' m.txt
     case_of file file 2 '' '' none.txt hello

@@ -165,7 +165,8 @@ all_alike objects (d ∷ ds) (o ∷ os) (p ∷ ps) g h k = (
 -- what was found under a name resembles the example that is
 found_alike : (o : Option (List ℕ × Kind)) (r : Option Pair) → Alike Resembling o r
     → ResemblesFound view_shows view_shows
-    (option_map slots_of (option_map (λ pair. pair.1) r)) (option_map (λ one. example_slots one.1) o)
+    (option_map slots_of (option_map (λ pair. pair.1) r))
+    (option_map (λ one. example_slots one.1) o)
 found_alike None None h = tt
 found_alike None (Some p) h = absurd h
 found_alike (Some d) None h = absurd h

@@ -1,6 +1,6 @@
 -- Parts between commas that are read one after the other.
-use Rattle.std.proofs.Common.{◌≡◌, ℕ, List, [], ◌∷◌, ◌++◌, Option, None, Some, refl, sym, ap, ◌∙◌, map}
-use Rattle.std.proofs.Common.{append_assoc, append-nil, length, ◌==◌, ◌||◌, Bool, false, cond}
+use Rattle.std.proofs.Common.{◌≡◌, ℕ, List, [], ◌∷◌, ◌++◌, Option, None, Some, refl, sym, ap, ◌∙◌}
+use Rattle.std.proofs.Common.{map, append_assoc, append-nil, length, ◌==◌, ◌||◌, Bool, false, cond}
 use Rattle.std.specs.List.{list_any, slice_split}
 use Rattle.std.specs.Str.{bytes_eq, trim}
 use Rattle.std.specs.Borrow.{Bor}

@@ -1,6 +1,6 @@
 -- What the head of a line declares: names, each with a kind of value. Texts are bytes.
-use Rattle.std.specs.Prelude.{ℕ, Bool, not, ◌==◌, ◌-◌, nat_lt, List, [], ◌∷◌, ◌++◌, map, length, codes}
-use Rattle.std.specs.Prelude.{if◌then◌else◌, Option, None, Some}
+use Rattle.std.specs.Prelude.{ℕ, Bool, not, ◌==◌, ◌-◌, nat_lt, List, [], ◌∷◌, ◌++◌, map, length}
+use Rattle.std.specs.Prelude.{codes, if◌then◌else◌, Option, None, Some}
 use Rattle.std.specs.Option.{option_or}
 use Rattle.std.specs.List.{before_first, after_first, list_any, position_or_len, slice_split}
 use Rattle.std.specs.Str.{bytes_eq, trim, trim_start}
@@ -97,8 +97,8 @@ abbrev pub declarations : List (List ℕ) → List (List ℕ × Kind)
 declarations [] = []
 declarations (part ∷ parts) = as_list (part_of part) ++ declarations parts
 
--- what is declared: nothing, these names with their kinds, each once, or what is broken at a byte of
--- the line
+-- what is declared: nothing, these names with their kinds, each once, or what is broken at a byte
+-- of the line
 pub data Declared : Type 0 where
   nothing : Declared
   these : List (List ℕ × Kind) → Declared

@@ -122,8 +122,8 @@ told_of_message file number line (these declared) format =
 told_of_message file number line (broken place) format =
     told_at file number (column_at line place) what_is_declared
 
--- what is told of a line: nothing of one that is sound; else that it has no `=`, or the fault of its
--- message
+-- what is told of a line: nothing of one that is sound; else that it has no `=`, or the fault of
+-- its message
 abbrev pub told_of_line : List ℕ → ℕ → List ℕ → List ℕ
 told_of_line file number line =
     if is_passed_over line then []

@@ -95,8 +95,8 @@ fn is_among(found: &[Declaration<'_>], name: &str) -> bool
     found.iter().any(|one| name == one.name)
 }
 
-/// Where a part is broken that comes at a byte: it is no declaration, or its name is declared before
-/// it.
+/// Where a part is broken that comes at a byte: it is no declaration, or its name is declared
+/// before it.
 fn broken_at(place: usize, found: &[Declaration<'_>], part: &str) -> Option<usize>
     ensures { result ≡ broken_at place (map as_declaration found.now) part.now }
 {
@@ -165,7 +165,7 @@ fn declared_after<'a>(
 /// The key of a line's head, and what it declares.
 ///
 /// `greeting(name, count:, items[])` declares a text `name`, a number `count` and a list of texts
-/// `items`.
+/// `items`. Each name is declared once.
 pub fn heading_of<'a>(alloc: Global, head: &'a str) -> Result<(&'a str, Heading<'a>), AllocError>
     ensures key { IfOk result (λ found. found.0.now ≡ key_in head.now) }
     ensures declared { IfOk result (λ found. declared_by found.1 ≡ declared_in head.now) }

@@ -1,4 +1,4 @@
-use Rattle.std.proofs.Common.{◌≡◌, ◌∙◌, sym, true, false}
+use Rattle.std.proofs.Common.{◌∙◌, sym, true, false}
 use Rattle.catalogue.proofs.PartLemmas.{broken_again}
 use Rattle.catalogue.proofs.declarations.broken_at.Goals as goal
 
