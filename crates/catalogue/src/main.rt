@@ -3,9 +3,9 @@
 //!
 //! A line of the file is `key = format`, or `key(name, count:, items[]) = format`, which declares
 //! that the format is given a text `name`, a number `count` and a list of texts `items`; it is then
-//! checked over an example of these, and the words have to give them, in any order. Blank lines, and
-//! those that begin with `#`, are passed over. Each fault is shown in its line, with the file, the
-//! line and the column, and then no message is written.
+//! checked over an example of these, and the words have to give them, in any order. Blank lines,
+//! and those that begin with `#`, are passed over. Each fault is shown in its line, with the file,
+//! the line and the column, and then no message is written.
 #![tactic(auto)]
 
 mod declarations;
