@@ -8,7 +8,7 @@ set -u
 
 here=$(cd "$(dirname "$0")" && pwd)
 name=catalogue
-wanted=23
+wanted=30
 . "$here/../../.ci/cases.sh"
 
 # message WANTED WORD..: a message, which goes to the output, with status 0.
@@ -66,14 +66,19 @@ all_cases() {
         'cart(name, n:, l[]) = {name}: {n:03} of {l:i(<{}>)(, )}' >declared.txt
     message 'Ann: -07 of <a>, <b>' declared.txt cart name=Ann n:=-7 'l[]=a,b'
     message 'Ann: 007 of ' declared.txt cart 'l[]=' n:=7 name=Ann
-    told "$(printf '%s\n' \
-        'declared.txt:3:55: trait `Iter` not implemented, used by format argument at 32' \
-        '  |' '3 | cart(name, n:, l[]) = {name}: {n:03} of {l:i(<{}>)(, )}' \
-        '  |                                         ^^^^^^^^^^^^^^^')" declared.txt cart name=Ann n:=7 l=a
+    message 'Bob: 008 of <c>' declared.txt cart n:=7 'l[]=a,b' name=Ann x=1 n:=8 'l[]=c' name=Bob
+    told 'declared.txt:3: `cart` wants `l[]=ITEM,ITEM`' declared.txt cart name=Ann n:=7 l=a
+    told 'declared.txt:3: `cart` wants `n:=NUMBER`' declared.txt cart name=Ann n:=7 'l[]=a' n=8
+    told 'declared.txt:3: `cart` wants `n:=NUMBER`' declared.txt cart name=Ann 'n[]=7'
+    told 'declared.txt:3: `cart` wants `name=TEXT`' declared.txt cart n:=7 'l[]=a' name:=1
+    told 'declared.txt:3: `cart` wants `name=TEXT`' declared.txt cart
+    told 'declared.txt:1: `hi` wants `name=TEXT`' declared.txt hi 'name[]=Ann'
+    message 'nothing' declared.txt none name:=1
     message 'Hi  Ann' declared.txt hi name=Ann
     message 'nothing' declared.txt none
     printf '%s\n' 'a(name) = {name:x}' 'b(n:) = {n:x} {m}' 'c(l[]) = {l:i({:x})}' \
-        'd(n:, l[],) = {n}' 'e(n = {n}' 'f(n:x) = {n}' >kinds.txt
+        'd(n:, l[],) = {n}' 'e(n = {n}' 'f(n:x) = {n}' \
+        'g(n, m, n:) = {n}{m}' >kinds.txt
     told "$(printf '%s\n' \
         'kinds.txt:1:18: trait `LowerHex` not implemented, used by format argument at 7' \
         '  |' '1 | a(name) = {name:x}' '  |           ^^^^^^^^' \
@@ -81,9 +86,11 @@ all_cases() {
         '  |' '2 | b(n:) = {n:x} {m}' '  |               ^^^' \
         'kinds.txt:3:18: trait `LowerHex` not implemented, used by format argument at 8' \
         '  |' '3 | c(l[]) = {l:i({:x})}' '  |               ^^^^' \
-        'kinds.txt:4:11: declarations are `(NAME, NAME:, NAME[])`' \
-        'kinds.txt:5:2: declarations are `(NAME, NAME:, NAME[])`' \
-        'kinds.txt:6:3: declarations are `(NAME, NAME:, NAME[])`')" kinds.txt a name=Ann
+        'kinds.txt:4:11: declarations are `(NAME, NAME:, NAME[])`, each name once' \
+        'kinds.txt:5:2: declarations are `(NAME, NAME:, NAME[])`, each name once' \
+        'kinds.txt:6:3: declarations are `(NAME, NAME:, NAME[])`, each name once' \
+        'kinds.txt:7:9: declarations are `(NAME, NAME:, NAME[])`, each name once')" \
+        kinds.txt a name=Ann
     case_of file file 2 '' ''
     case_of file file 2 '' '' m.txt
     case_of file file 2 '' '' none.txt hello

@@ -1,16 +1,19 @@
 -- The answer, once the lines are sound, from the line that was found and what the words give.
 use Rattle.std.proofs.Common.{◌≡◌, ℕ, List, Option, None, Some, Ok, Err, Result, IfOk, sym, ap, ◌∙◌}
-use Rattle.std.proofs.Common.{All, inr, unwrap_or, refl, subst, string_bytes}
+use Rattle.std.proofs.Common.{All, inl, inr, unwrap_or, refl, subst, string_bytes}
 use Rattle.std.specs.Option.{option_map}
 use Rattle.std.specs.Str.Lines.{lines}
 use Rattle.std.specs.declared.string.String.{String}
 use Rattle.interpolator.specs.declared.Error.{Error}
-use Rattle.catalogue.specs.Messages.{Answers, GiveValues, IsMadeOrTold, IsSound, IsSoundOver}
-use Rattle.catalogue.specs.Messages.{declared_of}
-use Rattle.catalogue.proofs.KindLemmas.{none_fails}
+use Rattle.catalogue.specs.Messages.{Answers, GiveValues, HoldAll, IsSound, IsSoundOver, IsToldOf}
+use Rattle.catalogue.specs.Messages.{Replies, declared_of, message_means}
+use Rattle.catalogue.specs.Entries.{Pair}
+use Rattle.catalogue.specs.Picks.{ArePicked}
+use Rattle.interpolator.specs.Faults.{Fault}
+use Rattle.catalogue.proofs.KindLemmas.{IsGiven, all_given, none_fails}
 use Rattle.catalogue.proofs.SoundLemmas.{sound_last}
 use Rattle.catalogue.specs.Messages.{format_of}
-use Rattle.catalogue.specs.Declarations.{Declared}
+use Rattle.catalogue.specs.Declarations.{Declared, nothing, these, broken}
 use Rattle.catalogue.specs.Messages.{last_under, with_format}
 use Rattle.catalogue.specs.declared.entries.Object.{Object}
 use Rattle.catalogue.specs.declared.messages.Answer.{Answer}
@@ -33,13 +36,23 @@ found_under number line format declared (Some one) h =
       ap (λ x. x.3) e ∙ ap declared_of (sym same),
     )
 
--- the message of the line, or its fault, is the answer
+-- a sound line whose message has a fault over what is picked of given values declares nothing
+only_plain : (format : List ℕ) (declared : Declared) (values picked : List Object)
+    (pairs : List Pair) (f : Fault) → IsSoundOver declared format → All IsGiven values
+    → ArePicked declared values picked → HoldAll picked pairs
+    → (message_means format pairs).fault ≡ Some f → (declared ≡ nothing) × (picked ≡ values)
+only_plain format nothing values picked pairs f sound given are held told = (refl, are)
+only_plain format (these ds) values picked pairs f sound given are held told =
+    absurd (not_none f (sym told ∙ none_fails format ds values picked pairs sound given are held))
+only_plain format (broken place) values picked pairs f sound given are held told = absurd sound
+
+-- the message of the line, what value it lacks, or its fault, is the answer
 pub answers_message : {Y : Type 0} (file text key : List ℕ) (words : List (String Y)) (number : ℕ)
     (line : List ℕ) (values : List Object) (result : Result Answer Error)
     → All IsSound (lines text) → last_under key (lines text) ≡ Some (number, line)
     → GiveValues words values
-    → IfOk result (λ answer. IsMadeOrTold file number line (format_of line) values answer)
-    → IfOk result (λ answer. Answers file text key words answer)
+    → IfOk result (λ answer. Replies file number line key (format_of line) (declared_of line)
+    values answer) → IfOk result (λ answer. Answers file text key words answer)
 answers_message file text key words number line values (Ok (Message m)) sound under given h =
     record {
       sound = sound;
@@ -48,22 +61,36 @@ answers_message file text key words number line values (Ok (Message m)) sound un
       under = under;
       values = values;
       given = given;
-      made = h;
+      picked = h.picked;
+      are = h.are;
+      made = h.made;
     }
-answers_message file text key words number line values (Ok (Faults told)) sound under given h =
-    inr (inr (inr (record {
+answers_message file text key words number line values (Ok (Faults told)) sound under given
+    (inl h) = inr (inr (inr (inl (record {
       sound = sound;
       number = number;
       line = line;
       under = under;
       values = values;
       given = given;
-      faulty = h;
-      other = λ declared is kinds. not_none h.f (sym h.faulty.told
-          ∙ none_fails string_bytes (format_of line) declared values words h.faulty.pairs
-          (subst (λ d. IsSoundOver d (format_of line)) is
-          (sound_last key (lines text) number line sound under)) kinds given h.faulty.shown);
-    })))
+      lacks = h;
+    }))))
+answers_message file text key words number line values (Ok (Faults told)) sound under given
+    (inr h) =
+    let plain = only_plain (format_of line) (declared_of line) values h.picked
+    h.made.faulty.pairs h.made.f (sound_last key (lines text) number line sound under)
+    (all_given string_bytes words values given) h.are h.made.faulty.shown h.made.faulty.told in
+    inr (inr (inr (inr (record {
+      sound = sound;
+      number = number;
+      line = line;
+      under = under;
+      plain = plain.0;
+      values = values;
+      given = given;
+      faulty = subst (λ vs. IsToldOf file number line (format_of line) vs (string_bytes told))
+          plain.1 h.made;
+    }))))
 answers_message file text key words number line values (Err e) sound under given h = h
 
 -- no line was found: none has the key

@@ -1,6 +1,6 @@
 -- Pairs, one for each of some declarations, and what the last of a name holds.
-use Rattle.std.proofs.Common.{◌≡◌, ◌∙◌, refl, sym, ap, subst, ℕ, Bool, true, false, cond, List, [], ◌∷◌}
-use Rattle.std.proofs.Common.{Option, None, Some, option_map, map}
+use Rattle.std.proofs.Common.{◌≡◌, ◌∙◌, refl, sym, ap, subst, ℕ, Bool, true, false, cond, List}
+use Rattle.std.proofs.Common.{[], ◌∷◌, Option, None, Some, option_map, map}
 use mathlib.Core.Path.{fun_ext}
 use Rattle.std.proofs.lemmas.List.{reverse-append}
 use Rattle.std.proofs.lemmas.Slice.Zip.{all_zipped_more}

@@ -1,7 +1,9 @@
 -- Values of declared kinds resemble the examples of these: a sound format has no fault over them.
 use Rattle.std.proofs.Common.{◌≡◌, refl, sym, ap, subst, inl, ℕ, ℤ, List, [], ◌∷◌, map}
 use Rattle.std.proofs.Common.{Option, None, Some, option_map, ◌∙◌}
+use Rattle.std.proofs.Common.{reverse}
 use Rattle.std.proofs.lemmas.List.Elements.{All-nil, All-cons}
+use Rattle.std.proofs.lemmas.Slice.Eq.{bytes_eq-Decides}
 use Rattle.std.specs.List.{All, AllZip}
 use Rattle.std.specs.Str.{bytes_eq, chars, encode_utf8_all}
 use Rattle.interpolator.proofs.TemplateLemmas.ResembleLemmas.{no_fault}
@@ -27,14 +29,16 @@ use Rattle.interpolator.specs.declared.Trait.TheVariants.{UpperExp, UpperHex}
 use Rattle.interpolator.specs.declared.View.{View}
 use Rattle.catalogue.specs.Declarations.{these}
 use Rattle.catalogue.specs.Entries.{Holds, Pair, item_slots, slots_by}
-use Rattle.catalogue.specs.Examples.{IsOfKind, example_slots, example_under, faults_of, item_examples}
+use Rattle.catalogue.specs.Examples.{example_slots, example_under, faults_of, item_examples}
 use Rattle.catalogue.specs.Examples.{number_example, text_example, view_shows}
 use Rattle.catalogue.specs.Messages.{message_means}
 use Rattle.catalogue.specs.Words.{Gives, ShowsAs, items_in, items_of, texts_show}
 use Rattle.catalogue.specs.declared.declarations.Kind.{Kind}
 use Rattle.catalogue.specs.declared.declarations.Kind.TheVariants as kinds
 use Rattle.catalogue.specs.declared.entries.Object.{Object}
+use Rattle.catalogue.specs.Picks.{IsPicked}
 use Rattle.catalogue.proofs.ExampleLemmas.{Alike, last_alike}
+use Rattle.catalogue.proofs.SoundLemmas.{all_reversed, find_holds}
 
 -- a text has a text where its example has one
 text_alike : (y : Shown) (cs : List ℕ) → y ≡ some_text cs → (t : Trait) (spec : Spec)
@@ -120,35 +124,49 @@ abbrev Resembling : List ℕ × Kind → Pair → Type 0
 Resembling declared pair = (pair.0.now ≡ declared.0)
     × Resembles view_shows view_shows (slots_of pair.1) (example_slots declared.1)
 
+-- some word gives an object
+abbrev pub IsGiven : Object → Type 0
+IsGiven object = (word : List ℕ) × Gives word object
+
 -- the pair of what a word gives
-pair_alike : (declared : List ℕ × Kind) (word : List ℕ) (object : Object) (pair : Pair)
-    → IsOfKind declared object → Gives word object → Holds object pair → Resembling declared pair
-pair_alike declared word object pair is given held = (
+pair_alike : (declared : List ℕ × Kind) (object : Object) (pair : Pair)
+    → (object.name.now ≡ declared.0) × IsGiven object → object.kind ≡ declared.1
+    → Holds object pair → Resembling declared pair
+pair_alike declared object pair is kind held = (
   ap (λ x. x.now) held.name ∙ is.0,
-  rw (held.slots, ← is.1)
-      (value_alike object.kind object.value object.items.items given.text given.value given.items),
+  rw (held.slots, ← kind)
+      (value_alike object.kind object.value object.items.items is.1.1.text is.1.1.value
+      is.1.1.items),
 )
 
+-- what is picked has the name, and is given by a word
+picked_given : (objects : List Object) (declared : List ℕ × Kind) (object : Object)
+    → All IsGiven objects → IsPicked objects declared object
+    → (object.name.now ≡ declared.0) × IsGiven object
+picked_given objects declared object all is =
+    let found = find_holds (λ (one : Object). bytes_eq declared.0 one.name.now) IsGiven
+    (reverse objects) object (all_reversed IsGiven objects all) is.last in
+    (sym ((bytes_eq-Decides declared.0 object.name.now).0 found.0), found.1)
+
 -- so it is of all of them
-all_alike : {W : Type 0} (bytes : W → List ℕ) (ds : List (List ℕ × Kind)) (objects : List Object)
-    (words : List W) (pairs : List Pair) → AllZip IsOfKind ds objects
-    → AllZip (λ word object. Gives (bytes word) object) words objects
-    → AllZip Holds objects pairs → AllZip Resembling ds pairs
-all_alike bytes [] [] words [] h g k = k
-all_alike bytes [] [] words (p ∷ ps) h g k = k
-all_alike bytes [] (o ∷ os) words pairs h g k = absurd h
-all_alike bytes (d ∷ ds) [] words pairs h g k = absurd h
-all_alike bytes (d ∷ ds) (o ∷ os) [] pairs h g k = absurd g
-all_alike bytes (d ∷ ds) (o ∷ os) (w ∷ ws) [] h g k = absurd k
-all_alike bytes (d ∷ ds) (o ∷ os) (w ∷ ws) (p ∷ ps) h g k = (
-  pair_alike d (bytes w) o p h.0 g.0 k.0,
-  all_alike bytes ds os ws ps h.1 g.1 k.1,
+all_alike : (objects : List Object) (ds : List (List ℕ × Kind)) (picked : List Object)
+    (pairs : List Pair) → All IsGiven objects → AllZip (IsPicked objects) ds picked
+    → AllZip Holds picked pairs → AllZip Resembling ds pairs
+all_alike objects [] [] [] g h k = k
+all_alike objects [] [] (p ∷ ps) g h k = k
+all_alike objects [] (o ∷ os) pairs g h k = absurd h
+all_alike objects (d ∷ ds) [] pairs g h k = absurd h
+all_alike objects (d ∷ ds) (o ∷ os) [] g h k = absurd k
+all_alike objects (d ∷ ds) (o ∷ os) (p ∷ ps) g h k = (
+  pair_alike d o p (picked_given objects d o g h.0) h.0.of_kind k.0,
+  all_alike objects ds os ps g h.1 k.1,
 )
 
 -- what was found under a name resembles the example that is
 found_alike : (o : Option (List ℕ × Kind)) (r : Option Pair) → Alike Resembling o r
     → ResemblesFound view_shows view_shows
-    (option_map slots_of (option_map (λ pair. pair.1) r)) (option_map (λ one. example_slots one.1) o)
+    (option_map slots_of (option_map (λ pair. pair.1) r))
+    (option_map (λ one. example_slots one.1) o)
 found_alike None None h = tt
 found_alike None (Some p) h = absurd h
 found_alike (Some d) None h = absurd h
@@ -170,14 +188,21 @@ no_first : (fs : List Fault) → first_fault fs ≡ None → fs ≡ []
 no_first [] e = refl
 no_first (f ∷ fs) e = cc
 
--- a format that has no fault over examples has none over values of the declared kinds
-pub none_fails : {W : Type 0} (bytes : W → List ℕ) (format : List ℕ) (ds : List (List ℕ × Kind))
-    (objects : List Object) (words : List W) (pairs : List Pair)
-    → first_fault (faults_of (these ds) format) ≡ None → AllZip IsOfKind ds objects
-    → AllZip (λ word object. Gives (bytes word) object) words objects
-    → AllZip Holds objects pairs → (message_means format pairs).fault ≡ None
-none_fails bytes format ds objects words pairs sound h g k =
+-- what words give is given
+pub all_given : {W : Type 0} (bytes : W → List ℕ) (words : List W) (objects : List Object)
+    → AllZip (λ word object. Gives (bytes word) object) words objects → All IsGiven objects
+all_given bytes words [] h = All-nil IsGiven
+all_given bytes [] (o ∷ os) h = absurd h
+all_given bytes (w ∷ ws) (o ∷ os) h =
+    All-cons IsGiven o os (bytes w, h.0) (all_given bytes ws os h.1)
+
+-- a format that has no fault over examples has none over what is picked of given values
+pub none_fails : (format : List ℕ) (ds : List (List ℕ × Kind)) (objects picked : List Object)
+    (pairs : List Pair) → first_fault (faults_of (these ds) format) ≡ None → All IsGiven objects
+    → AllZip (IsPicked objects) ds picked → AllZip Holds picked pairs
+    → (message_means format pairs).fault ≡ None
+none_fails format ds objects picked pairs sound g h k =
     no_fault view_shows view_shows (example_under ds) (environment (found_by_pairs pairs))
     (outermost (chars format)) (no_first _ sound)
     (names_alike ds pairs (asked_names (outermost (chars format)))
-    (all_alike bytes ds objects words pairs h g k))
+    (all_alike objects ds picked pairs g h k))

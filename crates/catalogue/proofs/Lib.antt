@@ -7,3 +7,4 @@ pub mod PlaceLemmas
 pub mod WordLemmas
 pub mod KindLemmas
 pub mod SoundLemmas
+pub mod PickLemmas

@@ -5,7 +5,8 @@ use Rattle.std.proofs.Common.{codes, reverse, arith, append-nil, length-append, 
 use Rattle.std.specs.Borrow.{Bor}
 use Rattle.std.specs.List.{All, AllZip, concat, enumerate_from, find}
 use Rattle.std.specs.Option.{option_map, option_or}
-use Rattle.std.proofs.lemmas.List.{length-map, take_more, map-append, reverse-append, get_or_default}
+use Rattle.std.proofs.lemmas.List.{get_or_default, length-map, map-append, reverse-append}
+use Rattle.std.proofs.lemmas.List.{take_more}
 use Rattle.std.proofs.lemmas.List.Folds.{concat-append}
 use Rattle.std.proofs.lemmas.List.Elements.{All-append, All-cons}
 use Rattle.std.proofs.lemmas.Slice.Zip.{all_zipped_more}
@@ -127,7 +128,8 @@ module _ (file key : List ℕ) (seen : List (Bor (List ℕ))) (line : Bor (List 
   -- what is told of them
   pub told_next : told ≡ told_of_lines file texts → more ≡ told_of_line file (number + 1) line.now
       → new ≡ told_of_lines file (map (λ x. x.now) (seen ++ (line ∷ [])))
-  told_next so_far one = rw (one_text, told_more file key texts line.now, its_number, pushed, so_far, one) refl
+  told_next so_far one =
+      rw (one_text, told_more file key texts line.now, its_number, pushed, so_far, one) refl
 
   -- nothing is told of them
   pub before_clean : length new ≡ 0 → length told ≡ 0

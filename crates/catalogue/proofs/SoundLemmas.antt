@@ -17,13 +17,13 @@ by_test p P y x rest true is holds next e =
 by_test p P y x rest false is holds next e = next e
 
 -- what is found passes the test, and is as all are
-find_holds : {A : Type 0} (p : A → Bool) (P : A → Type 0) (xs : List A) (x : A) → All P xs
+pub find_holds : {A : Type 0} (p : A → Bool) (P : A → Type 0) (xs : List A) (x : A) → All P xs
     → find p xs ≡ Some x → (p x ≡ true) × P x
 find_holds p P [] x h e = absurd (cc)
 find_holds p P (y ∷ ys) x h e = by_test p P y x (find p ys) (p y) refl (All-head P y ys h)
     (λ later. find_holds p P ys x (All-tail P y ys h) later) e
 
-all_reversed : {A : Type 0} (P : A → Type 0) (xs : List A) → All P xs → All P (reverse xs)
+pub all_reversed : {A : Type 0} (P : A → Type 0) (xs : List A) → All P xs → All P (reverse xs)
 all_reversed P [] h = h
 all_reversed P (x ∷ xs) h = rw (reverse-append (x ∷ []) xs)
     (All-append P (reverse xs) (x ∷ []) (all_reversed P xs (All-tail P x xs h))

@@ -1,8 +1,8 @@
 -- What the head of a line declares: names, each with a kind of value. Texts are bytes.
-use Rattle.std.specs.Prelude.{ℕ, Bool, not, ◌==◌, ◌-◌, nat_lt, List, [], ◌∷◌, ◌++◌, map, length, codes}
-use Rattle.std.specs.Prelude.{if◌then◌else◌, Option, None, Some}
+use Rattle.std.specs.Prelude.{ℕ, Bool, not, ◌==◌, ◌-◌, nat_lt, List, [], ◌∷◌, ◌++◌, map, length}
+use Rattle.std.specs.Prelude.{codes, if◌then◌else◌, Option, None, Some}
 use Rattle.std.specs.Option.{option_or}
-use Rattle.std.specs.List.{before_first, after_first, position_or_len, slice_split}
+use Rattle.std.specs.List.{before_first, after_first, list_any, position_or_len, slice_split}
 use Rattle.std.specs.Str.{bytes_eq, trim, trim_start}
 use Rattle.interpolator.specs.Explained.{capped}
 use Rattle.catalogue.specs.declared.declarations.Declaration.{Declaration}
@@ -67,32 +67,38 @@ begin_of place part = capped place (length part - length (trim_start part))
 abbrev pub after_part : ℕ → List ℕ → ℕ
 after_part place part = capped (capped place (length part)) 1
 
--- where a part that is no declaration begins
-abbrev pub broken_by : ℕ → Option (List ℕ × Kind) → Option ℕ
-broken_by begin (Some declared) = None
-broken_by begin None = Some begin
+-- a name is among some declarations
+abbrev pub is_among : List (List ℕ × Kind) → List ℕ → Bool
+is_among seen name = list_any (λ one. bytes_eq name one.0) seen
+
+-- where a part that begins at a byte is broken: it is no declaration, or its name is one of those
+-- seen before it
+abbrev pub broken_by : ℕ → List (List ℕ × Kind) → Option (List ℕ × Kind) → Option ℕ
+broken_by begin seen (Some declared) = if is_among seen declared.0 then Some begin else None
+broken_by begin seen None = Some begin
 
 -- the same of a part that comes at a byte
-abbrev pub broken_at : ℕ → List ℕ → Option ℕ
-broken_at place part = broken_by (begin_of place part) (part_of part)
-
--- where the first of some parts that is no declaration begins
-abbrev pub broken_from : ℕ → List (List ℕ) → Option ℕ
-broken_from place [] = None
-broken_from place (part ∷ parts) =
-    option_or (broken_at place part) (broken_from (after_part place part) parts)
+abbrev pub broken_at : ℕ → List (List ℕ × Kind) → List ℕ → Option ℕ
+broken_at place seen part = broken_by (begin_of place part) seen (part_of part)
 
 -- what there may be, as a list
 abbrev pub as_list : Option (List ℕ × Kind) → List (List ℕ × Kind)
 as_list None = []
 as_list (Some declared) = declared ∷ []
 
+-- where the first of some parts that is broken begins
+abbrev pub broken_from : ℕ → List (List ℕ × Kind) → List (List ℕ) → Option ℕ
+broken_from place seen [] = None
+broken_from place seen (part ∷ parts) = option_or (broken_at place seen part)
+    (broken_from (after_part place part) (seen ++ as_list (part_of part)) parts)
+
 -- the declarations among some parts
 abbrev pub declarations : List (List ℕ) → List (List ℕ × Kind)
 declarations [] = []
 declarations (part ∷ parts) = as_list (part_of part) ++ declarations parts
 
--- what is declared: nothing, these names with their kinds, or what is broken at a byte of the line
+-- what is declared: nothing, these names with their kinds, each once, or what is broken at a byte
+-- of the line
 pub data Declared : Type 0 where
   nothing : Declared
   these : List (List ℕ × Kind) → Declared
@@ -107,7 +113,7 @@ unless_broken (Some place) declared = broken place
 abbrev pub declared_between : ℕ → List ℕ → Declared
 declared_between place inner =
     if length (trim inner) == 0 then these []
-    else unless_broken (broken_from place (slice_split is_comma inner))
+    else unless_broken (broken_from place [] (slice_split is_comma inner))
     (declarations (slice_split is_comma inner))
 
 -- what is declared after a `(` at a byte: it is closed by a `)` with nothing behind it

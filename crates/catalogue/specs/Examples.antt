@@ -48,10 +48,6 @@ pub record IsExample (declared : List ℕ × Kind) (object : Object) : Type 0 wh
   pub same_name : object.name.now ≡ declared.0
   pub same_slots : object_slots object ≡ example_slots declared.1
 
--- an object has the name and the kind of a declaration
-abbrev pub IsOfKind : List ℕ × Kind → Object → Type 0
-IsOfKind declared object = (object.name.now ≡ declared.0) × (object.kind ≡ declared.1)
-
 -- what the examples of some declarations give under a name: that of the last one of the name
 abbrev pub example_under : List (List ℕ × Kind) → List ℕ → Option (Slots View)
 example_under declared name =

@@ -4,3 +4,4 @@ pub mod Declarations
 pub mod Examples
 pub mod Entries
 pub mod Words
+pub mod Picks

@@ -21,7 +21,8 @@ use Rattle.interpolator.specs.Positions.{column_at}
 use Rattle.interpolator.specs.Template.NodeChecks.{first_fault}
 use Rattle.catalogue.specs.Declarations.{Declared, nothing, these, broken, declared_in, has, key_in}
 use Rattle.catalogue.specs.Entries.{Holds, Pair}
-use Rattle.catalogue.specs.Examples.{IsOfKind, faults_of, view_shows}
+use Rattle.catalogue.specs.Examples.{faults_of, view_shows}
+use Rattle.catalogue.specs.Picks.{ArePicked, IsLacking, told_of_lacking}
 use Rattle.catalogue.specs.Words.{Gives, HasEquals, IsGood, is_equals}
 use Rattle.catalogue.specs.declared.declarations.Kind.{Kind}
 use Rattle.catalogue.specs.declared.entries.Object.{Object}
@@ -110,7 +111,7 @@ told_of_format file number line format (Some f) = told_of_fault file number line
 
 -- what is told of a broken declaration
 abbrev pub what_is_declared : List ℕ
-what_is_declared = codes "declarations are `(NAME, NAME:, NAME[])`"
+what_is_declared = codes "declarations are `(NAME, NAME:, NAME[])`, each name once"
 
 -- what is told of a line's message: a broken declaration, or its format's first fault
 abbrev pub told_of_message : List ℕ → ℕ → (line : List ℕ) → Declared → (format : List ℕ) → List ℕ
@@ -121,8 +122,8 @@ told_of_message file number line (these declared) format =
 told_of_message file number line (broken place) format =
     told_at file number (column_at line place) what_is_declared
 
--- what is told of a line: nothing of one that is sound; else that it has no `=`, or the fault of its
--- message
+-- what is told of a line: nothing of one that is sound; else that it has no `=`, or the fault of
+-- its message
 abbrev pub told_of_line : List ℕ → ℕ → List ℕ → List ℕ
 told_of_line file number line =
     if is_passed_over line then []
@@ -170,6 +171,29 @@ IsMadeOrTold file number line format objects (Message message) = IsMade format o
 IsMadeOrTold file number line format objects (Faults told) =
     IsToldOf file number line format objects (string_bytes told)
 
+-- the same over what is picked of objects for what the line declares
+pub record IsMadeOver (file : List ℕ) (number : ℕ) (line format : List ℕ) (declared : Declared)
+    (objects : List Object) (answer : Answer) : Type 0 where
+  pub picked : List Object
+  pub are : ArePicked declared objects picked
+  pub made : IsMadeOrTold file number line format picked answer
+
+-- what is told of a declaration for which nothing is picked
+pub record IsToldLacking (file : List ℕ) (number : ℕ) (key : List ℕ) (declared : Declared)
+    (objects : List Object) (told : List ℕ) : Type 0 where
+  pub lacking : List ℕ × Kind
+  pub first : IsLacking declared objects lacking
+  pub says : told ≡ told_of_lacking file number key lacking
+
+-- what is answered of a line's message: the message, what value it lacks, or its fault
+abbrev pub Replies : List ℕ → ℕ → (line key format : List ℕ) → Declared → List Object → Answer
+    → Type 0
+Replies file number line key format declared objects (Message message) =
+    IsMadeOver file number line format declared objects (Message message)
+Replies file number line key format declared objects (Faults told) =
+    IsToldLacking file number key declared objects (string_bytes told)
+    ⊎ IsMadeOver file number line format declared objects (Faults told)
+
 -- each word gives an object
 abbrev pub GiveValues : {Y : Type 0} → List (String Y) → List Object → Type 0
 GiveValues words objects =
@@ -181,7 +205,7 @@ what_is_a_word = codes "a value is `NAME=TEXT`, `NAME:=NUMBER` or `NAME[]=ITEM,I
 
 module _ {Y : Type 0} (file text key : List ℕ) (words : List (String Y)) where
   -- the message under a key of a file, over words: every line is sound, and the format of the last
-  -- line of the key was made over what the words give
+  -- line of the key was made over what is picked of what the words give
   pub record IsMessage {Z : Type 0} (message : String Z) : Type 0 where
     pub sound : All IsSound (lines text)
     pub number : ℕ
@@ -189,7 +213,9 @@ module _ {Y : Type 0} (file text key : List ℕ) (words : List (String Y)) where
     pub under : last_under key (lines text) ≡ Some (number, line)
     pub values : List Object
     pub given : GiveValues words values
-    pub made : IsMade (format_of line) values message
+    pub picked : List Object
+    pub are : ArePicked (declared_of line) values picked
+    pub made : IsMade (format_of line) picked message
 
   -- lines are not sound: all of their faults are told
   pub record OfLines (told : List ℕ) : Type 0 where
@@ -209,22 +235,32 @@ module _ {Y : Type 0} (file text key : List ℕ) (words : List (String Y)) where
     pub not_all : ¬ All (λ word. IsGood (string_bytes word)) words
     pub says : told ≡ what_is_a_word
 
-  -- every line is sound, and the format of the last line of the key has a fault over what the words
-  -- give: which is then not of the names and kinds that the line declares, in that order
-  pub record OfMessage (told : List ℕ) : Type 0 where
+  -- every line is sound, and the words give no value of the name and the kind of a declaration of
+  -- the last line of the key
+  pub record OfValue (told : List ℕ) : Type 0 where
     pub sound : All IsSound (lines text)
     pub number : ℕ
     pub line : List ℕ
     pub under : last_under key (lines text) ≡ Some (number, line)
     pub values : List Object
     pub given : GiveValues words values
-    pub faulty : IsToldOf file number line (format_of line) values told
-    pub other : (declared : List (List ℕ × Kind)) → declared_of line ≡ these declared
-        → ¬ AllZip IsOfKind declared values
+    pub lacks : IsToldLacking file number key (declared_of line) values told
 
-  -- what is answered: the message; or what is wrong with the lines, else the key, a word or the
-  -- message
+  -- every line is sound, and the format of the last line of the key, which declares nothing, has a
+  -- fault over what the words give
+  pub record OfMessage (told : List ℕ) : Type 0 where
+    pub sound : All IsSound (lines text)
+    pub number : ℕ
+    pub line : List ℕ
+    pub under : last_under key (lines text) ≡ Some (number, line)
+    pub plain : declared_of line ≡ nothing
+    pub values : List Object
+    pub given : GiveValues words values
+    pub faulty : IsToldOf file number line (format_of line) values told
+
+  -- what is answered: the message; or what is wrong with the lines, else the key, a word, a value
+  -- that is lacking, or the message, if its line declares nothing
   abbrev pub Answers : Answer → Type 0
   Answers (Message message) = IsMessage message
   Answers (Faults told) = OfLines (string_bytes told) ⊎ OfKey (string_bytes told)
-      ⊎ OfWord (string_bytes told) ⊎ OfMessage (string_bytes told)
+      ⊎ OfWord (string_bytes told) ⊎ OfValue (string_bytes told) ⊎ OfMessage (string_bytes told)

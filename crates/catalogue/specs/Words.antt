@@ -1,6 +1,6 @@
 -- What the words give: a declaration of a name, `=`, and a text, a number or the items of a list.
-use Rattle.std.specs.Prelude.{◌≡◌, ◌⊎◌, ⊤, ℕ, ℤ, pos, neg_ℤ, Bool, ◌==◌, ◌<◌, List, [], ◌∷◌, ◌++◌, map}
-use Rattle.std.specs.Prelude.{codes, FitsSigned, length, Some}
+use Rattle.std.specs.Prelude.{◌≡◌, ◌⊎◌, ⊤, ℕ, ℤ, pos, neg_ℤ, Bool, ◌==◌, ◌<◌, List, [], ◌∷◌, ◌++◌}
+use Rattle.std.specs.Prelude.{map, codes, FitsSigned, length, Some}
 use Rattle.std.specs.Borrow.{Bor}
 use Rattle.std.specs.Int.{w128}
 use Rattle.std.specs.List.{after_first, before_first, position_or_len, slice_split}

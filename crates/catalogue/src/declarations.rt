@@ -2,7 +2,8 @@
 
 ghost use Rattle.std.specs.Prelude.{◌≡◌, ◌++◌, IfOk, OnOk, map};
 ghost use Rattle.std.specs.Option.{option_map};
-ghost use Rattle.std.specs.Str.{trim};
+ghost use Rattle.std.specs.List.{list_any};
+ghost use Rattle.std.specs.Str.{bytes_eq, trim};
 ghost use Rattle.catalogue.specs.Declarations.{as_declaration, as_list, if_whole, declaration_of};
 ghost use Rattle.catalogue.specs.Declarations.{part_of, begin_of, after_part, broken_at};
 ghost use Rattle.catalogue.specs.Declarations.{declared_by, declared_between, declared_after};
@@ -35,7 +36,7 @@ pub enum Heading<'a> {
     Plain,
     /// These, in their order.
     Declares(Vec<Declaration<'a>>),
-    /// What is no declaration stands at this byte of the line.
+    /// What is no declaration, or declares a name again, stands at this byte of the line.
     Broken(usize),
 }
 
@@ -87,14 +88,25 @@ fn after_part(place: usize, part: &str) -> usize
     place.saturating_add(part.len()).saturating_add(1)
 }
 
-/// Where a part is broken that comes at a byte.
-fn broken_at(place: usize, part: &str) -> Option<usize>
-    ensures { result ≡ broken_at place part.now }
+/// Whether a name is declared.
+fn is_among(found: &[Declaration<'_>], name: &str) -> bool
+    ensures { result ≡ list_any (λ one. bytes_eq name.now one.name.now) found.now }
 {
-    match part_of(part) {
-        Some(_) => None,
-        None => Some(begin_of(place, part)),
+    found.iter().any(|one| name == one.name)
+}
+
+/// Where a part is broken that comes at a byte: it is no declaration, or its name is declared
+/// before it.
+fn broken_at(place: usize, found: &[Declaration<'_>], part: &str) -> Option<usize>
+    ensures { result ≡ broken_at place (map as_declaration found.now) part.now }
+{
+    let Some(declared) = part_of(part) else {
+        return Some(begin_of(place, part));
+    };
+    if is_among(found, declared.name) {
+        return Some(begin_of(place, part));
     }
+    None
 }
 
 /// Adds a declaration, if there is one.
@@ -123,7 +135,7 @@ fn declared_between<'a>(
     let mut broken = None;
     let mut at = place;
     for part in inner.split(',') {
-        broken = broken.or(broken_at(at, part));
+        broken = broken.or(broken_at(at, found.as_slice(), part));
         add(&mut found, part_of(part))?;
         at = after_part(at, part);
     }
@@ -153,7 +165,7 @@ fn declared_after<'a>(
 /// The key of a line's head, and what it declares.
 ///
 /// `greeting(name, count:, items[])` declares a text `name`, a number `count` and a list of texts
-/// `items`.
+/// `items`. Each name is declared once.
 pub fn heading_of<'a>(alloc: Global, head: &'a str) -> Result<(&'a str, Heading<'a>), AllocError>
     ensures key { IfOk result (λ found. found.0.now ≡ key_in head.now) }
     ensures declared { IfOk result (λ found. declared_by found.1 ≡ declared_in head.now) }

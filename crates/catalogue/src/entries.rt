@@ -45,6 +45,19 @@ fn as_items<'a>(
     Ok(items)
 }
 
+/// An object, lent.
+pub fn entry_of<'e, 'a>(alloc: Global, object: &'e Object<'a>) -> Result<Entry<'e>, Error>
+    ensures entry { IfOk result (λ entry. Lends object.now entry) }
+    ensures refused { IfErr result (λ error. answer_of error ≡ no_memory) }
+{
+    Ok(Entry {
+        name: object.name,
+        kind: object.kind,
+        value: &object.value,
+        items: as_items(alloc, object.items.as_slice())?,
+    })
+}
+
 /// Each object, lent.
 pub fn entries_of<'e, 'a>(alloc: Global, objects: &'e [Object<'a>]) -> Result<Vec<Entry<'e>>, Error>
     ensures entries { IfOk result (λ entries. AllZip Lends objects.now entries.items) }
@@ -52,12 +65,7 @@ pub fn entries_of<'e, 'a>(alloc: Global, objects: &'e [Object<'a>]) -> Result<Ve
 {
     let mut entries = Vec::with_capacity(alloc, objects.len())?;
     for object in objects {
-        entries.push(Entry {
-            name: object.name,
-            kind: object.kind,
-            value: &object.value,
-            items: as_items(alloc, object.items.as_slice())?,
-        })?;
+        entries.push(entry_of(alloc, object)?)?;
     }
     Ok(entries)
 }

@@ -1,17 +1,18 @@
-//! `catalogue FILE KEY [NAME=TEXT | NAME:=NUMBER | NAME[]=ITEM,ITEM..]`: the message under a key, of
-//! a file whose messages are all checked first.
+//! `catalogue FILE KEY [NAME=TEXT | NAME:=NUMBER | NAME[]=ITEM,ITEM..]`: the message under a key,
+//! of a file whose messages are all checked first.
 //!
 //! A line of the file is `key = format`, or `key(name, count:, items[]) = format`, which declares
 //! that the format is given a text `name`, a number `count` and a list of texts `items`; it is then
-//! checked over an example of these. Blank lines, and those that begin with `#`, are passed over.
-//! Each fault is shown in its line, with the file, the line and the column, and then no message is
-//! written.
+//! checked over an example of these, and the words have to give them, in any order. Blank lines,
+//! and those that begin with `#`, are passed over. Each fault is shown in its line, with the file,
+//! the line and the column, and then no message is written.
 #![tactic(auto)]
 
 mod declarations;
 mod entries;
 mod examples;
 mod messages;
+mod picks;
 mod words;
 
 use messages::{Answer, look_up};

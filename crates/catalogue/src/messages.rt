@@ -13,11 +13,14 @@ ghost use Rattle.catalogue.specs.Words.{HasEquals};
 ghost use Rattle.catalogue.specs.Messages.{is_passed_over, is_under, head_of, format_of};
 ghost use Rattle.catalogue.specs.Messages.{last_under, told_at, told_of_fault, told_of_message};
 ghost use Rattle.catalogue.specs.Messages.{told_of_line, told_of_lines};
-ghost use Rattle.catalogue.specs.Messages.{with_format, IsMadeOrTold, Answers};
+ghost use Rattle.catalogue.specs.Messages.{with_format, IsMadeOrTold, Replies, Answers};
+ghost use Rattle.catalogue.specs.Entries.{Lends};
+ghost use Rattle.catalogue.specs.declared.entries.Object.{Object};
 
 use crate::declarations::{Heading, heading_of};
-use crate::entries::{Object, entries_of, pairs_of};
+use crate::entries::{Entry, Object, pairs_of};
 use crate::examples::fault_of;
+use crate::picks::{Picked, picks_of, told_of_lacking};
 use crate::words::objects_of;
 use interpolator::{
     Error, Formattable, Interpolate, Pairs, Position, Source, Template, explain_in,
@@ -25,7 +28,7 @@ use interpolator::{
 use std::alloc::{AllocError, Global};
 
 /// What is told of a broken declaration.
-const WHAT_IS_DECLARED: &str = "declarations are `(NAME, NAME:, NAME[])`";
+const WHAT_IS_DECLARED: &str = "declarations are `(NAME, NAME:, NAME[])`, each name once";
 
 /// What is told of a word that gives nothing.
 const WHAT_IS_A_WORD: &str = "a value is `NAME=TEXT`, `NAME:=NUMBER` or `NAME[]=ITEM,ITEM`\n";
@@ -162,6 +165,7 @@ fn checked_line<'a>(
         → option_map {U = ℕ × List ℕ × List ℕ × Declared}
         (λ one. (one.number, one.text.now, one.template, declared_by one.heading)) verdict.found
         ≡ (if is_under key.now text.now then Some (with_format (number, text.now)) else None)) }
+    ensures refused { IfErr result (λ error. answer_of error ≡ no_memory) }
 {
     let told = String::new(alloc);
     if is_passed_over(text) {
@@ -197,6 +201,7 @@ fn checked<'a>(alloc: Global, file: &str, text: &'a str, key: &str) -> Result<Ve
         → option_map {U = ℕ × List ℕ × List ℕ × Declared}
         (λ one. (one.number, one.text.now, one.template, declared_by one.heading)) verdict.found
         ≡ option_map with_format (last_under key.now (lines text.now))) }
+    ensures refused { IfErr result (λ error. answer_of error ≡ no_memory) }
 {
     let mut told = String::new(alloc);
     let mut found = None;
@@ -214,17 +219,18 @@ fn checked<'a>(alloc: Global, file: &str, text: &'a str, key: &str) -> Result<Ve
 }
 
 /// The message of a line, or its fault.
-fn message(
+fn said(
     alloc: Global,
     file: &str,
     found: &Found<'_>,
-    objects: &[Object<'_>],
+    entries: &[Entry<'_>],
 ) -> Result<Answer, Error>
-    ensures { IfOk result (λ answer. IsMadeOrTold file.now found.now.number found.now.text.now
-        found.now.template objects.now answer) }
+    ensures said { IfOk result (λ answer. (objects : List Object)
+        → AllZip Lends objects entries.now → IsMadeOrTold file.now found.now.number
+        found.now.text.now found.now.template objects answer) }
+    ensures refused { IfErr result (λ error. answer_of error ≡ no_memory) }
 {
-    let entries = entries_of(alloc, objects)?;
-    let pairs = pairs_of(alloc, entries.as_slice())?;
+    let pairs = pairs_of(alloc, entries)?;
     match Pairs(&pairs).format_template(alloc, &found.template) {
         Ok(message) => Ok(Answer::Message(message)),
         Err(error) => match error.place() {
@@ -238,13 +244,38 @@ fn message(
     }
 }
 
+/// The message of a line over what is picked of some objects; or what value it lacks, or its fault.
+fn message(
+    alloc: Global,
+    file: &str,
+    key: &str,
+    found: &Found<'_>,
+    objects: &[Object<'_>],
+) -> Result<Answer, Error>
+    ensures replies { IfOk result (λ answer. Replies file.now found.now.number found.now.text.now
+        key.now found.now.template (declared_by found.now.heading) objects.now answer) }
+    ensures refused { IfErr result (λ error. answer_of error ≡ no_memory) }
+{
+    match picks_of(alloc, objects, &found.heading)? {
+        Picked::Values(entries) => said(alloc, file, found, entries.as_slice()),
+        Picked::Lacks(lacking) => {
+            let told = told_of_lacking(alloc, file, found.number, key, &lacking)?;
+            Ok(Answer::Faults(told))
+        }
+    }
+}
+
 /// The message under a key, over words `NAME=TEXT`, `NAME:=NUMBER` and `NAME[]=ITEM,ITEM`; or all
 /// that is wrong with the file, or else with the key, the words or the message.
 ///
 /// A message is answered only where every line that has to have one has one that checks: by itself,
 /// or over an example of what the line declares. It is what the last line of the key means over the
-/// words: of two messages under one key the last counts. Over words of the names and kinds that the
-/// line declares, in that order, the message has no fault.
+/// words: of two messages under one key the last counts, and so does the last of two words of one
+/// name.
+///
+/// A line that declares something is given the words of the names that it declares, in any order,
+/// and no others. If one of them is lacking or of another kind, this is told. Else the message has
+/// no fault.
 ///
 /// # Errors
 ///
@@ -256,7 +287,9 @@ pub fn look_up(
     key: &str,
     words: &[String],
 ) -> Result<Answer, Error>
-    ensures { IfOk result (λ answer. Answers file.now text.now key.now words.now answer) }
+    ensures answers { IfOk result (λ answer.
+        Answers file.now text.now key.now words.now answer) }
+    ensures refused { IfErr result (λ error. answer_of error ≡ no_memory) }
 {
     let Verdict { told, found } = checked(alloc, file, text, key)?;
     if !told.is_empty() {
@@ -270,5 +303,5 @@ pub fn look_up(
         let told = String::from_str(alloc, WHAT_IS_A_WORD)?;
         return Ok(Answer::Faults(told));
     };
-    message(alloc, file, &found, objects.as_slice())
+    message(alloc, file, key, &found, objects.as_slice())
 }

@@ -12,9 +12,9 @@ loop-part-preserved c =
     record {
       at = c.after_part-at.ensures
           ∙ at_next c.loop-part.yielded c.in-Some.part c.args.place c.loop-part.at so_far.at;
-      broken = rw (c.or-broken.ensures, c.broken_at.ensures)
+      broken = rw (c.or-broken.ensures, c.broken_at.ensures, c.as_slice.ensures.value)
           (broken_next c.loop-part.yielded c.in-Some.part c.args.place c.loop-part.at
-          c.loop-part.broken so_far.at so_far.broken);
+          c.loop-part.broken _ so_far.at so_far.broken so_far.found);
       found = rw (c.in_ok-add.ensures, so_far.found, c.part_of.ensures)
           (declared_next c.loop-part.yielded c.in-Some.part);
     }

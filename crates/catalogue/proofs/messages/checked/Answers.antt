@@ -23,8 +23,8 @@ loop-text-preserved c =
           c.loop-text.number _ _ _ so_far.counted pushed so_far.sound c.in_ok-more.ensures.sound;
       found = λ h. rw c.or-found.ensures (found_next c.args.file.now c.args.key.now
           c.loop-text.yielded c.in-Some.text c.loop-text.number _ _ _ so_far.counted pushed
-          (λ one. (one.number, one.text.now, one.template, declared_by one.heading)) c.in_ok-more.field-0.found c.loop-text.found
-          so_far.found c.in_ok-more.ensures.found h);
+          (λ one. (one.number, one.text.now, one.template, declared_by one.heading))
+          c.in_ok-more.field-0.found c.loop-text.found so_far.found c.in_ok-more.ensures.found h);
     }
 
 pub returns-clause-told : goal.returns-clause-told

@@ -1,0 +1,82 @@
+-- What a format is given of the values of words: for each name that its line declares, the last.
+use Rattle.std.specs.Prelude.{◌≡◌, ℕ, List, ◌∷◌, ◌++◌, codes, Option, Some, reverse}
+use Rattle.std.specs.Fmt.{decimal}
+use Rattle.std.specs.List.{All, AllZip, find}
+use Rattle.std.specs.Str.{bytes_eq}
+use Rattle.catalogue.specs.Declarations.{Declared, nothing, these, broken, as_declaration}
+use Rattle.catalogue.specs.Entries.{Lends}
+use Rattle.catalogue.specs.declared.declarations.Kind.{Kind}
+use Rattle.catalogue.specs.declared.declarations.Kind.TheVariants as kinds
+use Rattle.catalogue.specs.declared.entries.Entry.{Entry}
+use Rattle.catalogue.specs.declared.entries.Object.{Object}
+use Rattle.catalogue.specs.declared.picks.Picked.{Picked}
+use Rattle.catalogue.specs.declared.picks.Picked.TheVariants.{Values, Lacks}
+
+-- the last object of a name
+abbrev pub last_named : List Object → List ℕ → Option Object
+last_named objects name = find (λ object. bytes_eq name object.name.now) (reverse objects)
+
+-- an object is picked for a declaration: it is the last of its name, and of its kind
+pub record IsPicked (objects : List Object) (declared : List ℕ × Kind) (object : Object)
+    : Type 0 where
+  pub last : last_named objects declared.0 ≡ Some object
+  pub of_kind : object.kind ≡ declared.1
+
+-- some object is picked for a declaration
+abbrev pub HasPick : List Object → List ℕ × Kind → Type 0
+HasPick objects declared = (object : Object) × IsPicked objects declared object
+
+-- what is picked of some objects for what a line declares, in the order of the declarations; all of
+-- them, if it declares nothing, or what is broken
+abbrev pub ArePicked : Declared → (objects picked : List Object) → Type 0
+ArePicked nothing objects picked = picked ≡ objects
+ArePicked (these declared) objects picked = AllZip (IsPicked objects) declared picked
+ArePicked (broken place) objects picked = picked ≡ objects
+
+-- the first of some declarations for which nothing is picked
+pub record IsFirstLacking (objects : List Object) (declared : List (List ℕ × Kind))
+    (lacking : List ℕ × Kind) : Type 0 where
+  pub before : List (List ℕ × Kind)
+  pub after : List (List ℕ × Kind)
+  pub split : declared ≡ before ++ (lacking ∷ after)
+  pub picked : All (HasPick objects) before
+  pub none : ¬ HasPick objects lacking
+
+-- the first declaration of a line for which nothing is picked
+abbrev pub IsLacking : Declared → List Object → List ℕ × Kind → Type 0
+IsLacking nothing objects lacking = ⊥
+IsLacking (these declared) objects lacking = IsFirstLacking objects declared lacking
+IsLacking (broken place) objects lacking = ⊥
+
+-- entries lend what is picked
+pub record LendsPicked (declared : Declared) (objects : List Object) (entries : List Entry)
+    : Type 0 where
+  pub picked : List Object
+  pub are : ArePicked declared objects picked
+  pub lends : AllZip Lends picked entries
+
+-- an entry lends what is picked for a declaration
+pub record LendsPick (objects : List Object) (declared : List ℕ × Kind) (entry : Entry)
+    : Type 0 where
+  pub object : Object
+  pub is : IsPicked objects declared object
+  pub lends : Lends object entry
+
+-- entries of what is picked, or the first declaration that lacks it
+abbrev pub IsPickedOrLacks : Declared → List Object → Picked → Type 0
+IsPickedOrLacks declared objects (Values entries) = LendsPicked declared objects entries.items
+IsPickedOrLacks declared objects (Lacks lacking) =
+    IsLacking declared objects (as_declaration lacking)
+
+-- how a word goes on after its name
+abbrev pub shape_of : Kind → List ℕ
+shape_of kinds.Text = codes "=TEXT"
+shape_of kinds.Number = codes ":=NUMBER"
+shape_of kinds.List = codes "[]=ITEM,ITEM"
+
+-- what is told of a line's message that lacks a value: the file, the line's number, the key, and
+-- what word is wanted
+abbrev pub told_of_lacking : List ℕ → ℕ → List ℕ → List ℕ × Kind → List ℕ
+told_of_lacking file number key lacking =
+    file ++ (codes ":" ++ (decimal number ++ (codes ": `" ++ (key ++ (codes "` wants `"
+    ++ (lacking.0 ++ (shape_of lacking.1 ++ codes "`\n")))))))

@@ -1,0 +1,116 @@
+//! What a format is given of the values of words: for each name that its line declares, the last.
+
+ghost use Rattle.std.specs.Prelude.{◌≡◌, ◌↔◌, IfOk, IfErr, IsTrue, MatchOption, map};
+ghost use Rattle.std.specs.Prelude.{string_bytes};
+ghost use Rattle.std.specs.Option.{option_copied};
+ghost use Rattle.interpolator.specs.Faults.{answer_of, no_memory};
+ghost use Rattle.catalogue.specs.Declarations.{as_declaration, declared_by, these};
+ghost use Rattle.catalogue.specs.Picks.{HasPick, IsPicked, IsPickedOrLacks, last_named};
+ghost use Rattle.catalogue.specs.Picks.{shape_of, told_of_lacking};
+
+use crate::declarations::{Declaration, Heading, Kind};
+use crate::entries::{Entry, Object, entries_of, entry_of};
+use interpolator::Error;
+use std::alloc::{AllocError, Global};
+
+/// What a format is given.
+#[derive(Drop)]
+pub enum Picked<'a> {
+    /// These values, in the order of the declarations.
+    Values(Vec<Entry<'a>>),
+    /// No value of the kind of this declaration is under its name.
+    Lacks(Declaration<'a>),
+}
+
+/// The last object of a name.
+fn last_named<'o, 'a>(objects: &'o [Object<'a>], name: &str) -> Option<&'o Object<'a>>
+    ensures { option_copied result ≡ last_named objects.now name.now }
+{
+    objects.iter().rev().find(|object| object.name == name)
+}
+
+/// Whether a kind is the one that is wanted.
+fn is_kind(kind: Kind, wanted: Kind) -> bool
+    ensures { IsTrue result ↔ (kind ≡ wanted) }
+{
+    kind == wanted
+}
+
+/// What is picked for a declaration: the last object of its name, if it is of its kind.
+fn pick_for<'o, 'a>(objects: &'o [Object<'a>], declared: &Declaration<'_>) -> Option<&'o Object<'a>>
+    ensures { MatchOption result (¬ HasPick objects.now (as_declaration declared.now))
+        (λ object. IsPicked objects.now (as_declaration declared.now) object.now) }
+{
+    let object = last_named(objects, declared.name)?;
+    if is_kind(object.kind, declared.kind) {
+        Some(object)
+    } else {
+        None
+    }
+}
+
+/// What is picked for each declaration.
+fn picks_for<'o>(
+    alloc: Global,
+    objects: &'o [Object<'o>],
+    declared: &[Declaration<'o>],
+) -> Result<Picked<'o>, Error>
+    ensures picked { IfOk result (λ picked.
+        IsPickedOrLacks (these (map as_declaration declared.now)) objects.now picked) }
+    ensures refused { IfErr result (λ error. answer_of error ≡ no_memory) }
+{
+    let mut entries = Vec::with_capacity(alloc, declared.len())?;
+    for one in declared {
+        match pick_for(objects, one) {
+            Some(object) => entries.push(entry_of(alloc, object)?)?,
+            None => return Ok(Picked::Lacks(*one)),
+        }
+    }
+    Ok(Picked::Values(entries))
+}
+
+/// What a format is given: for each declaration of its line the last object of its name, which has
+/// to be of its kind; all objects, if the line declares nothing.
+pub fn picks_of<'o>(
+    alloc: Global,
+    objects: &'o [Object<'o>],
+    heading: &Heading<'o>,
+) -> Result<Picked<'o>, Error>
+    ensures picked { IfOk result (λ picked.
+        IsPickedOrLacks (declared_by heading.now) objects.now picked) }
+    ensures refused { IfErr result (λ error. answer_of error ≡ no_memory) }
+{
+    match heading {
+        Heading::Declares(declared) => picks_for(alloc, objects, declared.as_slice()),
+        Heading::Plain => Ok(Picked::Values(entries_of(alloc, objects)?)),
+        Heading::Broken(_) => Ok(Picked::Values(entries_of(alloc, objects)?)),
+    }
+}
+
+/// How a word of a kind goes on after its name.
+fn shape_of(kind: Kind) -> &'static str
+    ensures { result.now ≡ shape_of kind }
+{
+    match kind {
+        Kind::Text => "=TEXT",
+        Kind::Number => ":=NUMBER",
+        Kind::List => "[]=ITEM,ITEM",
+    }
+}
+
+/// What word is wanted for a declaration of a line.
+pub fn told_of_lacking(
+    alloc: Global,
+    file: &str,
+    number: usize,
+    key: &str,
+    lacking: &Declaration<'_>,
+) -> Result<String, AllocError>
+    ensures { IfOk result (λ told. string_bytes told
+        ≡ told_of_lacking file.now number key.now (as_declaration lacking.now)) }
+{
+    let name = lacking.name;
+    let shape = shape_of(lacking.kind);
+    let told = format!(in alloc; "{file}:{number}: `{key}` wants `{name}{shape}`\n")?;
+    Ok(told)
+}
