@@ -28,6 +28,7 @@ pub mod ReaderLemmas
 pub mod ScanLemmas
 pub mod SimpleReaderLemmas
 pub mod SizeLemmas
+pub mod SourceLemmas
 pub mod StripLemmas
 pub mod CaseLemmas
 pub mod TokenLemmas
