@@ -12,7 +12,6 @@ pub mod ExtentLemmas
 pub mod FaultLemmas
 pub mod LackLawLemmas
 pub mod LackLemmas
-pub mod NodeMeaningLemmas
 pub mod NodeNameLemmas
 pub mod ParseLemmas
 pub mod PartLemmas

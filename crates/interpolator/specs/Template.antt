@@ -5,7 +5,6 @@ pub mod NodeChecks
 pub mod NodeCosts
 pub mod NodeExtents
 pub mod NodeLacks
-pub mod NodeMeanings
 pub mod NodeNames
 pub mod NodePlaces
 pub mod NodeSamples

@@ -9,6 +9,7 @@ pub mod ListLemmas
 pub mod LookUpLemmas
 pub mod MeaningLemmas
 pub mod MovedLemmas
+pub mod NodeMeaningLemmas
 pub mod OutcomeLemmas
 pub mod PlacedLemmas
 pub mod PlaceLemmas

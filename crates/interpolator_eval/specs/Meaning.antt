@@ -9,6 +9,7 @@ pub mod ListArguments
 pub mod Lists
 pub mod Meanings
 pub mod Moves
+pub mod NodeMeanings
 pub mod Outcomes
 pub mod Resembling
 pub mod Samples

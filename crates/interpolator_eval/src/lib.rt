@@ -17,7 +17,7 @@ mod slots;
 pub use context::{ByNames, Context};
 pub use context_map::{ContextMap, NameMap};
 pub use field_names::is_name;
-pub use meaning::evaluate::write_text;
+pub use meaning::evaluate::{write_source, write_text};
 pub use meaning::list::{chosen, forbids_list};
 pub use meaning::sample::{Candidates, Items, Need, SampleScope};
 pub use meaning::scope::Scope;

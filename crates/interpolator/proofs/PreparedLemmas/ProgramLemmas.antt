@@ -17,8 +17,8 @@ use Rattle.interpolator_eval.specs.Meaning.Environments.{Environment, environmen
 use Rattle.interpolator_eval.specs.Meaning.Meanings.{Meaning, text_alone, joined, under_name}
 use Rattle.interpolator_eval.proofs.MeaningLemmas.MeaningLemmas.{joined_none, nothing_last}
 use Rattle.interpolator_eval.proofs.MeaningLemmas.MeaningLemmas.{joined_assoc}
-use Rattle.interpolator.specs.Template.NodeMeanings.{bare_means, node_means, forest_means}
-use Rattle.interpolator.specs.Template.NodeMeanings.{join_branch_means, item_branch_means}
+use Rattle.interpolator_eval.specs.Meaning.NodeMeanings.{bare_means, node_means, forest_means}
+use Rattle.interpolator_eval.specs.Meaning.NodeMeanings.{join_branch_means, item_branch_means}
 use Rattle.interpolator.specs.Prepared.Programs.{Instruction, text_step, value_step, node_step}
 use Rattle.interpolator.specs.Prepared.Programs.{text_after, with_text, with_node, program}
 use Rattle.interpolator.specs.Prepared.Programs.{held_position, node_position, step_at, argument_step}

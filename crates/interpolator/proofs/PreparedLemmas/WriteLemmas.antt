@@ -26,7 +26,7 @@ use Rattle.std.proofs.lemmas.Str.{encodes-chars}
 use Rattle.interpolator.specs.Prepared.StoredSteps.{step_of, stored_steps_mean, fitting_means}
 use Rattle.interpolator.specs.Prepared.StoredSteps.{parts_size, joined_placed}
 use Rattle.interpolator.specs.Prepared.Programs.{Instruction, text_step, node_step}
-use Rattle.interpolator.specs.Template.NodeMeanings.{node_means}
+use Rattle.interpolator_eval.specs.Meaning.NodeMeanings.{node_means}
 use Rattle.interpolator.specs.Template.Stored.{part, node_of, node_whole}
 use Rattle.interpolator.specs.declared.template.piece.Piece.{Piece}
 use Rattle.interpolator.specs.declared.prepared.step.Asked.{Asked}
@@ -40,7 +40,7 @@ use Rattle.std.proofs.Common.{Bool, true, false}
 use Rattle.interpolator.specs.declared.prepared.step.Step.{Step}
 use Rattle.interpolator.proofs.PreparedLemmas.ProgramLemmas.{program_means}
 use Rattle.interpolator.proofs.PreparedLemmas.StepLemmas.{program_stored}
-use Rattle.interpolator.proofs.TemplateLemmas.NodeMeaningLemmas.{nodes_mean}
+use Rattle.interpolator_eval.proofs.MeaningLemmas.NodeMeaningLemmas.{nodes_mean}
 
 -- a row reaches each position below its length
 pub row_reaches : {X : Type 0} (row : List (Formattable X)) (k : ℕ) → k < length row

@@ -16,11 +16,11 @@ use Rattle.interpolator.specs.Template.NodeChecks.{fault_list, first_fault, own_
 use Rattle.interpolator.specs.Template.NodeChecks.{node_faults, branch_faults, forest_faults}
 use Rattle.interpolator.specs.Template.NodeChecks.{text_faults, IsOfText, NodeHas, BranchHas}
 use Rattle.interpolator.specs.Template.NodeChecks.{ForestHas, FirstFaulty}
-use Rattle.interpolator.specs.Template.NodeMeanings.{node_means, join_branch_means}
-use Rattle.interpolator.specs.Template.NodeMeanings.{item_branch_means, forest_means}
+use Rattle.interpolator_eval.specs.Meaning.NodeMeanings.{node_means, join_branch_means}
+use Rattle.interpolator_eval.specs.Meaning.NodeMeanings.{item_branch_means, forest_means}
 use Rattle.interpolator_syntax.specs.Nodes.{Node, node, Branch, no_branch, branch, Forest}
 use Rattle.interpolator_syntax.specs.Nodes.{no_nodes, nodes_and, as_forest, nodes}
-use Rattle.interpolator.proofs.TemplateLemmas.NodeMeaningLemmas.{nodes_mean}
+use Rattle.interpolator_eval.proofs.MeaningLemmas.NodeMeaningLemmas.{nodes_mean}
 use Rattle.interpolator.proofs.TemplateLemmas.FaultLemmas.{May, may_none, may_joined, may_plain}
 use Rattle.interpolator.proofs.TemplateLemmas.FaultLemmas.{may_held, in_one, one_in, none_in}
 use Rattle.interpolator.proofs.TemplateLemmas.FaultLemmas.{in_first, in_second, in_third, in_fourth}

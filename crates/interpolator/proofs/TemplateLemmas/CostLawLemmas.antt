@@ -40,9 +40,9 @@ use Rattle.interpolator.specs.Template.NodeCosts.{piece_cost, then_cost, item_co
 use Rattle.interpolator.specs.Template.NodeCosts.{items_cost, padded_cost, value_cost}
 use Rattle.interpolator.specs.Template.NodeCosts.{held_cost, node_cost, item_branch_cost}
 use Rattle.interpolator.specs.Template.NodeCosts.{join_branch_cost, forest_cost, text_cost}
-use Rattle.interpolator.specs.Template.NodeMeanings.{and_closed, bare_means, held_means}
-use Rattle.interpolator.specs.Template.NodeMeanings.{plain_item_means, node_means, join_branch_means}
-use Rattle.interpolator.specs.Template.NodeMeanings.{item_branch_means, forest_means}
+use Rattle.interpolator_eval.specs.Meaning.NodeMeanings.{and_closed, bare_means, held_means}
+use Rattle.interpolator_eval.specs.Meaning.NodeMeanings.{plain_item_means, node_means, join_branch_means}
+use Rattle.interpolator_eval.specs.Meaning.NodeMeanings.{item_branch_means, forest_means}
 use Rattle.interpolator.specs.Template.NodeNames.{context_names, held_asks, node_asks, branch_asks}
 use Rattle.interpolator.specs.Template.NodeNames.{forest_asks}
 use Rattle.interpolator.specs.Template.NodeWork.{Work, no_work, piece_and, or_stop, item_work}
@@ -52,7 +52,7 @@ use Rattle.interpolator.specs.Template.NodeWork.{join_branch_work, item_branch_w
 use Rattle.interpolator.specs.Template.NodeWork.{text_work}
 use Rattle.interpolator.specs.declared.template.cost.Cost.{Cost}
 use Rattle.interpolator.specs.declared.template.cost.Limits.{Limits}
-use Rattle.interpolator.proofs.TemplateLemmas.NodeMeaningLemmas.{nodes_mean}
+use Rattle.interpolator_eval.proofs.MeaningLemmas.NodeMeaningLemmas.{nodes_mean}
 use Rattle.interpolator.proofs.TemplateLemmas.NodeNameLemmas.{nodes_ask}
 use Rattle.interpolator.proofs.TemplateLemmas.RangeLemmas.{Each, each_chosen, chosen_fewer, chosen_grows}
 

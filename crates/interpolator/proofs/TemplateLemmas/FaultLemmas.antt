@@ -21,8 +21,8 @@ use Rattle.interpolator_eval.specs.Meaning.Meanings.{Meaning, fault_alone, or_fa
 use Rattle.interpolator_eval.specs.Meaning.Meanings.{value_means, forbids_list, made_whole, padded_list}
 use Rattle.interpolator_eval.specs.Meaning.Meanings.{items_after, items_mean, under_name, listed_means}
 use Rattle.interpolator.specs.Template.NodeChecks.{fault_list, first_fault, own_fault, end_fault}
-use Rattle.interpolator.specs.Template.NodeMeanings.{and_closed, bare_means, held_means}
-use Rattle.interpolator.specs.Template.NodeMeanings.{plain_item_means}
+use Rattle.interpolator_eval.specs.Meaning.NodeMeanings.{and_closed, bare_means, held_means}
+use Rattle.interpolator_eval.specs.Meaning.NodeMeanings.{plain_item_means}
 use Rattle.interpolator_syntax.specs.Nodes.{Held, written, valued, refused, Bare, bare_value}
 use Rattle.interpolator_syntax.specs.Nodes.{bare_list}
 use Rattle.interpolator_syntax.specs.declared.piece_kind.PieceKind.{PieceKind}

@@ -15,15 +15,15 @@ use Rattle.interpolator_eval.specs.Meaning.Meanings.{Meaning, means}
 use Rattle.interpolator.specs.Template.NodeChecks.{fault_list, own_fault, end_fault, node_faults}
 use Rattle.interpolator.specs.Template.NodeChecks.{branch_faults, forest_faults, IsOfText}
 use Rattle.interpolator.specs.Template.NodeLacks.{first_lacking}
-use Rattle.interpolator.specs.Template.NodeMeanings.{node_means, join_branch_means}
-use Rattle.interpolator.specs.Template.NodeMeanings.{item_branch_means, forest_means}
+use Rattle.interpolator_eval.specs.Meaning.NodeMeanings.{node_means, join_branch_means}
+use Rattle.interpolator_eval.specs.Meaning.NodeMeanings.{item_branch_means, forest_means}
 use Rattle.interpolator.specs.Template.NodeNames.{context_names, held_asks, node_asks, branch_asks}
 use Rattle.interpolator.specs.Template.NodeNames.{forest_asks}
 use Rattle.interpolator_syntax.specs.Nodes.{Node, node, Branch, no_branch, branch, Forest}
 use Rattle.interpolator_syntax.specs.Nodes.{no_nodes, nodes_and, as_forest, nodes}
 use Rattle.interpolator_eval.proofs.MeaningLemmas.RelatedLemmas.{bound_same}
 use Rattle.interpolator.proofs.TemplateLemmas.CheckPlaceLemmas.{faults_of_text}
-use Rattle.interpolator.proofs.TemplateLemmas.NodeMeaningLemmas.{nodes_mean}
+use Rattle.interpolator_eval.proofs.MeaningLemmas.NodeMeaningLemmas.{nodes_mean}
 use Rattle.interpolator.proofs.TemplateLemmas.NodeNameLemmas.{nodes_ask}
 use Rattle.interpolator.proofs.TemplateLemmas.FaultLemmas.{May, may_none, may_joined, may_plain}
 use Rattle.interpolator.proofs.TemplateLemmas.FaultLemmas.{may_held, one_in, in_first, in_second}

@@ -36,8 +36,8 @@ use Rattle.interpolator_eval.specs.Meaning.Samples.{Sample, sample, each_of, eac
 use Rattle.interpolator_eval.specs.Meaning.Samples.{items_of_all, has_no_list, is_missing, is_failed}
 use Rattle.interpolator_eval.specs.Meaning.Samples.{slot_text, text_under, some_missing, some_failed}
 use Rattle.interpolator.specs.Template.NodeChecks.{fault_list, own_fault, end_fault}
-use Rattle.interpolator.specs.Template.NodeMeanings.{and_closed, held_means, node_means}
-use Rattle.interpolator.specs.Template.NodeMeanings.{join_branch_means, item_branch_means, forest_means}
+use Rattle.interpolator_eval.specs.Meaning.NodeMeanings.{and_closed, held_means, node_means}
+use Rattle.interpolator_eval.specs.Meaning.NodeMeanings.{join_branch_means, item_branch_means, forest_means}
 use Rattle.interpolator.specs.Template.NodeNames.{context_names, held_asks, node_asks, branch_asks, forest_asks}
 use Rattle.interpolator.specs.Template.NodeSamples.{fault_if, may_be_items, value_faults, found_faults}
 use Rattle.interpolator.specs.Template.NodeSamples.{asked_faults, plain_faults, node_faults_in}
@@ -45,7 +45,7 @@ use Rattle.interpolator.specs.Template.NodeSamples.{item_faults_in, join_faults_
 use Rattle.interpolator.specs.Template.NodeSamples.{faults_over, held_pads, node_pads, branch_pads}
 use Rattle.interpolator.specs.Template.NodeSamples.{forest_pads, pads_a_list}
 use Rattle.interpolator.specs.Template.StoredMeanings.{unclosed_fault_of}
-use Rattle.interpolator.proofs.TemplateLemmas.NodeMeaningLemmas.{nodes_mean}
+use Rattle.interpolator_eval.proofs.MeaningLemmas.NodeMeaningLemmas.{nodes_mean}
 use Rattle.interpolator.proofs.TemplateLemmas.NodeNameLemmas.{nodes_ask}
 
 -- ---- no faults, and none of the parts

@@ -19,13 +19,13 @@ use Rattle.interpolator_syntax.specs.declared.argument_fault.ArgumentFault.{Argu
 use Rattle.interpolator_syntax.specs.declared.range.Range.{Range}
 use Rattle.interpolator_eval.specs.Meaning.Environments.{Environment, given}
 use Rattle.interpolator_eval.specs.Meaning.Meanings.{Meaning, text_alone, under_name}
-use Rattle.interpolator_eval.specs.Meaning.Meanings.{items_after, items_mean, means}
+use Rattle.interpolator_eval.specs.Meaning.Meanings.{means}
 use Rattle.interpolator_eval.specs.Meaning.Outcomes.{Outcome}
 use Rattle.interpolator_eval.specs.Meaning.Sinks.{Writes, taken_by}
 use Rattle.interpolator_syntax.specs.Nodes.{Held, written, valued, refused, Bare}
 use Rattle.interpolator_syntax.specs.Nodes.{bare_value, bare_list, as_forest, nodes}
-use Rattle.interpolator.specs.Template.NodeMeanings.{and_closed, bare_means, held_means}
-use Rattle.interpolator.specs.Template.NodeMeanings.{forest_means}
+use Rattle.interpolator_eval.specs.Meaning.NodeMeanings.{and_closed, bare_means, held_means}
+use Rattle.interpolator_eval.specs.Meaning.NodeMeanings.{forest_means}
 use Rattle.interpolator.specs.Template.Stored.{may_cut, part, range_of, held_of}
 use Rattle.interpolator.specs.Template.Stored.{node_of, nodes_of, StandFor}
 use Rattle.interpolator.specs.Template.Stored.{forest_whole}
@@ -40,8 +40,9 @@ use Rattle.interpolator.specs.declared.template.piece.Piece.TheViews.{out-Piece}
 use Rattle.interpolator_syntax.specs.declared.piece_kind.PieceKind.{PieceKind}
 use Rattle.interpolator_syntax.specs.declared.piece_kind.PieceKind.TheVariants as kinds
 use Rattle.interpolator_eval.proofs.MeaningLemmas.SinkLemmas.{and_then, fault_first, nothing_done, ended}
-use Rattle.interpolator_eval.proofs.MeaningLemmas.SinkLemmas.{same_end, same_then}
-use Rattle.interpolator.proofs.TemplateLemmas.NodeMeaningLemmas.{nodes_mean}
+use Rattle.interpolator_eval.proofs.MeaningLemmas.SinkLemmas.{same_end}
+use Rattle.interpolator_eval.proofs.MeaningLemmas.RunLemmas.{closed_fault}
+use Rattle.interpolator_eval.proofs.MeaningLemmas.NodeMeaningLemmas.{nodes_mean}
 use Rattle.interpolator.proofs.TemplateLemmas.StoredLemmas.{node_of_out}
 use Rattle.interpolator.proofs.TemplateLemmas.WholeLemmas.{nodes_whole}
 use Rattle.interpolator.proofs.TemplateLemmas.WholePieceLemmas.{pieces_whole}
@@ -133,18 +134,7 @@ module _ (bs : List ℕ) (x : Piece) where
 -- ---- the outcome of one piece
 
 module _ {W : Type 0} (into : W → Written) (m : Meaning) (s t : Sink W) (end : ℕ) where
-  -- what is closed, or not, after a fault
-  closed_fault : (kind : PieceKind) (q : Answer) → Writes into m s t (Some q)
-      → Writes into (and_closed kind end m) s t (Some q)
-  closed_fault kinds.Literal q o = o
-  closed_fault kinds.Doubled q o = o
-  closed_fault kinds.LoneClose q o = o
-  closed_fault kinds.Closed q o = o
-  closed_fault kinds.Unclosed q o =
-      record { outcome = fault_first _ _ _ _ q o.outcome; same = o.same }
-  closed_fault kinds.Broken q o = o
-
-  -- the same where all was written before
+  -- what is closed, or not, where all was written before
   closed_done : (kind : PieceKind) → Writes into m s t None
       → Writes into (and_closed kind end m) s t (option_map fault (unclosed_fault_of kind end))
   closed_done kinds.Literal o = o
@@ -230,62 +220,6 @@ module _ {X W : Type 0} (shows : X → Trait → Spec → Shown) (into : W → W
             → Writes into (stored_piece_means shows e bs x) s t None
             → Outcome (After (i + 1)) (taken_by into t) u r → Outcome (After i) (taken_by into s) u r
         piece_runs u r o k = rw next_piece (and_then _ _ _ _ u r o.outcome k)
-
--- ---- the items of a list, one by one
-
-module _ {F X W : Type 0} (into : W → Written) (join : Meaning) (item : X → Meaning)
-    (slots : F → X) where
-  abbrev ItemsAfter : List F → Meaning
-  ItemsAfter ys = items_after join item (map slots ys)
-
-  module _ (xs : List F) (i : ℕ) (x : F) (h : i < length xs) (is : x ≡ get_or xs i x)
-      (s t : Sink W) where
-    next_item : map slots (drop i xs) ≡ slots x ∷ map slots (drop (i + 1) xs)
-    next_item = rw (drop_more xs i x h, ← is) refl
-
-    -- the join in front of an item ends the run
-    pub join_fault : (q : Answer) → Writes into join s t (Some q)
-        → Writes into (ItemsAfter (drop i xs)) s t (Some q)
-    join_fault q o =
-        record { outcome = rw next_item (fault_first _ _ _ _ q o.outcome); same = o.same }
-
-    -- an item ends the run
-    pub item_fault : (u : Sink W) (q : Answer) → Writes into join s t None
-        → Writes into (item (slots x)) t u (Some q)
-        → Writes into (ItemsAfter (drop i xs)) s u (Some q)
-    item_fault u q j o = record {
-      outcome =
-          rw next_item (and_then _ _ _ _ _ _ j.outcome (fault_first _ _ _ _ q o.outcome));
-      same = same_then s t u j.same o.same;
-    }
-
-    -- an item is done, and the items after it follow
-    pub item_runs : (u : Sink W) (new : Written) (r : Option Answer)
-        → Writes into join s t None → Writes into (item (slots x)) t u None
-        → Outcome (ItemsAfter (drop (i + 1) xs)) (taken_by into u) new r
-        → Outcome (ItemsAfter (drop i xs)) (taken_by into s) new r
-    item_runs u new r j o k =
-        rw next_item (and_then _ _ _ _ _ _ j.outcome (and_then _ _ _ _ _ _ o.outcome k))
-
-  -- no item is left
-  pub items_end : (xs : List F) (i : ℕ) (s : Sink W) → length xs ≤ i
-      → Writes into (ItemsAfter (drop i xs)) s s None
-  items_end xs i s h =
-      record { outcome = rw (drop_all i xs h) (nothing_done _); same = same_end s }
-
-  module _ (xs : List F) (x : F) (rest : List F) (s t : Sink W)
-      (split : xs ≡ x ∷ rest) where
-    -- the first item is done, and the items after it follow
-    pub first_runs : (u : Written) (r : Option Answer) → Writes into (item (slots x)) s t None
-        → Outcome (ItemsAfter (drop 0 rest)) (taken_by into t) u r
-        → Outcome (items_mean join item (map slots xs)) (taken_by into s) u r
-    first_runs u r o k = rw split (and_then _ _ _ _ u r o.outcome k)
-
-    -- the first item ends the run
-    pub first_fault : (q : Answer) → Writes into (item (slots x)) s t (Some q)
-        → Writes into (items_mean join item (map slots xs)) s t (Some q)
-    first_fault q o =
-        record { outcome = rw split (fault_first _ _ _ _ q o.outcome); same = o.same }
 
 -- ---- the pieces of a whole text
 

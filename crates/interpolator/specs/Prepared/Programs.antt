@@ -12,7 +12,7 @@ use Rattle.interpolator_syntax.specs.declared.piece_kind.PieceKind.TheVariants.{
 use Rattle.interpolator_eval.specs.Slots.{Slots, values_of, slot_at}
 use Rattle.interpolator_eval.specs.Meaning.Environments.{Environment}
 use Rattle.interpolator_eval.specs.Meaning.Meanings.{Meaning, nothing, text_alone, joined, value_means}
-use Rattle.interpolator.specs.Template.NodeMeanings.{node_means}
+use Rattle.interpolator_eval.specs.Meaning.NodeMeanings.{node_means}
 use Rattle.interpolator.specs.Prepared.Rows.{last_position}
 
 -- one step of a program: characters, each with its place; the value at a position, under a trait

@@ -16,8 +16,8 @@ use Rattle.interpolator_eval.specs.Slots.{Slots, items}
 use Rattle.interpolator_eval.specs.Meaning.Choices.{chosen_items}
 use Rattle.interpolator_eval.specs.Meaning.Environments.{Environment, given, bind}
 use Rattle.interpolator_eval.specs.Meaning.Meanings.{Meaning, forbids_list, items_mean}
-use Rattle.interpolator.specs.Template.NodeMeanings.{join_branch_means, item_branch_means}
-use Rattle.interpolator.specs.Template.NodeMeanings.{node_means}
+use Rattle.interpolator_eval.specs.Meaning.NodeMeanings.{join_branch_means, item_branch_means}
+use Rattle.interpolator_eval.specs.Meaning.NodeMeanings.{node_means}
 
 -- how many pieces are gone through, and the most characters that are held at one time
 pub record Work : Type 0 where

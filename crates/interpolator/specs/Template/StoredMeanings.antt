@@ -8,8 +8,8 @@ use Rattle.interpolator_eval.specs.Slots.{Slots}
 use Rattle.interpolator_eval.specs.Meaning.Environments.{Environment}
 use Rattle.interpolator_eval.specs.Meaning.Meanings.{Meaning, items_mean}
 use Rattle.interpolator_syntax.specs.Nodes.{as_forest}
-use Rattle.interpolator.specs.Template.NodeMeanings.{node_means, forest_means}
-use Rattle.interpolator.specs.Template.NodeMeanings.{item_branch_means, join_branch_means}
+use Rattle.interpolator_eval.specs.Meaning.NodeMeanings.{node_means, forest_means}
+use Rattle.interpolator_eval.specs.Meaning.NodeMeanings.{item_branch_means, join_branch_means}
 use Rattle.interpolator.specs.Template.Stored.{node_of, nodes_of, branch_of}
 use Rattle.interpolator.specs.Template.Stored.{part, name_part}
 use Rattle.interpolator_syntax.specs.declared.piece_kind.PieceKind.{PieceKind}

@@ -7,7 +7,7 @@ ghost use Rattle.interpolator_syntax.specs.Nodes.{Node, as_forest, nodes};
 ghost use Rattle.interpolator_syntax.specs.SpecTexts.{plain_spec};
 ghost use Rattle.interpolator_eval.specs.Slots.{Slots};
 ghost use Rattle.interpolator_eval.specs.Meaning.Environments.{environment};
-ghost use Rattle.interpolator.specs.Template.NodeMeanings.{forest_means};
+ghost use Rattle.interpolator_eval.specs.Meaning.NodeMeanings.{forest_means};
 ghost use Rattle.interpolator.specs.Prepared.Programs.{program, steps_mean, text_step, value_step};
 ghost use Rattle.interpolator.specs.Prepared.Rows.{found_by_row};
 

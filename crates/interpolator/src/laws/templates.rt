@@ -13,7 +13,7 @@ ghost use Rattle.interpolator_eval.specs.Meaning.Environments.{Environment, envi
 ghost use Rattle.interpolator_eval.specs.Meaning.Meanings.{joined, means};
 ghost use Rattle.interpolator_syntax.specs.Groups.{inside};
 ghost use Rattle.interpolator_eval.specs.Meaning.Outcomes.{Outcome};
-ghost use Rattle.interpolator.specs.Template.NodeMeanings.{forest_means};
+ghost use Rattle.interpolator_eval.specs.Meaning.NodeMeanings.{forest_means};
 ghost use Rattle.interpolator_syntax.specs.Nodes.{Node};
 ghost use Rattle.interpolator_syntax.specs.Nodes.{node, branch, as_forest, valued, bare_value};
 ghost use Rattle.interpolator_syntax.specs.Nodes.{bare_list};

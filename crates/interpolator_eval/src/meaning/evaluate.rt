@@ -1,18 +1,20 @@
-//! Writes what a text means, up to the first fault: callers first, as one reads.
-ghost use Rattle.std.specs.Prelude.{◌≡◌, IfOk, None, Some, map, option_map};
-ghost use Rattle.interpolator_syntax.specs.At.{at, strip};
-ghost use Rattle.interpolator_syntax.specs.Classes.{close_brace};
-ghost use Rattle.interpolator_syntax.specs.Arguments.{argument_at, argument_after, plain_argument};
-ghost use Rattle.interpolator_syntax.specs.Arguments.{named_argument, request_of, list_of};
-ghost use Rattle.interpolator_syntax.specs.Groups.{group_of};
+//! Writes what the parts of a source mean, up to the first fault: callers first, as one reads.
+ghost use Rattle.std.specs.Prelude.{◌≡◌, IfOk, None, map};
+ghost use Rattle.std.specs.Str.{chars};
+ghost use Rattle.interpolator_render.specs.declared.view.Trait.TheVariants.{Iter, Display};
+ghost use Rattle.interpolator_syntax.specs.At.{at};
 ghost use Rattle.interpolator_syntax.specs.Faults.{answered};
-ghost use Rattle.interpolator_eval.specs.Meaning.Meanings.{means, argument_means, argument_from_means};
-ghost use Rattle.interpolator_eval.specs.Meaning.Meanings.{chosen_means, item_means, join_means};
-ghost use Rattle.interpolator_eval.specs.Meaning.Lists.{list_under, padded_list_means};
-ghost use Rattle.interpolator_syntax.specs.Pieces.{argument_from};
+ghost use Rattle.interpolator_syntax.specs.Nodes.{Node, nodes_and};
+ghost use Rattle.interpolator_syntax.specs.SpecTexts.{plain_spec};
+ghost use Rattle.interpolator_eval.specs.Meaning.Environments.{given};
+ghost use Rattle.interpolator_eval.specs.Meaning.Lists.{padded_list_means};
+ghost use Rattle.interpolator_eval.specs.Meaning.Meanings.{means, under_name, value_means};
+ghost use Rattle.interpolator_eval.specs.Meaning.NodeMeanings.{forest_means, first_means};
+ghost use Rattle.interpolator_eval.specs.Meaning.NodeMeanings.{asking_means, asked_items_mean};
+ghost use Rattle.interpolator_eval.specs.Meaning.NodeMeanings.{item_branch_means, join_branch_means};
 ghost use Rattle.interpolator_eval.specs.Meaning.Scopes.{environment_of};
 ghost use Rattle.interpolator_eval.specs.Meaning.Sinks.{Writes};
-ghost use Rattle.interpolator_eval.specs.Slots.{slots_of};
+ghost use Rattle.interpolator_eval.specs.Slots.{slots_of, slot_at, values_of};
 
 use crate::context::Context;
 use crate::meaning::scope::Scope;
@@ -20,13 +22,9 @@ use crate::meaning::sink::Sink;
 use crate::meaning::value::{chosen_list, list_buffer, write_plain_item, write_value};
 use crate::slots::Formattable;
 use interpolator_render::{Spec, TextWrite, Trait};
-use interpolator_syntax::{
-    ArgumentName, Cursor, Error, Group, ListForm, ParseError, Request, Token, inside, next_token,
-    take_name, take_request,
-};
+use interpolator_syntax::{Cursor, Error, ParseError, Part, Source};
 
-/// Writes what a text means, token by token.
-#[cycle(evaluate)]
+/// Writes what a text means.
 pub fn write_text<'a, W: TextWrite, C: Context>(
     sink: &mut Sink<'_, W>,
     scope: &Scope<'a, C, C::Object>,
@@ -36,104 +34,93 @@ pub fn write_text<'a, W: TextWrite, C: Context>(
         (means C.Object.shows (environment_of C.finds scope.now) (at text.entry))
         sink.old sink.new (answered result) }
 {
-    let mut here = text;
-    while let Some((token, rest)) = next_token(here) {
-        here = match token {
-            Token::Literals(run) => {
-                sink.put_run(run, here.place)?;
+    write_source(sink, scope, text)
+}
+
+/// Writes what the parts of a source mean, in order.
+#[cycle(evaluate)]
+pub fn write_source<'a, W: TextWrite, C: Context, S: Source>(
+    sink: &mut Sink<'_, W>,
+    scope: &Scope<'a, C, C::Object>,
+    source: S,
+) -> Result<(), Error>
+    ensures writes { Writes W.written
+        (forest_means C.Object.shows (environment_of C.finds scope.now) (S.tree source))
+        sink.old sink.new (answered result) }
+{
+    let mut here = source;
+    while let Some((part, rest)) = here.next_part() {
+        here = match part {
+            Part::Text(run, place) => {
+                sink.put_run(run, place)?;
                 rest
             }
-            Token::Doubled(brace) => {
-                sink.put_char(brace, here.place)?;
+            Part::Char(c, place) => {
+                sink.put_char(c, place)?;
                 rest
             }
-            Token::LoneClose => {
-                sink.put_char('}', here.place)?;
+            Part::Name(start, name, end) => {
+                write_alone(sink, scope, start, name, end)?;
                 rest
             }
-            Token::Argument => write_argument(sink, scope, rest)?,
+            Part::Argument(start, name, pending) => {
+                write_argument(sink, scope, start, name, pending, rest)?
+            }
         };
     }
     Ok(())
 }
 
-/// Writes what the argument means that begins here, after its brace. Returns what follows its
-/// closing brace. A name alone has a function of its own: there the compiler knows what is asked.
-#[cycle(evaluate)]
-#[inline(always)]
-fn write_argument<'t, 'a, W: TextWrite, C: Context>(
-    sink: &mut Sink<'_, W>,
-    scope: &Scope<'a, C, C::Object>,
-    here: Cursor<'t>,
-) -> Result<Cursor<'t>, Error>
-    ensures writes { Writes W.written
-        (argument_from_means C.Object.shows (environment_of C.finds scope.now) (at here.entry))
-        sink.old sink.new (answered result) }
-    ensures rest { IfOk result (λ r. at r ≡ (argument_from here.entry.place (at here.entry)).rest) }
-{
-    let named = take_name(here);
-    match named.end.strip(b'}') {
-        Some(after) => {
-            write_alone(sink, scope, here.place, named)?;
-            Ok(after)
-        }
-        None => write_asked(sink, scope, here, named),
-    }
-}
-
-/// Writes the value of a name alone, for an argument that starts at `start`.
+/// Writes the value of a name alone, for an argument that starts at `start` and whose spec ends at
+/// `end`. It has a function of its own: there the compiler knows what is asked.
 #[inline(always)]
 fn write_alone<'a, W: TextWrite, C: Context>(
     sink: &mut Sink<'_, W>,
     scope: &Scope<'a, C, C::Object>,
     start: usize,
-    named: ArgumentName<'_>,
+    name: &str,
+    end: usize,
 ) -> Result<(), Error>
     ensures writes { Writes W.written
-        (argument_means C.Object.shows (means C.Object.shows) (environment_of C.finds scope.now)
-        start (plain_argument named.entry) named.entry.end.place)
+        (under_name (chars name.now) start
+        (λ found. value_means C.Object.shows Display plain_spec end (slot_at Display (values_of found)))
+        (given (environment_of C.finds scope.now) (chars name.now)))
         sink.old sink.new (answered result) }
 {
     let spec = Spec::default();
-    write_value(
-        sink,
-        scope,
-        start,
-        named.name,
-        Trait::Display,
-        &spec,
-        named.end.place,
-    )
+    write_value(sink, scope, start, name, Trait::Display, &spec, end)
 }
 
-/// Writes what the argument means that begins here and has that name, with more after it. Returns
-/// what follows its closing brace.
+/// Writes what an argument means that starts at `start` and has that name, and of which more is to
+/// be read. Returns what follows its closing brace.
 #[cycle(evaluate)]
 #[inline(always)]
-fn write_asked<'t, 'a, W: TextWrite, C: Context>(
+fn write_argument<'a, W: TextWrite, C: Context, S: Source>(
     sink: &mut Sink<'_, W>,
     scope: &Scope<'a, C, C::Object>,
-    here: Cursor<'t>,
-    named: ArgumentName<'t>,
-) -> Result<Cursor<'t>, Error>
-    requires open { strip close_brace (at named.end) ≡ None }
-    requires named { argument_at (at here)
-        ≡ argument_after here.place (plain_argument named) (at named.end) }
+    start: usize,
+    name: &str,
+    pending: S::Pending,
+    here: S,
+) -> Result<S, Error>
+    requires may_ask { S.may_ask here pending }
     ensures writes { Writes W.written
-        (argument_from_means C.Object.shows (environment_of C.finds scope.now) (at here.entry))
+        (first_means C.Object.shows (environment_of C.finds scope.now)
+        (S.from here start (chars name.now) pending))
         sink.old sink.new (answered result) }
-    ensures rest { IfOk result (λ r. at r ≡ (argument_from here.entry.place (at here.entry)).rest) }
+    ensures rest { IfOk result (λ rest. (x : Node)
+        × (S.from here start (chars name.now) pending ≡ nodes_and x (S.tree rest))) }
 {
-    let mut end = named.end;
-    let mut asked = Request::plain();
-    match take_request(&mut end, &mut asked, here.place) {
-        Ok(()) => {}
+    let mut asked = here.plain(pending);
+    let at_end = match here.ask(start, pending, &mut asked) {
+        Ok(at_end) => at_end,
         Err(fault) => return Err(Error::from(fault)),
-    }
-    write_named(sink, scope, here.place, named, &asked, end.place)?;
-    match end.strip(b'}') {
-        Some(after) => Ok(after),
-        None => Err(Error::Parse(ParseError::Expected("}", end.place))),
+    };
+    let end = at_end.end(&asked);
+    write_asked::<W, C, S>(sink, scope, start, name, &asked, end)?;
+    match at_end.close(&asked) {
+        Some(rest) => Ok(rest),
+        None => Err(Error::Parse(ParseError::Expected("}", end))),
     }
 }
 
@@ -141,22 +128,22 @@ fn write_asked<'t, 'a, W: TextWrite, C: Context>(
 /// `end`.
 #[cycle(evaluate)]
 #[inline(always)]
-fn write_named<'a, W: TextWrite, C: Context>(
+fn write_asked<'a, W: TextWrite, C: Context, S: Source>(
     sink: &mut Sink<'_, W>,
     scope: &Scope<'a, C, C::Object>,
     start: usize,
-    named: ArgumentName<'_>,
-    asked: &Request<'_>,
+    name: &str,
+    asked: &S::Asked,
     end: usize,
 ) -> Result<(), Error>
     ensures writes { Writes W.written
-        (argument_means C.Object.shows (means C.Object.shows) (environment_of C.finds scope.now)
-        start (named_argument named.entry (request_of asked.now)) end)
+        (asking_means C.Object.shows (environment_of C.finds scope.now) start (chars name.now)
+        (S.asks asked.now) end)
         sink.old sink.new (answered result) }
 {
-    match asked.slot {
-        Trait::Iter => write_list(sink, scope, start, named, asked, end),
-        t => write_value(sink, scope, start, named.name, t, &asked.spec, end),
+    match S::slot(asked) {
+        Trait::Iter => write_list::<W, C, S>(sink, scope, start, name, asked, end),
+        t => write_value(sink, scope, start, name, t, S::spec(asked), end),
     }
 }
 
@@ -164,48 +151,49 @@ fn write_named<'a, W: TextWrite, C: Context>(
 /// `end`.
 #[cycle(evaluate)]
 #[inline(never)]
-fn write_list<'a, W: TextWrite, C: Context>(
+fn write_list<'a, W: TextWrite, C: Context, S: Source>(
     sink: &mut Sink<'_, W>,
     scope: &Scope<'a, C, C::Object>,
     start: usize,
-    named: ArgumentName<'_>,
-    asked: &Request<'_>,
+    name: &str,
+    asked: &S::Asked,
     end: usize,
 ) -> Result<(), Error>
+    requires list { (S.asks asked.now).slot ≡ Iter }
     ensures writes { Writes W.written
-        (argument_means C.Object.shows (means C.Object.shows) (environment_of C.finds scope.now)
-        start (named_argument named.entry (list_under asked.now)) end)
+        (asking_means C.Object.shows (environment_of C.finds scope.now) start (chars name.now)
+        (S.asks asked.now) end)
         sink.old sink.new (answered result) }
 {
-    let spec = &asked.spec;
-    let items = chosen_list(scope, start, named.name, asked.list.range, spec, end)?;
+    let spec = S::spec(asked);
+    let items = chosen_list(scope, start, name, S::range(asked), spec, end)?;
     if spec.width.is_some() {
-        write_padded_list(sink, scope, items, &asked.list, spec, end)
+        write_padded_list::<W, C, S>(sink, scope, items, asked, end)
     } else {
-        write_items(sink, scope, items, &asked.list, end)
+        write_items::<W, C, S>(sink, scope, items, asked, end)
     }
 }
 
 /// Makes the text of the items in a buffer, and then writes it padded to the width.
 #[cycle(evaluate)]
-fn write_padded_list<'a, W: TextWrite, C: Context>(
+fn write_padded_list<'a, W: TextWrite, C: Context, S: Source>(
     sink: &mut Sink<'_, W>,
     scope: &Scope<'a, C, C::Object>,
     items: &'a [Formattable<'a, C::Object>],
-    form: &ListForm<'_>,
-    spec: &Spec,
+    asked: &S::Asked,
     end: usize,
 ) -> Result<(), Error>
-    requires no_precision { spec.now.precision ≡ None }
+    requires list { (S.asks asked.now).slot ≡ Iter }
+    requires no_precision { (S.asks asked.now).spec.precision ≡ None }
     ensures writes { Writes W.written
-        (padded_list_means spec.now end
-        (chosen_means C.Object.shows (means C.Object.shows) (environment_of C.finds scope.now)
-        (list_of form.now) end (map slots_of items.now)))
+        (padded_list_means (S.asks asked.now).spec end
+        (asked_items_mean C.Object.shows (environment_of C.finds scope.now) (S.asks asked.now) end
+        (map slots_of items.now)))
         sink.old sink.new (answered result) }
 {
     let mut made = list_buffer(sink, scope);
     let mut inner: Sink<'_, W> = Sink::Aside(&mut made);
-    let answer = write_items(&mut inner, scope, items, form, end);
+    let answer = write_items::<W, C, S>(&mut inner, scope, items, asked, end);
     match inner {
         Sink::Writer(_) => unreachable!(),
         Sink::Aside(buffer) => {
@@ -213,7 +201,7 @@ fn write_padded_list<'a, W: TextWrite, C: Context>(
                 return Err(Error::NoMemory);
             }
             answer?;
-            sink.put_padded(buffer.as_str(), spec, end)?;
+            sink.put_padded(buffer.as_str(), S::spec(asked), end)?;
             Ok(())
         }
     }
@@ -222,63 +210,65 @@ fn write_padded_list<'a, W: TextWrite, C: Context>(
 /// Writes items of a list, and the join between two of them, for an argument whose spec ends at
 /// `end`.
 #[cycle(evaluate)]
-fn write_items<'a, W: TextWrite, C: Context>(
+fn write_items<'a, W: TextWrite, C: Context, S: Source>(
     sink: &mut Sink<'_, W>,
     scope: &Scope<'a, C, C::Object>,
     items: &'a [Formattable<'a, C::Object>],
-    form: &ListForm<'_>,
+    asked: &S::Asked,
     end: usize,
 ) -> Result<(), Error>
+    requires list { (S.asks asked.now).slot ≡ Iter }
     ensures writes { Writes W.written
-        (chosen_means C.Object.shows (means C.Object.shows) (environment_of C.finds scope.now)
-        (list_of form.now) end (map slots_of items.now))
+        (asked_items_mean C.Object.shows (environment_of C.finds scope.now) (S.asks asked.now) end
+        (map slots_of items.now))
         sink.old sink.new (answered result) }
 {
     let Some((first, rest)) = items.split_first() else {
         return Ok(());
     };
-    write_item(sink, scope, first, form.item, end)?;
+    write_item::<W, C, S>(sink, scope, first, asked, end)?;
     for item in rest {
-        write_join(sink, scope, form.join)?;
-        write_item(sink, scope, item, form.item, end)?;
+        write_join::<W, C, S>(sink, scope, asked)?;
+        write_item::<W, C, S>(sink, scope, item, asked, end)?;
     }
     Ok(())
 }
 
 /// Writes one item of a list, for an argument whose spec ends at `end`.
 #[cycle(evaluate)]
-fn write_item<'a, W: TextWrite, C: Context>(
+fn write_item<'a, W: TextWrite, C: Context, S: Source>(
     sink: &mut Sink<'_, W>,
     scope: &Scope<'a, C, C::Object>,
     item: &'a Formattable<'a, C::Object>,
-    format: Option<Group<'_>>,
+    asked: &S::Asked,
     end: usize,
 ) -> Result<(), Error>
+    requires list { (S.asks asked.now).slot ≡ Iter }
     ensures writes { Writes W.written
-        (item_means C.Object.shows (means C.Object.shows) (environment_of C.finds scope.now) end
-        (option_map group_of format.entry) (slots_of item.now))
+        (item_branch_means C.Object.shows (environment_of C.finds scope.now)
+        (S.asks asked.now).item end (slots_of item.now))
         sink.old sink.new (answered result) }
 {
-    match format {
-        Some(group) => write_text(sink, &scope.bind(item), inside(group)),
+    match S::item(asked) {
+        Some(source) => write_source(sink, &scope.bind(item), source),
         None => write_plain_item(sink, item, end),
     }
 }
 
 /// Writes what stands between two items.
 #[cycle(evaluate)]
-fn write_join<'a, W: TextWrite, C: Context>(
+fn write_join<'a, W: TextWrite, C: Context, S: Source>(
     sink: &mut Sink<'_, W>,
     scope: &Scope<'a, C, C::Object>,
-    format: Option<Group<'_>>,
+    asked: &S::Asked,
 ) -> Result<(), Error>
+    requires list { (S.asks asked.now).slot ≡ Iter }
     ensures writes { Writes W.written
-        (join_means C.Object.shows (means C.Object.shows) (environment_of C.finds scope.now)
-        (option_map group_of format.entry))
+        (join_branch_means C.Object.shows (environment_of C.finds scope.now) (S.asks asked.now).join)
         sink.old sink.new (answered result) }
 {
-    match format {
-        Some(group) => write_text(sink, scope, inside(group)),
+    match S::join(asked) {
+        Some(source) => write_source(sink, scope, source),
         None => Ok(()),
     }
 }

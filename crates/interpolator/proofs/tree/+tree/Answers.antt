@@ -18,9 +18,9 @@ use Rattle.interpolator.proofs.TemplateLemmas.RunLemmas.{text_held, broken_held,
 use Rattle.interpolator.proofs.TemplateLemmas.RunLemmas.{value_held, list_held, text_writes}
 use Rattle.interpolator.proofs.TemplateLemmas.RunLemmas.{fault_writes, argument_fault}
 use Rattle.interpolator.proofs.TemplateLemmas.RunLemmas.{argument_writes, pieces_end, piece_fault}
-use Rattle.interpolator.proofs.TemplateLemmas.RunLemmas.{piece_runs, join_fault, item_fault}
-use Rattle.interpolator.proofs.TemplateLemmas.RunLemmas.{item_runs, items_end, first_runs}
-use Rattle.interpolator.proofs.TemplateLemmas.RunLemmas.{first_fault}
+use Rattle.interpolator.proofs.TemplateLemmas.RunLemmas.{piece_runs}
+use Rattle.interpolator_eval.proofs.MeaningLemmas.ListLemmas.{join_fault, item_fault, item_runs}
+use Rattle.interpolator_eval.proofs.MeaningLemmas.ListLemmas.{items_end, first_runs, first_fault}
 use Rattle.interpolator.proofs.TemplateLemmas.WholePieceLemmas.{fits_text, piece_whole, most_at, in_item, in_join}
 use Rattle.interpolator.proofs.template.piece.Piece.TheLaws.{the_size}
 use Rattle.interpolator.proofs.tree.+tree.Goals as goal

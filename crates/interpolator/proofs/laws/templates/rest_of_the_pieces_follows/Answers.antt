@@ -4,7 +4,7 @@ use Rattle.interpolator_syntax.specs.Pieces.{argument_from}
 use Rattle.interpolator_syntax.specs.SpecTexts.{spec_after}
 use Rattle.interpolator_syntax.specs.Tokens.{first_token}
 use Rattle.interpolator_syntax.specs.Nodes.{nodes}
-use Rattle.interpolator.proofs.TemplateLemmas.NodeMeaningLemmas.{forest_joined, nodes_mean}
+use Rattle.interpolator_eval.proofs.MeaningLemmas.NodeMeaningLemmas.{forest_joined, nodes_mean}
 use Rattle.interpolator.proofs.TemplateLemmas.WholePieceLemmas.{rest_fits}
 use Rattle.interpolator.proofs.laws.templates.rest_of_the_pieces_follows.Goals as goal
 

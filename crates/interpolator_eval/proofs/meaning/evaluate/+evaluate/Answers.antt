@@ -1,124 +1,259 @@
-use Rattle.std.proofs.Common.{◌≡◌, ◌≤◌, ◌<◌, refl, sym, arith, rules, length, map, Some, true}
-use Rattle.std.proofs.Common.{false}
+use Rattle.std.proofs.Common.{◌≡◌, ◌∙◌, sym, arith, rules, map, true, false}
 use Rattle.std.specs.Str.{chars}
 use Rattle.std.proofs.lemmas.Result.{err_from_is_err_and}
-use Rattle.interpolator_syntax.specs.At.{at}
-use Rattle.interpolator_syntax.specs.Arguments.{plain_argument}
-use Rattle.interpolator_syntax.specs.Tokens.{literals, doubled, lone_close, argument, first_token}
-use Rattle.interpolator_syntax.proofs.PieceLemmas.{read_alone}
+use Rattle.interpolator_render.specs.declared.view.Trait.TheVariants as traits
 use Rattle.interpolator_eval.specs.Slots.{slots_of}
-use Rattle.interpolator_syntax.specs.Arguments.{list_of, kind_of_request}
-use Rattle.interpolator_eval.specs.Meaning.Meanings.{means, item_means, join_means, chosen_means}
+use Rattle.interpolator_eval.specs.Meaning.NodeMeanings.{asked_items_mean, item_branch_means}
+use Rattle.interpolator_eval.specs.Meaning.NodeMeanings.{join_branch_means}
 use Rattle.interpolator_eval.specs.Meaning.Scopes.{environment_of}
 use Rattle.interpolator_eval.proofs.MeaningLemmas.SinkLemmas.{same_end, same_then, goes_on}
 use Rattle.interpolator_eval.proofs.MeaningLemmas.SinkLemmas.{whole_refused, whole_fault}
-use Rattle.interpolator_syntax.proofs.TokenLemmas.{scan_shorter, token_shorter}
-use Rattle.interpolator_eval.proofs.MeaningLemmas.ListLemmas.{kind_size, groups_within}
-use Rattle.interpolator_eval.proofs.MeaningLemmas.LookUpLemmas.{not_chosen_writes, chosen_writes}
-use Rattle.interpolator_eval.proofs.MeaningLemmas.LookUpLemmas.{value_asked}
-use Rattle.interpolator_eval.proofs.MeaningLemmas.ListLemmas.{first_runs, first_fault}
-use Rattle.interpolator_eval.proofs.MeaningLemmas.ListLemmas.{item_runs, join_fault, item_fault}
+use Rattle.interpolator_eval.proofs.MeaningLemmas.ListLemmas.{join_fault, item_fault, item_runs}
 use Rattle.interpolator_eval.proofs.MeaningLemmas.ListLemmas.{items_end}
-use Rattle.interpolator_eval.proofs.MeaningLemmas.RunLemmas.{end_writes, step_runs, fault_writes}
-use Rattle.interpolator_eval.proofs.MeaningLemmas.RunLemmas.{broken_writes, value_fault_writes}
-use Rattle.interpolator_eval.proofs.MeaningLemmas.RunLemmas.{closed_writes, closed_rest, unclosed_writes}
-use Rattle.interpolator_eval.proofs.MeaningLemmas.RunLemmas.{asked_ok, asked_broken}
+use Rattle.interpolator_eval.proofs.MeaningLemmas.ListLemmas.{first_runs as items_first_runs}
+use Rattle.interpolator_eval.proofs.MeaningLemmas.ListLemmas.{first_fault as items_first_fault}
+use Rattle.interpolator_eval.proofs.MeaningLemmas.LookUpLemmas.{not_chosen_writes, chosen_writes}
+use Rattle.interpolator_eval.proofs.MeaningLemmas.RunLemmas.{rest_smaller, groups_smaller, pieces_end}
+use Rattle.interpolator_eval.proofs.MeaningLemmas.RunLemmas.{first_fault, first_runs, text_first}
+use Rattle.interpolator_eval.proofs.MeaningLemmas.RunLemmas.{name_first, broken_first, value_fault}
+use Rattle.interpolator_eval.proofs.MeaningLemmas.RunLemmas.{closed_first, closed_rest, unclosed_first}
+use Rattle.interpolator_eval.proofs.MeaningLemmas.RunLemmas.{list_asked_writes, value_asked_writes}
 use Rattle.interpolator_eval.proofs.meaning.evaluate.+evaluate.Goals as goal
 
-pub write_text-returns-in_err-put_run-in-Literals :
-    goal.write_text-returns-in_err-put_run-in-Literals
-write_text-returns-in_err-put_run-in-Literals g t c =
-    let err = err_from_is_err_and c.from_residual.result c.from_residual.ensures.1 in
+-- ---- parts in order
+
+pub write_source-returns-in_err-put_run-in-Text :
+    goal.write_source-returns-in_err-put_run-in-Text
+write_source-returns-in_err-put_run-in-Text g t c =
+    let e = environment_of g.C.Context.finds c.args.scope.now in
+    let xs = g.S.Source.tree c.loop-part.here in
+    let residual = c.from_residual in
+    let err = err_from_is_err_and residual.result residual.ensures.1 in
+    let first = rw c.in-Text.is at c.in-Some.ensures.next in
     rw (err.1, err.2) (record {
       writes =
-          goes_on _ _ _ _ _ _ _ c.loop-token.invariant.so_far c.loop-token.invariant.same
-          (fault_writes _ _ _ (at c.loop-token.here)
-          (literals (chars c.in-Literals.run'.now), at c.in-Some.rest) _ _ _
-          (rw c.in-Literals.is at (sym c.in-Some.ensures.token))
-          c.in_err-put_run-in-Literals.ensures.writes);
+          goes_on _ _ _ _ _ _ _ c.loop-part.invariant.so_far c.loop-part.invariant.same
+          (first_fault g.C.Object.Value.shows _ e _ _ xs _
+          (text_first g.C.Object.Value.shows _ e _ _ _ _ xs _ _ first
+          c.in_err-put_run-in-Text.ensures.writes));
     })
 
-pub write_text-write_argument-requires : goal.write_text-write_argument-requires
-write_text-write_argument-requires g t c =
-    let after = length (chars c.in-Some.rest.rest.now) in
-    let shorter : after < length (chars c.loop-token.here.rest.now) =
-    token_shorter (at c.loop-token.here) _ (sym c.in-Some.ensures.token) in
-    let within = c.loop-token.invariant.shorter in
-    search rules
+pub write_source-loop-part-preserved-in_ok-put_run-in-Text :
+    goal.write_source-loop-part-preserved-in_ok-put_run-in-Text
+write_source-loop-part-preserved-in_ok-put_run-in-Text g t c =
+    let e = environment_of g.C.Context.finds c.args.scope.now in
+    let xs = g.S.Source.tree c.loop-part.here in
+    let first = rw c.in-Text.is at c.in-Some.ensures.next in
+    let o = c.in_ok-put_run-in-Text.ensures.writes in
+    record {
+      within = omega (arith, rest_smaller xs _ _ first.first, c.loop-part.invariant.within);
+      so_far = λ new answer k. c.loop-part.invariant.so_far new answer
+          (first_runs g.C.Object.Value.shows _ e _ _ xs _ _ new answer first.first
+          (text_first g.C.Object.Value.shows _ e _ _ _ _ xs _ _ first o) k);
+      same = same_then _ _ _ c.loop-part.invariant.same o.same;
+    }
 
-pub write_text-returns-in_err-here-in-Argument :
-    goal.write_text-returns-in_err-here-in-Argument
-write_text-returns-in_err-here-in-Argument g t c =
+pub write_source-returns-in_err-put_char-in-Char :
+    goal.write_source-returns-in_err-put_char-in-Char
+write_source-returns-in_err-put_char-in-Char g t c =
+    let e = environment_of g.C.Context.finds c.args.scope.now in
+    let xs = g.S.Source.tree c.loop-part.here in
+    let residual = c.from_residual-in_err-put_char-in-Char in
+    let err = err_from_is_err_and residual.result residual.ensures.1 in
+    let first = rw c.in-Char.is at c.in-Some.ensures.next in
+    rw (err.1, err.2) (record {
+      writes =
+          goes_on _ _ _ _ _ _ _ c.loop-part.invariant.so_far c.loop-part.invariant.same
+          (first_fault g.C.Object.Value.shows _ e _ _ xs _
+          (text_first g.C.Object.Value.shows _ e _ _ _ _ xs _ _ first
+          c.in_err-put_char-in-Char.ensures.writes));
+    })
+
+pub write_source-loop-part-preserved-in_ok-put_char-in-Char :
+    goal.write_source-loop-part-preserved-in_ok-put_char-in-Char
+write_source-loop-part-preserved-in_ok-put_char-in-Char g t c =
+    let e = environment_of g.C.Context.finds c.args.scope.now in
+    let xs = g.S.Source.tree c.loop-part.here in
+    let first = rw c.in-Char.is at c.in-Some.ensures.next in
+    let o = c.in_ok-put_char-in-Char.ensures.writes in
+    record {
+      within = omega (arith, rest_smaller xs _ _ first.first, c.loop-part.invariant.within);
+      so_far = λ new answer k. c.loop-part.invariant.so_far new answer
+          (first_runs g.C.Object.Value.shows _ e _ _ xs _ _ new answer first.first
+          (text_first g.C.Object.Value.shows _ e _ _ _ _ xs _ _ first o) k);
+      same = same_then _ _ _ c.loop-part.invariant.same o.same;
+    }
+
+pub write_source-returns-in_err-write_alone-in-Name :
+    goal.write_source-returns-in_err-write_alone-in-Name
+write_source-returns-in_err-write_alone-in-Name g t c =
+    let e = environment_of g.C.Context.finds c.args.scope.now in
+    let xs = g.S.Source.tree c.loop-part.here in
+    let residual = c.from_residual-in_err-write_alone-in-Name in
+    let err = err_from_is_err_and residual.result residual.ensures.1 in
+    let first = rw c.in-Name.is at c.in-Some.ensures.next in
+    rw (err.1, err.2) (record {
+      writes =
+          goes_on _ _ _ _ _ _ _ c.loop-part.invariant.so_far c.loop-part.invariant.same
+          (first_fault g.C.Object.Value.shows _ e _ _ xs _
+          (name_first g.C.Object.Value.shows _ e _ _ _ _ _ xs _ _ first
+          c.in_err-write_alone-in-Name.ensures.writes));
+    })
+
+pub write_source-loop-part-preserved-in_ok-write_alone-in-Name :
+    goal.write_source-loop-part-preserved-in_ok-write_alone-in-Name
+write_source-loop-part-preserved-in_ok-write_alone-in-Name g t c =
+    let e = environment_of g.C.Context.finds c.args.scope.now in
+    let xs = g.S.Source.tree c.loop-part.here in
+    let first = rw c.in-Name.is at c.in-Some.ensures.next in
+    let o = c.in_ok-write_alone-in-Name.ensures.writes in
+    record {
+      within = omega (arith, rest_smaller xs _ _ first.0.first, c.loop-part.invariant.within);
+      so_far = λ new answer k. c.loop-part.invariant.so_far new answer
+          (first_runs g.C.Object.Value.shows _ e _ _ xs _ _ new answer first.0.first
+          (name_first g.C.Object.Value.shows _ e _ _ _ _ _ xs _ _ first o) k);
+      same = same_then _ _ _ c.loop-part.invariant.same o.same;
+    }
+
+pub write_source-returns-in_err-here-in-Argument : goal.write_source-returns-in_err-here-in-Argument
+write_source-returns-in_err-here-in-Argument g t c =
+    let e = environment_of g.C.Context.finds c.args.scope.now in
+    let xs = g.S.Source.tree c.loop-part.here in
     let residual = c.from_residual-in_err-here-in-Argument in
     let err = err_from_is_err_and residual.result residual.ensures.1 in
+    let next = rw c.in-Argument.is at c.in-Some.ensures.next in
     rw (err.1, err.2) (record {
       writes =
-          goes_on _ _ _ _ _ _ _ c.loop-token.invariant.so_far c.loop-token.invariant.same
-          (fault_writes _ _ _ (at c.loop-token.here) (argument, at c.in-Some.rest) _ _ _
-          (rw c.in-Argument.is at (sym c.in-Some.ensures.token))
-          c.in_err-here-in-Argument.ensures.writes);
+          goes_on _ _ _ _ _ _ _ c.loop-part.invariant.so_far c.loop-part.invariant.same
+          (first_fault g.C.Object.Value.shows _ e _ _ xs _
+          (rw (← next.0) at c.in_err-here-in-Argument.ensures.writes));
     })
 
-pub write_text-loop-token-smaller-in_ok-put_run-in-Literals :
-    goal.write_text-loop-token-smaller-in_ok-put_run-in-Literals
-write_text-loop-token-smaller-in_ok-put_run-in-Literals g t c =
-    token_shorter (at c.loop-token.here) _ (sym c.in-Some.ensures.token)
-
-pub write_text-loop-token-preserved-in_ok-put_run-in-Literals :
-    goal.write_text-loop-token-preserved-in_ok-put_run-in-Literals
-write_text-loop-token-preserved-in_ok-put_run-in-Literals g t c =
-    let here = at c.loop-token.here in
-    let rest = at c.in-Some.rest in
-    let o = c.in_ok-put_run-in-Literals.ensures.writes in
-    let shorter = token_shorter here _ (sym c.in-Some.ensures.token) in
+pub write_source-loop-part-preserved : goal.write_source-loop-part-preserved
+write_source-loop-part-preserved g t c =
+    let e = environment_of g.C.Context.finds c.args.scope.now in
+    let xs = g.S.Source.tree c.loop-part.here in
+    let next = rw c.in-Argument.is at c.in-Some.ensures.next in
+    let rest = c.in_ok-here-in-Argument.ensures.rest in
+    let whole = next.0 ∙ rest.1 in
+    let o = rw (← next.0) at c.in_ok-here-in-Argument.ensures.writes in
     record {
-      shorter = omega (arith, shorter, c.loop-token.invariant.shorter);
-      so_far = λ new answer k. c.loop-token.invariant.so_far new answer
-          (step_runs _ _ _ here (literals (chars c.in-Literals.run'.now), rest) rest _ _ _ _
-          (rw c.in-Literals.is at (sym c.in-Some.ensures.token)) refl o k);
-      same = same_then _ _ _ c.loop-token.invariant.same o.same;
+      within = omega (arith, rest_smaller xs _ rest.0 whole, c.loop-part.invariant.within);
+      so_far = λ new answer k. c.loop-part.invariant.so_far new answer
+          (first_runs g.C.Object.Value.shows _ e _ _ xs _ rest.0 new answer whole o k);
+      same = same_then _ _ _ c.loop-part.invariant.same o.same;
     }
 
-pub write_text-loop-token-smaller : goal.write_text-loop-token-smaller
-write_text-loop-token-smaller g t c =
-    scan_shorter (at c.loop-token.here) _ (argument, at c.in-Some.rest)
-    (rw c.in-Argument.is at (sym c.in-Some.ensures.token))
-    c.in_ok-here-in-Argument.ensures.rest
-
-pub write_text-loop-token-preserved : goal.write_text-loop-token-preserved
-write_text-loop-token-preserved g t c =
-    let here = at c.loop-token.here in
-    let o = c.in_ok-here-in-Argument.ensures.writes in
-    let token : first_token here ≡ Some (argument, at c.in-Some.rest) =
-    rw c.in-Argument.is at (sym c.in-Some.ensures.token) in
-    let shorter = scan_shorter here (at c.in_ok-here-in-Argument.here) (argument, at c.in-Some.rest)
-    token c.in_ok-here-in-Argument.ensures.rest in
-    record {
-      shorter = omega (arith, shorter, c.loop-token.invariant.shorter);
-      so_far = λ new answer k. c.loop-token.invariant.so_far new answer
-          (step_runs _ _ _ here (argument, at c.in-Some.rest) (at c.in_ok-here-in-Argument.here)
-          _ _ _ _ token c.in_ok-here-in-Argument.ensures.rest o k);
-      same = same_then _ _ _ c.loop-token.invariant.same o.same;
-    }
-
-pub write_text-returns : goal.write_text-returns
-write_text-returns g t c =
+pub write_source-returns : goal.write_source-returns
+write_source-returns g t c =
+    let e = environment_of g.C.Context.finds c.args.scope.now in
+    let xs = g.S.Source.tree c.loop-part.here in
     record {
       writes =
-          goes_on _ _ _ _ _ _ _ c.loop-token.invariant.so_far c.loop-token.invariant.same
-          (end_writes _ _ _
-          (at c.loop-token.here) _ (sym c.in_default.ensures.token));
+          goes_on _ _ _ _ _ _ _ c.loop-part.invariant.so_far c.loop-part.invariant.same
+          (pieces_end g.C.Object.Value.shows _ e xs _ c.in_default.ensures.next);
+    }
+
+-- ---- an argument
+
+pub write_argument-returns-in-Err-clause-writes : goal.write_argument-returns-in-Err-clause-writes
+write_argument-returns-in-Err-clause-writes g t c =
+    let e = environment_of g.C.Context.finds c.args.scope.now in
+    rw c.from.ensures
+    (broken_first g.C.Object.Value.shows _ e _ _ _ (c.in-Err.ensures (chars c.args.name.now)))
+
+pub write_argument-write_asked-requires : goal.write_argument-write_asked-requires
+write_argument-write_asked-requires g t c =
+    let smaller = groups_smaller _ _ _ _ _ _ (c.in-Ok.ensures (chars c.args.name.now)) in
+    search (rules, smaller)
+
+pub write_argument-returns-in_err-write_asked-clause-writes :
+    goal.write_argument-returns-in_err-write_asked-clause-writes
+write_argument-returns-in_err-write_asked-clause-writes g t c =
+    let e = environment_of g.C.Context.finds c.args.scope.now in
+    let asks = c.in-Ok.ensures (chars c.args.name.now) in
+    let err = err_from_is_err_and c.from_residual.result c.from_residual.ensures.1 in
+    let o = rw c.end-end.ensures at c.in_err-write_asked.ensures.writes in
+    rw (err.1, err.2) (value_fault g.C.Object.Value.shows _ e _ _ _ _ _ _ asks _ _ _ o)
+
+pub write_argument-returns-in-Some-clause-writes : goal.write_argument-returns-in-Some-clause-writes
+write_argument-returns-in-Some-clause-writes g t c =
+    let e = environment_of g.C.Context.finds c.args.scope.now in
+    let asks = c.in-Ok.ensures (chars c.args.name.now) in
+    let o = rw c.end-end.ensures at c.in_ok-write_asked.ensures.writes in
+    closed_first g.C.Object.Value.shows _ e _ _ _ _ _ _ asks _ _ _ (sym c.in-Some.ensures) o
+
+pub write_argument-returns-in-Some-clause-rest : goal.write_argument-returns-in-Some-clause-rest
+write_argument-returns-in-Some-clause-rest g t c =
+    let asks = c.in-Ok.ensures (chars c.args.name.now) in
+    (_, closed_rest _ _ _ _ _ _ asks _ (sym c.in-Some.ensures))
+
+pub write_argument-returns-clause-writes : goal.write_argument-returns-clause-writes
+write_argument-returns-clause-writes g t c =
+    let e = environment_of g.C.Context.finds c.args.scope.now in
+    let asks = c.in-Ok.ensures (chars c.args.name.now) in
+    let o = rw c.end-end.ensures at c.in_ok-write_asked.ensures.writes in
+    rw c.end-end.ensures
+    (unclosed_first g.C.Object.Value.shows _ e _ _ _ _ _ _ asks _ _ (sym c.in-None.ensures) o)
+
+-- ---- a list
+
+pub write_list-returns-in_err-items : goal.write_list-returns-in_err-items
+write_list-returns-in_err-items g t c =
+    let x = g.S.Source.asks c.args.asked.now in
+    let list : x.slot ≡ traits.Iter = search rules in
+    let e = environment_of g.C.Context.finds c.args.scope.now in
+    let join = join_branch_means g.C.Object.Value.shows e x.join in
+    let item = item_branch_means g.C.Object.Value.shows e x.item c.args.end in
+    let err = err_from_is_err_and c.from_residual.result c.from_residual.ensures.1 in
+    let chosen = rw (c.range.ensures, c.spec-spec.ensures) at c.in_err-items.ensures.chosen in
+    rw (err.1, err.2) (record {
+      writes =
+          list_asked_writes g.C.Object.Value.shows _ e _ _ x _ _ _ _ list
+          (not_chosen_writes e (chars c.args.name.now) c.args.start x.range x.spec c.args.end
+          g.W.TextWrite.written join item _ _ chosen);
+    })
+
+pub write_list-returns-then-is_some : goal.write_list-returns-then-is_some
+write_list-returns-then-is_some g t c =
+    let x = g.S.Source.asks c.args.asked.now in
+    let list : x.slot ≡ traits.Iter = search rules in
+    let e = environment_of g.C.Context.finds c.args.scope.now in
+    let join = join_branch_means g.C.Object.Value.shows e x.join in
+    let item = item_branch_means g.C.Object.Value.shows e x.item c.args.end in
+    let chosen = rw (c.range.ensures, c.spec-spec.ensures) at c.in_ok-items.ensures.chosen in
+    record {
+      writes =
+          list_asked_writes g.C.Object.Value.shows _ e _ _ x _ _ _ _ list
+          (chosen_writes e (chars c.args.name.now) c.args.start x.range x.spec c.args.end
+          g.W.TextWrite.written join item _ _ _ _ chosen true (search rules)
+          c.write_padded_list.ensures.writes);
+    }
+
+pub write_list-returns-else-is_some : goal.write_list-returns-else-is_some
+write_list-returns-else-is_some g t c =
+    let x = g.S.Source.asks c.args.asked.now in
+    let list : x.slot ≡ traits.Iter = search rules in
+    let e = environment_of g.C.Context.finds c.args.scope.now in
+    let join = join_branch_means g.C.Object.Value.shows e x.join in
+    let item = item_branch_means g.C.Object.Value.shows e x.item c.args.end in
+    let chosen = rw (c.range.ensures, c.spec-spec.ensures) at c.in_ok-items.ensures.chosen in
+    record {
+      writes =
+          list_asked_writes g.C.Object.Value.shows _ e _ _ x _ _ _ _ list
+          (chosen_writes e (chars c.args.name.now) c.args.start x.range x.spec c.args.end
+          g.W.TextWrite.written join item _ _ _ _ chosen false (search rules)
+          c.write_items.ensures.writes);
     }
 
 pub write_padded_list-returns-then-refused : goal.write_padded_list-returns-then-refused
 write_padded_list-returns-then-refused g t c =
-    let shows = g.C.Object.Value.shows in
+    let x = g.S.Source.asks c.args.asked.now in
     let e = environment_of g.C.Context.finds c.args.scope.now in
-    let all = chosen_means shows (means shows) e (list_of c.args.form.now) c.args.end
-    (map slots_of c.args.items.now) in
+    let all = asked_items_mean g.C.Object.Value.shows e x c.args.end (map slots_of c.args.items.now) in
     record {
       writes = record {
-        outcome = whole_refused c.args.spec.now c.args.end all _;
+        outcome = whole_refused x.spec c.args.end all _;
         same = same_end c.args.sink.now;
       };
     }
@@ -126,15 +261,14 @@ write_padded_list-returns-then-refused g t c =
 pub write_padded_list-returns-in_err-answer-in-Aside :
     goal.write_padded_list-returns-in_err-answer-in-Aside
 write_padded_list-returns-in_err-answer-in-Aside g t c =
-    let shows = g.C.Object.Value.shows in
+    let x = g.S.Source.asks c.args.asked.now in
     let e = environment_of g.C.Context.finds c.args.scope.now in
-    let all = chosen_means shows (means shows) e (list_of c.args.form.now) c.args.end
-    (map slots_of c.args.items.now) in
+    let all = asked_items_mean g.C.Object.Value.shows e x c.args.end (map slots_of c.args.items.now) in
     let err = err_from_is_err_and c.from_residual.result c.from_residual.ensures.1 in
     rw (err.1, err.2) (record {
       writes = record {
         outcome =
-            whole_fault c.args.spec.now c.args.end all _ _ _ _ (search rules)
+            whole_fault x.spec c.args.end all _ _ _ _ (search rules)
             (rw c.in-Aside.is at c.in_err-answer-in-Aside.ensures.writes.outcome);
         same = same_end c.args.sink.now;
       };
@@ -142,247 +276,83 @@ write_padded_list-returns-in_err-answer-in-Aside g t c =
 
 pub write_items-returns-in_err-write_item : goal.write_items-returns-in_err-write_item
 write_items-returns-in_err-write_item g t c =
-    let err = err_from_is_err_and c.from_residual.result c.from_residual.ensures.1 in
+    let x = g.S.Source.asks c.args.asked.now in
     let e = environment_of g.C.Context.finds c.args.scope.now in
-    let asked = list_of c.args.form.now in
+    let join = join_branch_means g.C.Object.Value.shows e x.join in
+    let item = item_branch_means g.C.Object.Value.shows e x.item c.args.end in
+    let err = err_from_is_err_and c.from_residual.result c.from_residual.ensures.1 in
     rw (err.1, err.2) (record {
       writes =
-          first_fault g.C.Object.Value.shows _ e asked c.args.end slots_of c.args.items.now
-          c.in-Some.first.now c.in-Some.rest.now _ _ (search rules) _
-          c.in_err-write_item.ensures.writes;
+          items_first_fault _ join item slots_of c.args.items.now c.in-Some.first.now
+          c.in-Some.rest.now _ _ (search rules) _ c.in_err-write_item.ensures.writes;
     })
 
 pub write_items-loop-item-init : goal.write_items-loop-item-init
 write_items-loop-item-init g t c =
+    let x = g.S.Source.asks c.args.asked.now in
+    let e = environment_of g.C.Context.finds c.args.scope.now in
+    let join = join_branch_means g.C.Object.Value.shows e x.join in
+    let item = item_branch_means g.C.Object.Value.shows e x.item c.args.end in
     let o = c.in_ok-write_item.ensures.writes in
     record {
-      so_far = λ new answer k. first_runs _ _ _ (list_of c.args.form.now) c.args.end slots_of
-          c.args.items.now c.in-Some.first.now c.in-Some.rest.now _ _ (search rules) _ _ o k;
+      so_far = λ new answer k. items_first_runs _ join item slots_of c.args.items.now
+          c.in-Some.first.now c.in-Some.rest.now _ _ (search rules) _ _ o k;
       same = o.same;
     }
 
 pub write_items-returns-in_err-write_join : goal.write_items-returns-in_err-write_join
 write_items-returns-in_err-write_join g t c =
+    let x = g.S.Source.asks c.args.asked.now in
+    let e = environment_of g.C.Context.finds c.args.scope.now in
+    let join = join_branch_means g.C.Object.Value.shows e x.join in
+    let item = item_branch_means g.C.Object.Value.shows e x.item c.args.end in
     let residual = c.from_residual-in_err-write_join in
     let err = err_from_is_err_and residual.result residual.ensures.1 in
     rw (err.1, err.2) (record {
       writes =
           goes_on _ _ _ _ _ _ _ c.loop-item.invariant.so_far c.loop-item.invariant.same
-          (join_fault _ _ _ (list_of c.args.form.now) c.args.end slots_of c.in-Some.rest.now _
-          _ c.loop-item-test.true c.item-item.is _ _ _ c.in_err-write_join.ensures.writes);
+          (join_fault _ join item slots_of c.in-Some.rest.now _ _ c.loop-item-test.true c.item-item.is _
+          _ _ c.in_err-write_join.ensures.writes);
     })
 
 pub write_items-returns-in_err-write_item-2 : goal.write_items-returns-in_err-write_item-2
 write_items-returns-in_err-write_item-2 g t c =
+    let x = g.S.Source.asks c.args.asked.now in
+    let e = environment_of g.C.Context.finds c.args.scope.now in
+    let join = join_branch_means g.C.Object.Value.shows e x.join in
+    let item = item_branch_means g.C.Object.Value.shows e x.item c.args.end in
     let residual = c.from_residual-in_err-write_item-2 in
     let err = err_from_is_err_and residual.result residual.ensures.1 in
     rw (err.1, err.2) (record {
       writes =
           goes_on _ _ _ _ _ _ _ c.loop-item.invariant.so_far c.loop-item.invariant.same
-          (item_fault _ _ _ (list_of c.args.form.now) c.args.end slots_of c.in-Some.rest.now _
-          _ c.loop-item-test.true c.item-item.is _ _ _ _ c.in_ok-write_join.ensures.writes
-          c.in_err-write_item-2.ensures.writes);
+          (item_fault _ join item slots_of c.in-Some.rest.now _ _ c.loop-item-test.true c.item-item.is _
+          _ _ _ c.in_ok-write_join.ensures.writes c.in_err-write_item-2.ensures.writes);
     })
 
 pub write_items-loop-item-preserved : goal.write_items-loop-item-preserved
 write_items-loop-item-preserved g t c =
+    let x = g.S.Source.asks c.args.asked.now in
+    let e = environment_of g.C.Context.finds c.args.scope.now in
+    let join = join_branch_means g.C.Object.Value.shows e x.join in
+    let item = item_branch_means g.C.Object.Value.shows e x.item c.args.end in
     let before = c.in_ok-write_join.ensures.writes in
     let o = c.in_ok-write_item-2.ensures.writes in
     record {
       so_far = λ new answer k. c.loop-item.invariant.so_far new answer
-          (item_runs _ _ _ (list_of c.args.form.now) c.args.end slots_of c.in-Some.rest.now _ _
-          c.loop-item-test.true c.item-item.is _ _ _ _ _ before o k);
+          (item_runs _ join item slots_of c.in-Some.rest.now _ _ c.loop-item-test.true c.item-item.is _
+          _ _ _ _ before o k);
       same = same_then _ _ _ c.loop-item.invariant.same (same_then _ _ _ before.same o.same);
     }
 
 pub write_items-returns : goal.write_items-returns
 write_items-returns g t c =
+    let x = g.S.Source.asks c.args.asked.now in
+    let e = environment_of g.C.Context.finds c.args.scope.now in
+    let join = join_branch_means g.C.Object.Value.shows e x.join in
+    let item = item_branch_means g.C.Object.Value.shows e x.item c.args.end in
     record {
       writes =
           goes_on _ _ _ _ _ _ _ c.loop-item.invariant.so_far c.loop-item.invariant.same
-          (items_end _ _ _ (list_of c.args.form.now) c.args.end slots_of c.in-Some.rest.now _ _
-          c.loop-item-test.false);
-    }
-
-pub write_text-returns-in_err-put_char-in-Doubled : goal.write_text-returns-in_err-put_char-in-Doubled
-write_text-returns-in_err-put_char-in-Doubled g t c =
-    let residual = c.from_residual-in_err-put_char-in-Doubled in
-    let err = err_from_is_err_and residual.result residual.ensures.1 in
-    rw (err.1, err.2) (record {
-      writes =
-          goes_on _ _ _ _ _ _ _ c.loop-token.invariant.so_far c.loop-token.invariant.same
-          (fault_writes _ _ _ (at c.loop-token.here) (doubled c.in-Doubled.brace, at c.in-Some.rest) _ _
-          _ (rw c.in-Doubled.is at (sym c.in-Some.ensures.token))
-          c.in_err-put_char-in-Doubled.ensures.writes);
-    })
-
-pub write_text-loop-token-smaller-in_ok-put_char-in-Doubled :
-    goal.write_text-loop-token-smaller-in_ok-put_char-in-Doubled
-write_text-loop-token-smaller-in_ok-put_char-in-Doubled g t c =
-    token_shorter (at c.loop-token.here) _ (sym c.in-Some.ensures.token)
-
-pub write_text-loop-token-preserved-in_ok-put_char-in-Doubled :
-    goal.write_text-loop-token-preserved-in_ok-put_char-in-Doubled
-write_text-loop-token-preserved-in_ok-put_char-in-Doubled g t c =
-    let here = at c.loop-token.here in
-    let rest = at c.in-Some.rest in
-    let o = c.in_ok-put_char-in-Doubled.ensures.writes in
-    let shorter = token_shorter here _ (sym c.in-Some.ensures.token) in
-    record {
-      shorter = omega (arith, shorter, c.loop-token.invariant.shorter);
-      so_far = λ new answer k. c.loop-token.invariant.so_far new answer
-          (step_runs _ _ _ here (doubled c.in-Doubled.brace, rest) rest _ _ _ _
-          (rw c.in-Doubled.is at (sym c.in-Some.ensures.token)) refl o k);
-      same = same_then _ _ _ c.loop-token.invariant.same o.same;
-    }
-
-pub write_text-returns-in_err-put_char-in-LoneClose : goal.write_text-returns-in_err-put_char-in-LoneClose
-write_text-returns-in_err-put_char-in-LoneClose g t c =
-    let residual = c.from_residual-in_err-put_char-in-LoneClose in
-    let err = err_from_is_err_and residual.result residual.ensures.1 in
-    rw (err.1, err.2) (record {
-      writes =
-          goes_on _ _ _ _ _ _ _ c.loop-token.invariant.so_far c.loop-token.invariant.same
-          (fault_writes _ _ _ (at c.loop-token.here) (lone_close, at c.in-Some.rest) _ _
-          _ (rw c.in-LoneClose.is at (sym c.in-Some.ensures.token))
-          c.in_err-put_char-in-LoneClose.ensures.writes);
-    })
-
-pub write_text-loop-token-smaller-in_ok-put_char-in-LoneClose :
-    goal.write_text-loop-token-smaller-in_ok-put_char-in-LoneClose
-write_text-loop-token-smaller-in_ok-put_char-in-LoneClose g t c =
-    token_shorter (at c.loop-token.here) _ (sym c.in-Some.ensures.token)
-
-pub write_text-loop-token-preserved-in_ok-put_char-in-LoneClose :
-    goal.write_text-loop-token-preserved-in_ok-put_char-in-LoneClose
-write_text-loop-token-preserved-in_ok-put_char-in-LoneClose g t c =
-    let here = at c.loop-token.here in
-    let rest = at c.in-Some.rest in
-    let o = c.in_ok-put_char-in-LoneClose.ensures.writes in
-    let shorter = token_shorter here _ (sym c.in-Some.ensures.token) in
-    record {
-      shorter = omega (arith, shorter, c.loop-token.invariant.shorter);
-      so_far = λ new answer k. c.loop-token.invariant.so_far new answer
-          (step_runs _ _ _ here (lone_close, rest) rest _ _ _ _
-          (rw c.in-LoneClose.is at (sym c.in-Some.ensures.token)) refl o k);
-      same = same_then _ _ _ c.loop-token.invariant.same o.same;
-    }
-
-pub write_asked-returns-in-Err-clause-writes : goal.write_asked-returns-in-Err-clause-writes
-write_asked-returns-in-Err-clause-writes g t c =
-    let e = environment_of g.C.Context.finds c.args.scope.now in
-    let read = asked_broken (at c.args.here) c.args.named c.requires.named _ c.in-Err.ensures in
-    rw c.from.ensures
-    (broken_writes g.C.Object.Value.shows _ e (at c.args.here) _ _ read)
-
-pub write_asked-write_named-requires : goal.write_asked-write_named-requires
-write_asked-write_named-requires g t c =
-    let read = asked_ok (at c.args.here) c.args.named c.requires.named _ _ c.in-Ok.ensures in
-    let within : kind_size (kind_of_request c.take_request.new.asked) ≤ length (chars c.args.here.rest.now) =
-    groups_within (at c.args.here) _ _ read in
-    search rules
-
-pub write_asked-returns-in_err-write_named-clause-writes :
-    goal.write_asked-returns-in_err-write_named-clause-writes
-write_asked-returns-in_err-write_named-clause-writes g t c =
-    let e = environment_of g.C.Context.finds c.args.scope.now in
-    let read = asked_ok (at c.args.here) c.args.named c.requires.named _ _ c.in-Ok.ensures in
-    let err = err_from_is_err_and c.from_residual.result c.from_residual.ensures.1 in
-    rw (err.1, err.2) (value_fault_writes g.C.Object.Value.shows _ e (at c.args.here) _ _
-    read _ _ _ c.in_err-write_named.ensures.writes)
-
-pub write_asked-returns-in-Some-clause-writes : goal.write_asked-returns-in-Some-clause-writes
-write_asked-returns-in-Some-clause-writes g t c =
-    let e = environment_of g.C.Context.finds c.args.scope.now in
-    let read = asked_ok (at c.args.here) c.args.named c.requires.named _ _ c.in-Ok.ensures in
-    closed_writes g.C.Object.Value.shows _ e (at c.args.here) _ _ read _ _ _
-    (sym c.in-Some.ensures) c.in_ok-write_named.ensures.writes
-
-pub write_asked-returns-in-Some-clause-rest : goal.write_asked-returns-in-Some-clause-rest
-write_asked-returns-in-Some-clause-rest g t c =
-    let read = asked_ok (at c.args.here) c.args.named c.requires.named _ _ c.in-Ok.ensures in
-    sym (closed_rest (at c.args.here) _ _ _ read (sym c.in-Some.ensures))
-
-pub write_asked-returns-in-None-clause-writes : goal.write_asked-returns-in-None-clause-writes
-write_asked-returns-in-None-clause-writes g t c =
-    let e = environment_of g.C.Context.finds c.args.scope.now in
-    let read = asked_ok (at c.args.here) c.args.named c.requires.named _ _ c.in-Ok.ensures in
-    unclosed_writes g.C.Object.Value.shows _ e (at c.args.here) _ _ read _ _
-    (sym c.in-None.ensures) c.in_ok-write_named.ensures.writes
-
-pub write_argument-returns-in_err-write_alone-in-Some-clause-writes :
-    goal.write_argument-returns-in_err-write_alone-in-Some-clause-writes
-write_argument-returns-in_err-write_alone-in-Some-clause-writes g t c =
-    let e = environment_of g.C.Context.finds c.args.scope.now in
-    let err = err_from_is_err_and c.from_residual.result c.from_residual.ensures.1 in
-    rw (err.1, err.2) (value_fault_writes g.C.Object.Value.shows _ e (at c.args.here)
-    (plain_argument c.take_name-named.result) (at c.take_name-named.result.end)
-    (read_alone (at c.args.here) c.take_name-named.result _ c.take_name-named.ensures.read
-    (sym c.in-Some.ensures)) _ _ _ c.in_err-write_alone-in-Some.ensures.writes)
-
-pub write_argument-returns-in_ok-write_alone-in-Some-clause-writes :
-    goal.write_argument-returns-in_ok-write_alone-in-Some-clause-writes
-write_argument-returns-in_ok-write_alone-in-Some-clause-writes g t c =
-    let e = environment_of g.C.Context.finds c.args.scope.now in
-    closed_writes g.C.Object.Value.shows _ e (at c.args.here)
-    (plain_argument c.take_name-named.result) (at c.take_name-named.result.end)
-    (read_alone (at c.args.here) c.take_name-named.result _ c.take_name-named.ensures.read
-    (sym c.in-Some.ensures)) _ _ _ (sym c.in-Some.ensures)
-    c.in_ok-write_alone-in-Some.ensures.writes
-
-pub write_argument-returns-in_ok-write_alone-in-Some-clause-rest :
-    goal.write_argument-returns-in_ok-write_alone-in-Some-clause-rest
-write_argument-returns-in_ok-write_alone-in-Some-clause-rest g t c =
-    sym (closed_rest (at c.args.here) (plain_argument c.take_name-named.result)
-    (at c.take_name-named.result.end) _
-    (read_alone (at c.args.here) c.take_name-named.result _ c.take_name-named.ensures.read
-    (sym c.in-Some.ensures)) (sym c.in-Some.ensures))
-
-pub write_named-returns-in_default : goal.write_named-returns-in_default
-write_named-returns-in_default g t c =
-    let asked = c.args.asked.now in
-    let value = value_asked asked.slot (list_of asked.list) c.in_default.not-Iter in
-    rw value (record { writes = c.write_value.ensures.writes })
-
-pub write_list-returns-in_err-items : goal.write_list-returns-in_err-items
-write_list-returns-in_err-items g t c =
-    let shows = g.C.Object.Value.shows in
-    let e = environment_of g.C.Context.finds c.args.scope.now in
-    let form = list_of c.args.asked.now.list in
-    let err = err_from_is_err_and c.from_residual.result c.from_residual.ensures.1 in
-    rw (err.1, err.2) (record {
-      writes =
-          not_chosen_writes e (chars c.args.named.name.now) c.args.start form.range
-          c.args.asked.now.spec c.args.end g.W.TextWrite.written
-          (join_means shows (means shows) e form.join)
-          (item_means shows (means shows) e c.args.end form.item) _ _
-          c.in_err-items.ensures.chosen;
-    })
-
-pub write_list-returns-then-is_some : goal.write_list-returns-then-is_some
-write_list-returns-then-is_some g t c =
-    let shows = g.C.Object.Value.shows in
-    let e = environment_of g.C.Context.finds c.args.scope.now in
-    let form = list_of c.args.asked.now.list in
-    record {
-      writes =
-          chosen_writes e (chars c.args.named.name.now) c.args.start form.range
-          c.args.asked.now.spec c.args.end g.W.TextWrite.written
-          (join_means shows (means shows) e form.join)
-          (item_means shows (means shows) e c.args.end form.item) _ _ _ _
-          c.in_ok-items.ensures.chosen true (search rules) c.write_padded_list.ensures.writes;
-    }
-
-pub write_list-returns-else-is_some : goal.write_list-returns-else-is_some
-write_list-returns-else-is_some g t c =
-    let shows = g.C.Object.Value.shows in
-    let e = environment_of g.C.Context.finds c.args.scope.now in
-    let form = list_of c.args.asked.now.list in
-    record {
-      writes =
-          chosen_writes e (chars c.args.named.name.now) c.args.start form.range
-          c.args.asked.now.spec c.args.end g.W.TextWrite.written
-          (join_means shows (means shows) e form.join)
-          (item_means shows (means shows) e c.args.end form.item) _ _ _ _
-          c.in_ok-items.ensures.chosen false (search rules) c.write_items.ensures.writes;
+          (items_end _ join item slots_of c.in-Some.rest.now _ _ c.loop-item-test.false);
     }

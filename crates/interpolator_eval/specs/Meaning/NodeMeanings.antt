@@ -1,5 +1,5 @@
--- What the pieces of a format mean that was read once.
-use Rattle.std.specs.Prelude.{ℕ, Some, None, codes}
+-- What the pieces of a format mean.
+use Rattle.std.specs.Prelude.{ℕ, List, Some, None, codes}
 use Rattle.interpolator_render.specs.declared.view.Trait.{Trait}
 use Rattle.interpolator_render.specs.declared.view.Trait.TheVariants as traits
 use Rattle.interpolator_render.specs.declared.view.Spec.{Spec}
@@ -11,10 +11,12 @@ use Rattle.interpolator_eval.specs.Slots.{Slots, values_of, items, slot_at}
 use Rattle.interpolator_eval.specs.Meaning.Environments.{Environment, given, bind}
 use Rattle.interpolator_eval.specs.Meaning.Meanings.{Meaning, nothing, text_alone, fault_alone, joined}
 use Rattle.interpolator_eval.specs.Meaning.Meanings.{value_means, listed_means, under_name}
+use Rattle.interpolator_eval.specs.Meaning.Meanings.{items_mean}
 use Rattle.interpolator_syntax.specs.Nodes.{Node, node, Branch, no_branch, branch}
 use Rattle.interpolator_syntax.specs.Nodes.{Forest, no_nodes, nodes_and}
 use Rattle.interpolator_syntax.specs.Nodes.{Held, written, valued, refused}
 use Rattle.interpolator_syntax.specs.Nodes.{Bare, bare_value, bare_list}
+use Rattle.interpolator_syntax.specs.Sources.{Asking, bare_under}
 use Rattle.interpolator_syntax.specs.declared.piece_kind.PieceKind.{PieceKind}
 use Rattle.interpolator_syntax.specs.declared.piece_kind.PieceKind.TheVariants.{Unclosed}
 
@@ -67,3 +69,22 @@ module _ {X : Type 0} (shows : X → Trait → Spec → Shown) where
     pub forest_means : Environment X → Forest → Meaning
     forest_means e no_nodes = nothing
     forest_means e (nodes_and x xs) = joined (node_means e x) (forest_means e xs)
+
+  -- the first of the pieces
+  abbrev pub first_means : Environment X → Forest → Meaning
+  first_means e no_nodes = nothing
+  first_means e (nodes_and x xs) = node_means e x
+
+  module _ (e : Environment X) where
+    -- what is asked of a name, in an argument that begins at `start` and whose spec ends at `end`
+    abbrev pub asking_means : (start : ℕ) → (name : List ℕ) → Asking → (end : ℕ) → Meaning
+    asking_means start name x end =
+        under_name name start
+        (bare_means (bare_under x.slot x.range) x.spec end (join_branch_means e x.join)
+        (item_branch_means e x.item end))
+        (given e name)
+
+    -- chosen items of a list, and the join between two of them
+    abbrev pub asked_items_mean : Asking → (end : ℕ) → List (Slots X) → Meaning
+    asked_items_mean x end chosen =
+        items_mean (join_branch_means e x.join) (item_branch_means e x.item end) chosen

@@ -21,8 +21,8 @@ use Rattle.interpolator_eval.specs.Meaning.Meanings.{piece_means, token_means, m
 use Rattle.interpolator_syntax.specs.Nodes.{Node, as_forest, group_branch, item_branch}
 use Rattle.interpolator_syntax.specs.Nodes.{join_branch}
 use Rattle.interpolator_syntax.specs.Nodes.{bare_of, piece_node, token_node, nodes}
-use Rattle.interpolator.specs.Template.NodeMeanings.{bare_means, node_means, join_branch_means}
-use Rattle.interpolator.specs.Template.NodeMeanings.{item_branch_means, forest_means}
+use Rattle.interpolator_eval.specs.Meaning.NodeMeanings.{bare_means, node_means, join_branch_means}
+use Rattle.interpolator_eval.specs.Meaning.NodeMeanings.{item_branch_means, forest_means}
 use Rattle.interpolator_syntax.proofs.TokenLemmas.{token_shorter, scan_shorter}
 use Rattle.interpolator_eval.proofs.MeaningLemmas.MeaningLemmas.{means_first, means_end, joined_none}
 use Rattle.interpolator_eval.proofs.MeaningLemmas.MeaningLemmas.{joined_assoc}
