@@ -1,5 +1,5 @@
 -- The parts of a text that is read on are its pieces.
-use Rattle.std.proofs.Common.{◌≡◌, ◌∙◌, refl, subst, arith, ℕ, ◌+◌, ◌-◌, List, [], ◌∷◌, Option, Some}
+use Rattle.std.proofs.Common.{◌≡◌, ◌∙◌, refl, ap, subst, arith, ℕ, ◌+◌, ◌-◌, List, [], ◌∷◌, Option, Some}
 use Rattle.std.proofs.Common.{None, Result, Ok, Err, option_map}
 use Rattle.interpolator_render.specs.declared.view.Trait.{Trait}
 use Rattle.interpolator_render.specs.declared.view.Trait.TheVariants as traits
@@ -10,12 +10,14 @@ use Rattle.interpolator_syntax.specs.Arguments.{plain_argument, named_argument, 
 use Rattle.interpolator_syntax.specs.Arguments.{kind_under, list_of}
 use Rattle.interpolator_syntax.specs.Classes.{open_brace, close_brace, in_class}
 use Rattle.interpolator_syntax.specs.Faults.{Fault}
-use Rattle.interpolator_syntax.specs.Nodes.{written, valued, bare_value, bare_of, nodes, no_nodes, no_branch}
+use Rattle.interpolator_syntax.specs.Nodes.{written, valued, bare_value, bare_list, bare_of, nodes, no_nodes, no_branch}
+use Rattle.interpolator_syntax.specs.Nodes.{group_branch, item_branch, join_branch}
 use Rattle.interpolator_syntax.specs.Lists.{ListRequest}
 use Rattle.interpolator_syntax.specs.Pieces.{argument_from}
-use Rattle.interpolator_syntax.specs.SpecTexts.{Request, plain_spec, plain_display}
-use Rattle.interpolator_syntax.specs.Sources.{Holds, HoldsClosed, text_forest, argument_forest}
-use Rattle.interpolator_syntax.specs.Sources.{asked_forest, closing_forest, bare_under, Asks, IsBroken}
+use Rattle.interpolator_syntax.specs.SpecTexts.{Request, plain_spec, plain_display, of_list}
+use Rattle.interpolator_syntax.specs.Sources.{Holds, IsAlone, text_forest, argument_forest}
+use Rattle.interpolator_syntax.specs.Sources.{argument_pieces}
+use Rattle.interpolator_syntax.specs.Sources.{asked_forest, closing_forest, Asks, IsBroken, IsList}
 use Rattle.interpolator_syntax.specs.Sources.{asking_of, after_brace}
 use Rattle.interpolator_syntax.specs.Tokens.{Token, literals, doubled, lone_close, argument, first_token}
 use Rattle.interpolator_syntax.specs.Tokens.{open_scan, close_scan, no_open_scan, literal_scan, scan_by}
@@ -27,7 +29,7 @@ use Rattle.interpolator_syntax.specs.declared.cursor.Cursor.{Cursor}
 use Rattle.interpolator_syntax.specs.declared.piece_kind.PieceKind.TheVariants as kinds
 use Rattle.interpolator_syntax.proofs.LocalityLemmas.{Takes, takes_reaches, takes_then, takes_after}
 use Rattle.interpolator_syntax.proofs.NodeLemmas.{nodes_first, nodes_none}
-use Rattle.interpolator_syntax.proofs.PieceLemmas.{strip_after, read_alone}
+use Rattle.interpolator_syntax.proofs.PieceLemmas.{strip_after}
 use Rattle.interpolator_syntax.proofs.ReaderLemmas.{argument_takes}
 
 -- ---- a text that is written
@@ -126,55 +128,76 @@ broken_last : (b : At) (f : Fault) → argument_at b ≡ Err f → nodes (past_t
 unfolding argument_from
 broken_last b f e = rw (past_token, e) (nothing_after b)
 
-module _ (a b : At) (n : ArgumentName) (h : first_token a ≡ Some (argument, b))
-    (takes : Takes b (at n.end))
+-- the pieces of a text that begins with an argument
+pub argument_next : (a b : At) → first_token a ≡ Some (argument, b) → text_forest a ≡ argument_pieces b
+argument_next a b h = rw (nodes_first a b argument h, begins_before a b h) refl
+
+module _ (b : At) (n : ArgumentName) (takes : Takes b (at n.end))
     (named : argument_at b ≡ argument_after b.place (plain_argument n) (at n.end)) where
   closing_is : (x : Request) (q : At) (o : Option At) → strip close_brace q ≡ o
       → argument_at b ≡ Ok (named_argument n x, q)
-      → text_forest a ≡ closing_forest b.place (chars n.name.now) x q o
+      → argument_pieces b ≡ closing_forest b.place (chars n.name.now) x q o
   unfolding argument_from
   closing_is x q None d e =
       let last = ends_same b q (argument_takes b _ q e) in
-      rw (nodes_first a b argument h, unclosed_last b _ q e d, e, d, last, begins_before a b h) refl
-  closing_is x q (Some rest) d e =
-      rw (nodes_first a b argument h, past_token, e, d, begins_before a b h) refl
+      rw (unclosed_last b _ q e d, e, d, last) refl
+  closing_is x q (Some rest) d e = rw (past_token, e, d) refl
 
   asked_is : (r : Result (Request × At) Fault) → asked_at b.place (at n.end) ≡ r
-      → text_forest a ≡ asked_forest b.place (chars n.name.now) (at n.end) r
+      → argument_pieces b ≡ asked_forest b.place (chars n.name.now) (at n.end) r
   unfolding argument_from
-  asked_is (Ok w) e =
-      closing_is w.0 w.1 (strip close_brace w.1) refl (named ∙ rw e refl)
+  asked_is (Ok w) e = closing_is w.0 w.1 (strip close_brace w.1) refl (named ∙ rw e refl)
   asked_is (Err f) e =
       let last = ends_same b (at n.end) takes in
       let read : argument_at b ≡ Err f = named ∙ rw e refl in
-      rw (nodes_first a b argument h, broken_last b f read, read, last, begins_before a b h) refl
+      rw (broken_last b f read, read, last) refl
 
   -- the pieces from an argument on, by what stands after its name
-  pub argument_next : text_forest a ≡ argument_forest b.place (chars n.name.now) (at n.end)
-  argument_next = asked_is (asked_at b.place (at n.end)) refl
+  pub name_is : argument_pieces b ≡ argument_forest b.place (chars n.name.now) (at n.end)
+  name_is = asked_is (asked_at b.place (at n.end)) refl
 
-  -- a name alone
-  pub name_next : (rest : At) → strip close_brace (at n.end) ≡ Some rest
-      → HoldsClosed
-      (valued b.place (chars n.name.now) plain_spec (bare_value traits.Display) n.end.place)
-      (text_forest a) (text_forest rest)
-  name_next rest d = (
-    record {
-      place = b.place - 1;
-      end = rest.place;
-      kind = kinds.Closed;
-      item = no_branch;
-      join = no_branch;
-      first = closing_is plain_display (at n.end) (Some rest) d (read_alone b n rest named d);
-    },
-    refl,
-  )
+-- a name alone
+pub name_alone : (start : ℕ) (name : List ℕ) (a rest : At) → strip close_brace a ≡ Some rest
+    → IsAlone start name a.place (argument_forest start name a) (text_forest rest)
+name_alone start name a rest d =
+    let asked : asked_at start a ≡ Ok (plain_display, a) = rw d refl in (
+      record {
+        place = start - 1;
+        end = rest.place;
+        kind = kinds.Closed;
+        item = no_branch;
+        join = no_branch;
+        first =
+            ap (asked_forest start name a) asked ∙ ap (closing_forest start name plain_display a) d;
+      },
+      refl,
+    )
 
 -- ---- what is asked of a name
 
-bare_asked : (t : Trait) (l : ListRequest) → bare_of (kind_under t l) ≡ bare_under t l.range
-bare_asked traits.Iter l = refl
-bare_asked t l = refl
+-- under each trait but `Iter` a value
+pub value_bare : (t : Trait) (l : ListRequest) → (t ≡ traits.Iter → ⊥)
+    → bare_of (kind_under t l) ≡ bare_value t
+value_bare traits.Iter l h = absurd (h refl)
+value_bare t l h = refl
+
+module _ (t : Trait) (l : ListRequest) (h : IsList (bare_of (kind_under t l))) where
+  list_kind : kind_under t l ≡ of_list l
+  list_kind = by_trait t h
+    where
+      by_trait : (t : Trait) → IsList (bare_of (kind_under t l)) → kind_under t l ≡ of_list l
+      by_trait traits.Iter h = refl
+      by_trait t h = absurd h
+
+  -- under `Iter` a list, of that range and with those groups
+  pub list_bare : bare_of (kind_under t l) ≡ bare_list l.range
+  list_bare = rw list_kind refl
+
+  pub list_item : item_branch nodes (kind_under t l) ≡ group_branch nodes l.item
+  list_item = rw list_kind refl
+
+  pub list_join : join_branch nodes (kind_under t l) ≡ group_branch nodes l.join
+  list_join = rw list_kind refl
 
 module _ (start : ℕ) (name : List ℕ) (a : At) where
   pub ask_broken : (f : Fault) → Err f ≡ asked_at start a → IsBroken f (argument_forest start name a)
@@ -199,7 +222,7 @@ module _ (start : ℕ) (name : List ℕ) (a : At) where
       last = (all_after (at q)).place;
       kind = kinds.Unclosed;
       rest = no_nodes;
-      first = rw (bare_asked x.slot (list_of x.list)) refl;
+      first = refl;
       closing = refl;
     }
     asks_by (Some rest) d = record {
@@ -207,7 +230,7 @@ module _ (start : ℕ) (name : List ℕ) (a : At) where
       last = rest.place;
       kind = kinds.Closed;
       rest = text_forest rest;
-      first = rw (bare_asked x.slot (list_of x.list)) refl;
+      first = refl;
       closing = refl;
     }
 

@@ -2,39 +2,39 @@
 use Rattle.std.specs.Prelude.{◌≡◌, ◌+◌, ◌-◌, ◌^◌, ◌<◌, ⊤, ℕ, List, [], ◌∷◌, length, Bool, true}
 use Rattle.std.specs.Prelude.{false, if◌then◌else◌, Option, Some, None, option_map, Result, Ok, Err}
 use Rattle.std.specs.Str.{chars}
-use Rattle.interpolator_render.specs.declared.view.Trait.{Trait}
 use Rattle.interpolator_render.specs.declared.view.Trait.TheVariants as traits
 use Rattle.interpolator_render.specs.declared.view.Spec.{Spec}
 use Rattle.interpolator_syntax.specs.At.{At, at, strip, all_after}
 use Rattle.interpolator_syntax.specs.Arguments.{argument, asked_at, kind_of_request}
 use Rattle.interpolator_syntax.specs.Classes.{close_brace}
 use Rattle.interpolator_syntax.specs.Faults.{Fault}
-use Rattle.interpolator_syntax.specs.Nodes.{Bare, bare_value, bare_list, Held, written, valued}
+use Rattle.interpolator_syntax.specs.Nodes.{Bare, bare_value, bare_list, bare_of, Held}
+use Rattle.interpolator_syntax.specs.Nodes.{written, valued}
 use Rattle.interpolator_syntax.specs.Nodes.{refused, node, Branch, no_branch, branch, Forest, no_nodes}
 use Rattle.interpolator_syntax.specs.Nodes.{nodes_and, as_forest, nodes, argument_node, item_branch}
 use Rattle.interpolator_syntax.specs.Nodes.{join_branch}
+use Rattle.interpolator_syntax.specs.Nodes.{token_node}
 use Rattle.interpolator_syntax.specs.SpecTexts.{Request, plain_spec}
+use Rattle.interpolator_syntax.specs.Tokens.{past_token, argument as argument_token}
 use Rattle.interpolator_syntax.specs.declared.argument.Request as code_request
 use Rattle.interpolator_syntax.specs.declared.cursor.Cursor.{Cursor}
 use Rattle.interpolator_syntax.specs.declared.piece_kind.PieceKind.{PieceKind}
 use Rattle.interpolator_syntax.specs.declared.piece_kind.PieceKind.TheVariants.{Closed, Unclosed}
 use Rattle.interpolator_syntax.specs.declared.piece_kind.PieceKind.TheVariants.{Broken}
-use Rattle.interpolator_syntax.specs.declared.range.Range.{Range}
 use Rattle.interpolator_syntax.specs.declared.source.Part.{Part}
 use Rattle.interpolator_syntax.specs.declared.source.Part.TheVariants as parts
 
 -- what is asked of a name, with the pieces of its groups
 pub record Asking : Type 0 where
-  pub slot : Trait
+  pub bare : Bare
   pub spec : Spec
-  pub range : Option Range
   pub item : Branch
   pub join : Branch
 
--- `Iter` asks for a list, and each other trait for a value
-abbrev pub bare_under : Trait → Option Range → Bare
-bare_under traits.Iter range = bare_list range
-bare_under t range = bare_value t
+-- a list is asked for
+abbrev pub IsList : Bare → Type 0
+IsList (bare_value t) = ⊥
+IsList (bare_list range) = ⊤
 
 -- whether the closing brace of an argument stands there
 abbrev pub is_closed : PieceKind → Bool
@@ -68,21 +68,21 @@ pub record Asks (start : ℕ) (name : List ℕ) (x : Asking) (end : ℕ) (after 
   pub rest : Forest
   pub first :
       xs ≡ nodes_and (node place last kind
-      (Some (valued start name x.spec (bare_under x.slot x.range) end)) x.item x.join) rest
+      (Some (valued start name x.spec x.bare end)) x.item x.join) rest
   pub closing : after ≡ (if is_closed kind then Some rest else None)
 
--- what the next part of a source is, where `tree` has the pieces of a source, `from` those from an
--- argument on whose name was read, and `MayAsk` says that the argument does not end after its name
-module _ {S P : Type 0} (tree : S → Forest) (from : S → (start : ℕ) → (name : List ℕ) → P → Forest)
-    (MayAsk : S → P → Type 0) where
+-- what the next part of a source is, where `tree` has the pieces of a source, and `begins` those from
+-- an argument on of which nothing was read
+module _ {S P : Type 0} (tree : S → Forest) (begins : S → P → Forest) where
   abbrev pub Next : (xs : Forest) → Part P → (rest : S) → Type 0
   Next xs (parts.Text run place) rest = Holds (written place (chars run.now)) xs (tree rest)
   Next xs (parts.Char c place) rest = Holds (written place (c ∷ [])) xs (tree rest)
-  Next xs (parts.Name start name end) rest =
-      HoldsClosed (valued start (chars name.now) plain_spec (bare_value traits.Display) end) xs
-      (tree rest)
-  Next xs (parts.Argument start name pending) rest =
-      (xs ≡ from rest start (chars name.now) pending) × MayAsk rest pending
+  Next xs (parts.Argument pending) rest = xs ≡ begins rest pending
+
+-- a name alone, in an argument that begins at `start`: it is closed at `end`, and others follow it
+abbrev pub IsAlone : (start : ℕ) → (name : List ℕ) → (end : ℕ) → (xs rest : Forest) → Type 0
+IsAlone start name end xs rest =
+    HoldsClosed (valued start name plain_spec (bare_value traits.Display) end) xs rest
 
 -- the pieces of a group, by those of the source that begins it
 abbrev pub branch_of : {S : Type 0} → (tree : S → Forest) → Option S → Branch
@@ -99,6 +99,11 @@ PartFits _ = ⊤
 -- the pieces of a text
 abbrev pub text_forest : At → Forest
 text_forest a = as_forest (nodes a)
+
+-- the pieces from an argument on whose text begins at a, after its brace
+abbrev pub argument_pieces : At → Forest
+argument_pieces a =
+    nodes_and (token_node nodes (a.place - 1) argument_token a) (text_forest (past_token argument_token a))
 
 -- the pieces from an argument on that begins at `start` and asks this of a name, where its spec ends
 -- at q, by what stands after a closing brace there
@@ -130,6 +135,10 @@ cursor_forest c = text_forest (at c)
 abbrev pub named_forest : {P : Type 0} → Cursor → (start : ℕ) → (name : List ℕ) → P → Forest
 named_forest c start name pending = argument_forest start name (at c)
 
+-- those from an argument on, where a cursor stands after its brace
+abbrev pub brace_forest : {P : Type 0} → Cursor → P → Forest
+brace_forest c pending = argument_pieces (at c)
+
 -- no closing brace stands after the name
 abbrev pub IsOpen : {P : Type 0} → Cursor → P → Type 0
 IsOpen c pending = strip close_brace (at c) ≡ None
@@ -137,9 +146,8 @@ IsOpen c pending = strip close_brace (at c) ≡ None
 -- what is asked, as the code has it
 abbrev pub asking_of : code_request.Request → Asking
 asking_of x = record {
-  slot = x.slot;
+  bare = bare_of (kind_of_request x);
   spec = x.spec;
-  range = x.list.range;
   item = item_branch nodes (kind_of_request x);
   join = join_branch nodes (kind_of_request x);
 }

@@ -1,15 +1,16 @@
 //! What a format is made of, wherever it is read from.
 ghost use Rattle.std.specs.Prelude.{◌≡◌, ℕ, List, Option, MatchOption, MatchResult, IfSome, Some, option_map};
-ghost use Rattle.interpolator_render.specs.declared.view.Trait.TheVariants.{Iter};
 ghost use Rattle.interpolator_syntax.specs.Arguments.{IsPlain};
-ghost use Rattle.interpolator_syntax.specs.At.{At, at};
+ghost use Rattle.std.specs.Str.{chars};
+ghost use Rattle.interpolator_syntax.specs.At.{at};
 ghost use Rattle.interpolator_syntax.specs.Faults.{argument_fault_of};
 ghost use Rattle.interpolator_syntax.specs.Groups.{group_of};
 ghost use Rattle.interpolator_syntax.specs.Nodes.{Forest, no_nodes, nodes, group_branch};
-ghost use Rattle.interpolator_syntax.specs.Sources.{Asking, Asks, IsBroken, Next, PartFits};
-ghost use Rattle.interpolator_syntax.specs.Sources.{text_forest, cursor_forest, named_forest, IsOpen};
+ghost use Rattle.interpolator_syntax.specs.Nodes.{bare_value, bare_list};
+ghost use Rattle.interpolator_syntax.specs.Sources.{Asking, Asks, IsAlone, IsBroken, IsList, Next};
+ghost use Rattle.interpolator_syntax.specs.Sources.{PartFits, brace_forest};
+ghost use Rattle.interpolator_syntax.specs.Sources.{cursor_forest, named_forest, IsOpen};
 ghost use Rattle.interpolator_syntax.specs.Sources.{asking_of, after_brace, branch_of};
-ghost use Rattle.interpolator_syntax.specs.Tokens.{first_token, argument};
 
 use crate::argument::{Request, take_name, take_request};
 use crate::argument_fault::ArgumentFault;
@@ -27,22 +28,19 @@ pub enum Part<'t, P> {
     Text(&'t str, usize),
     /// A character that is written, and the byte of the format for which it stands.
     Char(char, usize),
-    /// A closed argument that is a name alone: the byte after its opening brace, the name, and the
-    /// byte after it.
-    Name(usize, &'t str, usize),
-    /// Any other argument: the byte after its opening brace, its name, and what is still to be read
-    /// of it.
-    Argument(usize, &'t str, P),
+    /// An argument, of which all is still to be read.
+    Argument(P),
 }
 
 /// Parts of a format that are still to be written: a text that is read on, or pieces that were read
 /// before.
 ///
-/// After an argument, what is asked of its name is read into room for it, and only then whether it
-/// is closed:
+/// Of an argument its name is read first, then what is asked of it, into room for that, and only then
+/// whether it is closed:
 ///
 /// ```text
-/// let (part, rest) = source.next_part()?;           // Part::Argument(start, name, pending)
+/// let (part, rest) = source.next_part()?;           // Part::Argument(pending)
+/// let (start, name, rest) = rest.name(pending);
 /// let mut asked = rest.plain(pending);
 /// let end = rest.ask(start, pending, &mut asked)?;  // at the end of the spec
 /// let rest = end.close(&asked)?;                    // after the closing brace
@@ -55,6 +53,9 @@ pub trait Source: Copy {
 
     /// The pieces that are left.
     ghost tree: { Self → Forest };
+
+    /// The pieces from an argument on of which nothing was read.
+    ghost begins: { Self → Self.Pending → Forest };
 
     /// The pieces from an argument on, by where it begins and its name, which was read.
     ghost from: { Self → ℕ → List ℕ → Self.Pending → Forest };
@@ -74,15 +75,27 @@ pub trait Source: Copy {
     /// The pieces after the closing brace, where that stands.
     ghost follows: { Self → Self.Asked → Option Forest };
 
-    /// The first part, and what follows it; none where no part is left. After an argument that is no
-    /// name alone follows what is asked of the name.
+    /// The first part, and what follows it; none where no part is left. After an argument follows
+    /// what is still to be read of it.
     fn next_part(&self) -> Option<(Part<'_, Self::Pending>, Self)>
         ensures next { MatchOption result (tree self.now ≡ no_nodes)
-            (λ r. Next tree from may_ask (tree self.now) r.0 r.1) }
+            (λ r. Next tree begins (tree self.now) r.0 r.1) }
         ensures fits { IfSome result (λ r. PartFits r.0) };
+
+    /// The byte after the opening brace of an argument, its name, and what stands after that.
+    fn name(&self, pending: Self::Pending) -> (usize, &str, Self)
+        ensures { begins self.now pending
+            ≡ from result.2 result.0 (chars result.1.now) pending };
+
+    /// The byte after a name alone, and what stands after its closing brace; none where the argument
+    /// does not end after its name.
+    fn alone(&self, pending: Self::Pending) -> Option<(usize, Self)>
+        ensures { (start : ℕ) → (name : List ℕ) → MatchOption result (may_ask self.now pending)
+            (λ r. IsAlone start name r.0 (from self.now start name pending) (tree r.1)) };
 
     /// Room for what is asked.
     fn plain(&self, pending: Self::Pending) -> Self::Asked
+        requires may_ask { may_ask self.now pending }
         ensures { is_plain result };
 
     /// Reads what is asked, in an argument that begins at byte `start`, and gives the source at the
@@ -112,9 +125,10 @@ pub trait Source: Copy {
     fn close(&self, asked: &Self::Asked) -> Option<Self>
         ensures { option_map tree result ≡ follows self.now asked.now };
 
-    /// Under which trait; `Iter` asks for a list.
-    fn slot(asked: &Self::Asked) -> Trait
-        ensures { result ≡ (asks asked.now).slot };
+    /// Under which trait a value is asked for; none where a list is.
+    fn slot(asked: &Self::Asked) -> Option<Trait>
+        ensures { MatchOption result (IsList (asks asked.now).bare)
+            (λ t. (asks asked.now).bare ≡ bare_value t) };
 
     /// How it is written.
     fn spec<'a>(asked: &'a Self::Asked) -> &'a Spec
@@ -122,18 +136,18 @@ pub trait Source: Copy {
 
     /// Which items of a list; all, where there is none.
     fn range(asked: &Self::Asked) -> Option<Range>
-        requires list { (asks asked.now).slot ≡ Iter }
-        ensures { result ≡ (asks asked.now).range };
+        requires list { IsList (asks asked.now).bare }
+        ensures { (asks asked.now).bare ≡ bare_list result };
 
     /// The format of a list's item, in which the empty name is the item. Without one each item is
     /// displayed plainly.
     fn item(asked: &Self::Asked) -> Option<Self>
-        requires list { (asks asked.now).slot ≡ Iter }
+        requires list { IsList (asks asked.now).bare }
         ensures { branch_of tree result ≡ (asks asked.now).item };
 
     /// The format of what stands between two items; nothing, where there is none.
     fn join(asked: &Self::Asked) -> Option<Self>
-        requires list { (asks asked.now).slot ≡ Iter }
+        requires list { IsList (asks asked.now).bare }
         ensures { branch_of tree result ≡ (asks asked.now).join };
 }
 
@@ -143,6 +157,8 @@ impl<'t> Source for Cursor<'t> {
     type Asked = Request<'t>;
 
     ghost tree = { λ c. cursor_forest c };
+
+    ghost begins = { λ c p. brace_forest c p };
 
     ghost from = { λ c start name p. named_forest c start name p };
 
@@ -164,7 +180,21 @@ impl<'t> Source for Cursor<'t> {
             Token::Literals(run) => Some((Part::Text(run, here.place), rest)),
             Token::Doubled(brace) => Some((Part::Char(brace, here.place), rest)),
             Token::LoneClose => Some((Part::Char('}', here.place), rest)),
-            Token::Argument => Some(argument_part(rest)),
+            Token::Argument => Some((Part::Argument(()), rest)),
+        }
+    }
+
+    #[inline(always)]
+    fn name(&self, _pending: ()) -> (usize, &str, Cursor<'t>) {
+        let named = take_name(*self);
+        (self.place, named.name, named.end)
+    }
+
+    #[inline(always)]
+    fn alone(&self, _pending: ()) -> Option<(usize, Cursor<'t>)> {
+        match self.strip(b'}') {
+            Some(rest) => Some((self.place, rest)),
+            None => None,
         }
     }
 
@@ -196,8 +226,11 @@ impl<'t> Source for Cursor<'t> {
     }
 
     #[inline(always)]
-    fn slot(asked: &Request<'t>) -> Trait {
-        asked.slot
+    fn slot(asked: &Request<'t>) -> Option<Trait> {
+        match asked.slot {
+            Trait::Iter => None,
+            slot => Some(slot),
+        }
     }
 
     #[inline(always)]
@@ -229,20 +262,5 @@ fn group_start(group: Option<Group<'_>>) -> Option<Cursor<'_>>
     match group {
         Some(group) => Some(inside(group)),
         None => None,
-    }
-}
-
-/// The argument that begins here, after its brace, and what stands after its name or, where it is a
-/// name alone, after its closing brace.
-#[inline(always)]
-fn argument_part<'t>(here: Cursor<'t>) -> (Part<'t, ()>, Cursor<'t>)
-    ensures next { (a : At) → first_token a ≡ Some (argument, at here.entry)
-        → Next cursor_forest named_forest IsOpen (text_forest a) result.0 result.1 }
-    ensures fits { PartFits result.0 }
-{
-    let named = take_name(here);
-    match named.end.strip(b'}') {
-        Some(after) => (Part::Name(here.place, named.name, named.end.place), after),
-        None => (Part::Argument(here.place, named.name, ()), named.end),
     }
 }

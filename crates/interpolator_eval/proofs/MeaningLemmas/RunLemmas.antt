@@ -12,9 +12,8 @@ use Rattle.interpolator_syntax.specs.Arguments.{argument_at, argument_after, ask
 use Rattle.interpolator_syntax.specs.Arguments.{named_argument, plain_argument}
 use Rattle.interpolator_syntax.specs.Faults.{Fault, Answer, fault, parse, expected}
 use Rattle.interpolator_syntax.specs.Nodes.{Node, node, Branch, no_branch, branch, Forest, no_nodes}
-use Rattle.interpolator_syntax.specs.Nodes.{nodes_and, Held, written, valued, bare_value}
+use Rattle.interpolator_syntax.specs.Nodes.{nodes_and, Held, written, valued, bare_value, bare_list}
 use Rattle.interpolator_syntax.specs.Sources.{Asking, Asks, Holds, HoldsClosed, IsBroken, is_closed}
-use Rattle.interpolator_syntax.specs.Sources.{bare_under}
 use Rattle.interpolator_syntax.specs.SpecTexts.{Request, plain_spec}
 use Rattle.interpolator_syntax.specs.declared.argument.ArgumentName.{ArgumentName}
 use Rattle.interpolator_syntax.specs.declared.piece_kind.PieceKind.{PieceKind}
@@ -114,7 +113,7 @@ module _ (start : ℕ) (name : List ℕ) (x : Asking) (end : ℕ) (after : Optio
 
   pub closed_rest : (rest : Forest) → after ≡ Some rest
       → xs ≡ nodes_and (node h.place h.last h.kind
-      (Some (valued start name x.spec (bare_under x.slot x.range) end)) x.item x.join) rest
+      (Some (valued start name x.spec x.bare end)) x.item x.join) rest
   closed_rest rest d =
       let closed : is_closed h.kind ≡ true = closes (is_closed h.kind) refl rest d in
       let same : h.rest ≡ rest = some_same (rw closed at h.closing) d in
@@ -205,30 +204,24 @@ module _ {X W : Type 0} (shows : X → Trait → Spec → Shown) (into : W → W
 
 -- ---- what is asked of a name
 
-bare_value_under : (t : Trait) (range : Option Range) → (t ≡ traits.Iter → ⊥)
-    → bare_under t range ≡ bare_value t
-bare_value_under traits.Iter range h = absurd (h refl)
-bare_value_under t range h = refl
-
 module _ {X W : Type 0} (shows : X → Trait → Spec → Shown) (into : W → Written)
     (e : Environment X) (start : ℕ) (name : List ℕ) (x : Asking) (end : ℕ) (s t : Sink W)
     (r : Option Answer) where
   -- a value
   pub value_asked_writes :
-      (x.slot ≡ traits.Iter → ⊥)
-      → Writes into (under_name name start (λ (found : Slots X). value_means shows x.slot x.spec end
-      (slot_at x.slot (values_of found))) (given e name)) s t r
+      (u : Trait) → x.bare ≡ bare_value u
+      → Writes into (under_name name start (λ (found : Slots X). value_means shows u x.spec end
+      (slot_at u (values_of found))) (given e name)) s t r
       → Writes into (asking_means shows e start name x end) s t r
-  value_asked_writes h o =
-      record { outcome = rw (bare_value_under x.slot x.range h) o.outcome; same = o.same }
+  value_asked_writes u h o = record { outcome = rw h o.outcome; same = o.same }
 
   -- a list
   pub list_asked_writes :
-      x.slot ≡ traits.Iter
-      → Writes into (list_under_name e name start x.range x.spec end (join_branch_means shows e x.join)
+      (range : Option Range) → x.bare ≡ bare_list range
+      → Writes into (list_under_name e name start range x.spec end (join_branch_means shows e x.join)
       (item_branch_means shows e x.item end)) s t r
       → Writes into (asking_means shows e start name x end) s t r
-  list_asked_writes h o = record { outcome = rw h o.outcome; same = o.same }
+  list_asked_writes range h o = record { outcome = rw h o.outcome; same = o.same }
 
 -- an argument whose name was read, by what is asked after it
 module _ (a : At) (n : ArgumentName)

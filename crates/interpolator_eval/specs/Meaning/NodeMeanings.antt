@@ -16,7 +16,7 @@ use Rattle.interpolator_syntax.specs.Nodes.{Node, node, Branch, no_branch, branc
 use Rattle.interpolator_syntax.specs.Nodes.{Forest, no_nodes, nodes_and}
 use Rattle.interpolator_syntax.specs.Nodes.{Held, written, valued, refused}
 use Rattle.interpolator_syntax.specs.Nodes.{Bare, bare_value, bare_list}
-use Rattle.interpolator_syntax.specs.Sources.{Asking, bare_under}
+use Rattle.interpolator_syntax.specs.Sources.{Asking}
 use Rattle.interpolator_syntax.specs.declared.piece_kind.PieceKind.{PieceKind}
 use Rattle.interpolator_syntax.specs.declared.piece_kind.PieceKind.TheVariants.{Unclosed}
 
@@ -80,7 +80,7 @@ module _ {X : Type 0} (shows : X → Trait → Spec → Shown) where
     abbrev pub asking_means : (start : ℕ) → (name : List ℕ) → Asking → (end : ℕ) → Meaning
     asking_means start name x end =
         under_name name start
-        (bare_means (bare_under x.slot x.range) x.spec end (join_branch_means e x.join)
+        (bare_means x.bare x.spec end (join_branch_means e x.join)
         (item_branch_means e x.item end))
         (given e name)
 

@@ -1,10 +1,11 @@
 //! Writes what the parts of a source mean, up to the first fault: callers first, as one reads.
 ghost use Rattle.std.specs.Prelude.{◌≡◌, IfOk, None, map};
 ghost use Rattle.std.specs.Str.{chars};
-ghost use Rattle.interpolator_render.specs.declared.view.Trait.TheVariants.{Iter, Display};
+ghost use Rattle.interpolator_render.specs.declared.view.Trait.TheVariants.{Display};
 ghost use Rattle.interpolator_syntax.specs.At.{at};
 ghost use Rattle.interpolator_syntax.specs.Faults.{answered};
 ghost use Rattle.interpolator_syntax.specs.Nodes.{Node, nodes_and};
+ghost use Rattle.interpolator_syntax.specs.Sources.{IsList};
 ghost use Rattle.interpolator_syntax.specs.SpecTexts.{plain_spec};
 ghost use Rattle.interpolator_eval.specs.Meaning.Environments.{given};
 ghost use Rattle.interpolator_eval.specs.Meaning.Lists.{padded_list_means};
@@ -59,13 +60,7 @@ pub fn write_source<'a, W: TextWrite, C: Context, S: Source>(
                 sink.put_char(c, place)?;
                 rest
             }
-            Part::Name(start, name, end) => {
-                write_alone(sink, scope, start, name, end)?;
-                rest
-            }
-            Part::Argument(start, name, pending) => {
-                write_argument(sink, scope, start, name, pending, rest)?
-            }
+            Part::Argument(pending) => write_argument(sink, scope, pending, rest)?,
         };
     }
     Ok(())
@@ -91,11 +86,36 @@ fn write_alone<'a, W: TextWrite, C: Context>(
     write_value(sink, scope, start, name, Trait::Display, &spec, end)
 }
 
+/// Writes what an argument means of which all is to be read. Returns what follows its closing brace.
+#[cycle(evaluate)]
+#[inline(always)]
+fn write_argument<'a, W: TextWrite, C: Context, S: Source>(
+    sink: &mut Sink<'_, W>,
+    scope: &Scope<'a, C, C::Object>,
+    pending: S::Pending,
+    here: S,
+) -> Result<S, Error>
+    ensures writes { Writes W.written
+        (first_means C.Object.shows (environment_of C.finds scope.now) (S.begins here pending))
+        sink.old sink.new (answered result) }
+    ensures rest { IfOk result (λ rest. (x : Node)
+        × (S.begins here pending ≡ nodes_and x (S.tree rest))) }
+{
+    let (start, name, after) = here.name(pending);
+    match after.alone(pending) {
+        Some((end, rest)) => {
+            write_alone(sink, scope, start, name, end)?;
+            Ok(rest)
+        }
+        None => write_more(sink, scope, start, name, pending, after),
+    }
+}
+
 /// Writes what an argument means that starts at `start` and has that name, and of which more is to
 /// be read. Returns what follows its closing brace.
 #[cycle(evaluate)]
 #[inline(always)]
-fn write_argument<'a, W: TextWrite, C: Context, S: Source>(
+fn write_more<'a, W: TextWrite, C: Context, S: Source>(
     sink: &mut Sink<'_, W>,
     scope: &Scope<'a, C, C::Object>,
     start: usize,
@@ -142,8 +162,8 @@ fn write_asked<'a, W: TextWrite, C: Context, S: Source>(
         sink.old sink.new (answered result) }
 {
     match S::slot(asked) {
-        Trait::Iter => write_list::<W, C, S>(sink, scope, start, name, asked, end),
-        t => write_value(sink, scope, start, name, t, S::spec(asked), end),
+        None => write_list::<W, C, S>(sink, scope, start, name, asked, end),
+        Some(t) => write_value(sink, scope, start, name, t, S::spec(asked), end),
     }
 }
 
@@ -159,7 +179,7 @@ fn write_list<'a, W: TextWrite, C: Context, S: Source>(
     asked: &S::Asked,
     end: usize,
 ) -> Result<(), Error>
-    requires list { (S.asks asked.now).slot ≡ Iter }
+    requires list { IsList (S.asks asked.now).bare }
     ensures writes { Writes W.written
         (asking_means C.Object.shows (environment_of C.finds scope.now) start (chars name.now)
         (S.asks asked.now) end)
@@ -183,7 +203,7 @@ fn write_padded_list<'a, W: TextWrite, C: Context, S: Source>(
     asked: &S::Asked,
     end: usize,
 ) -> Result<(), Error>
-    requires list { (S.asks asked.now).slot ≡ Iter }
+    requires list { IsList (S.asks asked.now).bare }
     requires no_precision { (S.asks asked.now).spec.precision ≡ None }
     ensures writes { Writes W.written
         (padded_list_means (S.asks asked.now).spec end
@@ -217,7 +237,7 @@ fn write_items<'a, W: TextWrite, C: Context, S: Source>(
     asked: &S::Asked,
     end: usize,
 ) -> Result<(), Error>
-    requires list { (S.asks asked.now).slot ≡ Iter }
+    requires list { IsList (S.asks asked.now).bare }
     ensures writes { Writes W.written
         (asked_items_mean C.Object.shows (environment_of C.finds scope.now) (S.asks asked.now) end
         (map slots_of items.now))
@@ -243,7 +263,7 @@ fn write_item<'a, W: TextWrite, C: Context, S: Source>(
     asked: &S::Asked,
     end: usize,
 ) -> Result<(), Error>
-    requires list { (S.asks asked.now).slot ≡ Iter }
+    requires list { IsList (S.asks asked.now).bare }
     ensures writes { Writes W.written
         (item_branch_means C.Object.shows (environment_of C.finds scope.now)
         (S.asks asked.now).item end (slots_of item.now))
@@ -262,7 +282,7 @@ fn write_join<'a, W: TextWrite, C: Context, S: Source>(
     scope: &Scope<'a, C, C::Object>,
     asked: &S::Asked,
 ) -> Result<(), Error>
-    requires list { (S.asks asked.now).slot ≡ Iter }
+    requires list { IsList (S.asks asked.now).bare }
     ensures writes { Writes W.written
         (join_branch_means C.Object.shows (environment_of C.finds scope.now) (S.asks asked.now).join)
         sink.old sink.new (answered result) }

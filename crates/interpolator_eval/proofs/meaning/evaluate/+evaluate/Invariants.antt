@@ -12,31 +12,34 @@ use Rattle.interpolator_eval.specs.Meaning.Sinks.{SameEnd, taken_by}
 use Rattle.interpolator_eval.proofs.MeaningLemmas.RunLemmas.{forest_size, asked_size}
 use Rattle.interpolator_eval.proofs.meaning.evaluate.+evaluate.Given as goal
 
--- eight times the size of the pieces; the groups of an argument are smaller than its piece
+-- sixteen times the size of the pieces; the groups of an argument are smaller than its piece
 abbrev pub decreases-write_source : goal.decreases-write_source
-decreases-write_source g l = 8 * forest_size (g.S.Source.tree l.source) + 7
+decreases-write_source g l = 16 * forest_size (g.S.Source.tree l.source) + 8
 
 abbrev pub decreases-write_argument : goal.decreases-write_argument
-decreases-write_argument g l =
-    8 * forest_size (g.S.Source.from l.here l.start (chars l.name.now) l.pending) + 6
+decreases-write_argument g l = 16 * forest_size (g.S.Source.begins l.here l.pending) + 7
+
+abbrev pub decreases-write_more : goal.decreases-write_more
+decreases-write_more g l =
+    16 * forest_size (g.S.Source.from l.here l.start (chars l.name.now) l.pending) + 6
 
 abbrev pub decreases-write_asked : goal.decreases-write_asked
-decreases-write_asked g l = 8 * asked_size (g.S.Source.asks l.asked.now) + 5
+decreases-write_asked g l = 16 * asked_size (g.S.Source.asks l.asked.now) + 5
 
 abbrev pub decreases-write_list : goal.decreases-write_list
-decreases-write_list g l = 8 * asked_size (g.S.Source.asks l.asked.now) + 4
+decreases-write_list g l = 16 * asked_size (g.S.Source.asks l.asked.now) + 4
 
 abbrev pub decreases-write_padded_list : goal.decreases-write_padded_list
-decreases-write_padded_list g l = 8 * asked_size (g.S.Source.asks l.asked.now) + 3
+decreases-write_padded_list g l = 16 * asked_size (g.S.Source.asks l.asked.now) + 3
 
 abbrev pub decreases-write_items : goal.decreases-write_items
-decreases-write_items g l = 8 * asked_size (g.S.Source.asks l.asked.now) + 2
+decreases-write_items g l = 16 * asked_size (g.S.Source.asks l.asked.now) + 2
 
 abbrev pub decreases-write_item : goal.decreases-write_item
-decreases-write_item g l = 8 * asked_size (g.S.Source.asks l.asked.now) + 1
+decreases-write_item g l = 16 * asked_size (g.S.Source.asks l.asked.now) + 1
 
 abbrev pub decreases-write_join : goal.decreases-write_join
-decreases-write_join g l = 8 * asked_size (g.S.Source.asks l.asked.now) + 1
+decreases-write_join g l = 16 * asked_size (g.S.Source.asks l.asked.now) + 1
 
 abbrev pub decreases-write_source-loop-part : goal.decreases-write_source-loop-part
 decreases-write_source-loop-part g l = forest_size (g.S.Source.tree l.here)
