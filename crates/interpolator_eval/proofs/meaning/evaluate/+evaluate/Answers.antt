@@ -155,11 +155,10 @@ pub write_argument-returns-in_ok-write_alone-in-Some-clause-rest :
     goal.write_argument-returns-in_ok-write_alone-in-Some-clause-rest
 write_argument-returns-in_ok-write_alone-in-Some-clause-rest g t c =
     let alone = c.in-Some.ensures c.name-start.result.0 (chars c.name-start.result.1.now) in
-    let first = c.name-start.ensures ∙ alone.0.first in
-    (
+    let first = c.name-start.ensures ∙ alone.0.first in (
       node alone.0.place alone.0.end alone.0.kind
-      (Some (valued c.name-start.result.0 (chars c.name-start.result.1.now) plain_spec
-      (bare_value traits.Display) c.in-Some.end)) alone.0.item alone.0.join,
+          (Some (valued c.name-start.result.0 (chars c.name-start.result.1.now) plain_spec
+          (bare_value traits.Display) c.in-Some.end)) alone.0.item alone.0.join,
       search (rules, first),
     )
 
