@@ -40,13 +40,13 @@ use Rattle.catalogue.specs.Picks.{IsPicked}
 use Rattle.catalogue.proofs.ExampleLemmas.{Alike, last_alike}
 use Rattle.catalogue.proofs.SoundLemmas.{all_reversed, find_holds}
 
--- a text has a text where its example has one
+-- a text has a text if its example has one
 text_alike : (y : Shown) (cs : List ℕ) → y ≡ some_text cs → (t : Trait) (spec : Spec)
     → HasText (view_text (one_character 97) t spec) → HasText (view_text y t spec)
 text_alike y cs e t spec h = subst (λ s. HasText (view_text s t spec)) (sym e)
     (kind_has_text (one_character 97) (some_text cs) t spec refl refl h)
 
--- and a number where its example has one
+-- and a number if its example has one
 number_alike : (y : Shown) (n : ℤ) → y ≡ signed_number n B128 → (t : Trait) (spec : Spec)
     → HasText (view_text (shown_as_value number_example) t spec) → HasText (view_text y t spec)
 number_alike y n e t spec h = subst (λ s. HasText (view_text s t spec)) (sym e)

@@ -19,7 +19,7 @@ use Rattle.catalogue.specs.Messages.{told_of_lines, numbered, source_of, what_is
 use Rattle.catalogue.specs.Messages.{with_format}
 use Rattle.std.specs.Fmt.{decimal}
 use Rattle.interpolator.specs.Positions.{column_at}
-use Rattle.interpolator.specs.Explained.{explained}
+use Rattle.interpolator.specs.Explained.{explanation_of}
 use Rattle.interpolator.specs.Faults.{answer_place, Answer, Fault, fault, no_memory}
 
 module _ {A : Type 0} (xs : List A) (i : ℕ) (x : A) (within : i < length xs)
@@ -35,7 +35,7 @@ module _ {A : Type 0} (xs : List A) (i : ℕ) (x : A) (within : i < length xs)
       subst (λ front. AllZip R front (ys ++ (y ∷ []))) (sym taken)
       (all_zipped_more R (take i xs) ys x y so_far more)
 
--- the same where the element is read
+-- one more of each list, the element of the first as it is read
 pub zip_next : {A B : Type 0} (R : A → B → Type 0) (xs : List A) (i : ℕ) (d : A) (ys : List B)
     (y : B)
     → i < length xs → AllZip R (take i xs) ys → R (get_or xs i d) y
@@ -104,7 +104,7 @@ or_first g false x (Some y) before o e h = cc
 or_first g true x None before o e h = cc
 or_first g false x None before o e h = h
 
--- a line's format, where it has the key
+-- a line's format, if it has the key
 with_format_of : (b : Bool) (number : ℕ) (line : List ℕ) (o : Option (ℕ × List ℕ))
     → option_map with_format (cond b (Some (number, line)) o)
     ≡ cond b (Some (with_format (number, line))) (option_map with_format o)
@@ -160,12 +160,12 @@ module _ (file key : List ℕ) (seen : List (Bor (List ℕ))) (line : Bor (List 
       (with_format_of (is_under key line.now) (number + 1) line.now (last_under key texts)))
 
 module _ (file : List ℕ) (number : ℕ) (line format : List ℕ) where
-  -- nothing is told only where there is no fault
+  -- nothing is told only if there is no fault
   clean_format : (o : Option Fault) → length (told_of_format file number line format o) ≡ 0
       → o ≡ None
   clean_format None e = refl
   clean_format (Some f) e =
-      let some = ends_in_some (explained (source_of file number line format) (fault f)) [] 10 in
+      let some = ends_in_some (explanation_of (source_of file number line format) (fault f)) [] 10 in
       absurd (omega (arith, e, some))
 
   -- nor is anything broken

@@ -12,12 +12,12 @@ use Rattle.catalogue.specs.Declarations.{after_part, as_list, broken_at, broken_
 use Rattle.catalogue.specs.Declarations.{declared_between, is_comma, part_of, unless_broken}
 use Rattle.catalogue.specs.declared.declarations.Kind.{Kind}
 
--- where the part after some parts comes
+-- if the part after some parts is
 abbrev pub after_all : ℕ → List (List ℕ) → ℕ
 after_all place [] = place
 after_all place (part ∷ parts) = after_all (after_part place part) parts
 
--- the same of one more
+-- if the part after these and one more is
 after_more : (place : ℕ) (parts : List (List ℕ)) (part : List ℕ)
     → after_all place (parts ++ (part ∷ [])) ≡ after_part (after_all place parts) part
 after_more place [] part = refl
@@ -63,7 +63,7 @@ module _ (seen : List (Bor (List ℕ))) (part : Bor (List ℕ)) where
   one_text : map (λ x. x.now) (seen ++ (part ∷ [])) ≡ texts ++ (part.now ∷ [])
   one_text = map-append (λ (x : Bor (List ℕ)). x.now) seen (part ∷ [])
 
-  -- where the next one comes
+  -- if the next one comes
   pub at_next : (place at : ℕ) → at ≡ after_all place texts
       → after_part at part.now ≡ after_all place (map (λ x. x.now) (seen ++ (part ∷ [])))
   at_next place at so_far = rw (one_text, after_more place texts part.now, so_far) refl

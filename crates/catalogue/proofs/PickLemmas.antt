@@ -34,7 +34,7 @@ pub all_lent : (objects : List Object) (ds : List Declaration) (i : ℕ) (entrie
 all_lent objects ds i entries after h = lent_picks objects (map as_declaration ds) entries
     (zip_mapped (LendsPick objects) as_declaration ds entries (rw (take_all i ds after) at h))
 
--- where each lends a pick, each has one
+-- if each lends a pick, each has one
 each_picked : (objects : List Object) (ds : List Declaration) (entries : List Entry)
     → AllZip (λ one entry. LendsPick objects (as_declaration one) entry) ds entries
     → All (HasPick objects) (map as_declaration ds)

@@ -4,7 +4,7 @@ use Rattle.std.specs.Prelude.{codes, if◌then◌else◌, Option, None, Some}
 use Rattle.std.specs.Option.{option_or}
 use Rattle.std.specs.List.{before_first, after_first, list_any, position_or_len, slice_split}
 use Rattle.std.specs.Str.{bytes_eq, trim, trim_start}
-use Rattle.interpolator.specs.Explained.{capped}
+use Rattle.interpolator.specs.Explained.{usize_sum}
 use Rattle.catalogue.specs.declared.declarations.Declaration.{Declaration}
 use Rattle.catalogue.specs.declared.declarations.Heading.{Heading}
 use Rattle.catalogue.specs.declared.declarations.Heading.TheVariants as headings
@@ -31,7 +31,7 @@ is_bracket b = b == 91
 abbrev pub has : (ℕ → Bool) → List ℕ → Bool
 has is_sign text = nat_lt (position_or_len is_sign text) (length text)
 
--- a name and the kind of value under it, where borrows do not count
+-- a name and the kind of value under it, borrows aside
 abbrev pub as_declaration : Declaration → List ℕ × Kind
 as_declaration declared = (declared.name.now, declared.kind)
 
@@ -59,25 +59,25 @@ named (Some declared) = if_whole (not (length declared.0 == 0)) declared
 abbrev pub part_of : List ℕ → Option (List ℕ × Kind)
 part_of part = named (declaration_of (trim part))
 
--- where a part begins that comes at a byte, less the white space before it
+-- if the part at a byte begins, after the white space in front of it
 abbrev pub begin_of : ℕ → List ℕ → ℕ
-begin_of place part = capped place (length part - length (trim_start part))
+begin_of place part = usize_sum place (length part - length (trim_start part))
 
--- where the part after it comes, behind a comma
+-- if the part after it is, with a comma between
 abbrev pub after_part : ℕ → List ℕ → ℕ
-after_part place part = capped (capped place (length part)) 1
+after_part place part = usize_sum (usize_sum place (length part)) 1
 
 -- a name is among some declarations
 abbrev pub is_among : List (List ℕ × Kind) → List ℕ → Bool
 is_among seen name = list_any (λ one. bytes_eq name one.0) seen
 
--- where a part that begins at a byte is broken: it is no declaration, or its name is one of those
--- seen before it
+-- if a part that begins at a byte is broken: it is no declaration, or its name is one of those seen
+-- before it
 abbrev pub broken_by : ℕ → List (List ℕ × Kind) → Option (List ℕ × Kind) → Option ℕ
 broken_by begin seen (Some declared) = if is_among seen declared.0 then Some begin else None
 broken_by begin seen None = Some begin
 
--- the same of a part that comes at a byte
+-- if the part at a byte is broken, if it is
 abbrev pub broken_at : ℕ → List (List ℕ × Kind) → List ℕ → Option ℕ
 broken_at place seen part = broken_by (begin_of place part) seen (part_of part)
 
@@ -86,7 +86,7 @@ abbrev pub as_list : Option (List ℕ × Kind) → List (List ℕ × Kind)
 as_list None = []
 as_list (Some declared) = declared ∷ []
 
--- where the first of some parts that is broken begins
+-- if the first of some parts that is broken begins
 abbrev pub broken_from : ℕ → List (List ℕ × Kind) → List (List ℕ) → Option ℕ
 broken_from place seen [] = None
 broken_from place seen (part ∷ parts) = option_or (broken_at place seen part)
@@ -116,12 +116,12 @@ declared_between place inner =
     else unless_broken (broken_from place [] (slice_split is_comma inner))
     (declarations (slice_split is_comma inner))
 
--- what is declared after a `(` at a byte: it is closed by a `)` with nothing behind it
+-- what is declared after a `(` at a byte: it is closed by a `)` with nothing after it
 abbrev pub declared_after : ℕ → List ℕ → Declared
 declared_after opened rest =
     if has is_close rest
     then (if length (trim (after_first is_close rest)) == 0
-    then declared_between (capped opened 1) (before_first is_close rest) else broken opened)
+    then declared_between (usize_sum opened 1) (before_first is_close rest) else broken opened)
     else broken opened
 
 -- what the head of a line declares
@@ -135,7 +135,7 @@ declared_in head =
 abbrev pub key_in : List ℕ → List ℕ
 key_in head = trim (before_first is_open head)
 
--- what a heading declares, where borrows do not count
+-- what a heading declares, borrows aside
 abbrev pub declared_by : Heading → Declared
 declared_by headings.Plain = nothing
 declared_by (headings.Declares declared) = these (map as_declaration declared.items)

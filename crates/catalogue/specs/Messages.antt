@@ -12,7 +12,7 @@ use Rattle.std.specs.declared.string.String.{String}
 use Rattle.interpolator.specs.At.{outermost}
 use Rattle.interpolator.specs.Contexts.{found_by_pairs}
 use Rattle.interpolator.specs.Faults.{Answer as Reply, Fault, fault}
-use Rattle.interpolator.specs.Explained.{explained}
+use Rattle.interpolator.specs.Explained.{explanation_of}
 use Rattle.interpolator.specs.declared.Source.{Source}
 use Rattle.interpolator.specs.Meaning.Environments.{environment}
 use Rattle.interpolator.specs.Meaning.Meanings.{Meaning, means}
@@ -102,7 +102,7 @@ source_of file number line format = record {
 -- what is told of a fault of a line's format: the fault as it is shown in its line
 abbrev pub told_of_fault : List ℕ → ℕ → (line format : List ℕ) → Reply → List ℕ
 told_of_fault file number line format why =
-    explained (source_of file number line format) why ++ codes "\n"
+    explanation_of (source_of file number line format) why ++ codes "\n"
 
 -- what is told if a line's format has a fault, or none
 abbrev pub told_of_format : List ℕ → ℕ → (line format : List ℕ) → Option Fault → List ℕ
@@ -171,7 +171,7 @@ IsMadeOrTold file number line format objects (Message message) = IsMade format o
 IsMadeOrTold file number line format objects (Faults told) =
     IsToldOf file number line format objects (string_bytes told)
 
--- the same over what is picked of objects for what the line declares
+-- a message, or what is told, over what is picked of objects for what the line declares
 pub record IsMadeOver (file : List ℕ) (number : ℕ) (line format : List ℕ) (declared : Declared)
     (objects : List Object) (answer : Answer) : Type 0 where
   pub picked : List Object

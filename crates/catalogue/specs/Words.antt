@@ -18,7 +18,7 @@ use Rattle.catalogue.specs.declared.entries.Object.{Object}
 abbrev pub is_equals : ℕ → Bool
 is_equals b = b == 61
 
--- an `=` stands in the text
+-- an `=` is in the text
 abbrev pub HasEquals : List ℕ → Type 0
 HasEquals text = position_or_len is_equals text < length text
 
@@ -35,7 +35,7 @@ abbrev pub items_of : List ℕ → List (List ℕ)
 items_of [] = []
 items_of (c ∷ cs) = slice_split is_comma (c ∷ cs)
 
--- texts, where borrows do not count
+-- texts, borrows aside
 abbrev pub texts_of : List (Bor (List ℕ)) → List (List ℕ)
 texts_of texts = map (λ text. text.now) texts
 

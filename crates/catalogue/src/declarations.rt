@@ -36,7 +36,7 @@ pub enum Heading<'a> {
     Plain,
     /// These, in their order.
     Declares(Vec<Declaration<'a>>),
-    /// What is no declaration, or declares a name again, stands at this byte of the line.
+    /// At this byte of the line is what is no declaration, or declares a name again.
     Broken(usize),
 }
 
@@ -74,14 +74,14 @@ fn part_of(part: &str) -> Option<Declaration<'_>>
     if_whole(declared.name, declared.kind, !declared.name.is_empty())
 }
 
-/// Where a part begins that comes at a byte, less the white space before it.
+/// If the part at a byte begins, after the white space in front of it.
 fn begin_of(place: usize, part: &str) -> usize
     ensures { result ≡ begin_of place part.now }
 {
     place.saturating_add(part.len().saturating_sub(part.trim_start().len()))
 }
 
-/// Where the part after this one comes.
+/// If the part after this one is.
 fn after_part(place: usize, part: &str) -> usize
     ensures { result ≡ after_part place part.now }
 {
@@ -95,8 +95,8 @@ fn is_among(found: &[Declaration<'_>], name: &str) -> bool
     found.iter().any(|one| name == one.name)
 }
 
-/// Where a part is broken that comes at a byte: it is no declaration, or its name is declared
-/// before it.
+/// If the part at a byte is broken, if it is: it is no declaration, or its name is declared before
+/// it.
 fn broken_at(place: usize, found: &[Declaration<'_>], part: &str) -> Option<usize>
     ensures { result ≡ broken_at place (map as_declaration found.now) part.now }
 {

@@ -21,7 +21,7 @@ pub struct Object<'a> {
     pub items: Vec<View<'a>>,
 }
 
-/// The same, lent, with the slots of a list's items filled.
+/// A name, and its value lent, with the slots of a list's items filled.
 #[derive(Drop)]
 pub struct Entry<'a> {
     pub name: &'a str,

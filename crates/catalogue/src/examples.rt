@@ -3,7 +3,7 @@
 ghost use Rattle.std.specs.Prelude.{◌≡◌, IfOk, IfErr, map};
 ghost use Rattle.std.specs.List.{AllZip};
 ghost use Rattle.std.specs.Option.{option_map};
-ghost use Rattle.interpolator.specs.Faults.{answer_of, answered, fault, no_memory};
+ghost use Rattle.interpolator.specs.Faults.{answer_of, result_answer, fault, no_memory};
 ghost use Rattle.catalogue.specs.Declarations.{as_declaration, declared_by, these};
 ghost use Rattle.interpolator.specs.Template.NodeChecks.{first_fault};
 ghost use Rattle.catalogue.specs.Examples.{IsExample, TellsFirst, faults_of};
@@ -55,7 +55,7 @@ fn examples_of<'a>(alloc: Global, declared: &[Declaration<'a>]) -> Result<Vec<Ob
 /// Checks a format over an example of each declaration.
 fn check_over(alloc: Global, template: &Template, declared: &[Declaration<'_>]) -> Result<(), Error>
     ensures { TellsFirst (faults_of (these (map as_declaration declared.now)) template.now)
-        (answered result) }
+        (result_answer result) }
 {
     let examples = examples_of(alloc, declared)?;
     let entries = entries_of(alloc, examples.as_slice())?;
@@ -66,7 +66,7 @@ fn check_over(alloc: Global, template: &Template, declared: &[Declaration<'_>]) 
 /// Tells the first fault of a format: by itself, or over an example of what is declared.
 #[tactic(auto, using(crate::proofs::ExampleLemmas::checked_alone))]
 fn check(alloc: Global, template: &Template, heading: &Heading<'_>) -> Result<(), Error>
-    ensures { TellsFirst (faults_of (declared_by heading.now) template.now) (answered result) }
+    ensures { TellsFirst (faults_of (declared_by heading.now) template.now) (result_answer result) }
 {
     match heading {
         Heading::Plain => template.check(),

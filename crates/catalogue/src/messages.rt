@@ -148,8 +148,8 @@ fn is_passed_over(line: &str) -> bool
     line.trim().is_empty() || line.starts_with('#')
 }
 
-/// Checks a line, and gives it where it has the key and is sound. Where something is wrong with it,
-/// this is told.
+/// Checks a line, and gives it if it has the key and is sound. If something is wrong with it, this
+/// is told.
 fn checked_line<'a>(
     alloc: Global,
     file: &str,
@@ -268,7 +268,7 @@ fn message(
 /// The message under a key, over words `NAME=TEXT`, `NAME:=NUMBER` and `NAME[]=ITEM,ITEM`; or all
 /// that is wrong with the file, or else with the key, the words or the message.
 ///
-/// A message is answered only where every line that has to have one has one that checks: by itself,
+/// A message is answered only if every line that has to have one has one that checks: by itself,
 /// or over an example of what the line declares. It is what the last line of the key means over the
 /// words: of two messages under one key the last counts, and so does the last of two words of one
 /// name.

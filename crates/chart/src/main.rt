@@ -17,7 +17,7 @@ const UNIT: u128 = 100;
 /// How high a line's bars are together, with the gap after them.
 const ROW: u128 = 64;
 
-/// How high what stands above all bars is.
+/// The height of what is above all bars.
 const HEAD: u128 = 64;
 
 /// The words of a line after its name.
@@ -28,7 +28,7 @@ fn numbers_of(line: &str) -> &str {
     }
 }
 
-/// The number that a word spells; zero, where it spells none.
+/// The number that a word spells; zero if it spells none.
 fn number_of(word: &str) -> u128 {
     word.parse::<u128>().unwrap_or(0)
 }
@@ -38,7 +38,7 @@ fn length_of(number: u128, measure: u128) -> u128 {
     number.saturating_mul(UNIT) / measure.max(1)
 }
 
-/// Appends the cells of a line that stands so far from above.
+/// Appends the cells of a line that is so far from the top.
 fn push_cells<'a>(cells: &mut Vec<View<'a>>, place: u128, line: &'a str) -> Result<(), Error> {
     cells.push(View::Unsigned(place))?;
     cells.push(View::Text(line.split(' ').next().unwrap_or("")))?;
@@ -63,7 +63,7 @@ fn cells_of(alloc: Global, table: &str) -> Result<(Vec<View<'_>>, Vec<usize>), E
     Ok((cells, ends))
 }
 
-/// How far from above a line stands, after so many others.
+/// How far from the top a line is, after so many others.
 fn place_of(before: usize) -> u128 {
     HEAD.saturating_add(ROW.saturating_mul(before as u128))
 }

@@ -14,7 +14,7 @@ use Rattle.std.proofs.lemmas.Fn.{FoldsTo-push}
 use Rattle.interpolator.specs.declared.View.{View}
 use Rattle.interpolator.specs.declared.Formattable.{Formattable}
 use Rattle.interpolator.specs.declared.NameMap.{NameMap}
-use Rattle.interpolator.specs.NameMaps.{under, found}
+use Rattle.interpolator.specs.NameMaps.{under, stored_slots}
 use Rattle.interpolator.specs.Slots.{Slots, slots_of}
 use Rattle.interpolator.specs.Views.{shown_as_value}
 use Rattle.ifmt.specs.declared.words.Word.{Word}
@@ -31,7 +31,7 @@ abbrev pub IsFilled : (old : List ℕ → Option (Slots View)) → Entry
     → (new : List ℕ → Option (Slots View)) → Type 0
 IsFilled old entry new = Fills old entry.word entry.value.now (map slots_of entry.items.items) new
 
--- the entries, in their order, were filled in where nothing was
+-- the entries, in their order, were filled in, and nothing was there before
 abbrev pub AreFilled : List Entry → (finds : List ℕ → Option (Slots View)) → Type 0
 AreFilled entries finds = FoldsTo IsFilled (λ _. None) entries finds
 
@@ -70,7 +70,7 @@ has_object text spelled word object same means is shows items = record {
 
 -- in a map with no name nothing is filled in
 pub none_filled : (map : NameMap (Formattable View)) → ((name : List ℕ) → under map name ≡ None) →
-    AreFilled [] (found map)
+    AreFilled [] (stored_slots map)
 none_filled map none = fun_ext (λ name. ap (option_map slots_of) (sym (none name)))
 
 -- objects of a word that is filled in are what the word binds

@@ -5,7 +5,7 @@ use Rattle.std.proofs.lemmas.List.{get_or_default}
 use Rattle.std.proofs.lemmas.Str.Pattern.{IsSplitOnceResult, split_after, split_parts}
 use Rattle.ifmt.specs.Words.{Assignment, Means, PartsMean, equals_sign}
 
--- what a list does not contain stands at no place of it
+-- what a list does not contain is at no place of it
 absent_at : (xs : List ℕ) (x : ℕ) → ¬ (Contains xs x) → (i : ℕ) → i < length xs → get_or xs i 0 ≢ x
 absent_at xs x absent i within here = absent (i, within, get_or_default xs i x 0 within ∙ here)
 

@@ -32,7 +32,7 @@ module _ {Z : Type 0} (words : List (String Z)) (i : ℕ) (item : String Z)
       All-more (λ word. IsGood (string_bytes word)) words i item within good
       (rw (← here) item_good)
 
-  -- the word at the place, where it means nothing
+  -- the word at the place, if it means nothing
   pub first_bad_at : ¬ (IsGood text) → IsFirstBad words text
   first_bad_at none = record {
     before = take i words;
@@ -46,7 +46,7 @@ module _ {Z : Type 0} (words : List (String Z)) (i : ℕ) (item : String Z)
     none = none;
   }
 
--- all words, where the place is after the last
+-- all words, if the place is after the last
 pub all_good : {Z : Type 0} (words : List (String Z)) (i : ℕ) → length words ≤ i →
     AllGood (take i words) → AllGood words
 all_good words i after good = rw (take_all i words after) at good

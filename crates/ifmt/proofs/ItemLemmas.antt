@@ -59,7 +59,7 @@ split_joined part (next ∷ more) apart =
     (All-head Apart part (next ∷ more) apart) refl
     ∙ ap (λ rest. part ∷ rest) (split_joined next more (All-tail Apart part (next ∷ more) apart))
 
--- each part passes the test, where none holds a comma
+-- each part passes the test, if none holds a comma
 all_apart : (parts : List (List ℕ)) → All (λ part. ¬ (Contains part comma)) parts → All Apart parts
 all_apart parts absent = λ k d within. apart_by_test _ (absent k d within)
 

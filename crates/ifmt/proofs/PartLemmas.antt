@@ -51,7 +51,7 @@ one_number left right name found ends spells (number other value) = (
 one_number left right name found ends spells (list other _) =
     (λ meant. absurd (two_endings name other (sym ends ∙ meant.0)), λ same. cc)
 
--- a part that ends in `[]` means the list of what stands after
+-- a part that ends in `[]` means the list of what follows
 pub one_list : (left right name : List ℕ) → left ≡ name ++ codes "[]" →
     (assignment : Assignment) →
     PartsMean left right assignment ↔ (Some (list name right) ≡ Some assignment)

@@ -52,7 +52,7 @@ module _ {X : Type 0} where
   abbrev pub item_slots : List X → List (Slots X)
   item_slots objects = map (λ object. with_debug_display empty_slots object) objects
 
-  -- one name's tree was changed, from no slot where it had none, and the other names stayed
+  -- one name's tree was changed, from no slot if it had none, and the other names stayed
   pub record Changes (old : List ℕ → Option (Slots X)) (name : List ℕ) (change : Slots X → Slots X)
       (new : List ℕ → Option (Slots X)) : Type 0 where
     pub here : new name ≡ Some (change (unwrap_or (old name) empty_slots))
@@ -98,7 +98,7 @@ pub record Binds (old : List ℕ → Option (Slots View)) (word : List ℕ)
   pub here : new (assigned_name assignment) ≡ Some tree
   pub others : (other : List ℕ) → other ≢ assigned_name assignment → new other ≡ old other
 
--- the words, in their order, bind what is found under each name, where nothing was
+-- the words, in their order, bind what is found under each name, and nothing was there before
 abbrev pub AreBound : {Z : Type 0} → List (String Z) → (finds : List ℕ → Option (Slots View))
     → Type 0
 AreBound words finds =

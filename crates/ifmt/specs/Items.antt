@@ -1,4 +1,4 @@
--- The items of a list word: what stands between the commas of a text.
+-- The items of a list word: what is between the commas of a text.
 use Rattle.std.specs.Prelude.{◌≡◌, ◌==◌, ℕ, List, [], ◌∷◌, map}
 use Rattle.std.specs.Borrow.{Bor}
 use Rattle.std.specs.List.{All, Contains, join_with_byte, slice_split}
@@ -19,6 +19,6 @@ pub record AreItems (text : List ℕ) (parts : List (List ℕ)) : Type 0 where
   pub apart : All (λ part. ¬ (Contains part comma)) parts
   pub empty : text ≡ [] → parts ≡ []
 
--- texts, where borrows do not count
+-- texts, borrows aside
 abbrev pub texts_of : List (Bor (List ℕ)) → List (List ℕ)
 texts_of texts = map (λ text. text.now) texts

@@ -12,7 +12,7 @@ pub data Assignment : Type 0 where
   number : (name : List ℕ) (value : ℤ) → Assignment
   list : (name items : List ℕ) → Assignment
 
--- the assignment of a `Word`, where borrows do not count: `None` for `Bad`
+-- the assignment of a `Word`, borrows aside: `None` for `Bad`
 abbrev pub assignment_of : Word → Option Assignment
 assignment_of (Text name value) = Some (text name.now value.now)
 assignment_of (Number name value) = Some (number name.now value)

@@ -4,7 +4,7 @@ ghost use Rattle.std.specs.Prelude.{◌≡◌, IfErr, IfOk, OnOk, List, map, str
 ghost use Rattle.std.specs.List.{AllZip};
 ghost use Rattle.interpolator.specs.Views.{shown_as_value};
 ghost use Rattle.interpolator.specs.Slots.{slots_of};
-ghost use Rattle.interpolator.specs.NameMaps.{found};
+ghost use Rattle.interpolator.specs.NameMaps.{stored_slots};
 ghost use Rattle.interpolator.specs.declared.Error.TheVariants.{NoMemory};
 ghost use Rattle.ifmt.specs.Items.{texts_of};
 ghost use Rattle.ifmt.specs.Binding.{Fills, HasObject, Lends, item_slots, items_show};
@@ -159,7 +159,7 @@ pub fn fill<'a, V>(
     items: &'a [Formattable<'a, V>],
 ) -> Result<(), Error>
     ensures ok { OnOk result (Fills
-        (found context.old) word.entry value.now (map slots_of items.now) (found context.new)) }
+        (stored_slots context.old) word.entry value.now (map slots_of items.now) (stored_slots context.new)) }
     ensures err { IfErr result (λ error. error ≡ NoMemory) }
 {
     match word {

@@ -25,7 +25,7 @@ const REFUSED: u8 = 3;
 
 /// Formats, and then writes the text to `out`, or the fault's text to `err`, as a line.
 ///
-/// Gives 0 where the text was written, 1 where a fault was, and 3 where `out` or `err` refuses; how
+/// Gives 0 if the text was written, 1 if there was a fault, and 3 if `out` or `err` refuses; how
 /// much went out is then open. What was written to is flushed, and the other is never touched.
 pub fn run<C: Context, O: Write, E: Write>(
     alloc: Global,
@@ -43,7 +43,7 @@ pub fn run<C: Context, O: Write, E: Write>(
 
 /// Writes how the program is called to `err`, as a line, and flushes.
 ///
-/// Gives 2, or 3 where `err` refuses; how much went out is then open.
+/// Gives 2, or 3 if `err` refuses; how much went out is then open.
 pub fn usage<E: Write>(err: &mut E) -> u8
     ensures { Puts 2 (E.contents err.old) (E.contents err.new) usage_line result }
 {
@@ -52,7 +52,7 @@ pub fn usage<E: Write>(err: &mut E) -> u8
 
 /// Writes that a word is bad to `err`, as a line, and flushes.
 ///
-/// Gives 2, or 3 where `err` refuses; how much went out is then open.
+/// Gives 2, or 3 if `err` refuses; how much went out is then open.
 pub fn complain<E: Write>(word: &str, err: &mut E) -> u8
     ensures { Puts 2 (E.contents err.old) (E.contents err.new) (complaint word.now) result }
 {
@@ -61,7 +61,7 @@ pub fn complain<E: Write>(word: &str, err: &mut E) -> u8
 
 /// Writes what a format gave: a text to `out`, or a fault to `err`, as a line, and flushes.
 ///
-/// Gives 0 for a text, 1 for a fault, and 3 where the write is refused.
+/// Gives 0 for a text, 1 for a fault, and 3 if the write is refused.
 pub fn report<O: Write, E: Write>(outcome: Result<String, Error>, out: &mut O, err: &mut E) -> u8
     ensures { MatchResult outcome
         (λ text. Prints (O.contents out.old) (O.contents out.new)

@@ -33,9 +33,9 @@ pub enum Word<'a> {
 
 /// Tells what a word means.
 ///
-/// It is cut at its first `=`. Where the part before ends in `:`, the part after is a number: an
-/// optional `-` and one or more ASCII digits within `i128`. Where it ends in `[]`, the part after
-/// has the [`items`] of a list. Else the part after is a text. The name is what stands before the
+/// It is cut at its first `=`. If the part before ends in `:`, the part after is a number: an
+/// optional `-` and one or more ASCII digits within `i128`. If it ends in `[]`, the part after
+/// has the [`items`] of a list. Else the part after is a text. The name is what comes before the
 /// ending, and may be empty. Any other word is `Bad`.
 ///
 /// `a=b=c` is the text `b=c` under `a`, `n:=-12` the number -12 under `n`, and `l[]=a,b` the list
@@ -49,7 +49,7 @@ pub fn classify(word: &str) -> Word<'_>
     }
 }
 
-// The word whose first `=` stands between these parts.
+// The word whose first `=` is between these parts.
 fn classify_parts<'a>(left: &'a str, right: &'a str) -> Word<'a>
     ensures { (assignment : Assignment) → PartsMean left.now right.now assignment
         ↔ (assignment_of result ≡ Some assignment) }

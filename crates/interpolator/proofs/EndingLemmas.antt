@@ -25,14 +25,14 @@ use Rattle.std.proofs.lemmas.Bool.{cond_both}
 
 -- ---- what the scan hands on, in pieces
 
--- the pieces of a text are some, of which the last ends as told, and those of what stands after
+-- the pieces of a text are some, of which the last ends as told, and those of what follows
 pub record Scanned (a : At) (e : Ending) (rest : At) : Type 0 where
   pub front : List Piece
   pub last : Piece
   pub split : pieces a ≡ front ++ (last ∷ pieces rest)
   pub ends : e ≡ piece_ending last
 
--- the argument after a brace ends the same wherever the brace stands
+-- the argument after a brace ends the same wherever the brace is
 abbrev AnyPlace : Step → Step → Type 0
 AnyPlace s t = (piece_ending s.piece ≡ piece_ending t.piece) × (s.rest ≡ t.rest)
 
@@ -40,7 +40,7 @@ any_place : (q p : ℕ) (b : At) → AnyPlace (argument_from q b) (argument_from
 unfolding argument_from
 any_place q p b = grind arith
 
--- what the scan hands on first, by what stands after it
+-- what the scan hands on first, by what follows it
 abbrev ScansTo : At → Option (Token × At) → Type 0
 ScansTo a None = pieces a ≡ []
 ScansTo a (Some x) = Scanned a (token_ending x.0 x.1) (past_token x.0 x.1)
@@ -79,7 +79,7 @@ literal_next p c cs h =
     pieces_next p c cs
     ∙ ap (λ (s : Step). s.piece ∷ pieces s.rest) (literal_step p c (past p c cs) h)
 
--- what stands after a run that begins with a literal
+-- what follows a run that begins with a literal
 after_literal :
     (p c : ℕ) (cs : List ℕ) → is_brace c ≡ false
     → after (in_class Literal) (past p c cs) ≡ after (in_class Literal) (stands p (c ∷ cs))

@@ -14,7 +14,7 @@ use Rattle.interpolator_syntax.specs.Classes.{front_of, after_of, in_class, is_b
 use Rattle.interpolator_syntax.specs.Pieces.{PieceKind, Piece, literal, doubled, step, piece_from}
 use Rattle.interpolator_syntax.specs.Pieces.{past, pieces}
 use Rattle.interpolator_eval.specs.Meaning.Environments.{Environment}
-use Rattle.interpolator_eval.specs.Meaning.Meanings.{Meaning, text_alone, joined, means}
+use Rattle.interpolator_eval.specs.Meaning.Meanings.{Meaning, text_alone, chain, means}
 use Rattle.interpolator.specs.Escaping.{braces_doubled, plain_character, ArePlain, SaysAlone}
 use Rattle.interpolator_syntax.specs.declared.class.Class.TheVariants.{Literal}
 use Rattle.interpolator_syntax.proofs.PieceLemmas.{piece_within, pieces_none, pieces_next}
@@ -30,7 +30,7 @@ doubled_front : (cs : List ℕ)
 doubled_front [] = refl
 doubled_front (c ∷ cs) = grind (arith, doubled_front cs)
 
--- what stands after the front begins with a brace
+-- what follows the front begins with a brace
 front_stops : (cs rest : List ℕ) (c : ℕ) → after_of (in_class Literal) cs ≡ c ∷ rest
     → is_brace c ≡ true
 front_stops [] rest c e = absurd (cc)
@@ -101,7 +101,7 @@ escaped_plain text cs e = rw e (doubled_plain cs 0)
 -- ---- meanings
 
 says_next :
-    {m k : Meaning} (p c : ℕ) (text : List ℕ) → m ≡ joined (text_alone ((c, p) ∷ [])) k
+    {m k : Meaning} (p c : ℕ) (text : List ℕ) → m ≡ chain (text_alone ((c, p) ∷ [])) k
     → SaysAlone text k → SaysAlone (c ∷ text) m
 says_next p c text e h = rw e (record {
   says = ap (λ cs. c ∷ cs) h.says;
@@ -140,7 +140,7 @@ module _ {X : Type 0} (shows : X → Trait → Spec → Shown) (e : Environment 
       kind_says p c d cs text (piece_from p c (past p c cs)).piece.kind refl (head_same k)
       (plain_says most rest.place rest.text text (omega arith) (tail_same k))
 
-  -- where all pieces are plain, the text says their characters alone
+  -- if all pieces are plain, the text says their characters alone
   pub plain_means : (a : At) (text : List ℕ) → ArePlain (pieces a) text
       → SaysAlone text (means shows e a)
   plain_means a text h = plain_says (length a.text) a.place a.text text (omega arith) h

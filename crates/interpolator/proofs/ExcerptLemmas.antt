@@ -1,6 +1,6 @@
 -- The first characters of a text, read one after the other.
 use Rattle.std.proofs.Common.{◌≡◌, ℕ, ◌<◌, ◌≤◌, ◌+◌, ◌-◌, List, [], ◌∷◌, ◌++◌, length, take, drop}
-use Rattle.std.proofs.Common.{refl, sym, ◌∙◌, ap, arith, append-nil, length-append, map}
+use Rattle.std.proofs.Common.{refl, sym, ◌∙◌, ap, arith, length-append, map}
 use Rattle.std.specs.Prelude.{encode_utf8}
 use Rattle.std.specs.Char.{len_utf8}
 use Rattle.std.specs.Str.{chars, encode_utf8_all, IsUtf8, IsCharBoundary}
@@ -8,7 +8,7 @@ use Rattle.std.proofs.Math.Seq.{take-append_seam, drop-append_seam}
 use Rattle.std.proofs.lemmas.List.{take_all, drop_all, map-append, length-map, take-append-drop}
 use Rattle.std.proofs.lemmas.List.{drop-drop}
 use Rattle.interpolator.specs.Excerpts.{Excerpt, blank, dots, excerpt_of, first_shown, most_shown}
-use Rattle.std.proofs.lemmas.Str.{encodes-append, encodes-chars, chars_from_encodes, chars-append}
+use Rattle.std.proofs.lemmas.Str.{encodes-append, encodes-chars, chars_from_encodes}
 use Rattle.std.proofs.lemmas.Str.{length-encode, IsUtf8-past_char, IsUtf8-take}
 use Rattle.std.proofs.lemmas.Str.{IsCharBoundary-at_seam}
 use Rattle.interpolator.proofs.PositionLemmas.{read_more, read_all}
@@ -68,7 +68,7 @@ front_chars text count done rest seen end u r =
     (encodes-append done (chars rest) ∙ ap (λ (x : List ℕ). encode_utf8_all done ++ x)
     (encodes-chars rest r.valid) ∙ sym r.parts))
 
--- where so many were read, they are the first so many
+-- if so many were read, they are the first so many
 pub front_taken : (text : List ℕ) (count : ℕ) (done rest : List ℕ) (seen end : ℕ) → IsUtf8 text
     → count ≤ seen → Front text count done rest seen end → take count (chars text) ≡ done
 front_taken text count done rest seen end u l r =

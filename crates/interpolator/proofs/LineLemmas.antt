@@ -23,7 +23,7 @@ pub line_fault :
     → Outcome (line_means m) old new (Some q)
 line_fault m old new q h = before_fault m _ old new q m.fault refl h
 
--- where it is refused its place is 0
+-- if it is refused its place is 0
 pub newline_place :
     (n : ℕ) (old new : Written) (answer : Option Answer)
     → Outcome newline_means old new answer → PlaceWithin n answer

@@ -10,11 +10,13 @@ use Rattle.interpolator_render.specs.declared.view.Spec.{Spec}
 use Rattle.interpolator_render.specs.Views.{Shown}
 use Rattle.interpolator_syntax.specs.At.{At, size, outermost}
 use Rattle.interpolator_syntax.specs.Pieces.{PieceKind, Piece, unclosed, broken, pieces}
+use Rattle.interpolator_syntax.specs.Nodes.{nodes, piece_node}
+use Rattle.interpolator_syntax.specs.Splits.{node_alone}
 use Rattle.interpolator.specs.Seams.{kind_ending, piece_ending, last_ending, ending}
 use Rattle.interpolator_syntax.specs.Faults.{Answer, parse, expected}
 use Rattle.interpolator_eval.specs.Meaning.Environments.{Environment}
-use Rattle.interpolator_eval.specs.Meaning.Meanings.{Meaning, fault_alone, joined}
-use Rattle.interpolator_eval.specs.Meaning.Meanings.{argument_means, piece_means, pieces_mean, means}
+use Rattle.interpolator_eval.specs.Meaning.Meanings.{Meaning, fault_alone, chain}
+use Rattle.interpolator_eval.specs.Meaning.Meanings.{argument_means, node_means, pieces_mean, means}
 use Rattle.interpolator.specs.Meaning.Parts.{joined_text, texts_of, parts_mean, CleanBehind, Clean}
 use Rattle.interpolator.specs.Meaning.Parts.{FrontsClose}
 use Rattle.interpolator_eval.specs.Meaning.Outcomes.{Outcome}
@@ -26,8 +28,8 @@ use Rattle.interpolator_syntax.proofs.LocalityLemmas.{stands, size-append}
 use Rattle.interpolator_syntax.proofs.CaseLemmas.{none_some}
 use Rattle.interpolator_syntax.proofs.PieceLemmas.{pieces_none}
 use Rattle.interpolator.proofs.SeamLemmas.{Leaves, pieces_append, both_close}
-use Rattle.interpolator_eval.proofs.MeaningLemmas.DepthLemmas.{means_pieces}
 use Rattle.interpolator_eval.proofs.MeaningLemmas.MeaningLemmas.{joined_assoc, means_none, joined_none}
+use Rattle.interpolator_eval.proofs.MeaningLemmas.MeaningLemmas.{means_pieces}
 use Rattle.interpolator_eval.proofs.MeaningLemmas.MeaningLemmas.{nothing_last, pieces_mean_append}
 use Rattle.interpolator_eval.proofs.MeaningLemmas.SinkLemmas.{and_then, fault_first, nothing_done}
 use Rattle.interpolator_eval.proofs.MeaningLemmas.SinkLemmas.{same_end}
@@ -41,7 +43,7 @@ module _ {X : Type 0} (shows : X → Trait → Spec → Shown) (e : Environment 
   means_both :
       (p : ℕ) (cs more : List ℕ) → Leaves (ending (stands p cs)) more
       → means shows e (stands p (cs ++ more))
-      ≡ joined (means shows e (stands p cs)) (means shows e (stands (p + size cs) more))
+      ≡ chain (means shows e (stands p cs)) (means shows e (stands (p + size cs) more))
   means_both p cs more h =
       let at = means_pieces shows e in
       let a = stands p cs in
@@ -51,7 +53,7 @@ module _ {X : Type 0} (shows : X → Trait → Spec → Shown) (e : Environment 
       (pieces b))
 
   pub means_next : (before part : List ℕ) → Leaves (ending (outermost before)) part
-      → joined (means shows e (outermost before)) (means shows e (stands (size before) part))
+      → chain (means shows e (outermost before)) (means shows e (stands (size before) part))
       ≡ means shows e (outermost (before ++ part))
   means_next before part h =
       rw zero_and at (sym (means_both 0 before part h))
@@ -59,7 +61,7 @@ module _ {X : Type 0} (shows : X → Trait → Spec → Shown) (e : Environment 
   compose_after :
       (before part : List ℕ) (parts : List (List ℕ)) → ending (outermost before) ≢ Open
       → CleanBehind before (part ∷ parts) → FrontsClose (size before) (part ∷ parts)
-      → joined (means shows e (outermost before)) (parts_mean shows e (size before) (part ∷ parts))
+      → chain (means shows e (outermost before)) (parts_mean shows e (size before) (part ∷ parts))
       ≡ means shows e (outermost (before ++ joined_text (part ∷ parts)))
   compose_after before part [] h clean close =
       rw (nothing_last (means shows e (stands (size before) part)), append-nil part)
@@ -72,7 +74,7 @@ module _ {X : Type 0} (shows : X → Trait → Spec → Shown) (e : Environment 
       let more =
       compose_after (before ++ part) next parts closes clean.1 (rw there close.1) in
       sym (joined_assoc (means shows e (outermost before)) here (rest (size before + size part)))
-      ∙ ap (λ m. joined m (rest (size before + size part))) (means_next before part (h, clean.0))
+      ∙ ap (λ m. chain m (rest (size before + size part))) (means_next before part (h, clean.0))
       ∙ (rw (there, append_assoc) at more)
 
   -- clean parts mean what their joined text means
@@ -82,33 +84,32 @@ module _ {X : Type 0} (shows : X → Trait → Spec → Shown) (e : Environment 
   parts_are_one (part ∷ parts) clean close =
       let settled : ending (outermost []) ≢ Open = rw (pieces_none 0) (λ d. cc) in
       let all = parts_mean shows e 0 (part ∷ parts) in
-      sym (joined_none all) ∙ ap (λ m. joined m all) (sym (means_none shows e 0))
+      sym (joined_none all) ∙ ap (λ m. chain m all) (sym (means_none shows e 0))
       ∙ compose_after [] part parts settled clean close
 
   -- ---- a text without fault
 
-  no_fault_first : (m k : Meaning) → (joined m k).fault ≡ None → (m.fault ≡ None) × (k.fault ≡ None)
+  no_fault_first : (m k : Meaning) → (chain m k).fault ≡ None → (m.fault ≡ None) × (k.fault ≡ None)
   no_fault_first m k h = grind arith
 
-  piece_closes : (p : ℕ) (k : PieceKind) → (piece_means shows (means shows) e p k).fault ≡ None
-      → kind_ending k ≢ Open
-  piece_closes p (unclosed start x q) h =
+  piece_closes : (p end : ℕ) (k : PieceKind)
+      → (node_means shows e (piece_node nodes p end k)).fault ≡ None → kind_ending k ≢ Open
+  piece_closes p end (unclosed start x q) h =
       let parts =
-      no_fault_first (argument_means shows (means shows) e start x q)
+      no_fault_first (argument_means shows e start x q)
       (fault_alone (parse (expected (codes "}") q))) h in
       absurd (none_some (sym parts.1))
-  piece_closes p (broken f) h = absurd (none_some (sym h))
-  piece_closes p kind h = λ d. cc
+  piece_closes p end (broken f) h = absurd (none_some (sym h))
+  piece_closes p end kind h = λ d. cc
 
   pieces_close : (d : Ending) (xs : List Piece) → d ≢ Open
-      → (pieces_mean shows (means shows) e xs).fault ≡ None
+      → (pieces_mean shows e xs).fault ≡ None
       → last_ending d xs ≢ Open
   pieces_close d [] k h = k
   pieces_close d (x ∷ xs) k h =
       let both =
-      no_fault_first (piece_means shows (means shows) e x.place x.kind)
-      (pieces_mean shows (means shows) e xs) h in
-      pieces_close (piece_ending x) xs (piece_closes x.place x.kind both.0) both.1
+      no_fault_first (node_means shows e (node_alone x)) (pieces_mean shows e xs) h in
+      pieces_close (piece_ending x) xs (piece_closes x.place _ x.kind both.0) both.1
 
   -- a text without fault ends in no argument that is unclosed or broken
   pub faultless_closes : (a : At) → (means shows e a).fault ≡ None → ending a ≢ Open

@@ -104,7 +104,7 @@ reached_fits text place rest after end c size z e r =
     let k = ap length e in let t = length-append (encode_utf8 c) after in
     let s = length-encode c in let d = r.counted in omega arith
 
--- where the place was reached, what was read is what begins before it
+-- if the place was reached, what was read is what begins before it
 pub reached_place : (text : List ℕ) (place : ℕ) (rest cut : List ℕ) (end : ℕ) → place ≤ end
     → cut ≡ take (end - 0) text → IsUtf8 cut → Reached text place rest end
     → chars cut ≡ begun_before place (chars text)

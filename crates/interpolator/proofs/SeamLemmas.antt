@@ -58,7 +58,7 @@ closed_same a more x q rest e closes =
 
 -- ---- pieces
 
--- what a piece needs of the text after it, where it is the last
+-- what a piece needs of the text after it, if it is the last
 abbrev Goes : Step → List ℕ → Type 0
 Goes s more = s.rest.text ≡ [] → Leaves (piece_ending s.piece) more
 

@@ -11,10 +11,7 @@ pub mod DepthLemmas
 pub mod ExtentLemmas
 pub mod FaultLemmas
 pub mod ItselfLemmas
-pub mod LackLawLemmas
-pub mod LackLemmas
-pub mod NodeMeaningLemmas
-pub mod NodeNameLemmas
+pub mod MissedLemmas
 pub mod ParseLemmas
 pub mod PartLemmas
 pub mod PlaceLemmas
@@ -24,7 +21,6 @@ pub mod RunLemmas
 pub mod SamplePairLemmas
 pub mod SamplePlaceLemmas
 pub mod SampleWalkLemmas
-pub mod SplitLemmas
 pub mod StoredLemmas
 pub mod StoredNameLemmas
 pub mod TellLemmas
@@ -34,3 +30,4 @@ pub mod WalkLemmas
 pub mod WholeLemmas
 pub mod WholePieceLemmas
 pub mod WithinLemmas
+pub mod WorkLemmas

@@ -1,11 +1,11 @@
 -- A line of a text, shown with marks under some of its characters.
-use Rattle.std.specs.Prelude.{ℕ, Bool, ◌+◌, ◌-◌, ◌==◌, nat_lt, nat_le, max, if◌then◌else◌}
+use Rattle.std.specs.Prelude.{ℕ, Bool, ◌-◌, ◌==◌, nat_lt, nat_le, max, if◌then◌else◌}
 use Rattle.std.specs.Prelude.{List, [], ◌++◌, length, take, drop, map, replicate, codes}
 use Rattle.std.specs.Prelude.{encode_utf8_all}
 use Rattle.std.specs.Fmt.{decimal}
 
--- a line, cut around a place where it is long: the characters before the marked ones, those that
--- are marked, and those after them; and whether more stands in front of these and behind
+-- a line, cut around a place if it is long: the characters before the marked ones, those that are
+-- marked, and those after them; and whether more comes before these and after them
 pub record Excerpt : Type 0 where
   pub cut_before : Bool
   pub before : List ℕ
@@ -44,12 +44,12 @@ abbrev pub shown_line : Excerpt → List ℕ
 shown_line e = dots e.cut_before ++ (encode_utf8_all e.before ++ (encode_utf8_all e.marked
     ++ (encode_utf8_all e.after ++ dots e.cut_after)))
 
--- what stands under a character that is not marked: a tab under a tab, else a space
+-- what is written under a character that is not marked: a tab under a tab, else a space
 abbrev pub blank : ℕ → ℕ
 blank c = if c == 9 then 9 else 32
 
--- the marks: blanks under all that stands before the marked characters, and a mark under each of
--- these; one mark where none is marked
+-- the marks: blanks under all that is before the marked characters, and a mark under each of these;
+-- one mark if none is marked
 abbrev pub marks_under : Excerpt → List ℕ
 marks_under e = map blank (dots e.cut_before) ++ (map blank e.before
     ++ replicate (max 1 (length e.marked)) 94)

@@ -13,9 +13,9 @@ use Rattle.interpolator.specs.Positions.{line_at, column_at}
 use Rattle.interpolator.specs.Template.NodePlaces.{argument_among}
 use Rattle.interpolator.specs.declared.explaining.Source.{Source}
 
--- the sum, or the greatest `usize` where it is greater
-abbrev pub capped : ℕ → ℕ → ℕ
-capped a b = min (a + b) (2 ^ 64 - 1)
+-- the sum, or the greatest `usize` if it is greater
+abbrev pub usize_sum : ℕ → ℕ → ℕ
+usize_sum a b = min (a + b) (2 ^ 64 - 1)
 
 -- the bytes of a format that are marked: those of the innermost argument that has the place, or none
 -- but the place
@@ -27,7 +27,7 @@ marked_bytes format place =
 abbrev pub line_of : List ℕ → ℕ → List ℕ
 line_of text number = get_or (lines text) (number - 1) []
 
--- how many characters of a line of so many, that has this number, stand before a byte of the text
+-- how many characters of a line of so many, that has this number, are before a byte of the text
 abbrev pub before_in_line : List ℕ → (number count place : ℕ) → ℕ
 before_in_line text number count place =
     if nat_lt (line_at text place) number then 0
@@ -39,10 +39,10 @@ excerpt_at s at marked =
     let number = line_at s.text.now at in
     let line = chars (line_of s.text.now number) in
     excerpt_of line (column_at s.text.now at - 1)
-    (before_in_line s.text.now number (length line) (capped s.start marked.0))
-    (before_in_line s.text.now number (length line) (capped s.start marked.1))
+    (before_in_line s.text.now number (length line) (usize_sum s.start marked.0))
+    (before_in_line s.text.now number (length line) (usize_sum s.start marked.1))
 
--- what stands before the line: name, line, column and what it is
+-- what comes before the line: name, line, column and what it is
 abbrev pub head : List ℕ → (number column : ℕ) → List ℕ → List ℕ
 head name number column what = name ++ (codes ":" ++ (decimal number ++ (codes ":"
     ++ (decimal column ++ (codes ": " ++ what)))))
@@ -50,16 +50,16 @@ head name number column what = name ++ (codes ":" ++ (decimal number ++ (codes "
 -- what is told of something at a byte of the text, which has a number and a column, and its line
 abbrev pub told_at : Source → (at : ℕ) → ℕ × ℕ → List ℕ → List ℕ
 told_at s at marked what =
-    let number = capped s.first_line (line_at s.text.now at - 1) in
+    let number = usize_sum s.first_line (line_at s.text.now at - 1) in
     head s.name.now number (column_at s.text.now at) what
     ++ (codes "\n" ++ picture number (excerpt_at s at marked))
 
--- the same of something at a byte of the format, or without a place
+-- what is told of something at a byte of the format, or without a place
 abbrev pub explanation : Source → Option ℕ → List ℕ → List ℕ
 explanation s None what = s.name.now ++ (codes ": " ++ what)
 explanation s (Some place) what =
-    told_at s (capped s.start place) (marked_bytes s.format.now place) what
+    told_at s (usize_sum s.start place) (marked_bytes s.format.now place) what
 
 -- what is told of an answer
-abbrev pub explained : Source → Answer → List ℕ
-explained s answer = explanation s (answer_place answer) (answer_text answer)
+abbrev pub explanation_of : Source → Answer → List ℕ
+explanation_of s answer = explanation s (answer_place answer) (answer_text answer)

@@ -13,7 +13,7 @@ pub use Rattle.interpolator_eval.specs.Meaning.Moves
 pub use Rattle.interpolator_eval.specs.Meaning.Outcomes
 pub use Rattle.interpolator_eval.specs.Meaning.Resembling
 pub use Rattle.interpolator_eval.specs.Meaning.Samples
-pub use Rattle.interpolator_eval.specs.Meaning.Scopes
+pub use Rattle.interpolator_eval.specs.Meaning.CodeEnvironments
 pub use Rattle.interpolator_eval.specs.Meaning.Sinks
 pub mod Parts
 pub mod SamplePairs

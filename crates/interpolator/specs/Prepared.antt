@@ -1,4 +1,5 @@
 -- A format that was prepared for rows of values: its program, and what that means over a row.
+pub mod Items
 pub mod Programs
 pub mod Rows
 pub mod StoredSteps

@@ -1,4 +1,4 @@
--- How a text ends, and which text may stand after it and leave its last piece as it is.
+-- How a text ends, and which text may follow it and leave its last piece as it is.
 use Rattle.std.specs.Prelude.{ℕ, Bool, true, false, not, ◌==◌, List, [], ◌∷◌}
 use Rattle.interpolator_syntax.specs.At.{At, outermost}
 use Rattle.interpolator_syntax.specs.Classes.{close_brace}
@@ -22,7 +22,7 @@ kind_ending (broken f) = Open
 abbrev pub piece_ending : Piece → Ending
 piece_ending x = kind_ending x.kind
 
--- how the last of these pieces ends, or as given where there is none
+-- how the last of these pieces ends, or as given if there is none
 abbrev pub last_ending : Ending → List Piece → Ending
 last_ending e [] = e
 last_ending e (x ∷ xs) = last_ending (piece_ending x) xs
@@ -36,18 +36,17 @@ abbrev pub begins_close : List ℕ → Bool
 begins_close [] = false
 begins_close (c ∷ cs) = c == close_brace
 
--- whether a text that stands after one that ends so leaves its last piece as it is
+-- whether a text that follows one that ends so leaves its last piece as it is
 abbrev pub may_follow : Ending → List ℕ → Bool
 may_follow Settled more = true
 may_follow LoneClose more = not (begins_close more)
 may_follow Open more = true
 
--- whether the text b may stand after the text a: not where a ends in a lone `}` and b begins with
--- one
+-- whether the text b may follow the text a: not if a ends in a lone `}` and b begins with one
 abbrev pub seam_of : (a b : List ℕ) → Bool
 seam_of a b = may_follow (ending (outermost a)) b
 
--- how what the scan hands on ends, where b stands after it
+-- how what the scan hands on ends, with b after it
 abbrev pub token_ending : Token → (b : At) → Ending
 token_ending (literals cs) b = Settled
 token_ending (doubled_token c) b = Settled

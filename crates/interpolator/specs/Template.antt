@@ -1,18 +1,16 @@
--- A format that is read once: its arguments, its nodes, what they mean and ask, and how the
--- code stores them.
+-- A format that is read once: its arguments, what its tree tells before it is written, and how the
+-- code stores it.
 pub mod AllArguments
 pub mod NodeChecks
 pub mod NodeCosts
 pub mod NodeExtents
-pub mod NodeLacks
-pub mod NodeMeanings
 pub mod NodeNames
 pub mod NodePlaces
 pub mod NodeSamples
 pub mod NodeWork
 pub mod Reading
-pub mod Splits
 pub mod Stored
 pub mod StoredMeanings
+pub mod StoredWork
 pub mod Telling
 pub mod Visits

@@ -32,8 +32,8 @@ fn append_twice(out: &mut TextBuffer, c: char) -> Result<(), Error>
     Ok(())
 }
 
-/// Appends the front of a text in which no brace stands, and twice the brace after it. Returns
-/// what stands after that.
+/// Appends the front of a text without a brace, and twice the brace after it. Returns what follows
+/// that.
 fn append_front<'a>(out: &mut TextBuffer, text: &'a str) -> Result<&'a str, Error>
     requires not_empty { 0 < length text.now }
     ensures ok { IfOk result (λ rest. out.new.text ++ braces_doubled (chars rest.now)
@@ -57,7 +57,7 @@ fn append_front<'a>(out: &mut TextBuffer, text: &'a str) -> Result<&'a str, Erro
 ///
 /// # Errors
 ///
-/// `NoMemory` where memory for the format is refused.
+/// `NoMemory` if memory for the format is refused.
 ///
 /// # Example
 ///

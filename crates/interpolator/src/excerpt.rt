@@ -10,7 +10,7 @@ use std::alloc::{AllocError, Global};
 /// How many characters of a line are shown.
 const MOST_SHOWN: usize = 120;
 
-/// How many of these stand before the place around which a longer line is cut.
+/// How many of these come before the place around which a longer line is cut.
 const SHOWN_BEFORE: usize = 60;
 
 /// The first `count` characters of a text, and the rest.
@@ -32,7 +32,7 @@ fn split_after(text: &str, count: usize) -> (&str, &str)
     (text, "")
 }
 
-/// What stands under a character that is not marked.
+/// What is written under a character that is not marked.
 fn blank_of(c: char) -> char
     ensures blank { result ≡ blank c }
     ensures ascii { result < 128 }
@@ -40,7 +40,7 @@ fn blank_of(c: char) -> char
     if c == '\t' { '\t' } else { ' ' }
 }
 
-/// The same of a text.
+/// The blanks under a text.
 fn blanks(alloc: Global, text: &str) -> Result<String, AllocError>
     ensures { IfOk result (λ under. string_bytes under ≡ map blank (chars text.now)) }
 {
@@ -63,14 +63,14 @@ fn copies(alloc: Global, c: char, count: usize) -> Result<String, AllocError>
     Ok(text)
 }
 
-/// What stands where a line is cut.
+/// What is written at a place where a line is cut.
 fn dots(cut: bool) -> &'static str
     ensures { result.now ≡ dots cut }
 {
     if cut { ".." } else { "" }
 }
 
-/// What stands under that.
+/// What is written under that.
 fn dot_blanks(cut: bool) -> &'static str
     ensures { result.now ≡ map blank (dots cut) }
 {

@@ -1,6 +1,6 @@
 //! Faults as a compiler shows them.
 ghost use Rattle.std.specs.Prelude.{◌≡◌, ◌<◌, ◌++◌, codes, IfErr, IfOk, string_bytes};
-ghost use Rattle.interpolator.specs.Explained.{before_in_line, explained, head as head_of};
+ghost use Rattle.interpolator.specs.Explained.{before_in_line, explanation_of, head as head_of};
 ghost use Rattle.interpolator.specs.Explained.{line_of, marked_bytes, told_at};
 ghost use Rattle.interpolator_syntax.specs.Faults.{answer_of, no_memory};
 
@@ -45,7 +45,7 @@ pub struct Source<'a> {
 ///
 /// `NoMemory`.
 pub fn explain(alloc: Global, name: &str, text: &str, error: &Error) -> Result<String, Error>
-    ensures told { IfOk result (λ told. string_bytes told ≡ explained (record {
+    ensures told { IfOk result (λ told. string_bytes told ≡ explanation_of (record {
       name = name.entry;
       first_line = 1;
       text = text.entry;
@@ -68,9 +68,9 @@ pub fn explain(alloc: Global, name: &str, text: &str, error: &Error) -> Result<S
 /// fault's place, what it is, and the line with marks under the argument that has the place.
 ///
 /// The innermost argument that has the place is marked from its opening brace to its end, as far as
-/// it is in the line; at any other place one mark stands. Under a tab is a tab. A line of more than
-/// 120 characters is cut around the place, with `..` where it is cut. A fault without a place is shown
-/// with the name alone. The answer has no newline at its end.
+/// it is in the line; at any other place there is one mark. Under a tab is a tab. A line of more
+/// than 120 characters is cut around the place, with `..` where it is cut. A fault without a place
+/// is shown with the name alone. The answer has no newline at its end.
 ///
 /// The format is read again, and memory is taken for that.
 ///
@@ -86,7 +86,7 @@ pub fn explain(alloc: Global, name: &str, text: &str, error: &Error) -> Result<S
 /// `NoMemory`.
 pub fn explain_in(alloc: Global, source: &Source<'_>, error: &Error) -> Result<String, Error>
     ensures told { IfOk result (λ told.
-        string_bytes told ≡ explained source.now (answer_of error.now)) }
+        string_bytes told ≡ explanation_of source.now (answer_of error.now)) }
     ensures refused { IfErr result (λ error. answer_of error ≡ no_memory) }
 {
     let what = format!(in alloc; "{error}")?;
@@ -137,7 +137,7 @@ fn line_of(text: &str, number: usize) -> &str
     ""
 }
 
-/// How many characters of a line of so many, that has this number, stand before a byte of the text.
+/// How many characters of a line of so many, that has this number, are before a byte of the text.
 fn before_in_line(text: &str, number: usize, count: usize, place: usize) -> usize
     ensures { result ≡ before_in_line text.now number count place }
 {
@@ -151,7 +151,7 @@ fn before_in_line(text: &str, number: usize, count: usize, place: usize) -> usiz
     at.column - 1
 }
 
-/// What stands before the line that is shown.
+/// What comes before the line that is shown.
 fn head(
     alloc: Global,
     name: &str,

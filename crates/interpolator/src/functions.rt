@@ -1,42 +1,49 @@
 //! Formats: text and values in, the formatted text or one located fault out.
 
-ghost use Rattle.std.specs.Prelude.{◌≡◌, ◌≤◌, ◌⊎◌, [], false, length, IfOk, Some, option_map};
+ghost use Rattle.std.specs.Prelude.{◌≡◌, ◌+◌, ◌<◌, ◌≤◌, ◌⊎◌, [], false, length, IfOk, Some};
+ghost use Rattle.std.specs.Prelude.{option_map};
 ghost use Rattle.std.specs.Str.{chars};
 ghost use Rattle.interpolator_syntax.specs.At.{outermost};
 ghost use Rattle.interpolator_eval.specs.Meaning.AskedNames.{asked_names};
 ghost use Rattle.interpolator_eval.specs.Meaning.Environments.{environment, cut};
-ghost use Rattle.interpolator_syntax.specs.Faults.{answered, fault, no_memory, PlaceWithin};
+ghost use Rattle.interpolator_syntax.specs.Faults.{result_answer, fault, no_memory, PlaceWithin};
+ghost use Rattle.interpolator_eval.specs.Meaning.Limits.{IsWithin};
 ghost use Rattle.interpolator_eval.specs.Meaning.Meanings.{means};
 ghost use Rattle.interpolator_eval.specs.Meaning.Outcomes.{Outcome, Formats};
 ghost use Rattle.interpolator.specs.Template.NodeChecks.{first_fault, text_faults};
+ghost use Rattle.interpolator.specs.Template.NodeCosts.{text_cost};
+ghost use Rattle.interpolator.specs.Template.NodeWork.{text_work};
+ghost use Rattle.interpolator.specs.declared.template.cost.Limits.{Limits};
 ghost use Rattle.interpolator_syntax.specs.Nodes.{nodes};
 ghost use Rattle.interpolator.specs.Template.Stored.{nodes_of};
 ghost use Rattle.interpolator_render.specs.Written.{as_writer};
 
+use crate::tally::{Tally, Wrapped};
 use crate::template::check::Check;
 use crate::template::parse::parse_pieces;
 use crate::template::piece::Piece;
 use crate::template::walk::walk_text;
 use crate::tree::run_pieces;
-use interpolator_eval::{Context, Scope, Sink, write_text};
+use interpolator_eval::{Context, Environment, Sink, write_text};
 use interpolator_render::{TextBuffer, TextWrite};
 use interpolator_syntax::{Cursor, Error};
 use std::alloc::{AllocError, Global};
+use std::marker::Brand;
+use std::sync::ledger::{Blank, Ledger};
 
 /// Writes what the format means in the context, up to its first fault.
 ///
 /// The pieces of the format are read once, from left to right, and written as they come: `{{` as
-/// `{`, `}}` as `}`, `{name}` as the text of the value under the name, and every other character
-/// as it stands. `{name:i}` writes the items of a list one after the other: each displayed plainly
-/// or, where a group `(..)` follows, by the format in it, in which the empty name is the item. A
-/// second group is written between two items.
+/// `{`, `}}` as `}`, `{name}` as the text of the value under the name, and every other character as
+/// it is. `{name:i}` writes the items of a list one after the other: each displayed plainly or, if
+/// a group `(..)` follows, by the format in it, in which the empty name is the item. A second group
+/// is written between two items.
 ///
 /// Under a width the text of a list is made whole in a buffer and then padded, and of a list in
 /// which a fault is found nothing is written. Memory is taken for such a buffer, before anything of
 /// its argument is written, and for the name in a `MissingValue`; and for nothing else. The buffer
-/// takes as many bytes as the writer's [`room`](TextWrite::room) tells when the list begins, where
-/// it tells it: a list with more bytes is refused before it is made, since the writer would refuse
-/// it.
+/// takes as many bytes as the writer's [`room`](TextWrite::room) tells when the list begins, if it
+/// tells it: a list with more bytes is refused before it is made, since the writer would refuse it.
 ///
 /// # Errors
 ///
@@ -44,9 +51,9 @@ use std::alloc::{AllocError, Global};
 ///   The text before it was written.
 /// - `MissingValue`: the context has nothing under the name.
 /// - `MissingTraitImpl`: the value has no slot for the trait, or no text under it.
-/// - `Fmt`: a value failed, or the writer refused. Where the writer refused a literal character,
-///   the place is that of the first which was not appended; where it refused a value or a padded
-///   list, the byte after the argument's spec.
+/// - `Fmt`: a value failed, or the writer refused. If the writer refused a literal character, the
+///   place is that of the first which was not appended; if it refused a value or a padded list, the
+///   byte after the argument's spec.
 /// - `NoMemory`: a missing name could not be copied, or a padded list's text found no memory, or has
 ///   more bytes than the writer's room.
 ///
@@ -68,18 +75,18 @@ pub fn write<W: TextWrite, C: Context>(
 ) -> Result<(), Error>
     ensures outcome { Outcome
         (means C.Object.shows (environment (C.finds context.now)) (outermost (chars format.now)))
-        (W.written out.old) (W.written out.new) (answered result) }
+        (W.written out.old) (W.written out.new) (result_answer result) }
     ensures asked { let a = outermost (chars format.now) in Outcome
         (means C.Object.shows (cut (environment (C.finds context.now)) (asked_names a)) a)
-        (W.written out.old) (W.written out.new) (answered result) }
-    ensures place { PlaceWithin (length format.now) (answered result) }
+        (W.written out.old) (W.written out.new) (result_answer result) }
+    ensures place { PlaceWithin (length format.now) (result_answer result) }
 {
     let text = Cursor {
         place: 0,
         rest: format,
     };
     let mut sink = Sink::Writer(out);
-    let answer = write_text(&mut sink, &Scope::outermost(alloc, context), text);
+    let answer = write_text(&mut sink, &Environment::outermost(alloc, context), text);
     match sink {
         Sink::Writer(end) => {
             let _ = end;
@@ -104,6 +111,75 @@ pub(crate) fn buffer_for(alloc: Global, format: &str) -> Result<TextBuffer, Allo
     Ok(TextBuffer::from_string(text))
 }
 
+/// Writes what the stored pieces of a format mean in the context, and counts the pieces that it goes
+/// through: no more than the format means, and so no more than its cost within limits.
+pub(crate) fn write_counted<W: TextWrite, C: Context, L: Ledger>(
+    alloc: Global,
+    out: &mut W,
+    format: &str,
+    pieces: &[Piece],
+    context: &C,
+    tally: &mut Tally<L>,
+) -> Result<(), Error>
+    requires pieces { nodes_of format.now pieces.now ≡ nodes (outermost (chars format.now)) }
+    ensures outcome { Outcome
+        (means C.Object.shows (environment (C.finds context.now)) (outermost (chars format.now)))
+        (W.written out.old) (W.written out.new) (result_answer result) }
+    ensures asked { let a = outermost (chars format.now) in Outcome
+        (means C.Object.shows (cut (environment (C.finds context.now)) (asked_names a)) a)
+        (W.written out.old) (W.written out.new) (result_answer result) }
+    ensures place { PlaceWithin (length format.now) (result_answer result) }
+    ensures gone { tally.new ≤ tally.old + (text_work C.Object.shows
+        (environment (C.finds context.now)) (outermost (chars format.now))).pieces }
+    ensures within { (limits : Limits)
+        → IsWithin C.Object.shows limits.text limits.items (environment (C.finds context.now))
+        (asked_names (outermost (chars format.now)))
+        → tally.new ≤ tally.old + (text_cost limits (outermost (chars format.now))).pieces }
+{
+    let mut sink = Sink::Writer(out);
+    let answer = run_pieces(
+        &mut sink,
+        &Environment::outermost(alloc, context),
+        format,
+        pieces,
+        tally,
+    );
+    match sink {
+        Sink::Writer(end) => {
+            let _ = end;
+        }
+        Sink::Aside(_) => unreachable!(),
+    }
+    answer
+}
+
+/// Writes what the stored pieces of a format mean in the context, counted from a blank ledger.
+#[inline(always)]
+fn write_on<W: TextWrite, C: Context, L: Ledger>(
+    alloc: Global,
+    out: &mut W,
+    format: Wrapped<'_>,
+    pieces: &[Piece],
+    context: &C,
+    blank: Blank,
+) -> Result<(), Error>
+    requires name { blank.name ≡ L.name }
+    requires parts { blank.parts ≡ L.parts }
+    requires some { 0 < blank.parts }
+    requires pieces { nodes_of format.text.now pieces.now ≡ nodes (outermost (chars format.text.now)) }
+    ensures outcome { Outcome
+        (means C.Object.shows (environment (C.finds context.now))
+        (outermost (chars format.entry.text.now)))
+        (W.written out.old) (W.written out.new) (result_answer result) }
+    ensures asked { let a = outermost (chars format.entry.text.now) in Outcome
+        (means C.Object.shows (cut (environment (C.finds context.now)) (asked_names a)) a)
+        (W.written out.old) (W.written out.new) (result_answer result) }
+    ensures place { PlaceWithin (length format.entry.text.now) (result_answer result) }
+{
+    let mut tally = Tally::<L>::open(blank);
+    write_counted(alloc, out, format.text, pieces, context, &mut tally)
+}
+
 /// Writes what the stored pieces of a format mean in the context.
 pub(crate) fn write_pieces<W: TextWrite, C: Context>(
     alloc: Global,
@@ -115,21 +191,14 @@ pub(crate) fn write_pieces<W: TextWrite, C: Context>(
     requires pieces { nodes_of format.now pieces.now ≡ nodes (outermost (chars format.now)) }
     ensures outcome { Outcome
         (means C.Object.shows (environment (C.finds context.now)) (outermost (chars format.now)))
-        (W.written out.old) (W.written out.new) (answered result) }
+        (W.written out.old) (W.written out.new) (result_answer result) }
     ensures asked { let a = outermost (chars format.now) in Outcome
         (means C.Object.shows (cut (environment (C.finds context.now)) (asked_names a)) a)
-        (W.written out.old) (W.written out.new) (answered result) }
-    ensures place { PlaceWithin (length format.now) (answered result) }
+        (W.written out.old) (W.written out.new) (result_answer result) }
+    ensures place { PlaceWithin (length format.now) (result_answer result) }
 {
-    let mut sink = Sink::Writer(out);
-    let answer = run_pieces(&mut sink, &Scope::outermost(alloc, context), format, pieces);
-    match sink {
-        Sink::Writer(end) => {
-            let _ = end;
-        }
-        Sink::Aside(_) => unreachable!(),
-    }
-    answer
+    let format = Wrapped { text: format };
+    write_on::<W, C, Brand>(alloc, out, format, pieces, context, Blank::new(1))
 }
 
 /// The text that the stored pieces of a format mean in the context, in a new `String`.
@@ -145,7 +214,7 @@ pub(crate) fn format_pieces<C: Context>(
         result }
     ensures asked { let a = outermost (chars format.now) in Formats
         (means C.Object.shows (cut (environment (C.finds context.now)) (asked_names a)) a) result }
-    ensures place { PlaceWithin (length format.now) (answered result) }
+    ensures place { PlaceWithin (length format.now) (result_answer result) }
 {
     let mut out = buffer_for(alloc, format)?;
     let answer = write_pieces(alloc, &mut out, format, pieces, context);
@@ -165,7 +234,7 @@ pub(crate) fn format_pieces<C: Context>(
 /// # Errors
 ///
 /// Those of `write` over the same format and context, where `Fmt` means that a value failed; and
-/// `NoMemory` where the text, the room that is taken for it at the beginning, or the pieces of the
+/// `NoMemory` if the text, the room that is taken for it at the beginning, or the pieces of the
 /// format find no memory.
 ///
 /// # Example
@@ -179,7 +248,7 @@ pub fn format<C: Context>(alloc: Global, format: &str, context: &C) -> Result<St
         result }
     ensures asked { let a = outermost (chars format.now) in Formats
         (means C.Object.shows (cut (environment (C.finds context.now)) (asked_names a)) a) result }
-    ensures place { PlaceWithin (length format.now) (answered result) }
+    ensures place { PlaceWithin (length format.now) (result_answer result) }
 {
     let start = Cursor {
         place: 0,
@@ -192,11 +261,11 @@ pub fn format<C: Context>(alloc: Global, format: &str, context: &C) -> Result<St
 /// Tells the first fault that a format has by itself, as
 /// [`Template::check`](crate::Template::check) does of a format that was read.
 ///
-/// Where it answers `Ok`, no context makes the format answer `Parse` or `UnsupportedOption`.
+/// If it answers `Ok`, no context makes the format answer `Parse` or `UnsupportedOption`.
 ///
 /// # Errors
 ///
-/// `Parse` and `UnsupportedOption`, each at its place in the text; and `NoMemory` where the pieces of
+/// `Parse` and `UnsupportedOption`, each at its place in the text; and `NoMemory` if the pieces of
 /// the format find no memory.
 ///
 /// # Example
@@ -205,10 +274,10 @@ pub fn format<C: Context>(alloc: Global, format: &str, context: &C) -> Result<St
 /// check(alloc, "{a:i({z)}{b")?    // Err(Parse(FormatSpecUnclosed(6)))
 /// ```
 pub fn check(alloc: Global, text: &str) -> Result<(), Error>
-    ensures first { (answered result
+    ensures first { (result_answer result
         ≡ option_map fault (first_fault (text_faults (outermost (chars text.now)))))
-        ⊎ (answered result ≡ Some no_memory) }
-    ensures place { PlaceWithin (length text.now) (answered result) }
+        ⊎ (result_answer result ≡ Some no_memory) }
+    ensures place { PlaceWithin (length text.now) (result_answer result) }
 {
     let start = Cursor {
         place: 0,

@@ -4,7 +4,7 @@ ghost use Rattle.std.specs.Str.{chars};
 ghost use Rattle.interpolator_syntax.specs.At.{outermost};
 ghost use Rattle.interpolator_eval.specs.Meaning.AskedNames.{asked_names};
 ghost use Rattle.interpolator_eval.specs.Meaning.Environments.{environment, cut};
-ghost use Rattle.interpolator_syntax.specs.Faults.{answer_of, answered, fault, no_memory};
+ghost use Rattle.interpolator_syntax.specs.Faults.{answer_of, result_answer, fault, no_memory};
 ghost use Rattle.interpolator_syntax.specs.Faults.{PlaceWithin};
 ghost use Rattle.interpolator.specs.Meaning.Lines.{line_means};
 ghost use Rattle.interpolator_eval.specs.Meaning.Meanings.{means};
@@ -23,7 +23,6 @@ use interpolator_render::{TextWrite, Value};
 use interpolator_syntax::Error;
 use std::alloc::Global;
 use std::collections::HashMap;
-use std::marker::PhantomData;
 
 /// The functions `format`, `write` and `iwriteln` as methods of a context.
 ///
@@ -47,7 +46,7 @@ pub trait Interpolate: Context {
         ensures asked { let a = outermost (chars text.now) in Formats
             (means Self.Object.shows (cut (environment (Self.finds self.now)) (asked_names a)) a)
             result }
-        ensures place { PlaceWithin (length text.now) (answered result) }
+        ensures place { PlaceWithin (length text.now) (result_answer result) }
     {
         format(alloc, text, self)
     }
@@ -56,7 +55,7 @@ pub trait Interpolate: Context {
     ///
     /// # Errors
     ///
-    /// The format's first fault; `Fmt` where the writer refuses; `NoMemory`.
+    /// The format's first fault; `Fmt` if the writer refuses; `NoMemory`.
     ///
     /// ```text
     /// context.write_to(alloc, &mut out, "{n};")?    // of 7 under `n`, appends "7;"
@@ -65,11 +64,11 @@ pub trait Interpolate: Context {
         ensures outcome { Outcome
             (means Self.Object.shows (environment (Self.finds self.now))
             (outermost (chars text.now)))
-            (W.written out.old) (W.written out.new) (answered result) }
+            (W.written out.old) (W.written out.new) (result_answer result) }
         ensures asked { let a = outermost (chars text.now) in Outcome
             (means Self.Object.shows (cut (environment (Self.finds self.now)) (asked_names a)) a)
-            (W.written out.old) (W.written out.new) (answered result) }
-        ensures place { PlaceWithin (length text.now) (answered result) }
+            (W.written out.old) (W.written out.new) (result_answer result) }
+        ensures place { PlaceWithin (length text.now) (result_answer result) }
     {
         write(alloc, out, text, self)
     }
@@ -78,7 +77,7 @@ pub trait Interpolate: Context {
     ///
     /// # Errors
     ///
-    /// Those of `write_to`; `Fmt` at place 0 where the writer refuses the newline alone.
+    /// Those of `write_to`; `Fmt` at place 0 if the writer refuses the newline alone.
     ///
     /// ```text
     /// context.write_line_to(alloc, &mut out, "{n}")?    // of 7 under `n`, appends "7\n"
@@ -93,12 +92,12 @@ pub trait Interpolate: Context {
             (line_means
             (means Self.Object.shows (environment (Self.finds self.now))
             (outermost (chars text.now))))
-            (W.written out.old) (W.written out.new) (answered result) }
+            (W.written out.old) (W.written out.new) (result_answer result) }
         ensures asked { let a = outermost (chars text.now) in Outcome
             (line_means
             (means Self.Object.shows (cut (environment (Self.finds self.now)) (asked_names a)) a))
-            (W.written out.old) (W.written out.new) (answered result) }
-        ensures place { PlaceWithin (length text.now) (answered result) }
+            (W.written out.old) (W.written out.new) (result_answer result) }
+        ensures place { PlaceWithin (length text.now) (result_answer result) }
     {
         iwriteln(alloc, out, text, self)
     }
@@ -107,7 +106,7 @@ pub trait Interpolate: Context {
     ///
     /// # Errors
     ///
-    /// The first fault of the parts; `Fmt` where the writer refuses; `NoMemory`.
+    /// The first fault of the parts; `Fmt` if the writer refuses; `NoMemory`.
     ///
     /// ```text
     /// context.write_parts_to(alloc, &mut out, &["{n}", "-{n}"])?    // of 7, appends "7-7"
@@ -122,13 +121,13 @@ pub trait Interpolate: Context {
         ensures outcome { Outcome
             (parts_mean Self.Object.shows (environment (Self.finds self.now)) 0
             (texts_of parts.now))
-            (W.written out.old) (W.written out.new) (answered result) }
+            (W.written out.old) (W.written out.new) (result_answer result) }
         ensures composes { Clean (texts_of parts.now) → FrontsClose 0 (texts_of parts.now)
             → parts_mean Self.Object.shows (environment (Self.finds self.now)) 0
             (texts_of parts.now)
             ≡ means Self.Object.shows (environment (Self.finds self.now))
             (outermost (joined_text (texts_of parts.now))) }
-        ensures place { PlaceWithin (bytes_of parts.now) (answered result) }
+        ensures place { PlaceWithin (bytes_of parts.now) (result_answer result) }
     {
         write_parts(alloc, out, parts, self)
     }
@@ -137,7 +136,7 @@ pub trait Interpolate: Context {
     ///
     /// # Errors
     ///
-    /// The format's first fault; `Fmt` where the writer refuses; `NoMemory`.
+    /// The format's first fault; `Fmt` if the writer refuses; `NoMemory`.
     ///
     /// ```text
     /// let template = Template::parse(alloc, "{n:>3}")?;
@@ -152,11 +151,11 @@ pub trait Interpolate: Context {
         ensures outcome { Outcome
             (means Self.Object.shows (environment (Self.finds self.now))
             (outermost (chars template.now)))
-            (W.written out.old) (W.written out.new) (answered result) }
+            (W.written out.old) (W.written out.new) (result_answer result) }
         ensures asked { let a = outermost (chars template.now) in Outcome
             (means Self.Object.shows (cut (environment (Self.finds self.now)) (asked_names a)) a)
-            (W.written out.old) (W.written out.new) (answered result) }
-        ensures place { PlaceWithin (length template.now) (answered result) }
+            (W.written out.old) (W.written out.new) (result_answer result) }
+        ensures place { PlaceWithin (length template.now) (result_answer result) }
     {
         template.write(alloc, out, self)
     }
@@ -178,7 +177,7 @@ pub trait Interpolate: Context {
         ensures asked { let a = outermost (chars template.now) in Formats
             (means Self.Object.shows (cut (environment (Self.finds self.now)) (asked_names a)) a)
             result }
-        ensures place { PlaceWithin (length template.now) (answered result) }
+        ensures place { PlaceWithin (length template.now) (result_answer result) }
     {
         template.format(alloc, self)
     }
@@ -196,8 +195,8 @@ pub trait Interpolate: Context {
     fn check_template(&self, alloc: Global, template: &Template) -> Result<(), Error>
         ensures first { AnswersFirst
             (faults_over Self.Object.shows (Self.finds self.now) (outermost (chars template.now)))
-            (answered result) }
-        ensures place { PlaceWithin (length template.now) (answered result) }
+            (result_answer result) }
+        ensures place { PlaceWithin (length template.now) (result_answer result) }
     {
         template.check_in(alloc, self)
     }
@@ -231,19 +230,11 @@ impl<'a, V: Value> Interpolate for Pairs<'a, V> {}
 // This map's type names two lifetimes, and the calls take one that names one.
 impl<'k, 'a, V: Value> Interpolate for HashMap<&'k str, Formattable<'a, V>> {
     fn format(&self, alloc: Global, text: &str) -> Result<String, Error> {
-        let names = ByNames {
-            map: self,
-            of: PhantomData,
-        };
-        format(alloc, text, &names)
+        format(alloc, text, &ByNames::new(self))
     }
 
     fn write_to<W: TextWrite>(&self, alloc: Global, out: &mut W, text: &str) -> Result<(), Error> {
-        let names = ByNames {
-            map: self,
-            of: PhantomData,
-        };
-        write(alloc, out, text, &names)
+        write(alloc, out, text, &ByNames::new(self))
     }
 
     fn write_line_to<W: TextWrite>(
@@ -252,11 +243,7 @@ impl<'k, 'a, V: Value> Interpolate for HashMap<&'k str, Formattable<'a, V>> {
         out: &mut W,
         text: &str,
     ) -> Result<(), Error> {
-        let names = ByNames {
-            map: self,
-            of: PhantomData,
-        };
-        iwriteln(alloc, out, text, &names)
+        iwriteln(alloc, out, text, &ByNames::new(self))
     }
 
     fn write_parts_to<W: TextWrite>(
@@ -265,11 +252,7 @@ impl<'k, 'a, V: Value> Interpolate for HashMap<&'k str, Formattable<'a, V>> {
         out: &mut W,
         parts: &[&str],
     ) -> Result<(), Error> {
-        let names = ByNames {
-            map: self,
-            of: PhantomData,
-        };
-        write_parts(alloc, out, parts, &names)
+        write_parts(alloc, out, parts, &ByNames::new(self))
     }
 
     fn write_template_to<W: TextWrite>(
@@ -278,34 +261,18 @@ impl<'k, 'a, V: Value> Interpolate for HashMap<&'k str, Formattable<'a, V>> {
         out: &mut W,
         template: &Template,
     ) -> Result<(), Error> {
-        let names = ByNames {
-            map: self,
-            of: PhantomData,
-        };
-        template.write(alloc, out, &names)
+        template.write(alloc, out, &ByNames::new(self))
     }
 
     fn format_template(&self, alloc: Global, template: &Template) -> Result<String, Error> {
-        let names = ByNames {
-            map: self,
-            of: PhantomData,
-        };
-        template.format(alloc, &names)
+        template.format(alloc, &ByNames::new(self))
     }
 
     fn check_template(&self, alloc: Global, template: &Template) -> Result<(), Error> {
-        let names = ByNames {
-            map: self,
-            of: PhantomData,
-        };
-        template.check_in(alloc, &names)
+        template.check_in(alloc, &ByNames::new(self))
     }
 
     fn template_faults(&self, alloc: Global, template: &Template) -> Result<Vec<Error>, Error> {
-        let names = ByNames {
-            map: self,
-            of: PhantomData,
-        };
-        template.faults_in(alloc, &names)
+        template.faults_in(alloc, &ByNames::new(self))
     }
 }

@@ -1,8 +1,8 @@
 //! Laws, each the contract of a small function: of texts made into formats, of formats in parts, of
-//! the tree of a text and its arguments, of what can be known of a format before it is written, and of
-//! a line that is shown with marks.
-//! Those of what a format means, of the names that it asks, and of the items that a range chooses
-//! are from `interpolator_eval`; those of the faults and of what stands in braces from the reader.
+//! the tree of a text and its arguments, of what can be known of a format before it is written, and
+//! of a line that is shown with marks. Those of what a format means, of the names that it asks, and
+//! of the items that a range chooses are from `interpolator_eval`; those of the faults and of what
+//! is in braces from the reader.
 
 pub mod all_arguments;
 pub mod checks;

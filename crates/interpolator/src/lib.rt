@@ -2,7 +2,7 @@
 //!
 //! A format text and named values go in, and the formatted text or one located fault comes out. A
 //! [`Formattable`] is a value with a slot for each trait under which a format may ask it, or a list
-//! of such values. A [`Context`] says what stands under a name: a [`ContextMap`], a `HashMap`, or
+//! of such values. A [`Context`] says what is under a name: a [`ContextMap`], a `HashMap`, or
 //! [`Pairs`], which takes no memory. [`write`] appends to any [`TextWrite`], and [`format`] makes a
 //! new text; the methods of [`Interpolate`] do the same for a context.
 //!
@@ -30,8 +30,10 @@ mod line;
 mod parts;
 mod position;
 mod prepared;
+mod tally;
 mod template;
 mod tree;
+mod uncounted;
 
 pub use escaping::escape;
 pub use explaining::{Source, explain, explain_in};

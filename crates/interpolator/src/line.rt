@@ -4,7 +4,7 @@ ghost use Rattle.std.specs.Str.{chars};
 ghost use Rattle.interpolator_syntax.specs.At.{outermost};
 ghost use Rattle.interpolator_eval.specs.Meaning.AskedNames.{asked_names};
 ghost use Rattle.interpolator_eval.specs.Meaning.Environments.{environment, cut};
-ghost use Rattle.interpolator_syntax.specs.Faults.{answered, PlaceWithin};
+ghost use Rattle.interpolator_syntax.specs.Faults.{result_answer, PlaceWithin};
 ghost use Rattle.interpolator_eval.specs.Meaning.Meanings.{means};
 ghost use Rattle.interpolator.specs.Meaning.Lines.{newline_means, line_means};
 ghost use Rattle.interpolator_eval.specs.Meaning.Outcomes.{Outcome};
@@ -16,21 +16,20 @@ use interpolator_syntax::Error;
 use std::alloc::Global;
 
 /// Writes a newline, which has place 0.
-#[inline(always)]
 fn write_newline<W: TextWrite>(out: &mut W) -> Result<(), Error>
     ensures outcome { Outcome newline_means
-        (W.written out.old) (W.written out.new) (answered result) }
+        (W.written out.old) (W.written out.new) (result_answer result) }
 {
     write_char(out, '\n', 0)?;
     Ok(())
 }
 
-/// Writes what the format means in the context, as `write` does, and after it a newline where
-/// there is no fault.
+/// Writes what the format means in the context, as `write` does, and after it a newline if there is
+/// no fault.
 ///
 /// # Errors
 ///
-/// Those of `write` over the same format and context. Where the writer takes the format's text and
+/// Those of `write` over the same format and context. If the writer takes the format's text and
 /// refuses the newline, the answer is `Fmt` at place 0.
 ///
 /// # Example
@@ -48,12 +47,12 @@ pub fn iwriteln<W: TextWrite, C: Context>(
     ensures outcome { Outcome
         (line_means
         (means C.Object.shows (environment (C.finds context.now)) (outermost (chars format.now))))
-        (W.written out.old) (W.written out.new) (answered result) }
+        (W.written out.old) (W.written out.new) (result_answer result) }
     ensures asked { let a = outermost (chars format.now) in Outcome
         (line_means
         (means C.Object.shows (cut (environment (C.finds context.now)) (asked_names a)) a))
-        (W.written out.old) (W.written out.new) (answered result) }
-    ensures place { PlaceWithin (length format.now) (answered result) }
+        (W.written out.old) (W.written out.new) (result_answer result) }
+    ensures place { PlaceWithin (length format.now) (result_answer result) }
 {
     match write(alloc, out, format, context) {
         Ok(()) => write_newline(out),

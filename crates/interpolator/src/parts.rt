@@ -1,4 +1,4 @@
-//! Formats in parts: which may stand one after the other, and what they write.
+//! Formats in parts: which may follow one another, and what they write.
 ghost use Rattle.std.specs.Prelude.{◌≡◌, ◌+◌, ◌^◌, ◌<◌, length, IfOk};
 ghost use Rattle.std.specs.Str.{chars};
 ghost use Rattle.interpolator_syntax.specs.At.{at, size, outermost};
@@ -6,16 +6,16 @@ ghost use Rattle.interpolator_syntax.specs.Pieces.{pieces, argument_from};
 ghost use Rattle.interpolator_syntax.specs.Tokens.{token_of, past_token};
 ghost use Rattle.interpolator.specs.Seams.{ending, piece_ending, seam_of, token_ending};
 ghost use Rattle.interpolator_syntax.specs.Grammar.{from_place};
-ghost use Rattle.interpolator_syntax.specs.Faults.{answered, PlaceWithin};
+ghost use Rattle.interpolator_syntax.specs.Faults.{result_answer, PlaceWithin};
 ghost use Rattle.interpolator_eval.specs.Meaning.Environments.{environment};
 ghost use Rattle.interpolator_eval.specs.Meaning.Meanings.{means};
 ghost use Rattle.interpolator_eval.specs.Meaning.Outcomes.{Outcome};
 ghost use Rattle.interpolator.specs.Meaning.Parts.{joined_text, texts_of, bytes_of, parts_mean};
 ghost use Rattle.interpolator.specs.Meaning.Parts.{Clean, FrontsClose};
-ghost use Rattle.interpolator_eval.specs.Meaning.Scopes.{environment_of};
+ghost use Rattle.interpolator_eval.specs.Meaning.CodeEnvironments.{environment_of};
 ghost use Rattle.interpolator_eval.specs.Meaning.Sinks.{Writes};
 
-use interpolator_eval::{Context, Scope, Sink, write_text};
+use interpolator_eval::{Context, Environment, Sink, write_text};
 use interpolator_render::TextWrite;
 use interpolator_syntax::{Cursor, Error, Token, next_token, take_argument};
 use std::alloc::Global;
@@ -23,15 +23,15 @@ use std::alloc::Global;
 /// How a text ends, as far as the text after it can change its last piece.
 #[derive(Clone, Copy)]
 pub(crate) enum Ending {
-    /// Whatever stands after it, the last piece stays, or there is none.
+    /// Whatever follows it, the last piece stays, or there is none.
     Settled,
     /// In a lone `}`, which a second one would double.
     LoneClose,
-    /// In an argument that is unclosed or broken, which takes all that stands after it.
+    /// In an argument that is unclosed or broken, which takes all that is after it.
     Open,
 }
 
-/// How the argument ends that begins here, after its brace, and what stands after it.
+/// How the argument ends that begins here, after its brace, and what follows it.
 fn argument_ending(here: Cursor<'_>) -> (Ending, Cursor<'_>)
     ensures ending { result.0
         ≡ piece_ending (argument_from here.entry.place (at here.entry)).piece }
@@ -51,7 +51,7 @@ fn argument_ending(here: Cursor<'_>) -> (Ending, Cursor<'_>)
     }
 }
 
-/// How a token ends after which `rest` stands, and what stands after it and its argument.
+/// How a token ends that `rest` follows, and what follows it and its argument.
 fn past_token<'t>(token: Token<'t>, rest: Cursor<'t>) -> (Ending, Cursor<'t>)
     ensures ending { result.0 ≡ token_ending (token_of token.entry) (at rest.entry) }
     ensures rest { pieces (at result.1)
@@ -77,8 +77,8 @@ fn ending_of(text: Cursor<'_>) -> Ending
     ending
 }
 
-/// Tests whether one format may stand after another, so that the pieces of `a` stay what they are
-/// by themselves.
+/// Tests whether one format may follow another, so that the pieces of `a` stay what they are by
+/// themselves.
 ///
 /// It is false in one case: `a` ends in a lone `}` and `b` begins with one, so that the two would be
 /// read as a doubled brace. No memory is taken.
@@ -104,21 +104,21 @@ pub fn seam(a: &str, b: &str) -> bool
 /// Writes what a part means at its place. Returns the place after it.
 fn write_part<'a, W: TextWrite, C: Context>(
     sink: &mut Sink<'_, W>,
-    scope: &Scope<'a, C, C::Object>,
+    environment: &Environment<'a, C, C::Object>,
     part: &str,
     place: usize,
 ) -> Result<usize, Error>
     requires fits { place + length part.now < 2 ^ 64 }
     ensures writes { Writes W.written
-        (means C.Object.shows (environment_of C.finds scope.now)
+        (means C.Object.shows (environment_of C.finds environment.now)
         (from_place place (chars part.now)))
-        sink.old sink.new (answered result) }
+        sink.old sink.new (result_answer result) }
     ensures after { IfOk result (λ after. after ≡ place + size (chars part.now)) }
     ensures bytes { IfOk result (λ after. after ≡ place + length part.now) }
-    ensures place { PlaceWithin (place + length part.now) (answered result) }
+    ensures place { PlaceWithin (place + length part.now) (result_answer result) }
 {
     let text = Cursor { place, rest: part };
-    match write_text(sink, scope, text) {
+    match write_text(sink, environment, text) {
         Ok(()) => Ok(place + part.len()),
         Err(fault) => Err(fault),
     }
@@ -127,18 +127,18 @@ fn write_part<'a, W: TextWrite, C: Context>(
 /// Writes what each part means at its place, one after the other.
 fn write_each<'a, W: TextWrite, C: Context>(
     sink: &mut Sink<'_, W>,
-    scope: &Scope<'a, C, C::Object>,
+    environment: &Environment<'a, C, C::Object>,
     parts: &[&str],
 ) -> Result<(), Error>
     requires fits { bytes_of parts.now < 2 ^ 64 }
     ensures writes { Writes W.written
-        (parts_mean C.Object.shows (environment_of C.finds scope.now) 0 (texts_of parts.now))
-        sink.old sink.new (answered result) }
-    ensures place { PlaceWithin (bytes_of parts.now) (answered result) }
+        (parts_mean C.Object.shows (environment_of C.finds environment.now) 0 (texts_of parts.now))
+        sink.old sink.new (result_answer result) }
+    ensures place { PlaceWithin (bytes_of parts.now) (result_answer result) }
 {
     let mut place = 0;
     for part in parts {
-        match write_part(sink, scope, part, place) {
+        match write_part(sink, environment, part, place) {
             Ok(after) => place = after,
             Err(fault) => return Err(fault),
         }
@@ -151,9 +151,9 @@ fn write_each<'a, W: TextWrite, C: Context>(
 /// A brace or an argument never goes over from one part into the next. A part after the first
 /// fault is not read. No part is copied, and memory is taken only as by `write`.
 ///
-/// Where no part but the last ends in an argument that is unclosed or broken, and at each border
-/// the [`seam`] between all parts before it, joined, and the next is true, the parts write what
-/// `write` writes of the joined text.
+/// If no part but the last ends in an argument that is unclosed or broken, and at each border the
+/// [`seam`] between all parts before it, joined, and the next is true, the parts write what `write`
+/// writes of the joined text.
 ///
 /// The joined text has fewer than 2^64 bytes.
 ///
@@ -177,15 +177,15 @@ pub fn write_parts<W: TextWrite, C: Context>(
     requires fits { bytes_of parts.now < 2 ^ 64 }
     ensures outcome { Outcome
         (parts_mean C.Object.shows (environment (C.finds context.now)) 0 (texts_of parts.now))
-        (W.written out.old) (W.written out.new) (answered result) }
+        (W.written out.old) (W.written out.new) (result_answer result) }
     ensures composes { Clean (texts_of parts.now) → FrontsClose 0 (texts_of parts.now)
         → parts_mean C.Object.shows (environment (C.finds context.now)) 0 (texts_of parts.now)
         ≡ means C.Object.shows (environment (C.finds context.now))
         (outermost (joined_text (texts_of parts.now))) }
-    ensures place { PlaceWithin (bytes_of parts.now) (answered result) }
+    ensures place { PlaceWithin (bytes_of parts.now) (result_answer result) }
 {
     let mut sink = Sink::Writer(out);
-    let answer = write_each(&mut sink, &Scope::outermost(alloc, context), parts);
+    let answer = write_each(&mut sink, &Environment::outermost(alloc, context), parts);
     match sink {
         Sink::Writer(end) => {
             let _ = end;

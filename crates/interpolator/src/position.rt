@@ -6,9 +6,9 @@ ghost use Rattle.interpolator.specs.Positions.{begun_before, lines_ended, last_l
 /// A line and a column, each from 1 on. Columns count characters.
 #[derive(Clone, Copy, Debug, PartialEq, Eq)]
 pub struct Position {
-    /// How many line ends stand before it, and one.
+    /// The number of line ends before it, and one.
     pub line: usize,
-    /// How many characters stand before it in its line, and one.
+    /// The number of characters before it in its line, and one.
     pub column: usize,
 }
 
@@ -52,7 +52,7 @@ fn line_at_end(text: &str) -> usize
     text.chars().filter(|c| *c == '\n').count() + 1
 }
 
-/// How many characters stand after the last line end of a text, and one.
+/// The number of characters after the last line end of a text, and one.
 fn column_at_end(text: &str) -> usize
     ensures { result ≡ length (last_line (chars text.now)) + 1 }
 {

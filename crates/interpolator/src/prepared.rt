@@ -2,7 +2,7 @@
 ghost use Rattle.std.specs.Prelude.{◌≡◌, ◌≤◌, length, map, IfErr, IfOk, Some};
 ghost use Rattle.std.specs.Str.{chars};
 ghost use Rattle.interpolator_syntax.specs.At.{outermost};
-ghost use Rattle.interpolator_syntax.specs.Faults.{answer_of, answered, no_memory, PlaceWithin};
+ghost use Rattle.interpolator_syntax.specs.Faults.{answer_of, result_answer, no_memory, PlaceWithin};
 ghost use Rattle.interpolator_syntax.specs.Nodes.{nodes};
 ghost use Rattle.interpolator_eval.specs.Meaning.Environments.{environment};
 ghost use Rattle.interpolator_eval.specs.Meaning.Meanings.{means};
@@ -10,8 +10,11 @@ ghost use Rattle.interpolator_eval.specs.Meaning.Outcomes.{Outcome, Formats};
 ghost use Rattle.interpolator.specs.Prepared.Programs.{program};
 ghost use Rattle.interpolator.specs.Prepared.Rows.{found_by_row, name_bytes, row_at};
 ghost use Rattle.interpolator.specs.Prepared.StoredSteps.{step_of};
+ghost use Rattle.interpolator.specs.Template.Stored.{nodes_of};
 
 pub(crate) mod compile;
+pub(crate) mod copy;
+pub(crate) mod items;
 pub(crate) mod joined;
 pub(crate) mod row;
 pub(crate) mod run;
@@ -22,15 +25,15 @@ use crate::prepared::compile::compile;
 use crate::prepared::row::{Named, Row};
 use crate::prepared::run::run_steps;
 use crate::prepared::step::Step;
-use crate::template::parse::parse_pieces;
-use interpolator_eval::{Scope, Sink};
+use crate::template::piece::Piece;
+use interpolator_eval::{Environment, Sink};
 use interpolator_render::{TextWrite, Value};
-use interpolator_syntax::{Cursor, Error};
+use interpolator_syntax::Error;
 use std::alloc::Global;
 use std::marker::Model;
 
 /// A format that was prepared for rows of values: each of its names is a position, and the text
-/// between two arguments is one, in which a doubled brace stands once.
+/// between two arguments is one, in which a doubled brace is one character.
 ///
 /// It is written as its text is by [`write`](crate::write) over pairs of the names and the values, to
 /// the byte and to the fault: use it for a format that is written often over values of the same
@@ -83,11 +86,11 @@ fn write_steps<'a, W: TextWrite, V: Value>(
     ensures outcome { Outcome
         (means V.shows (environment (found_by_row (name_bytes named.now.names.now)
         (row_at named.now.row.now))) (outermost (chars text.now)))
-        (W.written out.old) (W.written out.new) (answered result) }
+        (W.written out.old) (W.written out.new) (result_answer result) }
 {
     let mut sink = Sink::Writer(out);
-    let scope = Scope::outermost(alloc, named);
-    let answer = run_steps(&mut sink, &scope, text, named.row, steps);
+    let environment = Environment::outermost(alloc, named);
+    let answer = run_steps(&mut sink, &environment, text, named.row, steps);
     match sink {
         Sink::Writer(end) => {
             let _ = end;
@@ -110,8 +113,8 @@ pub(crate) fn write_row<'a, W: TextWrite, V: Value>(
     ensures outcome { Outcome
         (means V.shows (environment (found_by_row (name_bytes named.now.names.now)
         (row_at named.now.row.now))) (outermost (chars text.now)))
-        (W.written out.old) (W.written out.new) (answered result) }
-    ensures place { PlaceWithin (length text.now) (answered result) }
+        (W.written out.old) (W.written out.new) (result_answer result) }
+    ensures place { PlaceWithin (length text.now) (result_answer result) }
 {
     if named.row.len() < named.names.len() {
         return write(alloc, out, text, named);
@@ -132,7 +135,7 @@ fn format_row<'a, V: Value>(
         (means V.shows (environment (found_by_row (name_bytes named.now.names.now)
         (row_at named.now.row.now))) (outermost (chars text.now)))
         result }
-    ensures place { PlaceWithin (length text.now) (answered result) }
+    ensures place { PlaceWithin (length text.now) (result_answer result) }
 {
     let mut out = buffer_for(alloc, text)?;
     let answer = write_row(alloc, &mut out, text, named, steps);
@@ -144,17 +147,18 @@ fn format_row<'a, V: Value>(
 }
 
 impl Prepared {
-    /// The format with these names, in order.
-    pub(crate) fn of(alloc: Global, text: &str, names: Vec<String>) -> Result<Prepared, Error>
+    /// The format of these pieces with these names, in order.
+    pub(crate) fn of(
+        alloc: Global,
+        text: &str,
+        pieces: &[Piece],
+        names: Vec<String>,
+    ) -> Result<Prepared, Error>
+        requires pieces { nodes_of text.now pieces.now ≡ nodes (outermost (chars text.now)) }
         ensures prepared { IfOk result (λ made. made
             ≡ record { text = text.now; names = name_bytes names.items }) }
         ensures refused { IfErr result (λ error. answer_of error ≡ no_memory) }
     {
-        let start = Cursor {
-            place: 0,
-            rest: text,
-        };
-        let pieces = parse_pieces(alloc, start)?;
         let steps = compile(alloc, text, &names, pieces)?;
         let text = String::from_str(alloc, text)?;
         Ok(Prepared { text, names, steps })
@@ -184,8 +188,8 @@ impl Prepared {
         ensures outcome { Outcome
             (means V.shows (environment (found_by_row self.now.names (row_at row.now.0.now)))
             (outermost (chars self.now.text)))
-            (W.written out.old) (W.written out.new) (answered result) }
-        ensures place { PlaceWithin (length self.now.text) (answered result) }
+            (W.written out.old) (W.written out.new) (result_answer result) }
+        ensures place { PlaceWithin (length self.now.text) (result_answer result) }
     {
         let named = Named {
             names: &self.names,
@@ -198,7 +202,7 @@ impl Prepared {
     ///
     /// # Errors
     ///
-    /// Those of `write`, where `Fmt` means that a value failed; and `NoMemory` where the text, or the
+    /// Those of `write`, where `Fmt` means that a value failed; and `NoMemory` if the text, or the
     /// room that is taken for it at the beginning, finds no memory.
     ///
     /// # Example
@@ -211,7 +215,7 @@ impl Prepared {
             (means V.shows (environment (found_by_row self.now.names (row_at row.now.0.now)))
             (outermost (chars self.now.text)))
             result }
-        ensures place { PlaceWithin (length self.now.text) (answered result) }
+        ensures place { PlaceWithin (length self.now.text) (result_answer result) }
     {
         let named = Named {
             names: &self.names,

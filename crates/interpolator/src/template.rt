@@ -3,7 +3,7 @@ ghost use Rattle.std.specs.Prelude.{◌≡◌, ◌⊎◌, None, Some, length, ma
 ghost use Rattle.std.specs.Str.{chars, IsUtf8};
 ghost use Rattle.interpolator_syntax.specs.Arguments.{argument_of};
 ghost use Rattle.interpolator_syntax.specs.At.{outermost};
-ghost use Rattle.interpolator_syntax.specs.Faults.{answer_of, answered, fault, no_memory};
+ghost use Rattle.interpolator_syntax.specs.Faults.{answer_of, result_answer, fault, no_memory};
 ghost use Rattle.interpolator_syntax.specs.Faults.{PlaceWithin};
 ghost use Rattle.interpolator_eval.specs.Meaning.AskedNames.{asked_names};
 ghost use Rattle.interpolator_eval.specs.Meaning.Environments.{environment, cut};
@@ -13,9 +13,8 @@ ghost use Rattle.interpolator_eval.specs.Contexts.{found_by_pairs};
 ghost use Rattle.interpolator.specs.Prepared.Rows.{pair_names};
 ghost use Rattle.interpolator.specs.Template.AllArguments.{arguments_of};
 ghost use Rattle.interpolator.specs.Template.NodeChecks.{first_fault, text_faults};
-ghost use Rattle.interpolator.specs.Template.NodeCosts.{capped_cost, text_cost};
+ghost use Rattle.interpolator.specs.Template.NodeCosts.{usize_cost, text_cost};
 ghost use Rattle.interpolator.specs.Template.NodeExtents.{forest_depth, forest_extent};
-ghost use Rattle.interpolator.specs.Template.NodeLacks.{first_lacking};
 ghost use Rattle.interpolator.specs.Template.NodeNames.{name_texts};
 ghost use Rattle.interpolator.specs.Template.NodePlaces.{argument_among};
 ghost use Rattle.interpolator.specs.Template.NodeSamples.{faults_over};
@@ -28,7 +27,6 @@ pub(crate) mod arguments;
 pub(crate) mod check;
 pub(crate) mod cost;
 pub(crate) mod extent;
-pub(crate) mod lacks;
 pub(crate) mod names;
 pub(crate) mod parse;
 pub(crate) mod piece;
@@ -44,7 +42,6 @@ use crate::template::arguments::push_arguments;
 use crate::template::check::Check;
 use crate::template::cost::{Cost, Limits, cost_of};
 use crate::template::extent::{Deepest, Widest};
-use crate::template::lacks::Lacking;
 use crate::template::names::Names;
 use crate::template::parse::parse_pieces;
 use crate::template::piece::Piece;
@@ -52,8 +49,7 @@ use crate::template::place::argument_among;
 use crate::template::sample::tell_pieces;
 use crate::template::telling::Telling;
 use crate::template::walk::{Visitor, walk_text};
-use crate::tree::cut;
-use interpolator_eval::{Context, Pairs, SampleScope};
+use interpolator_eval::{Context, Pairs, SampleEnvironment};
 use interpolator_render::{TextWrite, Value};
 use interpolator_syntax::{Argument, Cursor, Error};
 use std::alloc::Global;
@@ -61,9 +57,9 @@ use std::marker::Model;
 
 /// A format that was read once: its text and its pieces.
 ///
-/// It is written as its text is by [`write`](crate::write), to the byte and to the fault, but nothing
-/// is read again: use it for a format that is written often, and `write` for one that is written
-/// once.
+/// It is written as its text is by [`write`](crate::write), to the byte and to the fault, but
+/// nothing is read again: use it for a format that is written often, and `write` for one that is
+/// written once.
 ///
 /// # Example
 ///
@@ -122,7 +118,8 @@ impl Template {
 
     /// Writes what the format means in the context, as [`write`](crate::write) does with its text.
     ///
-    /// Memory is taken where `write` takes it, and for nothing else.
+    /// Memory is taken where `write` takes it, and for nothing else. No more pieces are gone through
+    /// than [`cost`](Template::cost) tells within limits that the values keep.
     ///
     /// # Errors
     ///
@@ -141,11 +138,11 @@ impl Template {
     ) -> Result<(), Error>
         ensures outcome { Outcome
             (means C.Object.shows (environment (C.finds context.now)) (outermost (chars self.now)))
-            (W.written out.old) (W.written out.new) (answered result) }
+            (W.written out.old) (W.written out.new) (result_answer result) }
         ensures asked { let a = outermost (chars self.now) in Outcome
             (means C.Object.shows (cut (environment (C.finds context.now)) (asked_names a)) a)
-            (W.written out.old) (W.written out.new) (answered result) }
-        ensures place { PlaceWithin (length self.now) (answered result) }
+            (W.written out.old) (W.written out.new) (result_answer result) }
+        ensures place { PlaceWithin (length self.now) (result_answer result) }
     {
         write_pieces(alloc, out, self.text.as_str(), &self.pieces, context)
     }
@@ -158,7 +155,7 @@ impl Template {
         ensures asked { let a = outermost (chars self.now) in Formats
             (means C.Object.shows (cut (environment (C.finds context.now)) (asked_names a)) a)
             result }
-        ensures place { PlaceWithin (length self.now) (answered result) }
+        ensures place { PlaceWithin (length self.now) (result_answer result) }
     {
         format_pieces(alloc, self.text.as_str(), &self.pieces, context)
     }
@@ -173,7 +170,7 @@ impl Template {
     }
 
     /// The format, prepared for rows of values in the order of these names, if it has no fault over
-    /// them: what stands under each of them is an example of what a row will bring, as in
+    /// them: what is under each of them is an example of what a row will bring, as in
     /// [`check_in`](Template::check_in).
     ///
     /// # Errors
@@ -198,7 +195,7 @@ impl Template {
     {
         self.check_in(alloc, sample)?;
         let names = names_of(alloc, sample.0)?;
-        Prepared::of(alloc, self.text.as_str(), names)
+        Prepared::of(alloc, self.text.as_str(), &self.pieces, names)
     }
 
     /// The names that the format asks of its context, in order and with repeats: those of its
@@ -227,10 +224,10 @@ impl Template {
         Ok(names.names)
     }
 
-    /// The arguments of the format, each whole, as [`parse_argument`](crate::parse_argument) answers
-    /// one of the outermost text; one in a group ends, at the latest, with its group. They come in order
-    /// of the text and at every depth: after an argument those of its item format, and then those of
-    /// its join. One that is not closed is among them, a broken one is not.
+    /// The arguments of the format, each whole, as [`parse_argument`](crate::parse_argument)
+    /// answers one of the outermost text; one in a group ends, at the latest, with its group. They
+    /// come in order of the text and at every depth: after an argument those of its item format,
+    /// and then those of its join. One that is not closed is among them, a broken one is not.
     ///
     /// Names and groups are slices of the format, and places count its bytes. It is read again.
     ///
@@ -260,12 +257,13 @@ impl Template {
         Ok(arguments)
     }
 
-    /// Tells the first fault that the format has by itself, in order of the text and at every depth of
-    /// groups: of an argument what is wrong with it, then the faults of its item format, then those of
-    /// its join, then that it is not closed. Not each is met in every context: `{a:i({z)}` is written
-    /// over an empty list. No memory is taken.
+    /// Tells the first fault that the format has by itself, in order of the text and at every depth
+    /// of groups: of an argument what is wrong with it, then the faults of its item format, then
+    /// those of its join, then that it is not closed. Not each is met in every context: `{a:i({z)}`
+    /// is written over an empty list. No memory is taken.
     ///
-    /// If it answers `Ok`, no context makes the format answer `Parse` or `UnsupportedOption`.
+    /// If it answers `Ok`, no context makes the format answer `Parse` or `UnsupportedOption`. What
+    /// depends on values is told by [`check_in`](Template::check_in).
     ///
     /// # Errors
     ///
@@ -277,33 +275,33 @@ impl Template {
     /// Template::parse(alloc, "{a:i({z)}")?.check()   // Err(Parse(FormatSpecUnclosed(6)))
     /// ```
     pub fn check(&self) -> Result<(), Error>
-        ensures first { answered result
+        ensures first { result_answer result
             ≡ option_map fault (first_fault (text_faults (outermost (chars self.now)))) }
-        ensures place { PlaceWithin (length self.now) (answered result) }
+        ensures place { PlaceWithin (length self.now) (result_answer result) }
     {
         self.walk(&mut Check)
     }
 
-    /// Tells the first fault that the format has by itself or over a sample, an example of the contexts
-    /// that it will be written with: a row of example values, whose lists have an item of each kind. In
-    /// order of the text and at every depth of groups, of an argument
+    /// Tells the first fault that the format has by itself or over a sample, an example of the
+    /// contexts that it will be written with: a row of example values, whose lists have an item of
+    /// each kind. In order of the text and at every depth of groups, of an argument
     ///
     /// 1. that nothing is under its name (`MissingValue`); that a slot is empty, has no text under
     ///    this trait, or no list (`MissingTraitImpl`); that a value fails (`Fmt`);
     /// 2. what is wrong with it by itself;
-    /// 3. the faults of its item format with each item of the sample's list, or that an item cannot be
-    ///    displayed if there is no item format, whatever the range; those of its join, however many
-    ///    items there are;
+    /// 3. the faults of its item format with each item of the sample's list, or that an item cannot
+    ///    be displayed if there is no item format, whatever the range; those of its join, however
+    ///    many items there are;
     /// 4. that it is not closed.
     ///
     /// If it answers `Ok`, the format has no fault in any context that resembles the sample: see
-    /// [`laws::samples`](crate::laws::samples). Each argument is looked at once for each value that the
-    /// sample has in its place.
+    /// [`laws::samples`](crate::laws::samples). Each argument is looked at once for each value that
+    /// the sample has in its place.
     ///
     /// # Errors
     ///
-    /// The first fault, at its place in the text; `NoMemory` if it is that a name is missing, and the name
-    /// finds no memory. Else no memory is taken.
+    /// The first fault, at its place in the text; `NoMemory` if it is that a name is missing, and
+    /// the name finds no memory. Else no memory is taken.
     ///
     /// # Example
     ///
@@ -315,12 +313,12 @@ impl Template {
     pub fn check_in<C: Context>(&self, alloc: Global, sample: &C) -> Result<(), Error>
         ensures first { AnswersFirst
             (faults_over C.Object.shows (C.finds sample.now) (outermost (chars self.now)))
-            (answered result) }
-        ensures place { PlaceWithin (length self.now) (answered result) }
+            (result_answer result) }
+        ensures place { PlaceWithin (length self.now) (result_answer result) }
     {
         let mut telling = Telling::first(alloc);
-        let scope = SampleScope::outermost(alloc, sample);
-        tell_pieces(&mut telling, &scope, self.text.as_str(), &self.pieces)
+        let environment = SampleEnvironment::outermost(alloc, sample);
+        tell_pieces(&mut telling, &environment, self.text.as_str(), &self.pieces)
     }
 
     /// All faults that the format has by itself or over a sample, in the order of
@@ -343,34 +341,13 @@ impl Template {
         ensures refused { IfErr result (λ error. answer_of error ≡ no_memory) }
     {
         let mut telling = Telling::all(alloc);
-        let scope = SampleScope::outermost(alloc, sample);
-        tell_pieces(&mut telling, &scope, self.text.as_str(), &self.pieces)?;
+        let environment = SampleEnvironment::outermost(alloc, sample);
+        tell_pieces(&mut telling, &environment, self.text.as_str(), &self.pieces)?;
         Ok(telling.into_kept())
     }
 
-    /// The first name that the format asks and the context has nothing under, if there is one. No
-    /// memory is taken.
-    ///
-    /// Where it answers `None`, the format does not answer `MissingValue` in this context.
-    ///
-    /// # Example
-    ///
-    /// ```text
-    /// template.lacks(&context)    // of `{a}{b}`, where the context has only `a`: Some("b")
-    /// ```
-    pub fn lacks<C: Context>(&self, context: &C) -> Option<&str>
-        ensures first { option_map (λ name. chars name.now) result
-            ≡ first_lacking (environment (C.finds context.now))
-            (asked_names (outermost (chars self.now))) }
-    {
-        match self.walk(&mut Lacking { context }) {
-            Ok(()) => None,
-            Err((from, to)) => Some(cut(self.text.as_str(), from, to)),
-        }
-    }
-
-    /// The greatest width or precision that the format asks, at any depth of groups; 0 where it
-    /// asks none. No memory is taken.
+    /// The greatest width or precision that the format asks, at any depth of groups; 0 if it asks
+    /// none. No memory is taken.
     ///
     /// # Example
     ///
@@ -387,8 +364,7 @@ impl Template {
         }
     }
 
-    /// How many groups of the format stand in one another, at most; 0 without groups. No memory is
-    /// taken.
+    /// How deep the groups of the format are nested; 0 without groups. No memory is taken.
     ///
     /// # Example
     ///
@@ -437,7 +413,7 @@ impl Template {
     /// ```
     pub fn cost(&self, limits: &Limits) -> Cost
         ensures cost { result
-            ≡ capped_cost (text_cost limits.now (outermost (chars self.now))) }
+            ≡ usize_cost (text_cost limits.now (outermost (chars self.now))) }
     {
         cost_of(self.text.as_str(), &self.pieces, limits)
     }

@@ -1,9 +1,10 @@
 //! Writes what pieces mean that were read before, up to the first fault: callers first.
-ghost use Rattle.std.specs.Prelude.{◌≡◌, ◌+◌, ◌^◌, ◌<◌, IsSome, None, Some, true, length, map, option_map};
+ghost use Rattle.std.specs.Prelude.{◌≡◌, ◌+◌, ◌-◌, ◌^◌, ◌<◌, ◌≤◌, IsSome, None, Some, true, length};
+ghost use Rattle.std.specs.Prelude.{map, option_map};
 ghost use Rattle.std.specs.Str.{chars};
-ghost use Rattle.interpolator_syntax.specs.Faults.{answered, fault, argument_fault_of};
+ghost use Rattle.interpolator_syntax.specs.Faults.{result_answer, fault, argument_fault_of};
 ghost use Rattle.interpolator_eval.specs.Meaning.Lists.{list_under_name, padded_list_means};
-ghost use Rattle.interpolator_eval.specs.Meaning.Scopes.{environment_of};
+ghost use Rattle.interpolator_eval.specs.Meaning.CodeEnvironments.{environment_of};
 ghost use Rattle.interpolator_eval.specs.Meaning.Sinks.{Writes};
 ghost use Rattle.interpolator_eval.specs.Slots.{slots_of};
 ghost use Rattle.interpolator_syntax.specs.Nodes.{as_forest};
@@ -13,18 +14,23 @@ ghost use Rattle.interpolator.specs.Template.StoredMeanings.{stored_part, stored
 ghost use Rattle.interpolator.specs.Template.StoredMeanings.{stored_pieces_mean, unclosed_fault};
 ghost use Rattle.interpolator.specs.Template.StoredMeanings.{stored_piece_means, stored_join_means};
 ghost use Rattle.interpolator.specs.Template.StoredMeanings.{stored_item_means, stored_items_mean};
+ghost use Rattle.interpolator.specs.Template.StoredWork.{stored_pieces_work, stored_piece_work};
+ghost use Rattle.interpolator.specs.Template.StoredWork.{stored_join_work, stored_item_work};
+ghost use Rattle.interpolator.specs.Template.StoredWork.{stored_items_work, stored_list_work};
 ghost use Rattle.interpolator.specs.declared.template.piece.Form.TheVariants as forms;
 ghost use Rattle.interpolator.specs.declared.template.piece.Piece.TheViews.{out-Piece};
 
+use crate::tally::Tally;
 use crate::template::piece::{Form, Piece};
 use interpolator_eval::{
-    Context, Formattable, Scope, Sink, chosen_list, list_buffer, write_plain_item, write_value,
+    Context, Environment, Formattable, Sink, chosen_list, list_buffer, write_plain_item,
+    write_value,
 };
 use interpolator_render::{Spec, TextWrite, Trait};
 use interpolator_syntax::{ArgumentFault, Error, ParseError, PieceKind, Range};
+use std::sync::ledger::Ledger;
 
 /// The text from byte `from` up to `to`.
-#[inline(always)]
 pub(crate) fn cut(text: &str, from: usize, to: usize) -> &str
     requires fits { IsSome (part text.now from to) }
     ensures text { Some (chars result.now) ≡ part text.now from to }
@@ -35,7 +41,6 @@ pub(crate) fn cut(text: &str, from: usize, to: usize) -> &str
 }
 
 /// The bytes of the text that are written for a piece.
-#[inline(always)]
 pub(crate) fn text_of<'t>(text: &'t str, piece: &Piece) -> &'t str
     requires fits { IsSome (stored_part text.now piece.now) }
     ensures text { Some (chars result.now) ≡ stored_part text.now piece.now }
@@ -45,7 +50,6 @@ pub(crate) fn text_of<'t>(text: &'t str, piece: &Piece) -> &'t str
 }
 
 /// Where the argument of a piece begins, and its name.
-#[inline(always)]
 pub(crate) fn name_of<'t>(text: &'t str, piece: &Piece) -> (usize, &'t str)
     requires fits { IsSome (stored_name text.now piece.now) }
     ensures start { result.0 ≡ (out-Piece piece.now).place + 1 }
@@ -55,9 +59,8 @@ pub(crate) fn name_of<'t>(text: &'t str, piece: &Piece) -> (usize, &'t str)
 }
 
 /// The fault of an argument that is not closed.
-#[inline(always)]
 pub(crate) fn closed(piece: &Piece) -> Result<(), Error>
-    ensures { answered result ≡ option_map fault (unclosed_fault piece.now) }
+    ensures { result_answer result ≡ option_map fault (unclosed_fault piece.now) }
 {
     match piece.kind {
         PieceKind::Unclosed => Err(Error::Parse(ParseError::Expected("}", piece.spec_end))),
@@ -78,19 +81,22 @@ pub(crate) fn unboxed(range: &Option<Box<Range>>) -> Option<Range>
 
 /// Writes what pieces of a text mean, in order. They are all of a text's, or any others that fit it.
 #[cycle(tree)]
-pub(crate) fn run_pieces<'a, W: TextWrite, C: Context>(
+pub(crate) fn run_pieces<'a, W: TextWrite, C: Context, L: Ledger>(
     sink: &mut Sink<'_, W>,
-    scope: &Scope<'a, C, C::Object>,
+    environment: &Environment<'a, C, C::Object>,
     text: &str,
     pieces: &[Piece],
+    tally: &mut Tally<L>,
 ) -> Result<(), Error>
     requires whole { forest_whole (as_forest (nodes_of text.now pieces.now)) ≡ true }
     ensures writes { Writes W.written
-        (stored_pieces_mean C.Object.shows (environment_of C.finds scope.now) text.now pieces.now)
-        sink.old sink.new (answered result) }
+        (stored_pieces_mean C.Object.shows (environment_of C.finds environment.now) text.now pieces.now)
+        sink.old sink.new (result_answer result) }
+    ensures gone { tally.new ≤ tally.old + (stored_pieces_work C.Object.shows
+        (environment_of C.finds environment.now) text.now pieces.now).pieces }
 {
     for piece in pieces {
-        run_piece(sink, scope, text, piece)?;
+        run_piece(sink, environment, text, piece, tally)?;
     }
     Ok(())
 }
@@ -98,17 +104,21 @@ pub(crate) fn run_pieces<'a, W: TextWrite, C: Context>(
 /// Writes what a piece means.
 #[cycle(tree)]
 #[inline(always)]
-pub(crate) fn run_piece<'a, W: TextWrite, C: Context>(
+pub(crate) fn run_piece<'a, W: TextWrite, C: Context, L: Ledger>(
     sink: &mut Sink<'_, W>,
-    scope: &Scope<'a, C, C::Object>,
+    environment: &Environment<'a, C, C::Object>,
     text: &str,
     piece: &Piece,
+    tally: &mut Tally<L>,
 ) -> Result<(), Error>
     requires whole { node_whole (node_of text.now piece.now) ≡ true }
     ensures writes { Writes W.written
-        (stored_piece_means C.Object.shows (environment_of C.finds scope.now) text.now piece.now)
-        sink.old sink.new (answered result) }
+        (stored_piece_means C.Object.shows (environment_of C.finds environment.now) text.now piece.now)
+        sink.old sink.new (result_answer result) }
+    ensures gone { tally.new ≤ tally.old + (stored_piece_work C.Object.shows
+        (environment_of C.finds environment.now) text.now piece.now).pieces }
 {
+    tally.tick();
     match &piece.form {
         Form::Text => {
             sink.put_run(text_of(text, piece), piece.from)?;
@@ -119,7 +129,7 @@ pub(crate) fn run_piece<'a, W: TextWrite, C: Context>(
             let spec = Spec::default();
             write_value(
                 sink,
-                scope,
+                environment,
                 start,
                 name,
                 Trait::Display,
@@ -130,19 +140,27 @@ pub(crate) fn run_piece<'a, W: TextWrite, C: Context>(
         }
         Form::Value(t) => {
             let (start, name) = name_of(text, piece);
-            write_value(sink, scope, start, name, *t, &piece.spec, piece.spec_end)?;
+            write_value(
+                sink,
+                environment,
+                start,
+                name,
+                *t,
+                &piece.spec,
+                piece.spec_end,
+            )?;
             closed(piece)
         }
-        Form::List(range) => run_list_piece(sink, scope, text, piece, range),
+        Form::List(range) => run_list_piece(sink, environment, text, piece, range, tally),
         Form::Broken(fault) => refused(fault),
     }
 }
 
 /// The fault of a broken argument. It is a function of its own, and so is `run_list_piece`, since a
-/// function clears the room for its faults where it begins.
+/// function zeroes its error slot on entry.
 #[inline(always)]
 fn refused(broken: &ArgumentFault) -> Result<(), Error>
-    ensures { answered result ≡ Some (fault (argument_fault_of broken.now)) }
+    ensures { result_answer result ≡ Some (fault (argument_fault_of broken.now)) }
 {
     Err(Error::from(*broken))
 }
@@ -150,73 +168,93 @@ fn refused(broken: &ArgumentFault) -> Result<(), Error>
 /// Writes what a piece means that asks for a list.
 #[cycle(tree)]
 #[inline(always)]
-fn run_list_piece<'a, W: TextWrite, C: Context>(
+fn run_list_piece<'a, W: TextWrite, C: Context, L: Ledger>(
     sink: &mut Sink<'_, W>,
-    scope: &Scope<'a, C, C::Object>,
+    environment: &Environment<'a, C, C::Object>,
     text: &str,
     piece: &Piece,
     range: &Option<Box<Range>>,
+    tally: &mut Tally<L>,
 ) -> Result<(), Error>
     requires whole { node_whole (node_of text.now piece.now) ≡ true }
     requires list { (out-Piece piece.now).form ≡ forms.List range.now }
     ensures writes { Writes W.written
-        (stored_piece_means C.Object.shows (environment_of C.finds scope.now) text.now piece.now)
-        sink.old sink.new (answered result) }
+        (stored_piece_means C.Object.shows (environment_of C.finds environment.now) text.now piece.now)
+        sink.old sink.new (result_answer result) }
+    ensures gone { tally.new + 1 ≤ tally.old + (stored_piece_work C.Object.shows
+        (environment_of C.finds environment.now) text.now piece.now).pieces }
 {
     let (start, name) = name_of(text, piece);
-    run_list(sink, scope, text, piece, start, name, unboxed(range))?;
+    run_list(
+        sink,
+        environment,
+        text,
+        piece,
+        start,
+        name,
+        unboxed(range),
+        tally,
+    )?;
     closed(piece)
 }
 
 /// Writes the list under the name of a piece whose argument starts at `start`.
 #[cycle(tree)]
 #[inline(never)]
-fn run_list<'a, W: TextWrite, C: Context>(
+fn run_list<'a, W: TextWrite, C: Context, L: Ledger>(
     sink: &mut Sink<'_, W>,
-    scope: &Scope<'a, C, C::Object>,
+    environment: &Environment<'a, C, C::Object>,
     text: &str,
     piece: &Piece,
     start: usize,
     name: &str,
     range: Option<Range>,
+    tally: &mut Tally<L>,
 ) -> Result<(), Error>
     requires whole { node_whole (node_of text.now piece.now) ≡ true }
     ensures writes { Writes W.written
-        (list_under_name (environment_of C.finds scope.now) (chars name.now) start range
+        (list_under_name (environment_of C.finds environment.now) (chars name.now) start range
         (out-Piece piece.now).spec (out-Piece piece.now).spec_end
-        (stored_join_means C.Object.shows (environment_of C.finds scope.now) text.now piece.now)
-        (stored_item_means C.Object.shows (environment_of C.finds scope.now) text.now piece.now
+        (stored_join_means C.Object.shows (environment_of C.finds environment.now) text.now piece.now)
+        (stored_item_means C.Object.shows (environment_of C.finds environment.now) text.now piece.now
         (out-Piece piece.now).spec_end))
-        sink.old sink.new (answered result) }
+        sink.old sink.new (result_answer result) }
+    ensures gone { tally.new ≤ tally.old + (stored_list_work C.Object.shows
+        (environment_of C.finds environment.now) text.now piece.now (out-Piece piece.now).spec_end
+        (chars name.now) range).pieces }
 {
-    let items = chosen_list(scope, start, name, range, &piece.spec, piece.spec_end)?;
+    let items = chosen_list(environment, start, name, range, &piece.spec, piece.spec_end)?;
     if piece.spec.width.is_some() {
-        run_padded_list(sink, scope, text, piece, items)
+        run_padded_list(sink, environment, text, piece, items, tally)
     } else {
-        run_items(sink, scope, text, piece, items)
+        run_items(sink, environment, text, piece, items, tally)
     }
 }
 
 /// Makes the text of the items in a buffer, and then writes it padded to the width.
 #[cycle(tree)]
-fn run_padded_list<'a, W: TextWrite, C: Context>(
+fn run_padded_list<'a, W: TextWrite, C: Context, L: Ledger>(
     sink: &mut Sink<'_, W>,
-    scope: &Scope<'a, C, C::Object>,
+    environment: &Environment<'a, C, C::Object>,
     text: &str,
     piece: &Piece,
     items: &'a [Formattable<'a, C::Object>],
+    tally: &mut Tally<L>,
 ) -> Result<(), Error>
     requires whole { node_whole (node_of text.now piece.now) ≡ true }
     requires no_precision { (out-Piece piece.now).spec.precision ≡ None }
     ensures writes { Writes W.written
         (padded_list_means (out-Piece piece.now).spec (out-Piece piece.now).spec_end
-        (stored_items_mean C.Object.shows (environment_of C.finds scope.now) text.now piece.now
+        (stored_items_mean C.Object.shows (environment_of C.finds environment.now) text.now piece.now
         (out-Piece piece.now).spec_end (map slots_of items.now)))
-        sink.old sink.new (answered result) }
+        sink.old sink.new (result_answer result) }
+    ensures gone { tally.new ≤ tally.old + (stored_items_work C.Object.shows
+        (environment_of C.finds environment.now) text.now piece.now (out-Piece piece.now).spec_end
+        (map slots_of items.now)).pieces }
 {
-    let mut made = list_buffer(sink, scope);
+    let mut made = list_buffer(sink, environment);
     let mut inner: Sink<'_, W> = Sink::Aside(&mut made);
-    let answer = run_items(&mut inner, scope, text, piece, items);
+    let answer = run_items(&mut inner, environment, text, piece, items, tally);
     match inner {
         Sink::Writer(_) => unreachable!(),
         Sink::Aside(buffer) => {
@@ -232,66 +270,93 @@ fn run_padded_list<'a, W: TextWrite, C: Context>(
 
 /// Writes items of a list, and the join between two of them.
 #[cycle(tree)]
-fn run_items<'a, W: TextWrite, C: Context>(
+fn run_items<'a, W: TextWrite, C: Context, L: Ledger>(
     sink: &mut Sink<'_, W>,
-    scope: &Scope<'a, C, C::Object>,
+    environment: &Environment<'a, C, C::Object>,
     text: &str,
     piece: &Piece,
     items: &'a [Formattable<'a, C::Object>],
+    tally: &mut Tally<L>,
 ) -> Result<(), Error>
     requires whole { node_whole (node_of text.now piece.now) ≡ true }
     ensures writes { Writes W.written
-        (stored_items_mean C.Object.shows (environment_of C.finds scope.now) text.now piece.now
+        (stored_items_mean C.Object.shows (environment_of C.finds environment.now) text.now piece.now
         (out-Piece piece.now).spec_end (map slots_of items.now))
-        sink.old sink.new (answered result) }
+        sink.old sink.new (result_answer result) }
+    ensures gone { tally.new ≤ tally.old + (stored_items_work C.Object.shows
+        (environment_of C.finds environment.now) text.now piece.now (out-Piece piece.now).spec_end
+        (map slots_of items.now)).pieces }
 {
     let Some((first, rest)) = items.split_first() else {
         return Ok(());
     };
-    run_item(sink, scope, text, piece, first)?;
+    run_item(sink, environment, text, piece, first, tally)?;
     for item in rest {
-        run_join(sink, scope, text, piece)?;
-        run_item(sink, scope, text, piece, item)?;
+        run_join(sink, environment, text, piece, tally)?;
+        run_item(sink, environment, text, piece, item, tally)?;
     }
     Ok(())
 }
 
 /// Writes one item of a list.
 #[cycle(tree)]
-fn run_item<'a, W: TextWrite, C: Context>(
+fn run_item<'a, W: TextWrite, C: Context, L: Ledger>(
     sink: &mut Sink<'_, W>,
-    scope: &Scope<'a, C, C::Object>,
+    environment: &Environment<'a, C, C::Object>,
     text: &str,
     piece: &Piece,
     item: &'a Formattable<'a, C::Object>,
+    tally: &mut Tally<L>,
 ) -> Result<(), Error>
     requires whole { node_whole (node_of text.now piece.now) ≡ true }
     ensures writes { Writes W.written
-        (stored_item_means C.Object.shows (environment_of C.finds scope.now) text.now piece.now
+        (stored_item_means C.Object.shows (environment_of C.finds environment.now) text.now piece.now
         (out-Piece piece.now).spec_end (slots_of item.now))
-        sink.old sink.new (answered result) }
+        sink.old sink.new (result_answer result) }
+    ensures gone { tally.new ≤ tally.old + (stored_item_work C.Object.shows
+        (environment_of C.finds environment.now) text.now piece.now (out-Piece piece.now).spec_end
+        (slots_of item.now)).pieces }
 {
     match &piece.item {
-        Some(pieces) => run_pieces(sink, &scope.bind(item), text, pieces),
-        None => write_plain_item(sink, item, piece.spec_end),
+        Some(pieces) => {
+            count_empty(pieces, tally);
+            run_pieces(sink, &environment.bind(item), text, pieces, tally)
+        }
+        None => {
+            tally.tick();
+            write_plain_item(sink, item, piece.spec_end)
+        }
     }
 }
 
-/// Writes what stands between two items.
+/// Counts an item whose format is empty as one piece.
+#[inline(always)]
+fn count_empty<L: Ledger>(pieces: &[Piece], tally: &mut Tally<L>)
+    ensures one { tally.new ≡ tally.old + (1 - length pieces.now) }
+{
+    if pieces.is_empty() {
+        tally.tick();
+    }
+}
+
+/// Writes what comes between two items.
 #[cycle(tree)]
-fn run_join<'a, W: TextWrite, C: Context>(
+fn run_join<'a, W: TextWrite, C: Context, L: Ledger>(
     sink: &mut Sink<'_, W>,
-    scope: &Scope<'a, C, C::Object>,
+    environment: &Environment<'a, C, C::Object>,
     text: &str,
     piece: &Piece,
+    tally: &mut Tally<L>,
 ) -> Result<(), Error>
     requires whole { node_whole (node_of text.now piece.now) ≡ true }
     ensures writes { Writes W.written
-        (stored_join_means C.Object.shows (environment_of C.finds scope.now) text.now piece.now)
-        sink.old sink.new (answered result) }
+        (stored_join_means C.Object.shows (environment_of C.finds environment.now) text.now piece.now)
+        sink.old sink.new (result_answer result) }
+    ensures gone { tally.new ≤ tally.old + (stored_join_work C.Object.shows
+        (environment_of C.finds environment.now) text.now piece.now).pieces }
 {
     match &piece.join {
-        Some(pieces) => run_pieces(sink, scope, text, pieces),
+        Some(pieces) => run_pieces(sink, environment, text, pieces, tally),
         None => Ok(()),
     }
 }

@@ -18,7 +18,7 @@ pub const NUMBERS: [u32; 32] = [
     20, 22, 24, 25, 26, 27, 28,
 ];
 
-/// The same numbers, of a type that has a sign.
+/// These numbers in a type that has a sign.
 pub const SIGNED_NUMBERS: [i64; 32] = [
     0, 1, 2, 3, 5, 8, 13, 21, 34, 55, 89, 144, 233, 377, 610, 987, 4, 6, 9, 10, 12, 14, 15, 16, 18,
     20, 22, 24, 25, 26, 27, 28,

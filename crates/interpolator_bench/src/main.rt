@@ -35,7 +35,7 @@ fn main(rt: HostRuntime) -> ExitCode {
     ExitCode::from(status)
 }
 
-// Runs what the command line asks, and complains where that fails.
+// Runs what the command line asks, and complains if that fails.
 fn answer(rt: &(impl Env + Print + Eprint + AllocGlobal)) -> Result<(), Failure> {
     let answer = match asked(rt) {
         Ok(command) => run(rt, command),

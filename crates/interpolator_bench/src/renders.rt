@@ -59,7 +59,7 @@ pub fn padded_texts(alloc: Global, repeats: u32) -> Result<String, Failure> {
     repeat_rows(alloc, &texts, &forms, repeats)
 }
 
-/// The same texts and widths, filled with a character.
+/// These texts and widths, filled with a character.
 pub fn filled_texts(alloc: Global, fill: char, repeats: u32) -> Result<String, Failure> {
     let filled = Form::of(Trait::Display).filled(fill);
     let forms = [

@@ -37,13 +37,13 @@ pub fn padded_texts(alloc: Global, how: How, repeats: u32) -> Result<String, Fai
     repeat_specs(alloc, how, &texts, &[":12", ":>16", ":^10.4"], repeats)
 }
 
-/// The same texts and widths, filled with stars.
+/// These texts and widths, filled with stars.
 pub fn starred_texts(alloc: Global, how: How, repeats: u32) -> Result<String, Failure> {
     let texts = ["é", "naïve", "smörgåsbord", "日本語", "Привет", "plain"];
     repeat_specs(alloc, how, &texts, &[":*<12", ":*>16", ":*^10.4"], repeats)
 }
 
-/// The same texts and widths, filled with a character of two bytes.
+/// These texts and widths, filled with a character of two bytes.
 pub fn accented_texts(alloc: Global, how: How, repeats: u32) -> Result<String, Failure> {
     let texts = ["é", "naïve", "smörgåsbord", "日本語", "Привет", "plain"];
     repeat_specs(alloc, how, &texts, &[":é<12", ":é>16", ":é^10.4"], repeats)

@@ -24,7 +24,7 @@ pub enum How {
     Prepare,
 }
 
-/// Uses a format so often. Gives the last text: that of the format itself where it is not written.
+/// Uses a format so often. Gives the last text: that of the format itself if it is not written.
 pub fn repeat_format<V: Value>(
     alloc: Global,
     how: How,
@@ -77,7 +77,7 @@ fn repeat_new<V: Value>(
     Ok(text)
 }
 
-// Writes anew in the same buffer: the template, or the format where there is none.
+// Writes anew in the same buffer: the template, or the format if there is none.
 fn repeat_write<V: Value>(
     alloc: Global,
     format: &str,
@@ -93,7 +93,7 @@ fn repeat_write<V: Value>(
     Ok(text)
 }
 
-// Appends what the template means, or the format where there is none.
+// Appends what the template means, or the format if there is none.
 fn put<V: Value>(
     alloc: Global,
     text: String,

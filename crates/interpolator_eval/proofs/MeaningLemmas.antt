@@ -1,8 +1,8 @@
 -- Lemmas on what a format means, and on what writing it leaves.
 pub mod AskedGrammarLemmas
 pub mod AskedLemmas
+pub mod AskedPieceLemmas
 pub mod ChoiceLemmas
-pub mod DepthLemmas
 pub mod EqualLemmas
 pub mod ListLawLemmas
 pub mod ListLemmas
@@ -12,8 +12,7 @@ pub mod MovedLemmas
 pub mod OutcomeLemmas
 pub mod PlacedLemmas
 pub mod PlaceLemmas
-pub mod RelatedLemmas
 pub mod RunLemmas
 pub mod SampleLemmas
-pub mod ScopeLemmas
+pub mod EnvironmentLemmas
 pub mod SinkLemmas

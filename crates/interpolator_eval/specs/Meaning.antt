@@ -12,5 +12,5 @@ pub mod Moves
 pub mod Outcomes
 pub mod Resembling
 pub mod Samples
-pub mod Scopes
+pub mod CodeEnvironments
 pub mod Sinks

@@ -35,23 +35,23 @@ module _ {T : Type 0} where
   HasAdded IsDefault old name new = MatchOption (under old name)
       ((value : T) × (IsDefault value × HasPut old name value new)) (λ _. IsSame old new)
 
-  -- the value that is lent is the one under the name, or a default one where the name was absent
+  -- the value that is lent is the one under the name, or a default one if the name was absent
   abbrev pub IsEntry : (T → Type 0) → NameMap T → List ℕ → T → Type 0
   IsEntry IsDefault old name lent =
       MatchOption (under old name) (IsDefault lent) (λ value. lent ≡ value)
 
--- once the loan ends, the last value written stands under the name; without a loan nothing changed
+-- once the loan ends, the last value written is under the name; without a loan nothing changed
 abbrev pub LendsUnder : (T : RattleType) (map : MutBor (NameMap T.Denot))
     (name : List ℕ) → Option (MutBor T.Denot) → Fml
 LendsUnder T map name lent = LendsSo (the_row T) T map lent
     (λ new last. OnSome lent (HasPut map.now name last new)) (λ new. IsSame map.now new)
 
--- the same of a call that lends or fails
+-- a call that lends so, or fails
 abbrev pub LendsEntry : {E : Type 0} (T : RattleType) (map : MutBor (NameMap T.Denot))
     (name : List ℕ) → Result (MutBor T.Denot) E → Fml
 LendsEntry T map name lent = LendsSoOk (the_row T) T map lent
     (λ new last. HasPut map.now name last new) (λ new. IsSame map.now new)
 
 -- the tree under the name, in a map of `Formattable`s
-abbrev pub found : {X : Type 0} → NameMap (Formattable X) → List ℕ → Option (Slots X)
-found map name = option_map slots_of (under map name)
+abbrev pub stored_slots : {X : Type 0} → NameMap (Formattable X) → List ℕ → Option (Slots X)
+stored_slots map name = option_map slots_of (under map name)

@@ -26,11 +26,11 @@ abbrev pub slot_order : List Trait
 slot_order =
     Debug ∷ Display ∷ Binary ∷ LowerExp ∷ LowerHex ∷ Octal ∷ UpperExp ∷ UpperHex ∷ Iter ∷ []
 
--- what stands before a name, and the name
+-- what comes before a name, and the name
 abbrev pub name_after : Bool → List ℕ → List ℕ
 name_after is_first name = (if is_first then codes "(" else codes ", ") ++ name
 
--- the names in parentheses, or nothing where there is none
+-- the names in parentheses, or nothing if there is none
 abbrev pub in_parentheses : List (List ℕ) → List ℕ
 in_parentheses [] = []
 in_parentheses (name ∷ names) =

@@ -1,4 +1,4 @@
--- What a `Formattable` means: a tree of slots and items, where borrows do not count.
+-- What a `Formattable` means: a tree of slots and items, in which borrows do not count.
 use Rattle.std.specs.Prelude.{List, [], ◌∷◌, map, Option, None, Some}
 use Rattle.std.specs.Option.{option_map, option_copied}
 use Rattle.std.specs.Borrow.{Bor}
@@ -43,7 +43,7 @@ module _ {X : Type 0} where
   slots_listed no_slots = []
   slots_listed (slots_and tree others) = tree ∷ slots_listed others
 
-  -- the items of a tree, where it has a list
+  -- the items of a tree, if it has a list
   abbrev pub items : Slots X → Option (List (Slots X))
   items (bare _) = None
   items (listed _ others) = Some (slots_listed others)

@@ -121,7 +121,7 @@ impl<'a, V> Formattable<'a, V> {
 
 /// The slots of the name are filled as well, and the others stay as they were.
 impl<'a, V> Formattable<'a, V> {
-    /// The same with the debug and display slots filled.
+    /// Fills the debug and display slots too.
     ///
     /// `Formattable::octal(&n).and_debug_display(&n)` of 255: `{n} {n:?}` is `255 255`.
     pub fn and_debug_display(mut self, value: &'a V) -> Self
@@ -131,7 +131,7 @@ impl<'a, V> Formattable<'a, V> {
         self
     }
 
-    /// The same with the debug slot filled.
+    /// Fills the debug slot too.
     ///
     /// `Formattable::display(&n).and_debug(&n)` of 255: `{n:?}` is `255`.
     pub fn and_debug(mut self, value: &'a V) -> Self
@@ -141,7 +141,7 @@ impl<'a, V> Formattable<'a, V> {
         self
     }
 
-    /// The same with the display slot filled.
+    /// Fills the display slot too.
     ///
     /// `Formattable::debug(&n).and_display(&n)` of 255: `{n:>5}` is `  255`.
     pub fn and_display(mut self, value: &'a V) -> Self
@@ -151,7 +151,7 @@ impl<'a, V> Formattable<'a, V> {
         self
     }
 
-    /// The same with the eight slots of the formatting traits filled.
+    /// Fills the eight slots of the formatting traits too.
     ///
     /// `Formattable::display(&n).and_integer(&n)` of 255: `{n:#x}` is `0xff`.
     pub fn and_integer(mut self, value: &'a V) -> Self
@@ -161,7 +161,7 @@ impl<'a, V> Formattable<'a, V> {
         self
     }
 
-    /// The same with the debug, display, lower_exp and upper_exp slots filled.
+    /// Fills the debug, display, lower_exp and upper_exp slots too.
     ///
     /// `Formattable::display(&n).and_float(&n)` of 255: `{n:.1e}` is `2.6e2`.
     pub fn and_float(mut self, value: &'a V) -> Self
@@ -171,7 +171,7 @@ impl<'a, V> Formattable<'a, V> {
         self
     }
 
-    /// The same with the binary slot filled.
+    /// Fills the binary slot too.
     ///
     /// `Formattable::display(&n).and_binary(&n)` of 255: `{n:b}` is `11111111`.
     pub fn and_binary(mut self, value: &'a V) -> Self
@@ -181,7 +181,7 @@ impl<'a, V> Formattable<'a, V> {
         self
     }
 
-    /// The same with the lower_exp slot filled.
+    /// Fills the lower_exp slot too.
     ///
     /// `Formattable::display(&n).and_lower_exp(&n)` of 255: `{n:e}` is `2.55e2`.
     pub fn and_lower_exp(mut self, value: &'a V) -> Self
@@ -191,7 +191,7 @@ impl<'a, V> Formattable<'a, V> {
         self
     }
 
-    /// The same with the lower_hex slot filled.
+    /// Fills the lower_hex slot too.
     ///
     /// `Formattable::display(&n).and_lower_hex(&n)` of 255: `{n:x}` is `ff`.
     pub fn and_lower_hex(mut self, value: &'a V) -> Self
@@ -201,7 +201,7 @@ impl<'a, V> Formattable<'a, V> {
         self
     }
 
-    /// The same with the octal slot filled.
+    /// Fills the octal slot too.
     ///
     /// `Formattable::display(&n).and_octal(&n)` of 255: `{n:o}` is `377`.
     pub fn and_octal(mut self, value: &'a V) -> Self
@@ -211,7 +211,7 @@ impl<'a, V> Formattable<'a, V> {
         self
     }
 
-    /// The same with the upper_exp slot filled.
+    /// Fills the upper_exp slot too.
     ///
     /// `Formattable::display(&n).and_upper_exp(&n)` of 255: `{n:E}` is `2.55E2`.
     pub fn and_upper_exp(mut self, value: &'a V) -> Self
@@ -221,7 +221,7 @@ impl<'a, V> Formattable<'a, V> {
         self
     }
 
-    /// The same with the upper_hex slot filled.
+    /// Fills the upper_hex slot too.
     ///
     /// `Formattable::display(&n).and_upper_hex(&n)` of 255: `{n:X}` is `FF`.
     pub fn and_upper_hex(mut self, value: &'a V) -> Self
@@ -231,7 +231,7 @@ impl<'a, V> Formattable<'a, V> {
         self
     }
 
-    /// The same with the iter slot, with the items of a list, filled.
+    /// Fills the iter slot too, with the items of a list.
     ///
     /// `Formattable::display(&n).and_iter(&items)` of 255 twice: `{n:i({})(, )}` is `255, 255`.
     pub fn and_iter(mut self, value: &'a [Formattable<'a, V>]) -> Self

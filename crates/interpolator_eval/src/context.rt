@@ -17,10 +17,10 @@ pub trait Context {
     /// The type of the values that are written.
     type Object: Value;
 
-    // the tree of what stands under a name
+    // the tree of what is under a name
     ghost finds: { Self → List ℕ → Option (Slots Self.Object) };
 
-    /// What stands under a name, or `None`. It takes no memory.
+    /// What is under a name, or `None`. It takes no memory.
     ///
     /// ```text
     /// let context = Pairs(&[("n", Formattable::display(&n))]);
@@ -65,11 +65,24 @@ impl<'a, V: Value> Context for HashMap<String, Formattable<'a, V>> {
     }
 }
 
-/// A map with `&str` keys that names one lifetime, where the map's own type names two.
+/// A map with `&str` keys that names one lifetime, although the map's own type names two.
 #[derive(Drop)]
 pub struct ByNames<'m, V> {
-    pub map: &'m HashMap<&'m str, Formattable<'m, V>>,
-    pub of: PhantomData<&'m V>,
+    map: &'m HashMap<&'m str, Formattable<'m, V>>,
+    of: PhantomData<&'m V>,
+}
+
+impl<'m, V> ByNames<'m, V> {
+    /// The names of this map.
+    #[inline(always)]
+    pub fn new(map: &'m HashMap<&'m str, Formattable<'m, V>>) -> Self
+        ensures { result.map.now ≡ map.now }
+    {
+        ByNames {
+            map,
+            of: PhantomData,
+        }
+    }
 }
 
 impl<'m, V: Value> Context for ByNames<'m, V> {

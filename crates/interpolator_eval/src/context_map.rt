@@ -4,7 +4,7 @@ ghost use Rattle.std.specs.Prelude.{IfOk, IfErr, OnOk, OnErr};
 ghost use Rattle.std.specs.Option.{option_copied, option_copied_mut};
 ghost use Rattle.std.specs.Str.{chars};
 ghost use Rattle.std.specs.Borrow.{sem};
-ghost use Rattle.interpolator_eval.specs.NameMaps.{under, name_count, found, HasPut, IsSame};
+ghost use Rattle.interpolator_eval.specs.NameMaps.{under, name_count, stored_slots, HasPut, IsSame};
 ghost use Rattle.interpolator_eval.specs.NameMaps.{HasAdded, IsEntry, LendsUnder, LendsEntry};
 
 use crate::context::{Context, copied};
@@ -96,7 +96,7 @@ impl<T: Default + Drop> NameMap<T> {
         Ok(())
     }
 
-    // Lends the value under a name, which is put in first where it is absent.
+    // Lends the value under a name, which is put in first if it is absent.
     fn lend_or_add(&mut self, name: &str) -> Result<&mut T, AllocError>
         ensures* writes_back { sem 𝓛 (LendsEntry T.row self.entry (chars name.now) result) }
         ensures value { IfOk result (λ lent.
@@ -156,7 +156,7 @@ impl<T: Default + Drop> NameMap<T> {
 impl<'a, V: Value> Context for NameMap<Formattable<'a, V>> {
     type Object = V;
 
-    ghost finds = { λ map name. found map name };
+    ghost finds = { λ map name. stored_slots map name };
 
     #[inline(always)]
     fn get(&self, key: &str) -> Option<Formattable<'_, V>> {

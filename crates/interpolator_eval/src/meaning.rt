@@ -1,8 +1,8 @@
 //! What a format means, written: names are looked up, and texts go to the writer.
 
+pub mod environment;
 pub mod evaluate;
 pub mod list;
 pub mod sample;
-pub mod scope;
 pub mod sink;
 pub mod value;

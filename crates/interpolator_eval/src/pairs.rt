@@ -10,8 +10,8 @@ use std::alloc::AllocError;
 
 /// A context of pairs: a name, and the [`Formattable`] that it stands for.
 ///
-/// The last pair of a name stands. Names are compared by their characters, from the last pair to
-/// the first, which costs less than a map where the names are few. Making it takes no memory.
+/// The last pair of a name counts. Names are compared by their characters, from the last pair to
+/// the first, which costs less than a map if the names are few. Making it takes no memory.
 ///
 /// ```text
 /// struct Guest<'a> { name: &'a str, city: &'a str }

@@ -1,6 +1,6 @@
 //! Lists whose items come when the program runs, and lists of such lists.
 ghost use Rattle.std.specs.Prelude.{◌≡◌, map, drop, take, IfOk, IfErr};
-ghost use Rattle.interpolator_eval.specs.Rows.{parted};
+ghost use Rattle.interpolator_eval.specs.Rows.{parts_to};
 ghost use Rattle.interpolator_eval.specs.Slots.{slots_of, empty_slots, with_integer, with_iter};
 ghost use Rattle.interpolator_syntax.specs.declared.error.Error.TheVariants.{NoMemory};
 
@@ -43,7 +43,7 @@ fn row<'a, V>(items: &'a [Formattable<'a, V>], from: usize, to: usize) -> Format
     Formattable::iter(&front[from.min(front.len())..])
 }
 
-/// A list for each row of a flat slice of items. `ends` has, for each row, how many items stand up
+/// A list for each row of a flat slice of items. `ends` has, for each row, the number of items up
 /// to its end: a row has the items from the end of the row before it up to its own. It may be
 /// empty, and what lies past the last item is left out.
 ///
@@ -65,7 +65,7 @@ pub fn rows_of<'a, V>(
     ends: &[usize],
 ) -> Result<Vec<Formattable<'a, V>>, Error>
     ensures rows { IfOk result (λ rows. map slots_of rows.items
-        ≡ map (with_iter empty_slots) (parted (map slots_of items.now) 0 ends.now)) }
+        ≡ map (with_iter empty_slots) (parts_to (map slots_of items.now) 0 ends.now)) }
     ensures refused { IfErr result (λ error. error ≡ NoMemory) }
 {
     let mut rows = Vec::with_capacity(alloc, ends.len())?;

@@ -220,7 +220,7 @@ impl<'a, V> Formattable<'a, V> {
         }
     }
 
-    // The items, where the iter slot is filled.
+    // The items, if the iter slot is filled.
     #[inline(always)]
     pub(crate) fn list(self) -> Option<&'a [Formattable<'a, V>]>
         ensures { lent_slots result ≡ items (slots_of self.entry) }

@@ -6,7 +6,7 @@ use Rattle.interpolator_render.specs.declared.view.Bits.TheVariants.{B64}
 use Rattle.interpolator_examples.specs.declared.cells.Cell.{Cell}
 use Rattle.interpolator_examples.specs.declared.cells.Cell.TheVariants as cell
 
--- its name or its count, and nothing where it is absent
+-- its name or its count, and nothing if it is absent
 abbrev pub cell_shows : Cell → Shown
 cell_shows (cell.Name text) = some_text (chars (string_bytes text))
 cell_shows (cell.Count n) = signed_number n B64

@@ -4,7 +4,7 @@ use crate::page::Page;
 use interpolator::{Error, Formattable, Interpolate, Pairs};
 use std::alloc::Global;
 
-/// A list: how each item is written, and what stands between two.
+/// A list: how each item is written, and what is between two.
 fn guests(alloc: Global, names: &[&str]) -> Result<String, Error> {
     let mut items = Vec::new(alloc);
     for name in names {

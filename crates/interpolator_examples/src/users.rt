@@ -48,7 +48,7 @@ fn letters(
     Ok(())
 }
 
-/// Pairs of several kinds, which stand in one local.
+/// Pairs of several kinds, in one local.
 fn apples(alloc: Global, name: &str, apples: i32) -> Result<String, Error> {
     let values = [
         View::Text(name),
@@ -99,7 +99,7 @@ fn stock(alloc: Global, rows: &[(&str, u32)]) -> Result<String, Error> {
     Ok(out.into_string())
 }
 
-/// A name as it is, and as it stands in code.
+/// A name as it is, and as it is written in code.
 fn badge(alloc: Global, name: &str) -> Result<String, Error> {
     Pairs(&[("name", Formattable::debug_display(&name))]).format(alloc, "[{name:^9}] {name:?}")
 }

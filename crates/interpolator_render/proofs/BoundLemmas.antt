@@ -114,7 +114,7 @@ beginning_refused old new bytes text taken u v o n flag border short none =
       counted = sym (ap length (encodes-chars (take taken text) front) ∙ size);
     }
 
--- no border of the text stands after the beginning that was taken and within what was left
+-- no border of the text lies after the beginning that was taken and within what was left
 pub next_goes_over : (old new : BoundedText) (bytes text : List ℕ) (taken left : ℕ) → IsUtf8 bytes
     → IsUtf8 text → old.text ≡ chars bytes → new.text ≡ chars (bytes ++ take taken text)
     → old.most ≡ length bytes + left → IsCharBoundary text taken → taken ≤ left
@@ -157,7 +157,7 @@ next_goes_over old new bytes text taken left u v o n m border fits short nearest
       over = let more = beyond c cs e in omega (arith, held);
     }
 
--- why a text over the bound is refused: the flag stood, there was no memory, or the bound
+-- why a text over the bound is refused: the flag was set, there was no memory, or the bound
 pub refused_over_bound : (old : BoundedText) (bytes after text : List ℕ)
     (refused refused_after : Bool) (most room room_after taken left : ℕ) → IsUtf8 bytes
     → IsUtf8 text

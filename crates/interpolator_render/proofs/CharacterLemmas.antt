@@ -1,4 +1,4 @@
--- Texts walked character by character: where a number of characters end.
+-- Texts walked character by character: if a number of characters end.
 use Rattle.std.proofs.Common.{◌≡◌, ℕ, ◌-◌, ◌+◌, List, [], ◌∷◌, Bool, true, ◌&&◌, ◌++◌, length, take}
 use Rattle.std.proofs.Common.{refl, sym, ◌∙◌, ap, arith, append_assoc, append-nil, length-append}
 use Rattle.std.proofs.Common.{encode_utf8, chars, IsUtf8, IsCharBoundary}
@@ -48,7 +48,7 @@ walked_more text rest after count c e w = let s = scalar_first rest after c w.re
       rest_valid = u;
     }
 
--- where the first `count` characters end
+-- if the first `count` characters end
 pub walked_chars : (text rest : List ℕ) (count : ℕ) → (w : Walked text rest count) →
     chars w.after ≡ take count (chars text)
 walked_chars text rest count w =

@@ -7,7 +7,7 @@ use Rattle.std.proofs.lemmas.Bool.{cases_eq, cases_lt}
 use Rattle.std.proofs.lemmas.List.{length-replicate}
 use Rattle.std.proofs.Math.Nat.{pow-le-pow_right}
 use Rattle.interpolator_render.specs.Digits.{digit_text}
-use Rattle.interpolator_render.specs.Exponent.{exponent_of, nearest, rounded, scientific, IsNearest}
+use Rattle.interpolator_render.specs.Exponent.{exponent_of, nearest, rounding, scientific, IsNearest}
 use Rattle.interpolator_render.proofs.DigitLemmas.{digit_text_some, digit_text_zero}
 use Rattle.interpolator_render.proofs.DigitLemmas.{length-digit_text-le}
 use Rattle.interpolator_render.proofs.ExponentLemmas.{pow_some, scientific_short, scientific_long}
@@ -61,7 +61,7 @@ some_exponent n h = elim (eq-zero-or-pos n) [
 ]
 
 rounded_count : (places n : ℕ) → places < exponent_of n →
-    length (rounded places n (exponent_of n)).digits ≡ places + 1
+    length (rounding places n (exponent_of n)).digits ≡ places + 1
 rounded_count places n h =
     let unit = 10 ^ (exponent_of n - places) in
     let bounds = exponent_bounds_of n (some_exponent n (omega arith)) in
@@ -92,7 +92,7 @@ value_of_zeros : (count : ℕ) (digits : List ℕ) → digits_value 10 (replicat
 value_of_zeros zero digits = refl
 value_of_zeros (suc count) digits = value_of_zeros count digits
 
--- where the number has no more digits, they are its own and zeros
+-- if the number has no more digits, they are its own and zeros
 pub scientific_whole : (places n : ℕ) → exponent_of n ≤ places →
     ((scientific (Some places) n).exponent ≡ exponent_of n)
     × (digits_value 10 (scientific (Some places) n).digits ≡ n * 10 ^ (places - exponent_of n))
@@ -112,9 +112,9 @@ carry_value places exponent h =
     left ∙ (ap (λ (k : ℕ). 10 ^ k) same ∙ sym right)
 
 rounded_value : (places n exponent : ℕ) → places < exponent →
-    (places ≤ (rounded places n exponent).exponent)
-    × (digits_value 10 (rounded places n
-    exponent).digits * 10 ^ ((rounded places n exponent).exponent - places)
+    (places ≤ (rounding places n exponent).exponent)
+    × (digits_value 10 (rounding places n
+    exponent).digits * 10 ^ ((rounding places n exponent).exponent - places)
     ≡ nearest n (10 ^ (exponent - places)) * 10 ^ (exponent - places))
 rounded_value places n exponent h =
     let mantissa = nearest n (10 ^ (exponent - places)) in
@@ -127,7 +127,7 @@ rounded_value places n exponent h =
           (omega arith, refl)
     ]
 
--- where it has more, they and the exponent make the nearest number of units
+-- if it has more, they and the exponent make the nearest number of units
 pub scientific_rounded : (places n : ℕ) → places < exponent_of n →
     (places ≤ (scientific (Some places) n).exponent)
     × (digits_value 10 (scientific (Some places)

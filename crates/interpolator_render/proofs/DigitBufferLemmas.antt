@@ -18,13 +18,13 @@ use Rattle.interpolator_render.specs.Digits.{digit_text}
 use Rattle.interpolator_render.specs.Numbers.{base_of, is_upper}
 use Rattle.interpolator_render.specs.Padding.{IsNumberRow, number_fill}
 use Rattle.interpolator_render.proofs.DigitLemmas.{length-digit_text-le}
-use Rattle.interpolator_render.specs.DigitBuffers.{Buffered, IsBuffered, buffered, grown, grown_after}
+use Rattle.interpolator_render.specs.DigitBuffers.{Buffered, IsBuffered, buffer_row, put_before, put_after}
 use Rattle.interpolator_render.proofs.LayoutLemmas.{IsAscii-replicate}
 
--- a piece stands in front of the text, and nothing else has changed
+-- a piece is in front of the text, and nothing else has changed
 pub row_grows : (old new piece : List ℕ) (fill from start end : ℕ) (row : Buffered) → start ≤ end →
     from + length piece ≡ start → drop from new ≡ piece ++ drop start old →
-    buffered old fill start end ≡ row → buffered new fill from end ≡ grown piece row
+    buffer_row old fill start end ≡ row → buffer_row new fill from end ≡ put_before piece row
 row_grows old new piece fill from start end row h s e v =
     let place : from ≡ start - length piece = omega arith in
     let long : end - from ≡ length piece + (end - start) = omega arith in
@@ -69,7 +69,7 @@ pub byte_in_front : (old : List ℕ) (start byte : ℕ) → 1 ≤ start → star
 byte_in_front old start byte h l = let n : start - 1 + 1 ≡ start = omega arith in
     drop-set old (start - 1) byte (omega arith) ∙ ap (λ (k : ℕ). byte ∷ drop k old) n
 
--- copies of the fill stand in front of the text already
+-- copies of the fill are in front of the text already
 pub copies_in_front : (old : List ℕ) (fill count start end : ℕ) → count ≤ start →
     start ≤ length old → IsBuffered old fill start end → drop (start - count) old ≡ replicate count fill
     ++ drop start old
@@ -85,8 +85,8 @@ copies_in_front old fill count start end h l row =
 -- and after it
 pub row_grows_after : (old : List ℕ) (fill count start end : ℕ) → end + count ≤ 128 →
     IsBuffered old fill start end →
-    buffered old fill start (end + count) ≡ grown_after (replicate count fill)
-    (buffered old fill start end)
+    buffer_row old fill start (end + count) ≡ put_after (replicate count fill)
+    (buffer_row old fill start end)
 row_grows_after old fill count start end h row =
     let high = row.ordered in
     let n = length-replicate count fill in
@@ -150,7 +150,7 @@ few_decimals n s = short_digits 10 n false (omega arith) s
 pub number_row : (spec : Spec) (radix : Radix) (n : ℕ) (empty row : Buffered) (fill : ℕ) →
     unwrap_or spec.width 0 ≤ 40 → n < 2 ^ 64 → fill ≡ number_fill spec →
     empty ≡ record { before = 88; text = []; after = 40; fill = fill } →
-    row ≡ grown (digit_text (base_of radix) (is_upper radix) n) empty → IsNumberRow spec row
+    row ≡ put_before (digit_text (base_of radix) (is_upper radix) n) empty → IsNumberRow spec row
 number_row spec radix n empty row fill w s f e r =
     let base = base_of radix in
     let few = short_digits base n (is_upper radix) (base_from_2 radix) s in
@@ -164,8 +164,8 @@ number_row spec radix n empty row fill w s f e r =
     })
 
 -- one piece in front of another
-pub grown_twice : (first second : List ℕ) (row : Buffered) → grown first (grown second row)
-    ≡ grown (first ++ second) row
+pub grown_twice : (first second : List ℕ) (row : Buffered) → put_before first (put_before second row)
+    ≡ put_before (first ++ second) row
 grown_twice first second row =
     let size = length-append first second in
     let room : row.before - length second - length first

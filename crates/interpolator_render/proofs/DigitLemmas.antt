@@ -52,7 +52,7 @@ text_fits base n upper b s = let wide : 2 ^ 128 ≤ base ^ 128 = pow-le-pow_left
 
 -- ---- the buffer
 
--- nothing stands after the buffer
+-- nothing lies after the buffer
 pub nothing_after : (out : List ℕ) (size : ℕ) → length out ≡ size → drop size out ≡ []
 nothing_after out size e = rw (← e) (drop-length out)
 
@@ -106,7 +106,7 @@ pub one_count : (base n : ℕ) (upper : Bool) → 2 ≤ base → n < base →
     length (digit_text base upper n) ≡ 1
 one_count base n upper b h = ap length (digit_text_one base n upper b h)
 
--- one digit more stands in front
+-- one digit more in front
 pub low_step : (base n at : ℕ) (upper : Bool) (out : List ℕ) → 2 ≤ base → base ≤ n → 0 < at →
     at ≤ length out →
     digit_text base upper (n / base) ++ drop (at - 1)
@@ -168,7 +168,7 @@ low_of_pair n = grind (arith, nat_tests)
 high_of_pair : (n : ℕ) → digit_glyph false (n / 10 % 10) ≡ 48 + n % 100 / 10
 high_of_pair n = grind (arith, nat_tests)
 
--- two digits more stand in front
+-- two digits more in front
 pub pair_step : (n at : ℕ) (out : List ℕ) → 100 ≤ n → 2 ≤ at → at ≤ length out →
     digit_text 10 false (n / 100) ++ drop (at - 2)
     (set (set out (at - 1) (48 + n % 100 % 10)) (at - 2) (48 + n % 100 / 10))

@@ -14,8 +14,8 @@ use Rattle.std.proofs.lemmas.List.{length-replicate}
 use Rattle.std.proofs.Math.Nat.{one-le-pow}
 use Rattle.std.proofs.Math.Bool.{and-false}
 use Rattle.interpolator_render.specs.Digits.{digit_text}
-use Rattle.interpolator_render.specs.Exponent.{exponent_of, less_zeros, trimmed, zero_extended}
-use Rattle.interpolator_render.specs.Exponent.{scientific, rounded}
+use Rattle.interpolator_render.specs.Exponent.{exponent_of, less_zeros, significant_digits, with_zeros}
+use Rattle.interpolator_render.specs.Exponent.{scientific, rounding}
 use Rattle.interpolator_render.proofs.DigitLemmas.{digit_text_zero, digit_text_map, digit_text_some}
 
 -- ---- powers of ten
@@ -42,12 +42,12 @@ less_zeros_other (digit ∷ digits) last h =
     let k : length (digits ++ last ∷ []) ≢ 0 = omega arith in search rules in
     rw (less_zeros_other digits last h, some, and-false (digit == 48)) refl
 
-pub trimmed_zero : (digits : List ℕ) → 0 < length digits → trimmed (digits ++ 48 ∷ [])
-    ≡ trimmed digits
+pub trimmed_zero : (digits : List ℕ) → 0 < length digits → significant_digits (digits ++ 48 ∷ [])
+    ≡ significant_digits digits
 trimmed_zero [] h = absurd (omega arith)
 trimmed_zero (digit ∷ digits) h = ap (λ (x : List ℕ). digit ∷ x) (less_zeros_zero digits)
 
-pub trimmed_other : (digits : List ℕ) (last : ℕ) → last ≢ 48 → trimmed (digits ++ last ∷ [])
+pub trimmed_other : (digits : List ℕ) (last : ℕ) → last ≢ 48 → significant_digits (digits ++ last ∷ [])
     ≡ digits ++ last ∷ []
 trimmed_other [] last h = refl
 trimmed_other (digit ∷ digits) last h = ap (λ (x : List ℕ). digit ∷ x)
@@ -84,12 +84,12 @@ digit_text_scaled n k h =
     (rw (glyphs_of_zeros k, ← digit_text_map 10 n false h) refl)
 
 extended_whole : (count : ℕ) (digits : List ℕ) → length digits ≡ count →
-    digits ≡ zero_extended count digits
+    digits ≡ with_zeros count digits
 extended_whole count digits e = let none : count - length digits ≡ 0 = omega arith in rw none refl
 
 zero_placed : (n places : ℕ) → n ≡ 0 →
     digit_text 10 false n ++ replicate (places - exponent_of n) 48
-    ≡ zero_extended (places + 1) (digit_text 10 false (n * 10 ^ (places - exponent_of n)))
+    ≡ with_zeros (places + 1) (digit_text 10 false (n * 10 ^ (places - exponent_of n)))
 zero_placed n places e =
     let none : n * 10 ^ (places - exponent_of n) ≡ 0 = rw e (omega arith) in
     let z = digit_text_zero 10 false 0 refl in
@@ -101,7 +101,7 @@ zero_placed n places e =
 -- the digits and the zeros after them are the digits of the number with so many places
 pub digits_placed : (n places : ℕ) → exponent_of n ≤ places →
     digit_text 10 false n ++ replicate (places - exponent_of n) 48
-    ≡ zero_extended (places + 1) (digit_text 10 false (n * 10 ^ (places - exponent_of n)))
+    ≡ with_zeros (places + 1) (digit_text 10 false (n * 10 ^ (places - exponent_of n)))
 digits_placed n places h = elim (eq-zero-or-pos n) [
   | inl e ↦ zero_placed n places e
   | inr m ↦ rw (digit_text_scaled n (places - exponent_of n) m)
@@ -112,20 +112,20 @@ digits_placed n places h = elim (eq-zero-or-pos n) [
 ]
 
 pub scientific_plain : (n : ℕ) → scientific None n
-    ≡ record { digits = trimmed (digit_text 10 false n); exponent = exponent_of n }
+    ≡ record { digits = significant_digits (digit_text 10 false n); exponent = exponent_of n }
 unfolding scientific
 scientific_plain n = refl
 
 pub scientific_short : (places n : ℕ) → exponent_of n ≤ places → scientific (Some places) n
     ≡ record {
-      digits = zero_extended (places + 1) (digit_text 10 false (n * 10 ^ (places - exponent_of n)));
+      digits = with_zeros (places + 1) (digit_text 10 false (n * 10 ^ (places - exponent_of n)));
       exponent = exponent_of n;
     }
 unfolding scientific
 scientific_short places n h = let f : nat_lt places (exponent_of n) ≡ false = search rules in
     rw f refl
 
--- the same, with the zeros after the digits
+-- a short number as its own digits, with the zeros after them
 pub scientific_placed : (places n : ℕ) → exponent_of n ≤ places → scientific (Some places) n
     ≡ record {
       digits = digit_text 10 false n ++ replicate (places - exponent_of n) 48;
@@ -134,7 +134,7 @@ pub scientific_placed : (places n : ℕ) → exponent_of n ≤ places → scient
 scientific_placed places n h = rw (scientific_short places n h, ← digits_placed n places h) refl
 
 pub scientific_long : (places n : ℕ) → places < exponent_of n →
-    scientific (Some places) n ≡ rounded places n (exponent_of n)
+    scientific (Some places) n ≡ rounding places n (exponent_of n)
 unfolding scientific
 scientific_long places n h = let f : nat_lt places (exponent_of n) ≡ true = search rules in
     rw f refl

@@ -9,9 +9,9 @@ use Rattle.std.proofs.lemmas.List.{length-replicate}
 use Rattle.interpolator_render.specs.Digits.{digit_text}
 use Rattle.interpolator_render.specs.declared.view.Spec.{Spec}
 use Rattle.interpolator_render.specs.Padding.{IsNumberRow, number_fill}
-use Rattle.interpolator_render.specs.Exponent.{exponent_tail, exponent_text, leading, pointed}
+use Rattle.interpolator_render.specs.Exponent.{exponent_tail, exponent_text, leading, with_point}
 use Rattle.interpolator_render.specs.Exponent.{scientific, shown_text}
-use Rattle.interpolator_render.specs.DigitBuffers.{Buffered, grown}
+use Rattle.interpolator_render.specs.DigitBuffers.{Buffered, put_before}
 use Rattle.interpolator_render.proofs.DigitLemmas.{digit_count_step, length-digit_text-le}
 use Rattle.interpolator_render.proofs.DigitLemmas.{digit_text_some, low_count, one_count}
 use Rattle.interpolator_render.proofs.DigitBufferLemmas.{grown_twice}
@@ -37,9 +37,9 @@ length-leading (first ∷ []) [] = omega arith
 length-leading (first ∷ []) (next ∷ after) = omega arith
 length-leading (first ∷ second ∷ more) after = omega arith
 
--- what stands before the zeros, and the zeros, are the digits with their point
+-- what comes before the zeros, and the zeros, are the digits with their point
 leading_then : (digits after : List ℕ) → 0 < length digits →
-    leading digits after ++ after ≡ pointed (digits ++ after)
+    leading digits after ++ after ≡ with_point (digits ++ after)
 leading_then [] after h = absurd (omega arith)
 leading_then (first ∷ []) [] h = refl
 leading_then (first ∷ []) (next ∷ after) h = refl
@@ -71,25 +71,25 @@ small_glyph d h = grind (arith, nat_tests)
 
 pub leading_pieces : (digits after : List ℕ) (first : ℕ) (row low point all : Buffered) →
     first < 10 → digits ≡ digit_glyph false first ∷ drop 1 digits →
-    1 < length digits + length after → low ≡ grown (drop 1 digits) row →
-    point ≡ grown (46 ∷ []) low → all ≡ grown ((48 + first) ∷ []) point →
-    all ≡ grown (leading digits after) row
+    1 < length digits + length after → low ≡ put_before (drop 1 digits) row →
+    point ≡ put_before (46 ∷ []) low → all ≡ put_before ((48 + first) ∷ []) point →
+    all ≡ put_before (leading digits after) row
 leading_pieces digits after first row low point all h e more a b c =
     let leads : digits ≡ (48 + first) ∷ drop 1 digits = rw (small_glyph first h) at e in
     rw (leading_more digits after (48 + first) leads more, c, b, a)
-    (ap (grown ((48 + first) ∷ [])) (grown_twice (46 ∷ []) (drop 1 digits) row)
+    (ap (put_before ((48 + first) ∷ [])) (grown_twice (46 ∷ []) (drop 1 digits) row)
     ∙ grown_twice ((48 + first) ∷ []) (46 ∷ drop 1 digits) row)
 
 pub alone_pieces : (digits after : List ℕ) (first : ℕ) (row low all : Buffered) → first < 10 →
     digits ≡ digit_glyph false first ∷ drop 1 digits → length digits + length after ≡ 1 →
-    low ≡ grown (drop 1 digits) row → all ≡ grown ((48 + first) ∷ []) low →
-    all ≡ grown (leading digits after) row
+    low ≡ put_before (drop 1 digits) row → all ≡ put_before ((48 + first) ∷ []) low →
+    all ≡ put_before (leading digits after) row
 alone_pieces digits after first row low all h e single a b =
     let leads : digits ≡ (48 + first) ∷ drop 1 digits = rw (small_glyph first h) at e in
     let none : drop 1 digits ≡ [] = nothing_left digits (omega arith) in
     rw (leading_alone digits after (48 + first) leads single, b, a)
     (grown_twice ((48 + first) ∷ []) (drop 1 digits) row
-    ∙ ap (λ (x : List ℕ). grown ((48 + first) ∷ x) row) none)
+    ∙ ap (λ (x : List ℕ). put_before ((48 + first) ∷ x) row) none)
   where
     nothing_left : (text : List ℕ) → length text ≤ 1 → drop 1 text ≡ []
     nothing_left [] h = refl
@@ -97,17 +97,17 @@ alone_pieces digits after first row low all h e single a b =
     nothing_left (x ∷ y ∷ more) h = absurd (omega arith)
 
 pub shown_pieces : (upper : Bool) (digits zeros exponent : ℕ) (row tail padded all : Buffered) →
-    tail ≡ grown (exponent_tail upper exponent) row → padded ≡ grown (replicate zeros 48) tail →
-    all ≡ grown (leading (digit_text 10 false digits) (replicate zeros 48)) padded →
-    all ≡ grown (shown_text upper digits zeros exponent) row
+    tail ≡ put_before (exponent_tail upper exponent) row → padded ≡ put_before (replicate zeros 48) tail →
+    all ≡ put_before (leading (digit_text 10 false digits) (replicate zeros 48)) padded →
+    all ≡ put_before (shown_text upper digits zeros exponent) row
 shown_pieces upper digits zeros exponent row tail padded all a b c =
     let head = leading (digit_text 10 false digits) (replicate zeros 48) in
     let whole = leading_then (digit_text 10 false digits) (replicate zeros 48)
     (digit_text_some 10 digits false (omega arith)) in
-    rw (c, b, a) (ap (grown head)
+    rw (c, b, a) (ap (put_before head)
     (grown_twice (replicate zeros 48) (exponent_tail upper exponent) row)
     ∙ (grown_twice head (replicate zeros 48 ++ exponent_tail upper exponent) row
-    ∙ ap (λ (x : List ℕ). grown x row) (sym (append_assoc head (replicate zeros 48) _)
+    ∙ ap (λ (x : List ℕ). put_before x row) (sym (append_assoc head (replicate zeros 48) _)
     ∙ ap (λ (x : List ℕ). x ++ exponent_tail upper exponent) whole)))
 
 -- ---- the whole
@@ -116,7 +116,7 @@ shown_pieces upper digits zeros exponent row tail padded all a b c =
 pub exponent_row : (spec : Spec) (digits zeros exponent : ℕ) (upper : Bool) (empty row : Buffered)
     (fill : ℕ) → unwrap_or spec.width 0 ≤ 40 → digits < 2 ^ 128 → zeros ≤ 40 → exponent ≤ 39 →
     fill ≡ number_fill spec → empty ≡ record { before = 88; text = []; after = 40; fill = fill } →
-    row ≡ grown (shown_text upper digits zeros exponent) empty → IsNumberRow spec row
+    row ≡ put_before (shown_text upper digits zeros exponent) empty → IsNumberRow spec row
 exponent_row spec digits zeros exponent upper empty row fill w d z s f e r =
     let few = decimal_digits digits d in
     let two = two_digits exponent s in
@@ -127,7 +127,7 @@ exponent_row spec digits zeros exponent upper empty row fill w d z s f e r =
     (digit_text_some 10 digits false (omega arith)) in
     let body = ap length whole in
     let parts = length-append head (replicate zeros 48) in
-    let text = length-append (pointed (digit_text 10 false digits ++ replicate zeros 48))
+    let text = length-append (with_point (digit_text 10 false digits ++ replicate zeros 48))
     (exponent_tail upper exponent) in
     let size = length-append (shown_text upper digits zeros exponent) [] in
     rw (r, e) (record {
@@ -152,7 +152,7 @@ exponent_parts upper digits count exponent head tail h t =
 
 -- a text alone in a row
 pub grown_alone : (text : List ℕ) (row empty : Buffered) → empty.text ≡ [] →
-    row ≡ grown text empty → row.text ≡ text
+    row ≡ put_before text empty → row.text ≡ text
 grown_alone text row empty e r = ap (λ (x : Buffered). x.text) r
     ∙ (ap (λ (x : List ℕ). text ++ x) e ∙ append-nil text)
 

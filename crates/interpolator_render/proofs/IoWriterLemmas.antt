@@ -59,7 +59,7 @@ written_after front text old new (Err r) h = record {
   counted = h.counted;
 }
 
--- the same, where the whole is known by another name
+-- what was written, if the whole is known by another name
 pub writes_on : (front text : List ℕ) (whole old new : Written) (answer : Result (Unit {0}) Refusal)
     → after_text front old ≡ whole
     → MatchResult answer (λ _. Extends old text new) (λ r. Refuses old text r.taken new)

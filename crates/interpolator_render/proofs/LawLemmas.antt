@@ -19,7 +19,7 @@ use Rattle.std.proofs.Math.Bool.{and-false}
 use Rattle.interpolator_render.specs.declared.view.Bits.{Bits}
 use Rattle.interpolator_render.specs.declared.view.Spec.{Spec}
 use Rattle.interpolator_render.specs.Digits.{digit_text}
-use Rattle.interpolator_render.specs.Exponent.{exponent_of, nearest, trimmed, less_zeros, IsNearest}
+use Rattle.interpolator_render.specs.Exponent.{exponent_of, nearest, significant_digits, less_zeros, IsNearest}
 use Rattle.interpolator_render.specs.Exponent.{distance}
 use Rattle.interpolator_render.specs.Numbers.{twos_complement, remainder}
 use Rattle.interpolator_render.specs.Padding.{between_fill, fill_before, fill_of, missing_to}
@@ -160,7 +160,7 @@ less_zeros_tail [] = (0, refl)
 less_zeros_tail (digit ∷ digits) = let after = less_zeros_tail digits in
     tail_step digit digits (less_zeros digits) after.0 after.1
 
-pub trimmed_tail : (digits : List ℕ) → (count : ℕ) × (digits ≡ trimmed digits ++ replicate count 48)
+pub trimmed_tail : (digits : List ℕ) → (count : ℕ) × (digits ≡ significant_digits digits ++ replicate count 48)
 trimmed_tail [] = (0, refl)
 trimmed_tail (digit ∷ digits) = let after = less_zeros_tail digits in
     (after.0, ap (λ (x : List ℕ). digit ∷ x) after.1)
@@ -193,8 +193,8 @@ less_zeros_last [] some = absurd (omega arith)
 less_zeros_last (digit ∷ digits) some =
     last_step digit (less_zeros digits) (less_zeros_last digits) some
 
-pub trimmed_last : (digits : List ℕ) → 1 < length (trimmed digits) →
-    get_or (trimmed digits) (length (trimmed digits) - 1) 0 ≢ 48
+pub trimmed_last : (digits : List ℕ) → 1 < length (significant_digits digits) →
+    get_or (significant_digits digits) (length (significant_digits digits) - 1) 0 ≢ 48
 trimmed_last [] more = absurd (omega arith)
 trimmed_last (digit ∷ digits) more = last_after digit (less_zeros digits) (omega arith)
     (less_zeros_last digits (omega arith))

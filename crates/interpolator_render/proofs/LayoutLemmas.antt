@@ -75,7 +75,7 @@ writes_second a b c t u (Err refusal) p q = stops_in_second a b c t u p q
 pub byte_count-append : (t u : List ℕ) → byte_count (t ++ u) ≡ byte_count t + byte_count u
 byte_count-append t u = ap length (encodes-append t u) ∙ length-append _ _
 
--- the same two with their counts, where `done` counts the first text
+-- a refusal in the second text or in the first, with its counts: `done` counts the first text
 pub refuses_in_second : (a b c : Written) (t u : List ℕ) (done taken all : ℕ) →
     done ≡ min (byte_count t) (2 ^ 64 - 1) → all ≡ min (done + taken) (2 ^ 64 - 1) →
     Appends a t b → RefusesLong b u taken c → RefusesLong a (t ++ u) all c

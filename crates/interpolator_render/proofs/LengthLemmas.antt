@@ -29,15 +29,15 @@ use Rattle.interpolator_render.specs.declared.view.Trait.TheVariants.{LowerExp, 
 use Rattle.interpolator_render.specs.declared.view.Trait.TheVariants.{UpperExp, UpperHex, Iter}
 use Rattle.interpolator_render.specs.Characters.{cut, double_quote, single_quote, space, delete}
 use Rattle.interpolator_render.specs.Digits.{digit_text}
-use Rattle.interpolator_render.specs.Exponent.{Scientific, exponent_of, trimmed, rounded, scientific, nearest}
-use Rattle.interpolator_render.specs.Exponent.{pointed, exponent_tail, exponent_text}
+use Rattle.interpolator_render.specs.Exponent.{Scientific, exponent_of, significant_digits, rounding, scientific, nearest}
+use Rattle.interpolator_render.specs.Exponent.{with_point, exponent_tail, exponent_text}
 use Rattle.interpolator_render.specs.Lengths.{IsShownWithin, most_digits, most_front, most_body}
-use Rattle.interpolator_render.specs.Lengths.{most_number, most_text, most_written, HasAtMost, capped}
+use Rattle.interpolator_render.specs.Lengths.{most_number, most_text, most_written, HasAtMost, usize_count}
 use Rattle.interpolator_render.specs.Numbers.{base_of, is_upper, sign_text, distance_from_zero}
 use Rattle.interpolator_render.specs.Numbers.{number_form, has_minus, magnitude, front_text, body_text}
 use Rattle.interpolator_render.specs.Numbers.{number_text, twos_complement, prefix_of, is_negative}
 use Rattle.interpolator_render.specs.Padding.{displayed_text}
-use Rattle.interpolator_render.specs.Quoting.{escape_letter, escaped_by, escaped, quoted}
+use Rattle.interpolator_render.specs.Quoting.{escape_letter, escape_by, escape_of, quotation}
 use Rattle.interpolator_render.specs.Texts.{in_form, truth_text, under, view_text}
 use Rattle.interpolator_render.specs.Views.{Shown, signed_number, unsigned_number, truth_value}
 use Rattle.interpolator_render.specs.Views.{one_character, some_text, plain_text}
@@ -66,12 +66,12 @@ digits_within InUpperHex n upper h =
 
 -- ---- exponent forms
 
-length-pointed : (digits : List ℕ) → length (pointed digits) ≤ length digits + 1
+length-pointed : (digits : List ℕ) → length (with_point digits) ≤ length digits + 1
 length-pointed [] = omega arith
 length-pointed (first ∷ []) = omega arith
 length-pointed (first ∷ second ∷ more) = omega arith
 
-alone : (digits : List ℕ) → length digits ≡ 1 → length (pointed digits) ≡ 1
+alone : (digits : List ℕ) → length digits ≡ 1 → length (with_point digits) ≡ 1
 alone [] h = absurd (omega (arith, h))
 alone (first ∷ []) h = refl
 alone (first ∷ second ∷ more) h = absurd (omega (arith, h))
@@ -79,17 +79,17 @@ alone (first ∷ second ∷ more) h = absurd (omega (arith, h))
 few_digits : (n : ℕ) → n < 2 ^ 128 → exponent_of n ≤ 38
 few_digits n h = let most = decimal_digits n h in omega arith
 
-trimmed_within : (digits : List ℕ) → length (trimmed digits) ≤ length digits
+trimmed_within : (digits : List ℕ) → length (significant_digits digits) ≤ length digits
 trimmed_within digits =
     let tail = trimmed_tail digits in
-    let all = ap length tail.1 ∙ length-append (trimmed digits) _ in omega arith
+    let all = ap length tail.1 ∙ length-append (significant_digits digits) _ in omega arith
 
 carried : (b : Bool) (carry other : Scientific) (most : ℕ) → carry.exponent ≤ most
     → other.exponent ≤ most → (if b then carry else other).exponent ≤ most
 carried true carry other most h k = h
 carried false carry other most h k = k
 
-rounded_exponent : (places n exponent : ℕ) → (rounded places n exponent).exponent ≤ exponent + 1
+rounded_exponent : (places n exponent : ℕ) → (rounding places n exponent).exponent ≤ exponent + 1
 rounded_exponent places n exponent =
     carried (nearest n (10 ^ (exponent - places)) == 10 ^ (places + 1)) _ _ (exponent + 1)
     (omega arith) (omega arith)
@@ -111,7 +111,7 @@ tail_within : (upper : Bool) (exponent : ℕ) → exponent ≤ 39
 tail_within upper exponent h = let two = two_digits exponent h in omega arith
 
 precise_within : (upper : Bool) (places : ℕ) (digits : List ℕ) → length digits ≡ places + 1
-    → length (pointed digits) + 3 ≤ most_body (InExponent upper) (Some places)
+    → length (with_point digits) + 3 ≤ most_body (InExponent upper) (Some places)
 precise_within upper zero digits h = let one = alone digits h in omega (arith, one)
 precise_within upper (suc places) digits h = omega (arith, length-pointed digits, h)
 
@@ -122,7 +122,7 @@ exponent_text_within upper None n h =
     let digits = digit_text 10 false n in
     rw length-append (omega (
       arith,
-      length-pointed (trimmed digits),
+      length-pointed (significant_digits digits),
       trimmed_within digits,
       decimal_digits n h,
       tail_within upper (exponent_of n) (let few = few_digits n h in omega arith),
@@ -242,22 +242,22 @@ by_number true c h =
     let rest = length-append (digit_text 16 false c) (codes "}") in omega (arith, digits, all, rest)
 by_number false c h = omega arith
 
-escaped_within : (letter : Option ℕ) (c : ℕ) → length (escaped_by letter c) ≤ 6
+escaped_within : (letter : Option ℕ) (c : ℕ) → length (escape_by letter c) ≤ 6
 escaped_within (Some letter) c = omega arith
 escaped_within None c = by_number (nat_lt c space || (c == delete)) c (control_digits c)
 
 all_escaped : (quote : ℕ) (text : List ℕ)
-    → length (flat_map (escaped quote) text) ≤ length text * 6
+    → length (flat_map (escape_of quote) text) ≤ length text * 6
 all_escaped quote [] = omega arith
 all_escaped quote (c ∷ cs) =
     let first = escaped_within (escape_letter quote c) c in
-    let both = length-append (escaped quote c) (flat_map (escaped quote) cs) in
+    let both = length-append (escape_of quote c) (flat_map (escape_of quote) cs) in
     omega (arith, first, both, all_escaped quote cs)
 
 quoted_within : (quote : ℕ) (text : List ℕ) (most : ℕ) → length text ≤ most
-    → length (quoted quote text) ≤ most * 6 + 2
+    → length (quotation quote text) ≤ most * 6 + 2
 quoted_within quote text most h =
-    let both = length-append (flat_map (escaped quote) text) (quote ∷ []) in
+    let both = length-append (flat_map (escape_of quote) text) (quote ∷ []) in
     omega (arith, all_escaped quote text, both)
 
 -- ---- views
@@ -367,9 +367,9 @@ written_grows t spec few many h = let more = text_grows t few many h in omega (a
 
 pub most_told : (t : Trait) (spec : Spec) (most width number text wider widest : ℕ)
     → width < 2 ^ 64 → width ≡ unwrap_or spec.width 0
-    → number ≡ capped (most_number (number_form t spec.hex_debug) spec)
-    → text ≡ capped (most_text t most) → wider ≡ max width number
-    → widest ≡ max wider text → widest ≡ capped (most_written t spec most)
+    → number ≡ usize_count (most_number (number_form t spec.hex_debug) spec)
+    → text ≡ usize_count (most_text t most) → wider ≡ max width number
+    → widest ≡ max wider text → widest ≡ usize_count (most_written t spec most)
 unfolding most_written
 most_told t spec most width number text wider widest fits w n k a b =
     omega (arith, w, n, k, a, b)

@@ -15,7 +15,7 @@ use Rattle.interpolator_render.specs.Padding.{fill_of, missing_to, number_fill, 
 use Rattle.interpolator_render.specs.Padding.{fill_before, IsNumberLayout}
 use Rattle.std.proofs.lemmas.Bool.{cases_Bool}
 
--- what stands before a text is a part of what is missing
+-- what goes before a text is a part of what is missing
 pub before_within : (alignment : Alignment) (missing unset : ℕ) → unset ≤ missing →
     fill_before alignment missing unset ≤ missing
 before_within Left missing unset h = omega arith
@@ -75,7 +75,7 @@ nothing_padded spec front body z m =
     let all : fill_before spec.alignment 0 0 ≡ 0 = omega arith in
     rw (z, ← m, all) (sym (append-nil (front ++ body)))
 
--- a number of which no more is asked than its digits, and a minus where it is negative
+-- a number of which no more is asked than its digits, and a minus if it is negative
 pub bare_number : (spec : Spec) (negative : Bool) (n : ℕ) → spec.width ≡ None →
     spec.zero ≡ false → spec.alternate ≡ false → spec.sign ≡ NoSign →
     number_text (InDigits Decimal) spec negative n

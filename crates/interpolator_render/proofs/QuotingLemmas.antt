@@ -14,20 +14,20 @@ use Rattle.std.proofs.lemmas.Str.{IsCharBoundary-before_ascii, IsCharBoundary-af
 use Rattle.std.proofs.lemmas.Str.{IsCharBoundary-start, chars-nil}
 use Rattle.std.proofs.lemmas.Str.Ascii.{IsAscii-cons}
 use Rattle.interpolator_render.specs.declared.text_write.Refusal.{Refusal}
-use Rattle.interpolator_render.specs.Quoting.{escaped}
+use Rattle.interpolator_render.specs.Quoting.{escape_of}
 use Rattle.interpolator_render.specs.Written.{Written, Appends, AppendsBeginning, Puts, Writes}
 use Rattle.interpolator_render.proofs.LayoutLemmas.{appends_none, appends_both, stops_in_first}
 use Rattle.interpolator_render.proofs.LayoutLemmas.{stops_in_second, writes_second}
 use Rattle.interpolator_render.proofs.LayoutLemmas.{writes_from_puts}
 use Rattle.std.proofs.lemmas.Bool.Decides.{nat_tests}
 
--- ---- characters that stand as they are
+-- ---- characters that are written as they are
 
--- past ASCII every character does, where the quote is ASCII
-pub escaped_wide : (quote c : ℕ) → quote < 128 → 128 ≤ c → escaped quote c ≡ c ∷ []
+-- past ASCII every character is, if the quote is ASCII
+pub escaped_wide : (quote c : ℕ) → quote < 128 → 128 ≤ c → escape_of quote c ≡ c ∷ []
 escaped_wide quote c q w = grind (arith, nat_tests)
 
--- a text whose bytes below 128 stand as they are stands as it is
+-- a text is written as it is if its bytes below 128 are
 plain_chars : (f : ℕ → List ℕ) (cs : List ℕ) → ((c : ℕ) → 128 ≤ c → f c ≡ c ∷ []) →
     ((k : ℕ) → k < length (encode_utf8_all cs) → f (get_or (encode_utf8_all cs) k 0)
     ≡ get_or (encode_utf8_all cs) k 0 ∷ []) → flat_map f cs ≡ cs
@@ -84,7 +84,7 @@ run_plain f text start index k s l plain h =
     rw (get_or-take (index - start) (drop start text) k 0 within, get_or-drop start text k 0)
     (plain (start + k) (omega arith) (omega arith))
 
--- a run of characters that stand as they are, and one ASCII character after it
+-- a run of characters that are written as they are, and one ASCII character after it
 pub run_more : (f : ℕ → List ℕ) (text : List ℕ) (start index : ℕ) →
     ((c : ℕ) → 128 ≤ c → f c ≡ c ∷ []) → IsUtf8 text → IsCharBoundary text start →
     start ≤ index → index < length text → get_or text index 0 < 128 →
@@ -108,7 +108,7 @@ run_more f text start index wide u b s l ascii plain =
     (rw (chars-append run (c ∷ []) valid_run, alone, flat_map-append f (chars (take start text)) _)
     (rw (flat_map-append f (chars run) (c ∷ []), as_is, append-nil (f c)) refl))
 
--- the same up to the end of the text
+-- a run of characters that are written as they are, up to the end of the text
 pub run_to_end : (f : ℕ → List ℕ) (text : List ℕ) (start : ℕ) → ((c : ℕ) → 128 ≤ c → f c ≡ c ∷ []) →
     IsUtf8 text → IsCharBoundary text start →
     ((k : ℕ) → start ≤ k → k < length text → f (get_or text k 0) ≡ get_or text k 0 ∷ []) →
@@ -123,7 +123,7 @@ run_to_end f text start wide u b plain =
 
 -- ---- what was written
 
--- the text up to `start` was written, and the bytes from there up to `index` stand as they are
+-- the text up to `start` was written, and the bytes from there up to `index` need no escape
 pub record Runs (f : ℕ → List ℕ) (text : List ℕ) (start index : ℕ) (before now : Written) : Type 0
   where
     pub below : start ≤ index
@@ -140,7 +140,7 @@ runs_none f text before u = record {
   written = rw chars-nil (appends_none before);
 }
 
--- one byte more that stands as it is
+-- one byte more that needs no escape
 pub runs_plain : (f : ℕ → List ℕ) (text : List ℕ) (start index : ℕ) (before now : Written) →
     f (get_or text index 0) ≡ get_or text index 0 ∷ [] →
     Runs f text start index before now → Runs f text start (index + 1) before now

@@ -5,7 +5,7 @@ use Rattle.std.proofs.Common.{eq-zero-or-pos}
 use Rattle.std.specs.Fmt.{digit_glyph}
 use Rattle.interpolator_render.specs.declared.scientific.TheConstants.{POWERS}
 use Rattle.interpolator_render.specs.Digits.{digit_text}
-use Rattle.interpolator_render.specs.Exponent.{exponent_of, trimmed}
+use Rattle.interpolator_render.specs.Exponent.{exponent_of, significant_digits}
 use Rattle.interpolator_render.proofs.CountLemmas.{digits_between}
 use Rattle.interpolator_render.proofs.DigitLemmas.{digit_text_some, digit_text_step, digit_text_one}
 use Rattle.interpolator_render.proofs.DigitLemmas.{one_count}
@@ -27,20 +27,20 @@ exponent_found n e low high = elim (eq-zero-or-pos e) [
 
 -- ---- the zeros at the end
 
-pub trim_zero : (n : ℕ) → 10 ≤ n → n % 10 ≡ 0 → trimmed (digit_text 10 false (n / 10))
-    ≡ trimmed (digit_text 10 false n)
+pub trim_zero : (n : ℕ) → 10 ≤ n → n % 10 ≡ 0 → significant_digits (digit_text 10 false (n / 10))
+    ≡ significant_digits (digit_text 10 false n)
 trim_zero n h z = rw (digit_text_step 10 n false (omega arith) h, z)
     (sym (trimmed_zero (digit_text 10 false (n / 10))
     (digit_text_some 10 (n / 10) false (omega arith))))
 
 pub trim_done : (n : ℕ) → 10 ≤ n → n % 10 ≢ 0 →
-    digit_text 10 false n ≡ trimmed (digit_text 10 false n)
+    digit_text 10 false n ≡ significant_digits (digit_text 10 false n)
 trim_done n h z = let some : 0 < n % 10 = omega (arith, z) in
     rw (digit_text_step 10 n false (omega arith) h)
     (sym (trimmed_other (digit_text 10 false (n / 10)) (digit_glyph false (n % 10))
     (glyph_some (n % 10) false some)))
 
-pub trim_short : (n : ℕ) → n < 10 → digit_text 10 false n ≡ trimmed (digit_text 10 false n)
+pub trim_short : (n : ℕ) → n < 10 → digit_text 10 false n ≡ significant_digits (digit_text 10 false n)
 trim_short n h = rw (digit_text_one 10 n false (omega arith) h) refl
 
 pub ruleset trims = (trim_zero, trim_done, trim_short)

@@ -10,9 +10,9 @@ use Rattle.std.specs.Str.Parse.{digits_value, digits_value_after}
 use Rattle.std.proofs.lemmas.Bool.Decides.{nat_tests}
 use Rattle.std.proofs.lemmas.Int.Digits.{all_below_base_digits_of}
 use Rattle.interpolator_render.specs.Digits.{digit_text}
-use Rattle.interpolator_render.specs.Quoting.{escape_letter, escaped, quoted}
+use Rattle.interpolator_render.specs.Quoting.{escape_letter, escape_of, quotation}
 use Rattle.interpolator_render.specs.Unquoting.{IsQuote, preceded_by, escape_meaning, unquoted_from}
-use Rattle.interpolator_render.specs.Unquoting.{unquoted, at_character, in_number}
+use Rattle.interpolator_render.specs.Unquoting.{text_in_quotes, at_character, in_number}
 use Rattle.interpolator_render.proofs.DigitLemmas.{digit_text_zero, digit_text_map}
 use Rattle.interpolator_render.proofs.LawLemmas.{digits_read}
 
@@ -49,7 +49,7 @@ text_read quote n rest = elim (eq-zero-or-pos n) [
       (number_read quote 0 (digits_of 16 n) rest (all_below_base_digits_of 16 n (omega arith)))
 ]
 
--- a character that stands after a backslash by its number
+-- a character that is written after a backslash by its number
 code_read : (quote c : ℕ) (rest : List ℕ) → StandsForItself quote →
     unquoted_from quote at_character ((codes "\\u{" ++ (digit_text 16 false c ++ codes "}"))
     ++ rest)
@@ -64,7 +64,7 @@ code_read quote c rest p =
 
 none_read : (quote c : ℕ) (rest : List ℕ) → StandsForItself quote → c ≢ quote → c ≢ 92 →
     escape_letter quote c ≡ None →
-    unquoted_from quote at_character (escaped quote c ++ rest)
+    unquoted_from quote at_character (escape_of quote c ++ rest)
     ≡ preceded_by c (unquoted_from quote at_character rest)
 none_read quote c rest p q s e =
     let other : (c == quote) ≡ false = search rules in
@@ -84,7 +84,7 @@ letter_meaning quote c letter p e = let l = p.letter in let o = p.own in
     (grind (arith, nat_tests), grind (arith, nat_tests))
 
 escaped_read : (quote c : ℕ) (rest : List ℕ) (letter : Option ℕ) → StandsForItself quote →
-    escape_letter quote c ≡ letter → unquoted_from quote at_character (escaped quote c ++ rest)
+    escape_letter quote c ≡ letter → unquoted_from quote at_character (escape_of quote c ++ rest)
     ≡ preceded_by c (unquoted_from quote at_character rest)
 escaped_read quote c rest None p e =
     none_read quote c rest p (λ s. grind (arith, nat_tests)) (λ s. grind (arith, nat_tests)) e
@@ -94,16 +94,16 @@ escaped_read quote c rest (Some letter) p e = let m = letter_meaning quote c let
 -- ---- texts
 
 inside_read : (quote : ℕ) (text after : List ℕ) → StandsForItself quote →
-    unquoted_from quote at_character (flat_map (escaped quote) text ++ quote ∷ after)
+    unquoted_from quote at_character (flat_map (escape_of quote) text ++ quote ∷ after)
     ≡ record { text = text; after = after }
 inside_read quote [] after p = let t : (quote == quote) ≡ true = search rules in rw t refl
 inside_read quote (c ∷ cs) after p =
-    rw append_assoc (escaped_read quote c (flat_map (escaped quote) cs ++ quote ∷ after) _ p refl
+    rw append_assoc (escaped_read quote c (flat_map (escape_of quote) cs ++ quote ∷ after) _ p refl
     ∙ ap (preceded_by c) (inside_read quote cs after p))
 
 pub quoted_read : (quote : ℕ) (text after : List ℕ) → IsQuote quote →
-    unquoted quote (quoted quote text ++ after) ≡ Some (record { text = text; after = after })
+    text_in_quotes quote (quotation quote text ++ after) ≡ Some (record { text = text; after = after })
 quoted_read quote text after q =
     let t : (quote == quote) ≡ true = search rules in
-    rw (t, append_assoc (flat_map (escaped quote) text) (quote ∷ []) after)
+    rw (t, append_assoc (flat_map (escape_of quote) text) (quote ∷ []) after)
     (ap Some (inside_read quote text after (quotes_stand quote q)))

@@ -49,7 +49,7 @@ newline = 10
 abbrev pub carriage_return : ℕ
 carriage_return = 13
 
--- the last of the ASCII controls, and the only one that does not stand before the space
+-- the last of the ASCII controls, and the only one that does not come before the space
 abbrev pub delete : ℕ
 delete = 127
 

@@ -3,7 +3,7 @@ use Rattle.std.specs.Prelude.{◌≡◌, ℕ, ◌-◌, ◌<◌, ◌≤◌, List,
 use Rattle.std.specs.Prelude.{replicate, slice_range}
 use Rattle.std.specs.Str.{IsAscii}
 
--- a text in a row of copies of one character: how many stand before it and after it
+-- a text in a row of copies of one character: how many are before it and after it
 pub record Buffered : Type 0 where
   pub before : ℕ
   pub text : List ℕ
@@ -11,8 +11,8 @@ pub record Buffered : Type 0 where
   pub fill : ℕ
 
 -- with a piece written in front of the text
-abbrev pub grown : List ℕ → Buffered → Buffered
-grown piece row = record {
+abbrev pub put_before : List ℕ → Buffered → Buffered
+put_before piece row = record {
   before = row.before - length piece;
   text = piece ++ row.text;
   after = row.after;
@@ -20,17 +20,17 @@ grown piece row = record {
 }
 
 -- with a piece written after the text
-abbrev pub grown_after : List ℕ → Buffered → Buffered
-grown_after piece row = record {
+abbrev pub put_after : List ℕ → Buffered → Buffered
+put_after piece row = record {
   before = row.before;
   text = row.text ++ piece;
   after = row.after - length piece;
   fill = row.fill;
 }
 
--- the row that a buffer holds, whose text stands from `start` up to `end`
-abbrev pub buffered : List ℕ → ℕ → ℕ → ℕ → Buffered
-buffered bytes fill start end = record {
+-- the row that a buffer holds, whose text lies from `start` up to `end`
+abbrev pub buffer_row : List ℕ → ℕ → ℕ → ℕ → Buffered
+buffer_row bytes fill start end = record {
   before = start;
   text = slice_range bytes start end;
   after = 128 - end;

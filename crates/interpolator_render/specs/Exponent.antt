@@ -14,7 +14,7 @@ pub record Scientific : Type 0 where
 abbrev pub exponent_of : ℕ → ℕ
 exponent_of n = length (digit_text 10 false n) - 1
 
--- the number nearest to n / unit, of two the even one
+-- the number nearest to n / unit: of two, the even one
 abbrev pub nearest : ℕ → ℕ → ℕ
 nearest n unit =
     let low = n / unit in
@@ -28,19 +28,19 @@ less_zeros (digit ∷ digits) =
     if (digit == zero_digit) && (length (less_zeros digits) == 0)
     then [] else digit ∷ less_zeros digits
 
--- the same, but the first digit always stays
-abbrev pub trimmed : List ℕ → List ℕ
-trimmed [] = []
-trimmed (digit ∷ digits) = digit ∷ less_zeros digits
+-- digits without the zeros at their end, of which the first always stays
+abbrev pub significant_digits : List ℕ → List ℕ
+significant_digits [] = []
+significant_digits (digit ∷ digits) = digit ∷ less_zeros digits
 
 -- digits with zeros before them, so that there are at least `count`
-abbrev pub zero_extended : ℕ → List ℕ → List ℕ
-zero_extended count digits = replicate (count - length digits) zero_digit ++ digits
+abbrev pub with_zeros : ℕ → List ℕ → List ℕ
+with_zeros count digits = replicate (count - length digits) zero_digit ++ digits
 
--- rounded to `places` digits after the first, where the number has more: a carry to ten raises the
+-- rounded to `places` digits after the first, if the number has more: a carry to ten raises the
 -- exponent
-abbrev pub rounded : ℕ → ℕ → ℕ → Scientific
-rounded places n exponent =
+abbrev pub rounding : ℕ → ℕ → ℕ → Scientific
+rounding places n exponent =
     let mantissa = nearest n (10 ^ (exponent - places)) in
     if mantissa == 10 ^ (places + 1)
     then record { digits = digit_text 10 false (10 ^ places); exponent = exponent + 1 }
@@ -49,21 +49,21 @@ rounded places n exponent =
 -- without precision, all digits but the zeros at their end; with one, exactly that many digits
 -- after the first
 unfoldable pub scientific : Option ℕ → ℕ → Scientific
-scientific None n = record { digits = trimmed (digit_text 10 false n); exponent = exponent_of n }
+scientific None n = record { digits = significant_digits (digit_text 10 false n); exponent = exponent_of n }
 scientific (Some places) n =
-    if nat_lt places (exponent_of n) then rounded places n (exponent_of n)
+    if nat_lt places (exponent_of n) then rounding places n (exponent_of n)
     else record {
-      digits = zero_extended (places + 1) (digit_text 10 false (n * 10 ^ (places - exponent_of n)));
+      digits = with_zeros (places + 1) (digit_text 10 false (n * 10 ^ (places - exponent_of n)));
       exponent = exponent_of n;
     }
 
 -- a point after the first digit, if more follow
-abbrev pub pointed : List ℕ → List ℕ
-pointed [] = []
-pointed (first ∷ []) = first ∷ []
-pointed (first ∷ second ∷ more) = first ∷ point ∷ second ∷ more
+abbrev pub with_point : List ℕ → List ℕ
+with_point [] = []
+with_point (first ∷ []) = first ∷ []
+with_point (first ∷ second ∷ more) = first ∷ point ∷ second ∷ more
 
--- what stands in `pointed (digits ++ after)` before `after`
+-- what comes before `after` in `pointed (digits ++ after)`
 abbrev pub leading : List ℕ → List ℕ → List ℕ
 leading [] after = []
 leading (first ∷ []) [] = first ∷ []
@@ -81,13 +81,13 @@ exponent_tail upper exponent = mark upper ∷ digit_text 10 false exponent
 -- exponent form of a number's digits, zeros after them, and an exponent
 abbrev pub shown_text : Bool → ℕ → ℕ → ℕ → List ℕ
 shown_text upper digits zeros exponent =
-    pointed (digit_text 10 false digits ++ replicate zeros zero_digit)
+    with_point (digit_text 10 false digits ++ replicate zeros zero_digit)
     ++ exponent_tail upper exponent
 
 -- the text of a number in exponent form
 unfoldable pub exponent_text : Bool → Option ℕ → ℕ → List ℕ
 exponent_text upper precision n =
-    pointed (scientific precision n).digits ++ exponent_tail upper (scientific precision n).exponent
+    with_point (scientific precision n).digits ++ exponent_tail upper (scientific precision n).exponent
 
 -- how far two numbers lie apart
 abbrev pub distance : ℕ → ℕ → ℕ

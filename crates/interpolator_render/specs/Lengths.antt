@@ -40,7 +40,7 @@ most_front (InDigits Decimal) spec = 1
 most_front (InDigits radix) spec = length (front_text (InDigits radix) spec false)
 most_front (InExponent upper) spec = 1
 
--- the digits, in an exponent form with a point where more than one digit stands, the mark, and an
+-- the digits, in an exponent form with a point if there is more than one digit, the mark, and an
 -- exponent of two digits
 abbrev pub most_body : NumberForm → (precision : Option ℕ) → ℕ
 most_body (InDigits radix) precision = most_digits radix
@@ -64,11 +64,11 @@ most_written t spec most =
     max (unwrap_or spec.width 0)
     (max (most_number (number_form t spec.hex_debug) spec) (most_text t most))
 
--- a text has at most so many characters; where there is none, nothing is written
+-- a text has at most so many characters; if there is none, nothing is written
 abbrev pub HasAtMost : (most : ℕ) → ViewText → Type 0
 HasAtMost most (has_text text) = length text ≤ most
 HasAtMost most _ = ⊤
 
 -- a count as a `usize` tells it: the greatest means as many or more
-abbrev pub capped : ℕ → ℕ
-capped count = min count (2 ^ 64 - 1)
+abbrev pub usize_count : ℕ → ℕ
+usize_count count = min count (2 ^ 64 - 1)

@@ -8,15 +8,15 @@ use Rattle.interpolator_render.specs.declared.view.Spec.{Spec}
 use Rattle.interpolator_render.specs.Characters.{cut, space, zero_digit}
 use Rattle.interpolator_render.specs.DigitBuffers.{Buffered}
 
--- how many characters a text of `count` lacks to the width, none where no width is set
+-- how many characters a text of `count` lacks to the width, none if no width is set
 abbrev pub missing_to : Spec → ℕ → ℕ
 missing_to spec count = unwrap_or spec.width 0 - count
 
--- the character that pads: a space where the spec names none
+-- the character that pads: a space if the spec names none
 abbrev pub fill_of : Spec → ℕ
 fill_of spec = unwrap_or spec.fill space
 
--- how many of the missing characters stand before a text: `unset` of them without alignment
+-- how many of the missing characters go before a text: `unset` of them without alignment
 abbrev pub fill_before : Alignment → ℕ → ℕ → ℕ
 fill_before Left missing unset = 0
 fill_before Right missing unset = missing

@@ -7,8 +7,8 @@ use Rattle.interpolator_render.specs.Characters.{letter_r, letter_t, newline, nu
 use Rattle.interpolator_render.specs.Characters.{zero_digit}
 use Rattle.interpolator_render.specs.Digits.{digit_text}
 
--- the character that stands after a backslash for c, where one does: the quote, a backslash, `0`,
--- `t`, `r` or `n`
+-- the character that is written after a backslash for c, if there is one: the quote, a backslash,
+-- `0`, `t`, `r` or `n`
 abbrev pub escape_letter : ℕ → ℕ → Option ℕ
 escape_letter quote c =
     if c == quote then Some quote else
@@ -20,17 +20,17 @@ escape_letter quote c =
 
 -- a letter after a backslash; any other ASCII control by its number in base sixteen; all else as
 -- it is
-abbrev pub escaped_by : Option ℕ → ℕ → List ℕ
-escaped_by (Some letter) c = backslash ∷ letter ∷ []
-escaped_by None c =
+abbrev pub escape_by : Option ℕ → ℕ → List ℕ
+escape_by (Some letter) c = backslash ∷ letter ∷ []
+escape_by None c =
     if nat_lt c space || (c == delete)
     then codes "\\u{" ++ (digit_text 16 false c ++ codes "}")
     else c ∷ []
 
--- what stands between quotes for a character
-abbrev pub escaped : ℕ → ℕ → List ℕ
-escaped quote c = escaped_by (escape_letter quote c) c
+-- what is written between quotes for a character
+abbrev pub escape_of : ℕ → ℕ → List ℕ
+escape_of quote c = escape_by (escape_letter quote c) c
 
 -- a text between quotes
-abbrev pub quoted : ℕ → List ℕ → List ℕ
-quoted quote text = quote ∷ (flat_map (escaped quote) text ++ quote ∷ [])
+abbrev pub quotation : ℕ → List ℕ → List ℕ
+quotation quote text = quote ∷ (flat_map (escape_of quote) text ++ quote ∷ [])

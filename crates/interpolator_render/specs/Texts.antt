@@ -13,7 +13,7 @@ use Rattle.interpolator_render.specs.declared.view.Trait.TheVariants.{Debug, Dis
 use Rattle.interpolator_render.specs.Characters.{double_quote, single_quote}
 use Rattle.interpolator_render.specs.Numbers.{number_form, number_text, has_minus, magnitude}
 use Rattle.interpolator_render.specs.Padding.{displayed_text}
-use Rattle.interpolator_render.specs.Quoting.{quoted}
+use Rattle.interpolator_render.specs.Quoting.{quotation}
 use Rattle.interpolator_render.specs.Views.{Shown, signed_number, unsigned_number, truth_value}
 use Rattle.interpolator_render.specs.Views.{one_character, some_text, plain_text}
 use Rattle.interpolator_render.specs.Views.{nothing_implemented, failure}
@@ -51,9 +51,9 @@ view_text (unsigned_number n) t spec =
 view_text (truth_value truth) t spec =
     under t (displayed_text spec (truth_text truth)) (displayed_text spec (truth_text truth))
 view_text (one_character c) t spec =
-    under t (displayed_text spec (c ∷ [])) (quoted single_quote (c ∷ []))
+    under t (displayed_text spec (c ∷ [])) (quotation single_quote (c ∷ []))
 view_text (some_text text) t spec =
-    under t (displayed_text spec text) (quoted double_quote text)
+    under t (displayed_text spec text) (quotation double_quote text)
 view_text (plain_text text) t spec = has_text text
 view_text nothing_implemented t spec = has_no_text
 view_text failure t spec = has_failed

@@ -19,7 +19,7 @@ pub data Reading : Type 0 where
   before_number : Reading
   in_number : ℕ → Reading
 
--- the text that was read, and what stands after its closing quote
+-- the text that was read, and what follows its closing quote
 pub record Unquoted : Type 0 where
   pub text : List ℕ
   pub after : List ℕ
@@ -51,7 +51,7 @@ unquoted_from quote (in_number n) (c ∷ cs) =
     if c == close_brace then preceded_by n (unquoted_from quote at_character cs)
     else unquoted_from quote (in_number (n * 16 + digit_value c)) cs
 
--- a text after its opening quote, where one stands first
-abbrev pub unquoted : ℕ → List ℕ → Option Unquoted
-unquoted quote [] = None
-unquoted quote (c ∷ cs) = if c == quote then Some (unquoted_from quote at_character cs) else None
+-- a text after its opening quote, if it begins with one
+abbrev pub text_in_quotes : ℕ → List ℕ → Option Unquoted
+text_in_quotes quote [] = None
+text_in_quotes quote (c ∷ cs) = if c == quote then Some (unquoted_from quote at_character cs) else None

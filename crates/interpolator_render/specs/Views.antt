@@ -48,7 +48,7 @@ shown_by (Plain text) = plain_text (chars text.now)
 shown_by NotImplemented = nothing_implemented
 shown_by Failed = failure
 
--- the same, a text by its bytes
+-- what a view shows, a text by its bytes
 abbrev pub shown_in_bytes : View → Shown
 shown_in_bytes (Text text) = some_text text.now
 shown_in_bytes (Plain text) = plain_text text.now

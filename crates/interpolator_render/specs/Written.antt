@@ -47,7 +47,7 @@ abbrev pub StaysWithin : Option ℕ → Option ℕ → Written → Written → T
 StaysWithin None after old new = new ≡ old
 StaysWithin (Some most) after old new = (new ≡ old) × KeepsTo (Some most) 0 after
 
--- a proper beginning of the text was appended, none of it where the writer had refused before, and
+-- a proper beginning of the text was appended, none of it if the writer had refused before, and
 -- the rest was refused
 pub record AppendsBeginning (old : Written) (text : List ℕ) (new : Written) : Type 0 where
   pub beginning : List ℕ
@@ -58,7 +58,7 @@ pub record AppendsBeginning (old : Written) (text : List ℕ) (new : Written) : 
   pub flag_set : new.refused ≡ true
   pub none_after_refusal : old.refused ≡ true → beginning ≡ []
 
--- the same, and the beginning has so many bytes
+-- a proper beginning of so many bytes was appended, and the rest was refused
 pub record Refuses (old : Written) (text : List ℕ) (taken : ℕ) (new : Written) : Type 0 where
   pub part : AppendsBeginning old text new
   pub counted : taken ≡ byte_count part.beginning
@@ -71,7 +71,7 @@ RefusesWhole old taken new = (taken ≡ 0) × (new ≡ record old { refused = tr
 abbrev pub MayRefuse : Buffered → ℕ → Type 0
 MayRefuse b count = (b.refused ≡ true) ⊎ (b.room < byte_count b.text + count)
 
--- the same of a text that may be longer than any `&str`: the greatest `usize` stands for a greater
+-- a refusal of a text that may be longer than any `&str`: the greatest `usize` stands for a greater
 -- count
 pub record RefusesLong (old : Written) (text : List ℕ) (taken : ℕ) (new : Written) : Type 0 where
   pub part : AppendsBeginning old text new
@@ -82,7 +82,7 @@ abbrev pub Puts : Written → List ℕ → Result (Unit {0}) Refusal → Written
 Puts old text result new =
     MatchResult result (λ _. Appends old text new) (λ r. RefusesLong old text r.taken new)
 
--- the same, whatever the error says
+-- a call that writes the text, or is refused on the way, whatever the error says
 abbrev pub Writes : {E : Type 0} → Written → List ℕ → Result (Unit {0}) E → Written → Type 0
 Writes old text result new =
     MatchResult result (λ _. Appends old text new) (λ _. AppendsBeginning old text new)

@@ -18,8 +18,8 @@ use std::marker::Model;
 /// fits, and refuses the rest. A text for which there is no memory it refuses whole. After a
 /// refusal it takes the empty text alone, and refuses also a text that would fit.
 ///
-/// Its `reserve` takes memory for the bytes asked, or for those that are left where these are
-/// fewer, and refuses only where there is none for that. Its `room` is what is left.
+/// Its `reserve` takes memory for the bytes asked, or for those that are left if these are
+/// fewer, and refuses only if there is none for that. Its `room` is what is left.
 ///
 /// ```text
 /// let mut out = Bounded::new(rt.alloc(), 3);
@@ -101,7 +101,7 @@ impl Bounded {
 }
 
 /// Appends the longest beginning of whole characters with at most `left` bytes, and sets the flag.
-/// Where the flag stood before, or there is no memory, it appends nothing.
+/// If the flag was set before, or there is no memory, it appends nothing.
 fn append_beginning(held: &mut String, refused: &mut bool, text: &str, left: usize) -> Refusal
     requires { left < length text.now }
     ensures bytes { string_bytes held.new ≡ string_bytes held.old ++ take result.taken text.now }

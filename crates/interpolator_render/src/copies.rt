@@ -27,9 +27,8 @@ struct Run<'a> {
     copies: &'a str,
 }
 
-/// The bytes of `count` copies of a character, or the greatest `usize` where they are more.
+/// The bytes of `count` copies of a character, or the greatest `usize` if they are more.
 #[tactic(auto, using(crate::proofs::LayoutLemmas::bytes_of_copies))]
-#[inline(always)]
 pub(crate) fn copies_len(c: char, count: usize) -> usize
     ensures { result ≡ min (byte_count (replicate count c)) (2 ^ 64 - 1) }
 {
@@ -37,7 +36,6 @@ pub(crate) fn copies_len(c: char, count: usize) -> usize
 }
 
 /// Writes `count` copies, at most [`RUN`], by one call.
-#[inline(always)]
 fn put_few<W: TextWrite>(out: &mut W, run: Run<'_>, count: usize) -> Result<(), Refusal>
     requires run { IsRun run }
     requires few { count ≤ 64 }
@@ -46,9 +44,8 @@ fn put_few<W: TextWrite>(out: &mut W, run: Run<'_>, count: usize) -> Result<(), 
     out.write_str(&run.copies[..count * run.unit])
 }
 
-/// The bytes of `count` copies of a run's character, or the greatest `usize` where they are more.
+/// The bytes of `count` copies of a run's character, or the greatest `usize` if they are more.
 #[tactic(auto, using(crate::proofs::LayoutLemmas::bytes_of_copies))]
-#[inline(always)]
 fn run_len(run: Run<'_>, count: usize) -> usize
     requires { IsRun run }
     ensures { result ≡ min (byte_count (replicate count run.entry.c)) (2 ^ 64 - 1) }
@@ -57,7 +54,6 @@ fn run_len(run: Run<'_>, count: usize) -> usize
 }
 
 /// The refusal of what follows `count` copies.
-#[inline(always)]
 fn refused_after(run: Run<'_>, count: usize, refusal: Refusal) -> Refusal
     requires { IsRun run }
     ensures { result.taken ≡ min (min (byte_count (replicate count run.entry.c)) (2 ^ 64 - 1)
@@ -89,8 +85,7 @@ fn put_runs<W: TextWrite>(out: &mut W, run: Run<'_>, count: usize) -> Result<(),
     Ok(())
 }
 
-/// Writes `count` copies by slices of a run, and by no call where there are none.
-#[inline(always)]
+/// Writes `count` copies by slices of a run, and makes no call if there are none.
 fn put_sliced<W: TextWrite>(out: &mut W, run: Run<'_>, count: usize) -> Result<(), Refusal>
     requires { IsRun run }
     ensures { Puts (W.written out.old) (replicate count run.entry.c) result (W.written out.new) }
@@ -196,7 +191,6 @@ pub(crate) fn put_between<W: TextWrite>(
 }
 
 /// A run of spaces.
-#[inline(always)]
 fn spaces() -> Run<'static>
     ensures run { IsRun result }
     ensures space { result.c ≡ space }
@@ -209,7 +203,6 @@ fn spaces() -> Run<'static>
 }
 
 /// A run of zeros.
-#[inline(always)]
 fn zeros() -> Run<'static>
     ensures run { IsRun result }
     ensures zero { result.c ≡ zero_digit }
@@ -222,7 +215,6 @@ fn zeros() -> Run<'static>
 }
 
 /// Writes a text between spaces.
-#[inline(always)]
 pub(crate) fn put_between_spaces<W: TextWrite>(
     out: &mut W,
     text: &str,

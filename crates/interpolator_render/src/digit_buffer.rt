@@ -4,8 +4,8 @@ ghost use Rattle.std.specs.Fmt.{digit_glyph};
 ghost use Rattle.std.specs.Str.{IsAscii};
 ghost use Rattle.interpolator_render.specs.Characters.{zero_digit};
 ghost use Rattle.interpolator_render.specs.Digits.{digit_text};
-ghost use Rattle.interpolator_render.specs.DigitBuffers.{Buffered, IsBuffered, buffered};
-ghost use Rattle.interpolator_render.specs.DigitBuffers.{grown, grown_after};
+ghost use Rattle.interpolator_render.specs.DigitBuffers.{Buffered, IsBuffered, buffer_row};
+ghost use Rattle.interpolator_render.specs.DigitBuffers.{put_before, put_after};
 
 use crate::digit_tables::digit_in_base;
 use crate::digits::{ascii_str, write_low, write_low_decimal};
@@ -27,11 +27,11 @@ pub(crate) struct DigitBuffer {
 }
 
 impl Model for DigitBuffer {
-    ghost use Rattle.interpolator_render.specs.DigitBuffers.{Buffered, IsBuffered, buffered};
+    ghost use Rattle.interpolator_render.specs.DigitBuffers.{Buffered, IsBuffered, buffer_row};
 
     ghost Value = { Buffered };
 
-    ghost view = { λ buffer. buffered buffer.bytes buffer.fill buffer.start buffer.end };
+    ghost view = { λ buffer. buffer_row buffer.bytes buffer.fill buffer.start buffer.end };
 
     ghost invariant = { λ buffer. IsBuffered buffer.bytes buffer.fill buffer.start buffer.end };
 }
@@ -52,7 +52,6 @@ impl DigitBuffer {
     }
 
     /// How many bytes the text has.
-    #[inline(always)]
     pub(crate) fn len(&self) -> usize
         ensures { result ≡ length self.now.text }
     {
@@ -60,11 +59,10 @@ impl DigitBuffer {
     }
 
     /// Writes a byte in front.
-    #[inline(always)]
     pub(crate) fn push_front(&mut self, byte: u8)
         requires ascii { byte < 128 }
         requires room { 1 ≤ self.old.before }
-        ensures { self.new ≡ grown (byte ∷ []) self.old }
+        ensures { self.new ≡ put_before (byte ∷ []) self.old }
     {
         let start = self.start - 1;
         self.bytes[start] = byte;
@@ -80,21 +78,20 @@ impl DigitBuffer {
         ensures first { result < base }
         ensures leads { digit_text base upper n
             ≡ digit_glyph upper result ∷ drop 1 (digit_text base upper n) }
-        ensures grown { self.new ≡ grown (drop 1 (digit_text base upper n)) self.old }
+        ensures grown { self.new ≡ put_before (drop 1 (digit_text base upper n)) self.old }
     {
         let (start, first) = write_low(n, base, upper, self.start, &mut self.bytes);
         self.start = start;
         first
     }
 
-    /// The same in base ten, of a number of any width.
-    #[inline(always)]
+    /// As [`DigitBuffer::put_low_digits`], in base ten and of a number of any width.
     pub(crate) fn put_low_decimal(&mut self, n: u128) -> u64
         requires { length (digit_text 10 false n) ≤ self.old.before }
         ensures first { result < 10 }
         ensures leads { digit_text 10 false n
             ≡ digit_glyph false result ∷ drop 1 (digit_text 10 false n) }
-        ensures grown { self.new ≡ grown (drop 1 (digit_text 10 false n)) self.old }
+        ensures grown { self.new ≡ put_before (drop 1 (digit_text 10 false n)) self.old }
     {
         let (start, first) = write_low_decimal(n, self.start, &mut self.bytes);
         self.start = start;
@@ -102,10 +99,9 @@ impl DigitBuffer {
     }
 
     /// Writes a number in base ten in front.
-    #[inline(always)]
     pub(crate) fn put_decimal(&mut self, n: u128)
         requires { length (digit_text 10 false n) ≤ self.old.before }
-        ensures { self.new ≡ grown (digit_text 10 false n) self.old }
+        ensures { self.new ≡ put_before (digit_text 10 false n) self.old }
     {
         let first = self.put_low_decimal(n);
         self.push_front(digit_in_base(first, 10, false));
@@ -117,17 +113,16 @@ impl DigitBuffer {
         requires lowest { 2 ≤ base }
         requires highest { base ≤ 16 }
         requires room { length (digit_text base upper n) ≤ self.old.before }
-        ensures { self.new ≡ grown (digit_text base upper n) self.old }
+        ensures { self.new ≡ put_before (digit_text base upper n) self.old }
     {
         let first = self.put_low_digits(n, base, upper);
         self.push_front(digit_in_base(first, base, upper));
     }
 
     /// Writes zeros in front.
-    #[inline(always)]
     pub(crate) fn put_zeros(&mut self, count: usize)
         requires { count ≤ self.old.before }
-        ensures { self.new ≡ grown (replicate count zero_digit) self.old }
+        ensures { self.new ≡ put_before (replicate count zero_digit) self.old }
     {
         let mut done = 0;
         while done < count {
@@ -136,26 +131,23 @@ impl DigitBuffer {
         }
     }
 
-    /// Lengthens the text in front by copies of the fill.
-    #[inline(always)]
+    /// Lengthens the text at its front by copies of the fill.
     pub(crate) fn pad_before(&mut self, count: usize)
         requires { count ≤ self.old.before }
-        ensures { self.new ≡ grown (replicate count self.old.fill) self.old }
+        ensures { self.new ≡ put_before (replicate count self.old.fill) self.old }
     {
         self.start -= count;
     }
 
-    /// Lengthens the text after by copies of the fill.
-    #[inline(always)]
+    /// Lengthens the text at its end by copies of the fill.
     pub(crate) fn pad_after(&mut self, count: usize)
         requires { count ≤ self.old.after }
-        ensures { self.new ≡ grown_after (replicate count self.old.fill) self.old }
+        ensures { self.new ≡ put_after (replicate count self.old.fill) self.old }
     {
         self.end += count;
     }
 
     /// The text.
-    #[inline(always)]
     pub(crate) fn as_str(&self) -> &str
         ensures text { result.now ≡ self.now.text }
         ensures ascii { IsAscii result.now }

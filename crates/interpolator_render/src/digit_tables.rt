@@ -11,7 +11,6 @@ static PAIRS: [u8; 200] = *b"0001020304050607080910111213141516171819\
 
 /// The tens and the ones of a number below 100, as digits.
 #[tactic(auto, using(crate::proofs::DigitTableLemmas::pair_at))]
-#[inline(always)]
 pub(crate) fn pair_digits(pair: u64) -> (u8, u8)
     requires { pair < 100 }
     ensures tens { result.0 ≡ 48 + pair / 10 }

@@ -5,7 +5,7 @@ ghost use Rattle.interpolator_render.specs.Digits.{digit_text};
 ghost use Rattle.interpolator_render.specs.Exponent.{exponent_tail, leading, mark, shown_text};
 ghost use Rattle.interpolator_render.specs.Numbers.{number_text, sign_text};
 ghost use Rattle.interpolator_render.specs.Padding.{number_fill, padded_number};
-ghost use Rattle.interpolator_render.specs.DigitBuffers.{grown};
+ghost use Rattle.interpolator_render.specs.DigitBuffers.{put_before};
 ghost use Rattle.interpolator_render.specs.Written.{Puts};
 
 use crate::digit_buffer::{BUFFER_WIDTH, DigitBuffer};
@@ -17,7 +17,6 @@ use crate::scientific::{Shown, shown_of};
 use crate::text_write::{Refusal, TextWrite};
 use crate::view::Spec;
 
-#[inline(always)]
 fn mark(upper: bool) -> u8
     ensures value { result ≡ mark upper }
     ensures ascii { result < 128 }
@@ -31,7 +30,7 @@ fn mark(upper: bool) -> u8
 fn put_tail(buffer: &mut DigitBuffer, upper: bool, exponent: usize)
     requires small { exponent ≤ 39 }
     requires room { 3 ≤ buffer.old.before }
-    ensures { buffer.new ≡ grown (exponent_tail upper exponent) buffer.old }
+    ensures { buffer.new ≡ put_before (exponent_tail upper exponent) buffer.old }
 {
     buffer.put_decimal(exponent as u128);
     buffer.push_front(mark(upper));
@@ -44,7 +43,7 @@ fn put_tail(buffer: &mut DigitBuffer, upper: bool, exponent: usize)
 fn put_leading(buffer: &mut DigitBuffer, digits: u128, zeros: usize)
     requires { 40 ≤ buffer.old.before }
     ensures { buffer.new
-        ≡ grown (leading (digit_text 10 false digits) (replicate zeros zero_digit)) buffer.old }
+        ≡ put_before (leading (digit_text 10 false digits) (replicate zeros zero_digit)) buffer.old }
 {
     let first = buffer.put_low_decimal(digits);
     let glyph = b'0' + first as u8;
@@ -63,7 +62,7 @@ fn put_shown(buffer: &mut DigitBuffer, upper: bool, shown: Shown)
     requires few { shown.zeros ≤ 40 }
     requires room { 83 ≤ buffer.old.before }
     ensures { buffer.new
-        ≡ grown (shown_text upper shown.digits shown.zeros shown.exponent) buffer.old }
+        ≡ put_before (shown_text upper shown.digits shown.zeros shown.exponent) buffer.old }
 {
     put_tail(buffer, upper, shown.exponent);
     buffer.put_zeros(shown.zeros);

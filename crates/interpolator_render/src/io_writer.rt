@@ -16,10 +16,10 @@ use std::io::Write;
 /// How many bytes are gathered before they are handed on.
 const GATHERED: usize = 8192;
 
-/// How often a write is tried that a signal interrupts.
+/// How often a write that a signal interrupts is tried.
 const TRIES: usize = 64;
 
-/// A writer over a writer of bytes, as a file or the standard output.
+/// A writer over a writer of bytes, such as a file or the standard output.
 ///
 /// It gathers text in memory, up to 8 KiB, and hands it on. A longer text is gathered whole. A write
 /// that fails makes it refuse from then on, and so does memory that is refused; what the writer below
@@ -113,7 +113,7 @@ impl<W: Write + Drop> IoWriter<W> {
         }
     }
 
-    /// Hands on what is held where so many bytes more would be too many, or refuses from now on.
+    /// Hands on what is held if so many bytes more would be too many, or refuses from now on.
     fn make_way(&mut self, bytes: usize) -> Result<(), Refusal>
         ensures ok { OnOk result ((io_written self.new ≡ io_written self.old)
             × HandsOn W.contents self.old self.new []) }
@@ -148,7 +148,7 @@ fn write_out<W: Write>(bytes: &[u8], to: &mut W) -> (usize, io::Result<()>)
     (done, Ok(()))
 }
 
-/// One write, tried again where a signal interrupts it.
+/// One write, tried again if a signal interrupts it.
 fn write_some<W: Write>(to: &mut W, bytes: &[u8]) -> io::Result<usize>
     ensures bound { IfOk result (λ n. n ≤ length bytes.now) }
     ensures ok { IfOk result (λ n. Gets (W.contents to.old) (W.contents to.new)

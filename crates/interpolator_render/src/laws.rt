@@ -7,12 +7,12 @@ ghost use Rattle.std.specs.Prelude.{length, replicate, slice_index, unwrap_or};
 ghost use Rattle.std.specs.Str.Parse.{digits_value};
 ghost use Rattle.interpolator_render.specs.Characters.{zero_digit};
 ghost use Rattle.interpolator_render.specs.Digits.{digit_text};
-ghost use Rattle.interpolator_render.specs.Exponent.{exponent_of, nearest, scientific, trimmed};
+ghost use Rattle.interpolator_render.specs.Exponent.{exponent_of, nearest, scientific, significant_digits};
 ghost use Rattle.interpolator_render.specs.Exponent.{IsNearest};
 ghost use Rattle.interpolator_render.specs.Numbers.{twos_complement};
 ghost use Rattle.interpolator_render.specs.Padding.{padded_number, padded_text, displayed_text};
-ghost use Rattle.interpolator_render.specs.Quoting.{quoted};
-ghost use Rattle.interpolator_render.specs.Unquoting.{IsQuote, unquoted};
+ghost use Rattle.interpolator_render.specs.Quoting.{quotation};
+ghost use Rattle.interpolator_render.specs.Unquoting.{IsQuote, text_in_quotes};
 ghost use Rattle.interpolator_render.specs.Views.{bit_count, shown_in_bytes};
 ghost use Rattle.interpolator_render.specs.Written.{Written, Appends};
 
@@ -49,18 +49,18 @@ pub fn rounding_is_to_nearest()
         → count ≡ nearest n unit }
 {}
 
-/// Trimming takes zeros from the end of the digits and nothing else. Where more than one digit
-/// remains, the last is no zero.
+/// Trimming takes zeros from the end of the digits and nothing else. If more than one digit
+/// remains, the last is not zero.
 #[tactic(auto, using(crate::proofs::LawLemmas::trimmed_laws))]
 pub fn trimmed_digits()
     ensures zeros { (digits : List ℕ)
-        → (count : ℕ) × (digits ≡ trimmed digits ++ replicate count zero_digit) }
-    ensures last { (digits : List ℕ) → 1 < length (trimmed digits)
-        → slice_index (trimmed digits) (length (trimmed digits) - 1) ≢ zero_digit }
+        → (count : ℕ) × (digits ≡ significant_digits digits ++ replicate count zero_digit) }
+    ensures last { (digits : List ℕ) → 1 < length (significant_digits digits)
+        → slice_index (significant_digits digits) (length (significant_digits digits) - 1) ≢ zero_digit }
 {}
 
-/// A precision is exactly the count of digits after the first. Where the number has no more digits
-/// than that, they are its own, followed by zeros. Where it has more, digits and exponent make the
+/// A precision is exactly the count of digits after the first. If the number has no more digits
+/// than that, they are its own, followed by zeros. If it has more, digits and exponent make the
 /// number rounded to the last place that is shown.
 #[tactic(auto, using(crate::proofs::CountLemmas::scientific_laws))]
 pub fn precise_digits()
@@ -81,11 +81,11 @@ pub fn precise_digits()
 #[tactic(auto, using(crate::proofs::UnquotingLemmas::quoted_read))]
 pub fn quoted_reads_back()
     ensures { (quote : ℕ) (text after : List ℕ) → IsQuote quote
-        → unquoted quote (quoted quote text ++ after)
+        → text_in_quotes quote (quotation quote text ++ after)
         ≡ Some (record { text = text; after = after }) }
 {}
 
-/// A padded text has as many characters as the width says, or as the text where that has more.
+/// A padded text has as many characters as the width says, or as the text has if that is more.
 #[tactic(auto, using(crate::proofs::LawLemmas::padded_laws))]
 pub fn padded_counts()
     ensures texts { (spec : Spec) (text : List ℕ)
@@ -96,7 +96,7 @@ pub fn padded_counts()
 {}
 
 /// Without precision, a `pad` that wrote its whole text has added as many characters as the width
-/// says, or as the text has where those are more.
+/// says, or as the text has if those are more.
 #[tactic(auto, using(crate::proofs::LawLemmas::pad_count))]
 pub fn pad_adds()
     ensures { (spec : Spec) (text : List ℕ) (old new : Written) → spec.precision ≡ None
@@ -113,63 +113,63 @@ pub fn twos_complement_is_congruent()
         × (z ≡ (turns *ℤ pos (2 ^ bit_count bits)) +ℤ pos (twos_complement z bits)) }
 {}
 
-/// Two traits are equal exactly where they are the same variant.
+/// Two traits are equal exactly when they are the same variant.
 pub fn equal_traits(left: Trait, right: Trait) -> bool
     ensures { IsTrue result ↔ (left ≡ right) }
 {
     left == right
 }
 
-/// Two alignments are equal exactly where they are the same variant.
+/// Two alignments are equal exactly when they are the same variant.
 pub fn equal_alignments(left: Alignment, right: Alignment) -> bool
     ensures { IsTrue result ↔ (left ≡ right) }
 {
     left == right
 }
 
-/// Two signs are equal exactly where they are the same variant.
+/// Two signs are equal exactly when they are the same variant.
 pub fn equal_signs(left: Sign, right: Sign) -> bool
     ensures { IsTrue result ↔ (left ≡ right) }
 {
     left == right
 }
 
-/// Two ways to write debug numbers are equal exactly where they are the same variant.
+/// Two ways to write debug numbers are equal exactly when they are the same variant.
 pub fn equal_hex_debugs(left: HexDebug, right: HexDebug) -> bool
     ensures { IsTrue result ↔ (left ≡ right) }
 {
     left == right
 }
 
-/// Two widths are equal exactly where they are the same variant.
+/// Two widths are equal exactly when they are the same variant.
 pub fn equal_bits(left: Bits, right: Bits) -> bool
     ensures { IsTrue result ↔ (left ≡ right) }
 {
     left == right
 }
 
-/// Two faults of a view are equal exactly where they are the same variant.
+/// Two faults of a view are equal exactly when they are the same variant.
 pub fn equal_render_faults(left: RenderFault, right: RenderFault) -> bool
     ensures { IsTrue result ↔ (left ≡ right) }
 {
     left == right
 }
 
-/// Two refusals are equal exactly where they have taken as many bytes.
+/// Two refusals are equal exactly when they have taken the same number of bytes.
 pub fn equal_refusals(left: Refusal, right: Refusal) -> bool
     ensures { IsTrue result ↔ (left ≡ right) }
 {
     left == right
 }
 
-/// Two specs are equal exactly where all their fields are.
+/// Two specs are equal exactly when all their fields are.
 pub fn equal_specs(one: Spec, other: Spec) -> bool
     ensures { IsTrue result ↔ (one ≡ other) }
 {
     one == other
 }
 
-/// Two views are equal exactly where they are the same variant, of the same number or text.
+/// Two views are equal exactly when they are the same variant, of the same number or text.
 pub fn equal_views(one: &View<'_>, other: &View<'_>) -> bool
     ensures { IsTrue result ↔ (shown_in_bytes one.now ≡ shown_in_bytes other.now) }
 {

@@ -13,7 +13,7 @@ use crate::view::{Alignment, Spec};
 #[derive(Clone, Copy)]
 pub(crate) enum Part<'a> {
     Text(&'a str),
-    /// So many copies of a character.
+    /// This many copies of a character.
     Copies(char, usize),
 }
 
@@ -25,7 +25,7 @@ pub(crate) fn put_char<W: TextWrite>(out: &mut W, c: char) -> Result<(), Refusal
     out.write_char(c)
 }
 
-/// Writes a text by one call, or by none where it is empty.
+/// Writes a text by one call, or by none if it is empty.
 #[tactic(auto, using(crate::proofs::LayoutLemmas::one_write))]
 #[inline(always)]
 pub(crate) fn put_text<W: TextWrite>(out: &mut W, text: &str) -> Result<(), Refusal>
@@ -39,7 +39,6 @@ pub(crate) fn put_text<W: TextWrite>(out: &mut W, text: &str) -> Result<(), Refu
 
 /// Writes an ASCII text, whose bytes are its characters, by one call.
 #[tactic(auto, using(crate::proofs::LayoutLemmas::one_write))]
-#[inline(always)]
 pub(crate) fn put_ascii<W: TextWrite>(out: &mut W, text: &str) -> Result<(), Refusal>
     requires { IsAscii text.now }
     ensures { Puts (W.written out.old) text.now result (W.written out.new) }
@@ -48,7 +47,6 @@ pub(crate) fn put_ascii<W: TextWrite>(out: &mut W, text: &str) -> Result<(), Ref
 }
 
 #[tactic(auto, using(crate::proofs::LayoutLemmas::one_write))]
-#[inline(always)]
 pub(crate) fn byte_len(text: &str) -> usize
     ensures { result ≡ byte_count (chars text.now) }
 {
@@ -66,8 +64,7 @@ impl Part<'_> {
         }
     }
 
-    /// The bytes of the part, or the greatest `usize` where they are more.
-    #[inline(always)]
+    /// The bytes of the part, or the greatest `usize` if they are more.
     fn len(self) -> usize
         ensures { result ≡ min (byte_count (part_text self.entry)) (2 ^ 64 - 1) }
     {
@@ -95,15 +92,13 @@ pub(crate) fn put_parts<W: TextWrite>(out: &mut W, parts: &[Part<'_>]) -> Result
 }
 
 /// The character that pads.
-#[inline(always)]
 pub(crate) fn fill_char(spec: &Spec) -> char
     ensures { result ≡ fill_of spec.now }
 {
     spec.fill.unwrap_or(' ')
 }
 
-/// How many of the missing characters stand before a text: `unset` of them without alignment.
-#[inline(always)]
+/// How many of the missing characters go before a text: `unset` of them without alignment.
 pub(crate) fn fill_before(alignment: Alignment, missing: usize, unset: usize) -> usize
     requires { unset ≤ missing }
     ensures before { result ≡ fill_before alignment missing unset }

@@ -1,7 +1,7 @@
 //! How many characters the text of a view has at most.
 ghost use Rattle.std.specs.Prelude.{◌≡◌, ◌≤◌};
 ghost use Rattle.interpolator_render.specs.Lengths.{most_digits, most_front, most_body, most_number};
-ghost use Rattle.interpolator_render.specs.Lengths.{most_text, most_written, capped};
+ghost use Rattle.interpolator_render.specs.Lengths.{most_text, most_written, usize_count};
 ghost use Rattle.interpolator_render.specs.Numbers.{prefix_of, sign_text};
 ghost use Rattle.std.specs.Prelude.{false, length, [], if◌then◌else◌};
 
@@ -32,7 +32,7 @@ fn plus_count(sign: Sign) -> usize
     }
 }
 
-/// The prefix, where `#` asks for it.
+/// The prefix, if `#` asks for it.
 fn prefix_count(radix: Radix, alternate: bool) -> usize
     ensures { result ≡ length (if alternate then prefix_of radix else []) }
 {
@@ -52,7 +52,7 @@ fn most_front(form: NumberForm, spec: &Spec) -> usize
 
 /// The digits, in an exponent form with point, mark and exponent.
 fn most_body(form: NumberForm, precision: Option<usize>) -> usize
-    ensures { result ≡ capped (most_body form precision) }
+    ensures { result ≡ usize_count (most_body form precision) }
 {
     match form {
         NumberForm::Digits(radix) => most_digits(radix),
@@ -66,7 +66,7 @@ fn most_body(form: NumberForm, precision: Option<usize>) -> usize
 
 /// A number in the form that a trait asks, if it asks one.
 fn most_number(form: Option<NumberForm>, spec: &Spec) -> usize
-    ensures { result ≡ capped (most_number form spec.now) }
+    ensures { result ≡ usize_count (most_number form spec.now) }
 {
     match form {
         Some(form) => most_front(form, spec).saturating_add(most_body(form, spec.precision)),
@@ -76,7 +76,7 @@ fn most_number(form: Option<NumberForm>, spec: &Spec) -> usize
 
 /// A text of at most so many characters.
 fn most_text(t: Trait, most: usize) -> usize
-    ensures { result ≡ capped (most_text t most) }
+    ensures { result ≡ usize_count (most_text t most) }
 {
     match t {
         Trait::Debug => most.saturating_mul(6).saturating_add(2),
@@ -85,8 +85,8 @@ fn most_text(t: Trait, most: usize) -> usize
 }
 
 /// The most characters that [`render`](crate::render) writes under a trait and a spec of any view
-/// whose text has at most `most` characters. The greatest `usize` means as many or more. No memory
-/// is taken.
+/// whose text has at most `most` characters. The greatest `usize` means that many or more. The call
+/// takes no memory.
 ///
 /// # Example
 ///
@@ -95,7 +95,7 @@ fn most_text(t: Trait, most: usize) -> usize
 /// most_written(Trait::Debug, &Spec::default(), 10)    // 62: six for each character, and two quotes
 /// ```
 pub fn most_written(t: Trait, spec: &Spec, most: usize) -> usize
-    ensures { result ≡ capped (most_written t spec.now most) }
+    ensures { result ≡ usize_count (most_written t spec.now most) }
 {
     let number = most_number(number_form(t, spec.hex_debug), spec);
     spec.width.unwrap_or(0).max(number).max(most_text(t, most))

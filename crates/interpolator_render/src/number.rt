@@ -1,7 +1,7 @@
 //! Whole numbers, written by their digits or in exponent form.
 ghost use Rattle.std.specs.Prelude.{◌≡◌, ◌<◌, ◌≤◌, ◌++◌, Bool, false, true, ℕ, codes, length};
 ghost use Rattle.std.specs.Prelude.{unwrap_or};
-ghost use Rattle.interpolator_render.specs.DigitBuffers.{grown};
+ghost use Rattle.interpolator_render.specs.DigitBuffers.{put_before};
 ghost use Rattle.interpolator_render.specs.Digits.{digit_text};
 ghost use Rattle.interpolator_render.specs.declared.view.Sign.TheVariants.{Unset};
 ghost use Rattle.interpolator_render.specs.Numbers.{base_of, distance_from_zero, is_negative};
@@ -50,7 +50,7 @@ fn put_long<W: TextWrite>(
 #[inline(always)]
 fn put_in_radix(buffer: &mut DigitBuffer, radix: Radix, n: u64)
     requires { 64 ≤ buffer.old.before }
-    ensures { buffer.new ≡ grown (digit_text (base_of radix) (is_upper radix) n) buffer.old }
+    ensures { buffer.new ≡ put_before (digit_text (base_of radix) (is_upper radix) n) buffer.old }
 {
     match radix {
         Radix::Decimal => buffer.put_decimal(n as u128),
@@ -120,7 +120,7 @@ fn put_bare<W: TextWrite>(out: &mut W, n: u64) -> Result<(), Refusal>
     put_ascii(out, buffer.as_str())
 }
 
-/// The same, after a minus.
+/// Writes a minus and the digits of a number in base ten, and nothing around them.
 #[tactic(auto, using(crate::proofs::DigitBufferLemmas::few_decimals))]
 #[inline(never)]
 fn put_bare_negative<W: TextWrite>(out: &mut W, n: u64) -> Result<(), Refusal>
@@ -133,8 +133,8 @@ fn put_bare_negative<W: TextWrite>(out: &mut W, n: u64) -> Result<(), Refusal>
     put_ascii(out, buffer.as_str())
 }
 
-/// Writes a number with a sign in base ten, and nothing around it. It is one call, so that no more
-/// stands where a number is written than for one without a sign.
+/// Writes a number with a sign in base ten, and nothing around it. It is one call, so that the code
+/// that writes a number gets no longer than for one without a sign.
 #[inline(never)]
 fn put_bare_signed<W: TextWrite>(out: &mut W, number: i64) -> Result<(), Refusal>
     ensures { Puts (W.written out.old)
@@ -148,8 +148,7 @@ fn put_bare_signed<W: TextWrite>(out: &mut W, number: i64) -> Result<(), Refusal
     }
 }
 
-/// Whether a spec adds nothing to a number in base ten but a minus where it is negative.
-#[inline(always)]
+/// Whether a spec adds nothing to a number in base ten but a minus if it is negative.
 fn is_bare(spec: &Spec) -> bool
     ensures { result ≡ true → (negative : Bool) (n : ℕ) →
         number_text (NumberForm.Digits Radix.Decimal) spec.now negative n

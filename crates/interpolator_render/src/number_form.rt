@@ -1,4 +1,4 @@
-//! In which base or form a whole number is written, and which number its digits show.
+//! The base or form in which a whole number is written, and the number that its digits show.
 ghost use Rattle.std.specs.Prelude.{◌≡◌, ◌≤◌};
 ghost use Rattle.interpolator_render.specs.Numbers.{base_of, has_minus, IsShortAscii, is_upper};
 ghost use Rattle.interpolator_render.specs.Numbers.{magnitude, number_form, prefix_of};
@@ -58,7 +58,6 @@ impl Radix {
 }
 
 /// How a trait writes whole numbers, if it does.
-#[inline(always)]
 pub(crate) fn number_form(t: Trait, hex_debug: HexDebug) -> Option<NumberForm>
     ensures { result ≡ number_form t hex_debug }
 {
@@ -80,7 +79,6 @@ pub(crate) fn number_form(t: Trait, hex_debug: HexDebug) -> Option<NumberForm>
 }
 
 /// The bits of a signed number at its width.
-#[inline(always)]
 fn twos_complement(number: i128, bits: Bits) -> u128
     ensures { result ≡ twos_complement number bits }
 {
@@ -95,7 +93,6 @@ fn twos_complement(number: i128, bits: Bits) -> u128
 }
 
 /// Whether a signed number has a `-`, and which number its digits show.
-#[inline(always)]
 pub(crate) fn sign_and_magnitude(form: NumberForm, number: i128, bits: Bits) -> (bool, u128)
     ensures negative { result.0 ≡ has_minus form number }
     ensures number { result.1 ≡ magnitude form number bits }

@@ -18,7 +18,7 @@ pub(crate) struct NumberParts<'t> {
     pub(crate) head: &'t str,
     /// The zeros after them.
     pub(crate) zeros: usize,
-    /// What stands after those: the exponent, or nothing.
+    /// What follows those: the exponent, or nothing.
     pub(crate) tail: &'t str,
 }
 
@@ -30,7 +30,6 @@ struct NumberLayout {
     after: usize,
 }
 
-#[inline(always)]
 pub(crate) fn sign_str(negative: bool, sign: Sign) -> &'static str
     ensures value { result.now ≡ sign_text negative sign }
     ensures ascii { IsShortAscii result.now }
@@ -46,7 +45,6 @@ pub(crate) fn sign_str(negative: bool, sign: Sign) -> &'static str
 }
 
 /// How a number of `count` characters is padded.
-#[inline(always)]
 fn number_layout(spec: &Spec, count: usize) -> NumberLayout
     ensures { IsNumberLayout spec.now count result.before result.zeros result.after }
 {

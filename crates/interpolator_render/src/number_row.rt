@@ -1,6 +1,6 @@
 //! Sign, prefix and padding of a number, in the buffer that holds its digits.
 ghost use Rattle.std.specs.Prelude.{◌≡◌, ◌<◌, ◌≤◌, length, true, unwrap_or};
-ghost use Rattle.interpolator_render.specs.DigitBuffers.{grown};
+ghost use Rattle.interpolator_render.specs.DigitBuffers.{put_before};
 ghost use Rattle.interpolator_render.specs.Numbers.{front_text, prefix_of, sign_text};
 ghost use Rattle.interpolator_render.specs.Padding.{IsNumberRow, number_fill, padded_number};
 
@@ -11,7 +11,6 @@ use crate::number_parts::sign_str;
 use crate::view::{Sign, Spec};
 
 /// What pads a number.
-#[inline(always)]
 fn number_fill(spec: &Spec) -> char
     ensures { result ≡ number_fill spec.now }
 {
@@ -28,7 +27,6 @@ pub(crate) fn fits_buffer(spec: &Spec) -> bool
 }
 
 /// What pads a number in a buffer.
-#[inline(always)]
 pub(crate) fn fill_byte(spec: &Spec) -> u8
     requires { number_fill spec.now < 128 }
     ensures { result ≡ number_fill spec.now }
@@ -39,7 +37,7 @@ pub(crate) fn fill_byte(spec: &Spec) -> u8
 #[inline(always)]
 fn put_sign(buffer: &mut DigitBuffer, negative: bool, sign: Sign)
     requires { 1 ≤ buffer.old.before }
-    ensures { buffer.new ≡ grown (sign_text negative sign) buffer.old }
+    ensures { buffer.new ≡ put_before (sign_text negative sign) buffer.old }
 {
     if negative {
         buffer.push_front(b'-');
@@ -55,7 +53,7 @@ fn put_sign(buffer: &mut DigitBuffer, negative: bool, sign: Sign)
 #[inline(always)]
 fn put_prefix(buffer: &mut DigitBuffer, radix: Radix)
     requires { 2 ≤ buffer.old.before }
-    ensures { buffer.new ≡ grown (prefix_of radix) buffer.old }
+    ensures { buffer.new ≡ put_before (prefix_of radix) buffer.old }
 {
     let letter = match radix {
         Radix::Decimal => return,
@@ -72,7 +70,7 @@ fn put_prefix(buffer: &mut DigitBuffer, radix: Radix)
 #[inline(always)]
 fn put_front(buffer: &mut DigitBuffer, form: NumberForm, spec: &Spec, negative: bool)
     requires { 3 ≤ buffer.old.before }
-    ensures { buffer.new ≡ grown (front_text form spec.now negative) buffer.old }
+    ensures { buffer.new ≡ put_before (front_text form spec.now negative) buffer.old }
 {
     if let NumberForm::Digits(radix) = form {
         if spec.alternate {

@@ -4,7 +4,7 @@ ghost use Rattle.std.specs.List.{flat_map};
 ghost use Rattle.std.specs.Str.{chars};
 ghost use Rattle.interpolator_render.specs.Characters.{backslash};
 ghost use Rattle.interpolator_render.specs.Digits.{digit_text};
-ghost use Rattle.interpolator_render.specs.Quoting.{escape_letter, escaped, quoted};
+ghost use Rattle.interpolator_render.specs.Quoting.{escape_letter, escape_of, quotation};
 ghost use Rattle.interpolator_render.specs.Written.{Puts, Writes};
 
 use crate::digits::digit_str;
@@ -25,7 +25,7 @@ fn put_code<W: TextWrite>(out: &mut W, c: char) -> Result<(), Refusal>
     )
 }
 
-/// The character that stands after a backslash for `c`, where one does.
+/// The character that is written after a backslash for `c`, if there is one.
 fn escape_letter(quote: char, c: char) -> Option<char>
     ensures { result ≡ escape_letter quote c }
 {
@@ -57,9 +57,9 @@ fn put_letter<W: TextWrite>(out: &mut W, letter: char) -> Result<(), Refusal>
     )
 }
 
-/// Writes a character as it stands between quotes.
+/// Writes a character as it is written between quotes.
 fn put_escaped<W: TextWrite>(out: &mut W, quote: char, c: char) -> Result<(), Refusal>
-    ensures { Puts (W.written out.old) (escaped quote c) result (W.written out.new) }
+    ensures { Puts (W.written out.old) (escape_of quote c) result (W.written out.new) }
 {
     match escape_letter(quote, c) {
         Some(letter) => put_letter(out, letter),
@@ -73,28 +73,28 @@ fn put_escaped<W: TextWrite>(out: &mut W, quote: char, c: char) -> Result<(), Re
     }
 }
 
-/// Whether a character of one byte stands escaped between quotes.
+/// Whether a character of one byte is escaped between quotes.
 fn is_escaped(quote: char, byte: u8) -> bool
     requires { quote < 128 }
     ensures ascii { result ≡ true → byte < 128 }
-    ensures plain { result ≡ false → escaped quote byte ≡ byte ∷ [] }
+    ensures plain { result ≡ false → escape_of quote byte ≡ byte ∷ [] }
 {
     byte < b' ' || byte == b'\x7f' || byte == b'\\' || byte == quote as u8
 }
 
 /// Writes a run of characters as they are, and the escaped one after it.
 fn put_run<W: TextWrite>(out: &mut W, quote: char, run: &str, c: char) -> Result<(), Refusal>
-    ensures { Writes (W.written out.old) (chars run.now ++ escaped quote c) result
+    ensures { Writes (W.written out.old) (chars run.now ++ escape_of quote c) result
         (W.written out.new) }
 {
     put_text(out, run)?;
     put_escaped(out, quote, c)
 }
 
-/// Writes what stands between the quotes: the characters between two escapes by one call.
+/// Writes what is between the quotes: the characters between two escapes by one call.
 fn put_inside<W: TextWrite>(out: &mut W, quote: char, text: &str) -> Result<(), Refusal>
     requires { quote < 128 }
-    ensures { Writes (W.written out.old) (flat_map (escaped quote) (chars text.now)) result
+    ensures { Writes (W.written out.old) (flat_map (escape_of quote) (chars text.now)) result
         (W.written out.new) }
 {
     let bytes = text.as_bytes();
@@ -112,7 +112,7 @@ fn put_inside<W: TextWrite>(out: &mut W, quote: char, text: &str) -> Result<(), 
 #[inline(never)]
 pub(crate) fn put_quoted<W: TextWrite>(out: &mut W, quote: char, text: &str) -> Result<(), Refusal>
     requires { quote < 128 }
-    ensures { Writes (W.written out.old) (quoted quote (chars text.now)) result
+    ensures { Writes (W.written out.old) (quotation quote (chars text.now)) result
         (W.written out.new) }
 {
     put_char(out, quote)?;

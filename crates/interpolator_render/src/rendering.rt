@@ -3,7 +3,7 @@ ghost use Rattle.std.specs.Prelude.{◌≡◌, ◌∷◌, [], ◌<◌, Some};
 ghost use Rattle.std.specs.Str.{chars};
 ghost use Rattle.interpolator_render.specs.Characters.{single_quote};
 ghost use Rattle.interpolator_render.specs.Padding.{displayed_text};
-ghost use Rattle.interpolator_render.specs.Quoting.{quoted};
+ghost use Rattle.interpolator_render.specs.Quoting.{quotation};
 ghost use Rattle.interpolator_render.specs.Texts.{under, truth_text, view_text};
 ghost use Rattle.interpolator_render.specs.Texts.{render_answer, Renders};
 ghost use Rattle.interpolator_render.specs.Numbers.{number_form};
@@ -25,8 +25,8 @@ use crate::view::{RenderFault, Spec, Trait, View};
 ///
 /// # Errors
 ///
-/// A [`Refusal`] where the writer refused, whose flag then stands. Its `taken` is the bytes that
-/// this whole call appended, or the greatest `usize` where they are more.
+/// A [`Refusal`] if the writer refused, whose flag is then set. Its `taken` is the bytes that
+/// this whole call appended, or the greatest `usize` if they are more.
 ///
 /// # Examples
 ///
@@ -45,7 +45,7 @@ pub fn pad<W: TextWrite>(out: &mut W, text: &str, spec: &Spec) -> Result<(), Ref
     }
 }
 
-/// The same, under a precision or a width.
+/// As [`pad`], under a precision or a width.
 #[tactic(auto, unfolding(crate::specs::Padding::padded_text))]
 #[inline(never)]
 fn put_cut<W: TextWrite>(out: &mut W, text: &str, spec: &Spec) -> Result<(), Refusal>
@@ -60,7 +60,7 @@ fn put_cut<W: TextWrite>(out: &mut W, text: &str, spec: &Spec) -> Result<(), Ref
     put_between_spaces(out, shown, before, missing - before)
 }
 
-/// The same, filled with a character.
+/// As [`pad`], filled with a character.
 #[tactic(auto, unfolding(crate::specs::Padding::padded_text))]
 #[inline(never)]
 fn put_filled<W: TextWrite>(out: &mut W, text: &str, spec: &Spec, fill: char) -> Result<(), Refusal>
@@ -79,7 +79,6 @@ fn truth_str(truth: bool) -> &'static str
     if truth { "true" } else { "false" }
 }
 
-#[inline(always)]
 fn refused(answer: Result<(), Refusal>) -> Result<(), RenderFault>
     ensures { result ≡ render_answer answer }
 {
@@ -97,7 +96,7 @@ fn render_text<W: TextWrite>(
 ) -> Result<(), RenderFault>
     requires { quote < 128 }
     ensures { Renders
-        (under t (displayed_text spec.now (chars text.now)) (quoted quote (chars text.now)))
+        (under t (displayed_text spec.now (chars text.now)) (quotation quote (chars text.now)))
         (W.written out.old) result (W.written out.new) }
 {
     match t {
@@ -116,7 +115,7 @@ fn render_character<W: TextWrite>(
     c: char,
     spec: &Spec,
 ) -> Result<(), RenderFault>
-    ensures { Renders (under t (displayed_text spec.now (c ∷ [])) (quoted single_quote (c ∷ [])))
+    ensures { Renders (under t (displayed_text spec.now (c ∷ [])) (quotation single_quote (c ∷ [])))
         (W.written out.old) result (W.written out.new) }
 {
     let mut bytes = [0u8; 4];
@@ -147,11 +146,11 @@ fn render_truth<W: TextWrite>(
 ///
 /// # Errors
 ///
-/// - [`RenderFault::NotImplemented`] where the view has no text under this trait, as a text under
+/// - [`RenderFault::NotImplemented`] if the view has no text under this trait, as a text under
 ///   `Trait::Octal`. Nothing was written.
-/// - [`RenderFault::Failed`] where the view is `View::Failed`. Nothing was written.
-/// - [`RenderFault::Refused`] where the writer refused. A proper beginning of the text was
-///   appended, none of it where the writer's flag stood before, and the flag stands.
+/// - [`RenderFault::Failed`] if the view is `View::Failed`. Nothing was written.
+/// - [`RenderFault::Refused`] if the writer refused. A proper beginning of the text was
+///   appended, none of it if the writer's flag was set before, and the flag is set.
 ///
 /// # Examples
 ///
@@ -185,7 +184,7 @@ pub fn render<W: TextWrite>(
     render_any(out, view, t, spec)
 }
 
-/// The same, for every view and trait: [`render`] has tried the most likely ones first.
+/// As [`render`], for every view and trait: [`render`] has tried the most likely ones first.
 #[tactic(auto, unfolding(crate::specs::Texts::view_text))]
 #[inline(never)]
 fn render_any<W: TextWrite>(

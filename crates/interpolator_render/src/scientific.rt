@@ -3,8 +3,8 @@ ghost use Rattle.std.specs.Prelude.{◌≡◌, ◌+◌, ◌/◌, ◌%◌, ◌^�
 ghost use Rattle.std.specs.Prelude.{unwrap_or};
 ghost use Rattle.interpolator_render.specs.Characters.{zero_digit};
 ghost use Rattle.interpolator_render.specs.Digits.{digit_text};
-ghost use Rattle.interpolator_render.specs.Exponent.{exponent_of, nearest, rounded, scientific};
-ghost use Rattle.interpolator_render.specs.Exponent.{trimmed};
+ghost use Rattle.interpolator_render.specs.Exponent.{exponent_of, nearest, rounding, scientific};
+ghost use Rattle.interpolator_render.specs.Exponent.{significant_digits};
 
 /// The powers of ten below 2 ^ 128.
 static POWERS: [u128; 39] = [
@@ -59,7 +59,6 @@ pub(crate) struct Shown {
 }
 
 #[tactic(auto, using(crate::proofs::ScientificLemmas::power_at))]
-#[inline(always)]
 fn power(exponent: usize) -> u128
     requires { exponent ≤ 38 }
     ensures { result ≡ 10 ^ exponent }
@@ -70,7 +69,6 @@ fn power(exponent: usize) -> u128
 /// Quotient and remainder.
 ///
 /// Numbers that fit 64 bits are divided as `u64`, which costs a fraction of a division of `u128`.
-#[inline(always)]
 fn divided(n: u128, unit: u128) -> (u128, u128)
     requires { 0 < unit }
     ensures quotient { result.0 ≡ n / unit }
@@ -98,8 +96,7 @@ fn exponent_of(n: u128) -> usize
     exponent
 }
 
-/// The number nearest to `n / unit`, of two the even one.
-#[inline(always)]
+/// The number nearest to `n / unit`: of two, the even one.
 fn nearest(n: u128, unit: u128) -> u128
     requires { 2 ≤ unit }
     ensures { result ≡ nearest n unit }
@@ -117,9 +114,8 @@ fn nearest(n: u128, unit: u128) -> u128
 
 /// A number without the zeros at its end.
 #[tactic(auto, using(crate::proofs::ScientificLemmas::trims))]
-#[inline(always)]
 fn trimmed(n: u128) -> u128
-    ensures { digit_text 10 false result ≡ trimmed (digit_text 10 false n) }
+    ensures { digit_text 10 false result ≡ significant_digits (digit_text 10 false n) }
 {
     let mut rest = n;
     while rest >= 10 && divided(rest, 10).1 == 0 {
@@ -130,14 +126,13 @@ fn trimmed(n: u128) -> u128
 
 /// A number with more than `places` digits after the first, rounded to `places` of them.
 #[tactic(auto, using(crate::proofs::ExponentLemmas::pow_more))]
-#[inline(always)]
 fn rounded(n: u128, places: usize, exponent: usize) -> Shown
     requires exponent { exponent ≡ exponent_of n }
     requires low { exponent ≤ 38 }
     requires fewer { places < exponent }
-    ensures digits { digit_text 10 false result.digits ≡ (rounded places n exponent).digits }
+    ensures digits { digit_text 10 false result.digits ≡ (rounding places n exponent).digits }
     ensures zeros { result.zeros ≡ 0 }
-    ensures exponent { result.exponent ≡ (rounded places n exponent).exponent }
+    ensures exponent { result.exponent ≡ (rounding places n exponent).exponent }
 {
     let mantissa = nearest(n, power(exponent - places));
     if mantissa == power(places + 1) {

@@ -106,7 +106,7 @@ impl TextBuffer {
     }
 }
 
-/// Appends a text to a buffer's, or sets the flag and changes nothing else.
+/// Appends a text to a buffer's text, or sets the flag and changes nothing else.
 #[inline(always)]
 pub(crate) fn append(held: &mut String, refused: &mut bool, text: &str) -> Result<(), Refusal>
     ensures ok { OnOk result ((string_bytes held.new ≡ string_bytes held.old ++ text.now)
@@ -130,8 +130,7 @@ pub(crate) fn append(held: &mut String, refused: &mut bool, text: &str) -> Resul
     }
 }
 
-/// The same of a character.
-#[inline(always)]
+/// Appends a character to a buffer's text, or sets the flag and changes nothing else.
 pub(crate) fn append_char(held: &mut String, refused: &mut bool, c: char) -> Result<(), Refusal>
     ensures ok { OnOk result ((string_bytes held.new ≡ string_bytes held.old ++ encode_utf8 c)
         × (refused.old ≡ false) × (refused.new ≡ false)) }
@@ -194,7 +193,6 @@ impl TextWrite for TextBuffer {
         append(&mut self.text, &mut self.refused, text)
     }
 
-    #[inline(always)]
     fn write_char(&mut self, c: char) -> Result<(), Refusal>
         ensures written { MatchResult result
             (λ _. Appends (as_writer self.old) (c ∷ []) (as_writer self.new))

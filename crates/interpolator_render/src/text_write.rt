@@ -14,7 +14,7 @@ pub struct Refusal {
 /// Where text goes, from front to back.
 ///
 /// A call that answers `Ok` has taken its whole text. One that answers `Err` has taken the first
-/// `taken` bytes of it and has set the writer's flag, `refused`. While the flag stands, the writer
+/// `taken` bytes of it and has set the writer's flag, `refused`. While the flag is set, the writer
 /// takes the empty text alone, and no write clears it. An empty text is never refused.
 ///
 /// ```text
@@ -53,12 +53,10 @@ pub trait TextWrite {
         ensures { result ≡ (written self.now).refused };
 
     /// Makes room in memory for so many bytes of a text that comes next, or refuses that text whole.
-    /// A writer that knows of no such thing answers `Ok`, and refuses the text itself where it has
-    /// to.
+    /// A writer that cannot do so answers `Ok`, and refuses the text itself if it has to.
     ///
-    /// It is asked for the bytes of each run of more than 64 copies of a character, as a wide
-    /// padding is. So one that there is no memory for is refused before any of it is written.
-    #[inline(always)]
+    /// It is asked for the bytes of each run of more than 64 copies of a character, such as a wide
+    /// padding. So a run for which there is no memory is refused before any of it is written.
     fn reserve(&mut self, _bytes: usize) -> Result<(), Refusal>
         ensures { MatchResult result
             (λ _. StaysWithin (limit self.old) (limit self.new) (written self.old)
@@ -68,7 +66,7 @@ pub trait TextWrite {
         Ok(())
     }
 
-    /// How many bytes the writer could still take at most, where it knows. It has to keep to what it
+    /// How many bytes the writer could still take at most, if it knows. It has to keep to what it
     /// tells: of a text of more bytes it refuses the end, or all.
     ///
     /// A list under a width is made in a buffer of so many bytes before it is written.

@@ -164,11 +164,10 @@ impl Value for String {
     }
 }
 
-/// A view shows itself, but for a signed number outside its width, which has failed.
+/// A view shows itself, except that a signed number outside its width shows a failure.
 impl<'a> Value for View<'a> {
     ghost shows = { λ view _ _. shown_as_value view };
 
-    #[inline(always)]
     fn view(&self, _t: Trait, _spec: &Spec) -> View<'_> {
         match *self {
             View::Signed(number, bits) => {
@@ -184,7 +183,6 @@ impl<'a> Value for View<'a> {
 }
 
 /// Whether a number lies in the range of signed numbers of this width.
-#[inline(always)]
 fn fits(number: i128, bits: Bits) -> bool
     ensures { result ≡ fits_signed number bits }
 {

@@ -23,7 +23,7 @@ pub enum Trait {
     Iter,
 }
 
-/// Where a text stands between the copies of the fill that bring it to its width.
+/// If a text is placed between the copies of the fill that bring it to its width.
 #[derive(Clone, Copy, Debug, Default, PartialEq, Eq)]
 pub enum Alignment {
     /// Numbers on the right, all else on the left.
@@ -45,7 +45,7 @@ pub enum Sign {
     Unset,
     /// `+` before numbers that are not negative, too.
     Plus,
-    /// The same as no flag.
+    /// `-`, which does the same as no flag.
     Minus,
 }
 
@@ -83,7 +83,7 @@ pub enum Bits {
 /// ```
 #[derive(Clone, Copy, PartialEq, Eq, Debug, Default)]
 pub struct Spec {
-    /// What pads a value to its width; a space where there is none. It counts as one character,
+    /// What pads a value to its width; a space if there is none. It counts as one character,
     /// however many bytes it has.
     ///
     /// ```text
@@ -92,7 +92,7 @@ pub struct Spec {
     /// render(&mut out, View::Unsigned(12), Trait::Display, &spec)     // appends "éé12"
     /// ```
     pub fill: Option<char>,
-    /// Where the text stands between the copies of its fill.
+    /// If the text is placed between the copies of its fill.
     pub alignment: Alignment,
     /// `+` or `-`.
     pub sign: Sign,
@@ -111,7 +111,7 @@ pub struct Spec {
 }
 
 /// What a value shows under a trait and a spec: one number, one text or neither. Two views are equal
-/// where their variants and fields are.
+/// when their variants and fields are.
 #[derive(Clone, Copy, Debug, PartialEq)]
 pub enum View<'a> {
     /// A number of a signed type of this width, in whose range it lies.

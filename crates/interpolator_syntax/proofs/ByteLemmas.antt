@@ -197,7 +197,7 @@ module _ (first second : ℕ) (low_first : first < 128) (low_second : second < 1
   stop_is_ascii : (b : ℕ) → Stops b ≡ true → b < 128
   stop_is_ascii b e = grind (arith, eqb-true)
 
-  -- the cut stands at the end, or before an ASCII character
+  -- the cut is at the end, or before an ASCII character
   abbrev Cuts : ℕ → List ℕ → Type 0
   Cuts n bs = (n ≡ length bs) ⊎ ((n < length bs) × (get_or bs n 0 < 128))
 

@@ -11,7 +11,7 @@ use Rattle.interpolator_syntax.specs.Faults.{Fault}
 use Rattle.interpolator_syntax.specs.Grammar.{NotFirst}
 use Rattle.interpolator_syntax.specs.GrammarParts.{Lies}
 use Rattle.interpolator_syntax.specs.SpecGrammar.{spec}
-use Rattle.interpolator_syntax.specs.ArgumentGrammar.{IsNamed, Asks, AsksNothing, asked, IsArgument}
+use Rattle.interpolator_syntax.specs.ArgumentGrammar.{IsNamed, Asks, AsksNothing, request_in, IsArgument}
 use Rattle.interpolator_syntax.specs.ArgumentGrammar.{IsNoArgument}
 use Rattle.interpolator_syntax.specs.declared.class.Class.TheVariants.{WhiteSpace, Name}
 use Rattle.interpolator_syntax.proofs.FrontLemmas.{front_after}
@@ -56,14 +56,14 @@ name_found a name p b h =
     let named = longest_front (in_class Name) (name ++ b.text) name b.text h.named in
     rw (white.0, white.1, named.0, named.1, ← h.name_place, ← h.end_place) refl
 
--- ---- what stands after the name
+-- ---- what follows the name
 
--- what is answered after a name stands there
+-- what is answered after a name is there
 abbrev Told : (start : ℕ) → (b : At) → Result (Request × At) Fault → Type 0
 Told start b (Ok w) = Asks start b w.0 w.1
 Told start b (Err f) = AsksNothing start b f
 
--- the text ends where a name does that neither `:` nor `}` ends
+-- the text ends if a name does that neither `:` nor `}` ends
 name_ends :
     (cs : List ℕ) → ((c : ℕ) (more : List ℕ) → cs ≡ c ∷ more → IsFalse (in_class Name c))
     → NotFirst close_brace cs → NotFirst colon cs → cs ≡ []
@@ -135,7 +135,7 @@ pub only_argument : (a q : At) (x : Argument) → IsArgument a x q → argument_
 only_argument a q x h =
     name_found a x.name x.name_place h.after h.named
     ∙ ap (λ (o : Result (Request × At) Fault). on o (λ y. give (argument x.name x.name_place y)))
-    (only_told a.place h.after (Ok (asked x, q)) h.asks)
+    (only_told a.place h.after (Ok (request_in x, q)) h.asks)
 
 pub broken_is : (a : At) (f : Fault) → argument_at a ≡ Err f → IsNoArgument a f
 broken_is a f e = subst (ArgumentSays a) e (argument_says a)

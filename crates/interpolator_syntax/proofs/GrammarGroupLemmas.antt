@@ -31,7 +31,7 @@ pub sign_length : (k : ℕ) → length (sign_text k) ≡ k
 sign_length zero = refl
 sign_length (suc k) = omega (arith, sign_length k)
 
--- signs that stand are read
+-- signs that are there are read
 pub signs_split : (k p : ℕ) (cs : List ℕ) (q : At) → after_hashes k p cs ≡ Some q
     → (cs ≡ sign_text k ++ q.text) × (q.place ≡ p + k)
 signs_split zero p cs q e = grind arith
@@ -47,7 +47,7 @@ only_signs (suc k) p rest = grind (arith, only_signs k (p + 1) rest)
 
 -- ---- the end
 
--- no bracket closes, where neither the first character does nor one after it
+-- no bracket closes if neither the first character does nor one after it
 none_closes : (k c : ℕ) (inner after : List ℕ) → ((rest : List ℕ) → c ≡ close_bracket
     → inner ++ after ≢ sign_text k ++ rest) → NoneCloses k inner after
     → NoneCloses k (c ∷ inner) after
@@ -62,7 +62,7 @@ nothing_closes : (k : ℕ) (after : List ℕ) → NoneCloses k [] after
 nothing_closes k after [] more rest e h = cc
 nothing_closes k after (d ∷ front) more rest e h = cc
 
--- whether the signs of a bracket stand after c
+-- whether the signs of a bracket follow c
 abbrev signs_at : (k p c : ℕ) → List ℕ → Option At
 signs_at k p c cs = cond (eqb c close_bracket) (after_hashes k (p + len_utf8 c) cs) None
 
@@ -89,7 +89,7 @@ pub record IsClose (k p : ℕ) (cs inner : List ℕ) (q : At) : Type 0 where
   pub place : q.place ≡ p + size inner + 1 + k
   pub first : NoneCloses k inner (close_text k ++ q.text)
 
--- where a text closes, if it does
+-- if a text closes, if it does
 abbrev pub Closes : (k p : ℕ) → List ℕ → Option (List ℕ × At) → Type 0
 Closes k p cs (Some w) = IsClose k p cs w.0 w.1
 Closes k p cs None = NoneCloses k cs []
@@ -148,7 +148,7 @@ only_no_close k p (c ∷ cs) h =
 
 -- ---- groups
 
--- all the signs that stand in front
+-- all the signs in front
 all_signs : (cs : List ℕ) → front_of (in_class Hash) cs
     ≡ sign_text (length (front_of (in_class Hash) cs))
 all_signs [] = refl
@@ -166,13 +166,13 @@ signs_front zero [] h = (refl, refl)
 signs_front zero (c ∷ cs) h = rw (ne_eqb c hash h) (refl, refl)
 signs_front (suc k) rest h = grind (arith, signs_front k rest h)
 
--- what stands after all the signs begins with none
+-- what follows all the signs begins with none
 after_no_sign : (cs : List ℕ) → NoSign (after_of (in_class Hash) cs)
 after_no_sign [] = tt
 after_no_sign (c ∷ cs) =
     cond_both (eqb c hash) _ _ NoSign (λ e. after_no_sign cs) (λ e. eqb-false c hash e)
 
--- a group by the signs in front and what stands after them
+-- a group by the signs in front and what follows them
 pub group_of_signs : (start k : ℕ) (a : At) (rest : List ℕ) → a.text ≡ sign_text k ++ rest
     → NoSign rest → group_at start a ≡ bracket_first start k (stands (a.place + k) rest)
     (first_of (a.place + k) rest)
@@ -206,7 +206,7 @@ only_group start a g q h =
     ∙ rw (there, here) refl
 
 module _ (start k : ℕ) (a : At) where
-  -- what a bracket opens, by where it closes
+  -- what a bracket opens, by if it closes
   opened_says :
       (p : ℕ) (cs : List ℕ) (o : Option (List ℕ × At)) → p ≡ a.place + k + 1
       → a.text ≡ open_text k ++ cs → Closes k p cs o → Says (group start) a (closed_group start p o)
@@ -219,7 +219,7 @@ module _ (start k : ℕ) (a : At) where
     end_place = omega (arith, close.place, close_size w.0 k);
   }
 
-  -- what stands after the signs
+  -- what follows the signs
   bracket_says :
       (rest : List ℕ) → a.text ≡ sign_text k ++ rest → NoSign rest
       → Says (group start) a

@@ -90,7 +90,7 @@ piece_same :
     (record { place = q; text = ds; kind = l })
 piece_same e d h = cc
 
--- two pieces that stand first in a text that is not empty are one
+-- two pieces that come first in a text that is not empty are one
 first_same_at :
     (p c : ℕ) (cs : List ℕ) (x y : Piece) (r s : List ℕ) → StandsFirst (from_place p (c ∷ cs)) x r
     → StandsFirst (from_place p (c ∷ cs)) y s → (x ≡ y) × (r ≡ s)

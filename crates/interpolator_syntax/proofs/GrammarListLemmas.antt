@@ -35,7 +35,7 @@ use Rattle.interpolator_syntax.proofs.SimpleReaderLemmas.{law_same, law_ends}
 
 -- ---- points
 
--- characters that stand after others
+-- characters after others
 lies_after :
     (a b q : At) (c : ℕ) (cs : List ℕ) → Lies a (c ∷ []) b → Lies b cs q → Lies a (c ∷ cs) q
 lies_after a b q c cs h k = record {
@@ -43,7 +43,7 @@ lies_after a b q c cs h k = record {
   place = omega (arith, h.place, k.place);
 }
 
--- what is answered after two points, in front of which a stands
+-- what is answered after two points, in front of which is a
 abbrev by_equals : (d : At) → Option At → Result (Option Bool × At) Fault
 by_equals d o = on (was_there d o) (λ inclusive. give (Some inclusive))
 

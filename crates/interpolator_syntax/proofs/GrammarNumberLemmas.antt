@@ -10,7 +10,7 @@ use Rattle.std.proofs.lemmas.Bool.{both_ways, cond_both}
 use Rattle.std.proofs.lemmas.List.Elements.{All-nil, All-cons, All-head, All-tail, All-append}
 use Rattle.std.proofs.Math.Nat.{pow-suc, one-le-pow, le-mul_of_pos_right}
 use Rattle.interpolator_syntax.specs.Classes.{minus, zero_digit}
-use Rattle.interpolator_syntax.specs.Numbers.{with_digit, digits_after, natural, signed, negated}
+use Rattle.interpolator_syntax.specs.Numbers.{with_digit, digits_after, natural, with_sign, negation}
 use Rattle.interpolator_syntax.specs.Numbers.{negative, integer}
 use Rattle.interpolator_syntax.specs.NumberGrammar.{decimal_value, AreDigits, IsNumber, IsStopped}
 use Rattle.interpolator_syntax.specs.NumberGrammar.{IsStop, IsNoNumber, IsSigned}
@@ -116,7 +116,7 @@ module _ (limit : ℕ) (overflow : NumberError) where
       by_digits (Ok n) s = record { not_empty = λ k. cc; digits = s.0; value = s.1; below = s.2 }
       by_digits (Err kind) s = inr s
 
-  -- digits of a value below the limit are read, and what stands after them goes on from it
+  -- digits of a value below the limit are read, and what follows them goes on from it
   read_over : (n : ℕ) (cs rest : List ℕ) → AreDigits cs → value_from n cs < limit
       → read_from n (cs ++ rest) ≡ read_from (value_from n cs) rest
   read_over n [] rest d h = ap (λ m. read_from m rest) (sym (value_none n))
@@ -216,12 +216,12 @@ negative_says c [] t = inl (
 negative_says c (d ∷ ds) t = by_digits _ (says (2 ^ 63 + 1) NegOverflow d ds (omega arith))
   where
     by_digits : (r : Result ℕ NumberError) → Says (2 ^ 63 + 1) NegOverflow (d ∷ ds) r
-        → Tells integers (c ∷ d ∷ ds) (signed negated r)
+        → Tells integers (c ∷ d ∷ ds) (with_sign negation r)
     by_digits (Ok n) h = inr (d ∷ ds, n, sign_first c d ds t, h, refl)
     by_digits (Err kind) h = inr (d ∷ ds, sign_first c d ds t, h)
 
 positive_says : (c : ℕ) (cs : List ℕ) (r : Result ℕ NumberError) → eqb c minus ≡ false
-    → Says (2 ^ 63) PosOverflow (c ∷ cs) r → Tells integers (c ∷ cs) (signed pos r)
+    → Says (2 ^ 63) PosOverflow (c ∷ cs) r → Tells integers (c ∷ cs) (with_sign pos r)
 positive_says c cs (Ok n) t h = inl (n, h, refl)
 positive_says c cs (Err kind) t h =
     inl (λ after s. let k = s.split in eqb-false c minus t (cc), h)
@@ -238,15 +238,15 @@ only_positive (c ∷ cs) n h =
     let digit = All-head Digit c cs h.digits in
     let no_minus : eqb c minus ≡ false =
     ne_eqb c minus (λ e. both_ways (is_ascii_digit c) (ap is_ascii_digit e) digit) in
-    rw no_minus (ap (signed pos) (only_number (2 ^ 63) PosOverflow (c ∷ cs) n h))
+    rw no_minus (ap (with_sign pos) (only_number (2 ^ 63) PosOverflow (c ∷ cs) n h))
 
 only_negative :
     (after : List ℕ) (n : ℕ) → IsNumber (2 ^ 63 + 1) after n
-    → negative after ≡ Ok (negated n)
+    → negative after ≡ Ok (negation n)
 only_negative [] n h = absurd (h.not_empty refl)
-only_negative (d ∷ ds) n h = ap (signed negated) (only_number (2 ^ 63 + 1) NegOverflow (d ∷ ds) n h)
+only_negative (d ∷ ds) n h = ap (with_sign negation) (only_number (2 ^ 63 + 1) NegOverflow (d ∷ ds) n h)
 
--- where a text without a sign begins with `-`, that stands alone
+-- if a text without a sign begins with `-`, that is all of it
 only_lone :
     (c : ℕ) (cs : List ℕ) (kind : NumberError) → eqb c minus ≡ true
     → ((after : List ℕ) → IsSigned (c ∷ cs) after → ⊥)
@@ -261,14 +261,14 @@ only_unsigned [] kind unsigned h = ap Err (sym (none_empty (2 ^ 63) PosOverflow 
 only_unsigned (c ∷ cs) kind unsigned h =
     let digits = only_none (2 ^ 63) PosOverflow c cs kind h in
     cond_both (eqb c minus) _ _ (λ (r : Result ℤ NumberError). r ≡ Err kind)
-    (λ t. only_lone c cs kind t unsigned digits) (λ t. ap (signed pos) digits)
+    (λ t. only_lone c cs kind t unsigned digits) (λ t. ap (with_sign pos) digits)
 
 only_no_negative :
     (after : List ℕ) (kind : NumberError) → after ≢ []
     → IsNoNumber (2 ^ 63 + 1) NegOverflow after kind → negative after ≡ Err kind
 only_no_negative [] kind unsigned h = absurd (unsigned refl)
 only_no_negative (d ∷ ds) kind unsigned h =
-    ap (signed negated) (only_none (2 ^ 63 + 1) NegOverflow d ds kind h)
+    ap (with_sign negation) (only_none (2 ^ 63 + 1) NegOverflow d ds kind h)
 
 only_integer : (text : List ℕ) (o : Result ℤ NumberError) → Tells integers text o
     → integer text ≡ o

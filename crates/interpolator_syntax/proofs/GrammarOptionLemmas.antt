@@ -13,7 +13,7 @@ use Rattle.interpolator_syntax.specs.Ranges.{bound_or, bound_if}
 use Rattle.interpolator_syntax.specs.Grammar.{from_place}
 use Rattle.interpolator_syntax.specs.NumberGrammar.{Spelling, naturals, integers}
 use Rattle.interpolator_syntax.specs.GrammarParts.{Part, FirstPasses, NonePasses, where_first}
-use Rattle.interpolator_syntax.specs.GrammarParts.{where_after, spelled, number}
+use Rattle.interpolator_syntax.specs.GrammarParts.{where_after, spelling_of, number}
 use Rattle.interpolator_syntax.specs.SpecGrammar.{width, precision}
 use Rattle.interpolator_syntax.specs.ListGrammar.{bound}
 use Rattle.interpolator_syntax.specs.Faults.{Fault, ParseFault, parse, parse_place, range_bound}
@@ -33,10 +33,10 @@ use Rattle.interpolator_syntax.proofs.KeepLemmas.{keeps_first, keeps_strip, keep
 use Rattle.interpolator_syntax.proofs.LocalityLemmas.{Takes, takes_none}
 use Rattle.interpolator_syntax.proofs.SimpleReaderLemmas.{reads_run, Law, law_same}
 
--- ---- where a character that passes stands first
+-- ---- a part that is there if a character that passes comes first
 
 module _ {A : Type 0} (passes : ℕ → Bool) (read : Reader (Option A)) where
-  -- read where the first character passes
+  -- read if the first character passes
   abbrev pub if_passes : At → Option (ℕ × At) → Result (Option A × At) Fault
   if_passes a None = Ok (None, a)
   if_passes a (Some w) = cond (passes w.0) (read a) (Ok (None, a))
@@ -138,12 +138,12 @@ module _
     (spelling : Spelling A) (h : Decides read spelling) where
   spelled_says :
       (p : ℕ) (cs : List ℕ) (a : At) (o : Result A NumberError) → Tells spelling cs o
-      → Says (spelled spelling wrong p cs) a (told_or wrong p o a)
+      → Says (spelling_of spelling wrong p cs) a (told_or wrong p o a)
   spelled_says p cs a (Ok n) e = (n, e, refl, refl)
   spelled_says p cs a (Err kind) e = (kind, e, refl)
 
   agrees_spelled :
-      (p : ℕ) (cs : List ℕ) → Agrees (told_or wrong p (read cs)) (spelled spelling wrong p cs)
+      (p : ℕ) (cs : List ℕ) → Agrees (told_or wrong p (read cs)) (spelling_of spelling wrong p cs)
   agrees_spelled p cs = record {
     says = λ a. spelled_says p cs a (read cs) (h.says cs);
     only = λ a q x t. rw (h.only cs (Ok t.0) t.1, t.2, t.3) refl;

@@ -10,7 +10,7 @@ use Rattle.interpolator_syntax.specs.Readers.{Reader, on, ◌>>=◌ as ◌>>>◌
 use Rattle.interpolator_syntax.specs.Readers.{letter as read_letter, was_there}
 use Rattle.interpolator_syntax.specs.Readers.{flag as read_flag, run_before, run as read_run}
 use Rattle.interpolator_syntax.specs.Grammar.{from_place, NotFirst}
-use Rattle.interpolator_syntax.specs.GrammarParts.{Part, ◌>>=◌, ends, placed, Lies, NoLetter}
+use Rattle.interpolator_syntax.specs.GrammarParts.{Part, ◌>>=◌, ends, at_place, Lies, NoLetter}
 use Rattle.interpolator_syntax.specs.GrammarParts.{letter, flag, IsRun, run}
 use Rattle.interpolator_syntax.specs.Faults.{Fault}
 use Rattle.interpolator_syntax.specs.declared.class.Class.{Class}
@@ -22,7 +22,7 @@ pub ok_pair :
     → ◌≡◌ {A = Result (A × At) Fault} (Ok (x, q)) (Ok (y, r))
 ok_pair e h = cc
 
--- what a reader answers stands there
+-- what a reader answers is there
 abbrev pub Says : {A : Type 0} → Part A → At → Result (A × At) Fault → Type 0
 Says part a (Ok w) = part.is a w.0 w.1
 Says part a (Err f) = part.is_not a f
@@ -81,7 +81,7 @@ agrees_same {part = part} same h = record {
 
 pub agrees_placed :
     {A : Type 0} {read : ℕ → Reader A} {part : ℕ → Part A} → ((p : ℕ) → Agrees (read p) (part p))
-    → Agrees (λ a. read a.place a) (placed part)
+    → Agrees (λ a. read a.place a) (at_place part)
 agrees_placed h = record {
   says = λ a. (h a.place).says a;
   only = λ a q y t. (h a.place).only a q y t;
@@ -100,7 +100,7 @@ pub lies_cons :
 lies_cons p c cs ds q h =
     record { split = ap (λ xs. c ∷ xs) h.split; place = omega (arith, h.place) }
 
--- what stands after characters at a
+-- what follows characters at a
 pub lies_end : (a : At) (cs : List ℕ) (q : At) → Lies a cs q
     → from_place (a.place + size cs) q.text ≡ q
 lies_end a cs q h = at_same (sym h.place) refl

@@ -55,7 +55,7 @@ closed_first :
 closed_first p cs no_more (doubled brace) r h = absurd (no_more r h.2)
 closed_first p cs no_more k r h = omega arith
 
--- no argument stands there that ends in front of a closing brace
+-- there is no argument that ends in front of a closing brace
 abbrev NotClosed : At → Type 0
 NotClosed b = (x : Argument) (end : ℕ) (more : List ℕ)
     → argument_at b ≢ Ok (x, from_place end (close_brace ∷ more))
@@ -202,7 +202,7 @@ are_pieces (suc most) p (c ∷ cs) h =
 pub pieces_are : (a : At) → IsPieces a (pieces a)
 pieces_are a = are_pieces (length a.text) a.place a.text (omega arith)
 
--- what stands after the first piece ends where the text ends
+-- what follows the first piece ends where the text ends
 pub step_reaches :
     (p c : ℕ) (cs : List ℕ)
     → (piece_from p c (past p c cs)).rest.place + size (piece_from p c (past p c cs)).rest.text

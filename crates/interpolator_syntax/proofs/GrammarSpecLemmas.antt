@@ -181,7 +181,7 @@ module _ (s : Setting) where
   not_read start a c [] e = refl
   not_read start a c (d ∷ ds) e = rw e refl
 
-  -- in front of a closing brace that is not passed stands no character, or the second one
+  -- in front of a closing brace that is not passed is no character, or the second one
   one_left :
       (c : ℕ) (b : At) → IsSettled s (c ∷ [])
       → spec_of (s.start + s.by) b (c ∷ s.more) ≡ Ok (plain_display, b)

@@ -13,11 +13,11 @@ use Rattle.interpolator_render.specs.declared.view.HexDebug.TheVariants as hex_d
 use Rattle.interpolator_syntax.specs.At.{At, size, strip}
 use Rattle.interpolator_syntax.specs.Classes.{close_brace, question_mark, lower_x, upper_x, lower_o}
 use Rattle.interpolator_syntax.specs.Classes.{lower_b, lower_e, upper_e, lower_i, lower_p}
-use Rattle.interpolator_syntax.specs.SpecTexts.{Wanted, wanted, hexadecimal, trait_letter, lettered}
+use Rattle.interpolator_syntax.specs.SpecTexts.{Wanted, trait_alone, hexadecimal, trait_letter, letter_trait}
 use Rattle.interpolator_syntax.specs.SpecTexts.{trait_from, trait_first, trait_at}
 use Rattle.interpolator_syntax.specs.Grammar.{from_place, NotFirst}
 use Rattle.interpolator_syntax.specs.GrammarParts.{Lies}
-use Rattle.interpolator_syntax.specs.SpecGrammar.{trait_text, MayEnd, AsksDisplay, shown}
+use Rattle.interpolator_syntax.specs.SpecGrammar.{trait_text, MayEnd, AsksDisplay, trait_part}
 use Rattle.interpolator_syntax.specs.Faults.{Fault, parse, expected}
 use Rattle.interpolator_syntax.proofs.GrammarPartLemmas.{ok_pair, Says, Agrees, lies_here}
 use Rattle.interpolator_syntax.proofs.GrammarPartLemmas.{lies_cons, lies_end, Stripped}
@@ -34,7 +34,7 @@ place_after p = omega arith
 
 module _ (start : ℕ) (flagged : Bool) where
   abbrev Shows : At → Result (Wanted × At) Fault → Type 0
-  Shows a o = Says (shown start flagged) a o
+  Shows a o = Says (trait_part start flagged) a o
 
   module _ (p c : ℕ) (cs : List ℕ) where
     abbrev here : At
@@ -55,7 +55,7 @@ module _ (start : ℕ) (flagged : Bool) where
         inr (d ∷ question_mark ∷ [], two, rw (← eqb-true c d e) (lies_cons p c cs _ q h), tt)
 
     abbrev Lettered : Option Trait → Type 0
-    Lettered o = Shows here (lettered c p past o)
+    Lettered o = Shows here (letter_trait c p past o)
 
     -- a trait of one letter, or another
     letter_or : (t : Trait) (d : ℕ) → trait_text t hex_debugs.No ≡ Some (d ∷ []) → MayEnd t cs
@@ -80,7 +80,7 @@ module _ (start : ℕ) (flagged : Bool) where
         letter_or traits.LowerExp lower_e refl tt _ (λ no_e.
         letter_or traits.UpperExp upper_e refl tt _ (λ no_E.
         letter_or traits.Iter lower_i refl tt _ (λ no_i.
-        cond_both (eqb c lower_p) _ _ (λ (f : Fault). (shown start flagged).is_not here f)
+        cond_both (eqb c lower_p) _ _ (λ (f : Fault). (trait_part start flagged).is_not here f)
         (λ e. inr (inl ((cs, ap (λ n. n ∷ cs) (eqb-true c lower_p e)), refl)))
         (λ no_p. inr (inr (
           c,
@@ -127,7 +127,7 @@ module _ (start : ℕ) (flagged : Bool) where
 
   display_read :
       (a : At) → AsksDisplay flagged a.text
-      → trait_at start flagged a ≡ Ok (wanted traits.Display, a)
+      → trait_at start flagged a ≡ Ok (trait_alone traits.Display, a)
   display_read a h = elim h [
     | inl k ↦ rw k.1 refl
     | inr k ↦ rw (k.0, k.1) refl
@@ -161,7 +161,7 @@ module _ (start : ℕ) (flagged : Bool) where
       ∙ text_read x.slot x.hex_debug cs a.place q.text e h
       ∙ ok_pair refl (lies_end a cs q l)
 
-  agrees_trait : Agrees (trait_at start flagged) (shown start flagged)
+  agrees_trait : Agrees (trait_at start flagged) (trait_part start flagged)
   agrees_trait = record {
     says = λ a. trait_shows a.place a.text;
     only = λ a q x t. elim t [
@@ -187,13 +187,13 @@ module _ (s : Setting) where
     keeps_hexadecimal slot hex =
         keeps_past s stays a rest _ _ _ t (λ settled. refl)
         (keeps_strip s stays question_mark rest.place rest.text (hexadecimal slot hex rest)
-        (hexadecimal slot hex (elsewhere s rest)) (keeps_stay s stays rest (wanted slot))
+        (hexadecimal slot hex (elsewhere s rest)) (keeps_stay s stays rest (trait_alone slot))
         (λ end e u. (u, λ settled. refl)))
 
     keeps_lettered :
         (c : ℕ) (o : Option Trait)
-        → Keeps s stays a (lettered c a.place rest o)
-        (lettered c (a.place + s.by) (elsewhere s rest) o)
+        → Keeps s stays a (letter_trait c a.place rest o)
+        (letter_trait c (a.place + s.by) (elsewhere s rest) o)
     keeps_lettered c (Some slot) = (t, λ settled. refl)
     keeps_lettered c None =
         by_test (eqb c lower_p) _ _ _ _ (tt, λ from. omega arith, λ from. omega arith, λ none. refl)
@@ -209,12 +209,12 @@ module _ (s : Setting) where
   pub law_trait :
       (flagged : Bool)
       → Law s stays (trait_at s.start flagged) (trait_at (s.start + s.by) flagged)
-      (shown s.start flagged)
+      (trait_part s.start flagged)
   law_trait flagged = record {
     agrees = agrees_trait s.start flagged;
     reads = record {
       keeps = λ a.
-          let display = wanted traits.Display in
+          let display = trait_alone traits.Display in
           keeps_first s stays a.place a.text (trait_first s.start flagged a)
           (trait_first (s.start + s.by) flagged (elsewhere s a))
           (keeps_either s stays a flagged _ _ _ _

@@ -1,4 +1,4 @@
--- Where a group closes.
+-- If a group closes.
 use Rattle.std.proofs.Common.{◌≡◌, ℕ, suc, ◌+◌, ◌-◌, ◌<◌, ◌≤◌, List, [], ◌∷◌, ◌++◌, length, take}
 use Rattle.std.proofs.Common.{arith, refl, ap, ◌∙◌, sym, subst, Option, Some, None, append_assoc}
 use Rattle.std.proofs.lemmas.List.{append-nil, append_cancel_right, length-append}
@@ -59,14 +59,14 @@ front_then xs ys (Some w) = ap (λ zs. Some (zs, w.1)) (sym (append_assoc xs ys 
 abbrev enclosed : List ℕ → List ℕ
 enclosed cs = front_of (in_class Enclosed) cs
 
--- a text in whose front no bracket stands closes where it closes after that
+-- a text whose front has no bracket closes if it closes after that
 pub close_past : (k p : ℕ) (cs : List ℕ) → close_from k p cs
     ≡ after_front (enclosed cs) (close_from k (p + size (enclosed cs))
     (after_of (in_class Enclosed) cs))
 close_past k p [] = refl
 close_past k p (c ∷ cs) = grind (arith, append_assoc, close_past k (p + len_utf8 c) cs)
 
--- where no bracket stands, nothing closes
+-- if there is no bracket, nothing closes
 none_after : (k p q : ℕ) (cs rest : List ℕ) → IsLongest (in_class Enclosed) cs (enclosed cs) rest
     → strip_of close_bracket q rest ≡ None → close_from k p rest ≡ None
 none_after k p q cs [] h e = refl
@@ -83,7 +83,7 @@ close_none k a e =
     no_pair : (b : At) (o : Option At) → with_after b o ≡ None → o ≡ None
     no_pair b o h = grind arith
 
--- a bracket at b, after which r stands
+-- a bracket at b, followed by r
 pub record Bracket (b r : At) : Type 0 where
   pub text : b.text ≡ close_bracket ∷ r.text
   pub closes : (k : ℕ) → close_from k b.place b.text
@@ -112,7 +112,7 @@ next_is h b r e =
           (record { is = refl; bracket = here })
     ] refl e
 
--- what stands after it is shorter
+-- what follows it is shorter
 pub next_shorter : (h b r : At) → next_close h ≡ Some (b, r) → length r.text < length h.text
 next_shorter h b r e =
     let n = next_is h b r e in
@@ -122,13 +122,13 @@ next_shorter h b r e =
 
 -- ---- the search for it
 
--- the text at a closes where it closes after what was passed, up to h
+-- the text at a closes if it closes after what was passed, up to h
 pub record Reached (k : ℕ) (a h : At) : Type 0 where
   pub front : List ℕ
   pub split : a.text ≡ front ++ h.text
   pub closes : after_front front (close_from k h.place h.text) ≡ close_from k a.place a.text
 
--- nothing closes where no bracket is left
+-- nothing closes if no bracket is left
 pub reached_end : (k : ℕ) (a h : At) → Reached k a h → next_close h ≡ None → None
     ≡ close_from k a.place a.text
 reached_end k a h g e = ap (after_front g.front) (sym (close_none k h e)) ∙ g.closes
@@ -147,7 +147,7 @@ reached_bracket k a h b r g e =
           ∙ ap (after_front g.front) (sym (close_past k h.place h.text)) ∙ g.closes;
     })
 
--- and passed, where too few signs stand after it
+-- and passed, if too few signs follow it
 pub reached_past : (k : ℕ) (a h b r : At) → Reached k a h → next_close h ≡ Some (b, r)
     → after_hashes k r.place r.text ≡ None → Reached k a r
 reached_past k a h b r g e none =
@@ -160,7 +160,7 @@ reached_past k a h b r g e none =
           ∙ (rw (n.bracket.closes k, none) at there.closes);
     }
 
--- the text closes there, where the signs stand
+-- the text closes there, if the signs are there
 pub reached_close :
     (k : ℕ) (a h b r q : At) (inner : List ℕ) → Reached k a h → next_close h ≡ Some (b, r)
     → after_hashes k r.place r.text ≡ Some q → inner ++ b.text ≡ a.text → Some (inner, q)

@@ -18,7 +18,7 @@ use Rattle.interpolator_syntax.proofs.SimpleReaderLemmas.{reads_span}
 bracket_no_sign : close_bracket ≢ hash
 bracket_no_sign e = omega (arith, e)
 
--- signs in front of which a bracket stands are the same whatever comes after the bracket
+-- signs in front of a bracket are the same whatever comes after the bracket
 signs_before :
     (k : ℕ) (cs after more rest : List ℕ) → cs ++ (close_bracket ∷ after) ≡ sign_text k ++ rest
     → (left : List ℕ) × (cs ++ (close_bracket ∷ more) ≡ sign_text k ++ left)

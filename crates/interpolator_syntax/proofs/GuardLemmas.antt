@@ -1,4 +1,4 @@
--- Where the groups of an argument begin: after a `:` and the letter of a list, in the text.
+-- If the groups of an argument begin: after a `:` and the letter of a list, in the text.
 use Rattle.std.proofs.Common.{◌≡◌, ℕ, ◌+◌, ◌≤◌, List, ◌∷◌, [], ◌++◌, length, arith, ap, Bool, ◌||◌}
 use Rattle.std.proofs.Common.{subst, sym, ◌∙◌, Ok, Option, Some, None, inl, inr, append_assoc}
 use Rattle.std.specs.Prelude.{⊤}
@@ -13,14 +13,14 @@ use Rattle.interpolator_render.specs.declared.view.Sign.TheVariants as signs
 use Rattle.interpolator_syntax.specs.At.{At}
 use Rattle.interpolator_syntax.specs.Classes.{hash, zero_digit, colon}
 use Rattle.interpolator_syntax.specs.Arguments.{Argument, argument_at}
-use Rattle.interpolator_syntax.specs.ArgumentGrammar.{Asks, asked}
+use Rattle.interpolator_syntax.specs.ArgumentGrammar.{Asks, request_in}
 use Rattle.interpolator_syntax.specs.Groups.{Group}
 use Rattle.interpolator_syntax.specs.GroupGrammar.{IsGroup}
 use Rattle.interpolator_syntax.specs.GrammarParts.{Part, ◌>>=◌, Lies}
 use Rattle.interpolator_syntax.specs.ListGrammar.{group_there, IsList}
 use Rattle.interpolator_syntax.specs.Lists.{ListRequest}
 use Rattle.interpolator_syntax.specs.Readers.{Reader}
-use Rattle.interpolator_syntax.specs.SpecGrammar.{kind, from_sign, fill, parts, shown, trait_text}
+use Rattle.interpolator_syntax.specs.SpecGrammar.{kind, from_sign, fill, parts, trait_part, trait_text}
 use Rattle.interpolator_syntax.specs.SpecGrammar.{IsSpec}
 use Rattle.interpolator_syntax.specs.SpecTexts.{Kind, of_value, of_list, Request, Wanted}
 use Rattle.interpolator_syntax.specs.SpecTexts.{alignment_letter, sign_letter}
@@ -41,7 +41,7 @@ pub record BeginsAfter (n : ℕ) (g : Group) (a : At) : Type 0 where
   pub takes : Takes a opens
   pub far : n + length opens.text ≤ length a.text
 
--- so it does, where it stands
+-- so does a group, if there is one
 abbrev pub GroupAfter : (n : ℕ) → Option Group → At → Type 0
 GroupAfter n None a = ⊤
 GroupAfter n (Some g) a = BeginsAfter n g a
@@ -51,7 +51,7 @@ abbrev pub KindAfter : (n : ℕ) → Kind → At → Type 0
 KindAfter n (of_value t) a = ⊤
 KindAfter n (of_list l) a = GroupAfter n l.item a × GroupAfter n l.join a
 
--- ---- what stands after a front
+-- ---- what follows a front
 
 -- it is no longer
 pub no_longer : (n : ℕ) (a b : At) → Takes a b → n + length b.text ≤ n + length a.text
@@ -72,7 +72,7 @@ module _ (m n : ℕ) (a b : At) (t : Takes a b) (far : n + length b.text ≤ m +
   kind_grows (of_value t) h = tt
   kind_grows (of_list l) h = (group_grows l.item h.0, group_grows l.join h.1)
 
--- where so many characters come before each group of what is read as this part
+-- so many characters come before each group of what is read as this part
 record Begins {A : Type 0} (n : ℕ) (kind_of : A → Kind) (part : Part A) : Type 0 where
   after : (a : At) (x : A) (q : At) → part.is a x q → KindAfter n (kind_of x) a
 
@@ -150,7 +150,7 @@ module _ (start : ℕ) where
   lettered_after slot hex a b cs k q e l h = rw h.0 tt
 
   shown_after : (flagged : Bool) (a : At) (x : Wanted) (b : At) (k : Kind) (q : At)
-      → (shown start flagged).is a x b → (kind start x.slot).is b k q → KindAfter 1 k a
+      → (trait_part start flagged).is a x b → (kind start x.slot).is b k q → KindAfter 1 k a
   shown_after flagged a x b k q (inl w) h =
       rw (subst (λ (y : Wanted). (kind start y.slot).is b k q) w.1 h).0 tt
   shown_after flagged a x b k q (inr w) h =
@@ -165,8 +165,8 @@ module _ (start : ℕ) where
       begins_then (law_width s) (λ width.
       begins_then (law_precision s) (λ precision. record {
         after = λ a x q h.
-            let asked = h.3 in
-            rw asked.3.0 (shown_after (alternate || zero) a h.0 h.1 asked.0 asked.1 h.2 asked.2);
+            let request_in = h.3 in
+            rw request_in.3.0 (shown_after (alternate || zero) a h.0 h.1 request_in.0 request_in.1 h.2 request_in.2);
       })))))
 
   fill_takes : (a : At) (x : Option ℕ) (q : At) → fill.is a x q → Takes a q
@@ -205,4 +205,4 @@ argument_after a x q e =
           omega (arith, h.named.name_place, h.named.end_place, size-append h.named.spaces x.name);
     } in
     kind_grows 2 2 a h.after t (no_longer 2 a h.after t) x.kind
-    (asks_after a.place h.after (asked x) q h.asks)
+    (asks_after a.place h.after (request_in x) q h.asks)

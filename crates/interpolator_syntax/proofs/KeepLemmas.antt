@@ -1,5 +1,5 @@
 -- What a reader keeps: what it takes is a front of its text, its faults lie there, and elsewhere it
--- answers the same; and how it keeps this where readers are put together.
+-- answers the same; and how it keeps this when readers are put together.
 use Rattle.std.proofs.Common.{◌≡◌, ℕ, ◌+◌, ◌≤◌, Bool, true, false, cond, eqb, List, [], ◌∷◌, ◌++◌}
 use Rattle.std.proofs.Common.{arith, refl, ap, ◌∙◌, sym, subst, Result, Ok, Err, Option, Some, None}
 use Rattle.std.proofs.Common.{inl, inr, ◌⊎◌}
@@ -14,14 +14,14 @@ use Rattle.interpolator_syntax.proofs.LocalityLemmas.{Takes, stands, takes_none,
 use Rattle.interpolator_syntax.proofs.LocalityLemmas.{takes_then, takes_reaches, Guarded}
 use Rattle.interpolator_syntax.proofs.LocalityLemmas.{takes_guards}
 
--- the argument that is read begins at `start`; elsewhere the same text stands so many bytes further
+-- the argument that is read begins at `start`; elsewhere the same text is so many bytes further
 -- on, with more after it
 pub record Setting : Type 0 where
   pub start : ℕ
   pub by : ℕ
   pub more : List ℕ
 
--- the same text at the same place
+-- a text that has not moved, and nothing after it
 abbrev pub still : ℕ → Setting
 still start = record { start = start; by = 0; more = [] }
 
@@ -37,8 +37,8 @@ module _ (s : Setting) where
   abbrev pub elsewhere : At → At
   elsewhere a = record { place = a.place + s.by; text = a.text ++ s.more }
 
-  -- what stands after the text changes nothing: a closing brace is left in front of it, or nothing
-  -- stands there
+  -- what follows the text changes nothing: a closing brace is left in front of it, or nothing
+  -- follows
   abbrev pub IsSettled : List ℕ → Type 0
   IsSettled cs = Guarded cs ⊎ (s.more ≡ [])
 
@@ -73,7 +73,7 @@ module _ (s : Setting) where
 
   -- what every reader of an argument keeps, where `other` reads elsewhere: what it takes is a front
   -- of the text; a fault is such as an argument can have, and lies in the text; and the answer
-  -- moves with the text, whatever stands after a closing brace that is not passed
+  -- moves with the text, whatever follows a closing brace that is not passed
   pub record Reads {A : Type 0} (move : A → A) (read other : Reader A) : Type 0 where
     pub keeps : (a : At) → Keeps move a (read a) (other (elsewhere a))
 
@@ -129,7 +129,7 @@ module _ (s : Setting) where
   -- ---- what decides by the first character
 
   module _ {A : Type 0} (move : A → A) where
-    -- an answer by the first character, if one stands there
+    -- an answer by the first character, if there is one
     pub keeps_first :
         (p : ℕ) (cs : List ℕ) (f g : Option (ℕ × At) → Result (A × At) Fault)
         → Keeps move (stands p cs) (f None) (g None)
@@ -145,7 +145,7 @@ module _ (s : Setting) where
         (g (Some (c, stands q (cs ++ s.more))))) (sym (step_moved p s.by (len_utf8 c)))
         (some c (stands (p + len_utf8 c) cs) (takes_one p c cs))
 
-    -- an answer at a by whether a text that ends where that at a does begins with c
+    -- an answer at a by whether a text that ends if that at a does begins with c
     pub keeps_strip_at :
         (a : At) (c p : ℕ) (cs : List ℕ) (f g : Option At → Result (A × At) Fault)
         → (IsSettled a.text → IsSettled cs)

@@ -18,6 +18,7 @@ pub mod GrammarTraitLemmas
 pub mod GroupLemmas
 pub mod GroupReaderLemmas
 pub mod GuardLemmas
+pub mod HandedLemmas
 pub mod KeepLemmas
 pub mod LocalityLemmas
 pub mod LongestLemmas
@@ -28,7 +29,9 @@ pub mod ReaderLemmas
 pub mod ScanLemmas
 pub mod SimpleReaderLemmas
 pub mod SizeLemmas
+pub mod SplitLemmas
 pub mod StripLemmas
 pub mod CaseLemmas
 pub mod TokenLemmas
+pub mod TreePlaceLemmas
 pub mod UnstyledLemmas

@@ -1,4 +1,4 @@
--- Fronts of a text, and what stands after them.
+-- Fronts of a text, and what follows them.
 use Rattle.std.proofs.Common.{◌≡◌, ℕ, ◌+◌, ◌≤◌, Bool, List, [], ◌∷◌, ◌++◌, length, arith, refl, ap}
 use Rattle.std.proofs.Common.{◌∙◌, sym, subst, inr, ◌⊎◌, append_assoc}
 use Rattle.std.specs.Char.{len_utf8}
@@ -13,7 +13,7 @@ pub size-append : (xs ys : List ℕ) → size (xs ++ ys) ≡ size xs + size ys
 size-append [] ys = omega arith
 size-append (c ∷ cs) ys = omega (arith, size-append cs ys)
 
--- q stands after a front of the text at a, at its place
+-- q comes after a front of the text at a, at its place
 pub record Takes (a q : At) : Type 0 where
   pub front : List ℕ
   pub split : a.text ≡ front ++ q.text
@@ -46,7 +46,7 @@ takes_after passes a = record {
   place = refl;
 }
 
--- what stands after a front is no longer
+-- what follows a front is no longer
 pub takes_shorter : (a q : At) → Takes a q → length q.text ≤ length a.text
 takes_shorter a q h = omega (arith, ap length h.split, length-append h.front q.text)
 
@@ -56,7 +56,7 @@ pub takes_reaches :
 takes_reaches n a q h e =
     omega (arith, e, h.place, ap size h.split, size-append h.front q.text)
 
--- a closing brace stands somewhere
+-- there is a closing brace somewhere
 abbrev pub Guarded : List ℕ → Type 0
 Guarded [] = ⊥
 Guarded (c ∷ cs) = (c ≡ close_brace) ⊎ Guarded cs
@@ -65,10 +65,10 @@ guarded_after : (front cs : List ℕ) → Guarded cs → Guarded (front ++ cs)
 guarded_after [] cs h = h
 guarded_after (c ∷ front) cs h = inr (guarded_after front cs h)
 
--- a closing brace after a front stands in the text
+-- a closing brace after a front is in the text
 pub takes_guards : (a q : At) → Takes a q → Guarded q.text → Guarded a.text
 takes_guards a q h guard = subst Guarded (sym h.split) (guarded_after h.front q.text guard)
 
--- the same place, and more after the text
+-- a text at its place, with more after it
 abbrev pub with_more : At → List ℕ → At
 with_more a more = record { place = a.place; text = a.text ++ more }

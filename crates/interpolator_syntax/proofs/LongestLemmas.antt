@@ -26,7 +26,7 @@ module _ (passes : ℕ → Bool) where
       cond_both (passes d) _ _ (λ xs. xs ≡ c ∷ more → passes c ≡ false)
       (λ e. after_stops ds c more) (λ e k. let same : d ≡ c = cc in ap passes (sym same) ∙ e) h
 
-  -- the front and what stands after it are the longest front and its rest
+  -- the front and what follows it are the longest front and its rest
   pub front_longest : (cs : List ℕ) → IsLongest passes cs (front_of passes cs) (after_of passes cs)
   front_longest cs =
       record {

@@ -1,4 +1,4 @@
--- The pieces of a text: the first, and then those of what stands after it.
+-- The pieces of a text: the first, and then those of what follows it.
 use Rattle.std.proofs.Common.{◌≡◌, ℕ, zero, suc, ◌<◌, ◌≤◌, List, [], ◌∷◌, length, arith, refl, ap}
 use Rattle.std.proofs.Common.{◌∙◌, sym, Option, Some, None, Result, Ok, Err}
 use Rattle.interpolator_syntax.specs.At.{At, strip}
@@ -25,7 +25,7 @@ below : (P : At → Type 0) → ((a : At) → ((b : At) → length b.text < leng
 below P step zero a h = absurd (omega (arith, h))
 below P step (suc n) a h = step a (λ b l. below P step n b (omega (arith, h, l)))
 
--- what holds of a text where it holds of each shorter one holds of all
+-- what holds of a text if it holds of each shorter one holds of all
 pub by_length : (P : At → Type 0)
     → ((a : At) → ((b : At) → length b.text < length a.text → P b) → P a) → (a : At) → P a
 by_length P step a = below P step (suc (length a.text)) a (omega arith)
@@ -108,7 +108,7 @@ enough (suc n) (suc m) a h k =
     leading_same a (nodes_within n) (nodes_within m)
     (λ b l. enough n m b (omega (arith, h, l)) (omega (arith, k, l))) (first_token a) refl
 
--- the pieces of a text are the first one, and those of what stands after it
+-- the pieces of a text are the first one, and those of what follows it
 pub nodes_lead : (a : At) → nodes a ≡ leading_nodes nodes a.place (first_token a)
 unfolding nodes
 nodes_lead a =

@@ -23,7 +23,7 @@ after_shorter passes (c ∷ cs) =
     elim (passes c) as (λ b. length (cond b (after_of passes cs) (c ∷ cs)) ≤ length (c ∷ cs))
     [ true ↦ omega (arith, after_shorter passes cs) | false ↦ omega arith ]
 
--- what stands after a character, if it stands there, is no longer than so many characters
+-- what follows a character, if it is there, is no longer than so many characters
 abbrev pub OptionWithin : ℕ → Option At → Type 0
 OptionWithin n None = Unit {0}
 OptionWithin n (Some rest) = length rest.text ≤ n
@@ -33,7 +33,7 @@ pub strip_within : (c p : ℕ) (cs : List ℕ) (n : ℕ) → length cs ≤ n
 strip_within c p [] n h = tt
 strip_within c p (d ∷ ds) n h = in_both (OptionWithin n) (eqb d c) _ _ (omega arith) tt
 
--- what stands after a character that stands there
+-- what follows a character that is there
 pub strip_after : (c p : ℕ) (cs : List ℕ) (r : At) → strip_of c p cs ≡ Some r
     → (cs ≡ c ∷ r.text) × (r.place ≡ p + len_utf8 c)
 strip_after c p [] r e = absurd (none_some e)
@@ -62,7 +62,7 @@ argument_from_within p b = argument_or_broken_within p b (argument_at b) refl
 pub piece_within : (p c : ℕ) (b : At) → length (piece_from p c b).rest.text ≤ length b.text
 piece_within p c b = grind (arith, argument_from_within p b)
 
--- a piece stands where it begins
+-- a piece is where it begins
 abbrev BeginsAt : ℕ → Step → Type 0
 BeginsAt p s = s.piece.place ≡ p
 
@@ -85,7 +85,7 @@ pub pieces_none : (p : ℕ) → pieces (record { place = p; text = [] }) ≡ []
 unfolding pieces
 pieces_none p = refl
 
--- the first piece, and then those of what stands after it
+-- the first piece, and then those of what follows it
 pub pieces_next : (p c : ℕ) (cs : List ℕ)
     → pieces (record { place = p; text = c ∷ cs }) ≡ (piece_from p c (past p c cs)).piece ∷ pieces
     (piece_from p c (past p c cs)).rest

@@ -1,4 +1,4 @@
--- What the reader of an argument keeps: what it takes, where its faults lie, and what it answers
+-- What the reader of an argument keeps: what it takes, if its faults lie, and what it answers
 -- elsewhere.
 use Rattle.std.proofs.Common.{◌≡◌, ℕ, ◌+◌, ◌≤◌, List, [], arith, refl, ap, ◌∙◌, sym, Result, Ok}
 use Rattle.std.proofs.Common.{Err, None, inl, inr, append-nil}

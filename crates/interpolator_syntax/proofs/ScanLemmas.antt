@@ -1,4 +1,4 @@
--- What the scan hands on first, in pieces, and then the pieces of what stands after it.
+-- What the scan hands on first, in pieces, and then the pieces of what follows it.
 use Rattle.std.proofs.Common.{◌≡◌, ℕ, ◌+◌, Bool, true, false, eqb, List, [], ◌∷◌, ◌++◌}
 use Rattle.std.proofs.Common.{arith, refl, ap, ◌∙◌, subst, Option, Some, None, eqb-true}
 use Rattle.std.specs.Char.{len_utf8}
@@ -16,16 +16,16 @@ use Rattle.interpolator_syntax.proofs.LocalityLemmas.{stands}
 use Rattle.interpolator_syntax.proofs.LongestLemmas.{at_same}
 use Rattle.interpolator_syntax.proofs.PieceLemmas.{literal_step, pieces_none, pieces_next}
 
--- the first piece of a text, and those of what stands after it
+-- the first piece of a text, and those of what follows it
 abbrev of_step : Step → List Piece
 of_step s = s.piece ∷ pieces s.rest
 
--- what the scan hands on at p, and then the pieces of what stands after it
+-- what the scan hands on at p, and then the pieces of what follows it
 abbrev of_scan : ℕ → Option (Token × At) → List Piece
 of_scan p None = []
 of_scan p (Some x) = token_pieces p x.0 x.1 ++ pieces (past_token x.0 x.1)
 
--- what stands after an argument is the same wherever its brace stands
+-- what follows an argument is the same wherever its brace is
 any_rest : (q p : ℕ) (b : At) → (argument_from q b).rest ≡ (argument_from p b).rest
 unfolding argument_from
 any_rest q p b = grind arith

@@ -28,7 +28,7 @@ module _ (s : Setting) where
         (front_of passes (cs ++ s.more) ≡ front_of passes cs)
         × (after_of passes (cs ++ s.more) ≡ after_of passes cs ++ s.more)
 
-    -- where a closing brace is left, it is the same whatever comes after the text
+    -- if a closing brace is left, it is the same whatever comes after the text
     same_front : (cs : List ℕ) → IsSettled s (after_of passes cs) → SameFront cs
     same_front cs (inr e) = rw (e, append-nil cs, append-nil (after_of passes cs)) (refl, refl)
     same_front [] (inl guard) = absurd guard

@@ -22,7 +22,7 @@ use Rattle.interpolator_syntax.proofs.LocalityLemmas.{takes_then, takes_shorter,
 
 -- ---- groups in a text
 
--- a group stands in the text at a, at its place, and is shorter
+-- a group is in the text at a, at its place, and is shorter
 pub record GroupIn (g : Group) (a : At) : Type 0 where
   pub front : List ℕ
   pub back : List ℕ
@@ -31,7 +31,7 @@ pub record GroupIn (g : Group) (a : At) : Type 0 where
   pub shorter : length g.text < length a.text
   pub lies : g.place + size g.text ≤ a.place + size a.text
 
--- so it does, where it stands
+-- so is a group, if there is one
 abbrev pub GroupIfIn : Option Group → At → Type 0
 GroupIfIn None a = ⊤
 GroupIfIn (Some g) a = GroupIn g a
@@ -109,7 +109,7 @@ argument_lies a b x q t e =
     }
 
 module _ (a b : At) (t : Takes a b) where
-  -- what stands after a brace
+  -- what follows a brace
   after_brace : (start : ℕ) (inner : List ℕ) → b.text ≡ open_brace ∷ inner → start ≡ b.place + 1
       → Takes a (stands start inner)
   after_brace start inner e k =

@@ -10,7 +10,7 @@ use Rattle.std.specs.declared.fmt.Error.{Error}
 use Rattle.std.proofs.Output.{has_written_styled_nil, has_written_styled_append}
 
 module _ {W : Type 0} (took : W → List ℕ → W → Type 0) where
-  -- what is written whatever the options is written where there are none
+  -- what is written whatever the options is written if there are none
   pub displays_plainly : (f g : Formatter W) (result : Result (Unit {0}) Error)
       (text : Option (List ℕ)) → DisplaysStyledOnOk took f result text g
       → DisplaysOnOk took f result text g

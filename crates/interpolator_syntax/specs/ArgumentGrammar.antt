@@ -10,8 +10,8 @@ use Rattle.interpolator_syntax.specs.SpecGrammar.{IsSpec, IsNoSpec}
 use Rattle.interpolator_syntax.specs.Faults.{Fault, parse, unclosed}
 use Rattle.interpolator_syntax.specs.declared.class.Class.TheVariants.{WhiteSpace, Name}
 
--- after all the white space at a stands the name, at p, up to the first `:` or `}`, and after the
--- name what stands at b
+-- after all the white space at a comes the name, at p, up to the first `:` or `}`, and after the
+-- name what is at b
 pub record IsNamed (a : At) (name : List ℕ) (p : ℕ) (b : At) : Type 0 where
   pub spaces : List ℕ
   pub white : IsLongest (in_class WhiteSpace) a.text spaces (name ++ b.text)
@@ -26,21 +26,21 @@ Asks start b x end =
     (IsFirst close_brace b.text × (x ≡ plain_display) × (end ≡ b))
     ⊎ ((m : At) × Lies b (colon ∷ []) m × IsSpec start m x end)
 
--- after the name nothing that asks: the text ends, or no spec stands after a `:`
+-- after the name nothing that asks: the text ends, or no spec follows a `:`
 abbrev pub AsksNothing : (start : ℕ) → (b : At) → (f : Fault) → Type 0
 AsksNothing start b f =
     ((b.text ≡ []) × (f ≡ parse (unclosed start)))
     ⊎ ((m : At) × Lies b (colon ∷ []) m × IsNoSpec start m f)
 
 -- what an argument asks
-abbrev pub asked : Argument → Request
-asked x = record { spec = x.spec; kind = x.kind }
+abbrev pub request_in : Argument → Request
+request_in x = record { spec = x.spec; kind = x.kind }
 
--- the argument that begins at a, and after it what stands at `end`
+-- the argument that begins at a, and after it what is at `end`
 pub record IsArgument (a : At) (x : Argument) (end : At) : Type 0 where
   pub after : At
   pub named : IsNamed a x.name x.name_place after
-  pub asks : Asks a.place after (asked x) end
+  pub asks : Asks a.place after (request_in x) end
 
 -- no argument begins at a, for this reason
 pub record IsNoArgument (a : At) (f : Fault) : Type 0 where

@@ -1,4 +1,4 @@
--- What stands after an opening brace.
+-- What follows an opening brace.
 use Rattle.std.specs.Prelude.{◌≡◌, ℕ, List, drop, Option, None, Some, option_map, Result, Ok, Err}
 use Rattle.std.specs.Str.{chars}
 use Rattle.interpolator_render.specs.declared.view.Spec.{Spec}
@@ -24,7 +24,7 @@ use Rattle.interpolator_syntax.specs.declared.argument.Request as code_request
 use Rattle.interpolator_syntax.specs.declared.argument.TakenArgument.{TakenArgument}
 use Rattle.interpolator_syntax.specs.declared.list.ListForm.{ListForm}
 
--- what stands in braces
+-- what is in braces
 pub record Argument : Type 0 where
   pub name : List ℕ
   pub name_place : ℕ
@@ -63,7 +63,7 @@ argument_after start x =
       asked ← asked_at start
       give (argument x.name x.name_place asked)
 
--- the argument that begins here, after its brace, and what stands after its spec; or why it is
+-- the argument that begins here, after its brace, and what follows its spec; or why it is
 -- broken
 unfoldable pub argument_at : Reader Argument
 argument_at = λ a. argument_parts a.place a
@@ -90,7 +90,7 @@ abbrev pub kind_under : Trait → ListRequest → Kind
 kind_under traits.Iter form = of_list form
 kind_under t form = of_value t
 
--- the same of what is asked, as the code has it
+-- a value or a list, by what is asked, as the code has it
 abbrev pub kind_of_request : code_request.Request → Kind
 kind_of_request x = kind_under x.slot (list_of x.list)
 
@@ -102,7 +102,7 @@ request_of x = record { spec = x.spec; kind = kind_of_request x }
 abbrev pub IsPlain : code_request.Request → Type 0
 IsPlain x = (x.slot ≡ traits.Display) × (x.spec ≡ plain_spec)
 
--- an argument as the code has it, without where it lies in memory
+-- an argument as the code has it, without if it lies in memory
 abbrev pub argument_of : code_argument.Argument → Argument
 argument_of x = argument (chars x.name.now) x.name_place
     (record { spec = x.spec; kind = kind_of x.kind })
@@ -115,7 +115,7 @@ named_argument n asked = argument (chars n.name.now) n.place asked
 abbrev pub plain_argument : ArgumentName → Argument
 plain_argument n = named_argument n plain_display
 
--- an argument that the code read, and what stands after its spec; or why it is broken
+-- an argument that the code read, and what follows its spec; or why it is broken
 abbrev pub taken_read : Result TakenArgument ArgumentFault → Result (Argument × At) Fault
 taken_read (Ok t) = Ok (named_argument t.name (request_of t.asked), at t.end)
 taken_read (Err broken) = Err (argument_fault_of broken)
@@ -146,7 +146,7 @@ abbrev pub asked_read : Result (Unit {0}) ArgumentFault → (x : code_request.Re
 asked_read (Ok _) x end = Ok (request_of x, end)
 asked_read (Err broken) x end = Err (argument_fault_of broken)
 
--- the same of a name's argument
+-- the argument of a name, read into x up to `end`; or why it is broken
 abbrev pub argument_read : ArgumentName → Result (Unit {0}) ArgumentFault → (x : code_request.Request)
     → (end : At) → Result (Argument × At) Fault
 argument_read n (Ok _) x end = Ok (named_argument n (request_of x), end)

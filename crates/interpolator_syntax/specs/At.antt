@@ -19,7 +19,7 @@ Placed = List (ℕ × ℕ)
 abbrev pub text_of : Placed → List ℕ
 text_of xs = map (λ x. x.0) xs
 
--- characters that stand in the format from a place on, one after the other
+-- characters of the format from a place on, one after the other
 abbrev pub placed_from : ℕ → List ℕ → Placed
 placed_from p [] = []
 placed_from p (c ∷ cs) = (c, p) ∷ placed_from (p + len_utf8 c) cs
@@ -37,33 +37,33 @@ pub record At : Type 0 where
 abbrev pub outermost : List ℕ → At
 outermost cs = record { place = 0; text = cs }
 
--- where a cursor stands
+-- the place of a cursor, and the text from there on
 abbrev pub at : Cursor → At
 at c = record { place = c.place; text = chars c.rest.now }
 
--- the first character of a text at a place, and what stands after it
+-- the first character of a text at a place, and what follows it
 abbrev pub first_of : ℕ → List ℕ → Option (ℕ × At)
 first_of p [] = None
 first_of p (c ∷ cs) = Some (c, record { place = p + len_utf8 c; text = cs })
 
--- the same of a text at a place
+-- the first character of a text, if there is one, and what follows it
 abbrev pub first : At → Option (ℕ × At)
 first a = first_of a.place a.text
 
--- what stands after the longest front whose characters pass
+-- what follows the longest front whose characters pass
 abbrev pub after : (ℕ → Bool) → At → At
 after passes a =
     record { place = a.place + size (front_of passes a.text); text = after_of passes a.text }
 
--- what stands after the character c, where the text begins with it
+-- what follows the character c, if the text begins with it
 abbrev pub strip_of : ℕ → ℕ → List ℕ → Option At
 strip_of c p [] = None
 strip_of c p (d ∷ ds) = if d == c then Some (record { place = p + len_utf8 d; text = ds }) else None
 
--- the same of a text at a place
+-- what follows the character c, if the text at a begins with it
 abbrev pub strip : ℕ → At → Option At
 strip c a = strip_of c a.place a.text
 
--- what stands after all of the text
+-- what follows all of the text
 abbrev pub all_after : At → At
 all_after a = record { place = a.place + size a.text; text = [] }

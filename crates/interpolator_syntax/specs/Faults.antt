@@ -1,4 +1,4 @@
--- What a fault says: its variant and its fields, where borrows and allocators do not count.
+-- What a fault says: its variant and its fields, borrows and allocators aside.
 use Rattle.std.specs.Prelude.{ℕ, ◌≤◌, List, Option, None, Some, Result, Ok, Err, string_bytes, ⊤}
 use Rattle.std.specs.Prelude.{codes}
 use Rattle.std.specs.Str.{chars}
@@ -63,9 +63,9 @@ answer_of (UnsupportedOption option feature place) =
 answer_of NoMemory = no_memory
 
 -- what a call answered beside its result: nothing for `Ok`
-abbrev pub answered : {A : Type 0} → Result A Error → Option Answer
-answered (Ok _) = None
-answered (Err error) = Some (answer_of error)
+abbrev pub result_answer : {A : Type 0} → Result A Error → Option Answer
+result_answer (Ok _) = None
+result_answer (Err error) = Some (answer_of error)
 
 -- why no argument can be read
 abbrev pub argument_fault_of : ArgumentFault → Fault
@@ -95,7 +95,7 @@ fault_place (parse f) = parse_place f
 fault_place (missing_value name place) = place
 fault_place (unsupported_option option feature place) = place
 
--- the place that an answer carries; none where memory was refused
+-- the place that an answer carries; none if memory was refused
 abbrev pub answer_place : Answer → Option ℕ
 answer_place (fault f) = Some (fault_place f)
 answer_place no_memory = None

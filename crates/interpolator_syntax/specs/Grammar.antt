@@ -34,7 +34,7 @@ pub record IsClosed (p start : ℕ) (x : Argument) (end : ℕ) (text rest : List
       argument_at (from_place start (inner ++ (close_brace ∷ rest)))
       ≡ Ok (x, from_place end (close_brace ∷ rest))
 
--- from a brace at p on all the rest: no closing brace stands where the argument after it ends
+-- from a brace at p on all the rest: no closing brace is if the argument after it ends
 pub record IsUnclosed (p start : ℕ) (x : Argument) (end : ℕ) (text rest : List ℕ) : Type 0 where
   pub inner : List ℕ
   pub left : List ℕ
@@ -44,14 +44,14 @@ pub record IsUnclosed (p start : ℕ) (x : Argument) (end : ℕ) (text rest : Li
   pub reads : argument_at (from_place start inner) ≡ Ok (x, from_place end left)
   pub not_closed : NotFirst close_brace left
 
--- from a brace at p on all the rest: no argument stands after it, for this reason
+-- from a brace at p on all the rest: no argument follows it, for this reason
 pub record IsBroken (p : ℕ) (f : Fault) (text rest : List ℕ) : Type 0 where
   pub inner : List ℕ
   pub takes_all : rest ≡ []
   pub in_front : text ≡ open_brace ∷ inner
   pub reads : argument_at (from_place (p + 1) inner) ≡ Err f
 
--- a piece of this kind and with this text may stand at p, in front of this rest
+-- a piece of this kind and with this text may be at p, in front of this rest
 abbrev pub Fits : (p : ℕ) → PieceKind → (text rest : List ℕ) → Type 0
 Fits p (doubled brace) text rest = IsTrue (is_brace brace) × (text ≡ brace ∷ brace ∷ [])
 Fits p (closed start x end) text rest = IsClosed p start x end text rest
@@ -60,13 +60,13 @@ Fits p (broken f) text rest = IsBroken p f text rest
 Fits p lone_close text rest = text ≡ close_brace ∷ []
 Fits p (literal c) text rest = text ≡ c ∷ []
 
--- the piece may stand first in the text, in front of this rest
+-- the piece may come first in the text, in front of this rest
 pub record Stands (a : At) (x : Piece) (rest : List ℕ) : Type 0 where
   pub place : x.place ≡ a.place
   pub split : a.text ≡ x.text ++ rest
   pub fits : Fits a.place x.kind x.text rest
 
--- and no piece that may stand there is of an earlier kind
+-- and no piece that may be there is of an earlier kind
 pub record StandsFirst (a : At) (x : Piece) (rest : List ℕ) : Type 0 where
   pub stands : Stands a x rest
   pub first : (y : Piece) (after : List ℕ) → Stands a y after → rank x.kind ≤ rank y.kind
@@ -80,7 +80,7 @@ IsPieces a (x ∷ xs) =
 
 -- ---- fronts of a text
 
--- the longest front of a text whose characters pass, and what stands after it
+-- the longest front of a text whose characters pass, and what follows it
 pub record IsLongest (passes : ℕ → Bool) (text front rest : List ℕ) : Type 0 where
   pub split : text ≡ front ++ rest
   pub pass : All (λ c. IsTrue (passes c)) front

@@ -1,5 +1,5 @@
--- Parts of a text by relation: what stands at a place, or the fault that it does not. A part reads
--- nothing, and parts stand one after the other.
+-- Parts of a text by relation: what is at a place, or the fault that it is not. A part reads
+-- nothing, and parts come one after the other.
 use Rattle.std.specs.Prelude.{◌≡◌, ◌≢◌, ◌⊎◌, ℕ, ◌+◌, Bool, true, false, IsTrue, IsFalse}
 use Rattle.std.specs.Prelude.{List, [], ◌∷◌, ◌++◌, Option, Some, None}
 use Rattle.interpolator_syntax.specs.At.{At, size}
@@ -11,14 +11,13 @@ use Rattle.interpolator_syntax.specs.declared.error.NumberError.{NumberError}
 use Rattle.interpolator_syntax.specs.declared.class.Class.{Class}
 use Rattle.interpolator_syntax.specs.declared.class.Class.TheVariants.{Number}
 
--- `is a x q`: x stands at a, and after it what stands at q; `is_not a f`: none stands at a, and f
--- is the fault
+-- `is a x q`: x is at a, and after it what is at q; `is_not a f`: none is at a, and f is the fault
 pub record Part (A : Type 0) : Type 1 where
   pub is : At → A → At → Type 0
   pub is_not : At → Fault → Type 0
 
 infixl 10 ◌>>=◌
--- a part and, after it, the next; the fault is of the first part that does not stand
+-- a part and, after it, the next; the fault is of the first part that is not there
 abbrev pub ◌>>=◌ : {A B : Type 0} → Part A → (A → Part B) → Part B
 ◌>>=◌ {A = A} part next = record {
   is = λ a y q. (x : A) × (b : At) × part.is a x b × (next x).is b y q;
@@ -31,24 +30,24 @@ abbrev pub ends : {A : Type 0} → A → Part A
 ends x = record { is = λ a y q. (y ≡ x) × (q ≡ a); is_not = λ a f. ⊥ }
 
 -- a part that tells its own place
-abbrev pub placed : {A : Type 0} → (ℕ → Part A) → Part A
-placed part =
+abbrev pub at_place : {A : Type 0} → (ℕ → Part A) → Part A
+at_place part =
     record { is = λ a. (part a.place).is a; is_not = λ a. (part a.place).is_not a }
 
 -- the text begins with the character c
 abbrev pub IsFirst : (c : ℕ) → List ℕ → Type 0
 IsFirst c text = (more : List ℕ) × (text ≡ c ∷ more)
 
--- the characters stand at a, and after them what stands at q
+-- the characters are at a, and after them what is at q
 pub record Lies (a : At) (cs : List ℕ) (q : At) : Type 0 where
   pub split : a.text ≡ cs ++ q.text
   pub place : q.place ≡ a.place + size cs
 
--- no letter of the table stands first
+-- no letter of the table comes first
 abbrev pub NoLetter : {A : Type 0} → (ℕ → Option A) → List ℕ → Type 0
 NoLetter table text = (c : ℕ) → IsFirst c text → table c ≡ None
 
--- a letter of the table stands there, and means x; or none does, and x is absent
+-- a letter of the table is there, and means x; or none is, and x is absent
 abbrev pub letter : {A : Type 0} → (ℕ → Option A) → (absent : A) → Part A
 letter table absent = record {
   is =
@@ -57,22 +56,22 @@ letter table absent = record {
   is_not = λ a f. ⊥;
 }
 
--- whether the character c stands there
+-- whether the character c is there
 abbrev pub flag : ℕ → Part Bool
 flag c = record {
   is = λ a x q. (Lies a (c ∷ []) q × (x ≡ true)) ⊎ (NotFirst c a.text × (x ≡ false) × (q ≡ a));
   is_not = λ a f. ⊥;
 }
 
--- a character that passes stands first
+-- a character that passes comes first
 abbrev pub FirstPasses : (ℕ → Bool) → List ℕ → Type 0
 FirstPasses passes text = (c : ℕ) × IsFirst c text × IsTrue (passes c)
 
--- no character that passes stands first
+-- no character that passes comes first
 abbrev pub NonePasses : (ℕ → Bool) → List ℕ → Type 0
 NonePasses passes text = (c : ℕ) → IsFirst c text → IsFalse (passes c)
 
--- a part that is there exactly where a character that passes stands first
+-- a part that is there exactly when a character that passes comes first
 abbrev pub where_first : {A : Type 0} → (ℕ → Bool) → Part (Option A) → Part (Option A)
 where_first passes part = record {
   is =
@@ -90,7 +89,7 @@ where_after c part = record {
   is_not = λ a f. (b : At) × Lies a (c ∷ []) b × part.is_not b f;
 }
 
--- the longest run of a class stands at a, and after it what stands at q
+-- the longest run of a class is at a, and after it what is at q
 pub record IsRun (class : Class) (a : At) (cs : List ℕ) (q : At) : Type 0 where
   pub longest : IsLongest (in_class class) a.text cs q.text
   pub place : q.place ≡ a.place + size cs
@@ -104,10 +103,10 @@ run class start = record {
       × (f ≡ parse (unclosed start));
 }
 
--- the run that stood at p spells a number
-abbrev pub spelled : {A : Type 0} → Spelling A → (NumberError → ℕ → ParseFault) → (p : ℕ)
+-- the run that was at p spells a number
+abbrev pub spelling_of : {A : Type 0} → Spelling A → (NumberError → ℕ → ParseFault) → (p : ℕ)
     → (cs : List ℕ) → Part (Option A)
-spelled {A = A} spelling wrong p cs = record {
+spelling_of {A = A} spelling wrong p cs = record {
   is = λ a x q. (n : A) × spelling.spells cs n × (x ≡ Some n) × (q ≡ a);
   is_not =
       λ a f. (kind : NumberError) × spelling.spells_none cs kind × (f ≡ parse (wrong kind p));
@@ -117,7 +116,7 @@ spelled {A = A} spelling wrong p cs = record {
 abbrev pub number : {A : Type 0} → Spelling A → (NumberError → ℕ → ParseFault) → (start : ℕ)
     → Part (Option A)
 number spelling wrong start =
-    placed (λ p.
+    at_place (λ p.
     do
       cs ← run Number start
-      spelled spelling wrong p cs)
+      spelling_of spelling wrong p cs)

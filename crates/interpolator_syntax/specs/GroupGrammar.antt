@@ -18,13 +18,13 @@ open_text k = sign_text k ++ (open_bracket ∷ [])
 abbrev pub close_text : ℕ → List ℕ
 close_text k = close_bracket ∷ sign_text k
 
--- no `)` of the inner text has k signs right after it, where `after` stands after that text
+-- no `)` of the inner text has k signs right after it, if `after` follows that text
 abbrev pub NoneCloses : (k : ℕ) → (inner after : List ℕ) → Type 0
 NoneCloses k inner after =
     (front more rest : List ℕ) → inner ≡ front ++ (close_bracket ∷ more)
     → more ++ after ≢ sign_text k ++ rest
 
--- the group that begins at a, in front of what stands at q: what opens it, the text, and what
+-- the group that begins at a, in front of what is at q: what opens it, the text, and what
 -- closes it, at the first place at which it closes
 pub record IsGroup (a : At) (g : Group) (q : At) : Type 0 where
   pub k : ℕ

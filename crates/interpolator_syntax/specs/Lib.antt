@@ -12,6 +12,7 @@ pub mod Arguments
 pub mod Pieces
 pub mod Tokens
 pub mod Nodes
+pub mod Splits
 pub mod NumberGrammar
 pub mod GroupGrammar
 pub mod Grammar

@@ -14,7 +14,7 @@ use Rattle.interpolator_syntax.specs.Faults.{Fault, range_bound}
 use Rattle.interpolator_syntax.specs.declared.class.Class.TheVariants.{Number}
 use Rattle.interpolator_syntax.specs.declared.range.Range.{Range}
 
--- a bound, where a digit or a `-` stands
+-- a bound, if there is a digit or a `-`
 abbrev pub bound : (start : ℕ) → Part (Option ℤ)
 bound start = where_first (in_class Number) (number integers range_bound start)
 
@@ -22,7 +22,7 @@ bound start = where_first (in_class Number) (number integers range_bound start)
 abbrev pub NoPoints : List ℕ → Type 0
 NoPoints text = (more : List ℕ) → text ≢ point ∷ point ∷ more
 
--- `..=`, or `..` where no `=` follows, and whether it is the one with `=`; or neither
+-- `..=`, or `..` if no `=` follows, and whether it is the one with `=`; or neither
 abbrev pub points : Part (Option Bool)
 points = record {
   is =
@@ -32,12 +32,12 @@ points = record {
   is_not = λ a f. ⊥;
 }
 
--- an upper bound may stand after points alone
+-- an upper bound may follow points alone
 abbrev pub upper : (start : ℕ) → Option Bool → Part (Option ℤ)
 upper start None = ends None
 upper start (Some inclusive) = bound start
 
--- a range: a bound, points and an upper bound, each where it stands; a bound alone is both bounds
+-- a range: a bound, points and an upper bound, each if it is there; a bound alone is both bounds
 abbrev pub range : (start : ℕ) → Part (Option Range)
 range start =
     do
@@ -46,11 +46,11 @@ range start =
       upper ← upper start inclusive
       ends (range_of lower inclusive upper)
 
--- this range, if one, stands at a, and after it what stands at q
+-- this range, if any, is at a, and after it what is at q
 abbrev pub IsRange : (start : ℕ) → (a : At) → (x : Option Range) → (q : At) → Type 0
 IsRange start = (range start).is
 
--- no range can stand at a, for this reason
+-- no range can be at a, for this reason
 abbrev pub IsNoRange : (start : ℕ) → (a : At) → (f : Fault) → Type 0
 IsNoRange start = (range start).is_not
 
@@ -62,7 +62,7 @@ opens_group c = c == open_bracket || c == hash
 abbrev pub group : (start : ℕ) → Part Group
 group start = record { is = IsGroup; is_not = IsNoGroup start }
 
--- a group, where a `(` or a `#` stands
+-- a group, if there is a `(` or a `#`
 abbrev pub group_there : (start : ℕ) → Part (Option Group)
 group_there start =
     where_first opens_group (do
@@ -78,10 +78,10 @@ list start =
       join ← group_there start
       ends (record { range = range; item = item; join = join })
 
--- x stands at a, after the letter of a list, and after it what stands at q
+-- x is at a, after the letter of a list, and after it what is at q
 abbrev pub IsList : (start : ℕ) → (a : At) → (x : ListRequest) → (q : At) → Type 0
 IsList start = (list start).is
 
--- why what stands after the letter is no list
+-- why what follows the letter is no list
 abbrev pub IsNoList : (start : ℕ) → (a : At) → (f : Fault) → Type 0
 IsNoList start = (list start).is_not

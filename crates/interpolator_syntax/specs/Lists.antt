@@ -15,7 +15,7 @@ pub record ListRequest : Type 0 where
 abbrev pub plain_list : ListRequest
 plain_list = record { range = None; item = None; join = None }
 
--- what stands after the letter `i` of the argument that begins at `start`
+-- what follows the letter `i` of the argument that begins at `start`
 unfoldable pub list_at : (start : ℕ) → Reader ListRequest
 list_at start =
     do

@@ -13,7 +13,7 @@ use Rattle.interpolator_syntax.specs.Faults.{range_bound, Fault, missing_trait_i
 use Rattle.interpolator_syntax.specs.Faults.{missing_value, unsupported_option}
 
 module _ (by : ℕ) where
-  -- the same text at a place that is so many bytes further on
+  -- a text at a place that is so many bytes further on
   abbrev pub moved_at : At → At
   moved_at a = record { place = a.place + by; text = a.text }
 
@@ -36,7 +36,7 @@ module _ (by : ℕ) where
   moved_fault (unsupported_option option feature place) =
       unsupported_option option feature (place + by)
 
-  -- a group: its text stands further on
+  -- a group: its text is further on
   abbrev pub moved_group : Group → Group
   moved_group g = record { text = g.text; place = g.place + by }
 

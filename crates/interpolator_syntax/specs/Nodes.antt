@@ -22,28 +22,28 @@ use Rattle.interpolator_syntax.specs.declared.piece_kind.PieceKind.TheVariants.{
 
 -- what an argument asks for, without its groups: a value under a trait, or a list, of which a range
 -- chooses the items
-pub data Bare : Type 0 where
-  bare_value : Trait → Bare
-  bare_list : (range : Option Range) → Bare
+pub data Target : Type 0 where
+  target_value : Trait → Target
+  target_list : (range : Option Range) → Target
 
--- the same of what stands in braces
-abbrev pub bare_of : Kind → Bare
-bare_of (of_value t) = bare_value t
-bare_of (of_list l) = bare_list l.range
+-- what is in braces, without its groups
+abbrev pub target_of : Kind → Target
+target_of (of_value t) = target_value t
+target_of (of_list l) = target_list l.range
 
--- what a piece comes to: text that is written, whose first character stands at `from`; a name, of
+-- what a piece comes to: text that is written, whose first character is at `from`; a name, of
 -- an argument that begins at `start` and whose spec ends at `end`; or a fault
-pub data Held : Type 0 where
-  written : (from : ℕ) (text : List ℕ) → Held
-  valued : (start : ℕ) (name : List ℕ) (spec : Spec) (bare : Bare) (end : ℕ) → Held
-  refused : (fault : Fault) → Held
+pub data Content : Type 0 where
+  text_content : (from : ℕ) (text : List ℕ) → Content
+  argument_content : (start : ℕ) (name : List ℕ) (spec : Spec) (bare : Target) (end : ℕ) → Content
+  fault_content : (fault : Fault) → Content
 
 mutual
   -- a piece from byte `place` up to `end`, with the pieces of its item format and of its join;
-  -- where `held` is None, what is stored of it fits no text
+  -- if `held` is None, what is stored of it fits no text
   pub data Node : Type 0 where
     node :
-        (place end : ℕ) (kind : told.PieceKind) (held : Option Held) (item join : Branch) → Node
+        (place end : ℕ) (kind : told.PieceKind) (held : Option Content) (item join : Branch) → Node
 
   -- the pieces of a group, if there is one
   pub data Branch : Type 0 where
@@ -65,9 +65,9 @@ abbrev pub as_branch : Option (List Node) → Branch
 as_branch None = no_branch
 as_branch (Some xs) = branch (as_forest xs)
 
--- a piece that is written as it stands, from its first byte on
+-- a piece that is written as it is, from its first byte on
 abbrev pub text_node : (p end : ℕ) → told.PieceKind → List ℕ → Node
-text_node p end kind cs = node p end kind (Some (written p cs)) no_branch no_branch
+text_node p end kind cs = node p end kind (Some (text_content p cs)) no_branch no_branch
 
 -- `run` gives the pieces of a text within this one
 module _ (run : At → List Node) where
@@ -88,7 +88,7 @@ module _ (run : At → List Node) where
   -- an argument that begins at `start` and whose spec ends at `q`
   abbrev pub argument_node : (p end : ℕ) → told.PieceKind → (start : ℕ) → Argument → (q : ℕ) → Node
   argument_node p end kind start x q =
-      node p end kind (Some (valued start x.name x.spec (bare_of x.kind) q))
+      node p end kind (Some (argument_content start x.name x.spec (target_of x.kind) q))
       (item_branch x.kind) (join_branch x.kind)
 
   -- a piece from p up to `end`, by its kind
@@ -98,9 +98,9 @@ module _ (run : At → List Node) where
   piece_node p end lone_close = text_node p end LoneClose (close_brace ∷ [])
   piece_node p end (closed start x q) = argument_node p end Closed start x q
   piece_node p end (unclosed start x q) = argument_node p end Unclosed start x q
-  piece_node p end (broken f) = node p end Broken (Some (refused f)) no_branch no_branch
+  piece_node p end (broken f) = node p end Broken (Some (fault_content f)) no_branch no_branch
 
-  -- what the scan hands on at p, where b stands after it
+  -- what the scan hands on at p, if b comes after it
   abbrev pub token_node : (p : ℕ) → Token → (b : At) → Node
   token_node p (literals cs) b = text_node p b.place Literal cs
   token_node p (doubled_token c) b = text_node p b.place Doubled (c ∷ [])
@@ -108,7 +108,7 @@ module _ (run : At → List Node) where
   token_node p argument b =
       let s = argument_from b.place b in piece_node p s.rest.place s.piece.kind
 
-  -- the first piece at p, and then the pieces of what stands after it
+  -- the first piece at p, and then the pieces of what follows it
   abbrev pub leading_nodes : (p : ℕ) → Option (Token × At) → List Node
   leading_nodes p None = []
   leading_nodes p (Some w) = token_node p w.0 w.1 ∷ run (past_token w.0 w.1)
@@ -118,6 +118,6 @@ abbrev pub nodes_within : (most : ℕ) → At → List Node
 nodes_within zero a = []
 nodes_within (suc most) a = leading_nodes (nodes_within most) a.place (first_token a)
 
--- the pieces of a text: what stands after a piece, and each group, is shorter than the text
+-- the pieces of a text: what follows a piece, and each group, is shorter than the text
 unfoldable pub nodes : At → List Node
 nodes a = nodes_within (length a.text) a

@@ -3,7 +3,7 @@ use Rattle.std.specs.Prelude.{◌≡◌, ◌≢◌, ◌⊎◌, ℕ, ℤ, pos, �
 use Rattle.std.specs.Prelude.{IsTrue, IsFalse, All, List, [], ◌∷◌, ◌++◌, length}
 use Rattle.std.specs.Char.{is_ascii_digit}
 use Rattle.interpolator_syntax.specs.Classes.{zero_digit, minus}
-use Rattle.interpolator_syntax.specs.Numbers.{negated}
+use Rattle.interpolator_syntax.specs.Numbers.{negation}
 use Rattle.interpolator_syntax.specs.declared.error.NumberError.{NumberError}
 use Rattle.interpolator_syntax.specs.declared.error.NumberError.TheVariants.{Empty, InvalidDigit}
 use Rattle.interpolator_syntax.specs.declared.error.NumberError.TheVariants.{PosOverflow}
@@ -61,9 +61,9 @@ abbrev pub IsInteger : (text : List ℕ) (z : ℤ) → Type 0
 IsInteger text z =
     ((n : ℕ) × IsNumber (2 ^ 63) text n × (z ≡ pos n))
     ⊎ ((after : List ℕ) × (n : ℕ) × IsSigned text after × IsNumber (2 ^ 63 + 1) after n
-    × (z ≡ negated n))
+    × (z ≡ negation n))
 
--- the text spells no integer of 64 bits, for this reason: where it has a sign, what stands after
+-- the text spells no integer of 64 bits, for this reason: if it has a sign, what follows
 -- the sign decides
 abbrev pub IsNoInteger : (text : List ℕ) (kind : NumberError) → Type 0
 IsNoInteger text kind =

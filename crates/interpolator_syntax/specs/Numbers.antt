@@ -24,7 +24,7 @@ digits_after limit overflow n (c ∷ cs) =
     else Err overflow)
     else Err InvalidDigit
 
--- the number of such digits, of which there is at least one; `none` where there is none
+-- the number of such digits, of which there is at least one; `none` if there is none
 abbrev pub digits_or : (none : NumberError) → (limit : ℕ) → (overflow : NumberError) → List ℕ
     → Result ℕ NumberError
 digits_or none limit overflow [] = Err none
@@ -36,22 +36,22 @@ natural [] = Err Empty
 natural (c ∷ cs) = digits_after (2 ^ 64) PosOverflow 0 (c ∷ cs)
 
 -- a number read from digits, under its sign
-abbrev pub signed : (ℕ → ℤ) → Result ℕ NumberError → Result ℤ NumberError
-signed sign (Ok n) = Ok (sign n)
-signed sign (Err kind) = Err kind
+abbrev pub with_sign : (ℕ → ℤ) → Result ℕ NumberError → Result ℤ NumberError
+with_sign sign (Ok n) = Ok (sign n)
+with_sign sign (Err kind) = Err kind
 
 -- a number taken from zero
-abbrev pub negated : ℕ → ℤ
-negated n = neg_ℤ (pos n)
+abbrev pub negation : ℕ → ℤ
+negation n = neg_ℤ (pos n)
 
 -- the digits after a `-`, of which there is at least one
 abbrev pub negative : List ℕ → Result ℤ NumberError
 negative [] = Err InvalidDigit
-negative (c ∷ cs) = signed negated (digits_after (2 ^ 63 + 1) NegOverflow 0 (c ∷ cs))
+negative (c ∷ cs) = with_sign negation (digits_after (2 ^ 63 + 1) NegOverflow 0 (c ∷ cs))
 
 -- a number that may have a `-` in front, of 64 bits
 abbrev pub integer : List ℕ → Result ℤ NumberError
 integer [] = Err Empty
 integer (c ∷ cs) =
     if c == minus then negative cs
-    else signed pos (digits_after (2 ^ 63) PosOverflow 0 (c ∷ cs))
+    else with_sign pos (digits_after (2 ^ 63) PosOverflow 0 (c ∷ cs))

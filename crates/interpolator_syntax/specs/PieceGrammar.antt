@@ -13,8 +13,8 @@ use Rattle.interpolator_syntax.specs.Pieces.{argument_from}
 use Rattle.interpolator_syntax.specs.Tokens.{Token, literals, argument}
 use Rattle.interpolator_syntax.specs.Tokens.{doubled as doubled_token, lone_close as lone_token}
 
--- from a brace at p to its closing brace: an argument stands after the one, and ends in front of
--- the other
+-- from a brace at p to its closing brace: an argument follows the one, and ends in front of the
+-- other
 pub record ClosedStands (p start : ℕ) (x : Argument) (end : ℕ) (text rest : List ℕ) : Type 0 where
   pub inner : List ℕ
   pub in_braces : text ≡ open_brace ∷ (inner ++ (close_brace ∷ []))
@@ -23,7 +23,7 @@ pub record ClosedStands (p start : ℕ) (x : Argument) (end : ℕ) (text rest : 
       IsArgument (from_place start (inner ++ (close_brace ∷ rest))) x
       (from_place end (close_brace ∷ rest))
 
--- from a brace at p on all the rest: an argument stands after it, and no closing brace where that
+-- from a brace at p on all the rest: an argument follows it, and no closing brace is where that
 -- ends
 pub record UnclosedStands (p start : ℕ) (x : Argument) (end : ℕ) (text rest : List ℕ) : Type 0 where
   pub inner : List ℕ
@@ -34,7 +34,7 @@ pub record UnclosedStands (p start : ℕ) (x : Argument) (end : ℕ) (text rest 
   pub stands : IsArgument (from_place start inner) x (from_place end left)
   pub not_closed : NotFirst close_brace left
 
--- from a brace at p on all the rest: no argument stands after it, for this reason
+-- from a brace at p on all the rest: no argument follows it, for this reason
 pub record BrokenStands (p : ℕ) (f : Fault) (text rest : List ℕ) : Type 0 where
   pub inner : List ℕ
   pub takes_all : rest ≡ []
@@ -49,7 +49,7 @@ literal_pieces p [] = []
 literal_pieces p (c ∷ cs) =
     record { place = p; text = c ∷ []; kind = literal c } ∷ literal_pieces (p + len_utf8 c) cs
 
--- what the scan hands on at p in pieces, where b stands after it
+-- what the scan hands on at p in pieces, if b comes after it
 abbrev pub token_pieces : (p : ℕ) → Token → (b : At) → List Piece
 token_pieces p (literals cs) b = literal_pieces p cs
 token_pieces p (doubled_token c) b =

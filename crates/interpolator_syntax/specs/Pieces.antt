@@ -16,31 +16,31 @@ pub data PieceKind : Type 0 where
   unclosed : (start : ℕ) (argument : Argument) (end : ℕ) → PieceKind
   broken : (fault : Fault) → PieceKind
 
--- a piece: where it stands, its text, and what it is
+-- a piece: its place, its text, and what it is
 pub record Piece : Type 0 where
   pub place : ℕ
   pub text : List ℕ
   pub kind : PieceKind
 
--- a piece, and what stands after it
+-- a piece, and what follows it
 pub record Step : Type 0 where
   pub piece : Piece
   pub rest : At
 
--- a piece by its parts, and what stands after it
+-- a piece by its parts, and what follows it
 abbrev pub step : ℕ → List ℕ → PieceKind → At → Step
 step p text kind rest =
     record { piece = record { place = p; text = text; kind = kind }; rest = rest }
 
--- from a brace at p on all the rest, which stands at b after the brace
+-- from a brace at p on all the rest, which begins at b after the brace
 abbrev pub takes_all : ℕ → At → PieceKind → Step
 takes_all p b kind = step p (open_brace ∷ b.text) kind (all_after b)
 
--- the text from a brace up to a rest that stands after it
+-- the text from a brace up to a rest that follows it
 abbrev pub text_up_to : At → At → List ℕ
 text_up_to b rest = take (length (open_brace ∷ b.text) - length rest.text) (open_brace ∷ b.text)
 
--- an argument whose spec ends at `end`, and what stands after a closing brace there, if one does
+-- an argument whose spec ends at `end`, and what follows a closing brace there, if there is one
 abbrev pub argument_step : ℕ → At → Argument → At → Option At → Step
 argument_step p b x end None = takes_all p b (unclosed b.place x end.place)
 argument_step p b x end (Some rest) = step p (text_up_to b rest) (closed b.place x end.place) rest
@@ -54,24 +54,24 @@ argument_or_broken p b (Err f) = takes_all p b (broken f)
 unfoldable pub argument_from : ℕ → At → Step
 argument_from p b = argument_or_broken p b (argument_at b)
 
--- an opening brace at p: doubled, where a second stands after it
+-- an opening brace at p: doubled, if a second follows it
 abbrev pub open_step : ℕ → At → Option At → Step
 open_step p b (Some rest) = step p (open_brace ∷ open_brace ∷ []) (doubled open_brace) rest
 open_step p b None = argument_from p b
 
--- a closing brace at p: doubled, where a second stands after it
+-- a closing brace at p: doubled, if a second follows it
 abbrev pub close_step : ℕ → At → Option At → Step
 close_step p b (Some rest) = step p (close_brace ∷ close_brace ∷ []) (doubled close_brace) rest
 close_step p b None = step p (close_brace ∷ []) lone_close b
 
--- the first piece of a text that begins with c at p, where the rest stands at b
+-- the first piece of a text that begins with c at p, if the rest is at b
 abbrev pub piece_from : ℕ → ℕ → At → Step
 piece_from p c b =
     if c == open_brace then open_step p b (strip open_brace b)
     else (if c == close_brace then close_step p b (strip close_brace b)
     else step p (c ∷ []) (literal c) b)
 
--- what stands after the character c at p
+-- what follows the character c at p
 abbrev pub past : ℕ → ℕ → List ℕ → At
 past p c cs = record { place = p + len_utf8 c; text = cs }
 

@@ -18,30 +18,30 @@ bound_or p (Err kind) = λ a. Err (parse (range_bound kind p))
 abbrev pub bound_at : (start : ℕ) → Reader (Option ℤ)
 bound_at start = λ a. (run (in_class Number) start >>= λ cs. bound_or a.place (integer cs)) a
 
--- a bound where a digit or a `-` stands first
+-- a bound, if a digit or a `-` comes first
 abbrev pub if_number : Reader (Option ℤ) → (a : At) → Option (ℕ × At) → Result (Option ℤ × At) Fault
 if_number read a None = Ok (None, a)
 if_number read a (Some w) = if in_class Number w.0 then read a else Ok (None, a)
 
--- a bound, if one stands here
+-- a bound, if there is one here
 abbrev pub bound_if : (start : ℕ) → Reader (Option ℤ)
 bound_if start = λ a. if_number (bound_at start) a (first a)
 
--- after a point at a: a second one, and whether a `=` stands after that
+-- after a point at a: a second one, and whether a `=` follows that
 abbrev pub second_point : (a : At) → Option At → Result (Option Bool × At) Fault
 second_point a None = Ok (None, a)
 second_point a (Some rest) = (flag equals >>= λ inclusive. give (Some inclusive)) rest
 
--- after a point, if one stands at a
+-- after a point, if one is at a
 abbrev pub first_point : (a : At) → Option At → Result (Option Bool × At) Fault
 first_point a None = Ok (None, a)
 first_point a (Some rest) = second_point a (strip point rest)
 
--- `..` or `..=`, if one stands here: whether it is the one with `=`
+-- `..` or `..=`, if there is one here: whether it is the one with `=`
 abbrev pub points : Reader (Option Bool)
 points = λ a. first_point a (strip point a)
 
--- after `..` or `..=` an upper bound may stand
+-- after `..` or `..=` an upper bound may follow
 abbrev pub upper_at : (start : ℕ) → Option Bool → Reader (Option ℤ)
 upper_at start None = give None
 upper_at start (Some inclusive) = bound_if start
@@ -54,7 +54,7 @@ range_of (Some n) None upper =
     Some (record { lower = Some n; inclusive = true; upper = Some n })
 range_of None None upper = None
 
--- a range, if one stands here, of the argument that begins at `start`
+-- a range, if there is one here, of the argument that begins at `start`
 unfoldable pub range_at : (start : ℕ) → Reader (Option Range)
 range_at start =
     do

@@ -6,7 +6,7 @@ use Rattle.interpolator_syntax.specs.Classes.{front_of, in_class}
 use Rattle.interpolator_syntax.specs.Faults.{Fault, parse, unclosed}
 use Rattle.interpolator_syntax.specs.declared.class.Class.{Class}
 
--- what stands at the front of a text, and the text after it; or a fault
+-- what is at the front of a text, and the text after it; or a fault
 abbrev pub Reader : Type 0 → Type 0
 Reader A = At → Result (A × At) Fault
 
@@ -32,18 +32,18 @@ here = λ a. Ok (a.place, a)
 abbrev pub span : Class → Reader (List ℕ)
 span class = λ a. Ok (front_of (in_class class) a.text, after (in_class class) a)
 
--- the first character is read where it means something
+-- the first character is read if it means something
 abbrev pub read_or_stay : {A : Type 0} → A → (a rest : At) → Option A → Result (A × At) Fault
 read_or_stay absent a rest None = Ok (absent, a)
 read_or_stay absent a rest (Some x) = Ok (x, rest)
 
--- the same of a text that may be empty
+-- the first character, if there is one, is read if it means something
 abbrev pub letter_first : {A : Type 0} → (ℕ → Option A) → A → At → Option (ℕ × At)
     → Result (A × At) Fault
 letter_first table absent a None = Ok (absent, a)
 letter_first table absent a (Some w) = read_or_stay absent a w.1 (table w.0)
 
--- a letter of a table, which is read; or, where none stands, that it is absent
+-- a letter of a table, which is read; or, if there is none, that it is absent
 abbrev pub letter : {A : Type 0} → (ℕ → Option A) → A → Reader A
 letter table absent = λ a. letter_first table absent a (first a)
 
@@ -52,11 +52,11 @@ abbrev pub was_there : At → Option At → Result (Bool × At) Fault
 was_there a None = Ok (false, a)
 was_there a (Some rest) = Ok (true, rest)
 
--- whether that character stands here; it is read
+-- whether that character is here; it is read
 abbrev pub flag : ℕ → Reader Bool
 flag c = λ a. was_there a (strip c a)
 
--- a run, where the text goes on after it
+-- a run, if the text goes on after it
 abbrev pub run_before : (start : ℕ) → List ℕ → (rest : At) → List ℕ → Result (List ℕ × At) Fault
 run_before start cs rest [] = Err (parse (unclosed start))
 run_before start cs rest (d ∷ ds) = Ok (cs, rest)

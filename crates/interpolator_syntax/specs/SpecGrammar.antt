@@ -1,4 +1,4 @@
--- A spec's text as its parts, one after the other, each where its first character stands.
+-- A spec's text as its parts, one after the other, each there if its first character is.
 use Rattle.std.specs.Prelude.{◌≡◌, ◌≢◌, ◌⊎◌, ℕ, ◌≤◌, ◌||◌, Bool, IsTrue, IsFalse, All}
 use Rattle.std.specs.Prelude.{List, [], ◌∷◌, length, Option, Some, None, codes, ⊤}
 use Rattle.std.specs.Char.{is_ascii_digit}
@@ -13,7 +13,7 @@ use Rattle.interpolator_syntax.specs.At.{At}
 use Rattle.interpolator_syntax.specs.Classes.{is_alignment, hash, zero_digit, point, open_brace}
 use Rattle.interpolator_syntax.specs.Classes.{close_brace, question_mark, lower_p}
 use Rattle.interpolator_syntax.specs.SpecTexts.{Kind, of_value, of_list, Request, plain_display}
-use Rattle.interpolator_syntax.specs.SpecTexts.{Wanted, wanted, alignment_letter, sign_letter}
+use Rattle.interpolator_syntax.specs.SpecTexts.{Wanted, trait_alone, alignment_letter, sign_letter}
 use Rattle.interpolator_syntax.specs.NumberGrammar.{naturals}
 use Rattle.interpolator_syntax.specs.Grammar.{NotFirst}
 use Rattle.interpolator_syntax.specs.GrammarParts.{Part, ◌>>=◌, ends, IsFirst, Lies, letter, flag}
@@ -22,11 +22,11 @@ use Rattle.interpolator_syntax.specs.ListGrammar.{list}
 use Rattle.interpolator_syntax.specs.Faults.{Fault, parse, unclosed, expected, fill as no_fill}
 use Rattle.interpolator_syntax.specs.Faults.{invalid_width, invalid_precision, unsupported_option}
 
--- a number, where a digit stands
+-- a number, if there is a digit
 abbrev pub width : (start : ℕ) → Part (Option ℕ)
 width start = where_first is_ascii_digit (number naturals invalid_width start)
 
--- a number after a `.`, where one stands
+-- a number after a `.`, if there is one
 abbrev pub precision : (start : ℕ) → Part (Option ℕ)
 precision start = where_after point (number naturals invalid_precision start)
 
@@ -44,22 +44,22 @@ trait_text traits.UpperExp hex_debugs.No = Some (codes "E")
 trait_text traits.Iter hex_debugs.No = Some (codes "i")
 trait_text _ _ = None
 
--- `x` and `X` end only where no `?` follows
+-- `x` and `X` end only if no `?` follows
 abbrev pub MayEnd : Trait → (rest : List ℕ) → Type 0
 MayEnd traits.LowerHex rest = NotFirst question_mark rest
 MayEnd traits.UpperHex rest = NotFirst question_mark rest
 MayEnd _ rest = ⊤
 
--- display is asked for in front of a `}`, and at the end of the text where no `#` or `0` was read
+-- display is asked for in front of a `}`, and at the end of the text if no `#` or `0` was read
 abbrev pub AsksDisplay : (flagged : Bool) → (text : List ℕ) → Type 0
 AsksDisplay flagged text = IsFirst close_brace text ⊎ ((text ≡ []) × IsFalse flagged)
 
--- a trait's text, or nothing for display; why there is none: the text ends, a `p` stands there, or
+-- a trait's text, or nothing for display; why there is none: the text ends, there is a `p`, or
 -- another character that begins no trait
-abbrev pub shown : (start : ℕ) → (flagged : Bool) → Part Wanted
-shown start flagged = record {
+abbrev pub trait_part : (start : ℕ) → (flagged : Bool) → Part Wanted
+trait_part start flagged = record {
   is =
-      λ a x q. (AsksDisplay flagged a.text × (x ≡ wanted traits.Display) × (q ≡ a))
+      λ a x q. (AsksDisplay flagged a.text × (x ≡ trait_alone traits.Display) × (q ≡ a))
       ⊎ ((cs : List ℕ) × (trait_text x.slot x.hex_debug ≡ Some cs) × Lies a cs q
       × MayEnd x.slot q.text);
   is_not =
@@ -70,7 +70,7 @@ shown start flagged = record {
       × (f ≡ parse (expected (codes "}") a.place))));
 }
 
--- what is asked for under a trait: after the letter of a list stands how it is written
+-- what is asked for under a trait: after the letter of a list comes how it is written
 abbrev pub kind : (start : ℕ) → Trait → Part Kind
 kind start traits.Iter =
     do
@@ -87,8 +87,8 @@ from_sign start fill alignment =
       zero ← flag zero_digit
       width ← width start
       precision ← precision start
-      shown ← shown start (alternate || zero)
-      kind ← kind start shown.slot
+      trait_part ← trait_part start (alternate || zero)
+      kind ← kind start trait_part.slot
       ends (record {
         spec = record {
           fill = fill;
@@ -98,20 +98,20 @@ from_sign start fill alignment =
           zero = zero;
           width = width;
           precision = precision;
-          hex_debug = shown.hex_debug;
+          hex_debug = trait_part.hex_debug;
         };
         kind = kind;
       })
 
--- the character c stands at a, and at q an alignment
+-- the character c is at a, and at q an alignment
 abbrev pub Fills : (c : ℕ) → (a q : At) → Type 0
 Fills c a q = Lies a (c ∷ []) q × FirstPasses is_alignment q.text
 
--- no alignment stands second
+-- no alignment comes second
 abbrev pub NoneFills : (text : List ℕ) → Type 0
 NoneFills text = (c d : ℕ) (more : List ℕ) → text ≡ c ∷ d ∷ more → IsFalse (is_alignment d)
 
--- a fill: where an alignment stands second, the first character, which is no `{`
+-- a fill: if an alignment comes second, the first character, which is no `{`
 abbrev pub fill : Part (Option ℕ)
 fill = record {
   is =
@@ -128,12 +128,12 @@ parts start =
       alignment ← letter alignment_letter alignments.Unset
       from_sign start fill alignment
 
--- nothing is read: there is at most one character, or a `}` stands first
+-- nothing is read: there is at most one character, or a `}` comes first
 abbrev pub IsUnread : (text : List ℕ) → Type 0
 IsUnread text = (length text ≤ 1) ⊎ IsFirst close_brace text
 
--- the text after the colon of the argument that begins at `start`: plain display, where nothing is
--- read; else the parts stand there
+-- the text after the colon of the argument that begins at `start`: plain display, if nothing is
+-- read; else the parts are there
 abbrev pub spec : (start : ℕ) → Part Request
 spec start = record {
   is =
@@ -142,10 +142,10 @@ spec start = record {
   is_not = λ a f. (¬ IsUnread a.text) × (parts start).is_not a f;
 }
 
--- what x asks stands after the colon, and after it what stands at q
+-- what x asks follows the colon, and after it comes what is at q
 abbrev pub IsSpec : (start : ℕ) → (a : At) → (x : Request) → (q : At) → Type 0
 IsSpec start = (spec start).is
 
--- no spec stands after the colon, for this reason
+-- no spec follows the colon, for this reason
 abbrev pub IsNoSpec : (start : ℕ) → (a : At) → (f : Fault) → Type 0
 IsNoSpec start = (spec start).is_not

@@ -1,4 +1,4 @@
--- What the readers of a spec's parts answer, without where it lies in memory.
+-- What the readers of a spec's parts answer, without if it lies in memory.
 use Rattle.std.specs.Prelude.{◌≡◌, ℕ, ◌-◌, false, ◌||◌, if◌then◌else◌, min, List, ◌∷◌}
 use Rattle.std.specs.Prelude.{Option, Some, None, Result, Ok, Err}
 use Rattle.std.specs.Char.{is_ascii_digit}
@@ -67,13 +67,13 @@ pub record HasNoOptions (spec : Spec) : Type 0 where
   pub width : spec.width ≡ None
   pub precision : spec.precision ≡ None
 
--- where the options were read up to `end`, what is left
+-- if the options were read up to `end`, what is left
 abbrev pub options_left : (start : ℕ) → Result (Unit {0}) ArgumentFault → Spec → (end : At)
     → Result (Request × At) Fault
 options_left start (Ok _) spec end = trait_left start spec end
 options_left start (Err broken) spec end = Err (argument_fault_of broken)
 
--- where all was read up to `end`, the letter of a list included, what is left
+-- if all was read up to `end`, the letter of a list included, what is left
 abbrev pub spec_left : (start : ℕ) → Result (Unit {0}) ArgumentFault → Spec → Trait → (end : At)
     → Result (Request × At) Fault
 spec_left start (Ok _) spec slot end = kind_left start spec slot end

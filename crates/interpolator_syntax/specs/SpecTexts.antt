@@ -1,4 +1,4 @@
--- What stands after the colon of an argument.
+-- What follows the colon of an argument.
 use Rattle.std.specs.Prelude.{ℕ, ◌+◌, Bool, false, ◌==◌, ◌||◌, if◌then◌else◌, List, [], ◌∷◌}
 use Rattle.std.specs.Prelude.{Option, None, Some, Result, Ok, Err, codes}
 use Rattle.std.specs.Char.{is_ascii_digit, len_utf8}
@@ -76,21 +76,21 @@ abbrev pub number_at : (NumberError → ℕ → ParseFault) → (start : ℕ) �
 number_at wrong start =
     λ a. (run (in_class Number) start >>= λ cs. number_or wrong a.place (natural cs)) a
 
--- a number where a digit stands first
+-- a number, if a digit comes first
 abbrev pub if_digit : Reader (Option ℕ) → (a : At) → Option (ℕ × At) → Result (Option ℕ × At) Fault
 if_digit read a None = Ok (None, a)
 if_digit read a (Some w) = if is_ascii_digit w.0 then read a else Ok (None, a)
 
--- a width stands where a digit does
+-- there is a width if there is a digit
 abbrev pub width_at : (start : ℕ) → Reader (Option ℕ)
 width_at start = λ a. if_digit (number_at invalid_width start) a (first a)
 
--- a number after a point, where one stands
+-- a number after a point, if there is one
 abbrev pub if_point : Reader (Option ℕ) → (a : At) → Option At → Result (Option ℕ × At) Fault
 if_point read a None = Ok (None, a)
 if_point read a (Some rest) = read rest
 
--- a precision stands after a point
+-- a precision follows a point
 abbrev pub precision_at : (start : ℕ) → Reader (Option ℕ)
 precision_at start = λ a. if_point (number_at invalid_precision start) a (strip point a)
 
@@ -100,12 +100,12 @@ pub record Wanted : Type 0 where
   pub hex_debug : HexDebug
 
 -- a trait alone
-abbrev pub wanted : Trait → Wanted
-wanted t = record { slot = t; hex_debug = hex_debugs.No }
+abbrev pub trait_alone : Trait → Wanted
+trait_alone t = record { slot = t; hex_debug = hex_debugs.No }
 
--- after `x` or `X`: debug with hexadecimal numbers where a `?` stands, else hexadecimal
+-- after `x` or `X`: debug with hexadecimal numbers if a `?` follows, else hexadecimal
 abbrev pub hexadecimal : Trait → HexDebug → (rest : At) → Option At → Result (Wanted × At) Fault
-hexadecimal t hex rest None = Ok (wanted t, rest)
+hexadecimal t hex rest None = Ok (trait_alone t, rest)
 hexadecimal t hex rest (Some end) = Ok (record { slot = traits.Debug; hex_debug = hex }, end)
 
 -- `?`, `o`, `b`, `e`, `E`, `i`
@@ -125,28 +125,28 @@ no_trait c p =
     else parse (expected (codes "}") p)
 
 -- the trait of a letter c at p
-abbrev pub lettered : (c p : ℕ) → (rest : At) → Option Trait → Result (Wanted × At) Fault
-lettered c p rest (Some t) = Ok (wanted t, rest)
-lettered c p rest None = Err (no_trait c p)
+abbrev pub letter_trait : (c p : ℕ) → (rest : At) → Option Trait → Result (Wanted × At) Fault
+letter_trait c p rest (Some t) = Ok (trait_alone t, rest)
+letter_trait c p rest None = Err (no_trait c p)
 
 -- the trait that the first character begins: `}` is display and is not read
 abbrev pub trait_from : (a : At) → (c : ℕ) → (rest : At) → Result (Wanted × At) Fault
 trait_from a c rest =
-    if c == close_brace then Ok (wanted traits.Display, a)
+    if c == close_brace then Ok (trait_alone traits.Display, a)
     else (if c == lower_x
     then hexadecimal traits.LowerHex hex_debugs.Lower rest (strip question_mark rest)
     else (if c == upper_x
     then hexadecimal traits.UpperHex hex_debugs.Upper rest (strip question_mark rest)
-    else lettered c a.place rest (trait_letter c)))
+    else letter_trait c a.place rest (trait_letter c)))
 
 -- at the end of the text display, but no argument after `#` or `0`
 abbrev pub trait_first : (start : ℕ) → (flagged : Bool) → (a : At) → Option (ℕ × At)
     → Result (Wanted × At) Fault
 trait_first start flagged a None =
-    if flagged then Err (parse (unclosed start)) else Ok (wanted traits.Display, a)
+    if flagged then Err (parse (unclosed start)) else Ok (trait_alone traits.Display, a)
 trait_first start flagged a (Some w) = trait_from a w.0 w.1
 
--- the trait that stands here; `flagged` tells whether `#` or `0` was read
+-- the trait here; `flagged` tells whether `#` or `0` was read
 abbrev pub trait_at : (start : ℕ) → (flagged : Bool) → Reader Wanted
 trait_at start flagged = λ a. trait_first start flagged a (first a)
 
@@ -159,7 +159,7 @@ abbrev pub kind_at : (start : ℕ) → Trait → Reader Kind
 kind_at start traits.Iter = list_kind_at start
 kind_at start t = give (of_value t)
 
--- sign, `#`, `0`, width, precision, trait, each where it stands; and after the letter of a list how
+-- sign, `#`, `0`, width, precision, trait, each if it is there; and after the letter of a list how
 -- it is written
 unfoldable pub spec_from_sign : (start : ℕ) → (fill : Option ℕ) → Alignment → Reader Request
 spec_from_sign start fill alignment =
@@ -185,17 +185,17 @@ spec_from_sign start fill alignment =
         kind = kind;
       })
 
--- an alignment, where one stands, and then from the sign on
+-- an alignment, if there is one, and then from the sign on
 abbrev pub spec_from_alignment : (start : ℕ) → (fill : Option ℕ) → Reader Request
 spec_from_alignment start fill =
     letter alignment_letter alignments.Unset >>= spec_from_sign start fill
 
--- the character c at a is the fill, and `rest` stands after it; a `{` there is a fault
+-- the character c at a is the fill, and `rest` follows it; a `{` there is a fault
 abbrev pub fill_or_fault : (a : At) → (c : ℕ) → (rest : At) → Result (Option ℕ × At) Fault
 fill_or_fault a c rest =
     if c == open_brace then Err (parse (no_fill a.place)) else Ok (Some c, rest)
 
--- the first character is a fill where an alignment stands second
+-- the first character is a fill if an alignment comes second
 abbrev pub fill_of : (a : At) → List ℕ → Result (Option ℕ × At) Fault
 fill_of a [] = Ok (None, a)
 fill_of a (c ∷ []) = Ok (None, a)
@@ -204,11 +204,11 @@ fill_of a (c ∷ d ∷ ds) =
     then fill_or_fault a c (record { place = a.place + len_utf8 c; text = d ∷ ds })
     else Ok (None, a)
 
--- a fill, where one stands
+-- a fill, if there is one
 abbrev pub fill_at : Reader (Option ℕ)
 fill_at = λ a. fill_of a a.text
 
--- a fill, where one stands, and then from the alignment on
+-- a fill, if there is one, and then from the alignment on
 abbrev pub spec_parts : (start : ℕ) → Reader Request
 spec_parts start = fill_at >>= spec_from_alignment start
 

@@ -36,35 +36,35 @@ literal_scan a [] = None
 literal_scan a (c ∷ cs) =
     Some (literals (front_of (in_class Literal) a.text), after (in_class Literal) a)
 
--- a text that begins with no opening brace, by what stands after a closing one, if it begins so
+-- a text that begins with no opening brace, by what follows a closing one, if it begins so
 abbrev pub no_open_scan : At → Option At → Option (Token × At)
 no_open_scan a (Some b) = Some (close_scan b (strip close_brace b))
 no_open_scan a None = literal_scan a a.text
 
--- a text, by what stands after an opening brace, if it begins so
+-- a text, by what follows an opening brace, if it begins so
 abbrev pub scan_by : At → Option At → Option (Token × At)
 scan_by a (Some b) = Some (open_scan b (strip open_brace b))
 scan_by a None = no_open_scan a (strip close_brace a)
 
--- the first of them, and what stands after it, in a text at a place
+-- the first of them, and what follows it, in a text at a place
 unfoldable pub first_token : At → Option (Token × At)
 first_token a = scan_by a (strip open_brace a)
 
--- what stands after it and, at an argument, after that
+-- what follows it and, at an argument, what follows that
 abbrev pub past_token : Token → At → At
 past_token (literals cs) b = b
 past_token (doubled c) b = b
 past_token lone_close b = b
 past_token argument b = (argument_from b.place b).rest
 
--- the same, as the code has it
+-- a token, as the code has it
 abbrev pub token_of : code_token.Token → Token
 token_of (Literals text) = literals (chars text.now)
 token_of (Doubled c) = doubled c
 token_of LoneClose = lone_close
 token_of Argument = argument
 
--- the same with what stands after it
+-- a token, as the code has it, and what follows it
 abbrev pub token_read : code_token.Token × Cursor → Token × At
 token_read x = (token_of x.0, at x.1)
 

@@ -1,4 +1,4 @@
-//! The argument that stands in braces.
+//! The argument in braces.
 ghost use Rattle.std.specs.Prelude.{◌≡◌, ◌+◌, option_map, None, IfOk};
 ghost use Rattle.std.specs.Str.{IsCharBoundary, chars};
 ghost use Rattle.interpolator_syntax.specs.At.{at, after, size, strip};
@@ -27,17 +27,17 @@ pub enum Kind<'a> {
     Value(Trait),
     /// A list, written item by item.
     List {
-        /// Which of its items; all, where there is none.
+        /// Which of its items; all, if there is none.
         range: Option<Range>,
         /// The format of an item, in which the empty name is the item. Without one each item is
         /// displayed plainly.
         item: Option<Group<'a>>,
-        /// The format of what stands between two items; nothing, where there is none.
+        /// The format of what is written between two items; nothing, if there is none.
         join: Option<Group<'a>>,
     },
 }
 
-/// What stands in braces: a name, and how its value is written.
+/// What is in braces: a name, and how its value is written.
 #[derive(Clone, Copy, Debug, PartialEq)]
 pub struct Argument<'a> {
     /// The name, a slice of the text.
@@ -50,18 +50,18 @@ pub struct Argument<'a> {
     pub kind: Kind<'a>,
 }
 
-/// A name in braces, and what stands after it.
+/// A name in braces, and what follows it.
 #[derive(Clone, Copy)]
 pub struct ArgumentName<'a> {
     /// The name, a slice of the text.
     pub name: &'a str,
     /// The byte of the text at which it begins.
     pub place: usize,
-    /// What stands after it.
+    /// What follows it.
     pub end: Cursor<'a>,
 }
 
-/// The name that stands here, after an opening brace and white space.
+/// The name here, after an opening brace and white space.
 #[tactic(auto, unfolding(crate::specs::Arguments::argument_at))]
 #[inline(always)]
 pub fn take_name(here: Cursor<'_>) -> ArgumentName<'_>
@@ -111,8 +111,9 @@ impl<'a> Request<'a> {
     }
 }
 
-/// What is asked after the name of the argument that begins at `start`, where it is not closed at
-/// once. Goes after the spec.
+/// What is asked after the name of the argument that begins at `start`, if it is not closed at
+/// once. Goes after the spec. `asked` is filled in place, since a returned one would be copied
+/// whole.
 #[inline(always)]
 pub fn take_request<'a>(
     here: &mut Cursor<'a>,
@@ -140,15 +141,15 @@ pub struct TakenArgument<'a> {
     pub name: ArgumentName<'a>,
     /// What is asked of it.
     pub asked: Request<'a>,
-    /// What stands after its spec.
+    /// What follows its spec.
     pub end: Cursor<'a>,
-    /// What stands after its closing brace; none where no such brace stands after its spec.
+    /// What follows its closing brace; none if no such brace follows its spec.
     pub rest: Option<Cursor<'a>>,
 }
 
-/// The argument that begins here, after its opening brace, and what stands after its closing one.
+/// The argument that begins here, after its opening brace, and what follows its closing one.
 ///
-/// Where only the written value counts, [`take_name`] and [`take_request`] are called apart: then a
+/// If only the written value counts, [`take_name`] and [`take_request`] are called apart: then a
 /// name alone makes no [`Request`].
 pub fn take_argument(here: Cursor<'_>) -> Result<TakenArgument<'_>, ArgumentFault>
     ensures read { taken_read result ≡ argument_at (at here.entry) }
@@ -200,14 +201,14 @@ pub fn argument_of<'a>(taken: &TakenArgument<'a>) -> Argument<'a>
 
 /// Reads the argument that starts at byte `start` of the text, after its opening brace.
 ///
-/// Answers the argument, and the byte after its spec, where its closing brace should stand. No
-/// value is looked up, and no memory is taken: the name is a slice of the text. Places count bytes
-/// from the beginning of the text. A fill is one character, of any number of bytes.
+/// Answers the argument, and the byte after its spec, if its closing brace should be. No value is
+/// looked up, and no memory is taken: the name is a slice of the text. Places count bytes from the
+/// beginning of the text. A fill is one character, of any number of bytes.
 ///
 /// The caller proves that a character begins at `start`, or the text ends there: what
 /// `text.is_char_boundary(start)` tells. Any other `start` is refused when it is checked.
 ///
-/// Two faults are left to `write`: that no closing brace stands at the answered byte, and that a
+/// Two faults are left to `write`: that there is no closing brace at the answered byte, and that a
 /// list is asked for with a precision, a sign, `#` or the zero flag (`Iter`).
 ///
 /// # Errors

@@ -14,8 +14,7 @@ use crate::cursor::Cursor;
 use crate::error::ParseError;
 use crate::group::Group;
 
-/// How many signs stand here, and what stands after them.
-#[inline(always)]
+/// How many signs there are here, and what follows them.
 fn take_hashes(here: Cursor<'_>) -> (usize, Cursor<'_>)
     ensures count { result.0 ≡ length (front_of (in_class Hash) (at here.entry).text) }
     ensures after { at result.1 ≡ after (in_class Hash) (at here.entry) }
@@ -24,8 +23,7 @@ fn take_hashes(here: Cursor<'_>) -> (usize, Cursor<'_>)
     (signs.len(), rest)
 }
 
-/// What stands after so many signs.
-#[inline(always)]
+/// What follows so many signs.
 fn skip_hashes(start: Cursor<'_>, count: usize) -> Option<Cursor<'_>>
     ensures { option_map (λ c. at c) result
         ≡ after_hashes count start.entry.place (chars start.entry.rest.now) }
@@ -37,8 +35,7 @@ fn skip_hashes(start: Cursor<'_>, count: usize) -> Option<Cursor<'_>>
     Some(here)
 }
 
-/// The next `)`, and what stands after it.
-#[inline(always)]
+/// The next `)`, and what follows it.
 fn find_bracket(here: Cursor<'_>) -> Option<(Cursor<'_>, Cursor<'_>)>
     ensures { option_map (λ r. (at r.0, at r.1)) result ≡ next_close (at here.entry) }
 {
@@ -48,7 +45,6 @@ fn find_bracket(here: Cursor<'_>) -> Option<(Cursor<'_>, Cursor<'_>)>
 }
 
 /// The text in front of a rest of it.
-#[inline(always)]
 pub fn text_before<'a>(text: &'a str, rest: &str) -> &'a str
     requires { (front : List ℕ) × (chars text.now ≡ front ++ chars rest.now) }
     ensures chars { chars result.now ++ chars rest.now ≡ chars text.now }
@@ -58,8 +54,7 @@ pub fn text_before<'a>(text: &'a str, rest: &str) -> &'a str
     front
 }
 
-/// The text up to the first `)` that is followed by so many signs, and what stands after those.
-#[inline(always)]
+/// The text up to the first `)` that is followed by so many signs, and what follows those.
 fn find_close(start: Cursor<'_>, count: usize) -> Option<(&str, Cursor<'_>)>
     ensures found { option_map text_read result
         ≡ close_from count start.entry.place (chars start.entry.rest.now) }
@@ -75,7 +70,7 @@ fn find_close(start: Cursor<'_>, count: usize) -> Option<(&str, Cursor<'_>)>
     None
 }
 
-/// The group that stands here, in the argument that begins at `start`.
+/// The group here, in the argument that begins at `start`.
 #[tactic(auto, unfolding(crate::specs::Groups::group_at))]
 #[inline(never)]
 fn take_group<'a>(here: &mut Cursor<'a>, start: usize) -> Result<Group<'a>, ArgumentFault>
@@ -98,8 +93,7 @@ fn take_group<'a>(here: &mut Cursor<'a>, start: usize) -> Result<Group<'a>, Argu
     })
 }
 
-/// The group that stands here, if one does, in the argument that begins at `start`.
-#[inline(always)]
+/// The group here, if there is one, in the argument that begins at `start`.
 pub(crate) fn take_group_if<'a>(
     here: &mut Cursor<'a>,
     start: usize,
@@ -116,7 +110,6 @@ pub(crate) fn take_group_if<'a>(
 }
 
 /// The beginning of a group's text.
-#[inline(always)]
 pub fn inside(group: Group<'_>) -> Cursor<'_>
     ensures { at result ≡ inside (group_of group.entry) }
 {

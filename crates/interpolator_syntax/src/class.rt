@@ -19,11 +19,11 @@ pub enum Class {
     Name,
     /// What a number is made of: ASCII digits and `-`.
     Number,
-    /// What is copied as it stands: no brace.
+    /// What is copied as it is: no brace.
     Literal,
     /// What guards a group: `#`.
     Hash,
-    /// What may stand in front of the first `)`.
+    /// What may come before the first `)`.
     Enclosed,
 }
 
@@ -44,7 +44,7 @@ pub fn split_first(text: &str) -> Option<(char, &str)>
     Some((c, characters.as_str()))
 }
 
-/// What stands after that ASCII character, where the text begins with it.
+/// What follows that ASCII character, if the text begins with it.
 #[inline(always)]
 pub(crate) fn strip_ascii(text: &str, wanted: u8) -> Option<&str>
     requires ascii { wanted < 128 }
@@ -59,7 +59,6 @@ pub(crate) fn strip_ascii(text: &str, wanted: u8) -> Option<&str>
 }
 
 /// Whether a character is of that class.
-#[inline(always)]
 fn is_in(class: Class, c: char) -> bool
     ensures { result ≡ in_class class c }
 {
@@ -73,7 +72,7 @@ fn is_in(class: Class, c: char) -> bool
     }
 }
 
-/// What stands after the first character, where it is of that class.
+/// What follows the first character, if it is of that class.
 #[inline(always)]
 fn past_one(text: &str, class: Class) -> Option<&str>
     ensures after { MatchOption result
@@ -87,7 +86,7 @@ fn past_one(text: &str, class: Class) -> Option<&str>
     if is_in(class, c) { Some(rest) } else { None }
 }
 
-/// The longest front of that class, read character by character, and what stands after it.
+/// The longest front of that class, read character by character, and what follows it.
 #[inline(always)]
 fn split_while(text: &str, class: Class) -> (&str, &str)
     ensures front { chars result.0.now ≡ front_of (in_class class) (chars text.now) }
@@ -101,8 +100,7 @@ fn split_while(text: &str, class: Class) -> (&str, &str)
     text.split_at(text.len() - rest.len())
 }
 
-/// The white space in front, and what stands after it. Mostly the first byte tells that there is
-/// none.
+/// The white space in front, and what follows it. Usually the first byte tells that there is none.
 #[inline(always)]
 fn split_space(text: &str) -> (&str, &str)
     ensures front { chars result.0.now ≡ front_of (in_class WhiteSpace) (chars text.now) }
@@ -115,19 +113,16 @@ fn split_space(text: &str) -> (&str, &str)
     }
 }
 
-/// How many bytes of a name are tested one by one before a search by vectors.
-const NEAR_NAME: usize = 0;
-
-/// The same of a literal text.
+/// How many bytes of a literal text are tested one by one before a search by vectors.
 const NEAR_LITERAL: usize = 2;
 
-/// The same of the text in a bracket.
+/// How many bytes of the text in a bracket are tested one by one before a search by vectors.
 const NEAR_ENCLOSED: usize = 8;
 
 /// How many bytes are tested at once.
 const BLOCK: usize = 16;
 
-/// How many bytes of the first block stand before the first byte that is one of these two.
+/// How many bytes of the first block come before the first byte that is one of these two.
 #[inline(always)]
 fn block_position(bytes: &[u8], first: u8, second: u8) -> Option<usize>
     requires { 16 ≤ length bytes.now }
@@ -173,7 +168,7 @@ fn byte_position(bytes: &[u8], first: u8, second: u8) -> Option<usize>
     bytes.iter().position(|b| *b == first || *b == second)
 }
 
-/// The same, where it is among the first `near`.
+/// The index of the first byte that is one of these two, if it is among the first `near`.
 #[inline(always)]
 fn near_position(bytes: &[u8], near: usize, first: u8, second: u8) -> Option<usize>
     ensures { IfSome result (λ r. r ≡ position_or_len (λ b. b == first || b == second) bytes.now) }
@@ -182,7 +177,7 @@ fn near_position(bytes: &[u8], near: usize, first: u8, second: u8) -> Option<usi
     byte_position(front, first, second)
 }
 
-/// The same, where it is among the first sixteen.
+/// The index of the first byte that is one of these two, if it is among the first sixteen.
 #[inline(always)]
 fn block_index(bytes: &[u8], first: u8, second: u8) -> Option<usize>
     requires { 16 ≤ length bytes.now }
@@ -192,18 +187,20 @@ fn block_index(bytes: &[u8], first: u8, second: u8) -> Option<usize>
     if index < BLOCK { Some(index) } else { None }
 }
 
-/// How many bytes stand before the first that is one of these two, or all where there is none. It
-/// is likely to be among the first `near`, and else among the first sixteen.
+/// How many bytes come before the first that is one of these two, or all if there is none. It is
+/// likely to be among the first `near`, if that is told, and else among the first sixteen.
 #[tactic(auto, using(crate::proofs::ByteLemmas::first_or_all))]
 #[inline(always)]
-fn bytes_before(bytes: &[u8], near: usize, first: u8, second: u8) -> usize
+fn bytes_before(bytes: &[u8], near: Option<usize>, first: u8, second: u8) -> usize
     ensures { result ≡ position_or_len (λ b. b == first || b == second) bytes.now }
 {
     if bytes.len() < BLOCK {
         return byte_position(bytes, first, second).unwrap_or(bytes.len());
     }
-    if let Some(index) = near_position(bytes, near, first, second) {
-        return index;
+    if let Some(near) = near {
+        if let Some(index) = near_position(bytes, near, first, second) {
+            return index;
+        }
     }
     if let Some(index) = block_index(bytes, first, second) {
         return index;
@@ -216,9 +213,9 @@ fn bytes_before(bytes: &[u8], near: usize, first: u8, second: u8) -> usize
     }
 }
 
-/// The text up to the first of two ASCII characters, and what stands from there on.
+/// The text up to the first of two ASCII characters, and the text from there on.
 #[inline(always)]
-fn split_before(text: &str, near: usize, first: u8, second: u8) -> (&str, &str)
+fn split_before(text: &str, near: Option<usize>, first: u8, second: u8) -> (&str, &str)
     requires first { first < 128 }
     requires second { second < 128 }
     ensures front { chars result.0.now ≡ front_of (avoids first second) (chars text.now) }
@@ -228,7 +225,7 @@ fn split_before(text: &str, near: usize, first: u8, second: u8) -> (&str, &str)
     text.split_at(bytes_before(text.as_bytes(), near, first, second))
 }
 
-/// The longest front of that class, and what stands after it.
+/// The longest front of that class, and what follows it.
 #[inline(always)]
 pub fn split_class(text: &str, class: Class) -> (&str, &str)
     ensures front { chars result.0.now ≡ front_of (in_class class) (chars text.now) }
@@ -238,9 +235,9 @@ pub fn split_class(text: &str, class: Class) -> (&str, &str)
     match class {
         Class::WhiteSpace => split_space(text),
         Class::Number => split_while(text, Class::Number),
-        Class::Name => split_before(text, NEAR_NAME, b':', b'}'),
-        Class::Literal => split_before(text, NEAR_LITERAL, b'{', b'}'),
+        Class::Name => split_before(text, None, b':', b'}'),
+        Class::Literal => split_before(text, Some(NEAR_LITERAL), b'{', b'}'),
         Class::Hash => split_while(text, Class::Hash),
-        Class::Enclosed => split_before(text, NEAR_ENCLOSED, b')', b')'),
+        Class::Enclosed => split_before(text, Some(NEAR_ENCLOSED), b')', b')'),
     }
 }

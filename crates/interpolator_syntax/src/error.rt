@@ -11,13 +11,13 @@ use std::fmt;
 
 /// Why the text of a number is refused.
 ///
-/// From the left, the first character decides that is no digit, or with which the digits so far
-/// pass the end of the type.
+/// From the left, the first character decides that is no digit, or that takes the number out of the
+/// range of its type.
 #[derive(Debug, PartialEq, Eq, Clone, Copy)]
 pub enum NumberError {
     /// There is no character to read.
     Empty,
-    /// A `-` stands alone, or where none is allowed.
+    /// A `-` is alone, or if none is allowed.
     InvalidDigit,
     /// The number is greater than the greatest of its type.
     PosOverflow,
@@ -32,13 +32,13 @@ pub enum NumberError {
 pub enum ParseError {
     /// The text ends before the argument does; the place is the byte after its `{`.
     FormatSpecUnclosed(usize),
-    /// This text should stand at this place.
+    /// This text should be at this place.
     Expected(&'static str, usize),
     /// The width that begins at this place is no `usize`.
     InvalidWidth(NumberError, usize),
     /// The precision that begins at this place is no `usize`.
     InvalidPrecision(NumberError, usize),
-    /// A `{` stands as a fill character at this place, in front of an alignment.
+    /// A `{` is used as a fill character at this place, in front of an alignment.
     Fill(usize),
     /// A list is asked for with a precision, a sign, `#` or the zero flag; the place is the byte
     /// after its spec.
@@ -50,7 +50,7 @@ pub enum ParseError {
 /// Why a format has no text, or no whole one.
 ///
 /// Each place counts bytes from the beginning of the outermost format text. Two faults are equal
-/// where their variants and fields are. `{}` writes a sentence:
+/// when their variants and fields are. `{}` writes a sentence:
 ///
 /// ```text
 /// specified value not in context `name` at 7
@@ -153,7 +153,7 @@ impl Error {
     ///
     /// # Errors
     ///
-    /// `NoMemory` where that name cannot be copied.
+    /// `NoMemory` if that name cannot be copied.
     ///
     /// ```text
     /// error.try_clone(alloc)?    // of `NoMemory`: `NoMemory`

@@ -125,7 +125,7 @@ fn trait_name(t: Trait) -> &'static str
     }
 }
 
-// Apart, since the two texts that live for `'static` are shown as parameters alone.
+// A function of its own, since the two texts that live for `'static` are shown as parameters alone.
 fn write_unsupported<W: fmt::Write>(
     f: &mut fmt::Formatter<W>,
     option: &str,

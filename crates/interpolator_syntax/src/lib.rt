@@ -1,7 +1,7 @@
 //! What a format text is made of, and what can be wrong with it.
 //!
 //! A format is read by a [`Cursor`], a place in the text and the text from there on. [`next_token`]
-//! tells what stands there: literals, a brace that is written, or an opening brace, after which an
+//! tells what comes next: literals, a brace that is written, or an opening brace, after which an
 //! argument begins. [`take_argument`] reads it: by [`take_name`] its name, and by [`take_request`],
 //! after a colon, its spec and how it asks for a list. What is wrong is told by a [`ParseError`],
 //! at its place in bytes.

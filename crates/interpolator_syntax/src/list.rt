@@ -1,4 +1,4 @@
-//! What stands after the letter `i`: how a list is written.
+//! What follows the letter `i`: how a list is written.
 ghost use Rattle.std.specs.Prelude.{◌≡◌};
 ghost use Rattle.interpolator_syntax.specs.At.{at};
 ghost use Rattle.interpolator_syntax.specs.Arguments.{list_read};
@@ -13,12 +13,12 @@ use crate::range::{Range, take_range};
 /// How a list is written.
 #[derive(Clone, Copy)]
 pub struct ListForm<'a> {
-    /// Which of its items; all, where there is none.
+    /// Which of its items; all, if there is none.
     pub range: Option<Range>,
     /// The format of an item, in which the empty name is the item. Without one each item is
     /// displayed plainly.
     pub item: Option<Group<'a>>,
-    /// The format of what stands between two items; nothing, where there is none.
+    /// The format of what is written between two items; nothing, if there is none.
     pub join: Option<Group<'a>>,
 }
 
@@ -39,7 +39,8 @@ impl<'a> ListForm<'a> {
     }
 }
 
-/// What stands after the letter, in the argument that begins at `start`. Goes after it.
+/// What follows the letter, in the argument that begins at `start`. Goes after it. `list` is filled
+/// in place, since a returned one would be copied whole.
 #[tactic(auto, unfolding(crate::specs::Lists::list_at))]
 #[inline(never)]
 pub(crate) fn take_list<'a>(

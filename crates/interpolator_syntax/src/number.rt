@@ -2,14 +2,14 @@
 ghost use Rattle.std.specs.Prelude.{◌≡◌, ◌+◌, ◌*◌, ◌^◌, ◌<◌, ◌≤◌, IfOk, MatchOption};
 ghost use Rattle.interpolator_syntax.specs.At.{at, after};
 ghost use Rattle.interpolator_syntax.specs.Classes.{in_class, front_of};
-ghost use Rattle.interpolator_syntax.specs.Numbers.{digits_or, natural, negated, integer};
+ghost use Rattle.interpolator_syntax.specs.Numbers.{digits_or, natural, negation, integer};
 ghost use Rattle.interpolator_syntax.specs.declared.class.Class.TheVariants.{Number};
 
 use crate::class::Class;
 use crate::cursor::Cursor;
 use crate::error::NumberError;
 
-/// What stands after the run that goes on here.
+/// What follows the run that goes on here.
 #[cold]
 #[inline(never)]
 fn skip_run(here: Cursor<'_>) -> Cursor<'_>
@@ -19,7 +19,7 @@ fn skip_run(here: Cursor<'_>) -> Cursor<'_>
     rest
 }
 
-/// A number and, after it, one digit more, where that is at most `most`.
+/// A number and, after it, one digit more, if that is at most `most`.
 #[inline(always)]
 fn append_digit(n: usize, digit: usize, most: usize) -> Option<usize>
     requires digit { digit < 10 }
@@ -27,7 +27,7 @@ fn append_digit(n: usize, digit: usize, most: usize) -> Option<usize>
     ensures { MatchOption result (most < n * 10 + digit)
         (λ m. (m ≡ n * 10 + digit) × (m ≤ most)) }
 {
-    // Mostly the number is far below: then nothing is divided.
+    // Usually the number is far below: then nothing is divided.
     if n >= most / 10 && n > (most - digit) / 10 {
         return None;
     }
@@ -85,10 +85,9 @@ pub(crate) fn take_natural(here: &mut Cursor<'_>) -> Result<usize, NumberError>
 }
 
 /// A number taken from zero, as far as an `isize` goes.
-#[inline(always)]
 fn negate(n: usize) -> isize
     requires fits { n ≤ 2 ^ 63 }
-    ensures { result ≡ negated n }
+    ensures { result ≡ negation n }
 {
     if n == 0 {
         return 0;
@@ -97,7 +96,6 @@ fn negate(n: usize) -> isize
 }
 
 /// The number that the run here spells, which may have a `-` in front. Goes after the run.
-#[inline(always)]
 pub(crate) fn take_integer(here: &mut Cursor<'_>) -> Result<isize, NumberError>
     ensures number { result ≡ integer (front_of (in_class Number) (at here.old).text) }
     ensures after { at here.new ≡ after (in_class Number) (at here.old) }

@@ -3,7 +3,7 @@
 /// What a piece of a format is.
 #[derive(Clone, Copy, Debug, PartialEq, Eq)]
 pub enum PieceKind {
-    /// Characters that are no braces, as many as stand side by side.
+    /// Characters that are no braces, as many as there are side by side.
     Literal,
     /// A doubled brace, of which one is written.
     Doubled,
@@ -11,8 +11,8 @@ pub enum PieceKind {
     LoneClose,
     /// An argument with its closing brace.
     Closed,
-    /// An argument without a closing brace. It ends where its text ends.
+    /// An argument without a closing brace. It ends if its text ends.
     Unclosed,
-    /// What cannot be read as an argument. It ends where its text ends.
+    /// What cannot be read as an argument. It ends if its text ends.
     Broken,
 }

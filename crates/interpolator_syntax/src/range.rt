@@ -27,8 +27,7 @@ pub struct Range {
     pub upper: Option<isize>,
 }
 
-/// The bound that stands here, if one does, in the argument that begins at `start`.
-#[inline(always)]
+/// The bound here, if there is one, in the argument that begins at `start`.
 fn take_bound(here: &mut Cursor<'_>, start: usize) -> Result<Option<isize>, ArgumentFault>
     ensures { part_or_broken result (at here.new) ≡ bound_if start (at here.old) }
 {
@@ -47,8 +46,7 @@ fn take_bound(here: &mut Cursor<'_>, start: usize) -> Result<Option<isize>, Argu
     }
 }
 
-/// Whether `..` or `..=` stands here, and if so, whether it is the one with `=`.
-#[inline(always)]
+/// Whether `..` or `..=` is here, and if so, whether it is the one with `=`.
 fn take_points(here: &mut Cursor<'_>) -> Option<bool>
     ensures { part_read (result, here.new) ≡ points (at here.old) }
 {
@@ -57,10 +55,9 @@ fn take_points(here: &mut Cursor<'_>) -> Option<bool>
     Some(here.eat(b'='))
 }
 
-/// The range that stands here, if one does, in the argument that begins at `start`. A bound alone
+/// The range here, if there is one, in the argument that begins at `start`. A bound alone
 /// is both bounds.
 #[tactic(auto, unfolding(crate::specs::Ranges::range_at))]
-#[inline(always)]
 pub(crate) fn take_range(
     here: &mut Cursor<'_>,
     start: usize,

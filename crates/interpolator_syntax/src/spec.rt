@@ -1,4 +1,4 @@
-//! What stands after the colon of an argument, up to what follows the letter of lists.
+//! What follows the colon of an argument, up to what follows the letter of lists.
 ghost use Rattle.std.specs.Prelude.{◌≡◌, Err, Ok, Some};
 ghost use Rattle.interpolator_syntax.specs.At.{at, first, strip};
 ghost use Rattle.interpolator_syntax.specs.Classes.{question_mark};
@@ -21,8 +21,7 @@ use crate::error::{NumberError, ParseError};
 use crate::number::take_natural;
 use interpolator_render::{Alignment, HexDebug, Sign, Spec, Trait};
 
-/// The alignment that stands here, if one does.
-#[inline(always)]
+/// The alignment here, if there is one.
 fn take_alignment(here: &mut Cursor<'_>) -> Alignment
     ensures { part_read (result, here.new)
         ≡ letter alignment_letter alignments.Unset (at here.old) }
@@ -38,8 +37,7 @@ fn take_alignment(here: &mut Cursor<'_>) -> Alignment
     }
 }
 
-/// The sign that stands here, if one does.
-#[inline(always)]
+/// The sign here, if there is one.
 fn take_sign(here: &mut Cursor<'_>) -> Sign
     ensures { part_read (result, here.new) ≡ letter sign_letter signs.Unset (at here.old) }
 {
@@ -52,9 +50,8 @@ fn take_sign(here: &mut Cursor<'_>) -> Sign
     }
 }
 
-/// The fault of an argument that begins at `start`, whose text ends with a number. It is a function of
-/// its own, as the two after it are, since a function clears the room for its faults where it begins.
-#[inline(always)]
+/// The fault of an argument that begins at `start`, whose text ends with a number. It is a function
+/// of its own, as the two after it are, since a function zeroes the space of its faults on entry.
 fn unclosed(start: usize) -> Result<Option<usize>, ArgumentFault>
     ensures { result ≡ Err (faults.Text (errors.FormatSpecUnclosed start)) }
 {
@@ -62,7 +59,6 @@ fn unclosed(start: usize) -> Result<Option<usize>, ArgumentFault>
 }
 
 /// The fault of a width that begins at `place`.
-#[inline(always)]
 fn bad_width(kind: NumberError, place: usize) -> Result<Option<usize>, ArgumentFault>
     ensures { result ≡ Err (faults.Text (errors.InvalidWidth kind place)) }
 {
@@ -70,15 +66,13 @@ fn bad_width(kind: NumberError, place: usize) -> Result<Option<usize>, ArgumentF
 }
 
 /// The fault of a precision that begins at `place`.
-#[inline(always)]
 fn bad_precision(kind: NumberError, place: usize) -> Result<Option<usize>, ArgumentFault>
     ensures { result ≡ Err (faults.Text (errors.InvalidPrecision kind place)) }
 {
     Err(ArgumentFault::Text(ParseError::InvalidPrecision(kind, place)))
 }
 
-/// The width that stands here, if one does, in the argument that begins at `start`.
-#[inline(always)]
+/// The width here, if there is one, in the argument that begins at `start`.
 fn take_width(here: &mut Cursor<'_>, start: usize) -> Result<Option<usize>, ArgumentFault>
     ensures { part_or_broken result (at here.new) ≡ width_at start (at here.old) }
 {
@@ -97,8 +91,7 @@ fn take_width(here: &mut Cursor<'_>, start: usize) -> Result<Option<usize>, Argu
     }
 }
 
-/// The precision that stands here, if one does, in the argument that begins at `start`.
-#[inline(always)]
+/// The precision here, if there is one, in the argument that begins at `start`.
 fn take_precision(here: &mut Cursor<'_>, start: usize) -> Result<Option<usize>, ArgumentFault>
     ensures { part_or_broken result (at here.new) ≡ precision_at start (at here.old) }
 {
@@ -116,9 +109,9 @@ fn take_precision(here: &mut Cursor<'_>, start: usize) -> Result<Option<usize>, 
     }
 }
 
-/// Sign, flags, width and precision, as many as stand here, one after the other.
+/// Sign, flags, width and precision, as many as there are here, one after the other. Here and below
+/// `spec` is filled in place, since a returned one would be copied whole.
 #[tactic(auto, unfolding(crate::specs::SpecTexts::spec_from_sign))]
-#[inline(always)]
 fn take_each_option(
     here: &mut Cursor<'_>,
     spec: &mut Spec,
@@ -135,9 +128,9 @@ fn take_each_option(
     Ok(())
 }
 
-/// The same. Each of them begins with a byte up to `9`, and each letter lies above.
+/// As [`take_each_option`], but looks only before a byte up to `9`: each of them begins with one,
+/// and no letter does.
 #[tactic(auto, unfolding(crate::specs::SpecTexts::spec_from_sign))]
-#[inline(always)]
 fn take_options(here: &mut Cursor<'_>, spec: &mut Spec, start: usize) -> Result<(), ArgumentFault>
     requires { HasNoOptions spec.old }
     ensures { options_left start result spec.new (at here.new)
@@ -149,8 +142,7 @@ fn take_options(here: &mut Cursor<'_>, spec: &mut Spec, start: usize) -> Result<
     }
 }
 
-/// The trait of a letter that stands by itself.
-#[inline(always)]
+/// The trait of a letter by itself.
 fn trait_of(letter: u8) -> Option<Trait>
     ensures { result ≡ trait_letter letter }
 {
@@ -165,8 +157,7 @@ fn trait_of(letter: u8) -> Option<Trait>
     }
 }
 
-/// After the letter of a hexadecimal trait: debug with such numbers where a `?` stands.
-#[inline(always)]
+/// After the letter of a hexadecimal trait: debug with such numbers if a `?` follows.
 fn hexadecimal_or_debug(here: &mut Cursor<'_>, alone: Trait, debug: HexDebug) -> (Trait, HexDebug)
     ensures { wanted_read (Ok result) (at here.new)
         ≡ hexadecimal alone debug (at here.old) (strip question_mark (at here.old)) }
@@ -178,9 +169,8 @@ fn hexadecimal_or_debug(here: &mut Cursor<'_>, alone: Trait, debug: HexDebug) ->
     }
 }
 
-/// The trait that stands here, and how debug writes numbers. `flagged` tells whether `#` or `0` was
+/// The trait here, and how debug writes numbers. `flagged` tells whether `#` or `0` was
 /// read.
-#[inline(always)]
 fn take_trait(
     here: &mut Cursor<'_>,
     start: usize,
@@ -205,7 +195,7 @@ fn take_trait(
     }
     match trait_of(letter) {
         Some(wanted) => {
-            let _ = here.eat(letter);
+            here.eat(letter);
             Ok((wanted, HexDebug::No))
         }
         None => {
@@ -219,7 +209,6 @@ fn take_trait(
 
 /// The parts of a spec from the alignment on, in their order, of the argument that begins at
 /// `start`, up to what follows the letter of a list. Goes after them.
-#[inline(always)]
 fn take_parts(
     here: &mut Cursor<'_>,
     spec: &mut Spec,
@@ -238,9 +227,8 @@ fn take_parts(
     Ok(())
 }
 
-/// The fill that stands here, if one does: the first character `c`, where an alignment stands
-/// `after` it. Goes after the fill.
-#[inline(always)]
+/// The fill here, if there is one: the first character `c`, if an alignment begins the text `after`
+/// it. Goes after the fill.
 fn take_fill<'a>(
     here: &mut Cursor<'a>,
     c: char,
@@ -260,7 +248,7 @@ fn take_fill<'a>(
     Ok(Some(c))
 }
 
-/// What stands after the colon of the argument that begins at `start`, up to what follows the
+/// What follows the colon of the argument that begins at `start`, up to what follows the
 /// letter of a list. Goes after it; of one character alone, and of what a `}` begins, nothing is
 /// read.
 #[tactic(auto, unfolding(crate::specs::SpecTexts::spec_after))]

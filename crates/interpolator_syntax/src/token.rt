@@ -6,7 +6,7 @@ ghost use Rattle.interpolator_syntax.specs.Tokens.{first_token, token_read, RunF
 use crate::class::Class;
 use crate::cursor::Cursor;
 
-/// What stands at a place of a format. Neighbouring literals are one.
+/// What is at a place of a format. Neighbouring literals are one.
 #[derive(Clone, Copy)]
 pub enum Token<'a> {
     /// Characters that are no braces.
@@ -19,7 +19,7 @@ pub enum Token<'a> {
     Argument,
 }
 
-/// The next piece, and what stands after it.
+/// The next piece, and what follows it.
 #[tactic(auto, unfolding(crate::specs::Tokens::first_token), using(crate::proofs::CharacterLemmas::chars_of_end))]
 #[inline(always)]
 pub fn next_token(here: Cursor<'_>) -> Option<(Token<'_>, Cursor<'_>)>

@@ -1,4 +1,4 @@
-//! Writes text as it stands, whatever the options of the formatter.
+//! Writes text as it is, whatever the options of the formatter.
 ghost use Rattle.std.specs.Prelude.{◌≡◌};
 ghost use Rattle.std.specs.Fmt.{DisplaysOnOk, DisplaysStyledOnOk, HasWrittenStyled, IsFlush};
 

@@ -58,7 +58,7 @@ const AS_ANN: [Row<'static>; 1] = [
     Row { format: "{a}, {b} and {}", text: "Ann, Ann and Ann", fault: "" },
 ];
 
-/// Over a value that has a text where the width is 5 alone.
+/// Over a value that has a text only if the width is 5.
 #[rattlefmt::skip]
 const AS_FIVE: [Row<'static>; 1] = [
     Row { format: "{v:5}{v}", text: "w5   ", fault: "MissingTraitImpl(Display, 7)" },

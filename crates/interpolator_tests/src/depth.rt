@@ -5,8 +5,8 @@ use crate::report::Report;
 use interpolator::{Error, Formattable, Pairs, Piece, Template, TextBuffer};
 use std::alloc::{AllocError, Global};
 
-/// How deep lists stand in one another; what stands before a list's signs, and innermost; the names
-/// that are asked; what is written; and the fault that is answered.
+/// How deep lists are nested; what comes before a list's signs, and innermost; the names that are
+/// asked; what is written; and the fault that is answered.
 struct Deep<'a> {
     depth: usize,
     open: &'a str,
@@ -17,7 +17,7 @@ struct Deep<'a> {
 }
 
 /// Worked by hand from the rules of lists and places in docs/DEFINITIONS.md. The group at depth n,
-/// from 0 innermost up to 31, has n signs. So what stands before the innermost text is of 32 * 4 +
+/// from 0 innermost up to 31, has n signs. So what comes before the innermost text is of 32 * 4 +
 /// 31 * 16 = 624 characters, or with a width of 32 * 5 + 31 * 16 = 656. At a depth of 200 it is of
 /// 200 * 4 + 199 * 100 = 20,700, or of 200 * 5 + 199 * 100 = 20,900.
 #[rattlefmt::skip]
@@ -74,7 +74,7 @@ fn write_nested(
     write_nested(alloc, out, Formattable::iter(&items), depth - 1, given)
 }
 
-/// How many levels of lists stand in one another, up to so many.
+/// How many levels of lists are nested, up to so many.
 fn levels(pieces: &[Piece], most: usize) -> usize {
     let mut here = pieces;
     for passed in 0..most {

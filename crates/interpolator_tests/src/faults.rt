@@ -169,7 +169,7 @@ fn printed(report: &mut Report) -> Result<(), AllocError> {
     Ok(())
 }
 
-/// A part of a name, and how often it stands there: names of 40, 41, 42 and 100,000 bytes.
+/// A part of a name, and how often it is repeated: names of 40, 41, 42 and 100,000 bytes.
 const CLONED: [(&str, usize); 4] = [("a", 40), ("a", 41), ("é", 21), ("a", 100_000)];
 
 /// A copy is displayed as the table of faults in docs/DEFINITIONS.md says.

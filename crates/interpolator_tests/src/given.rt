@@ -35,7 +35,7 @@ pub fn format_given(
     }
 }
 
-/// The template of a format. Where memory is refused, it is asked once more.
+/// The template of a format. If memory is refused, it is asked once more.
 pub fn parsed(alloc: Global, format: &str) -> Result<Template, Error> {
     match Template::parse(alloc, format) {
         Err(Error::NoMemory) => Template::parse(alloc, format),

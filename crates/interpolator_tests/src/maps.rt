@@ -2,7 +2,7 @@
 ghost use Rattle.std.specs.Prelude.{◌≡◌, Some, OnOk};
 ghost use Rattle.std.specs.Str.{chars};
 ghost use Rattle.std.specs.Option.{unwrap_or};
-ghost use Rattle.interpolator.specs.NameMaps.{found};
+ghost use Rattle.interpolator.specs.NameMaps.{stored_slots};
 ghost use Rattle.interpolator.specs.Slots.{empty_slots, with_debug, with_display};
 
 use crate::report::Report;
@@ -43,8 +43,8 @@ fn merge<'a>(
     shown: &'a u64,
     debugged: &'a u64,
 ) -> Result<(), Error>
-    ensures { OnOk result (found map.new (chars name.now) ≡ Some (with_debug
-        (with_display (unwrap_or (found map.old (chars name.now)) empty_slots) shown.now)
+    ensures { OnOk result (stored_slots map.new (chars name.now) ≡ Some (with_debug
+        (with_display (unwrap_or (stored_slots map.old (chars name.now)) empty_slots) shown.now)
         debugged.now)) }
 {
     map.entry(name)?.set_display(shown);
@@ -52,13 +52,13 @@ fn merge<'a>(
     Ok(())
 }
 
-/// The text of what stands under a name, for debugging.
+/// The text of what is found under a name, for debugging.
 fn debug_of(alloc: Global, map: &ContextMap<'_, u64>, name: &str) -> Result<String, AllocError> {
     let found = map.get(name);
     format!(in alloc; "{found:?}")
 }
 
-/// Names, and what stands under them, for debugging.
+/// Names, and what is found under them, for debugging.
 const KEPT: [(&str, &str); 4] = [
     ("a", "Some(Formattable(debug, display))"),
     ("b", "Some(Formattable(octal))"),
@@ -120,7 +120,7 @@ fn gives_over(report: &mut Report, pairs: Pairs<'_, u64>, format: &str, wanted: 
     report.made(format, wanted, by_a_template(report.alloc, pairs, format));
 }
 
-/// The last pair of a name stands.
+/// The last pair of a name counts.
 fn last_pairs(report: &mut Report) {
     let values = [1u64, 2, 3, 4, 5];
     let pairs = [

@@ -1,6 +1,6 @@
 //! Memory that is refused. Each group holds whether memory is given or one allocation is refused, as
-//! `rt try --fail-alloc` does: then a call answers `NoMemory`, leaves what stands, and gives its row
-//! when it is asked again.
+//! `rt try --fail-alloc` does: then a call answers `NoMemory`, leaves what there is as it is, and
+//! gives its row when it is asked again.
 
 mod lists;
 mod loaded;

@@ -41,7 +41,7 @@ impl Context for Nowhere {
 
 impl Interpolate for Nowhere {}
 
-/// The text `w5` where the width is 5, and else nothing.
+/// The text `w5` if the width is 5, and else nothing.
 #[derive(Clone, Copy)]
 pub struct OnlyFive;
 
@@ -58,7 +58,7 @@ impl Value for OnlyFive {
     }
 }
 
-/// The text `{x}` as it stands, whatever is asked.
+/// The text `{x}` as it is, whatever is asked.
 #[derive(Clone, Copy)]
 pub struct AlwaysPlain;
 

@@ -1,5 +1,6 @@
 //! Formats prepared for rows: names at positions, joined text in little room, rows too short.
 
+use crate::counting::Counting;
 use crate::report::Report;
 use interpolator::{Bounded, Error, Formattable, Pairs, Row, Template, View};
 
@@ -84,10 +85,27 @@ fn used_again(report: &mut Report) -> Result<(), Error> {
     Ok(())
 }
 
+/// By hand: text between two arguments is one call of the writer, though a format's text is written
+/// brace by brace. So it is the steps that are run.
+fn joined_text_is_one_call(report: &mut Report) -> Result<(), Error> {
+    let alloc = report.alloc;
+    let row = [Formattable::display(&7u64)];
+    let pairs = [("x", row[0])];
+    let template = Template::parse(alloc, "a{{b{x}}}c")?;
+    let prepared = template.prepare(alloc, &Pairs(&pairs))?;
+    let mut out = Counting::new(alloc);
+    let answer = prepared.write(alloc, &mut out, &Row(&row));
+    report.written("joined text", ("a{b7}c", ""), out.as_str(), answer);
+    report.number("calls for joined text", 3, out.calls);
+    Ok(())
+}
+
 pub fn run(report: &mut Report) {
     report.begin("prepared");
     let answer = rows_are_written(report);
     report.done("rows", answer);
     let answer = used_again(report);
     report.done("used again", answer);
+    let answer = joined_text_is_one_call(report);
+    report.done("joined text", answer);
 }

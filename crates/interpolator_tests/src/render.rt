@@ -7,8 +7,8 @@ use interpolator::{
     Alignment, Bounded, Error, Refusal, Spec, TextWrite, Trait, Value, View, pad, render,
 };
 
-/// A view and how it is written; the front of its text, a part of it and how often that stands there,
-/// and the end; and the most calls that write it.
+/// A view and how it is written; its text, as the front, a part and how often that is repeated, and
+/// the end; and the most calls that write it.
 struct Row<'a> {
     view: View<'a>,
     t: Trait,
@@ -30,8 +30,8 @@ fn flagged(report: &mut Report) {
     report.text("nothing is written", "", out.as_str());
 }
 
-/// The text by the rules of rendering in docs/DEFINITIONS.md; the calls, one for a part, where padding
-/// is a part for each 64 characters or fewer.
+/// The text by the rules of rendering in docs/DEFINITIONS.md; the calls, one for a part, and for
+/// padding one for each 64 characters or fewer.
 #[rattlefmt::skip]
 const CALLS: [Row<'static>; 9] = [
     Row { view: View::Unsigned(7), t: Trait::Display, spec: Spec { width: Some(1001), ..PLAIN }, front: "", part: " ", count: 1000, end: "7", most: 17 },

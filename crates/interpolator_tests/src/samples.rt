@@ -1,8 +1,10 @@
-//! A map as a sample; and a format that was checked, over contexts that resemble its sample. Rows of
-//! formats over samples are in the files of `interpolator_vectors`.
+//! A map as a sample; and a format that was checked, over contexts that resemble its sample. Rows
+//! of formats over samples are in the files of `interpolator_vectors`.
 
 use crate::report::Report;
-use interpolator::{Error, Formattable, Interpolate, Pairs, Prepared, Row, Template, View};
+use interpolator::{
+    Error, Formattable, Interpolate, Pairs, Prepared, Row, Template, TextBuffer, View,
+};
 use std::alloc::{AllocError, Global};
 use std::collections::HashMap;
 
@@ -100,6 +102,27 @@ fn is_made(
     report.made("a resembling context, prepared", (wanted, ""), made);
 }
 
+/// The text of a context is written by each way.
+fn is_written(
+    report: &mut Report,
+    template: &Template,
+    prepared: &Prepared,
+    pairs: &[Named<'_>],
+    values: &[Formattable<'_, u64>],
+    wanted: &str,
+) {
+    let alloc = report.alloc;
+    let mut out = TextBuffer::new(alloc);
+    let answer = Pairs(pairs).write_to(alloc, &mut out, FORMAT);
+    report.written("written", (wanted, ""), out.as_str(), answer);
+    let mut out = TextBuffer::new(alloc);
+    let answer = Pairs(pairs).write_template_to(alloc, &mut out, template);
+    report.written("written by pieces", (wanted, ""), out.as_str(), answer);
+    let mut out = TextBuffer::new(alloc);
+    let answer = prepared.write(alloc, &mut out, &Row(values));
+    report.written("written by steps", (wanted, ""), out.as_str(), answer);
+}
+
 /// The format is checked over these pairs, and prepared.
 fn loaded_over(
     report: &mut Report,
@@ -135,6 +158,7 @@ fn resembling_context(
     let pairs = pairs_of(alloc, &values)?;
     let wanted = expected(alloc, m, n, count)?;
     is_made(report, template, prepared, &pairs, &values, wanted.as_str());
+    is_written(report, template, prepared, &pairs, &values, wanted.as_str());
     Ok(())
 }
 

@@ -88,9 +88,9 @@ fn asked_room(report: &mut Report) {
     }
 }
 
-/// A format over 7 under `v`, the front of what is written, a part of it and how often that stands
-/// there, the end, and the most calls that a writer gets: one for a part, where padding is a part for
-/// each 64 characters or fewer.
+/// A format over 7 under `v`; what is written, as the front, a part and how often that is repeated,
+/// and the end; and the most calls that a writer gets: one for a part, and for padding one for each
+/// 64 characters or fewer.
 struct Counted<'a> {
     format: &'a str,
     front: &'a str,

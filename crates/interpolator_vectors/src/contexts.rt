@@ -1,4 +1,4 @@
-//! The contexts of files: what stands under their names.
+//! The contexts of files: what is given under their names.
 
 use crate::cells::Cell;
 use crate::lexing::Word;
@@ -8,7 +8,7 @@ use crate::words::Words;
 use interpolator::{ContextMap, Formattable, Limits};
 use std::alloc::{AllocError, Global};
 
-/// How deep lists stand in one another at most.
+/// How deep lists are nested at most.
 const LEVELS: usize = 4;
 
 /// A value, and the slots that it fills.
@@ -18,33 +18,33 @@ struct Fill {
     cell: Cell,
 }
 
-/// Where the items of a list stand among those of their level.
+/// Where the items of a list are among those of their level.
 #[derive(Clone, Copy)]
 struct Items {
     from: usize,
     to: usize,
 }
 
-/// What stands under a name, or an item of a list.
+/// What is given under a name, or an item of a list.
 #[derive(Drop)]
 struct Held {
-    /// The name; empty, where it is an item.
+    /// The name; empty if it is an item.
     name: String,
-    /// In how many lists it stands.
+    /// In how many lists it is.
     level: usize,
     fills: Vec<Fill>,
-    /// Its lists, of which the last is the one that stands.
+    /// Its lists, of which the last is the one that counts.
     lists: Vec<Items>,
 }
 
-/// All that stands under the names of a context, and in their lists.
+/// All that is given under the names of a context, and in their lists.
 #[derive(Drop)]
 pub struct Holding {
     alloc: Global,
     all: Vec<Held>,
 }
 
-/// The view that stands here, as a value.
+/// The view here, as a value.
 fn take_cell(words: &mut Words<'_>) -> Read<Cell> {
     let kind = words.bare().unwrap_or("");
     match kind {
@@ -86,14 +86,14 @@ fn number_of(kind: &str, word: &str) -> Option<Cell> {
     }
 }
 
-/// The view that stands here, to the end of the line.
+/// The view here, to the end of the line.
 pub fn view_of(words: &mut Words<'_>) -> Read<Cell> {
     let cell = take_cell(words)?;
     words.done()?;
     Ok(cell)
 }
 
-/// The slots that stand here, joined by commas.
+/// The slots here, joined by commas.
 fn take_slots(alloc: Global, words: &mut Words<'_>) -> Read<Vec<Slots>> {
     let mut all = Vec::new(alloc);
     for word in words.bare().unwrap_or("").split(',') {
@@ -146,7 +146,7 @@ impl Holding {
         }
     }
 
-    /// How many stand at a level.
+    /// How many there are at a level.
     fn count(&self, level: usize) -> usize {
         let mut count = 0usize;
         for held in &self.all {
@@ -157,7 +157,7 @@ impl Holding {
         count
     }
 
-    /// Where the name stands, if it does.
+    /// Where the name is, if it is there.
     fn find(&self, name: &str) -> Option<usize> {
         for index in 0..self.all.len() {
             if let Some(held) = self.all.get(index) {
@@ -169,14 +169,14 @@ impl Holding {
         None
     }
 
-    /// One more; where it stands.
+    /// Adds one, and tells where it is.
     fn add(&mut self, name: String, level: usize) -> Read<usize> {
         let held = Held::new(self.alloc, name, level);
         self.all.push(held)?;
         Ok(self.all.len().saturating_sub(1))
     }
 
-    /// Where the name stands, which is added if it does not.
+    /// Where the name is, which is added if it is not there.
     fn find_or_add(&mut self, name: String) -> Read<usize> {
         match self.find(name.as_str()) {
             Some(index) => Ok(index),
@@ -237,7 +237,7 @@ impl Holding {
         }
     }
 
-    /// One more item of the list of one; where it stands.
+    /// Adds an item to the list of one, and tells where it is.
     fn add_item(&mut self, words: &Words<'_>, index: usize) -> Read<usize> {
         if !self.has_list(index) {
             return Err(words.trouble("`list` is wanted before items"));
@@ -279,7 +279,7 @@ impl Holding {
         }
     }
 
-    /// The name that stands here.
+    /// The name here.
     fn take_name(&self, words: &mut Words<'_>) -> Read<String> {
         if words.is_text() {
             return words.text();
@@ -290,7 +290,7 @@ impl Holding {
         }
     }
 
-    /// A line of the context: a name, and what stands under it.
+    /// A line of the context: a name, and what is given under it.
     pub fn take_line(&mut self, words: &mut Words<'_>) -> Read<()> {
         let name = self.take_name(words)?;
         let mut open = Vec::new(self.alloc);

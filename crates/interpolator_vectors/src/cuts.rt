@@ -36,7 +36,7 @@ fn run_without_names(report: &mut Report<'_>, beginning: &str, told: Told<'_>) {
     );
 }
 
-/// The argument with which the beginning begins is read as it is written: where it is broken, its
+/// The argument with which the beginning begins is read as it is written: if it is broken, its
 /// fault is all that comes; else its name is the first that is looked up.
 fn run_argument(report: &mut Report<'_>, beginning: &str, outcome: Outcome<'_>) {
     if !beginning.starts_with('{') || beginning.starts_with("{{") {

@@ -59,9 +59,9 @@ struct Reader {
     alloc: Global,
     /// What ends before the line.
     blocks: Vec<Block>,
-    /// The context in which the line stands.
+    /// The context of the line.
     block: Block,
-    /// The row in which it stands, if `in_row`.
+    /// The row of the line, if `in_row`.
     row: Row,
     in_row: bool,
 }
@@ -93,7 +93,7 @@ impl Reader {
         Ok(())
     }
 
-    /// What stands after `context`.
+    /// What follows `context`.
     fn begin_block(&mut self, mut words: Words<'_>) -> Read<()> {
         self.end_block()?;
         self.block.cut = words.takes("cut");
@@ -101,7 +101,7 @@ impl Reader {
         words.done()
     }
 
-    /// What stands after `row`.
+    /// What follows `row`.
     fn begin_row(&mut self, number: usize, mut words: Words<'_>) -> Read<()> {
         self.end_row()?;
         self.in_row = true;
@@ -186,7 +186,7 @@ impl<'a> Facts<'a> {
         }
     }
 
-    /// Where the fact of this key stands, if it does.
+    /// Where the fact of this key is, if it is there.
     fn find(&self, key: &str) -> Option<usize> {
         for index in 0..self.row.facts.len() {
             if let Some(line) = self.row.facts.get(index) {

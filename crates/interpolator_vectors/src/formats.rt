@@ -86,7 +86,7 @@ fn append(all: &mut Vec<String>, texts: &[String]) -> Read<()> {
     Ok(())
 }
 
-/// The parts of a row, so often as it says; none, where it is no such row.
+/// The parts of a row, as often as it says; none if it is no such row.
 fn parts_of(facts: &mut Facts<'_>) -> Read<Option<Vec<String>>> {
     let Some(mut words) = facts.next("parts")? else {
         return Ok(None);
@@ -99,7 +99,7 @@ fn parts_of(facts: &mut Facts<'_>) -> Read<Option<Vec<String>>> {
     Ok(Some(parts))
 }
 
-/// The format of a row, or its parts; none, where it is no such row.
+/// The format of a row, or its parts; none if it is no such row.
 fn formats_of(facts: &mut Facts<'_>) -> Read<Option<(Vec<String>, Kind)>> {
     if let Some(mut words) = facts.next("format")? {
         let texts = words.texts()?;
@@ -185,7 +185,7 @@ pub fn run_ways(
     }
 }
 
-/// What was made is compared: a text where there is no fault.
+/// What was made is compared: a text if there is no fault.
 pub fn compare_text(
     report: &mut Report<'_>,
     way: &str,

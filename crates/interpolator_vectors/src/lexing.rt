@@ -9,13 +9,13 @@ use std::mem;
 pub enum Word {
     /// Characters without quotes.
     Bare(String),
-    /// What stands between quotes.
+    /// What is between quotes.
     Text(String),
     Open,
     Close,
 }
 
-/// Where in a line the next character stands.
+/// Where in a line the next character is.
 #[derive(Clone, Copy)]
 enum State {
     /// Between two words.
@@ -46,7 +46,7 @@ struct Lexer {
     state: State,
 }
 
-/// The character that stands for another after a backslash.
+/// The character that another stands for after a backslash.
 fn escaped(c: char) -> Option<char> {
     match c {
         '"' => Some('"'),

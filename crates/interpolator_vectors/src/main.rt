@@ -1,9 +1,9 @@
 //! `interpolator_vectors FILE..`: files of rows, of which each is run by every way that there is.
 //!
-//! docs/CONFORMANCE.md says what stands in a file, and what is run. A row that fails is told with
+//! docs/CONFORMANCE.md says what is in a file, and what is run. A row that fails is told with
 //! the file and the line, with what was wanted of it and what came. After the rows of a file come
-//! how many there were, and how many runs. The status is 1 where a row fails, or where a file
-//! cannot be read.
+//! how many there were, and how many runs. The status is 1 if a row fails, or if a file cannot be
+//! read.
 #![tactic(auto)]
 
 mod arguments;

@@ -5,7 +5,7 @@ use crate::told::Told;
 use interpolator::{Alignment, HexDebug, ParseError, Range, Sign, Spec};
 use std::alloc::{AllocError, Global};
 
-/// Appends a character as it stands between quotes.
+/// Appends a character as it is written between quotes.
 fn put_character(out: &mut String, alloc: Global, c: char) -> Result<(), AllocError> {
     match c {
         '"' => out.push_str("\\\""),

@@ -154,7 +154,7 @@ fn outcome_text(alloc: Global, text: &str, answer: Answer) -> Result<String, All
     format!(in alloc; "text {quoted}, fault {name}")
 }
 
-/// What is answered. Where the bytes that are said to be taken are those of the text, these are not
+/// What is answered. If the bytes that are said to be taken are those of the text, these are not
 /// told.
 fn settled(text: &str, answer: Answer) -> Answer {
     match answer {

@@ -21,7 +21,7 @@ impl<'a> Outcome<'a> {
 /// What of a row was run.
 #[derive(Clone, Copy)]
 pub enum Part<'a> {
-    /// The row as it stands.
+    /// The row as it is.
     Whole,
     /// To a writer of so many characters.
     Room(usize),
@@ -167,7 +167,7 @@ impl<'a> Report<'a> {
         self.say("\n");
     }
 
-    /// The same, if there was memory for the words.
+    /// Tells what was wanted of the row, and what came, if there was memory for the words.
     pub fn tell_made(
         &mut self,
         way: &str,
@@ -190,7 +190,7 @@ impl<'a> Report<'a> {
         }
     }
 
-    /// The same, if there was memory for the words.
+    /// A run of the row by a call, as words, if there was memory for those that came.
     pub fn compare_made(&mut self, way: &str, wanted: &str, came: Result<String, AllocError>) {
         match came {
             Ok(came) => self.compare_words(way, Part::Whole, wanted, came.as_str()),
@@ -231,7 +231,7 @@ impl<'a> Report<'a> {
     }
 }
 
-/// What is written and answered, as it stands in a file.
+/// What is written and answered, as it is in a file.
 fn outcome_text(alloc: Global, outcome: Outcome<'_>) -> Result<String, AllocError> {
     let text = quoted(alloc, outcome.text)?;
     let told = told_text(alloc, outcome.told)?;

@@ -19,7 +19,7 @@ use crate::words::Words;
 use interpolator::{ContextMap, Formattable, Limits};
 use std::alloc::{AllocError, Global};
 
-/// What stands under the names of a context.
+/// What is given under the names of a context.
 fn holding_of(alloc: Global, block: &Block) -> Read<Holding> {
     let mut holding = Holding::new(alloc);
     for line in &block.names {
@@ -195,7 +195,7 @@ fn run_costs(
     Ok(())
 }
 
-/// The rows of a context: each by itself and, where all of them hold, cut and joined.
+/// The rows of a context: each by itself and, if all of them hold, cut and joined.
 fn run_rows(report: &mut Report<'_>, block: &Block, context: &ContextMap<'_, Cell>) -> Read<()> {
     let failed = report.failed;
     run_each(report, block, context)?;

@@ -13,25 +13,23 @@ use crate::trouble::Read;
 use interpolator::{Argument, ContextMap, Error, Interpolate, Piece, Template, check};
 use std::alloc::{AllocError, Global};
 
-/// What a row asks of a format, in words that stand after its key.
+/// What a row asks of a format, in words that follow its key.
 #[derive(Clone, Copy, PartialEq)]
 enum Asked {
     Check,
     Sample,
     Faults,
     Names,
-    Lacks,
     Arguments,
     Widest,
     Depth,
 }
 
-const ALL: [Asked; 8] = [
+const ALL: [Asked; 7] = [
     Asked::Check,
     Asked::Sample,
     Asked::Faults,
     Asked::Names,
-    Asked::Lacks,
     Asked::Arguments,
     Asked::Widest,
     Asked::Depth,
@@ -44,7 +42,6 @@ impl Asked {
             Asked::Sample => "sample",
             Asked::Faults => "faults",
             Asked::Names => "names",
-            Asked::Lacks => "lacks",
             Asked::Arguments => "arguments",
             Asked::Widest => "widest",
             Asked::Depth => "depth",
@@ -58,7 +55,6 @@ impl Asked {
             Asked::Sample => "`check_template`",
             Asked::Faults => "`template_faults`",
             Asked::Names => "`Template::names`",
-            Asked::Lacks => "`Template::lacks`",
             Asked::Arguments => "`Template::arguments`",
             Asked::Widest => "`Template::widest`",
             Asked::Depth => "`Template::depth`",
@@ -77,7 +73,6 @@ impl Asked {
             Asked::Sample => sample_text(alloc, template, context),
             Asked::Faults => faults_text(alloc, template, context),
             Asked::Names => names_text(alloc, template),
-            Asked::Lacks => lacking_text(alloc, template.lacks(context)),
             Asked::Arguments => arguments_text(alloc, template),
             Asked::Widest => number_text(alloc, template.widest()),
             Asked::Depth => number_text(alloc, template.depth()),
@@ -122,14 +117,6 @@ fn names_text(alloc: Global, template: &Template) -> Result<String, AllocError> 
     match template.names(alloc) {
         Ok(names) => quoted_all(alloc, &names),
         Err(error) => failed_text(alloc, error),
-    }
-}
-
-/// The first asked name that the context lacks.
-fn lacking_text(alloc: Global, name: Option<&str>) -> Result<String, AllocError> {
-    match name {
-        Some(name) => quoted(alloc, name),
-        None => String::from_str(alloc, "none"),
     }
 }
 
@@ -261,7 +248,7 @@ fn has_none(facts: &mut Facts<'_>) -> Read<bool> {
     Ok(true)
 }
 
-/// `piece`: the nodes of its tree; `pieces none`, where there are none.
+/// `piece`: the nodes of its tree; `pieces none` if there are none.
 fn run_pieces(report: &mut Report<'_>, template: &Template, facts: &mut Facts<'_>) -> Read<()> {
     let is_empty = has_none(facts)?;
     let mut wanted = String::new(report.alloc);
@@ -290,7 +277,7 @@ fn run_template(
     run_pieces(report, template, facts)
 }
 
-/// The same, of a format that can be read.
+/// All that a row asks before it is written of a format that has to be one that can be read.
 pub fn run_known(
     report: &mut Report<'_>,
     context: &ContextMap<'_, Cell>,

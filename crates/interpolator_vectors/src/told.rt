@@ -27,7 +27,7 @@ fn place_of(fault: ParseError) -> usize {
     }
 }
 
-/// The same fault at another place.
+/// This fault at another place.
 pub fn put_at(fault: ParseError, place: usize) -> ParseError {
     match fault {
         ParseError::FormatSpecUnclosed(_) => ParseError::FormatSpecUnclosed(place),
@@ -41,7 +41,7 @@ pub fn put_at(fault: ParseError, place: usize) -> ParseError {
 }
 
 impl<'a> Told<'a> {
-    /// The place that is told, or 0 where none is.
+    /// The place that is told, or 0 if none is.
     pub fn place(self) -> usize {
         match self {
             Told::Done => 0,
@@ -54,7 +54,7 @@ impl<'a> Told<'a> {
         }
     }
 
-    /// The same, so many bytes further on.
+    /// This answer, so many bytes further on.
     pub fn moved(self, bytes: usize) -> Told<'a> {
         let place = self.place().saturating_add(bytes);
         match self {

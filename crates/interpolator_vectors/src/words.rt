@@ -39,7 +39,7 @@ impl<'a> Words<'a> {
         Trouble::Line(self.number, what)
     }
 
-    /// The word that stands here.
+    /// The word here.
     pub fn peek(&self) -> Option<&'a Word> {
         self.words.get(self.at)
     }
@@ -75,7 +75,7 @@ impl<'a> Words<'a> {
         Ok(out)
     }
 
-    /// The word that stands here, or the text with its repeats and what is joined to it.
+    /// The word here, or the text with its repeats and what is joined to it.
     fn next(&mut self) -> Read<String> {
         if self.is_text() {
             let text = self.text()?;
@@ -87,7 +87,7 @@ impl<'a> Words<'a> {
         }
     }
 
-    /// No word stands here.
+    /// There is no word here.
     pub fn done(&self) -> Read<()> {
         if self.is_done() {
             Ok(())
@@ -96,7 +96,7 @@ impl<'a> Words<'a> {
         }
     }
 
-    /// The word without quotes that stands here.
+    /// The word here, which has no quotes.
     pub fn bare(&mut self) -> Option<&'a str> {
         match self.peek() {
             Some(Word::Bare(word)) => {
@@ -107,7 +107,7 @@ impl<'a> Words<'a> {
         }
     }
 
-    /// Whether this word stands here, which then is read.
+    /// Whether this word is here, which then is read.
     pub fn takes(&mut self, wanted: &str) -> bool {
         match self.peek() {
             Some(Word::Bare(word)) if word.as_str() == wanted => {
@@ -118,12 +118,12 @@ impl<'a> Words<'a> {
         }
     }
 
-    /// Whether a text stands here.
+    /// Whether a text is here.
     pub fn is_text(&self) -> bool {
         matches!(self.peek(), Some(Word::Text(_)))
     }
 
-    /// The text in quotes that stands here, by itself.
+    /// The text in quotes here, by itself.
     fn quoted(&mut self) -> Option<&'a str> {
         match self.peek() {
             Some(Word::Text(text)) => {
@@ -134,7 +134,7 @@ impl<'a> Words<'a> {
         }
     }
 
-    /// Appends the text that stands here, so often as a `*` after it says.
+    /// Appends the text here, as often as a `*` after it says.
     fn append(&mut self, text: &mut String) -> Read<()> {
         let Some(part) = self.quoted() else {
             return Err(self.trouble("a text in quotes is wanted"));
@@ -143,7 +143,7 @@ impl<'a> Words<'a> {
         append_times(text, part, count)
     }
 
-    /// Whether `+` and a text stand here; the `+` then is read.
+    /// Whether `+` and a text are here; the `+` then is read.
     fn takes_join(&mut self) -> bool {
         let mut after = *self;
         if after.takes("+") && after.is_text() {
@@ -153,7 +153,7 @@ impl<'a> Words<'a> {
         false
     }
 
-    /// The text that stands here, with its repeats and what is joined to it.
+    /// The text here, with its repeats and what is joined to it.
     pub fn text(&mut self) -> Read<String> {
         let mut text = String::new(self.alloc);
         self.append(&mut text)?;
@@ -178,7 +178,7 @@ impl<'a> Words<'a> {
         Ok(texts)
     }
 
-    /// The text of one character that stands here.
+    /// The text of one character here.
     pub fn character(&mut self) -> Read<char> {
         let Some(text) = self.quoted() else {
             return Err(self.trouble("a character in quotes is wanted"));
@@ -189,7 +189,7 @@ impl<'a> Words<'a> {
         }
     }
 
-    /// The number that stands here.
+    /// The number here.
     pub fn number(&mut self) -> Read<usize> {
         match self.bare().and_then(number_of) {
             Some(number) => Ok(number),
@@ -197,7 +197,7 @@ impl<'a> Words<'a> {
         }
     }
 
-    /// The trait that stands here.
+    /// The trait here.
     pub fn trait_asked(&mut self) -> Read<Trait> {
         match self.bare().and_then(named_trait) {
             Some(t) => Ok(t),
@@ -205,7 +205,7 @@ impl<'a> Words<'a> {
         }
     }
 
-    /// The fault of a number that stands here.
+    /// The fault of a number here.
     fn number_fault(&mut self) -> Read<NumberError> {
         match self.bare().and_then(named_number) {
             Some(fault) => Ok(fault),
@@ -267,7 +267,7 @@ impl<'a> Words<'a> {
         }
     }
 
-    /// The fault that stands here.
+    /// The fault here.
     pub fn fault(&mut self) -> Read<Error> {
         match self.bare().unwrap_or("") {
             "MissingValue" => {
@@ -286,7 +286,7 @@ impl<'a> Words<'a> {
         }
     }
 
-    /// The fault of parsing that stands here, if one does.
+    /// The fault of parsing here, if there is one.
     pub fn fault_of_parsing(&mut self) -> Read<Option<ParseError>> {
         let mut ahead = *self;
         let fault = ahead.parse_fault_here()?;
@@ -301,7 +301,7 @@ impl<'a> Words<'a> {
         self.parse_fault(name)
     }
 
-    /// The fault of a number that stands here, if one does.
+    /// The fault of a number here, if there is one.
     pub fn fault_of_number(&mut self) -> Option<NumberError> {
         let mut ahead = *self;
         let fault = ahead.bare().and_then(named_number);
@@ -343,7 +343,7 @@ impl<'a> Words<'a> {
         }
     }
 
-    /// The number after this word, if the word stands here.
+    /// The number after this word, if the word is here.
     fn number_after(&mut self, word: &str) -> Read<Option<usize>> {
         if self.takes(word) {
             Ok(Some(self.number()?))
@@ -352,7 +352,7 @@ impl<'a> Words<'a> {
         }
     }
 
-    /// The spec that stands here, to the end of the line.
+    /// The spec here, to the end of the line.
     pub fn spec(&mut self) -> Read<Spec> {
         let fill = if self.takes("fill") {
             Some(self.character()?)
@@ -379,7 +379,7 @@ impl<'a> Words<'a> {
         })
     }
 
-    /// The range that stands here.
+    /// The range here.
     pub fn range(&mut self) -> Read<Range> {
         match self.bare().and_then(range_of) {
             Some(range) => Ok(range),
@@ -421,7 +421,7 @@ pub fn number_of(word: &str) -> Option<usize> {
     word.parse::<usize>().ok()
 }
 
-/// The bound that a word spells; none, where it is empty.
+/// The bound that a word spells; none if it is empty.
 fn bound_of(word: &str) -> Option<Option<isize>> {
     if word.is_empty() {
         return Some(None);

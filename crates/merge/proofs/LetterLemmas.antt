@@ -2,7 +2,8 @@
 use Rattle.std.proofs.Common.{◌≡◌, inl, inr, ℕ, ◌+◌, ◌<◌, List, [], ◌∷◌, ◌++◌, length, get_or}
 use Rattle.std.proofs.Common.{map, drop, Option, None, Some, Ok, Err, Result, refl, sym, ap, ◌∙◌, subst}
 use Rattle.std.proofs.Common.{Bool, true, false, ◌⊎◌, ◌≢◌, option_map, append-nil, length-drop}
-use Rattle.std.proofs.Common.{arith, ◌-◌, take, Decides}
+use Rattle.std.proofs.Common.{arith, ◌-◌, ◌≤◌, take, Decides}
+use Rattle.std.specs.Prelude.{IfErr, IfOk}
 use Rattle.std.specs.Borrow.{Bor}
 use Rattle.std.specs.List.{AllZip, concat, slice_get, zip}
 use Rattle.std.specs.Option.{unwrap_or}
@@ -14,17 +15,19 @@ use Rattle.std.proofs.lemmas.Slice.Zip.{all_zipped_more}
 use Rattle.std.proofs.lemmas.Option.{slice_get_read}
 use Rattle.std.proofs.lemmas.Grind.{get_or_after_one}
 use Rattle.std.specs.Str.{chars}
+use Rattle.interpolator.proofs.PreparedLemmas.RowSampleLemmas.{row_means}
 use Rattle.interpolator.proofs.TemplateLemmas.ResembleLemmas.{no_fault}
 use Rattle.interpolator.proofs.TemplateLemmas.SamplePairLemmas.{kind_has_text, pairs_resemble}
 use Rattle.interpolator.specs.At.{outermost, text_of}
 use Rattle.interpolator.specs.Contexts.{found_by_pairs}
-use Rattle.interpolator.specs.Faults.{Answer, Fault, answer_of, answered, fault, no_memory}
+use Rattle.interpolator.specs.Faults.{Answer, Fault, answer_of, result_answer, fault, no_memory}
 use Rattle.interpolator.specs.Meaning.AskedNames.{asked_names}
 use Rattle.interpolator.specs.Meaning.Environments.{environment}
-use Rattle.interpolator.specs.Meaning.Meanings.{Meaning}
+use Rattle.interpolator.specs.Meaning.Meanings.{Meaning, means}
 use Rattle.interpolator.specs.Meaning.Outcomes.{Outcome}
 use Rattle.interpolator.specs.Meaning.Resembling.{Resembles, ResemblesSlot}
 use Rattle.interpolator.specs.Meaning.SamplePairs.{PairsResemble}
+use Rattle.interpolator.specs.Prepared.Rows.{found_by_row, pair_names, row_at, PreparedFormat}
 use Rattle.interpolator.specs.Slots.{empty_slots, slot_at, slots_of, values_of, with_debug_display}
 use Rattle.interpolator.specs.Template.NodeChecks.{first_fault}
 use Rattle.interpolator.specs.Template.NodeSamples.{faults_over}
@@ -38,9 +41,10 @@ use Rattle.interpolator.specs.declared.Trait.{Trait}
 use Rattle.interpolator.specs.declared.Trait.TheVariants.{Binary, Debug, Display, Iter}
 use Rattle.interpolator.specs.declared.Trait.TheVariants.{LowerExp, LowerHex, Octal}
 use Rattle.interpolator.specs.declared.Trait.TheVariants.{UpperExp, UpperHex}
-use Rattle.merge.specs.Letters.{AreLetters, ChecksTemplate, FailsWith, IsLetter, IsSound, IsWrong}
+use Rattle.merge.specs.Letters.{AreLetters, FailsWith, IsLetter, IsSound, IsWrong}
 use Rattle.merge.specs.Letters.{HasNone, IsOther, Prevents, PutsLetter, Row, ShowFields, Shows}
 use Rattle.merge.specs.Letters.{fields_of, letter_means, names_of, rows_of}
+use Rattle.merge.specs.Values.{Prepares, ShowsField}
 use Rattle.merge.specs.declared.letters.Fault.{Fault as WhyNone}
 use Rattle.merge.specs.declared.letters.Fault.TheVariants as whys
 use Rattle.std.specs.Str.Lines.{lines}
@@ -91,7 +95,7 @@ finished m old new (inl f) = (none_told m.fault f.told, f.all.appended)
 finished m old new (inr (inl r)) = absurd (none_some _ r.told)
 finished m old new (inr (inr w)) = absurd (none_some _ w.told)
 
--- the flag of a refusal does not stand
+-- the flag of a refusal is not set
 not_refused : (flag : Bool) → flag ≡ true → flag ≡ false → ⊥
 not_refused flag up down = cc
 
@@ -99,7 +103,7 @@ not_refused flag up down = cc
 same_answer : (a b : Answer) → Some a ≡ Some b → a ≡ b
 same_answer a b e = cc
 
--- a call that answers an error where the writer did not refuse: the meaning's fault, or that memory
+-- a call that answers an error if the writer did not refuse: the meaning's fault, or that memory
 -- was refused
 failed : (m : Meaning) (old new : Written) (error : Error) → new.refused ≡ false
     → Outcome m old new (Some (answer_of error))
@@ -117,10 +121,10 @@ as_fault : (template : List ℕ) (names fields : List (List ℕ)) (error : Error
 as_fault template names fields error pairs shown (inl e) = inl e
 as_fault template names fields error pairs shown (inr e) = inr (pairs, shown, e)
 
--- a call that writes what a template means over pairs, where the writer did not refuse, puts a letter
+-- a call that writes what a template means over pairs, if the writer did not refuse, puts a letter
 pub letter_put : (template : List ℕ) (names fields : List (List ℕ)) (pairs : Row) (old new : Written)
     (result : Result (Unit {0}) Error) → ShowFields names fields pairs
-    → Outcome (letter_means template pairs) old new (answered result) → new.refused ≡ false
+    → Outcome (letter_means template pairs) old new (result_answer result) → new.refused ≡ false
     → PutsLetter template names fields old.text new.text result
 letter_put template names fields pairs old new (Ok _) shown h down =
     let done = finished (letter_means template pairs) old new h in
@@ -135,7 +139,7 @@ letter_put template names fields pairs old new (Err error) shown h down =
 abbrev text_shows : Bor (List ℕ) → Trait → Spec → Shown
 text_shows text _ _ = some_text (chars text.now)
 
--- a slot that is filled by a text where the sample's is
+-- a slot that is filled by a text if the sample's is
 slots_alike : (mine theirs : Bor (List ℕ)) (t : Trait) → ResemblesSlot text_shows text_shows t
     (slot_at t (values_of (with_debug_display empty_slots mine)))
     (slot_at t (values_of (with_debug_display empty_slots theirs)))
@@ -201,7 +205,7 @@ no_letter_fails template names fields pairs sound as_many shown =
     (asked_names (outermost (chars template)))
     (rows_alike names fields names pairs sound.sample as_many refl shown sound.shown))
 
--- so its letter fails only where memory was refused
+-- so its letter fails only if memory was refused
 pub fails_of_memory : (template : List ℕ) (names fields : List (List ℕ)) (error : Error)
     → IsSound template names → length fields ≡ length names
     → FailsWith template names fields error → answer_of error ≡ no_memory
@@ -222,16 +226,89 @@ wrong template names sample error (fault f) e shown h = inr (record {
   told = ap (λ (x : Option Fault). option_map fault x) h ∙ ap (λ (x : Answer). Some x) (sym e);
 })
 
--- what a check of the template over the names has answered
-pub checked : (template : List ℕ) (names : List (List ℕ)) (sample : Row)
-    (result : Result (Unit {0}) Error) → ShowFields names names sample
-    → AnswersFirst (faults_over text_shows (found_by_pairs sample) (outermost (chars template)))
-    (answered result)
-    → ChecksTemplate template names result
-checked template names sample (Ok _) shown h =
-    record { sample = sample; shown = shown; none = ap (λ (f : Option Fault). option_map fault f) h }
-checked template names sample (Err error) shown h =
+-- the pairs that show some names have these
+shown_names : (names : List (List ℕ)) (sample : Row) → ShowFields names names sample
+    → pair_names sample ≡ names
+shown_names [] [] h = refl
+shown_names [] (q ∷ qs) h = absurd h
+shown_names (n ∷ names) [] h = absurd h
+shown_names (n ∷ names) (q ∷ qs) h =
+    ap (λ x. x ∷ pair_names qs) h.0.same_name
+    ∙ ap (λ (xs : List (List ℕ)). n ∷ xs) (shown_names names qs h.1)
+
+-- what preparing the template over the names has answered
+pub prepares : (template : List ℕ) (names : List (List ℕ)) (sample : Row)
+    (result : Result PreparedFormat Error) → ShowFields names names sample
+    → IfOk result (λ made. made ≡ record { text = template; names = pair_names sample })
+    → IfOk result (λ _. AnswersFirst (faults_over text_shows (found_by_pairs sample)
+    (outermost (chars template))) None)
+    → IfErr result (λ error. (answer_of error ≡ no_memory) ⊎ AnswersFirst
+    (faults_over text_shows (found_by_pairs sample) (outermost (chars template)))
+    (Some (answer_of error)))
+    → Prepares template names result
+prepares template names sample (Ok made) shown is none refused = (
+  record {
+    sample = sample;
+    shown = shown;
+    none = ap (λ (f : Option Fault). option_map fault f) none;
+  },
+  is ∙ ap (λ (xs : List (List ℕ)). record { text = template; names = xs })
+      (shown_names names sample shown),
+)
+prepares template names sample (Err error) shown is none (inl e) = inl e
+prepares template names sample (Err error) shown is none (inr h) =
     wrong template names sample error (answer_of error) refl shown h
+
+-- values that show fields, one for each name
+abbrev Valued : (names fields : List (Bor (List ℕ))) → List (Formattable (Bor (List ℕ))) → Type 0
+Valued names fields values =
+    AllZip (λ field value. ShowsField field.1.now value) (zip names fields) values
+
+-- do so in pairs with the names
+pub values_shown : (names fields : List (Bor (List ℕ)))
+    (values : List (Formattable (Bor (List ℕ)))) → length fields ≡ length names
+    → Valued names fields values
+    → ShowFields (map (λ x. x.now) names) (map (λ x. x.now) fields) (zip names values)
+values_shown [] fields [] e h = tt
+values_shown [] fields (v ∷ vs) e h = absurd h
+values_shown (n ∷ ns) [] values e h = absurd (omega (arith, e))
+values_shown (n ∷ ns) (f ∷ fs) [] e h = absurd h
+values_shown (n ∷ ns) (f ∷ fs) (v ∷ vs) e h = (
+  record {
+    lent = h.0.lent;
+    same_name = refl;
+    same_field = h.0.same_field;
+    same_text = h.0.same_text;
+  },
+  values_shown ns fs vs (omega (arith, e)) h.1,
+)
+
+-- and are as many
+as_many_values : (names fields : List (Bor (List ℕ)))
+    (values : List (Formattable (Bor (List ℕ)))) → length fields ≡ length names
+    → Valued names fields values → length names ≤ length values
+as_many_values [] fields values e h = omega arith
+as_many_values (n ∷ ns) [] values e h = absurd (omega (arith, e))
+as_many_values (n ∷ ns) (f ∷ fs) [] e h = absurd h
+as_many_values (n ∷ ns) (f ∷ fs) (v ∷ vs) e h =
+    let rest = as_many_values ns fs vs (omega (arith, e)) h.1 in omega (arith, rest)
+
+-- what was written over a row is written over these pairs
+pub row_written : (template : List ℕ) (known : List (List ℕ)) (names fields : List (Bor (List ℕ)))
+    (values : List (Formattable (Bor (List ℕ)))) (old new : Written) (answer : Option Answer)
+    → known ≡ map (λ x. x.now) names → length fields ≡ length names
+    → Valued names fields values
+    → Outcome (means text_shows (environment (found_by_row known (row_at values)))
+    (outermost (chars template))) old new answer
+    → Outcome (letter_means template (zip names values)) old new answer
+row_written template known names fields values old new answer named e shown o =
+    let many : length names ≤ length values = as_many_values names fields values e shown in
+    let same : means text_shows (environment (found_by_row known (row_at values)))
+    (outermost (chars template)) ≡ letter_means template (zip names values) =
+    ap (λ (xs : List (List ℕ)). means text_shows (environment (found_by_row xs (row_at values)))
+    (outermost (chars template))) named
+    ∙ row_means text_shows values names (outermost (chars template)) many in
+    rw same at o
 
 -- one letter more
 pub letters_more : {A : Type 0} (template : List ℕ) (names : List (List ℕ)) (v : A → List ℕ)

@@ -84,7 +84,7 @@ first_wrong template pairs = option_map fault (first_fault
     (faults_over (λ text _ _. some_text (chars text.now)) (found_by_pairs pairs)
     (outermost (chars template))))
 
--- a template has no fault over the names, each as an example of what stands under it
+-- a template has no fault over the names, each as an example of what is under it
 pub record IsSound (template : List ℕ) (names : List (List ℕ)) : Type 0 where
   pub sample : Row
   pub shown : ShowFields names names sample
@@ -99,11 +99,6 @@ pub record IsFault (template : List ℕ) (names : List (List ℕ)) (error : Erro
 -- a template is wrong with an error: its fault, or that memory was refused
 abbrev pub IsWrong : List ℕ → List (List ℕ) → Error → Type 0
 IsWrong template names error = (answer_of error ≡ no_memory) ⊎ IsFault template names error
-
--- a template is sound, or wrong with an error
-abbrev pub ChecksTemplate : List ℕ → List (List ℕ) → Result (Unit {0}) Error → Type 0
-ChecksTemplate template names result =
-    MatchResult result (λ _. IsSound template names) (IsWrong template names)
 
 -- an error is the fault of what the template means over some fields, or memory was refused
 abbrev pub FailsWith : List ℕ → (names fields : List (List ℕ)) → Error → Type 0

@@ -1,2 +1,3 @@
 -- What the letters of a template and a table are.
 pub mod Letters
+pub mod Values

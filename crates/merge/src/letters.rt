@@ -5,10 +5,11 @@ ghost use Rattle.std.specs.List.{AllZip, zip};
 ghost use Rattle.std.specs.Str.{chars};
 ghost use Rattle.interpolator.specs.declared.Error.TheVariants.{NoMemory};
 ghost use Rattle.merge.specs.Letters.{fields_of, names_of, rows_of, Shows, AreLetters};
-ghost use Rattle.merge.specs.Letters.{ChecksTemplate, IsSound, PutsLetter, PutsRow, Prevents};
+ghost use Rattle.merge.specs.Letters.{IsSound, PutsLetter, PutsRow, Prevents};
+ghost use Rattle.merge.specs.Values.{Prepares, ShowsField};
 ghost use Rattle.merge.specs.declared.letters.Fault.TheVariants.{Template};
 
-use interpolator::{Error, Formattable, Interpolate, Pairs, Template, TextBuffer, TextWrite};
+use interpolator::{Error, Formattable, Pairs, Prepared, Row, Template, TextBuffer, TextWrite};
 use std::alloc::{AllocError, Global};
 
 /// Why there are no letters.
@@ -43,7 +44,7 @@ fn fields_of(alloc: Global, line: &str) -> Result<Vec<&str>, AllocError>
     line.split(',').collect::<Vec<&str>>(alloc)
 }
 
-/// The names of the fields, which stand in the first line.
+/// The names of the fields, which are in the first line.
 fn names_of(alloc: Global, table: &str) -> Result<Vec<&str>, AllocError>
     ensures { IfOk result (λ names. map (λ x. x.now) names.items ≡ names_of table.now) }
 {
@@ -66,28 +67,51 @@ fn pairs_of<'a>(
     Ok(pairs)
 }
 
-/// Checks the template over the names, each as an example of what stands under it.
-fn check_template<'a>(alloc: Global, template: &Template, names: &'a [&'a str]) -> Result<(), Error>
-    ensures { ChecksTemplate template.now (map (λ x. x.now) names.now) result }
+/// The fields as values of a row, one for each name.
+fn values_of<'a>(
+    alloc: Global,
+    names: &[&'a str],
+    fields: &'a [&'a str],
+) -> Result<Vec<Formattable<'a, &'a str>>, AllocError>
+    ensures { IfOk result (λ values. AllZip (λ field value. ShowsField field.1.now value)
+        (zip names.now fields.now) values.items) }
 {
-    let sample = pairs_of(alloc, names, names)?;
-    Pairs(&sample).check_template(alloc, template)
+    let mut values = Vec::with_capacity(alloc, fields.len())?;
+    for (name, field) in names.iter().zip(fields) {
+        let _ = name;
+        values.push(Formattable::debug_display(field))?;
+    }
+    Ok(values)
 }
 
-/// Writes the letter of a line with these fields under these names. If the buffer refuses a text, memory
-/// was refused.
+/// Prepares the template for rows of the names, each of which is an example of what is under it.
+fn prepared_letter<'a>(
+    alloc: Global,
+    template: &Template,
+    names: &'a [&'a str],
+) -> Result<Prepared, Error>
+    ensures { Prepares template.now (map (λ x. x.now) names.now) result }
+{
+    let sample = pairs_of(alloc, names, names)?;
+    template.prepare(alloc, &Pairs(&sample))
+}
+
+/// Writes the letter of a line with these fields, one for each name. If the buffer refuses a text,
+/// memory was refused.
 fn write_letter<'a>(
     alloc: Global,
     out: &mut TextBuffer,
-    template: &Template,
+    letter: &Prepared,
     names: &[&'a str],
     fields: &'a [&'a str],
 ) -> Result<(), Error>
-    ensures { PutsLetter template.now (map (λ x. x.now) names.now) (map (λ x. x.now) fields.now)
+    requires names { letter.now.names ≡ map (λ x. x.now) names.now }
+    requires whole { length fields.now ≡ length names.now }
+    ensures { PutsLetter letter.now.text (map (λ x. x.now) names.now) (map (λ x. x.now) fields.now)
         out.old.text out.new.text result }
 {
-    let pairs = pairs_of(alloc, names, fields)?;
-    let answer = Pairs(&pairs).write_template_to(alloc, out, template);
+    let values = values_of(alloc, names, fields)?;
+    let answer = letter.write(alloc, out, &Row(&values));
     if out.refused() {
         return Err(Error::NoMemory);
     }
@@ -105,13 +129,14 @@ fn is_whole(names: &[&str], fields: &[&str]) -> bool
 fn write_row<'a>(
     alloc: Global,
     out: &mut TextBuffer,
-    template: &Template,
+    letter: &Prepared,
     names: &[&'a str],
     row: usize,
     line: &'a str,
 ) -> Result<(), Fault>
-    ensures { IsSound template.now (map (λ x. x.now) names.now)
-        → PutsRow template.now (map (λ x. x.now) names.now) row line.now
+    requires names { letter.now.names ≡ map (λ x. x.now) names.now }
+    ensures { IsSound letter.now.text (map (λ x. x.now) names.now)
+        → PutsRow letter.now.text (map (λ x. x.now) names.now) row line.now
         out.old.text out.new.text result }
 {
     let held = fields_of(alloc, line)?;
@@ -119,14 +144,14 @@ fn write_row<'a>(
     if !is_whole(&*names, fields) {
         return Err(Fault::Fields(row));
     }
-    match write_letter(alloc, out, template, &*names, fields) {
+    match write_letter(alloc, out, letter, &*names, fields) {
         Ok(()) => Ok(()),
         Err(error) => Err(Fault::Template(error)),
     }
 }
 
-/// A letter for each line of the table after the first, which names the fields. The template is read
-/// and checked once, before the first letter: after that no letter can have a fault.
+/// A letter for each line of the table after the first, which names the fields. The template is read,
+/// checked and prepared once, before the first letter: after that no letter can have a fault.
 ///
 /// # Errors
 ///
@@ -142,12 +167,12 @@ pub fn merged(alloc: Global, template: &str, table: &str) -> Result<String, Faul
     let template = Template::parse(alloc, template)?;
     let held = names_of(alloc, table)?;
     let names = held.as_slice();
-    check_template(alloc, &template, names)?;
+    let letter = prepared_letter(alloc, &template, names)?;
     let mut out = TextBuffer::new(alloc);
     let mut row = 1usize;
     for line in table.lines().skip(1) {
         row += 1;
-        if let Err(fault) = write_row(alloc, &mut out, &template, names, row, line) {
+        if let Err(fault) = write_row(alloc, &mut out, &letter, names, row, line) {
             return Err(fault);
         }
     }

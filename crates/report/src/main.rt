@@ -1,11 +1,11 @@
 //! `report FILE`: a file whose lines have fields between commas, as a table.
 //!
 //! The first line names the columns. A column is as wide as its widest field, in characters. One of
-//! whole numbers alone stands to the right, and the last line has its sum.
+//! whole numbers alone is aligned to the right, and the last line has its sum.
 #![tactic(auto)]
 
 use interpolator::{
-    ContextMap, Error, Formattable, Interpolate, Pairs, TextBuffer, View, items_of, rows_of,
+    Error, Formattable, Pairs, Prepared, Row, Template, TextBuffer, Value, View, items_of,
 };
 use std::alloc::Global;
 use std::process::ExitCode;
@@ -46,7 +46,7 @@ impl Column {
         }
     }
 
-    /// What stands under the column: its sum, or in the first one what the line is.
+    /// What is under the column: its sum, or in the first one what the line is.
     fn total(self, alloc: Global, is_first: bool) -> Result<String, Error> {
         match self.sum {
             Some(sum) => Ok(format!(in alloc; "{sum}")?),
@@ -106,10 +106,19 @@ fn row_format(alloc: Global, columns: &[Column], totals: &[String]) -> Result<St
         format.push_str(item.as_str())?;
         index = index.saturating_add(1);
     }
+    format.push('\n')?;
     Ok(format)
 }
 
-/// A field as a value: a number, where it spells one.
+/// The format of a row, prepared for a list of cells under the empty name.
+fn prepared_row(alloc: Global, format: &str) -> Result<Prepared, Error> {
+    let cell = View::Text("");
+    let items = [Formattable::integer(&cell)];
+    let template = Template::parse(alloc, format)?;
+    template.prepare(alloc, &Pairs(&[("", Formattable::iter(&items))]))
+}
+
+/// A field as a value: a number, if it spells one.
 fn cell_of(field: &str) -> View<'_> {
     match number_of(field) {
         Some(number) => View::from(number),
@@ -117,55 +126,50 @@ fn cell_of(field: &str) -> View<'_> {
     }
 }
 
-/// Appends the cells of a line.
-fn push_cells<'a>(cells: &mut Vec<View<'a>>, line: &'a str) -> Result<(), Error> {
+/// The cells of a line.
+fn cells_of(alloc: Global, line: &str) -> Result<Vec<View<'_>>, Error> {
+    let mut cells = Vec::new(alloc);
     for field in line.split(',') {
         cells.push(cell_of(field))?;
     }
-    Ok(())
+    Ok(cells)
 }
 
-/// The cells of all rows, one after the other, and where each row ends.
-fn cells_of(alloc: Global, table: &str) -> Result<(Vec<View<'_>>, Vec<usize>), Error> {
-    let mut cells = Vec::new(alloc);
-    let mut ends = Vec::new(alloc);
-    for line in table.lines() {
-        push_cells(&mut cells, line)?;
-        ends.push(cells.len())?;
-    }
-    Ok((cells, ends))
-}
-
-/// Writes the rows, the names of the columns first.
-fn write_rows(alloc: Global, out: &mut TextBuffer, row: &str, table: &str) -> Result<(), Error> {
-    let (cells, ends) = cells_of(alloc, table)?;
-    let items = items_of(alloc, &cells)?;
-    let rows = rows_of(alloc, &items, &ends)?;
-    let mut context = ContextMap::new(alloc);
-    context.put("rows", Formattable::iter(&rows))?;
-    let format = format!(in alloc; "{{rows:i#({row})#(\n)}}\n")?;
-    context.write_to(alloc, out, format.as_str())
-}
-
-/// Writes the last line: its items stand under the empty name, as those of a row do.
-fn write_totals(
+/// Writes a row of cells.
+fn write_row<V: Value>(
     alloc: Global,
     out: &mut TextBuffer,
-    row: &str,
-    totals: &[String],
+    row: &Prepared,
+    cells: &[V],
 ) -> Result<(), Error> {
-    let items = items_of(alloc, totals)?;
-    Pairs(&[("", Formattable::iter(&items))]).write_line_to(alloc, out, row)
+    let items = items_of(alloc, cells)?;
+    row.write(alloc, out, &Row(&[Formattable::iter(&items)]))
+}
+
+/// Writes a line of the file as a row.
+fn write_line(
+    alloc: Global,
+    out: &mut TextBuffer,
+    row: &Prepared,
+    line: &str,
+) -> Result<(), Error> {
+    let cells = cells_of(alloc, line)?;
+    write_row(alloc, out, row, &cells)
 }
 
 /// The table of a file.
 fn report(alloc: Global, table: &str) -> Result<String, Error> {
     let columns = columns_of(alloc, table)?;
     let totals = totals_of(alloc, &columns)?;
-    let row = row_format(alloc, &columns, &totals)?;
+    let format = row_format(alloc, &columns, &totals)?;
+    let row = prepared_row(alloc, format.as_str())?;
     let mut out = TextBuffer::new(alloc);
-    write_rows(alloc, &mut out, row.as_str(), table)?;
-    write_totals(alloc, &mut out, row.as_str(), &totals)?;
+    let mut lines = table.lines();
+    write_line(alloc, &mut out, &row, lines.next().unwrap_or(""))?;
+    for line in lines {
+        write_line(alloc, &mut out, &row, line)?;
+    }
+    write_row(alloc, &mut out, &row, &totals)?;
     Ok(out.into_string())
 }
 

@@ -1,4 +1,4 @@
--- A format without a fault over the values fails only where memory was refused.
+-- A format without a fault over the values fails only if memory was refused.
 use Rattle.std.proofs.Common.{◌≡◌, ◌∙◌, sym, ap, ℕ, Bool, true, false, List, inl, inr, Option, Some}
 use Rattle.std.proofs.Common.{None, option_map}
 use Rattle.std.specs.Str.{chars}
@@ -26,7 +26,7 @@ sound_means : (format : List ℕ) (pairs : Row) → IsSound format pairs
     → (meaning_over format pairs).fault ≡ None
 sound_means format pairs = no_fault_itself shows (found_by_pairs pairs) (outermost (chars format))
 
--- so where the writer did not refuse, no fault is left
+-- so if the writer did not refuse, no fault is left
 pub only_memory : (format : List ℕ) (pairs : Row) (old new : Written) (error : Error)
     → IsSound format pairs → new.refused ≡ false
     → Outcome (meaning_over format pairs) old new (Some (answer_of error))

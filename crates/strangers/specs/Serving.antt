@@ -9,7 +9,7 @@ use Rattle.interpolator.specs.Faults.{answer_of, fault, no_memory}
 use Rattle.interpolator.specs.Meaning.Environments.{Environment, environment}
 use Rattle.interpolator.specs.Meaning.Meanings.{Meaning, means}
 use Rattle.interpolator.specs.Template.NodeChecks.{first_fault}
-use Rattle.interpolator.specs.Template.NodeCosts.{capped_cost, text_cost}
+use Rattle.interpolator.specs.Template.NodeCosts.{usize_cost, text_cost}
 use Rattle.interpolator.specs.Template.NodeSamples.{faults_over}
 use Rattle.interpolator.specs.Template.NodeWork.{Work, text_work}
 use Rattle.interpolator.specs.Views.{Shown}
@@ -45,7 +45,7 @@ work_over format pairs = text_work shows (names_over pairs) (outermost (chars fo
 
 -- what it costs at most, as it is told
 abbrev pub told_cost : Limits → List ℕ → Cost
-told_cost limits format = capped_cost (text_cost limits (outermost (chars format)))
+told_cost limits format = usize_cost (text_cost limits (outermost (chars format)))
 
 -- a count that is told is past its limit; the greatest `usize` means as many or more
 abbrev pub IsPast : (told limit : ℕ) → Type 0
@@ -103,7 +103,7 @@ abbrev pub IsSound : List ℕ → Row → Type 0
 IsSound format pairs =
     faults_over shows (found_by_pairs pairs) (outermost (chars format)) ≡ []
 
--- where it has none, an error is that memory was refused
+-- if it has none, an error is that memory was refused
 abbrev pub FailsOfMemory : List ℕ → Row → Error → Type 0
 FailsOfMemory format pairs error = IsSound format pairs → answer_of error ≡ no_memory
 

@@ -22,29 +22,29 @@ abbrev pub datum_shows : Datum → Shown
 datum_shows (Text text) = some_text (chars text.now)
 datum_shows (Number number) = signed_number number B128
 
--- what stands under the name of a word: one value in each slot, or a list of such values
+-- what is given under the name of a word: one value in each slot, or a list of such values
 abbrev pub given_tree : Given → Slots Datum
 given_tree (One value) = with_integer empty_slots value
 given_tree (Many values) = with_iter empty_slots (map (with_integer empty_slots) values.items)
 
--- the same, where the values are lent
+-- what is given under a name, its values lent
 abbrev pub lent_tree : Lent → Slots Datum
 lent_tree (lent.One value) = with_integer empty_slots value.now
 lent_tree (lent.Many items) = with_iter empty_slots (map slots_of items.items)
 
--- a name and what stands under it
+-- a name and what is given under it
 abbrev pub Named : Type 0
 Named = List ℕ × Slots Datum
 
--- the name of a word, with what stands under it
+-- the name of a word, with what is given under it
 abbrev pub word_named : Word → Named
 word_named word = (word.name.now, given_tree word.given)
 
--- the same of an entry, which lends the values of a word
+-- the name of an entry, with what is given under it: the values of a word, lent
 abbrev pub entry_named : Entry → Named
 entry_named entry = (entry.name.now, lent_tree entry.lent)
 
--- the same of a pair of a context
+-- the name of a pair of a context, with what is given under it
 abbrev pub pair_named : Bor (List ℕ) × Formattable Datum → Named
 pair_named pair = (pair.0.now, slots_of pair.1)
 

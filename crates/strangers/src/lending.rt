@@ -18,7 +18,7 @@ pub enum Lent<'a> {
     Many(Vec<Formattable<'a, Datum<'a>>>),
 }
 
-/// A name, and what stands under it, lent.
+/// A name, and what is given under it, lent.
 #[derive(Drop)]
 pub struct Entry<'a> {
     name: &'a str,

@@ -3,8 +3,8 @@
 //! is allowed.
 //!
 //! `--text` and `--items` limit the characters of a text and the items of a list among the values:
-//! 80 and 20 where they are not given. `--characters`, `--pieces` and `--buffered` limit what the
-//! format costs within these: 10000, 1000 and 10000. A format that begins with `--` stands after a
+//! 80 and 20 if they are not given. `--characters`, `--pieces` and `--buffered` limit what the
+//! format costs within these: 10000, 1000 and 10000. A format that begins with `--` follows a
 //! word `--`.
 #![tactic(auto)]
 

@@ -5,7 +5,7 @@ use crate::values::{Datum, Given, Word};
 use interpolator::{Cost, Limits};
 use std::alloc::{AllocError, Global};
 
-/// What is allowed where no flag says otherwise.
+/// What is allowed if no flag says otherwise.
 const USUAL: Allowed = Allowed {
     values: Limits {
         text: 80,
@@ -41,7 +41,7 @@ fn with_limit(allowed: Allowed, flag: &str, limit: usize) -> Option<Allowed> {
 }
 
 /// What a command line asks: flags with their numbers, a format, and words. A format that begins
-/// with `--` stands after a word `--`.
+/// with `--` follows a word `--`.
 pub fn asked_by(line: &[String]) -> Option<Request<'_>> {
     let mut allowed = USUAL;
     let mut rest = line;

@@ -37,7 +37,7 @@ pub enum Given<'a> {
     Many(Vec<Datum<'a>>),
 }
 
-/// A word: a name, and what stands under it.
+/// A word: a name, and what is given under it.
 #[derive(Drop)]
 pub struct Word<'a> {
     pub name: &'a str,

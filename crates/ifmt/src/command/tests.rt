@@ -18,8 +18,8 @@ const NO_HEX: &str = "trait `LowerHex` not implemented, used by format argument 
 /// The words of a command line, what `out` and `err` get, and the status.
 type Row = (&'static [&'static str], &'static str, &'static str, u8);
 
-/// Lines that ask no list: by hand, from the rule of what a word says, a name's later word
-/// standing.
+/// Lines that ask no list: by hand, from the rule of what a word says. Of two words of one name the
+/// later counts.
 const ROWS: [Row; 27] = [
     (&[], "", USAGE, 2),
     (&["Hi"], "Hi\n", "", 0),
@@ -73,10 +73,10 @@ const LISTS: [Row; 19] = [
     (&["{l:i}", "l[]=a", "l[]"], "", "bad word: l[]\n", 2),
 ];
 
-/// A text: parts, and how often each of them stands there.
+/// A text: parts, and how often each of them is in it.
 type Long = &'static [(&'static str, usize)];
 
-/// A format and a word, what `out` and `err` get, and the status, where a name, a text, a number, a
+/// A format and a word, what `out` and `err` get, and the status, if a name, a text, a number, a
 /// list, a format, a fault or a bad word is long: by hand, from the same rule.
 #[rattlefmt::skip]
 const LONG: [(Long, Long, Long, Long, u8); 12] = [

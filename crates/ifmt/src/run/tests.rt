@@ -69,7 +69,7 @@ enum Call {
     Usage,
 }
 
-/// Each call, and its status where no write is refused.
+/// Each call, and its status if no write is refused.
 const CALLS: [(Call, u8); 5] = [
     (Call::Text, 0),
     (Call::Fault, 1),
@@ -165,7 +165,7 @@ fn numbers_are_run(rt: HostRuntime) -> Result<(), Fail> {
     Ok(())
 }
 
-/// Whether a run writes its line, where both writers have their room before it. Else memory was
+/// Whether a run writes its line, if both writers have their room before it. Else memory was
 /// refused: for this room, or to the run, which tells it and writes no text.
 fn is_run(rt: &impl Abort, alloc: Global, line: Line) -> bool {
     let (format, text, fault, wanted) = line;

@@ -93,8 +93,8 @@ fn words_mean_what_they_say(rt: HostRuntime) {
     }
 }
 
-/// A part of a list's text, how often it stands there, the rest of the text, and the items that that
-/// makes: a part of each, how often it stands there, and how many they are. By hand, from the same
+/// A part of a list's text, how often it is in it, the rest of the text, and the items that that
+/// makes: a part of each, how often it is in it, and how many they are. By hand, from the same
 /// rule.
 const LONG: [(&str, usize, &str, &str, usize, usize); 4] = [
     ("a,", 9_999, "a", "a", 1, 10_000),
@@ -142,7 +142,7 @@ fn is_split(rt: &impl Abort, alloc: Global, text: &str, wanted: &[&str]) -> bool
     }
 }
 
-// Where memory is refused, as `rt try --test --fail-alloc` does once, the items are given when they
+// If memory is refused, as `rt try --test --fail-alloc` does once, the items are given when they
 // are asked again.
 #[test]
 fn lists_are_split_or_want_memory(rt: HostRuntime) {

@@ -1,7 +1,8 @@
 -- A node after a program, as stored steps.
-use Rattle.std.proofs.Common.{◌≡◌, ◌≢◌, ◌∙◌, refl, sym, ap, ℕ, suc, List, [], ◌∷◌, ◌++◌, map, reverse}
+use Rattle.std.proofs.Common.{◌≡◌, ◌≢◌, ◌∙◌, refl, sym, ap, ℕ, suc, ◌<◌, ◌≤◌, List, [], ◌∷◌, ◌++◌, map}
 use Rattle.std.proofs.Common.{Option, None, Some, IsSome, option_map, true, false, Bool, length}
-use Rattle.std.proofs.lemmas.List.{map-append, reverse-append, reverse-reverse}
+use Rattle.std.proofs.Common.{drop, get_or}
+use Rattle.std.proofs.lemmas.List.{map-append, drop_more, drop_all}
 use Rattle.std.specs.List.{All, fold}
 use Rattle.std.specs.Prelude.{⊤, ◌+◌, Result, Ok, Err, IfOk}
 use Rattle.std.specs.Str.{encode_utf8_all}
@@ -10,9 +11,8 @@ use Rattle.interpolator_render.specs.declared.view.Spec.{Spec}
 use Rattle.interpolator_render.specs.declared.view.Trait.{Trait}
 use Rattle.interpolator_render.specs.declared.view.Trait.TheVariants as traits
 use Rattle.interpolator_syntax.specs.At.{Placed, placed_from}
-use Rattle.interpolator_syntax.specs.Faults.{argument_fault_of}
-use Rattle.interpolator_syntax.specs.Nodes.{Node, node, Branch, Held, written, valued, refused, Bare}
-use Rattle.interpolator_syntax.specs.Nodes.{bare_value, bare_list, as_forest}
+use Rattle.interpolator_syntax.specs.Nodes.{Node, node, Branch, Content, text_content, argument_content, Target}
+use Rattle.interpolator_syntax.specs.Nodes.{target_value, target_list, as_forest}
 use Rattle.interpolator_syntax.specs.SpecTexts.{plain_spec}
 use Rattle.interpolator_syntax.specs.declared.piece_kind.PieceKind.{PieceKind}
 use Rattle.interpolator_syntax.specs.declared.piece_kind.PieceKind.TheVariants as kinds
@@ -181,9 +181,20 @@ whole_apart_by true n x xs h =
 whole_apart_by false n x xs h = absurd (cc)
 
 -- and so does a node
-pub whole_apart : (n : Node) (x : Instruction) (xs : Placed) → whole_step n ≡ Some x
+pub whole_apart : (ns : List Node) (x : Instruction) (xs : Placed) → whole_step ns ≡ Some x
     → text_after x xs ≡ x ∷ (text_step xs ∷ [])
-whole_apart n x xs h = whole_apart_by (node_whole n) n x xs h
+whole_apart [] x xs h = absurd (cc)
+whole_apart (n ∷ []) x xs h = whole_apart_by (node_whole n) n x xs h
+whole_apart (n ∷ (m ∷ ns)) x xs h = absurd (cc)
+
+-- and a copy that is kept alone is the piece's node
+pub kept_step :
+    (bs : List ℕ) (x y : Piece) (kept : List Piece) → kept ≡ [] ++ (y ∷ [])
+    → node_of bs y ≡ node_of bs x → node_whole (node_of bs x) ≡ true
+    → whole_step (nodes_of bs kept) ≡ Some (node_step (node_of bs x))
+kept_step bs x y kept is same whole =
+    ap (λ ys. whole_step (nodes_of bs ys)) is ∙ ap (λ n. whole_step (n ∷ [])) same
+    ∙ ap (λ b. if b then Some (node_step (node_of bs x)) else None) whole
 
 -- the bytes of a format are a step
 pub literal_is : (bs : List ℕ) (from to : ℕ) (cs : List ℕ) → part bs from to ≡ Some cs
@@ -284,8 +295,8 @@ module _ (names : List (List ℕ)) where
       ≡ program ++ (argument_step names (node_position names x) x ∷ [])
 
   no_text : (place end : ℕ) (kind : PieceKind) (item join : Branch) (o : Option (List ℕ))
-      (start : ℕ) (spec : Spec) (bare : Bare) (q : ℕ)
-      → Follows (node place end kind (option_map (λ name. valued start name spec bare q) o) item join)
+      (start : ℕ) (spec : Spec) (bare : Target) (q : ℕ)
+      → Follows (node place end kind (option_map (λ name. argument_content start name spec bare q) o) item join)
   no_text place end kind item join None start spec bare q program = refl
   no_text place end kind item join (Some name) start spec bare q program = refl
 
@@ -296,13 +307,13 @@ module _ (names : List (List ℕ)) where
   by_form bs place end kind item join from to q spec forms.Text h = absurd (h refl)
   by_form bs place end kind item join from to q spec forms.Name h =
       no_text place end kind item join (name_part bs place from to) (suc place) plain_spec
-      (bare_value traits.Display) q
+      (target_value traits.Display) q
   by_form bs place end kind item join from to q spec (forms.Value t) h =
       no_text place end kind item join (name_part bs place from to) (suc place) spec
-      (bare_value t) q
+      (target_value t) q
   by_form bs place end kind item join from to q spec (forms.List range) h =
       no_text place end kind item join (name_part bs place from to) (suc place) spec
-      (bare_list (range_of range)) q
+      (target_list (range_of range)) q
   by_form bs place end kind item join from to q spec (forms.Broken f) h = λ program. refl
 
   pub argument_follows :
@@ -325,7 +336,7 @@ module _ (names : List (List ℕ)) where
   -- a piece of text
   pub text_node :
       (bs : List ℕ) (x : Piece) (cs : List ℕ) (program : List Instruction)
-      → held_of bs x ≡ Some (written (out-Piece x).from cs)
+      → held_of bs x ≡ Some (text_content (out-Piece x).from cs)
       → with_node names program (node_of bs x)
       ≡ with_text program (placed_from (out-Piece x).from cs)
   text_node bs x cs program is = rw (node_of_out bs x, is) refl
@@ -370,22 +381,22 @@ module _ (names : List (List ℕ)) where
   -- ---- the position of an argument's name
 
   module _ (bs : List ℕ) (x : Piece) where
-    abbrev At : Option Held → Option ℕ
+    abbrev At : Option Content → Option ℕ
     At held = held_position names (out-Piece x).kind held
 
-    position_held : (held : Option Held) → held_of bs x ≡ held
+    position_held : (held : Option Content) → held_of bs x ≡ held
         → node_position names (node_of bs x) ≡ At held
     position_held held is = rw (node_of_out bs x, is) refl
 
     -- of a closed argument that asks for a value
     pub position_is :
         (start : ℕ) (name : List ℕ) (spec : Spec) (t : Trait) (q : ℕ) (bytes : List ℕ)
-        → held_of bs x ≡ Some (valued start name spec (bare_value t) q)
+        → held_of bs x ≡ Some (argument_content start name spec (target_value t) q)
         → (out-Piece x).kind ≡ kinds.Closed → encode_utf8_all name ≡ bytes
         → last_position names bytes ≡ node_position names (node_of bs x)
     position_is start name spec t q bytes is kind same =
-        sym (position_held (Some (valued start name spec (bare_value t) q)) is
-        ∙ ap (λ k. held_position names k (Some (valued start name spec (bare_value t) q))) kind
+        sym (position_held (Some (argument_content start name spec (target_value t) q)) is
+        ∙ ap (λ k. held_position names k (Some (argument_content start name spec (target_value t) q))) kind
         ∙ ap (last_position names) same)
 
     -- of a closed one whose name is looked up
@@ -397,7 +408,7 @@ module _ (names : List (List ℕ)) where
           (spec : Spec) (t : Trait)
           → ((name : List ℕ) → Some name ≡ stored_name bs x
           → held_of bs x
-          ≡ Some (valued ((out-Piece x).place + 1) name spec (bare_value t) (out-Piece x).spec_end))
+          ≡ Some (argument_content ((out-Piece x).place + 1) name spec (target_value t) (out-Piece x).spec_end))
           → (o : Option (List ℕ)) → stored_name bs x ≡ o → IsSome o
           → r ≡ node_position names (node_of bs x)
       by_found spec t held None e h = absurd (cc)
@@ -427,7 +438,7 @@ module _ (names : List (List ℕ)) where
         sym (rw (node_of_out bs x) (ap (λ k. held_position names k (held_of bs x)) is
         ∙ by_kind kind (held_of bs x) other))
       where
-        by_kind : (kind : PieceKind) (held : Option Held) → kind ≢ kinds.Closed
+        by_kind : (kind : PieceKind) (held : Option Content) → kind ≢ kinds.Closed
             → held_position names kind held ≡ None
         by_kind kinds.Literal held h = refl
         by_kind kinds.Doubled held h = refl
@@ -444,12 +455,12 @@ module _ (names : List (List ℕ)) where
       where
         no_name : (o : Option (List ℕ)) (start : ℕ) (spec : Spec) (range : Option Range) (q : ℕ)
             → held_position names kinds.Closed
-            (option_map (λ name. valued start name spec (bare_list range) q) o) ≡ None
+            (option_map (λ name. argument_content start name spec (target_list range) q) o) ≡ None
         no_name None start spec range q = refl
         no_name (Some name) start spec range q = refl
 
         no_text_name : (o : Option (List ℕ)) (from : ℕ)
-            → held_position names kinds.Closed (option_map (λ cs. written from cs) o) ≡ None
+            → held_position names kinds.Closed (option_map (λ cs. text_content from cs) o) ≡ None
         no_text_name None from = refl
         no_text_name (Some cs) from = refl
 
@@ -468,7 +479,7 @@ module _ (names : List (List ℕ)) where
     -- the value at a position
     pub step_is :
         (k : ℕ) (start : ℕ) (name : List ℕ) (spec : Spec) (t : Trait) (q : ℕ)
-        → held_of bs x ≡ Some (valued start name spec (bare_value t) q)
+        → held_of bs x ≡ Some (argument_content start name spec (target_value t) q)
         → Some k ≡ node_position names (node_of bs x)
         → Some (value_step k t spec q)
         ≡ Some (argument_step names (node_position names (node_of bs x)) (node_of bs x))
@@ -488,7 +499,7 @@ module _ (names : List (List ℕ)) where
           (spec : Spec) (t : Trait)
           → ((name : List ℕ) → Some name ≡ stored_name bs x
           → held_of bs x
-          ≡ Some (valued ((out-Piece x).place + 1) name spec (bare_value t) (out-Piece x).spec_end))
+          ≡ Some (argument_content ((out-Piece x).place + 1) name spec (target_value t) (out-Piece x).spec_end))
           → (o : Option (List ℕ)) → stored_name bs x ≡ o → IsSome o → IsAt t spec
       by_name spec t held None e h = absurd (cc)
       by_name spec t held (Some name) e h =
@@ -515,7 +526,7 @@ module _ (names : List (List ℕ)) where
     step_without position = ap (λ o. Some (argument_step names o (node_of bs x))) position
 
     -- what it holds leaves it as it is
-    abbrev Kept : ℕ → Option Held → Type 0
+    abbrev Kept : ℕ → Option Content → Type 0
     Kept k held =
         let y = out-Piece x in
         let n = node y.place y.end y.kind held (branch_of bs y.item) (branch_of bs y.join) in
@@ -532,11 +543,11 @@ module _ (names : List (List ℕ)) where
         ap (λ y. Some y) (sym at) ∙ ap (λ o. Some (argument_step names o (node_of bs x))) position
       where
         no_name : (o : Option (List ℕ)) (start : ℕ) (spec : Spec) (range : Option Range) (q : ℕ)
-            → Kept k (option_map (λ name. valued start name spec (bare_list range) q) o)
+            → Kept k (option_map (λ name. argument_content start name spec (target_list range) q) o)
         no_name None start spec range q = refl
         no_name (Some name) start spec range q = refl
 
-        no_text_name : (o : Option (List ℕ)) (from : ℕ) → Kept k (option_map (λ cs. written from cs) o)
+        no_text_name : (o : Option (List ℕ)) (from : ℕ) → Kept k (option_map (λ cs. text_content from cs) o)
         no_text_name None from = refl
         no_text_name (Some cs) from = refl
 
@@ -552,55 +563,54 @@ module _ (names : List (List ℕ)) where
   -- ---- all pieces, one by one
 
   module _ (bs : List ℕ) (all : List Node) where
-    -- what was made of the pieces before those that are left, which stand in reverse
+    -- what was made of the pieces before those that are left
     pub record Compiled (made : List Step) (left : List Piece) : Type 0 where
-      pub whole : forest_whole (as_forest (nodes_of bs (reverse left))) ≡ true
+      pub whole : forest_whole (as_forest (nodes_of bs left)) ≡ true
       pub done : List Instruction
       pub stands : map (step_of bs) made ≡ map Some done
-      pub goes_on : fold (with_node names) done (nodes_of bs (reverse left)) ≡ program names all
+      pub goes_on : fold (with_node names) done (nodes_of bs left) ≡ program names all
 
-    module _ (made : List Step) (left : List Piece) (x : Piece)
-        (c : Compiled made (left ++ (x ∷ []))) where
-      next_first : nodes_of bs (reverse (left ++ (x ∷ []))) ≡ node_of bs x ∷ nodes_of bs (reverse left)
-      next_first = ap (nodes_of bs) (reverse-append left (x ∷ []))
+    module _ (pieces : List Piece) (made : List Step) (i : ℕ) (c : Compiled made (drop i pieces))
+        (x : Piece) (l : i < length pieces) (is : x ≡ get_or pieces i x) where
+      next_first : drop i pieces ≡ x ∷ drop (i + 1) pieces
+      next_first = rw (drop_more pieces i x l, ← is) refl
 
       wholes : (node_whole (node_of bs x) ≡ true)
-          × (forest_whole (as_forest (nodes_of bs (reverse left))) ≡ true)
-      wholes = both (node_whole (node_of bs x)) (forest_whole (as_forest (nodes_of bs (reverse left))))
-          (ap (λ xs. forest_whole (as_forest xs)) (sym next_first) ∙ c.whole)
+          × (forest_whole (as_forest (nodes_of bs (drop (i + 1) pieces))) ≡ true)
+      wholes = both (node_whole (node_of bs x))
+          (forest_whole (as_forest (nodes_of bs (drop (i + 1) pieces))))
+          (ap (λ xs. forest_whole (as_forest (nodes_of bs xs))) (sym next_first) ∙ c.whole)
 
       pub next_whole : node_whole (node_of bs x) ≡ true
       next_whole = wholes.0
 
       pub compiled_more : (new : List Step)
-          → Becomes bs made new (λ p. with_node names p (node_of bs x)) → Compiled new left
+          → Becomes bs made new (λ p. with_node names p (node_of bs x))
+          → Compiled new (drop (i + 1) pieces)
       compiled_more new becomes = record {
         whole = wholes.1;
         done = with_node names c.done (node_of bs x);
         stands = becomes c.done c.stands;
-        goes_on = ap (fold (with_node names) c.done) (sym next_first) ∙ c.goes_on;
+        goes_on = ap (λ xs. fold (with_node names) c.done (nodes_of bs xs)) (sym next_first)
+            ∙ c.goes_on;
       }
 
     pub compiled_fits : (made : List Step) (left : List Piece) → Compiled made left
         → All (λ step. IsSome (step_of bs step)) made
     compiled_fits made left c = program_fits bs made c.done c.stands
 
-    pub compiled_none : (pieces : List Piece) (made : List Step) (left : List Piece)
-        → nodes_of bs pieces ≡ all → forest_whole (as_forest (nodes_of bs pieces)) ≡ true
-        → made ≡ [] → left ≡ reverse pieces → Compiled made left
-    compiled_none pieces made left same whole none is =
-        let again : reverse left ≡ pieces = ap reverse is ∙ reverse-reverse pieces in
-        record {
-          whole = ap (λ xs. forest_whole (as_forest (nodes_of bs xs))) again ∙ whole;
-          done = [];
-          stands = ap (map (step_of bs)) none;
-          goes_on = ap (λ xs. fold (with_node names) [] (nodes_of bs xs)) again
-              ∙ ap (program names) same;
-        }
+    pub compiled_none : (pieces : List Piece) (made : List Step) → nodes_of bs pieces ≡ all
+        → forest_whole (as_forest (nodes_of bs pieces)) ≡ true → made ≡ [] → Compiled made pieces
+    compiled_none pieces made same whole none = record {
+      whole = whole;
+      done = [];
+      stands = ap (map (step_of bs)) none;
+      goes_on = ap (program names) same;
+    }
 
-    pub compiled_all : (made : List Step) (left : List Piece) → left ≡ [] → Compiled made left
-        → map (step_of bs) made ≡ map Some (program names all)
-    compiled_all made left none c =
+    pub compiled_all : (pieces : List Piece) (made : List Step) (i : ℕ) → length pieces ≤ i
+        → Compiled made (drop i pieces) → map (step_of bs) made ≡ map Some (program names all)
+    compiled_all pieces made i h c =
         c.stands
-        ∙ ap (map Some) (ap (λ xs. fold (with_node names) c.done (nodes_of bs (reverse xs))) (sym none)
-        ∙ c.goes_on)
+        ∙ ap (map Some) (ap (λ xs. fold (with_node names) c.done (nodes_of bs xs))
+        (sym (drop_all i pieces h)) ∙ c.goes_on)

@@ -1,6 +1,6 @@
 -- Text of several parts of a format: the place of each of its bytes, and a refusal of it.
 use Rattle.std.proofs.Common.{◌≡◌, ◌∙◌, refl, sym, ap, arith, ℕ, ◌+◌, ◌-◌, ◌<◌, ◌≤◌, Bool, true, false}
-use Rattle.std.proofs.Common.{nat_lt, List, [], ◌∷◌, ◌++◌, length, map, drop, get_or, Option, None, Some, inl, inr}
+use Rattle.std.proofs.Common.{nat_lt, List, [], ◌∷◌, ◌++◌, length, drop, get_or, None, Some, inl, inr}
 use Rattle.std.specs.Prelude.{◌==◌, if◌then◌else◌}
 use Rattle.std.specs.Char.{len_utf8}
 use Rattle.std.specs.Str.{chars, IsUtf8}
@@ -9,7 +9,7 @@ use Rattle.std.proofs.Common.{length-append}
 use Rattle.std.proofs.lemmas.Str.{chars-append, chars-nil, len_utf8_bounds}
 use Rattle.interpolator_render.specs.Written.{Written}
 use Rattle.interpolator_syntax.specs.At.{Placed, placed_from, size, text_of}
-use Rattle.interpolator_syntax.specs.Faults.{Answer, fault}
+use Rattle.interpolator_syntax.specs.Faults.{Answer}
 use Rattle.interpolator_syntax.proofs.CharacterLemmas.{size-chars}
 use Rattle.interpolator_eval.specs.Meaning.Meanings.{text_alone}
 use Rattle.interpolator_eval.specs.Meaning.Outcomes.{Outcome}
@@ -18,7 +18,7 @@ use Rattle.interpolator_eval.specs.declared.meaning.sink.Sink.{Sink}
 use Rattle.interpolator_eval.specs.declared.meaning.sink.WriteFault.{WriteFault}
 use Rattle.interpolator_eval.specs.declared.meaning.sink.WriteFault.TheVariants.{MissingTraitImpl, Fmt}
 use Rattle.interpolator_eval.proofs.MeaningLemmas.PlacedLemmas.{placed_from-append}
-use Rattle.interpolator.specs.Prepared.Programs.{Instruction, text_step}
+use Rattle.interpolator.specs.Prepared.Programs.{text_step}
 use Rattle.interpolator.specs.Prepared.StoredSteps.{parts_size, joined_place, placed_by}
 use Rattle.interpolator.specs.Prepared.StoredSteps.{joined_placed, joined_step, moved_fault}
 use Rattle.interpolator.specs.declared.prepared.step.Part.{Part}
@@ -42,7 +42,7 @@ place_kept (p ∷ ps) x o h =
     let past : p.to - p.from ≤ o = grind arith in
     place_kept ps x (o - (p.to - p.from)) (omega (arith, h, past)))
 
--- and its own bytes stand where it does
+-- and its own bytes are at its place
 pub place_added : (ps : List Part) (x : Part) (o : ℕ) → o < x.to - x.from
     → joined_place (ps ++ (x ∷ [])) (parts_size ps + o) ≡ x.from + o
 place_added [] x o h =
@@ -91,7 +91,8 @@ joined_is : (b : Bool) (xs ds : Placed)
 joined_is true xs ds h = (refl, cc)
 joined_is false xs ds h = absurd (cc)
 
-equal_numbers : (a b : ℕ) → (a == b) ≡ true → a ≡ b
+-- numbers that are told equal
+pub equal_numbers : (a b : ℕ) → (a == b) ≡ true → a ≡ b
 equal_numbers a b h = grind arith
 
 number_equals : (a b : ℕ) → a ≡ b → (a == b) ≡ true

@@ -8,17 +8,17 @@ use Rattle.interpolator_render.specs.declared.view.Trait.{Trait}
 use Rattle.interpolator_render.specs.declared.view.Spec.{Spec}
 use Rattle.interpolator_render.specs.Views.{Shown}
 use Rattle.interpolator_syntax.specs.At.{Placed, placed_from}
-use Rattle.interpolator_syntax.specs.Nodes.{Node, node, Branch, Held, written, valued, refused}
-use Rattle.interpolator_syntax.specs.Nodes.{bare_value, bare_list, as_forest}
+use Rattle.interpolator_syntax.specs.Nodes.{Node, node, Branch, Content, text_content, argument_content, fault_content}
+use Rattle.interpolator_syntax.specs.Nodes.{target_value, target_list, as_forest}
 use Rattle.interpolator_syntax.specs.declared.piece_kind.PieceKind.{PieceKind}
 use Rattle.interpolator_syntax.specs.declared.piece_kind.PieceKind.TheVariants as kinds
 use Rattle.interpolator_eval.specs.Slots.{Slots}
 use Rattle.interpolator_eval.specs.Meaning.Environments.{Environment, environment}
-use Rattle.interpolator_eval.specs.Meaning.Meanings.{Meaning, text_alone, joined, under_name}
+use Rattle.interpolator_eval.specs.Meaning.Meanings.{Meaning, text_alone, chain, under_name}
 use Rattle.interpolator_eval.proofs.MeaningLemmas.MeaningLemmas.{joined_none, nothing_last}
 use Rattle.interpolator_eval.proofs.MeaningLemmas.MeaningLemmas.{joined_assoc}
-use Rattle.interpolator.specs.Template.NodeMeanings.{bare_means, node_means, forest_means}
-use Rattle.interpolator.specs.Template.NodeMeanings.{join_branch_means, item_branch_means}
+use Rattle.interpolator_eval.specs.Meaning.Meanings.{bare_means, node_means, forest_means}
+use Rattle.interpolator_eval.specs.Meaning.Meanings.{join_branch_means, item_branch_means}
 use Rattle.interpolator.specs.Prepared.Programs.{Instruction, text_step, value_step, node_step}
 use Rattle.interpolator.specs.Prepared.Programs.{text_after, with_text, with_node, program}
 use Rattle.interpolator.specs.Prepared.Programs.{held_position, node_position, step_at, argument_step}
@@ -54,25 +54,25 @@ module _ {X : Type 0} (shows : X → Trait → Spec → Shown) (e : Environment 
   abbrev One : Instruction → Meaning
   One = step_means shows e value_at
 
-  pub steps_append : (xs ys : List Instruction) → Mean (xs ++ ys) ≡ joined (Mean xs) (Mean ys)
+  pub steps_append : (xs ys : List Instruction) → Mean (xs ++ ys) ≡ chain (Mean xs) (Mean ys)
   steps_append [] ys = sym (joined_none (Mean ys))
   steps_append (x ∷ xs) ys =
-      ap (joined (One x)) (steps_append xs ys) ∙ sym (joined_assoc (One x) (Mean xs) (Mean ys))
+      ap (chain (One x)) (steps_append xs ys) ∙ sym (joined_assoc (One x) (Mean xs) (Mean ys))
 
   after_means : (x : Instruction) (xs : Placed)
-      → Mean (text_after x xs) ≡ joined (One x) (text_alone xs)
+      → Mean (text_after x xs) ≡ chain (One x) (text_alone xs)
   after_means (text_step before) xs = nothing_last (text_alone (before ++ xs))
   after_means (value_step k t spec end) xs =
-      ap (joined (One (value_step k t spec end))) (nothing_last (text_alone xs))
-  after_means (node_step x) xs = ap (joined (One (node_step x))) (nothing_last (text_alone xs))
+      ap (chain (One (value_step k t spec end))) (nothing_last (text_alone xs))
+  after_means (node_step x) xs = ap (chain (One (node_step x))) (nothing_last (text_alone xs))
 
   pub with_text_means : (steps : List Instruction) (xs : Placed)
-      → Mean (with_text steps xs) ≡ joined (Mean steps) (text_alone xs)
+      → Mean (with_text steps xs) ≡ chain (Mean steps) (text_alone xs)
   with_text_means [] xs = nothing_last (text_alone xs) ∙ sym (joined_none (text_alone xs))
   with_text_means (x ∷ []) xs =
-      after_means x xs ∙ ap (λ m. joined m (text_alone xs)) (sym (nothing_last (One x)))
+      after_means x xs ∙ ap (λ m. chain m (text_alone xs)) (sym (nothing_last (One x)))
   with_text_means (x ∷ (y ∷ steps)) xs =
-      ap (joined (One x)) (with_text_means (y ∷ steps) xs)
+      ap (chain (One x)) (with_text_means (y ∷ steps) xs)
       ∙ sym (joined_assoc (One x) (Mean (y ∷ steps)) (text_alone xs))
 
 -- ---- nodes
@@ -87,35 +87,35 @@ module _ {X : Type 0} (shows : X → Trait → Spec → Shown) (names : List (Li
       (start : ℕ) (name : List ℕ) (t : Trait) (spec : Spec) (q : ℕ) (item join : Branch)
       (o : Option (Slots X)) → IsSome o
       → position_means shows E value_at t spec q o
-      ≡ under_name name start (bare_means shows (bare_value t) spec q
+      ≡ under_name name start (bare_means shows (target_value t) spec q
       (join_branch_means shows E join) (item_branch_means shows E item q)) o
   by_value start name t spec q item join None h = absurd (cc)
   by_value start name t spec q item join (Some found) h = refl
 
   held_argument :
-      (place end : ℕ) (kind : PieceKind) (held : Option Held) (item join : Branch) (k : ℕ)
+      (place end : ℕ) (kind : PieceKind) (held : Option Content) (item join : Branch) (k : ℕ)
       → held_position names kind held ≡ Some k
       → step_means shows E value_at (step_at names k (node place end kind held item join))
       ≡ node_means shows E (node place end kind held item join)
   held_argument place end kind None item join k h = refl
-  held_argument place end kind (Some (written from cs)) item join k h = refl
-  held_argument place end kind (Some (refused f)) item join k h = refl
-  held_argument place end kind (Some (valued start name spec (bare_list r) q)) item join k h = refl
-  held_argument place end kinds.Closed (Some (valued start name spec (bare_value t) q)) item join k h =
+  held_argument place end kind (Some (text_content from cs)) item join k h = refl
+  held_argument place end kind (Some (fault_content f)) item join k h = refl
+  held_argument place end kind (Some (argument_content start name spec (target_list r) q)) item join k h = refl
+  held_argument place end kinds.Closed (Some (argument_content start name spec (target_value t) q)) item join k h =
       by_value start name t spec q item join (value_at k)
       (reached k (position_below names (encode_utf8_all name) k h))
-      ∙ sym (ap (λ o. under_name name start (bare_means shows (bare_value t) spec q
+      ∙ sym (ap (λ o. under_name name start (bare_means shows (target_value t) spec q
       (join_branch_means shows E join) (item_branch_means shows E item q))
       (option_and_then value_at o)) h)
-  held_argument place end kinds.Literal (Some (valued start name spec (bare_value t) q)) item join k h =
+  held_argument place end kinds.Literal (Some (argument_content start name spec (target_value t) q)) item join k h =
       absurd (cc)
-  held_argument place end kinds.Doubled (Some (valued start name spec (bare_value t) q)) item join k h =
+  held_argument place end kinds.Doubled (Some (argument_content start name spec (target_value t) q)) item join k h =
       absurd (cc)
-  held_argument place end kinds.LoneClose (Some (valued start name spec (bare_value t) q)) item join k h =
+  held_argument place end kinds.LoneClose (Some (argument_content start name spec (target_value t) q)) item join k h =
       absurd (cc)
-  held_argument place end kinds.Unclosed (Some (valued start name spec (bare_value t) q)) item join k h =
+  held_argument place end kinds.Unclosed (Some (argument_content start name spec (target_value t) q)) item join k h =
       absurd (cc)
-  held_argument place end kinds.Broken (Some (valued start name spec (bare_value t) q)) item join k h =
+  held_argument place end kinds.Broken (Some (argument_content start name spec (target_value t) q)) item join k h =
       absurd (cc)
 
   argument_means : (o : Option ℕ) (x : Node) → node_position names x ≡ o
@@ -126,32 +126,32 @@ module _ {X : Type 0} (shows : X → Trait → Spec → Shown) (names : List (Li
 
   last_means : (steps : List Instruction) (x : Node)
       → steps_mean shows E value_at (steps ++ (argument_step names (node_position names x) x ∷ []))
-      ≡ joined (steps_mean shows E value_at steps) (node_means shows E x)
+      ≡ chain (steps_mean shows E value_at steps) (node_means shows E x)
   last_means steps x =
       steps_append shows E value_at steps (argument_step names (node_position names x) x ∷ [])
-      ∙ ap (joined (steps_mean shows E value_at steps))
+      ∙ ap (chain (steps_mean shows E value_at steps))
       (nothing_last (step_means shows E value_at (argument_step names (node_position names x) x))
       ∙ argument_means (node_position names x) x refl)
 
   node_after : (steps : List Instruction) (x : Node)
       → steps_mean shows E value_at (with_node names steps x)
-      ≡ joined (steps_mean shows E value_at steps) (node_means shows E x)
+      ≡ chain (steps_mean shows E value_at steps) (node_means shows E x)
   node_after steps (node place end kind None item join) =
       last_means steps (node place end kind None item join)
-  node_after steps (node place end kind (Some (written from cs)) item join) =
+  node_after steps (node place end kind (Some (text_content from cs)) item join) =
       with_text_means shows E value_at steps (placed_from from cs)
-  node_after steps (node place end kind (Some (valued start name spec bare q)) item join) =
-      last_means steps (node place end kind (Some (valued start name spec bare q)) item join)
-  node_after steps (node place end kind (Some (refused f)) item join) =
-      last_means steps (node place end kind (Some (refused f)) item join)
+  node_after steps (node place end kind (Some (argument_content start name spec bare q)) item join) =
+      last_means steps (node place end kind (Some (argument_content start name spec bare q)) item join)
+  node_after steps (node place end kind (Some (fault_content f)) item join) =
+      last_means steps (node place end kind (Some (fault_content f)) item join)
 
   program_after : (steps : List Instruction) (xs : List Node)
       → steps_mean shows E value_at (fold (with_node names) steps xs)
-      ≡ joined (steps_mean shows E value_at steps) (forest_means shows E (as_forest xs))
+      ≡ chain (steps_mean shows E value_at steps) (forest_means shows E (as_forest xs))
   program_after steps [] = sym (nothing_last (steps_mean shows E value_at steps))
   program_after steps (x ∷ xs) =
       program_after (with_node names steps x) xs
-      ∙ ap (λ m. joined m (forest_means shows E (as_forest xs))) (node_after steps x)
+      ∙ ap (λ m. chain m (forest_means shows E (as_forest xs))) (node_after steps x)
       ∙ joined_assoc (steps_mean shows E value_at steps) (node_means shows E x)
       (forest_means shows E (as_forest xs))
 

@@ -1,5 +1,5 @@
 -- What stored steps mean, one after the other.
-use Rattle.std.proofs.Common.{◌≡◌, ◌∙◌, refl, sym, ap, ℕ, zero, suc, ◌+◌, ◌<◌, ◌≤◌, List, [], ◌∷◌, ◌++◌}
+use Rattle.std.proofs.Common.{◌≡◌, ◌∙◌, refl, ap, ℕ, zero, suc, ◌+◌, ◌<◌, ◌≤◌, List, [], ◌∷◌, ◌++◌}
 use Rattle.std.proofs.Common.{arith}
 use Rattle.std.proofs.Common.{length, drop, map, get_or, Option, None, Some, IsSome}
 use Rattle.std.proofs.lemmas.List.{drop_more, drop_all}
@@ -11,7 +11,7 @@ use Rattle.interpolator_render.specs.Written.{Written}
 use Rattle.interpolator_syntax.specs.Faults.{Answer}
 use Rattle.interpolator_eval.specs.Slots.{Slots}
 use Rattle.interpolator_eval.specs.Meaning.Environments.{Environment}
-use Rattle.interpolator_eval.specs.Meaning.Meanings.{Meaning, joined}
+use Rattle.interpolator_eval.specs.Meaning.Meanings.{Meaning, chain}
 use Rattle.interpolator_eval.specs.Meaning.Outcomes.{Outcome}
 use Rattle.interpolator_eval.specs.Meaning.Sinks.{Writes, taken_by}
 use Rattle.interpolator_eval.specs.declared.meaning.sink.Sink.{Sink}
@@ -57,9 +57,9 @@ module _ {X : Type 0} (shows : X → Trait → Spec → Shown) (e : Environment 
   program_stored [] (p ∷ ps) h = absurd (cc)
   program_stored (s ∷ ss) [] h = absurd (cc)
   program_stored (s ∷ ss) (p ∷ ps) h =
-      ap (λ o. joined (fitting_means shows e value_at o) (stored_steps_mean shows e value_at bs ss))
+      ap (λ o. chain (fitting_means shows e value_at o) (stored_steps_mean shows e value_at bs ss))
       (first_same (step_of bs s) (Some p) (map (step_of bs) ss) (map Some ps) h)
-      ∙ ap (joined (step_means shows e value_at p))
+      ∙ ap (chain (step_means shows e value_at p))
       (program_stored ss ps (rest_same (step_of bs s) (Some p) (map (step_of bs) ss) (map Some ps) h))
 
   module _ {W : Type 0} (into : W → Written) (xs : List Step) (i : ℕ) where

@@ -9,13 +9,13 @@ use Rattle.interpolator_render.specs.declared.view.Trait.{Trait}
 use Rattle.interpolator_render.specs.declared.view.Spec.{Spec}
 use Rattle.interpolator_render.specs.Views.{Shown}
 use Rattle.interpolator_render.specs.Written.{Written}
-use Rattle.interpolator_syntax.specs.At.{outermost, placed_from}
+use Rattle.interpolator_syntax.specs.At.{outermost}
 use Rattle.interpolator_syntax.specs.Faults.{Answer}
 use Rattle.interpolator_syntax.specs.Nodes.{nodes}
 use Rattle.interpolator_eval.specs.Slots.{Slots, slots_of, values_of, slot_at}
 use Rattle.interpolator_eval.specs.declared.slots.Formattable.{Formattable}
-use Rattle.interpolator_eval.specs.Meaning.Environments.{Environment, environment, given, bind}
-use Rattle.interpolator_eval.specs.Meaning.Meanings.{Meaning, means, under_name, value_means, text_alone}
+use Rattle.interpolator_eval.specs.Meaning.Environments.{Environment, environment}
+use Rattle.interpolator_eval.specs.Meaning.Meanings.{means, value_means}
 use Rattle.interpolator_eval.specs.Meaning.Outcomes.{Outcome}
 use Rattle.interpolator_eval.specs.Meaning.Sinks.{Writes}
 use Rattle.interpolator_eval.specs.declared.meaning.sink.Sink.{Sink}
@@ -23,24 +23,10 @@ use Rattle.interpolator.specs.Prepared.Programs.{program, position_means}
 use Rattle.interpolator.specs.Prepared.Rows.{found_by_row, row_at, name_bytes, last_position}
 use Rattle.std.specs.Option.{option_and_then}
 use Rattle.std.proofs.lemmas.Str.{encodes-chars}
-use Rattle.interpolator.specs.Prepared.StoredSteps.{step_of, stored_steps_mean, fitting_means}
-use Rattle.interpolator.specs.Prepared.StoredSteps.{parts_size, joined_placed}
-use Rattle.interpolator.specs.Prepared.Programs.{Instruction, text_step, node_step}
-use Rattle.interpolator.specs.Template.NodeMeanings.{node_means}
-use Rattle.interpolator.specs.Template.Stored.{part, node_of, node_whole}
-use Rattle.interpolator.specs.declared.template.piece.Piece.{Piece}
-use Rattle.interpolator.specs.declared.prepared.step.Asked.{Asked}
-use Rattle.interpolator.specs.declared.prepared.step.JoinedText.{JoinedText}
-use Rattle.interpolator.specs.declared.prepared.step.Step.TheVariants.{Literal, Joined, Plain, Under, Whole}
-use Rattle.interpolator_render.specs.declared.view.Trait.TheVariants as traits
-use Rattle.interpolator_syntax.specs.SpecTexts.{plain_spec}
-use Rattle.std.specs.Global.{Box}
-use Rattle.std.specs.Prelude.{◌==◌, if◌then◌else◌}
-use Rattle.std.proofs.Common.{Bool, true, false}
+use Rattle.interpolator.specs.Prepared.StoredSteps.{step_of, stored_steps_mean}
 use Rattle.interpolator.specs.declared.prepared.step.Step.{Step}
 use Rattle.interpolator.proofs.PreparedLemmas.ProgramLemmas.{program_means}
 use Rattle.interpolator.proofs.PreparedLemmas.StepLemmas.{program_stored}
-use Rattle.interpolator.proofs.TemplateLemmas.NodeMeaningLemmas.{nodes_mean}
 
 -- a row reaches each position below its length
 pub row_reaches : {X : Type 0} (row : List (Formattable X)) (k : ℕ) → k < length row
@@ -91,20 +77,16 @@ names_reached names row h k l =
     let all : length (name_bytes names) ≡ length names = length-map names (λ name. string_bytes name) in
     row_reaches row k (omega (arith, all, h, l))
 
--- what a row's value means is what the bound item does under the empty name
+-- what is in a slot of a row's value is what its position means
 pub item_writes :
-    {X W : Type 0} (shows : X → Trait → Spec → Shown) (into : W → Written) (e f : Environment X)
+    {X W : Type 0} (shows : X → Trait → Spec → Shown) (into : W → Written) (e : Environment X)
     (value_at : ℕ → Option (Slots X)) (t : Trait) (spec : Spec) (end : ℕ) (found : Slots X)
-    (name : List ℕ) (o : Option (Slots X)) (s u : Sink W) (answer : Option Answer)
-    → f ≡ bind e found → name ≡ [] → o ≡ Some found
-    → Writes into (under_name name 0
-    (λ found. value_means shows t spec end (slot_at t (values_of found))) (given f name)) s u answer
+    (o : Option (Slots X)) (s u : Sink W) (answer : Option Answer) → o ≡ Some found
+    → Writes into (value_means shows t spec end (slot_at t (values_of found))) s u answer
     → Writes into (position_means shows e value_at t spec end o) s u answer
-item_writes shows into e f value_at t spec end found name o s u answer bound empty is w =
+item_writes shows into e value_at t spec end found o s u answer is w =
     let same : position_means shows e value_at t spec end o
-    ≡ under_name name 0 (λ found. value_means shows t spec end (slot_at t (values_of found)))
-    (given f name) =
-    rw (bound, empty, is) refl in
+    ≡ value_means shows t spec end (slot_at t (values_of found)) = rw (is) refl in
     record { outcome = rw same w.outcome; same = w.same }
 
 pub row_outcome :
@@ -122,5 +104,5 @@ row_outcome shows f names value_at bs steps old new answer is reached stands o =
     let same : stored_steps_mean shows f value_at bs steps ≡ means shows e a =
     ap (λ g. stored_steps_mean shows g value_at bs steps) is
     ∙ program_stored shows e value_at bs steps (program names (nodes a)) stands
-    ∙ program_means shows names value_at reached (nodes a) ∙ nodes_mean shows e a in
+    ∙ program_means shows names value_at reached (nodes a) in
     rw same at o

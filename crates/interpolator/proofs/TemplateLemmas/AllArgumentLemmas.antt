@@ -1,5 +1,6 @@
 -- The arguments of a text: those of its pieces, those of what the scan hands on, and their names.
-use Rattle.std.proofs.Common.{◌≡◌, ℕ, zero, suc, ◌+◌, ◌<◌, ◌≤◌, List, [], ◌∷◌, ◌++◌, length, arith}
+use Rattle.std.proofs.Common.{◌≡◌, ℕ, zero, suc, true, false, ◌+◌, ◌<◌, ◌≤◌, List, [], ◌∷◌, ◌++◌}
+use Rattle.std.proofs.Common.{length, arith}
 use Rattle.std.proofs.Common.{refl, ap, sym, ◌∙◌, append_assoc, Option, Some, None, map, Ok}
 use Rattle.std.proofs.lemmas.List.{append-nil, map-append}
 use Rattle.std.specs.Char.{len_utf8}
@@ -21,18 +22,50 @@ use Rattle.interpolator_syntax.specs.declared.token.Token.TheVariants as tokens
 use Rattle.interpolator_syntax.specs.declared.argument.TakenArgument.{TakenArgument}
 use Rattle.interpolator_syntax.proofs.ScanLemmas.{hands_on, hands_nothing}
 use Rattle.interpolator_syntax.proofs.SizeLemmas.{GroupIfIn, KindIn, PieceIn, PiecesIn, pieces_in}
-use Rattle.interpolator_eval.specs.Meaning.AskedNames.{without_empty, group_asks, kind_asks, piece_asks}
-use Rattle.interpolator_eval.specs.Meaning.AskedNames.{pieces_ask, asked_within, asked_names}
 use Rattle.interpolator_syntax.specs.Groups.{inside}
+use Rattle.interpolator_syntax.specs.Nodes.{nodes, group_branch, piece_node}
+use Rattle.interpolator_syntax.specs.Splits.{node_alone}
+use Rattle.interpolator_eval.specs.Meaning.AskedNames.{branch_asks, node_asks, asked_names}
+use Rattle.interpolator_eval.specs.Meaning.AskedNames.{without_empty}
 use Rattle.interpolator.specs.Template.AllArguments.{group_arguments, kind_arguments}
 use Rattle.interpolator.specs.Template.AllArguments.{piece_arguments, pieces_arguments}
 use Rattle.interpolator.specs.Template.AllArguments.{arguments_within, arguments_of, names_of}
 use Rattle.interpolator.specs.Template.Reading.{taken_step}
-use Rattle.interpolator_eval.proofs.MeaningLemmas.DepthLemmas.{by_groups}
+use Rattle.interpolator_eval.proofs.MeaningLemmas.AskedPieceLemmas.{group_asks, kind_asks}
+use Rattle.interpolator_eval.proofs.MeaningLemmas.AskedPieceLemmas.{pieces_ask}
+use Rattle.interpolator_eval.proofs.MeaningLemmas.AskedPieceLemmas.{branch_in_item, asked_pieces}
+use Rattle.interpolator_eval.proofs.MeaningLemmas.AskedPieceLemmas.{without_append, without_twice}
+use Rattle.interpolator_syntax.proofs.NodeLemmas.{by_length}
+use Rattle.interpolator_syntax.proofs.SplitLemmas.{any_brace}
 use Rattle.interpolator_eval.proofs.MeaningLemmas.ListLemmas.{kind_size, groups_within}
 use Rattle.interpolator_syntax.proofs.TokenLemmas.{scan_shorter}
-use Rattle.interpolator.proofs.TemplateLemmas.NodeNameLemmas.{any_kind, without_append, without_twice}
 use Rattle.interpolator.proofs.TemplateLemmas.ParseLemmas.{taken_is}
+
+-- ---- what is gathered from a text by a step that runs over its groups as over texts: any depth
+-- that is deep enough gives the same
+
+module _ {Y : Type 0} (step : (At → Y) → At → Y) (within : ℕ → At → Y)
+    (deeper : (n : ℕ) (a : At) → within (suc n) a ≡ step (within n) a)
+    (same : (run other : At → Y) (a : At)
+    → ((b : At) → length b.text < length a.text → run b ≡ other b)
+    → step run a ≡ step other a) where
+  deep_same : (n m : ℕ) (a : At) → length a.text < n → length a.text < m → within n a ≡ within m a
+  deep_same zero m a h k = absurd (omega (arith, h))
+  deep_same (suc n) zero a h k = absurd (omega (arith, k))
+  deep_same (suc n) (suc m) a h k =
+      deeper n a
+      ∙ same (within n) (within m) a
+      (λ b l. deep_same n m b (omega (arith, h, l)) (omega (arith, k, l)))
+      ∙ sym (deeper m a)
+
+  -- it is the step over what is gathered from the groups
+  pub by_groups : (a : At)
+      → within (suc (length a.text)) a ≡ step (λ b. within (suc (length b.text)) b) a
+  by_groups a =
+      let n = length a.text in
+      deeper n a
+      ∙ same (within n) (λ b. within (suc (length b.text)) b) a
+      (λ b l. deep_same n (suc (length b.text)) b l (omega arith))
 
 -- ---- the arguments of a text are those of its pieces
 
@@ -64,14 +97,14 @@ arguments_pieces a =
     by_groups (λ run b. pieces_arguments run (pieces b)) arguments_within (λ n b. refl)
     (λ run other b same. pieces_alike b run other same (pieces b) (pieces_in b)) a
 
--- ---- they are those of what the scan hands on, and of what stands after it
+-- ---- they are those of what the scan hands on, and of what follows it
 
 literals_give : (run : At → List Argument) (p : ℕ) (cs : List ℕ) (xs : List Piece)
     → pieces_arguments run (literal_pieces p cs ++ xs) ≡ pieces_arguments run xs
 literals_give run p [] xs = refl
 literals_give run p (c ∷ cs) xs = literals_give run (p + len_utf8 c) cs xs
 
--- those of what the scan hands on, where b stands after it
+-- those of what the scan hands on, with b after it
 abbrev pub token_arguments : Token → (b : At) → List Argument
 token_arguments argument b = piece_arguments arguments_of (argument_from b.place b).piece.kind
 token_arguments t b = []
@@ -82,7 +115,7 @@ token_gives : (p : ℕ) (t : Token) (b : At) (xs : List Piece)
 token_gives p (literals cs) b xs = literals_give arguments_of p cs xs
 token_gives p argument b xs =
     ap (λ k. piece_arguments arguments_of k ++ pieces_arguments arguments_of xs)
-    (any_kind p b.place b)
+    ((any_brace b.place p b).1)
 token_gives p t b xs = refl
 
 arguments_first : (a b : At) (t : Token) → first_token a ≡ Some (t, b)
@@ -97,7 +130,7 @@ arguments_none : (a : At) → first_token a ≡ None → arguments_of a ≡ []
 arguments_none a h =
     arguments_pieces a ∙ ap (pieces_arguments arguments_of) (hands_nothing a h)
 
--- another token has none, and what stands after it is what is read on
+-- another token has none, and what follows it is what is read on
 pub no_argument : (x : code_token.Token) (b : At) → ¬ (x ≡ tokens.Argument)
     → (token_arguments (token_of x) b ≡ []) × (past_token (token_of x) b ≡ b)
 no_argument (tokens.Literals text) b n = (refl, refl)
@@ -107,8 +140,8 @@ no_argument tokens.Argument b n = absurd (n refl)
 
 -- ---- all that was read
 
--- `here` stands in the text, and what was gathered so far, after what was there before, with the
--- arguments of what stands here are those of the whole text
+-- `here` is in the text, and what was gathered so far, after what was there before, with the
+-- arguments of what is here are those of the whole text
 pub record Gathering (text : At) (before so_far : List Argument) (here : At) : Type 0 where
   pub left : length here.text ≤ length text.text
   pub all : so_far ++ arguments_of here ≡ before ++ arguments_of text
@@ -199,37 +232,43 @@ one_names : (name : List ℕ) (ns ms : List (List ℕ)) → without_empty ns ≡
 one_names [] ns ms h = h
 one_names (c ∷ cs) ns ms h = ap (λ xs. (c ∷ cs) ∷ xs) h
 
-module _ (gives : At → List Argument) (asks : At → List (List ℕ))
-    (name : (a : At) → Name (gives a) (asks a)) where
-  group_names : (o : Option Group) → Name (group_arguments gives o) (group_asks asks o)
-  group_names None = refl
-  group_names (Some g) = name (inside g)
+module _ (a : At) (shorter : (b : At) → length b.text < length a.text
+    → Name (arguments_of b) (asked_names b)) where
+  group_names : (o : Option Group) → GroupIfIn o a
+      → Name (group_arguments arguments_of o) (group_asks o)
+  group_names None h = refl
+  group_names (Some g) h = shorter (inside g) h.shorter
 
-  kind_names : (kind : Kind) → Name (kind_arguments gives kind) (kind_asks asks kind)
-  kind_names (of_value t) = refl
-  kind_names (of_list l) =
-      both_name (group_arguments gives l.item) (group_arguments gives l.join)
-      (without_empty (group_asks asks l.item)) (group_asks asks l.join)
-      (group_names l.item ∙ sym (without_twice (group_asks asks l.item))) (group_names l.join)
+  kind_names : (kind : Kind) → KindIn kind a
+      → Name (kind_arguments arguments_of kind) (kind_asks kind)
+  kind_names (of_value t) h = refl
+  kind_names (of_list l) h =
+      let item = group_branch nodes l.item in
+      both_name (group_arguments arguments_of l.item) (group_arguments arguments_of l.join)
+      (branch_asks true item) (group_asks l.join)
+      (group_names l.item h.item
+      ∙ sym (ap without_empty (branch_in_item item) ∙ without_twice (group_asks l.item)))
+      (group_names l.join h.join)
 
-  piece_names : (kind : PieceKind) → Name (piece_arguments gives kind) (piece_asks asks kind)
-  piece_names (closed start x q) = one_names x.name _ _ (kind_names x.kind)
-  piece_names (unclosed start x q) = one_names x.name _ _ (kind_names x.kind)
-  piece_names kind = refl
+  piece_names : (p end : ℕ) (kind : PieceKind) → PieceIn kind a
+      → Name (piece_arguments arguments_of kind) (node_asks false (piece_node nodes p end kind))
+  piece_names p end (closed start x q) h = one_names x.name _ _ (kind_names x.kind h.kind)
+  piece_names p end (unclosed start x q) h = one_names x.name _ _ (kind_names x.kind h.kind)
+  piece_names p end kind h = refl
 
-  pieces_names : (xs : List Piece) → Name (pieces_arguments gives xs) (pieces_ask asks xs)
-  pieces_names [] = refl
-  pieces_names (x ∷ xs) =
-      both_name (piece_arguments gives x.kind) (pieces_arguments gives xs) (piece_asks asks x.kind)
-      (pieces_ask asks xs) (piece_names x.kind) (pieces_names xs)
-
-within_names : (n : ℕ) (a : At) → Name (arguments_within n a) (asked_within n a)
-within_names zero a = refl
-within_names (suc n) a =
-    pieces_names (arguments_within n) (asked_within n) (within_names n) (pieces a)
+  pieces_names : (xs : List Piece) → PiecesIn xs a
+      → Name (pieces_arguments arguments_of xs) (pieces_ask xs)
+  pieces_names [] h = refl
+  pieces_names (x ∷ xs) h =
+      both_name (piece_arguments arguments_of x.kind) (pieces_arguments arguments_of xs)
+      (node_asks false (node_alone x)) (pieces_ask xs) (piece_names x.place _ x.kind h.0)
+      (pieces_names xs h.2)
 
 -- but for empty names, those of the arguments of a text are those that it asks
 pub arguments_name : (a : At)
     → without_empty (names_of (arguments_of a)) ≡ without_empty (asked_names a)
-unfolding arguments_of asked_names
-arguments_name a = within_names (suc (length a.text)) a
+arguments_name =
+    by_length (λ a. Name (arguments_of a) (asked_names a)) (λ a shorter.
+    ap (λ xs. without_empty (names_of xs)) (arguments_pieces a)
+    ∙ pieces_names a shorter (pieces a) (pieces_in a)
+    ∙ sym (ap without_empty (asked_pieces a)))

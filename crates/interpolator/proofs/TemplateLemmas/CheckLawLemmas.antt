@@ -1,5 +1,5 @@
 -- The faults that a text has by itself: a meaning has no others of a text, and pieces have them.
-use Rattle.std.proofs.Common.{◌≡◌, ◌∙◌, refl, ap, arith, ℕ, List, [], ◌∷◌, ◌++◌, inl, inr, Some}
+use Rattle.std.proofs.Common.{◌≡◌, refl, ap, arith, ℕ, List, [], ◌∷◌, ◌++◌, inl, inr, Some}
 use Rattle.std.proofs.Common.{None}
 use Rattle.std.proofs.lemmas.List.Elements.{Contains-append_left, Contains-append_right}
 use Rattle.std.proofs.lemmas.List.Elements.{Contains-append_cases}
@@ -11,16 +11,15 @@ use Rattle.interpolator_syntax.specs.At.{At}
 use Rattle.interpolator_syntax.specs.Faults.{Fault}
 use Rattle.interpolator_eval.specs.Slots.{Slots}
 use Rattle.interpolator_eval.specs.Meaning.Environments.{Environment, bind}
-use Rattle.interpolator_eval.specs.Meaning.Meanings.{Meaning, means}
+use Rattle.interpolator_eval.specs.Meaning.Meanings.{means}
 use Rattle.interpolator.specs.Template.NodeChecks.{fault_list, first_fault, own_fault, end_fault}
 use Rattle.interpolator.specs.Template.NodeChecks.{node_faults, branch_faults, forest_faults}
 use Rattle.interpolator.specs.Template.NodeChecks.{text_faults, IsOfText, NodeHas, BranchHas}
 use Rattle.interpolator.specs.Template.NodeChecks.{ForestHas, FirstFaulty}
-use Rattle.interpolator.specs.Template.NodeMeanings.{node_means, join_branch_means}
-use Rattle.interpolator.specs.Template.NodeMeanings.{item_branch_means, forest_means}
+use Rattle.interpolator_eval.specs.Meaning.Meanings.{node_means, join_branch_means}
+use Rattle.interpolator_eval.specs.Meaning.Meanings.{item_branch_means, forest_means}
 use Rattle.interpolator_syntax.specs.Nodes.{Node, node, Branch, no_branch, branch, Forest}
 use Rattle.interpolator_syntax.specs.Nodes.{no_nodes, nodes_and, as_forest, nodes}
-use Rattle.interpolator.proofs.TemplateLemmas.NodeMeaningLemmas.{nodes_mean}
 use Rattle.interpolator.proofs.TemplateLemmas.FaultLemmas.{May, may_none, may_joined, may_plain}
 use Rattle.interpolator.proofs.TemplateLemmas.FaultLemmas.{may_held, in_one, one_in, none_in}
 use Rattle.interpolator.proofs.TemplateLemmas.FaultLemmas.{in_first, in_second, in_third, in_fourth}
@@ -72,8 +71,7 @@ module _ {X : Type 0} (shows : X → Trait → Spec → Shown) where
   pub fault_among : (e : Environment X) (a : At) (f : Fault) → (means shows e a).fault ≡ Some f
       → IsOfText f → Contains (text_faults a) f
   fault_among e a f h =
-      forest_among (as_forest (nodes a)) e f
-      (ap (λ (m : Meaning). m.fault) (nodes_mean shows e a) ∙ h)
+      forest_among (as_forest (nodes a)) e f h
 
   pub no_own_fault : (e : Environment X) (a : At) → first_fault (text_faults a) ≡ None
       → (f : Fault) → (means shows e a).fault ≡ Some f → ¬ (IsOfText f)
@@ -149,7 +147,7 @@ pub text_has : (a : At) (f : Fault)
     × (ForestHas f (as_forest (nodes a)) → Contains (text_faults a) f)
 text_has a f = (forest_has f (as_forest (nodes a)), has_forest f (as_forest (nodes a)))
 
--- it has none where its pieces have none
+-- it has none if its pieces have none
 pub none_has : (a : At)
     → (first_fault (text_faults a) ≡ None → (f : Fault) → ¬ (ForestHas f (as_forest (nodes a))))
     × (((f : Fault) → ¬ (ForestHas f (as_forest (nodes a)))) → first_fault (text_faults a) ≡ None)

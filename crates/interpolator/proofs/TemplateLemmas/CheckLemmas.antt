@@ -8,10 +8,10 @@ use Rattle.interpolator.specs.Template.NodeChecks.{form_end_fault, stored_own_fa
 use Rattle.interpolator.specs.Template.NodeChecks.{stored_end_fault, visit_faults, text_faults}
 use Rattle.interpolator.specs.Template.Visits.{Visit, enter, leave, Walks, text_visits}
 use Rattle.interpolator.specs.declared.template.walk.Spot.{Spot}
-use Rattle.interpolator_syntax.specs.Faults.{answered, answer_of}
+use Rattle.interpolator_syntax.specs.Faults.{result_answer, answer_of}
 use Rattle.interpolator_syntax.specs.declared.error.Error.{Error}
 use Rattle.interpolator.proofs.TemplateLemmas.VisitLemmas.{tells_first, text_tells}
-use Rattle.interpolator_syntax.specs.Nodes.{Node, Held, node}
+use Rattle.interpolator_syntax.specs.Nodes.{Node, Content, node}
 use Rattle.interpolator.specs.Template.Stored.{held_of, node_of}
 use Rattle.interpolator.specs.Template.Stored.{branch_of, node_whole}
 use Rattle.interpolator.specs.declared.template.piece.Form.{Form}
@@ -37,15 +37,15 @@ told_one : (o : Option Fault) → told (fault_list o) ≡ option_map fault o
 told_one None = refl
 told_one (Some f) = refl
 
--- ---- the faults of one stored piece, where it is entered and where it is left
+-- ---- the faults of one stored piece, when it is entered and when it is left
 
 module _ (bs : List ℕ) (x : Piece) (whole : node_whole (node_of bs x) ≡ true) (spot : Spot) where
-  abbrev with_held : Option Held → Node
+  abbrev with_held : Option Content → Node
   with_held held =
       let y = out-Piece x in
       node y.place y.end y.kind held (branch_of bs y.item) (branch_of bs y.join)
 
-  abbrev Tells : Form → Option Held → Type 0
+  abbrev Tells : Form → Option Content → Type 0
   Tells form held =
       let y = out-Piece x in
       (visit_faults (enter spot (with_held held)) ≡ fault_list (form_fault y.spec y.spec_end form))
@@ -73,18 +73,18 @@ module _ (bs : List ℕ) (x : Piece) (whole : node_whole (node_of bs x) ≡ true
 
 -- ---- the first fault of a text
 
-told_some : (answer : Result (Unit {0}) Error) → IsErr answer → IsSome (answered answer)
+told_some : (answer : Result (Unit {0}) Error) → IsErr answer → IsSome (result_answer answer)
 told_some (Ok u) bad = absurd (cc)
 told_some (Err e) bad = refl
 
 pub text_told : {V : Type 0} (step : V → Visit → V → Result (Unit {0}) Error → Type 0)
     → ((old new : V) (x : Visit) (answer : Result (Unit {0}) Error) → step old x new answer
-    → answered answer ≡ told (visit_faults x))
+    → result_answer answer ≡ told (visit_faults x))
     → (a : At) (old new : V) (answer : Result (Unit {0}) Error)
-    → Walks step old (text_visits a) new answer → answered answer ≡ told (text_faults a)
+    → Walks step old (text_visits a) new answer → result_answer answer ≡ told (text_faults a)
 text_told {V = V} step tells a old new answer h =
     let keeps : V → Type 0 = λ v. Unit {0} in
-    (tells_first step visit_faults told answered keeps refl
+    (tells_first step visit_faults told result_answer keeps refl
     (λ e xs ys some k. told_first xs ys (answer_of e) k) (λ xs ys k. told_after xs ys k)
     (λ old new x answer k s. (tt, tells old new x answer s, told_some answer))
     old new (text_visits a) answer tt h).0

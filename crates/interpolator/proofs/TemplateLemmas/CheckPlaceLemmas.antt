@@ -1,39 +1,27 @@
 -- The faults that a text has by itself lie in it, and are of a text.
 use Rattle.std.proofs.Common.{◌≡◌, ℕ, zero, suc, ◌+◌, ◌<◌, ◌≤◌, Bool, true, false, List, [], ◌∷◌}
-use Rattle.std.proofs.Common.{◌++◌, length, arith, refl, subst, Option, Some, None, option_map}
-use Rattle.std.proofs.Common.{Result, Ok, Err}
+use Rattle.std.proofs.Common.{◌++◌, length, arith, subst, Some, None, option_map}
 use Rattle.std.specs.Prelude.{⊤, Contains, slice_index_or, if◌then◌else◌}
 use Rattle.std.specs.Str.{chars, IsUtf8}
-use Rattle.interpolator_render.specs.declared.view.Spec.{Spec}
-use Rattle.interpolator_syntax.specs.Arguments.{Argument, argument_at}
-use Rattle.interpolator_syntax.specs.At.{At, size, strip, outermost}
-use Rattle.interpolator_syntax.specs.Classes.{close_brace}
-use Rattle.interpolator_syntax.specs.ArgumentFaults.{IsArgumentFault}
+use Rattle.interpolator_syntax.specs.At.{At, size, outermost}
 use Rattle.interpolator_syntax.specs.Faults.{Fault, fault, fault_place, parse, iter, PlaceWithin}
-use Rattle.interpolator_syntax.specs.Faults.{unsupported_option, missing_trait_impl, fmt}
-use Rattle.interpolator_syntax.specs.Faults.{missing_value}
-use Rattle.interpolator_syntax.specs.Groups.{Group}
-use Rattle.interpolator_syntax.specs.Pieces.{argument_from, argument_or_broken, argument_step}
-use Rattle.interpolator_syntax.specs.SpecTexts.{Kind, of_value, of_list}
-use Rattle.interpolator_syntax.specs.Tokens.{Token, argument, first_token, past_token}
+use Rattle.interpolator_syntax.specs.Nodes.{Node, node, Branch, no_branch, branch, Forest, no_nodes}
+use Rattle.interpolator_syntax.specs.Nodes.{nodes_and, as_forest, nodes, Content, text_content, argument_content}
+use Rattle.interpolator_syntax.specs.Nodes.{fault_content}
+use Rattle.interpolator_syntax.specs.Nodes.{target_value, target_list}
+use Rattle.interpolator_syntax.specs.declared.piece_kind.PieceKind.{PieceKind}
+use Rattle.interpolator_syntax.specs.declared.piece_kind.PieceKind.TheVariants.{Unclosed}
 use Rattle.interpolator_eval.specs.Meaning.Meanings.{forbids_list}
-use Rattle.interpolator_syntax.specs.Groups.{inside}
-use Rattle.interpolator.specs.Template.NodeChecks.{fault_list, first_fault, own_fault, node_faults}
-use Rattle.interpolator.specs.Template.NodeChecks.{branch_faults, text_faults, IsOfText}
-use Rattle.interpolator_syntax.specs.Nodes.{valued, bare_of, group_branch, item_branch}
-use Rattle.interpolator_syntax.specs.Nodes.{join_branch, piece_node, token_node, nodes}
-use Rattle.interpolator_syntax.proofs.TokenLemmas.{token_shorter, scan_shorter}
-use Rattle.interpolator_syntax.proofs.NodeLemmas.{by_length, nodes_first, nodes_none}
-use Rattle.interpolator.proofs.TemplateLemmas.WithinLemmas.{handed_on, scan_taken}
-use Rattle.interpolator_syntax.proofs.ArgumentFaultLemmas.{fault_of_argument}
+use Rattle.interpolator.specs.Template.NodeChecks.{fault_list, first_fault, own_fault, end_fault}
+use Rattle.interpolator.specs.Template.NodeChecks.{node_faults, branch_faults, forest_faults}
+use Rattle.interpolator.specs.Template.NodeChecks.{text_faults, IsOfText}
+use Rattle.interpolator.specs.Template.StoredMeanings.{unclosed_fault_of}
 use Rattle.interpolator_syntax.proofs.CharacterLemmas.{size-chars}
-use Rattle.interpolator_syntax.proofs.GrammarArgumentLemmas.{broken_is}
-use Rattle.interpolator_syntax.proofs.LocalityLemmas.{takes_reaches}
-use Rattle.interpolator_syntax.proofs.ReaderLemmas.{argument_takes, argument_refuses}
-use Rattle.interpolator_syntax.proofs.SizeLemmas.{GroupIfIn, KindIn, argument_in}
+use Rattle.interpolator_syntax.proofs.TreePlaceLemmas.{HeldLies, NodeLies, BranchLies, ForestLies}
+use Rattle.interpolator_syntax.proofs.TreePlaceLemmas.{places_lie}
 
 -- each fault carries one of the first places, and is of a text
-abbrev FaultsWithin : ℕ → List Fault → Type 0
+abbrev pub FaultsWithin : ℕ → List Fault → Type 0
 FaultsWithin n [] = ⊤
 FaultsWithin n (f ∷ fs) = (fault_place f ≤ n) × IsOfText f × FaultsWithin n fs
 
@@ -53,87 +41,50 @@ at_of_text n [] k f h l e = absurd (omega (arith, l))
 at_of_text n (x ∷ xs) zero f h l e = subst IsOfText e h.1
 at_of_text n (x ∷ xs) (suc k) f h l e = at_of_text n xs k f h.2 (omega (arith, l)) e
 
--- why an argument is broken is of a text
-argument_of_text : (f : Fault) → IsArgumentFault f → IsOfText f
-argument_of_text (parse g) h = tt
-argument_of_text (unsupported_option option feature place) h = tt
-argument_of_text (missing_trait_impl wanted place) h = absurd h
-argument_of_text (fmt place) h = absurd h
-argument_of_text (missing_value name place) h = absurd h
+module _ (n : ℕ) where
+  -- what the spec of a list may not ask
+  forbidden_within : (q : ℕ) (t : Bool) → q ≤ n
+      → FaultsWithin n (fault_list (if t then Some (parse (iter q)) else None))
+  forbidden_within q true h = (h, tt, tt)
+  forbidden_within q false h = tt
 
--- the faults of a text carry places of at most n, wherever n is that it ends there or before
-abbrev Lies : At → Type 0
-Lies a = (n : ℕ) → a.place + size a.text ≤ n → FaultsWithin n (text_faults a)
+  pub own_within : (held : Content) → HeldLies n held → FaultsWithin n (fault_list (own_fault held))
+  own_within (text_content from cs) h = tt
+  own_within (argument_content start name spec (target_value t) q) h = tt
+  own_within (argument_content start name spec (target_list range) q) h =
+      forbidden_within q (forbids_list spec) h.1
+  own_within (fault_content f) h = (h.0, h.1, tt)
 
--- what the spec of a list may not ask
-forbidden_within : (n q : ℕ) (t : Bool) → q ≤ n
-    → FaultsWithin n (fault_list (if t then Some (parse (iter q)) else None))
-forbidden_within n q true h = (h, tt, tt)
-forbidden_within n q false h = tt
+  unclosed_within : (kind : PieceKind) (q : ℕ) → q ≤ n
+      → FaultsWithin n (fault_list (unclosed_fault_of kind q))
+  unclosed_within Unclosed q h = (h, tt, tt)
+  unclosed_within kind q h = tt
 
--- ---- an argument
+  pub end_within : (kind : PieceKind) (held : Content) → HeldLies n held
+      → FaultsWithin n (fault_list (end_fault kind held))
+  end_within kind (text_content from cs) h = tt
+  end_within kind (argument_content start name spec bare q) h = unclosed_within kind q h.1
+  end_within kind (fault_content f) h = tt
 
-module _ (b : At) (n : ℕ) (more : (c : At) → length c.text < length b.text → Lies c)
-    (reach : b.place + size b.text ≤ n) where
-  group_within : (o : Option Group) → GroupIfIn o b
-      → FaultsWithin n (branch_faults (group_branch nodes o))
-  group_within None h = tt
-  group_within (Some g) h = more (inside g) h.shorter n (omega (arith, h.lies, reach))
+  -- the faults of a tree carry its places
+  mutual
+    node_within : (x : Node) → NodeLies n x → FaultsWithin n (node_faults x)
+    node_within (node place end kind None item join) h = tt
+    node_within (node place end kind (Some held) item join) h =
+        within_both n _ _ (own_within held h.0) (within_both n _ _ (branch_within item h.1)
+        (within_both n _ _ (branch_within join h.2) (end_within kind held h.0)))
 
-  kind_within : (start : ℕ) (name : List ℕ) (spec : Spec) (k : Kind) (q : ℕ) (last : List Fault)
-      → q ≤ n → KindIn k b → FaultsWithin n last
-      → FaultsWithin n (fault_list (own_fault (valued start name spec (bare_of k) q))
-      ++ (branch_faults (item_branch nodes k) ++ (branch_faults (join_branch nodes k) ++ last)))
-  kind_within start name spec (of_value t) q last l h k = k
-  kind_within start name spec (of_list asked) q last l h k =
-      within_both n _ _ (forbidden_within n q (forbids_list spec) l)
-      (within_both n _ _ (group_within asked.item h.item)
-      (within_both n _ _ (group_within asked.join h.join) k))
+    branch_within : (b : Branch) → BranchLies n b → FaultsWithin n (branch_faults b)
+    branch_within no_branch h = tt
+    branch_within (branch xs) h = forest_within xs h
 
-  step_within : (p : ℕ) (x : Argument) (q : At) (o : Option At) → argument_at b ≡ Ok (x, q)
-      → (let s = argument_step b.place b x q o in
-      FaultsWithin n (node_faults (piece_node nodes p s.rest.place s.piece.kind)))
-  step_within p x q None e =
-      let ends : q.place ≤ n =
-      omega (arith, reach, takes_reaches _ b q (argument_takes b x q e) refl) in
-      kind_within b.place x.name x.spec x.kind q.place _ ends (argument_in b x q e) (ends, tt, tt)
-  step_within p x q (Some rest) e =
-      let ends : q.place ≤ n =
-      omega (arith, reach, takes_reaches _ b q (argument_takes b x q e) refl) in
-      kind_within b.place x.name x.spec x.kind q.place _ ends (argument_in b x q e) tt
+    forest_within : (xs : Forest) → ForestLies n xs → FaultsWithin n (forest_faults xs)
+    forest_within no_nodes h = tt
+    forest_within (nodes_and x xs) h =
+        within_both n _ _ (node_within x h.0) (forest_within xs h.1)
 
-  answer_within : (p : ℕ) (r : Result (Argument × At) Fault) → argument_at b ≡ r
-      → (let s = argument_or_broken b.place b r in
-      FaultsWithin n (node_faults (piece_node nodes p s.rest.place s.piece.kind)))
-  answer_within p (Ok w) e = step_within p w.0 w.1 (strip close_brace w.1) e
-  answer_within p (Err f) e = (
-    omega (arith, reach, argument_refuses b f e),
-    argument_of_text f (fault_of_argument b f (broken_is b f e)),
-    tt,
-  )
-
-  token_within : (p : ℕ) (t : Token) → FaultsWithin n (node_faults (token_node nodes p t b))
-  unfolding argument_from
-  token_within p argument = answer_within p (argument_at b) refl
-  token_within p t = tt
-
--- ---- a text
-
-lie_by : (a : At) → ((b : At) → length b.text < length a.text → Lies b) → (o : Option (Token × At))
-    → first_token a ≡ o → Lies a
-lie_by a shorter None e n reach = rw (nodes_none a e) tt
-lie_by a shorter (Some w) e n reach =
-    let rest = past_token w.0 w.1 in
-    let first_reaches = takes_reaches _ a w.1 (handed_on a w e).takes refl in
-    let rest_reaches = takes_reaches _ a rest (scan_taken a w e) refl in
-    let first_shorter = token_shorter a w e in
-    rw (nodes_first a w.1 w.0 e) (within_both n _ _
-    (token_within w.1 n (λ c l. shorter c (omega (arith, l, first_shorter)))
-    (omega (arith, reach, first_reaches)) a.place w.0)
-    (shorter rest (scan_shorter a _ w e refl) n (omega (arith, reach, rest_reaches))))
-
-faults_lie : (a : At) → Lies a
-faults_lie = by_length Lies (λ a shorter. lie_by a shorter (first_token a) refl)
+faults_lie : (a : At) (n : ℕ) → a.place + size a.text ≤ n → FaultsWithin n (text_faults a)
+faults_lie a n reach = forest_within n (as_forest (nodes a)) (places_lie a n reach)
 
 -- the first fault that a format has by itself lies in it
 pub first_lies : (bs : List ℕ) → IsUtf8 bs

@@ -1,10 +1,10 @@
--- The nodes of a text stand one after the other, and those of a group in their argument.
+-- The nodes of a text follow one another, and those of a group are in their argument.
 use Rattle.std.proofs.Common.{◌≡◌, ℕ, ◌+◌, ◌<◌, ◌≤◌, length, arith, refl, ap, ◌∙◌, sym}
 use Rattle.std.proofs.Common.{inl, inr, subst, Option, Some, None, Result, Ok, Err}
 use Rattle.std.specs.Prelude.{⊤, flat_map}
 use Rattle.interpolator_render.specs.declared.view.Trait.{Trait}
 use Rattle.interpolator_render.specs.declared.view.Trait.TheVariants as traits
-use Rattle.interpolator_syntax.specs.ArgumentGrammar.{Asks, asked}
+use Rattle.interpolator_syntax.specs.ArgumentGrammar.{Asks, request_in}
 use Rattle.interpolator_syntax.specs.Arguments.{Argument, argument_at}
 use Rattle.interpolator_syntax.specs.At.{At, size, strip}
 use Rattle.interpolator_syntax.specs.Classes.{close_brace}
@@ -21,8 +21,8 @@ use Rattle.interpolator_syntax.specs.Tokens.{Token, argument, first_token, past_
 use Rattle.interpolator_syntax.specs.Groups.{inside}
 use Rattle.interpolator_syntax.specs.Nodes.{as_forest, group_branch, item_branch, join_branch}
 use Rattle.interpolator_syntax.specs.Nodes.{piece_node, token_node, nodes}
-use Rattle.interpolator.specs.Template.Splits.{node_place, node_end, Contiguous, GroupsInside}
-use Rattle.interpolator.specs.Template.Splits.{GroupInside}
+use Rattle.interpolator_syntax.specs.Splits.{node_place, node_end, Contiguous, GroupsInside}
+use Rattle.interpolator_syntax.specs.Splits.{GroupInside}
 use Rattle.interpolator_syntax.proofs.GrammarArgumentLemmas.{argument_is}
 use Rattle.interpolator_syntax.proofs.LocalityLemmas.{takes_reaches, size-append}
 use Rattle.interpolator_syntax.proofs.PieceLemmas.{strip_after}
@@ -32,10 +32,10 @@ use Rattle.interpolator_syntax.proofs.SizeLemmas.{GroupIfIn, KindIn, argument_in
 use Rattle.interpolator_syntax.proofs.TokenLemmas.{scan_shorter, token_shorter}
 use Rattle.interpolator_syntax.proofs.NodeLemmas.{by_length, argument_kind, nodes_first}
 use Rattle.interpolator_syntax.proofs.NodeLemmas.{nodes_none}
-use Rattle.interpolator.proofs.TemplateLemmas.SplitLemmas.{texts}
-use Rattle.interpolator.proofs.TemplateLemmas.WithinLemmas.{handed_on, scan_taken}
+use Rattle.interpolator_syntax.proofs.SplitLemmas.{texts}
+use Rattle.interpolator_syntax.proofs.HandedLemmas.{handed_on, scan_taken}
 
--- ---- groups end in front of what stands after their argument
+-- ---- groups end in front of what follows their argument
 
 -- a group, if there is one, ends at n or in front of it
 abbrev GroupBefore : ℕ → Option Group → Type 0
@@ -96,7 +96,7 @@ asks_before start a x q (inr h) = spec_before start h.0 x q h.2
 argument_before : (a : At) (x : Argument) (q : At) → argument_at a ≡ Ok (x, q)
     → KindBefore q.place x.kind
 argument_before a x q e =
-    let h = argument_is a q x e in asks_before a.place h.after (asked x) q h.asks
+    let h = argument_is a q x e in asks_before a.place h.after (request_in x) q h.asks
 
 -- ---- and lie in it
 
@@ -162,7 +162,7 @@ token_inside a t b e more = (tt, tt)
 
 -- ---- one after the other
 
--- the node of an argument, or of a broken one, stands where it is said to
+-- the node of an argument, or of a broken one, is where it is said to
 argument_stands : (p end : ℕ) (b : At)
     → (let x = piece_node nodes p end (argument_from b.place b).piece.kind in
     (node_place x ≡ p) × (node_end x ≡ end))

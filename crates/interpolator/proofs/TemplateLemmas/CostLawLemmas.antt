@@ -6,7 +6,7 @@ use Rattle.std.proofs.lemmas.List.{length-map}
 use Rattle.std.proofs.Math.Nat.{mul-le-mul_right, mul-le-mul_left}
 use Rattle.std.specs.Prelude.{⊤, if◌then◌else◌}
 use Rattle.std.specs.Char.{len_utf8}
-use Rattle.interpolator_render.specs.Lengths.{HasAtMost, most_written, capped}
+use Rattle.interpolator_render.specs.Lengths.{HasAtMost, most_written, usize_count}
 use Rattle.interpolator_render.specs.Texts.{ViewText, has_text, has_no_text, has_failed, view_text}
 use Rattle.interpolator_render.specs.Views.{Shown}
 use Rattle.interpolator_render.specs.declared.view.Spec.{Spec}
@@ -18,8 +18,8 @@ use Rattle.interpolator_syntax.specs.At.{At, Placed, placed_from, text_of}
 use Rattle.interpolator_syntax.specs.Faults.{Fault, parse, iter, expected, missing_value}
 use Rattle.interpolator_syntax.specs.SpecTexts.{plain_spec}
 use Rattle.interpolator_syntax.specs.Nodes.{Node, node, Branch, no_branch, branch, Forest, no_nodes}
-use Rattle.interpolator_syntax.specs.Nodes.{nodes_and, as_forest, nodes, Held, written, valued}
-use Rattle.interpolator_syntax.specs.Nodes.{refused, Bare, bare_value, bare_list}
+use Rattle.interpolator_syntax.specs.Nodes.{nodes_and, as_forest, nodes, Content, text_content, argument_content}
+use Rattle.interpolator_syntax.specs.Nodes.{fault_content, Target, target_value, target_list}
 use Rattle.interpolator_syntax.specs.declared.piece_kind.PieceKind.{PieceKind}
 use Rattle.interpolator_syntax.specs.declared.piece_kind.PieceKind.TheVariants as kinds
 use Rattle.interpolator_syntax.specs.declared.range.Range.{Range}
@@ -28,23 +28,25 @@ use Rattle.interpolator_eval.specs.Slots.{Slots, SlotsList, bare, listed, no_slo
 use Rattle.interpolator_eval.specs.Slots.{values_of, items, slot_at, slots_listed}
 use Rattle.interpolator_eval.specs.Meaning.AskedNames.{asked_names}
 use Rattle.interpolator_eval.specs.Meaning.Choices.{chosen_items}
-use Rattle.interpolator_eval.specs.Meaning.Environments.{Environment, given, bind}
+use Rattle.interpolator_eval.specs.Meaning.Environments.{Environment, slots_under, bind}
 use Rattle.interpolator_eval.specs.Meaning.Limits.{SlotWithin, ValuesWithin, SlotsWithin, ItemsWithin}
 use Rattle.interpolator_eval.specs.Meaning.Limits.{FoundWithin, IsWithin, most_chosen}
-use Rattle.interpolator_eval.specs.Meaning.Meanings.{Meaning, nothing, fault_alone, or_fault, joined}
+use Rattle.interpolator_eval.specs.Meaning.Meanings.{Meaning, nothing, fault_alone, or_fault, chain}
 use Rattle.interpolator_eval.specs.Meaning.Meanings.{view_means, value_means, forbids_list, made_whole}
 use Rattle.interpolator_eval.specs.Meaning.Meanings.{items_after, items_mean, under_name}
 use Rattle.interpolator_eval.specs.Meaning.Meanings.{listed_means, means}
-use Rattle.interpolator_eval.proofs.MeaningLemmas.RelatedLemmas.{bound_same}
+use Rattle.interpolator_eval.proofs.MeaningLemmas.EqualLemmas.{bound_same}
 use Rattle.interpolator.specs.Template.NodeCosts.{piece_cost, then_cost, item_cost}
 use Rattle.interpolator.specs.Template.NodeCosts.{items_cost, padded_cost, value_cost}
 use Rattle.interpolator.specs.Template.NodeCosts.{held_cost, node_cost, item_branch_cost}
 use Rattle.interpolator.specs.Template.NodeCosts.{join_branch_cost, forest_cost, text_cost}
-use Rattle.interpolator.specs.Template.NodeMeanings.{and_closed, bare_means, held_means}
-use Rattle.interpolator.specs.Template.NodeMeanings.{plain_item_means, node_means, join_branch_means}
-use Rattle.interpolator.specs.Template.NodeMeanings.{item_branch_means, forest_means}
-use Rattle.interpolator.specs.Template.NodeNames.{context_names, held_asks, node_asks, branch_asks}
-use Rattle.interpolator.specs.Template.NodeNames.{forest_asks}
+use Rattle.interpolator_eval.specs.Meaning.Meanings.{and_closed, bare_means, held_means}
+use Rattle.interpolator_eval.specs.Meaning.Meanings.{plain_item_means, node_means}
+use Rattle.interpolator_eval.specs.Meaning.Meanings.{join_branch_means}
+use Rattle.interpolator_eval.specs.Meaning.Meanings.{item_branch_means, forest_means}
+use Rattle.interpolator_eval.specs.Meaning.AskedNames.{context_names, held_asks, node_asks}
+use Rattle.interpolator_eval.specs.Meaning.AskedNames.{branch_asks}
+use Rattle.interpolator_eval.specs.Meaning.AskedNames.{forest_asks}
 use Rattle.interpolator.specs.Template.NodeWork.{Work, no_work, piece_and, or_stop, item_work}
 use Rattle.interpolator.specs.Template.NodeWork.{work_after, items_work, chosen_work, listed_work}
 use Rattle.interpolator.specs.Template.NodeWork.{under_work, bare_work, held_work, node_work}
@@ -52,8 +54,6 @@ use Rattle.interpolator.specs.Template.NodeWork.{join_branch_work, item_branch_w
 use Rattle.interpolator.specs.Template.NodeWork.{text_work}
 use Rattle.interpolator.specs.declared.template.cost.Cost.{Cost}
 use Rattle.interpolator.specs.declared.template.cost.Limits.{Limits}
-use Rattle.interpolator.proofs.TemplateLemmas.NodeMeaningLemmas.{nodes_mean}
-use Rattle.interpolator.proofs.TemplateLemmas.NodeNameLemmas.{nodes_ask}
 use Rattle.interpolator.proofs.TemplateLemmas.RangeLemmas.{Each, each_chosen, chosen_fewer, chosen_grows}
 
 -- ---- what costs no more
@@ -80,7 +80,7 @@ fault_at_most f points c = record {
 }
 
 joined_at_most : (m k : Meaning) (w v : Work) (c d : Cost) → AtMost m w c → AtMost k v d
-    → AtMost (joined m k) (or_stop m.fault w v) (then_cost c d)
+    → AtMost (chain m k) (or_stop m.fault w v) (then_cost c d)
 joined_at_most m k w v c d h j =
     elim m.fault as (λ o. AtMost (or_fault o m k) (or_stop o w v) (then_cost c d)) [
       | Some f ↦ record {
@@ -250,7 +250,7 @@ module _ {X : Type 0} (shows : X → Trait → Spec → Shown) (limits : Limits)
   within_parts e [] ys h = (tt, h)
   within_parts e (x ∷ xs) ys h = let parts = within_parts e xs ys h.1 in ((h.0, parts.0), parts.1)
 
-  -- in an item format the item stands under the empty name
+  -- in an item format the item is under the empty name
   within_bound : (e : Environment X) (tree : Slots X) (names : List (List ℕ)) → Slotted tree
       → Within e names → Within (bind e tree) names
   within_bound e tree [] k h = tt
@@ -260,11 +260,11 @@ module _ {X : Type 0} (shows : X → Trait → Spec → Shown) (limits : Limits)
 
   -- there the empty name is not among the asked ones
   abbrev Inner : (in_item : Bool) → Environment X → Type 0
-  Inner true e = Found (given e [])
+  Inner true e = Found (slots_under e [])
   Inner false e = ⊤
 
   own_within : (in_item : Bool) (e : Environment X) (name : List ℕ) → Inner in_item e
-      → Within e (context_names in_item name) → Found (given e name)
+      → Within e (context_names in_item name) → Found (slots_under e name)
   own_within true e [] i h = i
   own_within true e (c ∷ cs) i h = h.0
   own_within false e name i h = h.0
@@ -294,35 +294,35 @@ module _ {X : Type 0} (shows : X → Trait → Spec → Shown) (limits : Limits)
 
   module _ (join : Meaning) (joins : Work) (joined_by : Cost) (one : Cost)
       (join_costs : AtMost join joins joined_by) where
-    bare_at_most : (what : Bare) (start : ℕ) (name : List ℕ) (spec : Spec) (q : ℕ)
+    bare_at_most : (what : Target) (start : ℕ) (name : List ℕ) (spec : Spec) (q : ℕ)
         (item : Slots X → Meaning) (each : Slots X → Work)
         → ((x : Slots X) → Slotted x → AtMost (item x) (each x) one) → (found : Slots X)
         → Slotted found
         → AtMost (bare_means shows what spec q join item found)
         (piece_and (bare_work shows what spec join joins item each found))
-        (held_cost limits (valued start name spec what q) one joined_by)
-    bare_at_most (bare_value t) start name spec q item each i found h =
+        (held_cost limits (argument_content start name spec what q) one joined_by)
+    bare_at_most (target_value t) start name spec q item each i found h =
         slot_at_most t spec q (slot_at t (values_of found)) (values_within found h t)
-    bare_at_most (bare_list range) start name spec q item each i found h =
+    bare_at_most (target_list range) start name spec q item each i found h =
         listed_at_most Slotted join joins joined_by item each one join_costs i limits.items range
         spec q (items found) (items_within found h)
 
-    found_at_most : (what : Bare) (start : ℕ) (name : List ℕ) (spec : Spec) (q : ℕ)
+    found_at_most : (what : Target) (start : ℕ) (name : List ℕ) (spec : Spec) (q : ℕ)
         (item : Slots X → Meaning) (each : Slots X → Work)
         → ((x : Slots X) → Slotted x → AtMost (item x) (each x) one) → (o : Option (Slots X))
         → Found o
         → AtMost (under_name name start (bare_means shows what spec q join item) o)
         (piece_and (under_work (bare_work shows what spec join joins item each) o))
-        (held_cost limits (valued start name spec what q) one joined_by)
-    found_at_most (bare_value t) start name spec q item each i None h =
+        (held_cost limits (argument_content start name spec what q) one joined_by)
+    found_at_most (target_value t) start name spec q item each i None h =
         record { characters = omega arith; pieces = omega arith; buffered = omega arith }
-    found_at_most (bare_list range) start name spec q item each i None h =
+    found_at_most (target_list range) start name spec q item each i None h =
         record { characters = omega arith; pieces = omega arith; buffered = omega arith }
     found_at_most what start name spec q item each i (Some found) h =
         bare_at_most what start name spec q item each i found h
 
   fault_after : (m : Meaning) (f : Fault)
-      → length (joined m (fault_alone f)).text ≡ length m.text
+      → length (chain m (fault_alone f)).text ≡ length m.text
   fault_after m f =
       elim m.fault as (λ o. length (or_fault o m (fault_alone f)).text ≡ length m.text) [
         | Some g ↦ refl
@@ -347,25 +347,25 @@ module _ {X : Type 0} (shows : X → Trait → Spec → Shown) (limits : Limits)
   length-placed p [] = refl
   length-placed p (c ∷ cs) = omega (arith, length-placed (p + len_utf8 c) cs)
 
-  held_at_most : (e : Environment X) (kind : PieceKind) (held : Held) (in_item : Bool)
+  held_at_most : (e : Environment X) (kind : PieceKind) (held : Content) (in_item : Bool)
       (join : Meaning) (joins : Work) (joined_by one : Cost) (item : ℕ → Slots X → Meaning)
       (each : ℕ → Slots X → Work) → Inner in_item e → Within e (held_asks in_item (Some held))
       → AtMost join joins joined_by
       → ((q : ℕ) (x : Slots X) → Slotted x → AtMost (item q x) (each q x) one)
       → AtMost (held_means shows e kind held join item)
       (held_work shows e held join joins item each) (held_cost limits held one joined_by)
-  held_at_most e kind (written from cs) in_item join joins joined_by one item each b h j i =
+  held_at_most e kind (text_content from cs) in_item join joins joined_by one item each b h j i =
       record {
         characters = omega (arith, length-placed from cs);
         pieces = omega arith;
         buffered = omega arith;
       }
-  held_at_most e kind (valued start name spec what q) in_item join joins joined_by one item each
+  held_at_most e kind (argument_content start name spec what q) in_item join joins joined_by one item each
       b h j i =
       closed_at_most kind q _ _ _
       (found_at_most join joins joined_by one j what start name spec q (item q) (each q) (i q)
-      (given e name) (own_within in_item e name b h))
-  held_at_most e kind (refused f) in_item join joins joined_by one item each b h j i =
+      (slots_under e name) (own_within in_item e name b h))
+  held_at_most e kind (fault_content f) in_item join joins joined_by one item each b h j i =
       record { characters = omega arith; pieces = omega arith; buffered = omega arith }
 
   -- ---- with its groups
@@ -432,11 +432,10 @@ module _ {X : Type 0} (shows : X → Trait → Spec → Shown) (limits : Limits)
   pub text_at_most : (e : Environment X) (a : At) → Within e (asked_names a)
       → AtMost (means shows e a) (text_work shows e a) (text_cost limits a)
   text_at_most e a h =
-      subst (λ m. AtMost m (text_work shows e a) (text_cost limits a)) (nodes_mean shows e a)
-      (forest_at_most (as_forest (nodes a)) false e tt (subst (Within e) (sym (nodes_ask a)) h))
+      forest_at_most (as_forest (nodes a)) false e tt h
 
 -- what is told below the greatest `usize` is the count itself
-pub told_exactly : (n count : ℕ) → n ≤ count → capped count ≢ 2 ^ 64 - 1 → n ≤ capped count
+pub told_exactly : (n count : ℕ) → n ≤ count → usize_count count ≢ 2 ^ 64 - 1 → n ≤ usize_count count
 told_exactly n count h k = omega (arith, h, k)
 
 -- ---- no memory
@@ -447,7 +446,7 @@ Unheld m =
     (m.memory_points ≡ []) ⊎ ((name : List ℕ) × (place : ℕ)
     × (m.fault ≡ Some (missing_value name place)))
 
-unheld_joined : (m k : Meaning) → Unheld m → Unheld k → Unheld (joined m k)
+unheld_joined : (m k : Meaning) → Unheld m → Unheld k → Unheld (chain m k)
 unheld_joined m k h j = by_fault m.fault refl
   where
     by_fault : (o : Option Fault) → m.fault ≡ o → Unheld (or_fault o m k)
@@ -514,17 +513,17 @@ module _ {X : Type 0} (shows : X → Trait → Spec → Shown) (limits : Limits)
     unheld_node : (x : Node) (e : Environment X) → (node_cost limits x).buffered ≡ 0
         → Unheld (node_means shows e x)
     unheld_node (node place end kind None item join) e h = inl refl
-    unheld_node (node place end kind (Some (written from cs)) item join) e h = inl refl
-    unheld_node (node place end kind (Some (refused f)) item join) e h = inl refl
-    unheld_node (node place end kind (Some (valued start name spec (bare_value t) q)) item join) e h =
-        unheld_closed kind q _ (unheld_found name start _ (given e name)
+    unheld_node (node place end kind (Some (text_content from cs)) item join) e h = inl refl
+    unheld_node (node place end kind (Some (fault_content f)) item join) e h = inl refl
+    unheld_node (node place end kind (Some (argument_content start name spec (target_value t) q)) item join) e h =
+        unheld_closed kind q _ (unheld_found name start _ (slots_under e name)
         (λ x. unheld_slot t spec q (slot_at t (values_of x))))
-    unheld_node (node place end kind (Some (valued start name spec (bare_list range) q)) item join) e h =
+    unheld_node (node place end kind (Some (argument_content start name spec (target_list range) q)) item join) e h =
         let w = no_width spec.width (items_cost (most_chosen limits.items range)
         (item_branch_cost limits item) (join_branch_cost limits join)) h in
         let i : (item_branch_cost limits item).buffered ≡ 0 = omega (arith, w.1) in
         let j : (join_branch_cost limits join).buffered ≡ 0 = omega (arith, w.1) in
-        unheld_closed kind q _ (unheld_found name start _ (given e name)
+        unheld_closed kind q _ (unheld_found name start _ (slots_under e name)
         (λ x. unheld_listed (join_branch_means shows e join) (item_branch_means shows e item q)
         (unheld_join join e j) (unheld_item item e q i) range spec q (items x) w.0))
 
@@ -552,7 +551,7 @@ module _ {X : Type 0} (shows : X → Trait → Spec → Shown) (limits : Limits)
       → ((name : List ℕ) (place : ℕ) → (means shows e a).fault ≢ Some (missing_value name place))
       → (means shows e a).memory_points ≡ []
   no_memory_taken e a h n =
-      by_case (subst Unheld (nodes_mean shows e a) (unheld_forest (as_forest (nodes a)) e h))
+      by_case (unheld_forest (as_forest (nodes a)) e h)
     where
       by_case : Unheld (means shows e a) → (means shows e a).memory_points ≡ []
       by_case (inl none) = none
@@ -612,15 +611,15 @@ module _ (few many : Limits) (text : few.text ≤ many.text) (more : few.items �
     buffered = omega arith;
   }
 
-  held_le : (h : Held) (a b c d : Cost) → LeCost a b → LeCost c d
+  held_le : (h : Content) (a b c d : Cost) → LeCost a b → LeCost c d
       → LeCost (held_cost few h a c) (held_cost many h b d)
-  held_le (written from cs) a b c d i j = same_le _
-  held_le (valued start name spec (bare_value t) q) a b c d i j = value_le t spec
-  held_le (valued start name spec (bare_list range) q) a b c d i j =
+  held_le (text_content from cs) a b c d i j = same_le _
+  held_le (argument_content start name spec (target_value t) q) a b c d i j = value_le t spec
+  held_le (argument_content start name spec (target_list range) q) a b c d i j =
       then_le (piece_cost 0) (piece_cost 0) _ _ (same_le _)
       (padded_le spec.width _ _
       (items_le _ _ a b c d (chosen_grows few.items many.items more range) i j))
-  held_le (refused f) a b c d i j = same_le _
+  held_le (fault_content f) a b c d i j = same_le _
 
   mutual
     node_le : (x : Node) → LeCost (node_cost few x) (node_cost many x)

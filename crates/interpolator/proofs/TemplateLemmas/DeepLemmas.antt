@@ -1,5 +1,4 @@
--- A text whose groups stand deep in one another is long: a group that stands in another has fewer
--- signs than that.
+-- A text with deeply nested groups is long: a group in another has fewer signs than that.
 use Rattle.std.proofs.Common.{◌≡◌, ◌≢◌, ◌∙◌, refl, sym, ap, arith, subst, ℕ, zero, suc, ◌+◌, ◌*◌}
 use Rattle.std.proofs.Common.{◌<◌, ◌≤◌, List, [], ◌∷◌, ◌++◌, length, append_assoc, inl, inr}
 use Rattle.std.proofs.Common.{Option, Some, None, Result, Ok, Err, ◌-◌}
@@ -26,7 +25,7 @@ use Rattle.interpolator_syntax.specs.Nodes.{as_forest, group_branch, item_branch
 use Rattle.interpolator_syntax.specs.Nodes.{piece_node, token_node, nodes}
 use Rattle.interpolator_syntax.proofs.TokenLemmas.{token_shorter, scan_shorter}
 use Rattle.interpolator_syntax.proofs.NodeLemmas.{by_length, nodes_first, nodes_none}
-use Rattle.interpolator.proofs.TemplateLemmas.WithinLemmas.{handed_on, scan_taken}
+use Rattle.interpolator_syntax.proofs.HandedLemmas.{handed_on, scan_taken}
 
 -- ---- what closes a group
 
@@ -40,7 +39,7 @@ more_signs (suc k) n =
 abbrev pub NoClose : ℕ → List ℕ → Type 0
 NoClose k cs = (front rest : List ℕ) → cs ≢ front ++ (close_text k ++ rest)
 
--- it is so of what stands after a front of such a text
+-- it is so of what follows a front of such a text
 after_front : (k : ℕ) (a b : At) → Takes a b → NoClose k a.text → NoClose k b.text
 after_front k a b t none front rest e =
     none (t.front ++ front) rest
@@ -138,8 +137,8 @@ module _ (P : ℕ → Type 0) (none : P 0) (b : At)
   by_token p argument = by_answer p (argument_from b.place b).rest.place (argument_at b) refl
   by_token p t = of_greater P 0 0 none none
 
--- what holds of 0, of the depth of what stands after the first piece and of that of each of its
--- groups, holds of the depth of the text
+-- what holds of 0, of the depth of what follows the first piece and of that of each of its groups,
+-- holds of the depth of the text
 deeper : (P : ℕ → Type 0) (a : At) → P 0
     → ((b : At) → length b.text < length a.text → Takes a b
     → P (forest_depth (as_forest (nodes b))))
@@ -159,7 +158,7 @@ deeper P a none after each = by_first (first_token a) refl
         (each w.1 (token_shorter a w e) (handed_on a w e).takes) a.place w.0)
         (after rest (scan_shorter a _ w e refl) (scan_taken a w e)))
 
--- in a text in which no `)` has j signs right after it no more than j groups stand in one another
+-- in a text in which no `)` has j signs right after it groups are nested at most j deep
 abbrev Bounded : At → Type 0
 Bounded a = (j : ℕ) → NoClose j a.text → forest_depth (as_forest (nodes a)) ≤ j
 

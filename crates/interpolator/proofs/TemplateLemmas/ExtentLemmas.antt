@@ -1,4 +1,4 @@
--- How wide and how deep stored pieces are where they are entered, and those of a text.
+-- How wide and how deep stored pieces are when they are entered, and those of a text.
 use Rattle.std.proofs.Common.{◌≡◌, ◌∙◌, refl, sym, ap, arith, rules, ℕ, ◌+◌, ◌<◌, true}
 use Rattle.std.proofs.Common.{nat_cmp, List}
 use Rattle.std.proofs.Common.{Option, Some, None, IsSome, Result, Ok, ◌^◌}
@@ -13,7 +13,7 @@ use Rattle.interpolator.specs.declared.template.walk.Spot.{Spot}
 use Rattle.interpolator.proofs.TemplateLemmas.VisitLemmas.{gathers_greatest}
 use Rattle.interpolator_syntax.specs.At.{At}
 use Rattle.std.specs.Global.{Vec}
-use Rattle.interpolator_syntax.specs.Nodes.{Held}
+use Rattle.interpolator_syntax.specs.Nodes.{Content}
 use Rattle.interpolator.specs.Template.Stored.{node_of}
 use Rattle.interpolator.specs.Template.Stored.{branch_of, node_whole}
 use Rattle.interpolator.specs.declared.template.piece.Form.{Form}
@@ -28,25 +28,25 @@ greater m n = search rules
 
 -- ---- one piece
 
--- what is asked where it is entered
+-- what is asked when it is entered
 pub extent_entered : (spot : Spot) (bs : List ℕ) (x : Piece) → node_whole (node_of bs x) ≡ true
     → stored_extent x ≡ visit_extent (enter spot (node_of bs x))
 extent_entered spot bs x whole =
     let y = out-Piece x in
-    let Asks : Form → Option Held → Type 0 =
+    let Asks : Form → Option Content → Type 0 =
     λ form held. held_extent held ≡ form_extent y.spec form in
     sym (ap (λ n. visit_extent (enter spot n)) (node_of_out bs x)
     ∙ by_form bs y.place y.from y.to y.spec_end y.spec Asks (λ cs. refl) (λ name e. refl)
     (λ t name e. refl) (λ range name e. refl) (λ fault. refl) y.form (fits_text bs x whole).held)
 
--- in how many groups those of a piece stand
+-- in how many groups those of a piece are
 pub depth_entered : (spot : Spot) (bs : List ℕ) (x : Piece)
     → max (inner_depth spot.depth (branch_of bs (out-Piece x).item))
     (inner_depth spot.depth (branch_of bs (out-Piece x).join))
     ≡ visit_depth (enter spot (node_of bs x))
 depth_entered spot bs x = sym (ap (λ n. visit_depth (enter spot n)) (node_of_out bs x))
 
--- where there is a group, there is room for one more
+-- if there is a group, there is room for one more
 pub group_fits : (depth : ℕ) (bs : List ℕ) (group : Option (Vec Piece))
     → depth + branch_depth (branch_of bs group) < 2 ^ 64 → IsSome group → depth + 1 < 2 ^ 64
 group_fits depth bs None h some = absurd (cc)

@@ -16,15 +16,15 @@ use Rattle.interpolator_syntax.specs.declared.range.Range.{Range}
 use Rattle.interpolator_syntax.proofs.CaseLemmas.{in_both}
 use Rattle.interpolator_eval.specs.Slots.{Slots, values_of, items, slot_at}
 use Rattle.interpolator_eval.specs.Meaning.Choices.{chosen_items}
-use Rattle.interpolator_eval.specs.Meaning.Environments.{Environment, given}
-use Rattle.interpolator_eval.specs.Meaning.Meanings.{Meaning, fault_alone, or_fault, joined, view_means}
+use Rattle.interpolator_eval.specs.Meaning.Environments.{Environment, slots_under}
+use Rattle.interpolator_eval.specs.Meaning.Meanings.{Meaning, fault_alone, or_fault, chain, view_means}
 use Rattle.interpolator_eval.specs.Meaning.Meanings.{value_means, forbids_list, made_whole, padded_list}
 use Rattle.interpolator_eval.specs.Meaning.Meanings.{items_after, items_mean, under_name, listed_means}
 use Rattle.interpolator.specs.Template.NodeChecks.{fault_list, first_fault, own_fault, end_fault}
-use Rattle.interpolator.specs.Template.NodeMeanings.{and_closed, bare_means, held_means}
-use Rattle.interpolator.specs.Template.NodeMeanings.{plain_item_means}
-use Rattle.interpolator_syntax.specs.Nodes.{Held, written, valued, refused, Bare, bare_value}
-use Rattle.interpolator_syntax.specs.Nodes.{bare_list}
+use Rattle.interpolator_eval.specs.Meaning.Meanings.{and_closed, bare_means, held_means}
+use Rattle.interpolator_eval.specs.Meaning.Meanings.{plain_item_means}
+use Rattle.interpolator_syntax.specs.Nodes.{Content, text_content, argument_content, fault_content, Target, target_value}
+use Rattle.interpolator_syntax.specs.Nodes.{target_list}
 use Rattle.interpolator_syntax.specs.declared.piece_kind.PieceKind.{PieceKind}
 use Rattle.interpolator_syntax.specs.declared.piece_kind.PieceKind.TheVariants as kinds
 
@@ -40,7 +40,7 @@ module _ (P : Fault → Type 0) where
   may_one : (g : Fault) → P g → (f : Fault) → Some g ≡ Some f → P f
   may_one g h f e = let same : g ≡ f = cc in subst P same h
 
-  pub may_joined : (m k : Meaning) → May P m → May P k → May P (joined m k)
+  pub may_joined : (m k : Meaning) → May P m → May P k → May P (chain m k)
   may_joined m k h j = elim m.fault as (λ o. May P (or_fault o m k)) [ Some g ↦ h | None ↦ j ]
 
   may_whole : (spec : Spec) (q : ℕ) (o : Option Fault) (cs : List ℕ)
@@ -62,7 +62,7 @@ module _ (P : Fault → Type 0) where
     may_items [] = may_none
     may_items (x ∷ xs) = may_joined _ _ (each x) (may_after xs)
 
-  -- a value under a trait may have no slot or fail, wherever it stands
+  -- a value under a trait may have no slot or fail, wherever it is
   module _ (no_slot : (t : Trait) (q : ℕ) → P (missing_trait_impl t q))
       (failed : (q : ℕ) → P (fmt q)) where
     may_view : (t : Trait) (q : ℕ) (v : ViewText) → May P (view_means t q v)
@@ -97,14 +97,14 @@ module _ (P : Fault → Type 0) where
       may_plain q x =
           may_value traits.Display plain_spec q (slot_at traits.Display (values_of x))
 
-      may_bare : (start : ℕ) (name : List ℕ) (bare : Bare) (spec : Spec) (q : ℕ) (join : Meaning)
+      may_bare : (start : ℕ) (name : List ℕ) (bare : Target) (spec : Spec) (q : ℕ) (join : Meaning)
           (item : Slots X → Meaning)
-          → ((f : Fault) → own_fault (valued start name spec bare q) ≡ Some f → P f)
+          → ((f : Fault) → own_fault (argument_content start name spec bare q) ≡ Some f → P f)
           → May P join → ((x : Slots X) → May P (item x)) → (found : Slots X)
           → May P (bare_means shows bare spec q join item found)
-      may_bare start name (bare_value t) spec q join item own j i found =
+      may_bare start name (target_value t) spec q join item own j i found =
           may_value t spec q (slot_at t (values_of found))
-      may_bare start name (bare_list range) spec q join item own j i found =
+      may_bare start name (target_list range) spec q join item own j i found =
           may_listed range spec q join item own j i (items found)
 
       may_found : (start : ℕ) (name : List ℕ) (meant : Slots X → Meaning) (o : Option (Slots X))
@@ -113,9 +113,9 @@ module _ (P : Fault → Type 0) where
       may_found start name meant None missing i = may_one _ (missing refl)
       may_found start name meant (Some found) missing i = i found
 
-      may_closed : (kind : PieceKind) (start : ℕ) (name : List ℕ) (spec : Spec) (bare : Bare)
+      may_closed : (kind : PieceKind) (start : ℕ) (name : List ℕ) (spec : Spec) (bare : Target)
           (q : ℕ) (m : Meaning)
-          → ((f : Fault) → end_fault kind (valued start name spec bare q) ≡ Some f → P f)
+          → ((f : Fault) → end_fault kind (argument_content start name spec bare q) ≡ Some f → P f)
           → May P m → May P (and_closed kind q m)
       may_closed kinds.Literal start name spec bare q m last h = h
       may_closed kinds.Doubled start name spec bare q m last h = h
@@ -125,21 +125,21 @@ module _ (P : Fault → Type 0) where
       may_closed kinds.Broken start name spec bare q m last h = h
 
       -- what a piece holds
-      pub may_held : (e : Environment X) (kind : PieceKind) (held : Held) (join : Meaning)
+      pub may_held : (e : Environment X) (kind : PieceKind) (held : Content) (join : Meaning)
           (item : ℕ → Slots X → Meaning)
           → ((f : Fault) → own_fault held ≡ Some f → P f)
           → ((f : Fault) → end_fault kind held ≡ Some f → P f)
-          → ((start q : ℕ) (name : List ℕ) (spec : Spec) (bare : Bare)
-          → held ≡ valued start name spec bare q → given e name ≡ None
+          → ((start q : ℕ) (name : List ℕ) (spec : Spec) (bare : Target)
+          → held ≡ argument_content start name spec bare q → slots_under e name ≡ None
           → P (missing_value name start))
           → May P join → ((q : ℕ) (x : Slots X) → May P (item q x))
           → May P (held_means shows e kind held join item)
-      may_held e kind (written from cs) join item own last missing j i = may_none
-      may_held e kind (valued start name spec bare q) join item own last missing j i =
+      may_held e kind (text_content from cs) join item own last missing j i = may_none
+      may_held e kind (argument_content start name spec bare q) join item own last missing j i =
           may_closed kind start name spec bare q _ last
-          (may_found start name _ (given e name) (missing start q name spec bare refl)
+          (may_found start name _ (slots_under e name) (missing start q name spec bare refl)
           (may_bare start name bare spec q join (item q) own j (i q)))
-      may_held e kind (refused g) join item own last missing j i = own
+      may_held e kind (fault_content g) join item own last missing j i = own
 
 -- ---- lists of faults
 

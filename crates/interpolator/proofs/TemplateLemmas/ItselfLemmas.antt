@@ -6,7 +6,7 @@ use Rattle.interpolator_render.specs.declared.view.Spec.{Spec}
 use Rattle.interpolator_render.specs.declared.view.Trait.{Trait}
 use Rattle.interpolator_syntax.specs.At.{At}
 use Rattle.interpolator_eval.specs.Meaning.AskedNames.{asked_names}
-use Rattle.interpolator_eval.specs.Meaning.Environments.{Environment, environment, given}
+use Rattle.interpolator_eval.specs.Meaning.Environments.{Environment, environment, slots_under}
 use Rattle.interpolator_eval.specs.Meaning.Meanings.{means}
 use Rattle.interpolator_eval.specs.Meaning.Resembling.{Resembles, ResemblesFound, ResemblesOn}
 use Rattle.interpolator_eval.specs.Meaning.Resembling.{ResemblesSlot, ResemblesSome}
@@ -45,7 +45,7 @@ module _ {X : Type 0} (shows : X → Trait → Spec → Shown) where
   pub resembles_itself : (e : Environment X) (names : List (List ℕ))
       → ResemblesOn shows shows e e names
   resembles_itself e [] = tt
-  resembles_itself e (name ∷ names) = (found_itself (given e name), resembles_itself e names)
+  resembles_itself e (name ∷ names) = (found_itself (slots_under e name), resembles_itself e names)
 
   -- so a format without a fault over values means none over them
   pub no_fault_itself : (finds : List ℕ → Option (Slots X)) (a : At)

@@ -35,8 +35,8 @@ use Rattle.interpolator_syntax.proofs.PieceLemmas.{read_alone}
 use Rattle.interpolator_syntax.proofs.ReaderLemmas.{argument_takes}
 use Rattle.interpolator_syntax.proofs.SizeLemmas.{GroupIfIn, KindIn, ListIn, argument_in}
 use Rattle.interpolator_syntax.specs.Groups.{inside}
-use Rattle.interpolator_syntax.specs.Nodes.{Node, node, Branch, no_branch, Held, written, valued}
-use Rattle.interpolator_syntax.specs.Nodes.{bare_of, nodes, piece_node}
+use Rattle.interpolator_syntax.specs.Nodes.{Node, node, Branch, no_branch, Content, text_content, argument_content}
+use Rattle.interpolator_syntax.specs.Nodes.{target_of, nodes, piece_node}
 use Rattle.interpolator_syntax.specs.Nodes.{token_node, group_branch, item_branch, join_branch}
 use Rattle.interpolator.specs.Template.Reading.{taken_step, ending_kind, ending_rest}
 use Rattle.interpolator.specs.Template.Stored.{Within, StandFor, Pushed, GroupStands}
@@ -52,10 +52,10 @@ use Rattle.interpolator_syntax.proofs.NodeLemmas.{nodes_first, nodes_none}
 use Rattle.interpolator.proofs.TemplateLemmas.PartLemmas.{part_lies, name_lies}
 use Rattle.interpolator.proofs.TemplateLemmas.StoredLemmas.{nodes_of_push}
 use Rattle.interpolator.proofs.TemplateLemmas.WithinLemmas.{within_then, after_front, front_within}
-use Rattle.interpolator.proofs.TemplateLemmas.WithinLemmas.{group_stands, written_text, handed_on}
-use Rattle.interpolator.proofs.TemplateLemmas.WithinLemmas.{name_within, scan_taken}
+use Rattle.interpolator.proofs.TemplateLemmas.WithinLemmas.{group_stands, name_within}
+use Rattle.interpolator_syntax.proofs.HandedLemmas.{written_text, handed_on, scan_taken}
 
--- ---- what stands after all of a text
+-- ---- what follows all of a text
 
 -- no byte is left after as many as the text has
 pub all_skipped : (p : ℕ) (bs rest : List ℕ) → IsUtf8 bs → length rest ≡ 0
@@ -66,7 +66,7 @@ all_skipped p bs rest u e = rw (chars_of_end rest e, size-chars bs u) refl
 ends_same : (a q : At) → Takes a q → all_after q ≡ all_after a
 ends_same a q t = at_same (takes_reaches _ a q t refl) refl
 
--- what stands after an argument, by how it ends
+-- what follows an argument, by how it ends
 pub ending_is : (p : ℕ) (a : At) (x : Argument) (q : At) (o : Option At) → argument_at a ≡ Ok (x, q)
     → ending_rest q o ≡ (argument_step p a x q o).rest
 ending_is p a x q None e = ends_same a q (argument_takes a x q e)
@@ -74,7 +74,7 @@ ending_is p a x q (Some rest) e = refl
 
 -- ---- texts
 
--- a byte stands between where a doubled brace begins and where it ends
+-- there is a byte between the beginning and the end of a doubled brace
 pub doubled_ends : (a b : At) (c : ℕ) → first_token a ≡ Some (doubled c, b) → a.place + 1 < b.place
 doubled_ends a b c e = omega (arith, (handed_on a (doubled c, b) e).size.1)
 
@@ -89,7 +89,7 @@ module _ (bs : List ℕ) (u : IsUtf8 bs) (a : At) (w : Within (outermost (chars 
 
   abbrev TextNode : (end : ℕ) → told.PieceKind → (to : ℕ) → Node
   TextNode end kind to =
-      node a.place end kind (option_map (λ cs. written a.place cs) (part bs a.place to))
+      node a.place end kind (option_map (λ cs. text_content a.place cs) (part bs a.place to))
       no_branch no_branch
 
   literals_node : (cs : List ℕ) (b : At) → first_token a ≡ Some (literals cs, b)
@@ -111,7 +111,7 @@ module _ (bs : List ℕ) (u : IsUtf8 bs) (a : At) (w : Within (outermost (chars 
 
 -- ---- arguments
 
--- the name of an argument stands in its text, after what stands before it
+-- the name of an argument is in its text, after what comes before it
 record NameStands (a : At) (x : Argument) : Type 0 where
   pub within : Within a (stands x.name_place x.name)
   pub after : a.place ≤ x.name_place
@@ -137,8 +137,8 @@ module _ (a : At) where
 
 -- the node of an argument, by what is held of it and by its groups
 argument_stands :
-    (place : ℕ) (b : At) (x : Argument) (q : At) (o : Option At) (held : Option Held)
-    (item join : Branch) → held ≡ Some (valued b.place x.name x.spec (bare_of x.kind) q.place)
+    (place : ℕ) (b : At) (x : Argument) (q : At) (o : Option At) (held : Option Content)
+    (item join : Branch) → held ≡ Some (argument_content b.place x.name x.spec (target_of x.kind) q.place)
     → item ≡ item_branch nodes x.kind → join ≡ join_branch nodes x.kind
     → (let s = argument_step b.place b x q o in
     node place s.rest.place (ending_kind o) held item join
@@ -166,13 +166,13 @@ module _ (place : ℕ) (b : At) (n : ArgumentName) (x : code_request.Request) (e
 
     value_held : (slot : Trait) → kind_of_request x ≡ of_value slot
         → stored_held bs place n.place n.end.place end.place x.spec (forms.Value slot)
-        ≡ Some (valued b.place taken.name taken.spec (bare_of taken.kind) end.place)
+        ≡ Some (argument_content b.place taken.name taken.spec (target_of taken.kind) end.place)
     value_held slot k = rw (taken_name, k, begins_after) refl
 
     list_held : (range : Option (Box Range)) → range_of range ≡ x.list.range
         → kind_of_request x ≡ of_list (list_of x.list)
         → stored_held bs place n.place n.end.place end.place x.spec (forms.List range)
-        ≡ Some (valued b.place taken.name taken.spec (bare_of taken.kind) end.place)
+        ≡ Some (argument_content b.place taken.name taken.spec (target_of taken.kind) end.place)
     list_held range r k = rw (taken_name, k, begins_after, r) refl
 
     group_is : (o : Option Group) (xs : Option (Vec Piece)) → GroupIfIn o b → GroupStands xs o
@@ -203,8 +203,8 @@ module _ (place : ℕ) (b : At) (n : ArgumentName) (x : code_request.Request) (e
         let s = argument_step b.place b taken (at end) (strip close_brace (at end)) in
         piece_node nodes place s.rest.place s.piece.kind
 
-    by_parts : (held : Option Held) (item join : Branch)
-        → held ≡ Some (valued b.place taken.name taken.spec (bare_of taken.kind) end.place)
+    by_parts : (held : Option Content) (item join : Branch)
+        → held ≡ Some (argument_content b.place taken.name taken.spec (target_of taken.kind) end.place)
         → item ≡ item_branch nodes taken.kind → join ≡ join_branch nodes taken.kind
         → node place rest.place kind held item join ≡ Taken
     by_parts held item join h i j =
@@ -303,8 +303,8 @@ broken_is b f e = rw (← e) refl
 
 -- ---- all that was read
 
--- `here` stands after a front of the text, and what was stored, and what stands here, are the
--- pieces of the whole text
+-- `here` is after a front of the text, and what was stored, and what is here, are the pieces of the
+-- whole text
 pub record Reading (text : At) (stored : List Piece) (here : At) : Type 0 where
   pub taken : Takes text here
   pub so_far :
@@ -341,12 +341,12 @@ module _ (text a : At) (stored : List Piece) (reading : Reading text stored a) w
       sym (append-nil (nodes_of bs stored))
       ∙ ap (λ ns. nodes_of bs stored ++ ns) (sym (nodes_none a e)) ∙ reading.so_far bs u w
 
--- a text that the scan hands on is stored as a piece that is written as it stands
+-- a text that the scan hands on is stored as a piece that is written as it is
 module _ (a b : At) (old new : List Piece) (piece : Piece) (added : new ≡ old ++ (piece ∷ [])) where
   abbrev Stores : (end : ℕ) → told.PieceKind → (to : ℕ) → Type 0
   Stores end kind to =
       (bs : List ℕ) → node_of bs piece
-      ≡ node a.place end kind (option_map (λ cs. written a.place cs) (part bs a.place to))
+      ≡ node a.place end kind (option_map (λ cs. text_content a.place cs) (part bs a.place to))
       no_branch no_branch
 
   pub literals_pushed :

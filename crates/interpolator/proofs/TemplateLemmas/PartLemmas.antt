@@ -1,4 +1,4 @@
--- What stands in a text at its place is what is cut out of the text there.
+-- What is in a text at its place is what is cut out of the text there.
 use Rattle.std.proofs.Common.{◌≡◌, ℕ, ◌+◌, ◌-◌, ◌<◌, Bool, true, false, ◌&&◌, nat_lt, List, []}
 use Rattle.std.proofs.Common.{◌∷◌, ◌++◌, length, take, drop, arith, refl, ap, ◌∙◌, sym, subst, rules}
 use Rattle.std.proofs.Common.{Some, append_assoc}
@@ -34,7 +34,7 @@ cut_out :
 unfolding part
 cut_out from to bs a b c = rw (a, b, c) refl
 
--- where a text stands, its own characters are cut out
+-- at the place of a text its own characters are cut out
 pub part_lies :
     (bs : List ℕ) (p : ℕ) (cs : List ℕ) (to : ℕ) → IsUtf8 bs
     → Within (outermost (chars bs)) (stands p cs) → to ≡ p + size cs → part bs p to ≡ Some cs
@@ -66,7 +66,7 @@ part_lies bs p cs to u h t =
     ∙ ap (λ z. Some (chars z)) (take-append_seam x k)
     ∙ ap Some (chars-encodes cs both.0)
 
--- the same of a name that stands after the byte `place`
+-- the characters of a name that begins after the byte `place`
 pub name_lies :
     (bs : List ℕ) (place p : ℕ) (cs : List ℕ) (to : ℕ) → IsUtf8 bs
     → Within (outermost (chars bs)) (stands p cs) → to ≡ p + size cs → place < p

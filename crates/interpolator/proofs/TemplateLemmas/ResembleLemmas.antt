@@ -13,8 +13,8 @@ use Rattle.interpolator_render.specs.declared.view.Trait.TheVariants as traits
 use Rattle.interpolator_syntax.specs.At.{At, text_of}
 use Rattle.interpolator_syntax.specs.Faults.{Fault, parse, iter}
 use Rattle.interpolator_syntax.specs.Nodes.{Node, node, Branch, no_branch, branch, Forest, no_nodes}
-use Rattle.interpolator_syntax.specs.Nodes.{nodes_and, as_forest, nodes, Held, written, valued, refused}
-use Rattle.interpolator_syntax.specs.Nodes.{Bare, bare_value, bare_list}
+use Rattle.interpolator_syntax.specs.Nodes.{nodes_and, as_forest, nodes, Content, text_content, argument_content, fault_content}
+use Rattle.interpolator_syntax.specs.Nodes.{Target, target_value, target_list}
 use Rattle.interpolator_syntax.specs.SpecTexts.{plain_spec}
 use Rattle.interpolator_syntax.specs.declared.piece_kind.PieceKind.{PieceKind}
 use Rattle.interpolator_syntax.specs.declared.piece_kind.PieceKind.TheVariants as kinds
@@ -23,9 +23,9 @@ use Rattle.interpolator_eval.specs.Slots.{Slots, SlotsList, bare, listed, no_slo
 use Rattle.interpolator_eval.specs.Slots.{values_of, items, slot_at, slots_listed}
 use Rattle.interpolator_eval.specs.Meaning.AskedNames.{asked_names}
 use Rattle.interpolator_eval.specs.Meaning.Choices.{chosen_items, chosen_places}
-use Rattle.interpolator_eval.specs.Meaning.Environments.{Environment, given, within, inner_or, bind}
+use Rattle.interpolator_eval.specs.Meaning.Environments.{Environment, slots_under, within, inner_or, bind}
 use Rattle.interpolator_eval.specs.Meaning.Environments.{environment}
-use Rattle.interpolator_eval.specs.Meaning.Meanings.{Meaning, or_fault, joined, view_means}
+use Rattle.interpolator_eval.specs.Meaning.Meanings.{Meaning, or_fault, chain, view_means}
 use Rattle.interpolator_eval.specs.Meaning.Meanings.{value_means, forbids_list, made_whole, padded_list}
 use Rattle.interpolator_eval.specs.Meaning.Meanings.{items_after, items_mean, under_name, listed_means}
 use Rattle.interpolator_eval.specs.Meaning.Meanings.{means}
@@ -36,17 +36,17 @@ use Rattle.interpolator_eval.specs.Meaning.Samples.{Sample, sample, each_of, eac
 use Rattle.interpolator_eval.specs.Meaning.Samples.{items_of_all, has_no_list, is_missing, is_failed}
 use Rattle.interpolator_eval.specs.Meaning.Samples.{slot_text, text_under, some_missing, some_failed}
 use Rattle.interpolator.specs.Template.NodeChecks.{fault_list, own_fault, end_fault}
-use Rattle.interpolator.specs.Template.NodeMeanings.{and_closed, held_means, node_means}
-use Rattle.interpolator.specs.Template.NodeMeanings.{join_branch_means, item_branch_means, forest_means}
-use Rattle.interpolator.specs.Template.NodeNames.{context_names, held_asks, node_asks, branch_asks, forest_asks}
+use Rattle.interpolator_eval.specs.Meaning.Meanings.{and_closed, held_means, node_means}
+use Rattle.interpolator_eval.specs.Meaning.Meanings.{join_branch_means, item_branch_means}
+use Rattle.interpolator_eval.specs.Meaning.Meanings.{forest_means}
+use Rattle.interpolator_eval.specs.Meaning.AskedNames.{context_names, held_asks, node_asks}
+use Rattle.interpolator_eval.specs.Meaning.AskedNames.{branch_asks, forest_asks}
 use Rattle.interpolator.specs.Template.NodeSamples.{fault_if, may_be_items, value_faults, found_faults}
 use Rattle.interpolator.specs.Template.NodeSamples.{asked_faults, plain_faults, node_faults_in}
 use Rattle.interpolator.specs.Template.NodeSamples.{item_faults_in, join_faults_in, forest_faults_in}
 use Rattle.interpolator.specs.Template.NodeSamples.{faults_over, held_pads, node_pads, branch_pads}
 use Rattle.interpolator.specs.Template.NodeSamples.{forest_pads, pads_a_list}
 use Rattle.interpolator.specs.Template.StoredMeanings.{unclosed_fault_of}
-use Rattle.interpolator.proofs.TemplateLemmas.NodeMeaningLemmas.{nodes_mean}
-use Rattle.interpolator.proofs.TemplateLemmas.NodeNameLemmas.{nodes_ask}
 
 -- ---- no faults, and none of the parts
 
@@ -79,9 +79,9 @@ module _ (N : Type 0) where
   abbrev Fine : Meaning → Type 0
   Fine m = (m.fault ≡ None) × (N → m.memory_points ≡ [])
 
-  fine_joined : (m k : Meaning) → Fine m → Fine k → Fine (joined m k)
+  fine_joined : (m k : Meaning) → Fine m → Fine k → Fine (chain m k)
   fine_joined m k h j =
-      let is : joined m k ≡ or_fault None m k = ap (λ o. or_fault o m k) h.0 in (
+      let is : chain m k ≡ or_fault None m k = ap (λ o. or_fault o m k) h.0 in (
         ap (λ (l : Meaning). l.fault) is ∙ j.0,
         λ n. ap (λ (l : Meaning). l.memory_points) is ∙ rw (h.1 n, j.1 n) refl,
       )
@@ -271,7 +271,7 @@ module _ (N : Type 0) where
       LikeFound None (Some xs) = ⊥
       LikeFound (Some u) (Some xs) = SomeLike u xs
 
-      fine_found : (start : ℕ) (name : List ℕ) (wanted : Bare) (spec : Spec) (end : ℕ)
+      fine_found : (start : ℕ) (name : List ℕ) (wanted : Target) (spec : Spec) (end : ℕ)
           (meant : Slots Y → Meaning) (o : Option (Slots Y)) (p : Option (List (Slots X)))
           → LikeFound o p → found_faults shows start name wanted spec end p ≡ []
           → ((xs : List (Slots X)) (u : Slots Y) → p ≡ Some xs
@@ -287,35 +287,35 @@ module _ (N : Type 0) where
       allowed_by true q h = absurd (cc)
       allowed_by false q h = refl
 
-      fine_held : (s : Sample X) (e : Environment Y) (kind : PieceKind) (held : Held) (join : Meaning)
+      fine_held : (s : Sample X) (e : Environment Y) (kind : PieceKind) (held : Content) (join : Meaning)
           (item : ℕ → Slots Y → Meaning)
           → asked_faults shows s held ≡ [] → own_fault held ≡ None → end_fault kind held ≡ None
           → (N → held_pads (Some held) ≡ false) → Fine join
-          → ((start q : ℕ) (name : List ℕ) (spec : Spec) (wanted : Bare)
-          → held ≡ valued start name spec wanted q
-          → LikeFound (given e name) (may_stand s name))
-          → ((start q : ℕ) (name : List ℕ) (spec : Spec) (wanted : Bare)
-          → held ≡ valued start name spec wanted q → (u : Slots Y) → SomeLike u (may_be_items s held)
+          → ((start q : ℕ) (name : List ℕ) (spec : Spec) (wanted : Target)
+          → held ≡ argument_content start name spec wanted q
+          → LikeFound (slots_under e name) (may_stand s name))
+          → ((start q : ℕ) (name : List ℕ) (spec : Spec) (wanted : Target)
+          → held ≡ argument_content start name spec wanted q → (u : Slots Y) → SomeLike u (may_be_items s held)
           → Fine (item q u))
           → Fine (held_means others e kind held join item)
-      fine_held s e kind (written from cs) join item none own last pads joins found each =
+      fine_held s e kind (text_content from cs) join item none own last pads joins found each =
           (refl, λ n. refl)
-      fine_held s e kind (refused f) join item none own last pads joins found each = absurd (cc)
-      fine_held s e kind (valued start name spec (bare_value t) q) join item none own last pads joins
+      fine_held s e kind (fault_content f) join item none own last pads joins found each = absurd (cc)
+      fine_held s e kind (argument_content start name spec (target_value t) q) join item none own last pads joins
           found each =
           fine_closed kind q _ last
-          (fine_found start name (bare_value t) spec q _ (given e name) (may_stand s name)
-          (found start q name spec (bare_value t) refl) none
+          (fine_found start name (target_value t) spec q _ (slots_under e name) (may_stand s name)
+          (found start q name spec (target_value t) refl) none
           (λ xs u is faults like. fine_value t spec q xs u faults like))
-      fine_held s e kind (valued start name spec (bare_list range) q) join item none own last pads
+      fine_held s e kind (argument_content start name spec (target_list range) q) join item none own last pads
           joins found each =
           fine_closed kind q _ last
-          (fine_found start name (bare_list range) spec q _ (given e name) (may_stand s name)
-          (found start q name spec (bare_list range) refl) none
+          (fine_found start name (target_list range) spec q _ (slots_under e name) (may_stand s name)
+          (found start q name spec (target_list range) refl) none
           (λ xs u is faults like.
           fine_list range spec q join (item q) xs u (not_so _ _ faults)
           (allowed_by (forbids_list spec) q own) pads joins
-          (λ v l. each start q name spec (bare_list range) refl v
+          (λ v l. each start q name spec (target_list range) refl v
           (subst (λ p. SomeLike v (items_of_all (unwrap_or p []))) (sym is) l)) like))
 
       -- ---- names
@@ -325,7 +325,7 @@ module _ (N : Type 0) where
           (xs : List (Slots X)) × (u : Slots Y) × (s.each ≡ Some xs) × (e.inner ≡ Some u)
           × SomeLike u xs
       EmptyFits false s e names =
-          (s.each ≡ None) × (Contains names [] → ResemblesFound shows others (given e []) (s.gives []))
+          (s.each ≡ None) × (Contains names [] → ResemblesFound shows others (slots_under e []) (s.gives []))
 
       -- the environment resembles the sample under these names, and so does the item, if there is one
       record Fits (in_item : Bool) (s : Sample X) (e : Environment Y) (names : List (List ℕ)) : Type 0 where
@@ -364,7 +364,7 @@ module _ (N : Type 0) where
 
       outer_like : (s : Sample X) (e : Environment Y) (c : ℕ) (cs : List ℕ)
           → ResemblesFound shows others (within e.names e.finds (c ∷ cs)) (s.gives (c ∷ cs))
-          → LikeFound (given e (c ∷ cs)) (may_stand s (c ∷ cs))
+          → LikeFound (slots_under e (c ∷ cs)) (may_stand s (c ∷ cs))
       outer_like s e c cs h =
           let found = from_found (within e.names e.finds (c ∷ cs)) (s.gives (c ∷ cs)) h in
           let there = inner_named e.inner (λ name. within e.names e.finds name) c cs in
@@ -375,21 +375,21 @@ module _ (N : Type 0) where
       name_like : (in_item : Bool) (s : Sample X) (e : Environment Y) (names : List (List ℕ))
           (name : List ℕ) → Fits in_item s e names
           → ((n : List ℕ) → Contains (context_names in_item name) n → Contains names n)
-          → LikeFound (given e name) (may_stand s name)
+          → LikeFound (slots_under e name) (may_stand s name)
       name_like true s e names [] h into =
           let empty = h.empty in
           rw (empty.2, empty.3) empty.4
       name_like true s e names (c ∷ cs) h into =
           outer_like s e c cs (h.outer c cs (into (c ∷ cs) (one_name (c ∷ cs))))
       name_like false s e names [] h into =
-          rw (h.empty.0) (from_found (given e []) (s.gives []) (h.empty.1 (into [] (one_name []))))
+          rw (h.empty.0) (from_found (slots_under e []) (s.gives []) (h.empty.1 (into [] (one_name []))))
       name_like false s e names (c ∷ cs) h into =
           outer_like s e c cs (h.outer c cs (into (c ∷ cs) (one_name (c ∷ cs))))
 
       -- ---- at every depth
 
-      plain_value : (held : Held) (start q : ℕ) (name : List ℕ) (spec : Spec) (wanted : Bare)
-          (xs : List (Slots X)) → held ≡ valued start name spec wanted q
+      plain_value : (held : Content) (start q : ℕ) (name : List ℕ) (spec : Spec) (wanted : Target)
+          (xs : List (Slots X)) → held ≡ argument_content start name spec wanted q
           → plain_faults shows held xs ≡ [] → value_faults shows traits.Display plain_spec q xs ≡ []
       plain_value held start q name spec wanted xs is none = rw is at none
 
@@ -436,9 +436,9 @@ module _ (N : Type 0) where
         fine_join no_branch in_item s e none pads fits = (refl, λ n. refl)
         fine_join (branch xs) in_item s e none pads fits = fine_forest xs in_item s e none pads fits
 
-        fine_item : (b : Branch) (in_item : Bool) (s : Sample X) (e : Environment Y) (held : Held)
-            (start q : ℕ) (name : List ℕ) (spec : Spec) (wanted : Bare)
-            → held ≡ valued start name spec wanted q → item_faults_in shows s held b ≡ []
+        fine_item : (b : Branch) (in_item : Bool) (s : Sample X) (e : Environment Y) (held : Content)
+            (start q : ℕ) (name : List ℕ) (spec : Spec) (wanted : Target)
+            → held ≡ argument_content start name spec wanted q → item_faults_in shows s held b ≡ []
             → (N → branch_pads b ≡ false) → Fits in_item s e (branch_asks true b) → (u : Slots Y)
             → SomeLike u (may_be_items s held) → Fine (item_branch_means others e b q u)
         fine_item no_branch in_item s e held start q name spec wanted is none pads fits u like =
@@ -468,15 +468,15 @@ module _ (N : Type 0) where
 
       on_name : (e : Environment Y) (d : Environment X) (names : List (List ℕ)) (name : List ℕ)
           → ResemblesOn shows others e d names → Contains names name
-          → ResemblesFound shows others (given e name) (given d name)
+          → ResemblesFound shows others (slots_under e name) (slots_under d name)
       on_name e d names name h (k, l, is) = at_index names h k l is
         where
           at_index : (ns : List (List ℕ)) → ResemblesOn shows others e d ns → (k : ℕ)
               → k < length ns → slice_index_or ns k name ≡ name
-              → ResemblesFound shows others (given e name) (given d name)
+              → ResemblesFound shows others (slots_under e name) (slots_under d name)
           at_index [] r k l is = absurd (omega (arith, l))
           at_index (n ∷ ns) r zero l is =
-              subst (λ m. ResemblesFound shows others (given e m) (given d m)) is r.0
+              subst (λ m. ResemblesFound shows others (slots_under e m) (slots_under d m)) is r.0
           at_index (n ∷ ns) r (suc k) l is = at_index ns r.1 k (omega (arith, l)) is
 
       fine_text : (finds : List ℕ → Option (Slots X)) (e : Environment Y) (a : At)
@@ -484,17 +484,13 @@ module _ (N : Type 0) where
           → ResemblesOn shows others e (environment finds) (asked_names a)
           → Fine (means others e a)
       fine_text finds e a none pads like =
-          let names = forest_asks false (as_forest (nodes a)) in
-          let on : ResemblesOn shows others e (environment finds) names =
-          subst (λ ns. ResemblesOn shows others e (environment finds) ns) (sym (nodes_ask a)) like in
-          subst Fine (nodes_mean others e a)
-          (fine_forest (as_forest (nodes a)) false (sample finds) e none pads (record {
+          fine_forest (as_forest (nodes a)) false (sample finds) e none pads (record {
             outer = λ c cs k.
                 subst (λ o. ResemblesFound shows others o (finds (c ∷ cs)))
                 (inner_named e.inner (λ name. within e.names e.finds name) c cs)
-                (on_name e (environment finds) names (c ∷ cs) on k);
-            empty = (refl, λ k. on_name e (environment finds) names [] on k);
-          }))
+                (on_name e (environment finds) (asked_names a) (c ∷ cs) like k);
+            empty = (refl, λ k. on_name e (environment finds) (asked_names a) [] like k);
+          })
 
 module _ {X Y : Type 0} (shows : X → Trait → Spec → Shown) (others : Y → Trait → Spec → Shown)
     (finds : List ℕ → Option (Slots X)) (e : Environment Y) (a : At)
@@ -504,7 +500,7 @@ module _ {X Y : Type 0} (shows : X → Trait → Spec → Shown) (others : Y →
   pub no_fault : (means others e a).fault ≡ None
   no_fault = (fine_text ⊥ shows others finds e a none (λ no. absurd no) like).0
 
-  -- and no memory is taken, if no list stands under a width
+  -- and no memory is taken, if no list is under a width
   pub no_memory_point : pads_a_list a ≡ false → (means others e a).memory_points ≡ []
   no_memory_point pads =
       (fine_text (pads_a_list a ≡ false) shows others finds e a none (λ p. p) like).1 pads

@@ -17,15 +17,15 @@ use Rattle.interpolator_syntax.specs.Faults.{Fault, Answer, fault, argument_faul
 use Rattle.interpolator_syntax.specs.SpecTexts.{plain_spec}
 use Rattle.interpolator_syntax.specs.declared.argument_fault.ArgumentFault.{ArgumentFault}
 use Rattle.interpolator_syntax.specs.declared.range.Range.{Range}
-use Rattle.interpolator_eval.specs.Meaning.Environments.{Environment, given}
+use Rattle.interpolator_eval.specs.Meaning.Environments.{Environment, slots_under}
 use Rattle.interpolator_eval.specs.Meaning.Meanings.{Meaning, text_alone, under_name}
 use Rattle.interpolator_eval.specs.Meaning.Meanings.{items_after, items_mean, means}
 use Rattle.interpolator_eval.specs.Meaning.Outcomes.{Outcome}
 use Rattle.interpolator_eval.specs.Meaning.Sinks.{Writes, taken_by}
-use Rattle.interpolator_syntax.specs.Nodes.{Held, written, valued, refused, Bare}
-use Rattle.interpolator_syntax.specs.Nodes.{bare_value, bare_list, as_forest, nodes}
-use Rattle.interpolator.specs.Template.NodeMeanings.{and_closed, bare_means, held_means}
-use Rattle.interpolator.specs.Template.NodeMeanings.{forest_means}
+use Rattle.interpolator_syntax.specs.Nodes.{Content, text_content, argument_content, fault_content, Target}
+use Rattle.interpolator_syntax.specs.Nodes.{target_value, target_list, as_forest, nodes}
+use Rattle.interpolator_eval.specs.Meaning.Meanings.{and_closed, bare_means, held_means}
+use Rattle.interpolator_eval.specs.Meaning.Meanings.{forest_means}
 use Rattle.interpolator.specs.Template.Stored.{may_cut, part, range_of, held_of}
 use Rattle.interpolator.specs.Template.Stored.{node_of, nodes_of, StandFor}
 use Rattle.interpolator.specs.Template.Stored.{forest_whole}
@@ -41,7 +41,6 @@ use Rattle.interpolator_syntax.specs.declared.piece_kind.PieceKind.{PieceKind}
 use Rattle.interpolator_syntax.specs.declared.piece_kind.PieceKind.TheVariants as kinds
 use Rattle.interpolator_eval.proofs.MeaningLemmas.SinkLemmas.{and_then, fault_first, nothing_done, ended}
 use Rattle.interpolator_eval.proofs.MeaningLemmas.SinkLemmas.{same_end, same_then}
-use Rattle.interpolator.proofs.TemplateLemmas.NodeMeaningLemmas.{nodes_mean}
 use Rattle.interpolator.proofs.TemplateLemmas.StoredLemmas.{node_of_out}
 use Rattle.interpolator.proofs.TemplateLemmas.WholeLemmas.{nodes_whole}
 use Rattle.interpolator.proofs.TemplateLemmas.WholePieceLemmas.{pieces_whole}
@@ -103,31 +102,31 @@ module _ (bs : List ℕ) (x : Piece) where
   list_fits range form h = some_of _ (stored_name bs x) (rw form at h)
 
   pub text_held : (cs : List ℕ) → (out-Piece x).form ≡ forms.Text → Some cs ≡ stored_part bs x
-      → held_of bs x ≡ Some (written (out-Piece x).from cs)
+      → held_of bs x ≡ Some (text_content (out-Piece x).from cs)
   text_held cs form h = rw (form, ← h) refl
 
   pub broken_held : (f : Box ArgumentFault) → (out-Piece x).form ≡ forms.Broken f
-      → held_of bs x ≡ Some (refused (argument_fault_of f.value))
+      → held_of bs x ≡ Some (fault_content (argument_fault_of f.value))
   broken_held f form = rw form refl
 
   module _ (start : ℕ) (name : List ℕ) (first : start ≡ (out-Piece x).place + 1)
       (is : Some name ≡ stored_name bs x) where
-    abbrev Valued : Spec → Bare → Option Held
-    Valued spec bare = Some (valued start name spec bare (out-Piece x).spec_end)
+    abbrev Valued : Spec → Target → Option Content
+    Valued spec bare = Some (argument_content start name spec bare (out-Piece x).spec_end)
 
     begins : suc (out-Piece x).place ≡ start
     begins = sym (first ∙ add-one (out-Piece x).place)
 
     pub name_held : (out-Piece x).form ≡ forms.Name
-        → held_of bs x ≡ Valued plain_spec (bare_value traits.Display)
+        → held_of bs x ≡ Valued plain_spec (target_value traits.Display)
     name_held form = rw (form, ← is, begins) refl
 
     pub value_held : (t : Trait) → (out-Piece x).form ≡ forms.Value t
-        → held_of bs x ≡ Valued (out-Piece x).spec (bare_value t)
+        → held_of bs x ≡ Valued (out-Piece x).spec (target_value t)
     value_held t form = rw (form, ← is, begins) refl
 
     pub list_held : (range : Option (Box Range)) → (out-Piece x).form ≡ forms.List range
-        → held_of bs x ≡ Valued (out-Piece x).spec (bare_list (range_of range))
+        → held_of bs x ≡ Valued (out-Piece x).spec (target_list (range_of range))
     list_held range form = rw (form, ← is, begins) refl
 
 -- ---- the outcome of one piece
@@ -144,7 +143,7 @@ module _ {W : Type 0} (into : W → Written) (m : Meaning) (s t : Sink W) (end :
       record { outcome = fault_first _ _ _ _ q o.outcome; same = o.same }
   closed_fault kinds.Broken q o = o
 
-  -- the same where all was written before
+  -- if all was written before, a closed argument adds nothing
   closed_done : (kind : PieceKind) → Writes into m s t None
       → Writes into (and_closed kind end m) s t (option_map fault (unclosed_fault_of kind end))
   closed_done kinds.Literal o = o
@@ -161,33 +160,33 @@ module _ {X W : Type 0} (shows : X → Trait → Spec → Shown) (into : W → W
     abbrev Means : Meaning
     Means = stored_piece_means shows e bs x
 
-    means_held : (h : Held) → held_of bs x ≡ Some h
+    means_held : (h : Content) → held_of bs x ≡ Some h
         → Means ≡ held_means shows e (out-Piece x).kind h (stored_join_means shows e bs x)
         (stored_item_means shows e bs x)
     means_held h is = rw (node_of_out bs x, is) refl
 
     -- a text that is written
     pub text_writes : (r : Option Answer) (from : ℕ) (cs : List ℕ)
-        → held_of bs x ≡ Some (written from cs)
+        → held_of bs x ≡ Some (text_content from cs)
         → Writes into (text_alone (placed_from from cs)) s t r → Writes into Means s t r
     text_writes r from cs is o =
-        record { outcome = rw (means_held (written from cs) is) o.outcome; same = o.same }
+        record { outcome = rw (means_held (text_content from cs) is) o.outcome; same = o.same }
 
     -- what could not be read
-    pub fault_writes : (f : Fault) → held_of bs x ≡ Some (refused f)
+    pub fault_writes : (f : Fault) → held_of bs x ≡ Some (fault_content f)
         → Writes into Means s s (Some (fault f))
     fault_writes f is =
-        record { outcome = rw (means_held (refused f) is) (ended f _); same = same_end s }
+        record { outcome = rw (means_held (fault_content f) is) (ended f _); same = same_end s }
 
     -- an argument
-    module _ (start : ℕ) (name : List ℕ) (spec : Spec) (bare : Bare)
-        (is : held_of bs x ≡ Some (valued start name spec bare (out-Piece x).spec_end)) where
+    module _ (start : ℕ) (name : List ℕ) (spec : Spec) (bare : Target)
+        (is : held_of bs x ≡ Some (argument_content start name spec bare (out-Piece x).spec_end)) where
       abbrev Value : Meaning
       Value =
           under_name name start
           (bare_means shows bare spec (out-Piece x).spec_end (stored_join_means shows e bs x)
           (stored_item_means shows e bs x (out-Piece x).spec_end))
-          (given e name)
+          (slots_under e name)
 
       -- whose value ends the run
       pub argument_fault : (q : Answer) → Writes into Value s t (Some q)
@@ -302,7 +301,7 @@ module _ (bs : List ℕ) (xs : List Piece) (a : At) (same : nodes_of bs xs ≡ n
       → Outcome (means shows e a) old new answer
   text_outcome shows e f old new answer is o =
       let mean : stored_pieces_mean shows f bs xs ≡ means shows e a =
-      rw (same, is) (nodes_mean shows e a) in
+      rw (same, is) refl in
       rw mean at o
 
   module _ (skipped : ℕ) where

@@ -7,8 +7,8 @@ use Rattle.interpolator_render.specs.declared.view.Trait.{Trait}
 use Rattle.interpolator_render.specs.declared.view.Trait.TheVariants as traits
 use Rattle.interpolator_render.specs.declared.view.Spec.{Spec}
 use Rattle.interpolator_syntax.specs.Faults.{argument_fault_of}
-use Rattle.interpolator_syntax.specs.Nodes.{Node, node, Held, written, valued, refused}
-use Rattle.interpolator_syntax.specs.Nodes.{bare_value, bare_list}
+use Rattle.interpolator_syntax.specs.Nodes.{Node, node, Content, text_content, argument_content, fault_content}
+use Rattle.interpolator_syntax.specs.Nodes.{target_value, target_list}
 use Rattle.interpolator_syntax.specs.SpecTexts.{plain_spec}
 use Rattle.interpolator_syntax.specs.declared.argument_fault.ArgumentFault.{ArgumentFault}
 use Rattle.interpolator_syntax.specs.declared.range.Range.{Range}
@@ -74,22 +74,22 @@ nodes_of_push bs [] x = refl
 nodes_of_push bs (y ∷ xs) x = ap (λ ys. node_of bs y ∷ ys) (nodes_of_push bs xs x)
 
 -- what a stored piece holds that fits its text, by how it is written
-module _ (bs : List ℕ) (place from to end : ℕ) (spec : Spec) (P : Form → Option Held → Type 0)
-    (of_text : (cs : List ℕ) → P forms.Text (Some (written from cs)))
+module _ (bs : List ℕ) (place from to end : ℕ) (spec : Spec) (P : Form → Option Content → Type 0)
+    (of_text : (cs : List ℕ) → P forms.Text (Some (text_content from cs)))
     (of_name : (name : List ℕ) → part bs from to ≡ Some name → P forms.Name
-    (Some (valued (suc place) name plain_spec (bare_value traits.Display) end)))
+    (Some (argument_content (suc place) name plain_spec (target_value traits.Display) end)))
     (of_value : (t : Trait) (name : List ℕ) → part bs from to ≡ Some name → P (forms.Value t)
-    (Some (valued (suc place) name spec (bare_value t) end)))
+    (Some (argument_content (suc place) name spec (target_value t) end)))
     (of_list : (range : Option (Box Range)) (name : List ℕ) → part bs from to ≡ Some name
-    → P (forms.List range) (Some (valued (suc place) name spec (bare_list (range_of range)) end)))
+    → P (forms.List range) (Some (argument_content (suc place) name spec (target_list (range_of range)) end)))
     (of_fault : (fault : Box ArgumentFault) → P (forms.Broken fault)
-    (Some (refused (argument_fault_of fault.value)))) where
-  by_text : (o : Option (List ℕ)) → IsSome (option_map (λ cs. written from cs) o)
-      → P forms.Text (option_map (λ cs. written from cs) o)
+    (Some (fault_content (argument_fault_of fault.value)))) where
+  by_text : (o : Option (List ℕ)) → IsSome (option_map (λ cs. text_content from cs) o)
+      → P forms.Text (option_map (λ cs. text_content from cs) o)
   by_text None h = absurd (cc)
   by_text (Some cs) h = of_text cs
 
-  by_name : (form : Form) (held : List ℕ → Held)
+  by_name : (form : Form) (held : List ℕ → Content)
       → ((name : List ℕ) → part bs from to ≡ Some name → P form (Some (held name)))
       → (within : Bool) (o : Option (List ℕ)) → part bs from to ≡ o
       → IsSome (option_map held (if within then o else None))

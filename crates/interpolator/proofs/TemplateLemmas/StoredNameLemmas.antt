@@ -1,7 +1,7 @@
 -- The names that stored pieces ask, one name and one piece at a time.
 use Rattle.std.proofs.Common.{◌≡◌, ◌∙◌, refl, sym, ap, ℕ, Bool, true, false}
 use Rattle.std.proofs.Common.{List, [], ◌∷◌, ◌++◌, length}
-use Rattle.std.proofs.Common.{Option, Some, None, IsSome, IfSome, option_map, Result, Ok}
+use Rattle.std.proofs.Common.{Option, Some, None, IsSome, option_map, Result, Ok}
 use Rattle.std.proofs.lemmas.List.{append-nil}
 use Rattle.std.specs.Global.{Box}
 use Rattle.std.specs.Prelude.{string_bytes, ◌==◌}
@@ -10,13 +10,12 @@ use Rattle.std.specs.declared.string.String.{String}
 use Rattle.interpolator_syntax.specs.declared.argument_fault.ArgumentFault.{ArgumentFault}
 use Rattle.interpolator_syntax.proofs.FirstByteLemmas.{ends_told}
 use Rattle.interpolator_syntax.specs.At.{At}
-use Rattle.interpolator_eval.specs.Meaning.AskedNames.{asked_names}
-use Rattle.interpolator.specs.Template.NodeNames.{context_names, held_asks, visit_asks, name_list}
-use Rattle.interpolator.specs.Template.NodeNames.{name_texts}
+use Rattle.interpolator_eval.specs.Meaning.AskedNames.{context_names, held_asks, asked_names}
+use Rattle.interpolator.specs.Template.NodeNames.{visit_asks, name_list, name_texts}
 use Rattle.interpolator.specs.Template.Visits.{Visit, enter, Walks, text_visits}
 use Rattle.interpolator.specs.declared.template.walk.Spot.{Spot}
 use Rattle.interpolator.proofs.TemplateLemmas.VisitLemmas.{gathers, text_asks}
-use Rattle.interpolator_syntax.specs.Nodes.{Held}
+use Rattle.interpolator_syntax.specs.Nodes.{Content}
 use Rattle.interpolator.specs.Template.Stored.{part, held_of, node_of}
 use Rattle.interpolator.specs.Template.Stored.{node_whole}
 use Rattle.interpolator.specs.Template.StoredMeanings.{stored_part}
@@ -56,13 +55,6 @@ pub asked_push : {Z : Type 0} (names : List (String Z)) (name : String Z)
 asked_push [] name = refl
 asked_push (x ∷ names) name = ap (λ ns. chars (string_bytes x) ∷ ns) (asked_push names name)
 
--- a name that is found stands where the text says
-pub asked_same : {B : Type 0} (o : Option B) (text : B → List ℕ) (bs : List ℕ)
-    (part : Option (List ℕ)) → IfSome o (λ x. text x ≡ bs) → Some (chars bs) ≡ part
-    → IfSome o (λ x. Some (chars (text x)) ≡ part)
-asked_same None text bs part h k = tt
-asked_same (Some x) text bs part h k = ap (λ cs. Some (chars cs)) h ∙ k
-
 -- no name is added
 pub asked_none : {X : Type 0} (names asks : List (List ℕ)) (o : Option X) (text : X → List ℕ)
     → o ≡ None → name_list (option_map text o) ≡ asks → names ≡ names ++ asks
@@ -85,7 +77,7 @@ NamesOne form =
     ¬ (form ≡ forms.Text) × ((fault : Box ArgumentFault) → ¬ (form ≡ forms.Broken fault))
 
 -- its name is cut out of the text, and is asked
-abbrev Asks : Option (List ℕ) → Form → Option Held → Type 0
+abbrev Asks : Option (List ℕ) → Form → Option Content → Type 0
 Asks part form held =
     NamesOne form
     → IsSome part × ((in_item : Bool) (name : List ℕ) → Some name ≡ part
@@ -119,7 +111,7 @@ module _ (bs : List ℕ) (x : Piece) (no_text : ¬ ((out-Piece x).form ≡ forms
       → context_names in_item name ≡ held_asks in_item (held_of bs x)
   asked_held in_item name e = sym ((asks (no_text, no_fault)).1 in_item name e)
 
--- what it asks where it is entered
+-- what it asks when it is entered
 pub asked_entered : (spot : Spot) (bs : List ℕ) (x : Piece)
     → held_asks spot.in_item (held_of bs x) ≡ visit_asks (enter spot (node_of bs x))
 asked_entered spot bs x = sym (ap (λ n. visit_asks (enter spot n)) (node_of_out bs x))

@@ -10,7 +10,7 @@ use Rattle.interpolator_render.specs.declared.view.Trait.TheVariants as traits
 use Rattle.interpolator_render.specs.Views.{Shown}
 use Rattle.interpolator_syntax.specs.Faults.{Fault, Answer, fault, no_memory, answer_of}
 use Rattle.interpolator_syntax.specs.Nodes.{node, Branch, no_branch, branch, Forest, as_forest}
-use Rattle.interpolator_syntax.specs.Nodes.{Held, written, valued, Bare, bare_list}
+use Rattle.interpolator_syntax.specs.Nodes.{Content, text_content, argument_content, Target, target_list}
 use Rattle.interpolator_syntax.specs.SpecTexts.{plain_spec}
 use Rattle.interpolator_syntax.specs.declared.error.Error.{Error}
 use Rattle.interpolator_syntax.specs.declared.piece_kind.PieceKind.{PieceKind}
@@ -115,24 +115,24 @@ no_memory_told no_memory h e = absurd (cc)
 module _ {X : Type 0} (shows : X → Trait → Spec → Shown) (s : Sample X) where
   module _ (place end q : ℕ) (kind : PieceKind) (item join : Branch) where
     -- the faults of its parts
-    abbrev Parts : Option Held → (own last : Option Fault) → List Fault
+    abbrev Parts : Option Content → (own last : Option Fault) → List Fault
     Parts held own last =
         asked_of shows s held ++ (fault_list own ++ (item_of shows s held item
         ++ (join_faults_in shows s join ++ fault_list last)))
 
-    value_parts : (start : ℕ) (spec : Spec) (bare : Bare) (own : Option Fault)
+    value_parts : (start : ℕ) (spec : Spec) (bare : Target) (own : Option Fault)
         (o : Option (List ℕ))
-        → ((name : List ℕ) → own_fault (valued start name spec bare q) ≡ own)
-        → IsSome (option_map (λ name. valued start name spec bare q) o)
-        → (let held = option_map (λ name. valued start name spec bare q) o in
+        → ((name : List ℕ) → own_fault (argument_content start name spec bare q) ≡ own)
+        → IsSome (option_map (λ name. argument_content start name spec bare q) o)
+        → (let held = option_map (λ name. argument_content start name spec bare q) o in
         node_faults_in shows s (node place end kind held item join)
         ≡ Parts held own (unclosed_fault_of kind q))
     value_parts start spec bare own None e h = absurd (cc)
     value_parts start spec bare own (Some name) e h =
-        ap (λ o. Parts (Some (valued start name spec bare q)) o (unclosed_fault_of kind q)) (e name)
+        ap (λ o. Parts (Some (argument_content start name spec bare q)) o (unclosed_fault_of kind q)) (e name)
 
-    text_parts : (from : ℕ) (o : Option (List ℕ)) → IsSome (option_map (λ cs. written from cs) o)
-        → (let held = option_map (λ cs. written from cs) o in
+    text_parts : (from : ℕ) (o : Option (List ℕ)) → IsSome (option_map (λ cs. text_content from cs) o)
+        → (let held = option_map (λ cs. text_content from cs) o in
         node_faults_in shows s (node place end kind held item join) ≡ Parts held None None)
     text_parts from None h = absurd (cc)
     text_parts from (Some cs) h = refl
@@ -148,7 +148,7 @@ module _ {X : Type 0} (shows : X → Trait → Spec → Shown) (s : Sample X) wh
     form_parts bs from to spec (forms.Value t) h =
         value_parts _ _ _ None (name_part bs place from to) (λ name. refl) h
     form_parts bs from to spec (forms.List range) h =
-        value_parts _ spec (bare_list (range_of range)) (form_fault spec q (forms.List range))
+        value_parts _ spec (target_list (range_of range)) (form_fault spec q (forms.List range))
         (name_part bs place from to) (λ name. refl) h
     form_parts bs from to spec (forms.Broken f) h = refl
 
@@ -171,7 +171,7 @@ module _ {X : Type 0} (shows : X → Trait → Spec → Shown) (s : Sample X) wh
     text_asks form = rw form (by_part (part bs (out-Piece x).from (out-Piece x).to))
       where
         by_part : (o : Option (List ℕ))
-            → [] ≡ asked_of shows s (option_map (λ cs. written (out-Piece x).from cs) o)
+            → [] ≡ asked_of shows s (option_map (λ cs. text_content (out-Piece x).from cs) o)
         by_part None = refl
         by_part (Some cs) = refl
 
@@ -183,16 +183,16 @@ module _ {X : Type 0} (shows : X → Trait → Spec → Shown) (s : Sample X) wh
     plain_item h =
         let y = out-Piece x in by_form y.place y.from y.to y.spec_end y.spec y.form h
       where
-        by_name : (start q : ℕ) (spec : Spec) (bare : Bare) (o : Option (List ℕ))
-            → IsSome (option_map (λ name. valued start name spec bare q) o)
-            → (let held = option_map (λ name. valued start name spec bare q) o in
+        by_name : (start q : ℕ) (spec : Spec) (bare : Target) (o : Option (List ℕ))
+            → IsSome (option_map (λ name. argument_content start name spec bare q) o)
+            → (let held = option_map (λ name. argument_content start name spec bare q) o in
             value_faults shows traits.Display plain_spec q (items_of_held s held)
             ≡ item_of shows s held no_branch)
         by_name start q spec bare None h = absurd (cc)
         by_name start q spec bare (Some name) h = refl
 
         by_part : (from q : ℕ) (o : Option (List ℕ))
-            → (let held = option_map (λ cs. written from cs) o in
+            → (let held = option_map (λ cs. text_content from cs) o in
             value_faults shows traits.Display plain_spec q (items_of_held s held)
             ≡ item_of shows s held no_branch)
         by_part from q None = refl
@@ -212,13 +212,13 @@ module _ {X : Type 0} (shows : X → Trait → Spec → Shown) (s : Sample X) wh
             by_name _ _ _ _ (name_part bs place from to) h
         by_form place from to q spec (forms.Broken f) h = refl
 
-  branch_item : (o : Option Held) (xs : Forest) → IsSome o
+  branch_item : (o : Option Content) (xs : Forest) → IsSome o
       → forest_faults_in shows (each_of s (items_of_held s o)) xs ≡ item_of shows s o (branch xs)
   branch_item None xs h = absurd (cc)
   branch_item (Some held) xs h = refl
 
   -- a format is looked at with each item that there may be
-  pub item_told : (bs : List ℕ) (o : Option Held) (group : Option (Vec Piece)) (v : Vec Piece)
+  pub item_told : (bs : List ℕ) (o : Option Content) (group : Option (Vec Piece)) (v : Vec Piece)
       (xs : List Piece) (inner : Sample X) (old new : Telling) (r : Option Answer) → IsSome o
       → group ≡ Some v → xs ≡ v.items → inner ≡ each_of s (items_of_held s o)
       → Tells (forest_faults_in shows inner (as_forest (nodes_of bs xs))) old new r

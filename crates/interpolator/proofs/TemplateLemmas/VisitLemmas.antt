@@ -9,20 +9,19 @@ use Rattle.std.specs.Prelude.{flat_map, max}
 use Rattle.interpolator_syntax.specs.At.{At}
 use Rattle.interpolator_syntax.specs.Nodes.{Node, node, Branch, no_branch, branch}
 use Rattle.interpolator_syntax.specs.Nodes.{Forest, no_nodes, nodes_and, as_forest, nodes}
-use Rattle.interpolator_eval.specs.Meaning.AskedNames.{asked_names}
+use Rattle.interpolator_eval.specs.Meaning.AskedNames.{held_asks, node_asks, branch_asks}
+use Rattle.interpolator_eval.specs.Meaning.AskedNames.{forest_asks, asked_names}
 use Rattle.interpolator.specs.Template.NodeChecks.{node_faults, branch_faults, forest_faults}
 use Rattle.interpolator.specs.Template.NodeChecks.{text_faults}
 use Rattle.interpolator.specs.Template.NodeChecks.{visit_faults, fault_list, own_fault}
 use Rattle.interpolator.specs.Template.NodeExtents.{node_depth, branch_depth, forest_depth}
 use Rattle.interpolator.specs.Template.NodeExtents.{visit_depth, inner_depth}
-use Rattle.interpolator.specs.Template.NodeNames.{node_asks, branch_asks, forest_asks, visit_asks}
-use Rattle.interpolator.specs.Template.NodeNames.{held_asks}
+use Rattle.interpolator.specs.Template.NodeNames.{visit_asks}
 use Rattle.interpolator.specs.Template.Visits.{Visit, leave, Walks, inner, greatest}
 use Rattle.interpolator.specs.Template.Visits.{node_visits, branch_visits, forest_visits}
 use Rattle.interpolator.specs.Template.Visits.{text_visits, outermost_spot}
 use Rattle.interpolator.specs.Template.Stored.{node_whole, branch_whole, forest_whole}
 use Rattle.interpolator.specs.declared.template.walk.Spot.{Spot}
-use Rattle.interpolator.proofs.TemplateLemmas.NodeNameLemmas.{nodes_ask}
 use Rattle.interpolator.proofs.TemplateLemmas.WholeLemmas.{nodes_whole}
 use Rattle.interpolator.proofs.TemplateLemmas.WholePieceLemmas.{both}
 
@@ -84,7 +83,7 @@ module _ {V E : Type 0} (step : V → Visit → V → Result (Unit {0}) E → Ty
 -- ---- what visits give, of pieces
 
 module _ {B : Type 0} (gives : Visit → List B) where
-  -- of two groups, and of what stands after them
+  -- of two groups, and of what follows them
   around : (xs ys : List Visit) (z : Visit)
       → flat_map gives (xs ++ (ys ++ (z ∷ [])))
       ≡ flat_map gives xs ++ (flat_map gives ys ++ gives z)
@@ -158,7 +157,7 @@ greatest-append : (asks : Visit → ℕ) (xs ys : List Visit)
 greatest-append asks [] ys = omega arith
 greatest-append asks (x ∷ xs) ys = omega (arith, greatest-append asks xs ys)
 
--- the same of two groups, and of what stands after them
+-- the greatest of two groups and of what follows them
 greatest_around : (asks : Visit → ℕ) (xs ys : List Visit) (z : Visit)
     → greatest asks (xs ++ (ys ++ (z ∷ [])))
     ≡ max (greatest asks xs) (max (greatest asks ys) (asks z))
@@ -167,7 +166,7 @@ greatest_around asks xs ys z =
     let rest = greatest-append asks ys (z ∷ []) in
     omega (arith, all, rest)
 
--- how deep they are, and where they stand
+-- how deep they are, and where they are
 mutual
   node_deep : (spot : Spot) (x : Node)
       → max spot.depth (greatest visit_depth (node_visits spot x)) ≡ spot.depth + node_depth x
@@ -197,10 +196,10 @@ mutual
         forest_deep spot xs,
       )
 
--- ---- the same of a text
+-- ---- the visits of a text
 
 pub text_asks : (a : At) → flat_map visit_asks (text_visits a) ≡ asked_names a
-text_asks a = forest_names outermost_spot (as_forest (nodes a)) ∙ nodes_ask a
+text_asks a = forest_names outermost_spot (as_forest (nodes a))
 
 pub text_tells : (a : At) → flat_map visit_faults (text_visits a) ≡ text_faults a
 text_tells a = forest_told outermost_spot (as_forest (nodes a)) (nodes_whole a)

@@ -4,7 +4,7 @@ use Rattle.std.proofs.Common.{◌≡◌, refl, ap, arith, ℕ, zero, suc, ◌<�
 use Rattle.std.proofs.Common.{List, [], ◌∷◌, ◌++◌, length, drop, get_or, Option, None, Some, IsSome}
 use Rattle.std.proofs.lemmas.List.{drop_more}
 use Rattle.std.specs.Global.{Vec}
-use Rattle.interpolator_syntax.specs.Nodes.{Node, Branch, Held, node, as_forest}
+use Rattle.interpolator_syntax.specs.Nodes.{Node, Branch, Content, node, as_forest}
 use Rattle.interpolator.specs.Template.Stored.{held_of, node_of, nodes_of, branch_of}
 use Rattle.interpolator.specs.Template.Stored.{node_whole, branch_whole, forest_whole}
 use Rattle.interpolator.specs.declared.template.piece.Piece.{Piece}
@@ -24,7 +24,7 @@ both true b h = (refl, h)
 both false b h = absurd (cc)
 
 node_parts :
-    (place end : ℕ) (kind : PieceKind) (held : Option Held) (item join : Branch)
+    (place end : ℕ) (kind : PieceKind) (held : Option Content) (item join : Branch)
     → node_whole (node place end kind held item join) ≡ true
     → IsSome held × (branch_whole item ≡ true) × (branch_whole join ≡ true)
 node_parts place end kind None item join h = absurd (cc)

@@ -1,26 +1,15 @@
--- What stands where in a text that stands in another at its place.
-use Rattle.std.proofs.Common.{◌≡◌, ℕ, ◌+◌, List, [], ◌∷◌, ◌++◌}
-use Rattle.std.proofs.Common.{arith, refl, ap, ◌∙◌, sym, subst, Option, Some, None, Result}
-use Rattle.std.proofs.Common.{Ok, Err, append_assoc}
-use Rattle.std.specs.Char.{len_utf8}
+-- What is where in a text that is in another at its place.
+use Rattle.std.proofs.Common.{◌≡◌, List, [], ◌++◌, ℕ}
+use Rattle.std.proofs.Common.{arith, ap, ◌∙◌, sym, append_assoc}
 use Rattle.std.proofs.lemmas.List.{append-nil}
-use Rattle.interpolator_syntax.specs.At.{At, size, strip, after, all_after}
-use Rattle.interpolator_syntax.specs.Classes.{front_of, after_of, in_class, open_brace, close_brace}
-use Rattle.interpolator_syntax.specs.Arguments.{Argument, argument_at}
-use Rattle.interpolator_syntax.specs.Faults.{Fault}
-use Rattle.interpolator_syntax.specs.Groups.{Group}
-use Rattle.interpolator_syntax.specs.Pieces.{argument_from, argument_or_broken, argument_step}
-use Rattle.interpolator_syntax.specs.Tokens.{Token, literals, doubled, lone_close, argument}
-use Rattle.interpolator_syntax.specs.Tokens.{open_scan, close_scan, no_open_scan, scan_by}
-use Rattle.interpolator_syntax.specs.Tokens.{first_token, past_token, literal_scan}
-use Rattle.interpolator_syntax.specs.declared.class.Class.TheVariants.{Literal, WhiteSpace, Name}
+use Rattle.interpolator_syntax.specs.At.{At, after}
+use Rattle.interpolator_syntax.specs.Classes.{front_of, after_of, in_class}
+use Rattle.interpolator_syntax.specs.Groups.{Group, inside}
+use Rattle.interpolator_syntax.specs.declared.class.Class.TheVariants.{WhiteSpace, Name}
 use Rattle.interpolator_syntax.proofs.FrontLemmas.{front_after}
-use Rattle.interpolator_syntax.proofs.LocalityLemmas.{Takes, stands, takes_none, takes_then}
-use Rattle.interpolator_syntax.proofs.LocalityLemmas.{takes_after, size-append}
-use Rattle.interpolator_syntax.proofs.PieceLemmas.{strip_after}
-use Rattle.interpolator_syntax.proofs.ReaderLemmas.{argument_takes}
+use Rattle.interpolator_syntax.proofs.LocalityLemmas.{Takes, stands, takes_none, takes_after}
+use Rattle.interpolator_syntax.proofs.LocalityLemmas.{size-append}
 use Rattle.interpolator_syntax.proofs.SizeLemmas.{GroupIn}
-use Rattle.interpolator_syntax.specs.Groups.{inside}
 use Rattle.interpolator.specs.Template.Stored.{Within}
 
 nested : (f g cs k b : List ℕ) → f ++ ((g ++ (cs ++ k)) ++ b) ≡ (f ++ g) ++ (cs ++ (k ++ b))
@@ -39,7 +28,7 @@ within_then a b c h k = record {
   place = omega (arith, h.place, k.place, size-append h.front k.front);
 }
 
--- what stands after a front
+-- what follows a front
 pub after_front : (a b : At) → Takes a b → Within a b
 after_front a b t = record {
   front = t.front;
@@ -62,130 +51,9 @@ pub group_stands : (a : At) (g : Group) → GroupIn g a → Within a (inside g)
 group_stands a g h =
     record { front = h.front; back = h.back; split = h.split; place = h.place }
 
--- what stands after all of the text
-takes_all_after : (a : At) → Takes a (all_after a)
-takes_all_after a =
-    record { front = a.text; split = sym (append-nil a.text); place = refl }
-
--- ---- what the scan hands on
-
--- the characters that are written; of an argument its brace
-abbrev pub written_text : Token → List ℕ
-written_text (literals cs) = cs
-written_text (doubled c) = c ∷ []
-written_text lone_close = close_brace ∷ []
-written_text argument = open_brace ∷ []
-
--- how many bytes they take
-abbrev WrittenSize : ℕ → Token → At → Type 0
-WrittenSize p (literals cs) b = b.place ≡ p + size cs
-WrittenSize p (doubled c) b = (len_utf8 c ≡ 1) × (b.place ≡ p + 2)
-WrittenSize p lone_close b = b.place ≡ p + 1
-WrittenSize p argument b = b.place ≡ p + 1
-
--- they begin the text at a, and b stands after a front of it
-pub record HandedOn (a : At) (x : Token) (b : At) : Type 0 where
-  pub takes : Takes a b
-  pub more : List ℕ
-  pub begins : a.text ≡ written_text x ++ more
-  pub size : WrittenSize a.place x b
-
-abbrev MayHandOn : At → Option (Token × At) → Type 0
-MayHandOn a None = Unit {0}
-MayHandOn a (Some w) = HandedOn a w.0 w.1
-
--- after one character
-one_taken : (a : At) (c : ℕ) (b : At) → a.text ≡ c ∷ b.text → b.place ≡ a.place + len_utf8 c
-    → Takes a b
-one_taken a c b e p = record { front = c ∷ []; split = e; place = omega (arith, p) }
-
-module _ (a b : At) where
-  doubled_handed :
-      (c : ℕ) (r : At) → len_utf8 c ≡ 1 → a.text ≡ c ∷ b.text → b.place ≡ a.place + len_utf8 c
-      → b.text ≡ c ∷ r.text → r.place ≡ b.place + len_utf8 c → HandedOn a (doubled c) r
-  doubled_handed c r one e p f q = record {
-    takes = takes_then a b r (one_taken a c b e p) (one_taken b c r f q);
-    more = b.text;
-    begins = e;
-    size = (one, omega (arith, p, q, one));
-  }
-
-  open_handed :
-      a.text ≡ open_brace ∷ b.text → b.place ≡ a.place + 1 → (o : Option At)
-      → strip open_brace b ≡ o → MayHandOn a (Some (open_scan b o))
-  open_handed e p None k =
-      record { takes = one_taken a open_brace b e p; more = b.text; begins = e; size = p }
-  open_handed e p (Some r) k =
-      let s = strip_after open_brace b.place b.text r k in
-      doubled_handed open_brace r refl e p s.0 s.1
-
-  close_handed :
-      a.text ≡ close_brace ∷ b.text → b.place ≡ a.place + 1 → (o : Option At)
-      → strip close_brace b ≡ o → MayHandOn a (Some (close_scan b o))
-  close_handed e p None k =
-      record { takes = one_taken a close_brace b e p; more = b.text; begins = e; size = p }
-  close_handed e p (Some r) k =
-      let s = strip_after close_brace b.place b.text r k in
-      doubled_handed close_brace r refl e p s.0 s.1
-
-literal_handed : (a : At) (cs : List ℕ) → MayHandOn a (literal_scan a cs)
-literal_handed a [] = tt
-literal_handed a (c ∷ cs) = record {
-  takes = takes_after (in_class Literal) a;
-  more = after_of (in_class Literal) a.text;
-  begins = sym (front_after (in_class Literal) a.text);
-  size = refl;
-}
-
-no_open_handed : (a : At) (o : Option At) → strip close_brace a ≡ o → MayHandOn a (no_open_scan a o)
-no_open_handed a None e = literal_handed a a.text
-no_open_handed a (Some b) e =
-    let s = strip_after close_brace a.place a.text b e in
-    close_handed a b s.0 s.1 (strip close_brace b) refl
-
-scan_handed : (a : At) (o : Option At) → strip open_brace a ≡ o → MayHandOn a (scan_by a o)
-scan_handed a None e = no_open_handed a (strip close_brace a) refl
-scan_handed a (Some b) e =
-    let s = strip_after open_brace a.place a.text b e in
-    open_handed a b s.0 s.1 (strip open_brace b) refl
-
-pub handed_on : (a : At) (w : Token × At) → first_token a ≡ Some w → HandedOn a w.0 w.1
-unfolding first_token
-handed_on a w e = subst (MayHandOn a) e (scan_handed a (strip open_brace a) refl)
-
--- ---- what stands after an argument
-
-step_taken :
-    (p : ℕ) (a : At) (x : Argument) (q : At) (o : Option At) → Takes a q → strip close_brace q ≡ o
-    → Takes a (argument_step p a x q o).rest
-step_taken p a x q None t e = takes_all_after a
-step_taken p a x q (Some r) t e =
-    let s = strip_after close_brace q.place q.text r e in
-    takes_then a q r t (one_taken q close_brace r s.0 s.1)
-
-or_broken_taken :
-    (p : ℕ) (a : At) (o : Result (Argument × At) Fault) → argument_at a ≡ o
-    → Takes a (argument_or_broken p a o).rest
-or_broken_taken p a (Ok w) e =
-    step_taken p a w.0 w.1 (strip close_brace w.1) (argument_takes a w.0 w.1 e) refl
-or_broken_taken p a (Err f) e = takes_all_after a
-
-argument_taken : (p : ℕ) (a : At) → Takes a (argument_from p a).rest
-unfolding argument_from
-argument_taken p a = or_broken_taken p a (argument_at a) refl
-
-past_taken : (x : Token) (b : At) → Takes b (past_token x b)
-past_taken argument b = argument_taken b.place b
-past_taken x b = takes_none b
-
--- what stands after what the scan hands on, and after its argument
-pub scan_taken : (a : At) (w : Token × At) → first_token a ≡ Some w → Takes a (past_token w.0 w.1)
-scan_taken a w e =
-    takes_then a w.1 (past_token w.0 w.1) (handed_on a w e).takes (past_taken w.0 w.1)
-
 -- ---- a name
 
--- the name of an argument stands after white space
+-- the name of an argument is after white space
 pub name_within :
     (a : At) → (let from = after (in_class WhiteSpace) a in
     Within a (stands from.place (front_of (in_class Name) from.text)))

@@ -1,6 +1,6 @@
 -- What a format means with a newline after it.
 use Rattle.std.specs.Prelude.{ℕ, [], ◌∷◌}
-use Rattle.interpolator_eval.specs.Meaning.Meanings.{Meaning, text_alone, joined}
+use Rattle.interpolator_eval.specs.Meaning.Meanings.{Meaning, text_alone, chain}
 
 -- `\n`
 abbrev pub newline : ℕ
@@ -10,6 +10,6 @@ newline = 10
 abbrev pub newline_means : Meaning
 newline_means = text_alone ((newline, 0) ∷ [])
 
--- a meaning, and after its text a newline where it has no fault
+-- a meaning, and after its text a newline if it has no fault
 abbrev pub line_means : Meaning → Meaning
-line_means m = joined m newline_means
+line_means m = chain m newline_means

@@ -9,7 +9,7 @@ use Rattle.interpolator_syntax.specs.At.{size}
 use Rattle.interpolator_syntax.specs.Grammar.{from_place}
 use Rattle.interpolator.specs.Seams.{ending, seam_of}
 use Rattle.interpolator_eval.specs.Meaning.Environments.{Environment}
-use Rattle.interpolator_eval.specs.Meaning.Meanings.{Meaning, nothing, joined, means}
+use Rattle.interpolator_eval.specs.Meaning.Meanings.{Meaning, nothing, chain, means}
 use Rattle.interpolator.specs.declared.parts.Ending.TheVariants.{Open}
 
 -- the parts, one after the other
@@ -32,9 +32,9 @@ module _ {X : Type 0} (shows : X → Trait → Spec → Shown) (e : Environment 
   abbrev pub parts_mean : ℕ → List (List ℕ) → Meaning
   parts_mean p [] = nothing
   parts_mean p (part ∷ parts) =
-      joined (means shows e (from_place p part)) (parts_mean (p + size part) parts)
+      chain (means shows e (from_place p part)) (parts_mean (p + size part) parts)
 
--- after this text, the seam between all that stands before a part and the part is true
+-- after this text, the seam between all that is before a part and the part is true
 abbrev pub CleanBehind : (before : List ℕ) → List (List ℕ) → Type 0
 CleanBehind before [] = ⊤
 CleanBehind before (part ∷ parts) =

@@ -6,13 +6,13 @@ use Rattle.interpolator_render.specs.declared.view.Trait.{Trait}
 use Rattle.interpolator_render.specs.declared.view.Spec.{Spec}
 use Rattle.interpolator_render.specs.Views.{Shown}
 use Rattle.interpolator_syntax.specs.At.{Placed, placed_from}
-use Rattle.interpolator_syntax.specs.Nodes.{Node, node, Held, written, valued, bare_value}
+use Rattle.interpolator_syntax.specs.Nodes.{Node, node, Content, text_content, argument_content, target_value}
 use Rattle.interpolator_syntax.specs.declared.piece_kind.PieceKind.{PieceKind}
 use Rattle.interpolator_syntax.specs.declared.piece_kind.PieceKind.TheVariants.{Closed}
 use Rattle.interpolator_eval.specs.Slots.{Slots, values_of, slot_at}
 use Rattle.interpolator_eval.specs.Meaning.Environments.{Environment}
-use Rattle.interpolator_eval.specs.Meaning.Meanings.{Meaning, nothing, text_alone, joined, value_means}
-use Rattle.interpolator.specs.Template.NodeMeanings.{node_means}
+use Rattle.interpolator_eval.specs.Meaning.Meanings.{Meaning, nothing, text_alone, chain, value_means}
+use Rattle.interpolator_eval.specs.Meaning.Meanings.{node_means}
 use Rattle.interpolator.specs.Prepared.Rows.{last_position}
 
 -- one step of a program: characters, each with its place; the value at a position, under a trait
@@ -35,8 +35,8 @@ with_text (step ∷ (next ∷ steps)) xs = step ∷ with_text (next ∷ steps) x
 
 module _ (names : List (List ℕ)) where
   -- the position of the name of a closed argument that asks for a value
-  abbrev pub held_position : PieceKind → Option Held → Option ℕ
-  held_position Closed (Some (valued start name spec (bare_value t) end)) =
+  abbrev pub held_position : PieceKind → Option Content → Option ℕ
+  held_position Closed (Some (argument_content start name spec (target_value t) end)) =
       last_position names (encode_utf8_all name)
   held_position kind held = None
 
@@ -45,18 +45,18 @@ module _ (names : List (List ℕ)) where
 
   -- an argument whose name has that position
   abbrev pub step_at : (position : ℕ) → Node → Instruction
-  step_at k (node place end kind (Some (valued start name spec (bare_value t) q)) item join) =
+  step_at k (node place end kind (Some (argument_content start name spec (target_value t) q)) item join) =
       value_step k t spec q
   step_at k x = node_step x
 
-  -- the same, and a node as it is without a position
+  -- an argument whose name has a position or none: then the node as it is
   abbrev pub argument_step : Option ℕ → Node → Instruction
   argument_step None x = node_step x
   argument_step (Some k) x = step_at k x
 
   -- a node after steps
   abbrev pub with_node : List Instruction → Node → List Instruction
-  with_node steps (node place end kind (Some (written from cs)) item join) =
+  with_node steps (node place end kind (Some (text_content from cs)) item join) =
       with_text steps (placed_from from cs)
   with_node steps x = steps ++ (argument_step (node_position x) x ∷ [])
 
@@ -82,4 +82,4 @@ module _ {X : Type 0} (shows : X → Trait → Spec → Shown) (e : Environment 
   -- steps in order, up to the first fault
   abbrev pub steps_mean : List Instruction → Meaning
   steps_mean [] = nothing
-  steps_mean (step ∷ steps) = joined (step_means step) (steps_mean steps)
+  steps_mean (step ∷ steps) = chain (step_means step) (steps_mean steps)

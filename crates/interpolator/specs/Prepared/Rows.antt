@@ -32,7 +32,7 @@ last_position (own ∷ names) name =
 abbrev pub row_at : {X : Type 0} → List (Formattable X) → ℕ → Option (Slots X)
 row_at row k = option_map slots_of (slice_get row k)
 
--- the value at the last position of a name, where `value_at` gives that at each position
+-- the value at the last position of a name; `value_at` gives that at each position
 abbrev pub found_by_row : {X : Type 0} → List (List ℕ) → (value_at : ℕ → Option (Slots X))
     → List ℕ → Option (Slots X)
 found_by_row names value_at name =

@@ -1,5 +1,5 @@
 -- How the code stores a program.
-use Rattle.std.specs.Prelude.{◌≡◌, ℕ, ◌+◌, ◌-◌, Bool, true, nat_lt, ◌==◌, if◌then◌else◌, List, [], ◌∷◌}
+use Rattle.std.specs.Prelude.{◌≡◌, ℕ, ◌+◌, ◌-◌, nat_lt, ◌==◌, if◌then◌else◌, List, [], ◌∷◌}
 use Rattle.std.specs.Prelude.{length, map, Option, Some, None, option_map, string_bytes}
 use Rattle.std.specs.Str.{chars}
 use Rattle.interpolator_render.specs.declared.view.Trait.{Trait}
@@ -11,15 +11,14 @@ use Rattle.interpolator_syntax.specs.Faults.{Answer, fault, missing_trait_impl, 
 use Rattle.interpolator_syntax.specs.SpecTexts.{plain_spec}
 use Rattle.interpolator_eval.specs.Slots.{Slots}
 use Rattle.interpolator_eval.specs.Meaning.Environments.{Environment}
-use Rattle.interpolator_eval.specs.Meaning.Meanings.{Meaning, nothing, joined}
+use Rattle.interpolator_eval.specs.Meaning.Meanings.{Meaning, nothing, chain}
 use Rattle.interpolator_eval.specs.declared.meaning.sink.WriteFault.{WriteFault}
 use Rattle.interpolator_eval.specs.declared.meaning.sink.WriteFault.TheVariants.{MissingTraitImpl, Fmt}
 use Rattle.interpolator_syntax.specs.Nodes.{Node}
-use Rattle.interpolator.specs.Template.Stored.{part, node_of, node_whole}
+use Rattle.interpolator.specs.Template.Stored.{part, nodes_of, node_whole}
 use Rattle.interpolator.specs.Prepared.Programs.{Instruction, text_step, value_step, node_step}
 use Rattle.interpolator.specs.Prepared.Programs.{step_means}
 use Rattle.interpolator.specs.declared.prepared.step.Part.{Part}
-use Rattle.interpolator.specs.declared.prepared.step.JoinedText.{JoinedText}
 use Rattle.interpolator.specs.declared.prepared.step.Step.{Step}
 use Rattle.interpolator.specs.declared.prepared.step.Step.TheVariants.{Literal, Joined, Plain, Under, Whole}
 
@@ -43,14 +42,15 @@ placed_by place xs = map (λ x. (x.0, place x.1)) xs
 abbrev pub joined_placed : List Part → List ℕ → Placed
 joined_placed parts bytes = placed_by (joined_place parts) (placed_from 0 (chars bytes))
 
--- joined text, where its parts have as many bytes as it has
+-- joined text, if its parts have as many bytes as it has
 abbrev pub joined_step : List Part → List ℕ → Option Instruction
 joined_step parts bytes =
     if parts_size parts == length bytes then Some (text_step (joined_placed parts bytes)) else None
 
--- a node whose stored pieces fit the format
-abbrev pub whole_step : Node → Option Instruction
-whole_step x = if node_whole x then Some (node_step x) else None
+-- a node that is kept alone, and whose stored pieces fit the format
+abbrev pub whole_step : List Node → Option Instruction
+whole_step (x ∷ []) = if node_whole x then Some (node_step x) else None
+whole_step xs = None
 
 -- what a stored step of a format stands for, if it fits the format
 abbrev pub step_of : List ℕ → Step → Option Instruction
@@ -59,7 +59,7 @@ step_of bs (Joined x) = joined_step x.value.parts.items (string_bytes x.value.te
 step_of bs (Plain position end) = Some (value_step position traits.Display plain_spec end)
 step_of bs (Under position asked) =
     Some (value_step position asked.value.slot asked.value.spec asked.value.end)
-step_of bs (Whole x) = whole_step (node_of bs x.value)
+step_of bs (Whole x) = whole_step (nodes_of bs x.value.items)
 
 -- steps that stand for a program become steps that stand for what is made of it
 abbrev pub Becomes : List ℕ → (old new : List Step) → (List Instruction → List Instruction) → Type 0
@@ -83,4 +83,4 @@ module _ {X : Type 0} (shows : X → Trait → Spec → Shown) (e : Environment 
   abbrev pub stored_steps_mean : List ℕ → List Step → Meaning
   stored_steps_mean bs [] = nothing
   stored_steps_mean bs (step ∷ steps) =
-      joined (fitting_means (step_of bs step)) (stored_steps_mean bs steps)
+      chain (fitting_means (step_of bs step)) (stored_steps_mean bs steps)

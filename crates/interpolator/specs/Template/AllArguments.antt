@@ -23,7 +23,7 @@ module _ (run : At → List Argument) where
   abbrev pub argument_and_inner : Argument → List Argument
   argument_and_inner x = x ∷ kind_arguments x.kind
 
-  -- the arguments of a piece: none, where it is broken or no argument
+  -- the arguments of a piece: none, if it is broken or no argument
   abbrev pub piece_arguments : PieceKind → List Argument
   piece_arguments (closed start x end) = argument_and_inner x
   piece_arguments (unclosed start x end) = argument_and_inner x
@@ -39,7 +39,7 @@ abbrev pub arguments_within : (depth : ℕ) → At → List Argument
 arguments_within zero a = []
 arguments_within (suc depth) a = pieces_arguments (arguments_within depth) (pieces a)
 
--- the arguments of a text: a group is shorter than the text that it stands in
+-- the arguments of a text: a group is shorter than the text that it is in
 unfoldable pub arguments_of : At → List Argument
 arguments_of a = arguments_within (suc (length a.text)) a
 

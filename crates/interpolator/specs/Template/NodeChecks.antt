@@ -1,12 +1,13 @@
 -- The faults of a format itself: those that it has in every context.
-use Rattle.std.specs.Prelude.{◌≡◌, ⊤, ◌⊎◌, ℕ, List, [], ◌∷◌, ◌++◌, Option, Some, None}
+use Rattle.std.specs.Prelude.{◌≡◌, ◌⊎◌, ℕ, List, [], ◌∷◌, ◌++◌, Option, Some, None}
 use Rattle.std.specs.Prelude.{if◌then◌else◌}
 use Rattle.interpolator_syntax.specs.At.{At}
-use Rattle.interpolator_syntax.specs.Faults.{Fault, parse, iter, unsupported_option}
+use Rattle.interpolator_syntax.specs.ArgumentFaults.{IsArgumentFault}
+use Rattle.interpolator_syntax.specs.Faults.{Fault, parse, iter}
 use Rattle.interpolator_eval.specs.Meaning.Meanings.{forbids_list}
 use Rattle.interpolator_syntax.specs.Nodes.{Node, node, Branch, no_branch, branch, as_forest}
 use Rattle.interpolator_syntax.specs.Nodes.{Forest, no_nodes, nodes_and, nodes}
-use Rattle.interpolator_syntax.specs.Nodes.{Held, written, valued, refused, bare_value, bare_list}
+use Rattle.interpolator_syntax.specs.Nodes.{Content, text_content, argument_content, fault_content, target_value, target_list}
 use Rattle.interpolator.specs.Template.StoredMeanings.{unclosed_fault_of}
 use Rattle.interpolator.specs.Template.Visits.{Visit, enter, leave}
 use Rattle.interpolator_syntax.specs.Faults.{argument_fault_of}
@@ -28,35 +29,35 @@ first_fault [] = None
 first_fault (f ∷ fs) = Some f
 
 -- what a piece has by itself: a broken argument's fault, or what the spec of a list may not ask
-abbrev pub own_fault : Held → Option Fault
-own_fault (written from cs) = None
-own_fault (valued start name spec (bare_value t) end) = None
-own_fault (valued start name spec (bare_list range) end) =
+abbrev pub own_fault : Content → Option Fault
+own_fault (text_content from cs) = None
+own_fault (argument_content start name spec (target_value t) end) = None
+own_fault (argument_content start name spec (target_list range) end) =
     if forbids_list spec then Some (parse (iter end)) else None
-own_fault (refused f) = Some f
+own_fault (fault_content f) = Some f
 
--- the same by how it is written
+-- what a piece has by itself, by its form
 abbrev pub form_fault : Spec → (end : ℕ) → Form → Option Fault
 form_fault spec end (forms.List range) = if forbids_list spec then Some (parse (iter end)) else None
 form_fault spec end (forms.Broken fault) = Some (argument_fault_of fault.value)
 form_fault spec end _ = None
 
--- the same of a stored piece
+-- what a stored piece has by itself
 abbrev pub stored_own_fault : Piece → Option Fault
 stored_own_fault x = form_fault (out-Piece x).spec (out-Piece x).spec_end (out-Piece x).form
 
 -- that it is not closed
-abbrev pub end_fault : PieceKind → Held → Option Fault
-end_fault kind (valued start name spec bare end) = unclosed_fault_of kind end
+abbrev pub end_fault : PieceKind → Content → Option Fault
+end_fault kind (argument_content start name spec bare end) = unclosed_fault_of kind end
 end_fault kind _ = None
 
--- the same by how it is written
+-- that an argument is not closed, by its form
 abbrev pub form_end_fault : PieceKind → (end : ℕ) → Form → Option Fault
 form_end_fault kind end forms.Text = None
 form_end_fault kind end (forms.Broken fault) = None
 form_end_fault kind end _ = unclosed_fault_of kind end
 
--- the same of a stored piece
+-- that a stored piece is not closed
 abbrev pub stored_end_fault : Piece → Option Fault
 stored_end_fault x =
     form_end_fault (out-Piece x).kind (out-Piece x).spec_end (out-Piece x).form
@@ -84,7 +85,7 @@ abbrev mutual
 abbrev pub text_faults : At → List Fault
 text_faults a = forest_faults (as_forest (nodes a))
 
--- the fault of a piece where it is entered, or where it is left
+-- the fault of a piece when it is entered, or when it is left
 abbrev pub visit_faults : Visit → List Fault
 visit_faults (enter spot (node place end kind (Some held) item join)) = fault_list (own_fault held)
 visit_faults (leave spot (node place end kind (Some held) item join)) =
@@ -93,9 +94,7 @@ visit_faults _ = []
 
 -- a fault that a text has by itself, whatever its context
 abbrev pub IsOfText : Fault → Type 0
-IsOfText (parse f) = ⊤
-IsOfText (unsupported_option option feature place) = ⊤
-IsOfText _ = ⊥
+IsOfText f = IsArgumentFault f
 
 -- ---- in words of the pieces
 

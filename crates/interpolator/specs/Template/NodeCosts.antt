@@ -1,16 +1,16 @@
--- What a format can cost at most, where its values are within limits.
+-- What a format can cost at most, if its values are within limits.
 use Rattle.std.specs.Prelude.{ℕ, ◌+◌, ◌-◌, ◌*◌, max, length}
 use Rattle.std.specs.Prelude.{Option, None, Some}
 use Rattle.interpolator_render.specs.declared.view.Spec.{Spec}
 use Rattle.interpolator_render.specs.declared.view.Trait.{Trait}
 use Rattle.interpolator_render.specs.declared.view.Trait.TheVariants.{Display}
-use Rattle.interpolator_render.specs.Lengths.{most_written, capped}
+use Rattle.interpolator_render.specs.Lengths.{most_written, usize_count}
 use Rattle.interpolator_syntax.specs.At.{At}
 use Rattle.interpolator_syntax.specs.SpecTexts.{plain_spec}
 use Rattle.interpolator_syntax.specs.declared.range.Range.{Range}
 use Rattle.interpolator_syntax.specs.Nodes.{Node, node, Branch, no_branch, branch}
 use Rattle.interpolator_syntax.specs.Nodes.{Forest, no_nodes, nodes_and, as_forest, nodes}
-use Rattle.interpolator_syntax.specs.Nodes.{Held, written, valued, refused, bare_value, bare_list}
+use Rattle.interpolator_syntax.specs.Nodes.{Content, text_content, argument_content, fault_content, target_value, target_list}
 use Rattle.interpolator_eval.specs.Meaning.Limits.{most_chosen}
 use Rattle.interpolator.specs.declared.template.cost.Cost.{Cost}
 use Rattle.interpolator.specs.declared.template.cost.Limits.{Limits}
@@ -31,7 +31,7 @@ then_cost a b = record {
   buffered = max a.buffered b.buffered;
 }
 
--- an item by its format: where that has no pieces, the item counts as one
+-- an item by its format: if that has no pieces, the item counts as one
 abbrev pub item_cost : Cost → Cost
 item_cost c = record c { pieces = max 1 c.pieces }
 
@@ -44,7 +44,7 @@ items_cost count item join = record {
 }
 
 -- the items of a list, which are held in a buffer and padded under a width: at least one character
--- is context_names there, so that none is where there is no such list
+-- is told there, so that none is if there is no such list
 abbrev pub padded_cost : (width : Option ℕ) → Cost → Cost
 padded_cost None c = c
 padded_cost (Some width) c = record {
@@ -65,13 +65,13 @@ module _ (limits : Limits) where
       then_cost (piece_cost 0)
       (padded_cost spec.width (items_cost (most_chosen limits.items range) item join))
 
-  -- what a piece holds, where this is what an item and the join cost
-  abbrev pub held_cost : Held → (item join : Cost) → Cost
-  held_cost (written from cs) item join = piece_cost (length cs)
-  held_cost (valued start name spec (bare_value t) end) item join = value_cost t spec
-  held_cost (valued start name spec (bare_list range) end) item join =
+  -- what a piece holds, if this is what an item and the join cost
+  abbrev pub held_cost : Content → (item join : Cost) → Cost
+  held_cost (text_content from cs) item join = piece_cost (length cs)
+  held_cost (argument_content start name spec (target_value t) end) item join = value_cost t spec
+  held_cost (argument_content start name spec (target_list range) end) item join =
       list_cost range spec item join
-  held_cost (refused f) item join = piece_cost 0
+  held_cost (fault_content f) item join = piece_cost 0
 
   abbrev mutual
     -- a piece, with those of its groups
@@ -85,7 +85,7 @@ module _ (limits : Limits) where
     item_branch_cost no_branch = value_cost Display plain_spec
     item_branch_cost (branch xs) = item_cost (forest_cost xs)
 
-    -- what stands between two items
+    -- what comes between two items
     pub join_branch_cost : Branch → Cost
     join_branch_cost no_branch = no_cost
     join_branch_cost (branch xs) = forest_cost xs
@@ -100,11 +100,11 @@ module _ (limits : Limits) where
   text_cost a = forest_cost (as_forest (nodes a))
 
 -- each count as a `usize` tells it
-abbrev pub capped_cost : Cost → Cost
-capped_cost c = record {
-  characters = capped c.characters;
-  pieces = capped c.pieces;
-  buffered = capped c.buffered;
+abbrev pub usize_cost : Cost → Cost
+usize_cost c = record {
+  characters = usize_count c.characters;
+  pieces = usize_count c.pieces;
+  buffered = usize_count c.buffered;
 }
 
 -- limits of worked costs: texts of ten characters, lists of three items

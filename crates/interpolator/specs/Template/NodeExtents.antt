@@ -3,7 +3,7 @@ use Rattle.std.specs.Prelude.{ℕ, suc, max, Option, Some, unwrap_or}
 use Rattle.interpolator_render.specs.declared.view.Spec.{Spec}
 use Rattle.interpolator_syntax.specs.Nodes.{Node, node, Branch, no_branch, branch}
 use Rattle.interpolator_syntax.specs.Nodes.{Forest, no_nodes, nodes_and}
-use Rattle.interpolator_syntax.specs.Nodes.{Held, valued}
+use Rattle.interpolator_syntax.specs.Nodes.{Content, argument_content}
 use Rattle.interpolator.specs.Template.Visits.{Visit, enter, leave, greatest}
 use Rattle.interpolator.specs.Template.Visits.{forest_visits, outermost_spot}
 use Rattle.interpolator.specs.declared.template.piece.Form.{Form}
@@ -11,13 +11,13 @@ use Rattle.interpolator.specs.declared.template.piece.Form.TheVariants as forms
 use Rattle.interpolator.specs.declared.template.piece.Piece.{Piece}
 use Rattle.interpolator.specs.declared.template.piece.Piece.TheViews.{out-Piece}
 
--- the width or the precision of a spec, whichever is greater, and 0 where neither is set
+-- the width or the precision of a spec, whichever is greater, and 0 if neither is set
 abbrev pub spec_extent : Spec → ℕ
 spec_extent spec = max (unwrap_or spec.width 0) (unwrap_or spec.precision 0)
 
--- the same of what a piece holds
-abbrev pub held_extent : Option Held → ℕ
-held_extent (Some (valued start name spec bare end)) = spec_extent spec
+-- what a piece holds asks
+abbrev pub held_extent : Option Content → ℕ
+held_extent (Some (argument_content start name spec bare end)) = spec_extent spec
 held_extent _ = 0
 
 -- what a stored piece asks by itself
@@ -29,7 +29,7 @@ form_extent spec _ = 0
 abbrev pub stored_extent : Piece → ℕ
 stored_extent x = form_extent (out-Piece x).spec (out-Piece x).form
 
--- what a piece asks by itself where it is entered
+-- what a piece asks by itself when it is entered
 abbrev pub visit_extent : Visit → ℕ
 visit_extent (enter spot (node place end kind held item join)) = held_extent held
 visit_extent (leave spot x) = 0
@@ -39,7 +39,7 @@ abbrev pub forest_extent : Forest → ℕ
 forest_extent xs = greatest visit_extent (forest_visits outermost_spot xs)
 
 abbrev mutual
-  -- how many groups stand in one another, at most
+  -- how deep groups are nested
   pub node_depth : Node → ℕ
   node_depth (node place end kind held item join) = max (branch_depth item) (branch_depth join)
 
@@ -51,12 +51,12 @@ abbrev mutual
   forest_depth no_nodes = 0
   forest_depth (nodes_and x xs) = max (node_depth x) (forest_depth xs)
 
--- in how many groups the pieces of a group stand, whose argument stands in so many
+-- in how many groups the pieces of a group are, whose argument is in so many
 abbrev pub inner_depth : (depth : ℕ) → Branch → ℕ
 inner_depth depth no_branch = 0
 inner_depth depth (branch xs) = suc depth
 
--- the same of the groups of a piece where it is entered
+-- in how many groups those of a piece are, when it is entered
 abbrev pub visit_depth : Visit → ℕ
 visit_depth (enter spot (node place end kind held item join)) =
     max (inner_depth spot.depth item) (inner_depth spot.depth join)

@@ -9,14 +9,14 @@ use Rattle.interpolator_syntax.specs.declared.piece_kind.PieceKind.TheVariants.{
 use Rattle.interpolator_syntax.specs.declared.piece_kind.PieceKind.TheVariants.{Broken}
 
 -- whether a piece from `from` up to `end` is an argument that has a place: after its opening brace,
--- and up to its closing one; or, where it has none, up to its end, and that
+-- and up to its closing one; or, if it has none, up to its end, and that
 abbrev pub has_place : (place from end : ℕ) → PieceKind → Bool
 has_place place from end Closed = nat_lt from place && nat_lt place end
 has_place place from end Unclosed = nat_lt from place && not (nat_lt end place)
 has_place place from end Broken = nat_lt from place && not (nat_lt end place)
 has_place place from end _ = false
 
--- the same of a node
+-- whether a node has a place
 abbrev pub node_has : ℕ → Node → Bool
 node_has place (node from end kind held item join) = has_place place from end kind
 

@@ -10,8 +10,8 @@ use Rattle.interpolator_syntax.specs.At.{At}
 use Rattle.interpolator_syntax.specs.Faults.{Fault, missing_value, missing_trait_impl, fmt}
 use Rattle.interpolator_syntax.specs.Nodes.{Node, node, Branch, no_branch, branch, as_forest}
 use Rattle.interpolator_syntax.specs.Nodes.{Forest, no_nodes, nodes_and, nodes}
-use Rattle.interpolator_syntax.specs.Nodes.{Held, written, valued, refused}
-use Rattle.interpolator_syntax.specs.Nodes.{Bare, bare_value, bare_list}
+use Rattle.interpolator_syntax.specs.Nodes.{Content, text_content, argument_content, fault_content}
+use Rattle.interpolator_syntax.specs.Nodes.{Target, target_value, target_list}
 use Rattle.interpolator_syntax.specs.SpecTexts.{plain_spec}
 use Rattle.interpolator_eval.specs.Slots.{Slots}
 use Rattle.interpolator_eval.specs.Meaning.Samples.{Sample, sample, each_of, may_stand}
@@ -24,40 +24,40 @@ abbrev pub fault_if : Bool → Fault → List Fault
 fault_if holds f = if holds then f ∷ [] else []
 
 -- the items that there may be of an argument, if it asks for a list
-abbrev pub may_be_items : {X : Type 0} → Sample X → Held → List (Slots X)
-may_be_items s (valued start name spec (bare_list range) end) =
+abbrev pub may_be_items : {X : Type 0} → Sample X → Content → List (Slots X)
+may_be_items s (argument_content start name spec (target_list range) end) =
     items_of_all (unwrap_or (may_stand s name) [])
 may_be_items s _ = []
 
 module _ {X : Type 0} (shows : X → Trait → Spec → Shown) where
-  -- the faults of what may stand where a value is asked
+  -- the faults of what may be there, if a value is asked
   abbrev pub value_faults : Trait → Spec → (end : ℕ) → List (Slots X) → List Fault
   value_faults t spec end ts =
       fault_if (some_missing shows t spec ts) (missing_trait_impl t end)
       ++ fault_if (some_failed shows t spec ts) (fmt end)
 
-  -- the same by what is asked: of a list, that some has none
-  abbrev pub bare_faults : Bare → Spec → (end : ℕ) → List (Slots X) → List Fault
-  bare_faults (bare_value t) spec end ts = value_faults t spec end ts
-  bare_faults (bare_list range) spec end ts =
+  -- the faults by what is asked: of a list, that something has none
+  abbrev pub bare_faults : Target → Spec → (end : ℕ) → List (Slots X) → List Fault
+  bare_faults (target_value t) spec end ts = value_faults t spec end ts
+  bare_faults (target_list range) spec end ts =
       fault_if (list_any has_no_list ts) (missing_trait_impl traits.Iter end)
 
   -- the faults of what was found under a name, or that nothing was
-  abbrev pub found_faults : (start : ℕ) (name : List ℕ) → Bare → Spec → (end : ℕ)
+  abbrev pub found_faults : (start : ℕ) (name : List ℕ) → Target → Spec → (end : ℕ)
       → Option (List (Slots X)) → List Fault
   found_faults start name bare spec end None = missing_value name start ∷ []
   found_faults start name bare spec end (Some ts) = bare_faults bare spec end ts
 
   -- the faults of what a piece asks of the sample
-  abbrev pub asked_faults : Sample X → Held → List Fault
-  asked_faults s (written from cs) = []
-  asked_faults s (valued start name spec bare end) =
+  abbrev pub asked_faults : Sample X → Content → List Fault
+  asked_faults s (text_content from cs) = []
+  asked_faults s (argument_content start name spec bare end) =
       found_faults start name bare spec end (may_stand s name)
-  asked_faults s (refused f) = []
+  asked_faults s (fault_content f) = []
 
   -- items without a format are displayed plainly
-  abbrev pub plain_faults : Held → List (Slots X) → List Fault
-  plain_faults (valued start name spec bare end) ts = value_faults traits.Display plain_spec end ts
+  abbrev pub plain_faults : Content → List (Slots X) → List Fault
+  plain_faults (argument_content start name spec bare end) ts = value_faults traits.Display plain_spec end ts
   plain_faults _ ts = []
 
   -- ---- at every depth
@@ -72,7 +72,7 @@ module _ {X : Type 0} (shows : X → Trait → Spec → Shown) where
         ++ (item_faults_in s held item ++ (join_faults_in s join
         ++ fault_list (end_fault kind held))))
 
-    pub item_faults_in : Sample X → Held → Branch → List Fault
+    pub item_faults_in : Sample X → Content → Branch → List Fault
     item_faults_in s held no_branch = plain_faults held (may_be_items s held)
     item_faults_in s held (branch xs) = forest_faults_in (each_of s (may_be_items s held)) xs
 
@@ -89,28 +89,28 @@ module _ {X : Type 0} (shows : X → Trait → Spec → Shown) where
   abbrev pub faults_over : (List ℕ → Option (Slots X)) → At → List Fault
   faults_over finds a = forest_faults_in (sample finds) (as_forest (nodes a))
 
-  -- ---- of what is stored, where it fits its text
+  -- ---- of what is stored, if it fits its text
 
   -- the faults of what a stored piece asks
-  abbrev pub asked_of : Sample X → Option Held → List Fault
+  abbrev pub asked_of : Sample X → Option Content → List Fault
   asked_of s None = []
   asked_of s (Some held) = asked_faults s held
 
   -- those of its item format
-  abbrev pub item_of : Sample X → Option Held → Branch → List Fault
+  abbrev pub item_of : Sample X → Option Content → Branch → List Fault
   item_of s None item = []
   item_of s (Some held) item = item_faults_in s held item
 
 -- the items that there may be
-abbrev pub items_of_held : {X : Type 0} → Sample X → Option Held → List (Slots X)
+abbrev pub items_of_held : {X : Type 0} → Sample X → Option Content → List (Slots X)
 items_of_held s None = []
 items_of_held s (Some held) = may_be_items s held
 
 -- ---- lists that are made whole in memory
 
 -- a piece asks for a list under a width
-abbrev pub held_pads : Option Held → Bool
-held_pads (Some (valued start name spec (bare_list range) end)) = is_some spec.width
+abbrev pub held_pads : Option Content → Bool
+held_pads (Some (argument_content start name spec (target_list range) end)) = is_some spec.width
 held_pads _ = false
 
 abbrev mutual
@@ -127,6 +127,6 @@ abbrev mutual
   forest_pads no_nodes = false
   forest_pads (nodes_and x xs) = node_pads x || forest_pads xs
 
--- some list in a text stands under a width, at any depth of groups
+-- some list in a text is under a width, at any depth of groups
 abbrev pub pads_a_list : At → Bool
 pads_a_list a = forest_pads (as_forest (nodes a))

@@ -9,15 +9,15 @@ use Rattle.interpolator_syntax.specs.At.{At}
 use Rattle.interpolator_syntax.specs.Faults.{Fault}
 use Rattle.interpolator_syntax.specs.Nodes.{Node, node, Branch, no_branch, branch}
 use Rattle.interpolator_syntax.specs.Nodes.{Forest, no_nodes, nodes_and, as_forest, nodes}
-use Rattle.interpolator_syntax.specs.Nodes.{Held, written, valued, refused}
-use Rattle.interpolator_syntax.specs.Nodes.{Bare, bare_value, bare_list}
+use Rattle.interpolator_syntax.specs.Nodes.{Content, text_content, argument_content, fault_content}
+use Rattle.interpolator_syntax.specs.Nodes.{Target, target_value, target_list}
 use Rattle.interpolator_syntax.specs.declared.range.Range.{Range}
 use Rattle.interpolator_eval.specs.Slots.{Slots, items}
 use Rattle.interpolator_eval.specs.Meaning.Choices.{chosen_items}
-use Rattle.interpolator_eval.specs.Meaning.Environments.{Environment, given, bind}
+use Rattle.interpolator_eval.specs.Meaning.Environments.{Environment, slots_under, bind}
 use Rattle.interpolator_eval.specs.Meaning.Meanings.{Meaning, forbids_list, items_mean}
-use Rattle.interpolator.specs.Template.NodeMeanings.{join_branch_means, item_branch_means}
-use Rattle.interpolator.specs.Template.NodeMeanings.{node_means}
+use Rattle.interpolator_eval.specs.Meaning.Meanings.{join_branch_means, item_branch_means}
+use Rattle.interpolator_eval.specs.Meaning.Meanings.{node_means}
 
 -- how many pieces are gone through, and the most characters that are held at one time
 pub record Work : Type 0 where
@@ -32,16 +32,16 @@ no_work = record { pieces = 0; held = 0 }
 abbrev pub piece_and : Work → Work
 piece_and w = record w { pieces = 1 + w.pieces }
 
--- one after the other, where the first has this fault or none
+-- one after the other, if the first has this fault or none
 abbrev pub or_stop : Option Fault → Work → Work → Work
 or_stop (Some f) w v = w
 or_stop None w v = record { pieces = w.pieces + v.pieces; held = max w.held v.held }
 
--- an item by its format: where no piece is gone through, the item counts as one
+-- an item by its format: if no piece is gone through, the item counts as one
 abbrev pub item_work : Work → Work
 item_work w = record w { pieces = max 1 w.pieces }
 
--- where this is what the join and an item mean and go through
+-- if this is what the join and an item mean and go through
 module _ {A : Type 0} (join : Meaning) (joins : Work) (item : A → Meaning) (each : A → Work) where
   -- items, each with the join before it
   abbrev pub work_after : List A → Work
@@ -75,20 +75,20 @@ under_work work (Some found) = work found
 
 module _ {X : Type 0} (shows : X → Trait → Spec → Shown) where
   -- what was found, by what is asked for
-  abbrev pub bare_work : Bare → Spec → (join : Meaning) → (joins : Work) → (Slots X → Meaning)
+  abbrev pub bare_work : Target → Spec → (join : Meaning) → (joins : Work) → (Slots X → Meaning)
       → (Slots X → Work) → Slots X → Work
-  bare_work (bare_value t) spec join joins item each found = no_work
-  bare_work (bare_list range) spec join joins item each found =
+  bare_work (target_value t) spec join joins item each found = no_work
+  bare_work (target_list range) spec join joins item each found =
       listed_work join joins item each range spec (items found)
 
   -- what a piece holds
-  abbrev pub held_work : Environment X → Held → (join : Meaning) → (joins : Work)
+  abbrev pub held_work : Environment X → Content → (join : Meaning) → (joins : Work)
       → (item : ℕ → Slots X → Meaning) → (each : ℕ → Slots X → Work) → Work
-  held_work e (written from cs) join joins item each = piece_and no_work
-  held_work e (valued start name spec bare end) join joins item each =
+  held_work e (text_content from cs) join joins item each = piece_and no_work
+  held_work e (argument_content start name spec bare end) join joins item each =
       piece_and
-      (under_work (bare_work bare spec join joins (item end) (each end)) (given e name))
-  held_work e (refused f) join joins item each = piece_and no_work
+      (under_work (bare_work bare spec join joins (item end) (each end)) (slots_under e name))
+  held_work e (fault_content f) join joins item each = piece_and no_work
 
   abbrev mutual
     -- a piece, with those of its groups
@@ -98,7 +98,7 @@ module _ {X : Type 0} (shows : X → Trait → Spec → Shown) where
         held_work e held (join_branch_means shows e join) (join_branch_work e join)
         (item_branch_means shows e item) (item_branch_work e item)
 
-    -- what stands between two items
+    -- what comes between two items
     pub join_branch_work : Environment X → Branch → Work
     join_branch_work e no_branch = no_work
     join_branch_work e (branch xs) = forest_work e xs

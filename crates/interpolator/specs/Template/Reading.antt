@@ -1,4 +1,4 @@
--- An argument that was read, as the code has it, and what stands after it.
+-- An argument that was read, as the code has it, and what follows it.
 use Rattle.std.specs.Prelude.{Option, Some, None, option_map}
 use Rattle.interpolator_syntax.specs.At.{At, at, all_after}
 use Rattle.interpolator_syntax.specs.Arguments.{named_argument, request_of}
@@ -13,12 +13,12 @@ taken_step b t =
     argument_step b.place b (named_argument t.name (request_of t.asked)) (at t.end)
     (option_map at t.rest)
 
--- whether it is closed, by what stands after its closing brace, if there is one
+-- whether it is closed, by what follows its closing brace, if there is one
 abbrev pub ending_kind : Option At → PieceKind
 ending_kind (Some rest) = Closed
 ending_kind None = Unclosed
 
--- what stands after it, where its spec ends in front of a
+-- what follows it, if its spec ends in front of a
 abbrev pub ending_rest : (a : At) → Option At → At
 ending_rest a (Some rest) = rest
 ending_rest a None = all_after a

@@ -15,8 +15,8 @@ use Rattle.interpolator_syntax.specs.declared.range.Range.{Range}
 use Rattle.interpolator_syntax.specs.Nodes.{Node, node, Branch, no_branch, branch, Forest}
 use Rattle.interpolator_syntax.specs.Groups.{inside}
 use Rattle.interpolator_syntax.specs.Nodes.{no_nodes, nodes_and, as_branch, nodes, group_branch}
-use Rattle.interpolator_syntax.specs.Nodes.{Held, written, valued, refused}
-use Rattle.interpolator_syntax.specs.Nodes.{bare_value, bare_list}
+use Rattle.interpolator_syntax.specs.Nodes.{Content, text_content, argument_content, fault_content}
+use Rattle.interpolator_syntax.specs.Nodes.{target_value, target_list}
 use Rattle.interpolator.specs.declared.template.piece.Form.{Form}
 use Rattle.interpolator.specs.declared.template.piece.Form.TheVariants as forms
 use Rattle.interpolator.specs.declared.template.piece.Piece.{Piece}
@@ -36,7 +36,7 @@ part bs from to =
     if not (nat_lt to from) && (may_cut bs from && may_cut bs to)
     then Some (chars (take (to - from) (drop from bs))) else None
 
--- the same of a name that stands after the byte `place`
+-- the characters of a name that begins after the byte `place`
 abbrev pub name_part : List ℕ → (place from to : ℕ) → Option (List ℕ)
 name_part bs place from to = if nat_lt place from then part bs from to else None
 
@@ -46,19 +46,19 @@ range_of range = option_map (λ b. b.value) range
 
 -- what a piece at `place` holds, of which the bytes from one up to another are stored, and the end
 -- of its spec
-abbrev pub stored_held : List ℕ → (place from to end : ℕ) → Spec → Form → Option Held
+abbrev pub stored_held : List ℕ → (place from to end : ℕ) → Spec → Form → Option Content
 stored_held bs place from to end spec forms.Text =
-    option_map (λ cs. written from cs) (part bs from to)
+    option_map (λ cs. text_content from cs) (part bs from to)
 stored_held bs place from to end spec forms.Name =
-    option_map (λ name. valued (suc place) name plain_spec (bare_value traits.Display) end)
+    option_map (λ name. argument_content (suc place) name plain_spec (target_value traits.Display) end)
     (name_part bs place from to)
 stored_held bs place from to end spec (forms.Value t) =
-    option_map (λ name. valued (suc place) name spec (bare_value t) end) (name_part bs place from to)
+    option_map (λ name. argument_content (suc place) name spec (target_value t) end) (name_part bs place from to)
 stored_held bs place from to end spec (forms.List range) =
-    option_map (λ name. valued (suc place) name spec (bare_list (range_of range)) end)
+    option_map (λ name. argument_content (suc place) name spec (target_list (range_of range)) end)
     (name_part bs place from to)
 stored_held bs place from to end spec (forms.Broken fault) =
-    Some (refused (argument_fault_of fault.value))
+    Some (fault_content (argument_fault_of fault.value))
 
 -- a piece whose groups are nodes already
 abbrev pub node_step : List ℕ → Piece-F Node → Node
@@ -73,7 +73,7 @@ unfoldable pub node_of : List ℕ → Piece → Node
 node_of bs x = fold-Piece Node (node_step bs) x
 
 -- what a stored piece holds
-abbrev pub held_of : List ℕ → Piece → Option Held
+abbrev pub held_of : List ℕ → Piece → Option Content
 held_of bs x =
     let y = out-Piece x in stored_held bs y.place y.from y.to y.spec_end y.spec y.form
 
@@ -99,27 +99,27 @@ abbrev mutual
   forest_whole no_nodes = true
   forest_whole (nodes_and x xs) = node_whole x && forest_whole xs
 
--- a text that stands in another at its place
+-- a text that is in another at its place
 pub record Within (whole a : At) : Type 0 where
   pub front : List ℕ
   pub back : List ℕ
   pub split : whole.text ≡ front ++ (a.text ++ back)
   pub place : a.place ≡ whole.place + size front
 
--- in every format in which this text stands at its place, the stored pieces are those of the text
+-- in every format that has this text at its place, the stored pieces are those of the text
 abbrev pub StandFor : List Piece → At → Type 0
 StandFor xs a =
     (bs : List ℕ) → IsUtf8 bs → Within (outermost (chars bs)) a → nodes_of bs xs ≡ nodes a
 
--- one stored piece was added after others, and in every format in which this text stands at its
--- place, it is that node
+-- one stored piece was added after others, and in every format that has this text at its place, it
+-- is that node
 pub record Pushed (old new : List Piece) (n : Node) (a : At) : Type 0 where
   pub piece : Piece
   pub added : new ≡ old ++ (piece ∷ [])
   pub stands :
       (bs : List ℕ) → IsUtf8 bs → Within (outermost (chars bs)) a → node_of bs piece ≡ n
 
--- the stored pieces are those of a group, where there is one
+-- the stored pieces are those of a group, if there is one
 abbrev pub GroupStands : Option (Vec Piece) → Option Group → Type 0
 GroupStands xs None = xs ≡ None
 GroupStands xs (Some g) =

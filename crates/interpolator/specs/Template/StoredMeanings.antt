@@ -8,8 +8,8 @@ use Rattle.interpolator_eval.specs.Slots.{Slots}
 use Rattle.interpolator_eval.specs.Meaning.Environments.{Environment}
 use Rattle.interpolator_eval.specs.Meaning.Meanings.{Meaning, items_mean}
 use Rattle.interpolator_syntax.specs.Nodes.{as_forest}
-use Rattle.interpolator.specs.Template.NodeMeanings.{node_means, forest_means}
-use Rattle.interpolator.specs.Template.NodeMeanings.{item_branch_means, join_branch_means}
+use Rattle.interpolator_eval.specs.Meaning.Meanings.{node_means, forest_means}
+use Rattle.interpolator_eval.specs.Meaning.Meanings.{item_branch_means, join_branch_means}
 use Rattle.interpolator.specs.Template.Stored.{node_of, nodes_of, branch_of}
 use Rattle.interpolator.specs.Template.Stored.{part, name_part}
 use Rattle.interpolator_syntax.specs.declared.piece_kind.PieceKind.{PieceKind}
@@ -17,11 +17,11 @@ use Rattle.interpolator_syntax.specs.declared.piece_kind.PieceKind.TheVariants.{
 use Rattle.interpolator.specs.declared.template.piece.Piece.{Piece}
 use Rattle.interpolator.specs.declared.template.piece.Piece.TheViews.{out-Piece}
 
--- the text that is written for a stored piece, or its name, where it fits its text
+-- the text that is written for a stored piece, or its name, if it fits its text
 abbrev pub stored_part : List ℕ → Piece → Option (List ℕ)
 stored_part bs x = part bs (out-Piece x).from (out-Piece x).to
 
--- the name of a stored argument, where it fits its text
+-- the name of a stored argument, if it fits its text
 abbrev pub stored_name : List ℕ → Piece → Option (List ℕ)
 stored_name bs x = name_part bs (out-Piece x).place (out-Piece x).from (out-Piece x).to
 
@@ -30,7 +30,7 @@ abbrev pub unclosed_fault_of : PieceKind → (end : ℕ) → Option Fault
 unclosed_fault_of Unclosed end = Some (parse (expected (codes "}") end))
 unclosed_fault_of _ end = None
 
--- the same of a stored piece
+-- the fault of the missing brace of a stored piece
 abbrev pub unclosed_fault : Piece → Option Fault
 unclosed_fault x = unclosed_fault_of (out-Piece x).kind (out-Piece x).spec_end
 
@@ -43,7 +43,7 @@ module _ {X : Type 0} (shows : X → Trait → Spec → Shown) (e : Environment 
   abbrev pub stored_piece_means : Piece → Meaning
   stored_piece_means x = node_means shows e (node_of bs x)
 
-  -- what stands between two items of a list
+  -- what comes between two items of a list
   abbrev pub stored_join_means : Piece → Meaning
   stored_join_means x = join_branch_means shows e (branch_of bs (out-Piece x).join)
 

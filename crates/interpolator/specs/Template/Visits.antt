@@ -11,7 +11,7 @@ pub data Visit : Type 0 where
   enter : Spot → Node → Visit
   leave : Spot → Node → Visit
 
--- where the pieces of a group stand, whose argument stands here
+-- where the pieces of a group are, whose argument is here
 abbrev pub inner : (in_item : Bool) → Spot → Spot
 inner in_item spot = record { depth = spot.depth + 1; in_item = in_item }
 
@@ -23,7 +23,7 @@ abbrev mutual
       ∷ (branch_visits (inner true spot) item ++ (branch_visits (inner spot.in_item spot) join
       ++ (leave spot (node place end kind held item join) ∷ [])))
 
-  -- the visits of a group, whose pieces stand here
+  -- the visits of a group, whose pieces are here
   pub branch_visits : Spot → Branch → List Visit
   branch_visits spot no_branch = []
   branch_visits spot (branch xs) = forest_visits spot xs
@@ -33,7 +33,7 @@ abbrev mutual
   forest_visits spot no_nodes = []
   forest_visits spot (nodes_and x xs) = node_visits spot x ++ forest_visits spot xs
 
--- where the pieces of a text stand that are in no group
+-- where the pieces of a text are that are in no group
 abbrev pub outermost_spot : Spot
 outermost_spot = record { depth = 0; in_item = false }
 

@@ -1,7 +1,7 @@
 //! Laws of what can be known of a format before it is written, each the contract of a small
 //! function.
 
-ghost use Rattle.std.specs.Prelude.{◌≡◌, ◌≢◌, ◌↔◌, ℕ, List, Option, None, Some, Contains, codes};
+ghost use Rattle.std.specs.Prelude.{◌≡◌, ◌↔◌, ℕ, List, Option, None, Some, Contains, codes};
 ghost use Rattle.interpolator_syntax.specs.At.{At, outermost};
 ghost use Rattle.interpolator_syntax.specs.Faults.{Fault, parse, unclosed, missing_value};
 ghost use Rattle.interpolator_eval.specs.Slots.{Slots};
@@ -10,14 +10,13 @@ ghost use Rattle.interpolator_eval.specs.Meaning.Environments.{Environment, envi
 ghost use Rattle.interpolator_eval.specs.Meaning.Meanings.{means};
 ghost use Rattle.interpolator.specs.Template.NodeChecks.{first_fault, text_faults, IsOfText};
 ghost use Rattle.interpolator.specs.Template.NodeChecks.{ForestHas, FirstFaulty};
-ghost use Rattle.interpolator.specs.Template.NodeLacks.{first_lacking};
 ghost use Rattle.interpolator_syntax.specs.Nodes.{as_forest, nodes};
 
 use interpolator_render::Value;
 
-/// A fault of the text, `Parse` or `UnsupportedOption`, that a format has in some environment is one
-/// of those that it has by itself. So a format in which a check finds none answers neither of the
-/// two, whatever its context is.
+/// A fault of the text, `Parse` or `UnsupportedOption`, that a format has in some environment is
+/// one of those that it has by itself. So a format in which a check finds none answers neither of
+/// the two, whatever its context is.
 ///
 /// So `{a:i({z)}` is checked to have an unclosed argument at byte 6, and in a context with an empty
 /// list under `a` it is written all the same.
@@ -46,20 +45,13 @@ pub fn a_fault_of_its_own_is_that_of_some_piece()
         ≡ Some (parse (unclosed 6)) }
 {}
 
-/// Where a format misses a value, its name is one that it asks, and the context has nothing under
-/// it. So a context that lacks none of the names misses no value; and what it is said to lack is a
-/// name that the format asks and the context has nothing under.
+/// If a value is missing, its name is one that the format asks, and the context has nothing under
+/// it. So a context that has something under each of the names, as `Template::names` tells them,
+/// misses no value.
 ///
-/// So `{a}{b}` in a context that has `a` alone is said to lack `b`.
-pub fn a_context_that_lacks_nothing_misses_no_value<V: Value>()
-    ensures missed { (finds : List ℕ → Option (Slots V)) (a : At) (name : List ℕ) (place : ℕ)
+/// So over `{a}{b}`, in a context that has `a` alone, the missing value is `b`.
+pub fn a_missing_value_is_an_asked_name<V: Value>()
+    ensures { (finds : List ℕ → Option (Slots V)) (a : At) (name : List ℕ) (place : ℕ)
         → (means V.shows (environment finds) a).fault ≡ Some (missing_value name place)
-        → Contains (asked_names a) name × (finds name ≡ None) }
-    ensures none { (finds : List ℕ → Option (Slots V)) (a : At)
-        → first_lacking (environment finds) (asked_names a) ≡ None
-        → (name : List ℕ) (place : ℕ)
-        → (means V.shows (environment finds) a).fault ≢ Some (missing_value name place) }
-    ensures lacks { (finds : List ℕ → Option (Slots V)) (a : At) (name : List ℕ)
-        → first_lacking (environment finds) (asked_names a) ≡ Some name
         → Contains (asked_names a) name × (finds name ≡ None) }
 {}

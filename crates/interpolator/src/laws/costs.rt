@@ -10,7 +10,7 @@ ghost use Rattle.interpolator_eval.specs.Meaning.Choices.{chosen_items};
 ghost use Rattle.interpolator_eval.specs.Meaning.Environments.{Environment};
 ghost use Rattle.interpolator_eval.specs.Meaning.Limits.{IsWithin, most_chosen};
 ghost use Rattle.interpolator_eval.specs.Meaning.Meanings.{means};
-ghost use Rattle.interpolator.specs.Template.NodeCosts.{text_cost, capped_cost, ten_and_three};
+ghost use Rattle.interpolator.specs.Template.NodeCosts.{text_cost, usize_cost, ten_and_three};
 ghost use Rattle.interpolator.specs.Template.NodeWork.{text_work};
 ghost use Rattle.interpolator.specs.declared.template.cost.Limits.{Limits};
 
@@ -34,8 +34,8 @@ pub fn a_format_costs_no_more_than_it_is_said_to<V: Value>()
         → (text_work V.shows e a).held ≤ (text_cost limits a).buffered }
     ensures told { (limits : Limits) (e : Environment V) (a : At)
         → IsWithin V.shows limits.text limits.items e (asked_names a)
-        → (capped_cost (text_cost limits a)).characters ≢ 2 ^ 64 - 1
-        → length (means V.shows e a).text ≤ (capped_cost (text_cost limits a)).characters }
+        → (usize_cost (text_cost limits a)).characters ≢ 2 ^ 64 - 1
+        → length (means V.shows e a).text ≤ (usize_cost (text_cost limits a)).characters }
 {}
 
 /// A format whose cost is to hold nothing takes memory for nothing but the name of a missing value.
@@ -60,7 +60,7 @@ pub fn a_cost_grows_with_the_limits()
         → few.items ≤ many.items → (text_cost few a).buffered ≤ (text_cost many a).buffered }
 {}
 
-/// What some formats cost, where a text has at most 10 characters and a list at most 3 items.
+/// What some formats cost, if a text has at most 10 characters and a list at most 3 items.
 ///
 /// A number has at most 40 characters under display, 46 under `#` and `o` with a sign, and 10 in an
 /// exponent form with a precision of 4.

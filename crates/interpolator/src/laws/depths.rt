@@ -5,10 +5,10 @@ ghost use Rattle.interpolator_syntax.specs.At.{At, outermost};
 ghost use Rattle.interpolator.specs.Template.NodeExtents.{forest_depth};
 ghost use Rattle.interpolator_syntax.specs.Nodes.{as_forest, nodes};
 
-/// A format in which groups stand deep in one another is long: where it is `d` deep, it has `d`
-/// times `d + 4` characters or more. A group that stands in another has fewer signs `#` on each
-/// side than that one, so each further group takes two signs more than the one before it, beside
-/// its brackets and the `{:i` in front of it.
+/// A format with deeply nested groups is long: if it is `d` deep, it has `d` times `d + 4`
+/// characters or more. A group that is in another has fewer signs `#` on each side than that one,
+/// so each further group takes two signs more than the one before it, beside its brackets and the
+/// `{:i` in front of it.
 ///
 /// So no format of 1,000 characters is deeper than 29, and none of 11 is deeper than 1;
 /// `{:i#({:i())#` has 12, and is 2 deep.

@@ -3,7 +3,7 @@ ghost use Rattle.std.specs.Prelude.{◌≡◌, ◌≤◌, ◌-◌, ◌++◌, ℕ
 ghost use Rattle.interpolator.specs.Excerpts.{Excerpt, blank, dots, excerpt_of, first_shown};
 ghost use Rattle.interpolator.specs.Excerpts.{most_shown};
 
-/// An excerpt shows characters of the line that stand side by side.
+/// An excerpt shows characters of the line that are side by side.
 pub fn an_excerpt_is_a_part_of_its_line()
     ensures { (line : List ℕ) (around from to : ℕ) → let e = excerpt_of line around from to in
         e.before ++ (e.marked ++ e.after)
@@ -18,8 +18,8 @@ pub fn a_short_line_is_shown_whole()
         × ((e.marked ≡ take (to - from) (drop from line)) × (e.after ≡ drop to line)) }
 {}
 
-/// The first mark stands under the first character that is marked: before it stand as many blanks as
-/// characters before that.
+/// The first mark is under the first character that is marked: before it there are as many blanks
+/// as characters before that.
 pub fn marks_begin_under_what_is_marked()
     ensures { (e : Excerpt) → length (map blank (dots e.cut_before) ++ map blank e.before)
         ≡ length (dots e.cut_before ++ e.before) }

@@ -1,4 +1,4 @@
-//! Laws of formats that stand one after the other, each the contract of a small function.
+//! Laws of formats that follow one another, each the contract of a small function.
 
 ghost use Rattle.std.specs.Prelude.{◌≡◌, ◌≢◌, ℕ, ◌+◌, ◌++◌, List, [], ◌∷◌, IsTrue, IsFalse};
 ghost use Rattle.std.specs.Prelude.{Ok, None, codes};
@@ -9,7 +9,7 @@ ghost use Rattle.interpolator_syntax.specs.Grammar.{from_place};
 ghost use Rattle.interpolator_syntax.specs.Pieces.{pieces};
 ghost use Rattle.interpolator.specs.Seams.{ending, may_follow, seam_of};
 ghost use Rattle.interpolator_eval.specs.Meaning.Environments.{Environment};
-ghost use Rattle.interpolator_eval.specs.Meaning.Meanings.{joined, means};
+ghost use Rattle.interpolator_eval.specs.Meaning.Meanings.{chain, means};
 ghost use Rattle.interpolator_eval.specs.Meaning.Moves.{moved_meaning};
 ghost use Rattle.interpolator.specs.Meaning.Parts.{joined_text, parts_mean, Clean, FrontsClose};
 ghost use Rattle.interpolator.specs.declared.parts.Ending.TheVariants.{Open};
@@ -17,8 +17,8 @@ ghost use Rattle.interpolator.specs.declared.parts.Ending.TheVariants.{Open};
 use interpolator_render::Value;
 
 /// The pieces of two texts, one after the other, are those of the first and then those of the
-/// second, at its place, where the first does not end in an argument that is unclosed or broken,
-/// and the seam between the two is true.
+/// second, at its place, if the first does not end in an argument that is unclosed or broken, and
+/// the seam between the two is true.
 ///
 /// So the pieces of `a{x}` followed by `}` are those of `a{x}`, and then a lone `}`.
 pub fn pieces_compose()
@@ -28,7 +28,7 @@ pub fn pieces_compose()
         ≡ pieces a ++ pieces (from_place (a.place + size a.text) more) }
 {}
 
-/// A closed argument is the same whatever stands after its `}`.
+/// A closed argument is the same whatever follows its `}`.
 ///
 /// So in `{x:}` the argument is `x:`, and it is so in `{x:}<` too.
 pub fn closed_argument_stays()
@@ -38,8 +38,8 @@ pub fn closed_argument_stays()
         ≡ Ok (x, from_place q.place (q.text ++ more)) }
 {}
 
-/// Parts mean what their joined text means, in every environment, where none but the last ends in
-/// an argument that is unclosed or broken, and at each border the seam between all parts before it,
+/// Parts mean what their joined text means, in every environment, if none but the last ends in an
+/// argument that is unclosed or broken, and at each border the seam between all parts before it,
 /// joined, and the next is true: text, fault and memory points are the same.
 ///
 /// So the parts `{x} ` and `{q}` mean what `{x} {q}` means.
@@ -50,21 +50,21 @@ pub fn parts_compose<V: Value>()
 {}
 
 /// The second of two texts means what it means by itself, with every place in text and fault moved
-/// by the byte length of the first: so where the first has no fault, the two as parts mean the text
-/// of the first and then that; and their joined text means the same, where the first does not end
-/// in an argument that is unclosed or broken and the seam between the two is true.
+/// by the byte length of the first: so if the first has no fault, the two as parts mean the text of
+/// the first and then that; and their joined text means the same, if the first does not end in an
+/// argument that is unclosed or broken and the seam between the two is true.
 ///
-/// So the parts `ab` and `{q}`, where nothing stands under `q`, write `ab`, and `q` is missed at
-/// byte 3: by itself it is missed at byte 1.
+/// So the parts `ab` and `{q}`, with nothing under `q`, write `ab`, and `q` is missed at byte 3: by
+/// itself it is missed at byte 1.
 pub fn second_text_is_moved<V: Value>()
     ensures joined { (e : Environment V) (a b : List ℕ) → ending (outermost a) ≢ Open
         → IsTrue (seam_of a b)
         → means V.shows e (outermost (a ++ b))
-        ≡ joined (means V.shows e (outermost a))
+        ≡ chain (means V.shows e (outermost a))
         (moved_meaning (size a) (means V.shows e (outermost b))) }
     ensures parts { (e : Environment V) (a b : List ℕ)
         → parts_mean V.shows e 0 (a ∷ b ∷ [])
-        ≡ joined (means V.shows e (outermost a))
+        ≡ chain (means V.shows e (outermost a))
         (moved_meaning (size a) (means V.shows e (outermost b))) }
 {}
 
@@ -76,8 +76,8 @@ pub fn faultless_text_closes<V: Value>()
         → ending a ≢ Open }
 {}
 
-/// Where the seam is false the pieces are others: `}` and `}`, one after the other, are one
-/// doubled brace.
+/// If the seam is false the pieces are others: `}` and `}`, one after the other, are one doubled
+/// brace.
 pub fn seams_are_real()
     ensures braces_seam { IsFalse (seam_of (codes "}") (codes "}")) }
     ensures braces { pieces (outermost (codes "}}"))

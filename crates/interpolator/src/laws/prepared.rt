@@ -1,22 +1,38 @@
 //! Laws of prepared formats, each the contract of a small function.
 
-ghost use Rattle.std.specs.Prelude.{◌≡◌, ◌<◌, ℕ, List, [], ◌∷◌, length, Option, IsSome, codes};
+ghost use Rattle.std.specs.Prelude.{◌≡◌, ◌≢◌, ◌<◌, ◌≤◌, ℕ, List, [], ◌∷◌, length, map};
+ghost use Rattle.std.specs.Prelude.{Option, IsSome, None, Some, codes, false};
+ghost use Rattle.std.specs.Borrow.{Bor};
+ghost use Rattle.std.specs.List.{zip};
+ghost use Rattle.std.specs.Str.{chars};
 ghost use Rattle.interpolator_render.specs.declared.view.Trait.TheVariants as traits;
-ghost use Rattle.interpolator_syntax.specs.At.{outermost};
+ghost use Rattle.interpolator_syntax.specs.At.{At, outermost};
+ghost use Rattle.interpolator_syntax.specs.Faults.{result_answer, no_memory};
 ghost use Rattle.interpolator_syntax.specs.Nodes.{Node, as_forest, nodes};
 ghost use Rattle.interpolator_syntax.specs.SpecTexts.{plain_spec};
+ghost use Rattle.interpolator_eval.specs.Contexts.{found_by_pairs};
 ghost use Rattle.interpolator_eval.specs.Slots.{Slots};
+ghost use Rattle.interpolator_eval.specs.declared.slots.Formattable.{Formattable};
 ghost use Rattle.interpolator_eval.specs.Meaning.Environments.{environment};
-ghost use Rattle.interpolator.specs.Template.NodeMeanings.{forest_means};
+ghost use Rattle.interpolator_eval.specs.Meaning.Meanings.{forest_means, means};
+ghost use Rattle.interpolator_eval.specs.Meaning.Outcomes.{Outcome};
+ghost use Rattle.interpolator.specs.Meaning.SamplePairs.{RowResembles};
+ghost use Rattle.interpolator.specs.Meaning.Unfailing.{OnlyRefused};
 ghost use Rattle.interpolator.specs.Prepared.Programs.{program, steps_mean, text_step, value_step};
-ghost use Rattle.interpolator.specs.Prepared.Rows.{found_by_row};
+ghost use Rattle.interpolator.specs.Prepared.Rows.{found_by_row, pair_names, row_at};
+ghost use Rattle.interpolator.specs.Template.NodeSamples.{faults_over, pads_a_list};
 
-use interpolator_render::Value;
+use crate::prepared::Prepared;
+use crate::prepared::row::Row;
+use interpolator_eval::Pairs;
+use interpolator_render::{TextWrite, Value};
+use interpolator_syntax::Error;
+use std::alloc::Global;
 
-/// The program of nodes and names means over a row what the nodes mean where each name stands for
-/// the value at its last position, to the place of each character. The row has to reach each name.
+/// The program of nodes and names means over a row what the nodes mean if each name means the value
+/// at its last position, to the place of each character. The row has to reach each name.
 ///
-/// So `a{{b{x}` and the names `x`, `y` and `x` are two steps: the text `a{b`, whose characters stand
+/// So `a{{b{x}` and the names `x`, `y` and `x` are two steps: the text `a{b`, whose characters are
 /// at 0, 1 and 3, and the value at position 2.
 pub fn programs_mean_what_their_nodes_mean<V: Value>()
     ensures program { (names : List (List ℕ)) → (value_at : ℕ → Option (Slots V))
@@ -28,3 +44,61 @@ pub fn programs_mean_what_their_nodes_mean<V: Value>()
         ≡ text_step ((97, 0) ∷ (123, 1) ∷ (98, 3) ∷ []) ∷ value_step 2 traits.Display plain_spec 6
         ∷ [] }
 {}
+
+/// Over a row that reaches each of some names, a format means what it does over pairs of these names
+/// and the row's values. Of two equal names the last counts in both.
+pub fn a_row_means_what_its_pairs_do<V: Value>()
+    ensures { (names : List (Bor (List ℕ))) (row : List (Formattable V)) (a : At)
+        → length names ≤ length row
+        → means V.shows (environment (found_by_row (map (λ name. name.now) names) (row_at row))) a
+        ≡ means V.shows (environment (found_by_pairs (zip names row))) a }
+{}
+
+/// A format that has no fault over a sample of pairs means none over a row that has, at the position of
+/// each pair, what resembles it: whatever values the row has, no name is missing, no trait, and no
+/// value fails.
+pub fn a_checked_format_means_no_fault_over_rows<S: Value, V: Value>()
+    ensures { (sample : List (Bor (List ℕ) × Formattable S)) (row : List (Formattable V)) (a : At)
+        → faults_over S.shows (found_by_pairs sample) a ≡ []
+        → RowResembles S.shows V.shows row sample
+        → (means V.shows (environment (found_by_row (pair_names sample) (row_at row))) a).fault
+        ≡ None }
+{}
+
+/// Writes a prepared format over a row that resembles the sample, over which the format has no fault:
+/// all is written, unless the writer refuses or a list under a width finds no memory. Without such a
+/// list no memory is wanted.
+///
+/// # Errors
+///
+/// `Fmt`, if the writer has refused; `NoMemory`.
+///
+/// # Example
+///
+/// ```text
+/// let line = template.prepare(alloc, &sample)?;    // once
+/// for row in &rows {
+///     a_prepared_format_is_written(alloc, &mut out, &line, &sample, &Row(row))?;
+/// }
+/// ```
+pub fn a_prepared_format_is_written<W: TextWrite, S: Value, V: Value>(
+    alloc: Global,
+    out: &mut W,
+    prepared: &Prepared,
+    _sample: &Pairs<'_, S>,
+    row: &Row<'_, V>,
+) -> Result<(), Error>
+    requires names { prepared.now.names ≡ pair_names _sample.now.0.now }
+    requires checked { faults_over S.shows (found_by_pairs _sample.now.0.now)
+        (outermost (chars prepared.now.text)) ≡ [] }
+    requires resembles { RowResembles S.shows V.shows row.now.0.now _sample.now.0.now }
+    ensures outcome { Outcome
+        (means V.shows (environment (found_by_row prepared.now.names (row_at row.now.0.now)))
+        (outermost (chars prepared.now.text)))
+        (W.written out.old) (W.written out.new) (result_answer result) }
+    ensures answer { OnlyRefused (W.written out.new) (result_answer result) }
+    ensures memory { pads_a_list (outermost (chars prepared.now.text)) ≡ false
+        → result_answer result ≢ Some no_memory }
+{
+    prepared.write(alloc, out, row)
+}

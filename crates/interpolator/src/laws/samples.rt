@@ -1,6 +1,7 @@
 //! Laws of formats that were checked against a sample, each the contract of a small function.
 
-ghost use Rattle.std.specs.Prelude.{◌≡◌, ◌≢◌, IfErr, ℕ, ℤ, Bool, List, [], ◌∷◌, Option, None, Some, false, codes};
+ghost use Rattle.std.specs.Prelude.{◌≡◌, ◌≢◌, IfErr, ℕ, ℤ, Bool, false, codes};
+ghost use Rattle.std.specs.Prelude.{List, [], ◌∷◌, Option, None, Some};
 ghost use Rattle.std.specs.Str.{chars};
 ghost use Rattle.std.specs.Borrow.{Bor};
 ghost use Rattle.interpolator_render.specs.Texts.{view_text};
@@ -12,7 +13,7 @@ ghost use Rattle.interpolator_render.specs.declared.view.Trait.{Trait};
 ghost use Rattle.interpolator_render.specs.declared.view.Trait.TheVariants as traits;
 ghost use Rattle.interpolator_syntax.specs.At.{At, outermost};
 ghost use Rattle.interpolator_syntax.specs.Faults.{fmt, missing_trait_impl, missing_value, parse};
-ghost use Rattle.interpolator_syntax.specs.Faults.{unclosed, iter, answer_of, answered, no_memory};
+ghost use Rattle.interpolator_syntax.specs.Faults.{unclosed, iter, answer_of, result_answer, no_memory};
 ghost use Rattle.interpolator_eval.specs.Meaning.AskedNames.{asked_names};
 ghost use Rattle.interpolator_eval.specs.Meaning.Environments.{Environment, environment};
 ghost use Rattle.interpolator_eval.specs.Meaning.Meanings.{means};
@@ -22,8 +23,8 @@ ghost use Rattle.interpolator_eval.specs.Meaning.Samples.{shows_nothing, is_fail
 ghost use Rattle.interpolator_eval.specs.Contexts.{found_by_pairs};
 ghost use Rattle.interpolator_eval.specs.declared.slots.Formattable.{Formattable};
 ghost use Rattle.interpolator.specs.Meaning.SamplePairs.{PairsResemble};
-ghost use Rattle.interpolator_eval.specs.Slots.{Slots, empty_slots, with_debug_display, with_integer};
-ghost use Rattle.interpolator_eval.specs.Slots.{with_iter};
+ghost use Rattle.interpolator_eval.specs.Slots.{Slots, empty_slots, with_debug_display};
+ghost use Rattle.interpolator_eval.specs.Slots.{with_integer, with_iter};
 ghost use Rattle.interpolator.specs.Meaning.Unfailing.{OnlyRefused};
 ghost use Rattle.interpolator.specs.Template.NodeSamples.{faults_over, pads_a_list};
 
@@ -34,13 +35,13 @@ use interpolator_syntax::Error;
 use std::alloc::Global;
 
 /// A format that has no fault over a sample means no fault in any context that resembles the sample
-/// under the names that the format asks: not one of its own, no missing value, no missing trait, and no
-/// value that fails. If no list in it stands under a width, it wants no memory there.
+/// under the names that the format asks: not one of its own, no missing value, no missing trait,
+/// and no value that fails. If no list in it is under a width, it wants no memory there.
 ///
-/// A context resembles a sample if it gives something where the sample does; if each slot that is
-/// filled there is filled here, by a value that has a text under each spec under which the sample's
-/// has one; and if it has a list where the sample has one, each of whose items resembles some item of
-/// the sample's.
+/// A context resembles a sample if it gives something wherever the sample does; if each slot that
+/// is filled there is filled here, by a value that has a text under each spec under which the
+/// sample's has one; and if it has a list wherever the sample has one, each of whose items
+/// resembles some item of the sample's.
 ///
 /// So `Dear {name:>8}, {guests:i({})(, )}` is checked once, against one name and one guest; it then
 /// has a text for every name and every list of guests.
@@ -55,13 +56,13 @@ pub fn a_checked_format_means_no_fault<S: Value, V: Value>()
         → pads_a_list a ≡ false → (means V.shows e a).memory_points ≡ [] }
 {}
 
-/// Writes a template that has no fault over a sample, in a context that resembles it: all is written,
-/// unless the writer refuses or a list under a width finds no memory. Without such a list no memory is
-/// wanted.
+/// Writes a template that has no fault over a sample, in a context that resembles it: all is
+/// written, unless the writer refuses or a list under a width finds no memory. Without such a list
+/// no memory is wanted.
 ///
 /// # Errors
 ///
-/// `Fmt`, where the writer has refused; `NoMemory`.
+/// `Fmt`: the writer has refused; `NoMemory`.
 ///
 /// # Example
 ///
@@ -85,10 +86,10 @@ pub fn a_checked_template_is_written<W: TextWrite, S: Context, C: Context>(
         (asked_names (outermost (chars template.now))) }
     ensures outcome { Outcome
         (means C.Object.shows (environment (C.finds context.now)) (outermost (chars template.now)))
-        (W.written out.old) (W.written out.new) (answered result) }
-    ensures answer { OnlyRefused (W.written out.new) (answered result) }
+        (W.written out.old) (W.written out.new) (result_answer result) }
+    ensures answer { OnlyRefused (W.written out.new) (result_answer result) }
     ensures memory { pads_a_list (outermost (chars template.now)) ≡ false
-        → answered result ≢ Some no_memory }
+        → result_answer result ≢ Some no_memory }
 {
     template.write(alloc, out, context)
 }
@@ -123,8 +124,9 @@ pub fn a_checked_template_is_formatted<S: Context, C: Context>(
     template.format(alloc, context)
 }
 
-/// Pairs of the same names in order resemble each other, if under each name stands what resembles the
-/// sample's: so pairs that one function makes of a row resemble those that it makes of an example row.
+/// Pairs of the same names in order resemble each other, if under each name is what resembles the
+/// sample's: so pairs that one function makes of a row resemble those that it makes of an example
+/// row.
 pub fn pairs_of_the_same_names_resemble<S: Value, V: Value>()
     ensures { (pairs : List (Bor (List ℕ) × Formattable V))
         (sample : List (Bor (List ℕ) × Formattable S)) (names : List (List ℕ))
@@ -143,12 +145,13 @@ pub fn a_context_resembles_itself<V: Value>()
         → (means V.shows (environment finds) a).fault ≡ None }
 {}
 
-/// Whether a view has a text depends on its kind and on the trait, and not on what it holds. So each
-/// number has a text where any number of its type has one, each text where any text has one, and so
+/// Whether a view has a text depends on its kind and on the trait, and not on what it holds. So
+/// each number has a text if any number of its type has one, each text if any text has one, and so
 /// with truth values and characters: a sample of one of them is a sample of all.
 pub fn a_view_has_a_text_by_its_kind()
     ensures kind { (x y : Shown) (t : Trait) (spec : Spec) → shows_nothing x t ≡ shows_nothing y t
-        → is_failure x ≡ is_failure y → HasText (view_text x t spec) → HasText (view_text y t spec) }
+        → is_failure x ≡ is_failure y → HasText (view_text x t spec)
+        → HasText (view_text y t spec) }
     ensures unsigned { (m n : ℕ) (t : Trait) (spec : Spec)
         → HasText (view_text (unsigned_number m) t spec)
         → HasText (view_text (unsigned_number n) t spec) }
@@ -165,10 +168,10 @@ pub fn a_view_has_a_text_by_its_kind()
         → HasText (view_text (one_character d) t spec) }
 {}
 
-/// What a format has over a sample, on examples whose values show what they hold. In the first every
-/// name means a list of the text `a` and the number 7: the item format is looked at with both, though
-/// the range chooses none. In the second every name means the text `a`, which is no list; in the third
-/// nothing; in the fourth a list of a value that fails.
+/// What a format has over a sample, on examples whose values show what they hold. In the first
+/// every name means a list of the text `a` and the number 7: the item format is looked at with
+/// both, though the range chooses none. In the second every name means the text `a`, which is no
+/// list; in the third nothing; in the fourth a list of a value that fails.
 pub fn faults_over_examples()
     ensures range { faults_over (λ shown t spec. shown) (λ name. Some (with_iter empty_slots
         (with_debug_display empty_slots (some_text (codes "a"))

@@ -6,50 +6,51 @@ ghost use Rattle.std.specs.Prelude.{List, None, Some, Ok, IsTrue, codes};
 ghost use Rattle.interpolator_render.specs.declared.view.Trait.TheVariants as traits;
 ghost use Rattle.std.specs.Str.{chars};
 ghost use Rattle.interpolator_syntax.specs.At.{At, size, outermost};
-ghost use Rattle.interpolator_syntax.specs.Faults.{answered};
+ghost use Rattle.interpolator_syntax.specs.Faults.{result_answer};
 ghost use Rattle.interpolator_syntax.specs.Groups.{Group};
 ghost use Rattle.interpolator_syntax.specs.SpecTexts.{plain_spec};
-ghost use Rattle.interpolator_eval.specs.Meaning.Environments.{Environment, environment};
-ghost use Rattle.interpolator_eval.specs.Meaning.Meanings.{joined, means};
+ghost use Rattle.interpolator_eval.specs.Meaning.Environments as environments;
+ghost use Rattle.interpolator_eval.specs.Meaning.Environments.{environment};
+ghost use Rattle.interpolator_eval.specs.Meaning.Meanings.{chain, means};
 ghost use Rattle.interpolator_syntax.specs.Groups.{inside};
 ghost use Rattle.interpolator_eval.specs.Meaning.Outcomes.{Outcome};
-ghost use Rattle.interpolator.specs.Template.NodeMeanings.{forest_means};
+ghost use Rattle.interpolator_eval.specs.Meaning.Meanings.{forest_means};
 ghost use Rattle.interpolator_syntax.specs.Nodes.{Node};
-ghost use Rattle.interpolator_syntax.specs.Nodes.{node, branch, as_forest, valued, bare_value};
-ghost use Rattle.interpolator_syntax.specs.Nodes.{bare_list};
+ghost use Rattle.interpolator_syntax.specs.Nodes.{node, branch, as_forest, argument_content, target_value};
+ghost use Rattle.interpolator_syntax.specs.Nodes.{target_list};
 ghost use Rattle.interpolator_syntax.specs.Nodes.{no_branch, text_node, group_branch, nodes};
 ghost use Rattle.interpolator.specs.Template.Stored.{forest_whole};
-ghost use Rattle.interpolator.specs.Template.Splits.{nodes_alone, merged, split_again};
-ghost use Rattle.interpolator.specs.Template.Splits.{NoTwoLiterals, Contiguous};
+ghost use Rattle.interpolator_syntax.specs.Splits.{nodes_alone, join_literals, split_again};
+ghost use Rattle.interpolator_syntax.specs.Splits.{NoTwoLiterals, Contiguous};
 ghost use Rattle.interpolator_syntax.specs.declared.piece_kind.PieceKind.TheVariants.{Literal, Doubled};
 ghost use Rattle.interpolator_syntax.specs.declared.piece_kind.PieceKind.TheVariants.{Closed};
 
 use crate::template::Template;
 use crate::template::piece::Piece;
-use crate::tree::run_pieces;
-use interpolator_eval::{Context, Scope, Sink};
+use crate::uncounted::run_uncounted;
+use interpolator_eval::{Context, Environment, Sink};
 use interpolator_render::{TextWrite, Value};
 use interpolator_syntax::{Error, PieceKind};
 use std::alloc::{AllocError, Global};
 
 /// The tree of a text is its pieces, of which neighbouring literals are one node. Split into its
 /// characters again, it is the pieces: each at its place and of its kind, of an argument the name,
-/// the spec, what it asks for and its end, and of a broken one the fault. Under an argument stand
-/// the trees of the texts of its groups, so that all this holds at every depth.
+/// the spec, what it asks for and its end, and of a broken one the fault. Under an argument are the
+/// trees of the texts of its groups, so that all this holds at every depth.
 ///
 /// So the four pieces of `ab{{{x}` are three nodes: the literals `ab`, a doubled brace and an
-/// argument; and `{l:i(c{d})}` is one node, under which stand the literal `c` and an argument.
+/// argument; and `{l:i(c{d})}` is one node, under which are the literal `c` and an argument.
 pub fn nodes_are_the_pieces()
-    ensures merged { (a : At) → nodes a ≡ merged (nodes_alone a) }
+    ensures merged { (a : At) → nodes a ≡ join_literals (nodes_alone a) }
     ensures split { (a : At) → split_again (nodes a) ≡ nodes_alone a }
     ensures value { nodes (outermost (codes "ab{{{x}"))
         ≡ text_node 0 2 Literal (codes "ab") ∷ text_node 2 4 Doubled (codes "{")
-        ∷ node 4 7 Closed (Some (valued 5 (codes "x") plain_spec (bare_value traits.Display) 6))
+        ∷ node 4 7 Closed (Some (argument_content 5 (codes "x") plain_spec (target_value traits.Display) 6))
         no_branch no_branch ∷ [] }
     ensures depth { nodes (outermost (codes "{l:i(c{d})}"))
-        ≡ node 0 11 Closed (Some (valued 1 (codes "l") plain_spec (bare_list None) 10))
+        ≡ node 0 11 Closed (Some (argument_content 1 (codes "l") plain_spec (target_list None) 10))
         (branch (as_forest (text_node 5 6 Literal (codes "c")
-        ∷ node 6 9 Closed (Some (valued 7 (codes "d") plain_spec (bare_value traits.Display) 8))
+        ∷ node 6 9 Closed (Some (argument_content 7 (codes "d") plain_spec (target_value traits.Display) 8))
         no_branch no_branch ∷ []))) no_branch ∷ [] }
 {}
 
@@ -60,13 +61,13 @@ pub fn no_two_literals_are_neighbours()
     ensures { (a : At) → NoTwoLiterals (nodes a) }
 {}
 
-/// The first node of a text begins where the text begins, each of the others where the one before it
-/// ends, and the last ends where the text ends. The nodes of a group do so in the text of the group,
-/// which stands at its place in the format, in its argument: after the first byte of the argument,
-/// and up to its end at most. So it is at every depth.
+/// The first node of a text begins where the text begins, each of the others where the one before
+/// it ends, and the last ends where the text ends. The nodes of a group do so in the text of the
+/// group, which is at its place in the format, in its argument: after the first byte of the
+/// argument, and up to its end at most. So it is at every depth.
 ///
-/// So in `ab{l:i(c{d})}` the nodes stand from byte 0 to 2 and from there to 13, and those of the
-/// item format from 7 to 8 and from there to 11.
+/// So in `ab{l:i(c{d})}` the nodes are from byte 0 to 2 and from there to 13, and those of the item
+/// format from 7 to 8 and from there to 11.
 pub fn nodes_stand_one_after_the_other()
     ensures places { (a : At)
         → Contiguous a.place (as_forest (nodes a)) (a.place + size a.text) }
@@ -82,15 +83,15 @@ pub fn nodes_stand_one_after_the_other()
 pub fn rest_of_the_pieces_follows<V: Value>()
     ensures fits { (xs ys : List Node) → forest_whole (as_forest (xs ++ ys)) ≡ true
         → forest_whole (as_forest ys) ≡ true }
-    ensures means { (e : Environment V) (xs ys : List Node)
+    ensures means { (e : environments.Environment V) (xs ys : List Node)
         → forest_means V.shows e (as_forest (xs ++ ys))
-        ≡ joined (forest_means V.shows e (as_forest xs)) (forest_means V.shows e (as_forest ys)) }
-    ensures value { (e : Environment V)
+        ≡ chain (forest_means V.shows e (as_forest xs)) (forest_means V.shows e (as_forest ys)) }
+    ensures value { (e : environments.Environment V)
         → forest_means V.shows e (as_forest (drop 1 (nodes (outermost (codes "a{x}b")))))
         ≡ means V.shows e (record { place = 1; text = codes "{x}b" }) }
 {}
 
-/// The pieces after the first `skipped`; none where there are fewer.
+/// The pieces after the first `skipped`; none if there are fewer.
 fn pieces_after(pieces: &[Piece], skipped: usize) -> &[Piece]
     ensures { result.now ≡ drop skipped pieces.now }
 {
@@ -102,7 +103,7 @@ fn pieces_after(pieces: &[Piece], skipped: usize) -> &[Piece]
 }
 
 /// The pieces of a template after the first `skipped` are written in order, as they mean, up to the
-/// first fault; nothing is written where there are fewer. Places are those in the format.
+/// first fault; nothing is written if there are fewer. Places are those in the format.
 ///
 /// # Errors
 ///
@@ -125,12 +126,12 @@ pub fn rest_of_the_pieces_is_written<W: TextWrite, C: Context>(
     ensures outcome { Outcome
         (forest_means C.Object.shows (environment (C.finds context.now))
         (as_forest (drop skipped (nodes (outermost (chars template.now))))))
-        (W.written out.old) (W.written out.new) (answered result) }
+        (W.written out.old) (W.written out.new) (result_answer result) }
 {
     let rest = pieces_after(template.pieces(), skipped);
     let mut sink = Sink::Writer(out);
-    let scope = Scope::outermost(alloc, context);
-    let answer = run_pieces(&mut sink, &scope, template.text(), rest);
+    let environment = Environment::outermost(alloc, context);
+    let answer = run_uncounted(&mut sink, &environment, template.text(), rest);
     match sink {
         Sink::Writer(end) => {
             let _ = end;
@@ -140,7 +141,7 @@ pub fn rest_of_the_pieces_is_written<W: TextWrite, C: Context>(
     answer
 }
 
-/// Two kinds of pieces are equal exactly where they are the same variant.
+/// Two kinds of pieces are equal exactly if they are the same variant.
 pub fn equal_piece_kinds(left: PieceKind, right: PieceKind) -> bool
     ensures { IsTrue result ↔ (left ≡ right) }
 {

@@ -14,6 +14,7 @@ ghost use Rattle.interpolator.specs.Template.StoredMeanings.{stored_name};
 ghost use Rattle.interpolator.specs.declared.template.piece.Form.TheVariants as forms;
 ghost use Rattle.interpolator.specs.declared.template.piece.Piece.TheViews.{out-Piece};
 
+use crate::prepared::copy::copy_piece;
 use crate::prepared::joined::{join_more, join_two};
 use crate::prepared::row::last_position;
 use crate::prepared::step::{Asked, Part, Step};
@@ -23,21 +24,22 @@ use interpolator_render::Trait;
 use interpolator_syntax::PieceKind;
 use std::alloc::{AllocError, Global};
 
+/// For how many steps there is room at the beginning, at most.
+const MOST_ROOM: usize = 64;
+
 /// The steps of the pieces of a text.
 pub(crate) fn compile(
     alloc: Global,
     text: &str,
     names: &[String],
-    pieces: Vec<Piece>,
+    pieces: &[Piece],
 ) -> Result<Vec<Step>, AllocError>
-    requires whole { forest_whole (as_forest (nodes_of text.now pieces.items)) ≡ true }
+    requires whole { forest_whole (as_forest (nodes_of text.now pieces.now)) ≡ true }
     ensures program { IfOk result (λ made. map (step_of text.now) made.items
-        ≡ map Some (program (name_bytes names.now) (nodes_of text.now pieces.items))) }
+        ≡ map Some (program (name_bytes names.now) (nodes_of text.now pieces.now))) }
 {
-    let mut made = Vec::new(alloc);
-    let mut left = pieces;
-    left.reverse();
-    while let Some(piece) = left.pop() {
+    let mut made = Vec::with_capacity(alloc, pieces.len().min(MOST_ROOM))?;
+    for piece in pieces {
         push_piece(alloc, &mut made, text, names, piece)?;
     }
     Ok(made)
@@ -49,12 +51,12 @@ fn push_piece(
     made: &mut Vec<Step>,
     text: &str,
     names: &[String],
-    piece: Piece,
+    piece: &Piece,
 ) -> Result<(), AllocError>
-    requires whole { node_whole (node_of text.now piece) ≡ true }
+    requires whole { node_whole (node_of text.now piece.now) ≡ true }
     requires stand { All (λ step. IsSome (step_of text.now step)) made.old.items }
     ensures pushed { IfOk result (λ _. Becomes text.now made.old.items made.new.items
-        (λ before. with_node (name_bytes names.now) before (node_of text.now piece))) }
+        (λ before. with_node (name_bytes names.now) before (node_of text.now piece.now))) }
 {
     match &piece.form {
         Form::Text => push_text(alloc, made, text, piece.from, piece.to),
@@ -124,12 +126,12 @@ fn push_argument(
     made: &mut Vec<Step>,
     text: &str,
     names: &[String],
-    piece: Piece,
+    piece: &Piece,
 ) -> Result<(), AllocError>
-    requires whole { node_whole (node_of text.now piece) ≡ true }
-    requires asks { (out-Piece piece).form ≢ forms.Text }
+    requires whole { node_whole (node_of text.now piece.now) ≡ true }
+    requires asks { (out-Piece piece.now).form ≢ forms.Text }
     ensures pushed { IfOk result (λ _. Becomes text.now made.old.items made.new.items
-        (λ before. with_node (name_bytes names.now) before (node_of text.now piece))) }
+        (λ before. with_node (name_bytes names.now) before (node_of text.now piece.now))) }
 {
     let step = argument_step(alloc, text, names, piece)?;
     push_step(made, step)
@@ -140,17 +142,17 @@ fn argument_step(
     alloc: Global,
     text: &str,
     names: &[String],
-    piece: Piece,
+    piece: &Piece,
 ) -> Result<Step, AllocError>
-    requires whole { node_whole (node_of text.now piece) ≡ true }
-    ensures step { IfOk result (λ step. let x = node_of text.now piece in
+    requires whole { node_whole (node_of text.now piece.now) ≡ true }
+    ensures step { IfOk result (λ step. let x = node_of text.now piece.now in
         let known = name_bytes names.now in
         step_of text.now step ≡ Some (argument_step known (node_position known x) x)) }
 {
-    match position_of(text, names, &piece) {
+    match position_of(text, names, piece) {
         Some(position) => match &piece.form {
             Form::Name => Ok(Step::Plain(position, piece.spec_end)),
-            Form::Value(t) => under(alloc, position, *t, &piece),
+            Form::Value(t) => under(alloc, position, *t, piece),
             Form::Text => whole(alloc, text, piece),
             Form::List(_) => whole(alloc, text, piece),
             Form::Broken(_) => whole(alloc, text, piece),
@@ -172,14 +174,16 @@ fn under(alloc: Global, position: usize, t: Trait, piece: &Piece) -> Result<Step
     Ok(Step::Under(position, Box::new(alloc, asked)?))
 }
 
-/// What a piece means.
-fn whole(alloc: Global, text: &str, piece: Piece) -> Result<Step, AllocError>
-    requires whole { node_whole (node_of text.now piece) ≡ true }
+/// What a piece means, of which a copy is kept.
+fn whole(alloc: Global, text: &str, piece: &Piece) -> Result<Step, AllocError>
+    requires whole { node_whole (node_of text.now piece.now) ≡ true }
     ensures step { IfOk result (λ step. step_of text.now step
-        ≡ Some (node_step (node_of text.now piece))) }
+        ≡ Some (node_step (node_of text.now piece.now))) }
 {
     let _ = text;
-    Ok(Step::Whole(Box::new(alloc, piece)?))
+    let mut kept = Vec::new(alloc);
+    kept.push(copy_piece(alloc, piece)?)?;
+    Ok(Step::Whole(Box::new(alloc, kept)?))
 }
 
 /// The position of the name of a closed argument that asks for a value, if it is one of the names.

@@ -3,7 +3,7 @@ ghost use Rattle.std.specs.Prelude.{◌≡◌, ◌+◌, ℕ, List, [], ◌++◌,
 ghost use Rattle.std.specs.Prelude.{string_bytes};
 ghost use Rattle.std.specs.Str.{chars};
 ghost use Rattle.interpolator_syntax.specs.At.{Placed, placed_from};
-ghost use Rattle.interpolator_syntax.specs.Faults.{answer_of, answered};
+ghost use Rattle.interpolator_syntax.specs.Faults.{answer_of, result_answer};
 ghost use Rattle.interpolator_eval.specs.Meaning.Meanings.{text_alone};
 ghost use Rattle.interpolator_eval.specs.Meaning.Sinks.{Writes};
 ghost use Rattle.interpolator.specs.Prepared.Programs.{text_step};
@@ -118,7 +118,7 @@ pub(crate) fn put_joined<W: TextWrite>(
 ) -> Result<(), Error>
     ensures writes { Writes W.written
         (text_alone (joined_placed joined.now.parts.items (string_bytes joined.now.text)))
-        sink.old sink.new (answered result) }
+        sink.old sink.new (result_answer result) }
 {
     match sink.put_run(joined.text.as_str(), 0) {
         Ok(()) => Ok(()),

@@ -1,5 +1,6 @@
 //! A row of values, in the order of names.
-ghost use Rattle.std.specs.Prelude.{◌≡◌, ⊤, IfOk, Some, if◌then◌else◌};
+ghost use Rattle.std.specs.Prelude.{◌≡◌, ⊤, IfOk, string_bytes};
+ghost use Rattle.std.specs.Str.{bytes_eq};
 ghost use Rattle.interpolator.specs.Prepared.Rows.{found_by_row, last_position, name_bytes, row_at};
 ghost use Rattle.interpolator.specs.Prepared.Rows.{pair_names};
 
@@ -29,22 +30,25 @@ impl<'a, V> Clone for Row<'a, V> {
 
 impl<'a, V> Copy for Row<'a, V> {}
 
-/// This position, if it is the name's, or else the one that was found before.
-fn later(is: bool, position: usize, found: Option<usize>) -> Option<usize>
-    ensures { result ≡ (if is then Some position else found) }
+/// Whether a text is this name.
+fn is_name(own: &String, name: &str) -> bool
+    ensures { result ≡ bytes_eq name.now (string_bytes own.now) }
 {
-    if is { Some(position) } else { found }
+    name == own.as_str()
 }
 
 /// The last position of a name.
 pub(crate) fn last_position(names: &[String], name: &str) -> Option<usize>
     ensures { result ≡ last_position (name_bytes names.now) name.now }
 {
-    let mut found = None;
-    for (i, own) in names.iter().enumerate() {
-        found = later(name == own.as_str(), i, found);
+    let mut left = names;
+    while let Some((own, before)) = left.split_last() {
+        if is_name(own, name) {
+            return Some(before.len());
+        }
+        left = before;
     }
-    found
+    None
 }
 
 /// A row, and the names of its positions.
@@ -77,7 +81,7 @@ pub(crate) fn names_of<'a, V>(
 ) -> Result<Vec<String>, AllocError>
     ensures names { IfOk result (λ names. name_bytes names.items ≡ pair_names pairs.now) }
 {
-    let mut names = Vec::new(alloc);
+    let mut names = Vec::with_capacity(alloc, pairs.len())?;
     for pair in pairs {
         names.push(String::from_str(alloc, pair.0)?)?;
     }

@@ -36,6 +36,6 @@ pub(crate) enum Step {
     Plain(usize, usize),
     /// The value at a position, as it is asked.
     Under(usize, Box<Asked>),
-    /// What a piece means: a list, or an argument without a position.
-    Whole(Box<Piece>),
+    /// What a piece means that is kept alone: a list, or an argument without a position.
+    Whole(Box<Vec<Piece>>),
 }

@@ -33,8 +33,8 @@ pub(crate) fn push_arguments<'t>(
     Ok(())
 }
 
-/// Adds the argument that begins here, after its brace, and those of its groups. Returns what stands
-/// after it.
+/// Adds the argument that begins here, after its brace, and those of its groups. Returns what
+/// follows it.
 #[cycle(arguments)]
 fn push_argument<'t>(
     alloc: Global,
@@ -58,7 +58,7 @@ fn push_argument<'t>(
     }
 }
 
-/// Adds the arguments of an item format and of a join, where what is asked for has them.
+/// Adds the arguments of an item format and of a join, if what is asked for has them.
 #[cycle(arguments)]
 fn push_groups<'t>(
     alloc: Global,
@@ -81,7 +81,7 @@ fn push_groups<'t>(
     }
 }
 
-/// Adds the arguments of a group, where there is one.
+/// Adds the arguments of a group, if there is one.
 #[cycle(arguments)]
 fn push_group<'t>(
     alloc: Global,

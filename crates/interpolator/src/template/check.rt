@@ -1,6 +1,6 @@
 //! The faults that pieces have in every context.
 ghost use Rattle.std.specs.Prelude.{◌≡◌, option_map};
-ghost use Rattle.interpolator_syntax.specs.Faults.{answered, fault};
+ghost use Rattle.interpolator_syntax.specs.Faults.{result_answer, fault};
 ghost use Rattle.interpolator.specs.Template.NodeChecks.{first_fault, visit_faults};
 ghost use Rattle.interpolator.specs.Template.NodeChecks.{stored_own_fault, stored_end_fault};
 
@@ -12,7 +12,7 @@ use interpolator_syntax::{Error, ParseError};
 
 /// What a piece has by itself: that it is broken, or what its spec asks of a list.
 pub(crate) fn check_own(piece: &Piece) -> Result<(), Error>
-    ensures own { answered result ≡ option_map fault (stored_own_fault piece.now) }
+    ensures own { result_answer result ≡ option_map fault (stored_own_fault piece.now) }
 {
     match &piece.form {
         Form::List(_) if forbids_list(&piece.spec) => {
@@ -25,7 +25,7 @@ pub(crate) fn check_own(piece: &Piece) -> Result<(), Error>
 
 /// That an argument which was read is not closed.
 pub(crate) fn check_end(piece: &Piece) -> Result<(), Error>
-    ensures end { answered result ≡ option_map fault (stored_end_fault piece.now) }
+    ensures end { result_answer result ≡ option_map fault (stored_end_fault piece.now) }
 {
     match &piece.form {
         Form::Text => Ok(()),
@@ -42,7 +42,7 @@ impl Visitor for Check {
     type Stop = Error;
 
     ghost step = { λ text old visit new answer.
-        answered answer ≡ option_map fault (first_fault (visit_faults visit)) };
+        result_answer answer ≡ option_map fault (first_fault (visit_faults visit)) };
 
     fn enter(&mut self, _text: &str, piece: &Piece, _spot: Spot) -> Result<(), Error> {
         check_own(piece)

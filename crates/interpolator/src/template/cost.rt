@@ -1,14 +1,14 @@
 //! What pieces can cost at most, within limits of the values that they are written with.
 ghost use Rattle.std.specs.Prelude.{◌≡◌, ◌+◌, ◌*◌, ◌-◌, length, option_map, Some, true};
 ghost use Rattle.std.specs.Str.{chars};
-ghost use Rattle.interpolator_render.specs.Lengths.{capped};
+ghost use Rattle.interpolator_render.specs.Lengths.{usize_count};
 ghost use Rattle.interpolator_eval.specs.Meaning.Limits.{most_chosen, most_from_end};
 ghost use Rattle.interpolator_syntax.specs.Nodes.{as_forest};
 ghost use Rattle.interpolator.specs.Template.NodeCosts.{no_cost, piece_cost, then_cost, item_cost};
 ghost use Rattle.interpolator.specs.Template.NodeCosts.{items_cost, padded_cost, list_cost};
 ghost use Rattle.interpolator.specs.Template.NodeCosts.{value_cost, held_cost, node_cost};
 ghost use Rattle.interpolator.specs.Template.NodeCosts.{item_branch_cost, join_branch_cost};
-ghost use Rattle.interpolator.specs.Template.NodeCosts.{forest_cost, capped_cost};
+ghost use Rattle.interpolator.specs.Template.NodeCosts.{forest_cost, usize_cost};
 ghost use Rattle.interpolator.specs.Template.Stored.{node_of, nodes_of, node_whole, forest_whole};
 ghost use Rattle.interpolator.specs.Template.Stored.{branch_of, held_of};
 ghost use Rattle.interpolator.specs.declared.template.piece.Piece.TheViews.{out-Piece};
@@ -69,7 +69,7 @@ fn piece_cost(characters: usize) -> Cost
 
 /// One after the other.
 fn then_cost(first: Cost, next: Cost) -> Cost
-    ensures { result ≡ capped_cost (then_cost first next) }
+    ensures { result ≡ usize_cost (then_cost first next) }
 {
     Cost {
         characters: first.characters.saturating_add(next.characters),
@@ -91,7 +91,7 @@ fn item_cost(format: Cost) -> Cost
 
 /// So many items, and the join between two of them.
 fn repeated(count: usize, item: usize, join: usize) -> usize
-    ensures { result ≡ capped (count * item + (count - 1) * join) }
+    ensures { result ≡ usize_count (count * item + (count - 1) * join) }
 {
     let joins = count.saturating_sub(1).saturating_mul(join);
     count.saturating_mul(item).saturating_add(joins)
@@ -99,7 +99,7 @@ fn repeated(count: usize, item: usize, join: usize) -> usize
 
 /// The items of a list, and the join between two of them.
 fn items_cost(count: usize, item: Cost, join: Cost) -> Cost
-    ensures { result ≡ capped_cost (items_cost count item join) }
+    ensures { result ≡ usize_cost (items_cost count item join) }
 {
     Cost {
         characters: repeated(count, item.characters, join.characters),
@@ -110,7 +110,7 @@ fn items_cost(count: usize, item: Cost, join: Cost) -> Cost
 
 /// The items of a list under its spec: with a width they are held in a buffer, and padded.
 fn padded_cost(width: Option<usize>, items: Cost) -> Cost
-    ensures { result ≡ capped_cost (padded_cost width items) }
+    ensures { result ≡ usize_cost (padded_cost width items) }
 {
     match width {
         Some(width) => Cost {
@@ -159,14 +159,14 @@ fn most_chosen(most: usize, range: Option<Range>) -> usize
 
 /// A value under a trait and a spec.
 fn value_cost(limits: &Limits, t: Trait, spec: &Spec) -> Cost
-    ensures { result ≡ capped_cost (value_cost limits.now t spec.now) }
+    ensures { result ≡ usize_cost (value_cost limits.now t spec.now) }
 {
     piece_cost(most_written(t, spec, limits.text))
 }
 
 /// A list of which a range chooses the items: its argument, and its items.
 fn list_cost(limits: &Limits, range: Option<Range>, spec: &Spec, item: Cost, join: Cost) -> Cost
-    ensures { result ≡ capped_cost (list_cost limits.now range spec.now item join) }
+    ensures { result ≡ usize_cost (list_cost limits.now range spec.now item join) }
 {
     let items = items_cost(most_chosen(limits.items, range), item, join);
     then_cost(piece_cost(0), padded_cost(spec.width, items))
@@ -183,7 +183,7 @@ fn char_count(text: &str) -> usize
 /// What a piece holds, by what an item and the join cost.
 fn held_cost(text: &str, piece: &Piece, limits: &Limits, item: Cost, join: Cost) -> Cost
     requires whole { node_whole (node_of text.now piece.now) ≡ true }
-    ensures { option_map (λ held. capped_cost (held_cost limits.now held item join))
+    ensures { option_map (λ held. usize_cost (held_cost limits.now held item join))
         (held_of text.now piece.now) ≡ Some result }
 {
     match &piece.form {
@@ -200,7 +200,7 @@ fn held_cost(text: &str, piece: &Piece, limits: &Limits, item: Cost, join: Cost)
 pub(crate) fn cost_of(text: &str, pieces: &[Piece], limits: &Limits) -> Cost
     requires whole { forest_whole (as_forest (nodes_of text.now pieces.now)) ≡ true }
     ensures { result
-        ≡ capped_cost (forest_cost limits.now (as_forest (nodes_of text.now pieces.now))) }
+        ≡ usize_cost (forest_cost limits.now (as_forest (nodes_of text.now pieces.now))) }
 {
     let mut cost = no_cost();
     for piece in pieces {
@@ -213,7 +213,7 @@ pub(crate) fn cost_of(text: &str, pieces: &[Piece], limits: &Limits) -> Cost
 #[cycle(cost)]
 fn cost_of_piece(text: &str, piece: &Piece, limits: &Limits) -> Cost
     requires whole { node_whole (node_of text.now piece.now) ≡ true }
-    ensures { result ≡ capped_cost (node_cost limits.now (node_of text.now piece.now)) }
+    ensures { result ≡ usize_cost (node_cost limits.now (node_of text.now piece.now)) }
 {
     let item = cost_of_item(text, piece, limits);
     let join = cost_of_join(text, piece, limits);
@@ -224,7 +224,7 @@ fn cost_of_piece(text: &str, piece: &Piece, limits: &Limits) -> Cost
 #[cycle(cost)]
 fn cost_of_item(text: &str, piece: &Piece, limits: &Limits) -> Cost
     requires whole { node_whole (node_of text.now piece.now) ≡ true }
-    ensures { result ≡ capped_cost
+    ensures { result ≡ usize_cost
         (item_branch_cost limits.now (branch_of text.now (out-Piece piece.now).item)) }
 {
     match &piece.item {
@@ -233,11 +233,11 @@ fn cost_of_item(text: &str, piece: &Piece, limits: &Limits) -> Cost
     }
 }
 
-/// What stands between two items of a piece costs.
+/// What comes between two items of a piece costs.
 #[cycle(cost)]
 fn cost_of_join(text: &str, piece: &Piece, limits: &Limits) -> Cost
     requires whole { node_whole (node_of text.now piece.now) ≡ true }
-    ensures { result ≡ capped_cost
+    ensures { result ≡ usize_cost
         (join_branch_cost limits.now (branch_of text.now (out-Piece piece.now).join)) }
 {
     match &piece.join {

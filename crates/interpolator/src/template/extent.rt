@@ -47,7 +47,7 @@ impl Visitor for Widest {
     }
 }
 
-/// In how many groups the pieces of a group stand whose argument stands in `depth`; 0 without one.
+/// In how many groups the pieces of a group are whose argument is in `depth`; 0 without one.
 fn inner_depth(group: &Option<Vec<Piece>>, depth: usize) -> usize
     requires { IsSome group.now → depth + 1 < 2 ^ 64 }
     ensures { (bs : List ℕ) → result ≡ inner_depth depth (branch_of bs group.now) }
@@ -58,7 +58,7 @@ fn inner_depth(group: &Option<Vec<Piece>>, depth: usize) -> usize
     }
 }
 
-/// In how many groups the deepest group of pieces stands, itself among them.
+/// In how many groups the deepest group of pieces is, itself among them.
 #[derive(Drop)]
 pub(crate) struct Deepest(pub(crate) usize);
 

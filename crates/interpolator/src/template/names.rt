@@ -1,10 +1,9 @@
 //! The names that pieces ask.
-ghost use Rattle.std.specs.Prelude.{◌≡◌, ◌++◌, IfOk, IfSome, Some, true, option_map};
+ghost use Rattle.std.specs.Prelude.{◌≡◌, ◌++◌, IfOk, Some, true, option_map};
 ghost use Rattle.std.specs.Str.{chars};
-ghost use Rattle.interpolator.specs.Template.NodeNames.{context_names, held_asks, name_list};
-ghost use Rattle.interpolator.specs.Template.NodeNames.{name_texts, visit_asks};
+ghost use Rattle.interpolator_eval.specs.Meaning.AskedNames.{context_names, held_asks};
+ghost use Rattle.interpolator.specs.Template.NodeNames.{name_list, name_texts, visit_asks};
 ghost use Rattle.interpolator.specs.Template.Stored.{held_of, node_of, node_whole};
-ghost use Rattle.interpolator.specs.Template.StoredMeanings.{stored_part};
 
 use crate::template::piece::{Form, Piece};
 use crate::template::walk::{Spot, Visitor};
@@ -13,9 +12,8 @@ use std::alloc::{AllocError, Global};
 
 /// A name, but for the empty one in an item format, which is the item.
 fn context_name(name: &str, in_item: bool) -> Option<&str>
-    ensures names { name_list (option_map (λ name. chars name.now) result)
+    ensures { name_list (option_map (λ name. chars name.now) result)
         ≡ context_names in_item (chars name.now) }
-    ensures same { IfSome result (λ found. found.now ≡ name.now) }
 {
     if in_item && name.is_empty() {
         return None;
@@ -23,12 +21,11 @@ fn context_name(name: &str, in_item: bool) -> Option<&str>
     Some(name)
 }
 
-/// The name that a piece asks, where it is an argument.
-pub(crate) fn asked_name<'t>(text: &'t str, piece: &Piece, in_item: bool) -> Option<&'t str>
+/// The name that a piece asks, if it is an argument.
+fn asked_name<'t>(text: &'t str, piece: &Piece, in_item: bool) -> Option<&'t str>
     requires { node_whole (node_of text.now piece.now) ≡ true }
-    ensures asked { name_list (option_map (λ name. chars name.now) result)
+    ensures { name_list (option_map (λ name. chars name.now) result)
         ≡ held_asks in_item (held_of text.now piece.now) }
-    ensures part { IfSome result (λ name. Some (chars name.now) ≡ stored_part text.now piece.now) }
 {
     match &piece.form {
         Form::Text => None,

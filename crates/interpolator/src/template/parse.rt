@@ -12,7 +12,7 @@ ghost use Rattle.interpolator_syntax.specs.Groups.{group_of};
 ghost use Rattle.interpolator_syntax.specs.Pieces.{argument_from, broken};
 ghost use Rattle.interpolator_syntax.specs.SpecTexts.{of_value, of_list, plain_spec};
 ghost use Rattle.interpolator_syntax.specs.Tokens.{argument};
-ghost use Rattle.interpolator_syntax.specs.Nodes.{nodes, node, no_branch, written, piece_node};
+ghost use Rattle.interpolator_syntax.specs.Nodes.{nodes, node, no_branch, text_content, piece_node};
 ghost use Rattle.interpolator_syntax.specs.Nodes.{token_node};
 ghost use Rattle.interpolator.specs.Template.Stored.{StandFor, Pushed, GroupStands, part, node_of};
 ghost use Rattle.interpolator.specs.Template.Stored.{stored_held, range_of};
@@ -27,11 +27,10 @@ use interpolator_syntax::{
 };
 use std::alloc::{AllocError, Global};
 
-/// A piece that is written as it stands, from its first byte up to `to`.
-#[inline(always)]
+/// A piece that is written as it is, from its first byte up to `to`.
 fn text_piece(place: usize, end: usize, kind: PieceKind, to: usize) -> Piece
     ensures node { (bs : List ℕ) → node_of bs result
-        ≡ node place end kind (option_map (λ cs. written place cs) (part bs place to))
+        ≡ node place end kind (option_map (λ cs. text_content place cs) (part bs place to))
         no_branch no_branch }
 {
     Piece {
@@ -49,7 +48,6 @@ fn text_piece(place: usize, end: usize, kind: PieceKind, to: usize) -> Piece
 }
 
 /// An argument that is a name alone, from its brace at `place` up to `end`.
-#[inline(always)]
 fn name_piece(place: usize, end: usize, named: ArgumentName<'_>) -> Piece
     ensures node { (bs : List ℕ) → node_of bs result
         ≡ node place end PieceKind.Closed (stored_held bs place named.entry.place
@@ -70,7 +68,7 @@ fn name_piece(place: usize, end: usize, named: ArgumentName<'_>) -> Piece
 }
 
 /// A range in a box of its own, since few lists have one.
-fn boxed(alloc: Global, range: Option<Range>) -> Result<Option<Box<Range>>, AllocError>
+pub(crate) fn boxed(alloc: Global, range: Option<Range>) -> Result<Option<Box<Range>>, AllocError>
     ensures { IfOk result (λ b. range_of b ≡ range) }
 {
     match range {
@@ -89,7 +87,7 @@ fn push_piece(pieces: &mut Vec<Piece>, piece: Piece) -> Result<(), AllocError>
     Ok(())
 }
 
-/// What stands after all of the text.
+/// What follows all of the text.
 pub(crate) fn skip_all(here: Cursor<'_>) -> Cursor<'_>
     ensures { at result ≡ all_after (at here.entry) }
 {
@@ -100,8 +98,7 @@ pub(crate) fn skip_all(here: Cursor<'_>) -> Cursor<'_>
     }
 }
 
-/// How an argument ends whose spec ends here, and what stands after it.
-#[inline(always)]
+/// How an argument ends whose spec ends here, and what follows it.
 pub(crate) fn ending(end: Cursor<'_>) -> (PieceKind, Cursor<'_>)
     ensures kind { result.0 ≡ ending_kind (strip close_brace (at end.entry)) }
     ensures rest { at result.1 ≡ ending_rest (at end.entry) (strip close_brace (at end.entry)) }
@@ -115,7 +112,7 @@ pub(crate) fn ending(end: Cursor<'_>) -> (PieceKind, Cursor<'_>)
 /// For how many pieces of a format there is room at the beginning, at most.
 const MOST_ROOM: usize = 32;
 
-/// The same of a group, most of which have few pieces.
+/// For how many pieces of a group there is room: most have few.
 const MOST_GROUP_ROOM: usize = 4;
 
 /// For how many pieces of a text there is room at the beginning: most have two bytes and more.
@@ -132,7 +129,6 @@ fn room_for(text: Cursor<'_>) -> usize
 }
 
 /// No pieces yet, with room for some.
-#[inline(always)]
 fn no_pieces(alloc: Global, text: Cursor<'_>) -> Result<Vec<Piece>, AllocError>
     ensures none { IfOk result (λ pieces. pieces.items ≡ []) }
     ensures most { IfOk result (λ pieces. vec_capacity pieces ≤ 32) }
@@ -171,10 +167,9 @@ pub(crate) fn parse_pieces(alloc: Global, text: Cursor<'_>) -> Result<Vec<Piece>
     Ok(pieces)
 }
 
-/// Adds the argument that begins here, after its brace at `place`, or its fault. Returns what stands
-/// after it.
+/// Adds the argument that begins here, after its brace at `place`, or its fault. Returns what
+/// follows it.
 #[cycle(parse)]
-#[inline(always)]
 fn push_argument<'t>(
     alloc: Global,
     pieces: &mut Vec<Piece>,
@@ -199,7 +194,6 @@ fn push_argument<'t>(
 
 /// Adds the argument that begins here and has that name, with more after it, or its fault.
 #[cycle(parse)]
-#[inline(always)]
 fn push_asked<'t>(
     alloc: Global,
     pieces: &mut Vec<Piece>,
@@ -226,7 +220,6 @@ fn push_asked<'t>(
 
 /// Adds the argument that begins here and has that name, of which this is asked, up to `end`.
 #[cycle(parse)]
-#[inline(always)]
 fn push_taken<'t>(
     alloc: Global,
     pieces: &mut Vec<Piece>,
@@ -250,7 +243,6 @@ fn push_taken<'t>(
 }
 
 /// Adds an argument that asks for a value under a trait.
-#[inline(always)]
 fn push_value<'t>(
     pieces: &mut Vec<Piece>,
     place: usize,
@@ -325,7 +317,7 @@ fn push_list<'t>(
     Ok(rest)
 }
 
-/// The pieces of a group, where there is one.
+/// The pieces of a group, if there is one.
 #[cycle(parse)]
 fn parse_group(alloc: Global, group: Option<Group<'_>>) -> Result<Option<Vec<Piece>>, AllocError>
     ensures stands { IfOk result (λ xs. GroupStands xs (option_map group_of group.entry)) }

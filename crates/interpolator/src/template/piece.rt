@@ -18,8 +18,7 @@ pub(crate) enum Form {
     Broken(Box<ArgumentFault>),
 }
 
-/// A piece of a format: where it stands and what it is, and under a list argument the pieces of
-/// its groups.
+/// A piece of a format: its place and its kind, and for a list argument the pieces of its groups.
 ///
 /// Places count bytes from the beginning of the format, also those of pieces in groups.
 ///
@@ -39,9 +38,9 @@ pub struct Piece {
     pub end: usize,
     /// What it is.
     pub kind: PieceKind,
-    /// The pieces of a list's item format; none where no such group was read.
+    /// The pieces of a list's item format; none if no such group was read.
     pub item: Option<Vec<Piece>>,
-    /// The pieces of a list's join; none where no such group was read.
+    /// The pieces of a list's join; none if no such group was read.
     pub join: Option<Vec<Piece>>,
     // the text that is written, or the name: its first byte, and the byte after its last
     pub(crate) from: usize,

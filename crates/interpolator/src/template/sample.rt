@@ -3,8 +3,8 @@ ghost use Rattle.std.specs.Prelude.{◌≡◌, ◌+◌, ◌<◌, ◌≤◌, ◌^
 ghost use Rattle.interpolator_render.specs.declared.view.Trait.TheVariants.{Display};
 ghost use Rattle.interpolator_syntax.specs.SpecTexts.{plain_spec};
 ghost use Rattle.std.specs.Str.{chars};
-ghost use Rattle.interpolator_syntax.specs.Faults.{answered};
-ghost use Rattle.interpolator_syntax.specs.Nodes.{as_forest, bare_value, bare_list};
+ghost use Rattle.interpolator_syntax.specs.Faults.{result_answer};
+ghost use Rattle.interpolator_syntax.specs.Nodes.{as_forest, target_value, target_list};
 ghost use Rattle.interpolator_syntax.specs.declared.range.Range.{Range};
 ghost use Rattle.interpolator_render.specs.declared.view.Spec.{Spec};
 ghost use Rattle.interpolator_eval.specs.Meaning.Samples.{sample_of, may_stand, items_below};
@@ -22,7 +22,7 @@ use crate::template::check::{check_end, check_own};
 use crate::template::piece::{Form, Piece};
 use crate::template::telling::Telling;
 use crate::tree::name_of;
-use interpolator_eval::{Candidates, Context, Items, Need, SampleScope};
+use interpolator_eval::{Candidates, Context, Items, Need, SampleEnvironment};
 use interpolator_render::{Spec, Trait, Value};
 use interpolator_syntax::Error;
 use std::fmt;
@@ -31,15 +31,15 @@ use std::fmt;
 #[cycle(sample)]
 pub(crate) fn tell_pieces<'a, C: Context>(
     telling: &mut Telling,
-    sample: &SampleScope<'a, C, C::Object>,
+    sample: &SampleEnvironment<'a, C, C::Object>,
     text: &str,
     pieces: &[Piece],
 ) -> Result<(), Error>
     requires whole { forest_whole (as_forest (nodes_of text.now pieces.now)) ≡ true }
-    requires deep { level_in sample.now + forest_depth (as_forest (nodes_of text.now pieces.now)) + 1
-        < 2 ^ 64 }
+    requires deep { level_in sample.now
+        + forest_depth (as_forest (nodes_of text.now pieces.now)) + 1 < 2 ^ 64 }
     ensures tells { Tells (forest_faults_in C.Object.shows (sample_of C.finds sample.now)
-        (as_forest (nodes_of text.now pieces.now))) telling.old telling.new (answered result) }
+        (as_forest (nodes_of text.now pieces.now))) telling.old telling.new (result_answer result) }
 {
     for piece in pieces {
         tell_piece(telling, sample, text, piece)?;
@@ -51,14 +51,14 @@ pub(crate) fn tell_pieces<'a, C: Context>(
 #[cycle(sample)]
 fn tell_piece<'a, C: Context>(
     telling: &mut Telling,
-    sample: &SampleScope<'a, C, C::Object>,
+    sample: &SampleEnvironment<'a, C, C::Object>,
     text: &str,
     piece: &Piece,
 ) -> Result<(), Error>
     requires whole { node_whole (node_of text.now piece.now) ≡ true }
     requires deep { level_in sample.now + node_depth (node_of text.now piece.now) + 1 < 2 ^ 64 }
     ensures tells { Tells (node_faults_in C.Object.shows (sample_of C.finds sample.now)
-        (node_of text.now piece.now)) telling.old telling.new (answered result) }
+        (node_of text.now piece.now)) telling.old telling.new (result_answer result) }
 {
     tell_asked(telling, sample, text, piece)?;
     telling.tell_checked(check_own(piece))?;
@@ -70,13 +70,13 @@ fn tell_piece<'a, C: Context>(
 /// Tells what is missing of what a piece asks.
 fn tell_asked<'a, C: Context>(
     telling: &mut Telling,
-    sample: &SampleScope<'a, C, C::Object>,
+    sample: &SampleEnvironment<'a, C, C::Object>,
     text: &str,
     piece: &Piece,
 ) -> Result<(), Error>
     requires whole { node_whole (node_of text.now piece.now) ≡ true }
     ensures tells { Tells (asked_of C.Object.shows (sample_of C.finds sample.now)
-        (held_of text.now piece.now)) telling.old telling.new (answered result) }
+        (held_of text.now piece.now)) telling.old telling.new (result_answer result) }
 {
     let end = piece.spec_end;
     match &piece.form {
@@ -102,16 +102,16 @@ fn tell_asked<'a, C: Context>(
 /// `start` and whose spec ends at `end`.
 fn tell_value<'a, C: Context>(
     telling: &mut Telling,
-    sample: &SampleScope<'a, C, C::Object>,
+    sample: &SampleEnvironment<'a, C, C::Object>,
     start: usize,
     name: &str,
     t: Trait,
     spec: &Spec,
     end: usize,
 ) -> Result<(), Error>
-    ensures tells { Tells (found_faults C.Object.shows start (chars name.now) (bare_value t) spec.now end
-        (may_stand (sample_of C.finds sample.now) (chars name.now)))
-        telling.old telling.new (answered result) }
+    ensures tells { Tells (found_faults C.Object.shows start (chars name.now) (target_value t)
+        spec.now end (may_stand (sample_of C.finds sample.now) (chars name.now)))
+        telling.old telling.new (result_answer result) }
 {
     let Some(found) = sample.candidates(name) else {
         return telling.tell(sample.missing(name, start));
@@ -119,7 +119,7 @@ fn tell_value<'a, C: Context>(
     tell_values(telling, &found, t, spec, end)
 }
 
-/// Tells that a value has no text, or fails, of those that may stand under a name.
+/// Tells that a value has no text, or fails, of those that may be under a name.
 fn tell_values<'a, V: Value>(
     telling: &mut Telling,
     found: &Candidates<'a, V>,
@@ -128,7 +128,7 @@ fn tell_values<'a, V: Value>(
     end: usize,
 ) -> Result<(), Error>
     ensures tells { Tells (value_faults V.shows t spec.now end (candidates_of found.now))
-        telling.old telling.new (answered result) }
+        telling.old telling.new (result_answer result) }
 {
     let missing = found.lack(Need::Text(t, spec));
     telling.tell_if(missing, Error::MissingTraitImpl(t, end))?;
@@ -139,15 +139,15 @@ fn tell_values<'a, V: Value>(
 /// Tells what is missing under a name that is asked for a list.
 fn tell_list<'a, C: Context>(
     telling: &mut Telling,
-    sample: &SampleScope<'a, C, C::Object>,
+    sample: &SampleEnvironment<'a, C, C::Object>,
     start: usize,
     name: &str,
     end: usize,
 ) -> Result<(), Error>
     ensures tells { (range : Option Range) (spec : Spec)
-        → Tells (found_faults C.Object.shows start (chars name.now) (bare_list range) spec end
+        → Tells (found_faults C.Object.shows start (chars name.now) (target_list range) spec end
         (may_stand (sample_of C.finds sample.now) (chars name.now)))
-        telling.old telling.new (answered result) }
+        telling.old telling.new (result_answer result) }
 {
     let Some(found) = sample.candidates(name) else {
         return telling.tell(sample.missing(name, start));
@@ -158,7 +158,7 @@ fn tell_list<'a, C: Context>(
 
 /// The items that there may be of a piece, if it asks for a list.
 fn items_of<'a, C: Context>(
-    sample: &SampleScope<'a, C, C::Object>,
+    sample: &SampleEnvironment<'a, C, C::Object>,
     text: &str,
     piece: &Piece,
 ) -> Items<'a, C::Object>
@@ -176,20 +176,20 @@ fn items_of<'a, C: Context>(
 }
 
 /// Tells the faults of the item format of a piece with each item that there may be, or of the items
-/// where they have no format.
+/// if they have no format.
 #[cycle(sample)]
 fn tell_item<'a, C: Context>(
     telling: &mut Telling,
-    sample: &SampleScope<'a, C, C::Object>,
+    sample: &SampleEnvironment<'a, C, C::Object>,
     text: &str,
     piece: &Piece,
 ) -> Result<(), Error>
     requires whole { node_whole (node_of text.now piece.now) ≡ true }
-    requires deep { level_in sample.now + branch_depth (branch_of text.now (out-Piece piece.now).item)
-        + 1 < 2 ^ 64 }
+    requires deep { level_in sample.now
+        + branch_depth (branch_of text.now (out-Piece piece.now).item) + 1 < 2 ^ 64 }
     ensures tells { Tells (item_of C.Object.shows (sample_of C.finds sample.now)
         (held_of text.now piece.now) (branch_of text.now (out-Piece piece.now).item))
-        telling.old telling.new (answered result) }
+        telling.old telling.new (result_answer result) }
 {
     let items = items_of(sample, text, piece);
     match &piece.item {
@@ -205,32 +205,27 @@ fn tell_plain<'a, V: Value>(
     end: usize,
 ) -> Result<(), Error>
     ensures tells { Tells (value_faults V.shows Display plain_spec end (items_below items.entry))
-        telling.old telling.new (answered result) }
+        telling.old telling.new (result_answer result) }
 {
     let spec = Spec::default();
-    tell_values(
-        telling,
-        &Candidates::Each(items),
-        Trait::Display,
-        &spec,
-        end,
-    )
+    let each = Candidates::Each(items);
+    tell_values(telling, &each, Trait::Display, &spec, end)
 }
 
-/// Tells the faults of the join of a piece, where there is one.
+/// Tells the faults of the join of a piece, if it has one.
 #[cycle(sample)]
 fn tell_join<'a, C: Context>(
     telling: &mut Telling,
-    sample: &SampleScope<'a, C, C::Object>,
+    sample: &SampleEnvironment<'a, C, C::Object>,
     text: &str,
     piece: &Piece,
 ) -> Result<(), Error>
     requires whole { node_whole (node_of text.now piece.now) ≡ true }
-    requires deep { level_in sample.now + branch_depth (branch_of text.now (out-Piece piece.now).join)
-        + 1 < 2 ^ 64 }
+    requires deep { level_in sample.now
+        + branch_depth (branch_of text.now (out-Piece piece.now).join) + 1 < 2 ^ 64 }
     ensures tells { Tells (join_faults_in C.Object.shows (sample_of C.finds sample.now)
         (branch_of text.now (out-Piece piece.now).join))
-        telling.old telling.new (answered result) }
+        telling.old telling.new (result_answer result) }
 {
     match &piece.join {
         Some(pieces) => tell_pieces(telling, sample, text, pieces),

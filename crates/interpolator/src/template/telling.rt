@@ -1,6 +1,6 @@
 //! Where the faults of a format are told.
 ghost use Rattle.std.specs.Prelude.{◌≡◌, [], ◌∷◌, true, false, Some, Option, option_map};
-ghost use Rattle.interpolator_syntax.specs.Faults.{answered, answer_of, fault, no_memory, Fault};
+ghost use Rattle.interpolator_syntax.specs.Faults.{result_answer, answer_of, fault, no_memory, Fault};
 ghost use Rattle.interpolator.specs.Template.NodeChecks.{fault_list};
 ghost use Rattle.interpolator.specs.Template.NodeSamples.{fault_if};
 ghost use Rattle.interpolator.specs.Template.Telling.{Tells, kept_by, is_no_memory};
@@ -15,17 +15,11 @@ pub(crate) struct Telling {
     kept: Vec<Error>,
 }
 
+/// The error is that memory was refused.
 fn is_no_memory(error: &Error) -> bool
     ensures { result ≡ is_no_memory (answer_of error.now) }
 {
-    match error {
-        Error::NoMemory => true,
-        Error::MissingTraitImpl(_, _) => false,
-        Error::Fmt(_, _) => false,
-        Error::Parse(_) => false,
-        Error::MissingValue(_, _) => false,
-        Error::UnsupportedOption(_, _, _) => false,
-    }
+    matches!(error, Error::NoMemory)
 }
 
 impl Telling {
@@ -53,8 +47,8 @@ impl Telling {
     /// Tells a fault. That there is no memory is always answered.
     pub(crate) fn tell(&mut self, error: Error) -> Result<(), Error>
         ensures tells { (f : Fault) → answer_of error ≡ fault f
-            → Tells (f ∷ []) self.old self.new (answered result) }
-        ensures refused { answer_of error ≡ no_memory → answered result ≡ Some no_memory }
+            → Tells (f ∷ []) self.old self.new (result_answer result) }
+        ensures refused { answer_of error ≡ no_memory → result_answer result ≡ Some no_memory }
     {
         if self.only_first {
             return Err(error);
@@ -69,7 +63,7 @@ impl Telling {
     /// Tells a fault, if it is so.
     pub(crate) fn tell_if(&mut self, holds: bool, error: Error) -> Result<(), Error>
         ensures { (f : Fault) → answer_of error ≡ fault f
-            → Tells (fault_if holds f) self.old self.new (answered result) }
+            → Tells (fault_if holds f) self.old self.new (result_answer result) }
     {
         if holds {
             return self.tell(error);
@@ -79,8 +73,8 @@ impl Telling {
 
     /// Tells what a check has answered, if it is a fault.
     pub(crate) fn tell_checked(&mut self, checked: Result<(), Error>) -> Result<(), Error>
-        ensures { (o : Option Fault) → answered checked ≡ option_map fault o
-            → Tells (fault_list o) self.old self.new (answered result) }
+        ensures { (o : Option Fault) → result_answer checked ≡ option_map fault o
+            → Tells (fault_list o) self.old self.new (result_answer result) }
     {
         match checked {
             Ok(()) => Ok(()),

@@ -12,7 +12,7 @@ ghost use Rattle.interpolator.specs.Template.Stored.{node_whole, branch_whole, f
 
 use crate::template::piece::Piece;
 
-/// Where a piece stands.
+/// Where a piece is.
 #[derive(Clone, Copy)]
 pub(crate) struct Spot {
     /// In how many groups.
@@ -23,7 +23,7 @@ pub(crate) struct Spot {
 
 /// Who is shown the pieces of a format, in order and at every depth of groups.
 pub(crate) trait Visitor {
-    /// What it answers where it wants to see no more.
+    /// What it answers if it wants to see no more.
     type Stop;
 
     // what it does at a visit, in a text: how it changes, and whether it stops there
@@ -81,7 +81,7 @@ fn walk_piece<V: Visitor>(
     visitor.leave(text, piece, spot)
 }
 
-/// Shows the visitor the pieces of a group, where there is one, whose argument stands here.
+/// Shows the visitor the pieces of a group, if there is one, whose argument is here.
 #[cycle(walk)]
 fn walk_group<V: Visitor>(
     visitor: &mut V,

@@ -12,18 +12,18 @@ use Rattle.interpolator_syntax.specs.At.{At}
 use Rattle.interpolator_syntax.specs.Faults.{Answer}
 use Rattle.interpolator_eval.specs.Slots.{Slots}
 use Rattle.interpolator_eval.specs.Meaning.AskedNames.{asked_names, AgreeOn}
-use Rattle.interpolator_eval.specs.Meaning.Environments.{Environment, is_among, within, inner_or, kept}
+use Rattle.interpolator_eval.specs.Meaning.Environments.{Environment, is_among, within, inner_or, names_among}
 use Rattle.interpolator_eval.specs.Meaning.Environments.{cut}
 use Rattle.interpolator_eval.specs.Meaning.Meanings.{means}
 use Rattle.interpolator_eval.specs.Meaning.Outcomes.{Outcome}
-use Rattle.interpolator_eval.proofs.MeaningLemmas.DepthLemmas.{means_same}
+use Rattle.interpolator_eval.proofs.MeaningLemmas.EqualLemmas.{means_same}
 
 -- ---- an environment that is cut
 
 or_right : (b m : Bool) → m ≡ true → (b || m) ≡ true
 or_right b m h = grind arith
 
--- whether a name stands among those that are kept: in both lists
+-- whether a name is among those that are kept: in both lists
 one_kept : (b m p t : Bool) → (b ≡ true → p ≡ t)
     → cond t (b || (m && p)) (m && p) ≡ ((b || m) && p)
 one_kept b m p t h = grind arith
@@ -33,10 +33,10 @@ among_if : (n x : List ℕ) (xs : List (List ℕ)) (t : Bool)
 among_if n x xs t = grind arith
 
 among_kept : (n : List ℕ) (own names : List (List ℕ))
-    → is_among n (kept (Some own) names) ≡ (is_among n names && is_among n own)
+    → is_among n (names_among (Some own) names) ≡ (is_among n names && is_among n own)
 among_kept n own [] = refl
 among_kept n own (x ∷ xs) =
-    among_if n x (kept (Some own) xs) (is_among x own)
+    among_if n x (names_among (Some own) xs) (is_among x own)
     ∙ ap (λ m. cond (is_among x own) (bytes_eq n x || m) m) (among_kept n own xs)
     ∙ one_kept (bytes_eq n x) (is_among n xs) (is_among n own) (is_among x own)
     (λ h. ap (λ y. is_among y own) ((bytes_eq-Decides n x).0 h))
@@ -44,7 +44,7 @@ among_kept n own (x ∷ xs) =
 module _ {X : Type 0} where
   within_kept : (own : Option (List (List ℕ))) (finds : List ℕ → Option (Slots X))
       (names : List (List ℕ)) (n : List ℕ) → is_among n names ≡ true
-      → within own finds n ≡ within (Some (kept own names)) finds n
+      → within own finds n ≡ within (Some (names_among own names)) finds n
   within_kept None finds names n h = rw h refl
   within_kept (Some own) finds names n h =
       sym (ap (λ t. cond t (finds n) None)
@@ -62,7 +62,7 @@ module _ {X : Type 0} where
   agree_cut e all [] h = tt
   agree_cut e all (x ∷ xs) h =
       let here : is_among x (x ∷ xs) ≡ true = rw ((bytes_eq-Decides x x).1 refl) refl in (
-        inner_same e.inner (within e.names e.finds) (within (Some (kept e.names all)) e.finds) x
+        inner_same e.inner (within e.names e.finds) (within (Some (names_among e.names all)) e.finds) x
             (within_kept e.names e.finds all x (h x here)),
         agree_cut e all xs (λ n k. h n (or_right (bytes_eq n x) (is_among n xs) k)),
       )

@@ -17,8 +17,8 @@ pub places_ordered : (n : ℕ) (range : Option Range)
     → (chosen_places n range).0 ≤ (chosen_places n range).1
 places_ordered n range = (in_order_and_inside n range).0
 
--- an index in a list of n items lies between places that are cut exactly where it lies between
--- those that are not
+-- an index in a list of n items lies between places that are cut exactly if it lies between those
+-- that are not
 pub between_cut : (n k lower upper : ℕ) → k < n
     → ((min lower (min upper n) ≤ k) × (k < min upper n)) ↔ ((lower ≤ k) × (k < upper))
 between_cut n k lower upper h = (
@@ -26,7 +26,7 @@ between_cut n k lower upper h = (
   λ both. (omega (arith, both.0, both.1), omega (arith, both.0, both.1)),
 )
 
--- where there is no such index, the places are one
+-- if there is no such index, the places are one
 pub none_between : (n lower upper : ℕ) → ((k : ℕ) → k < n → lower ≤ k → k < upper → ⊥)
     → ◌≡◌ {A = ℕ × ℕ} (min lower (min upper n), min upper n) (min upper n, min upper n)
 none_between n lower upper h =
@@ -47,7 +47,7 @@ map-chosen f range xs =
     let taken = take places.1 xs in
     rw (length-map xs f, take-map f places.1 xs, drop-map f places.0 taken) refl
 
--- a list is what stands before two places in it, between them and after them
+-- a list is what comes before two places in it, between them and after them
 split_at : {A : Type 0} (i j : ℕ) (xs : List A) → i ≤ j → j ≤ length xs
     → (front back : List A) × (xs ≡ front ++ (drop i (take j xs) ++ back))
     × (length front ≡ i) × (length front + length (drop i (take j xs)) ≡ j)

@@ -1,7 +1,6 @@
 -- Two contexts that give equal values under the names that a text asks give it one meaning.
-use Rattle.std.proofs.Common.{◌≡◌, ℕ, zero, suc, ◌<◌, Bool, true, false, cond, List, [], ◌∷◌, ◌++◌}
+use Rattle.std.proofs.Common.{◌≡◌, ℕ, zero, suc, Bool, true, false, cond, List, [], ◌∷◌, ◌++◌}
 use Rattle.std.proofs.Common.{length, take, drop, arith, refl, ap, ◌∙◌, sym, subst, Option, Some, None}
-use Rattle.std.proofs.Common.{codes}
 use Rattle.std.specs.Prelude.{⊤}
 use Rattle.interpolator_render.specs.declared.view.Trait.{Trait}
 use Rattle.interpolator_render.specs.declared.view.Trait.TheVariants as traits
@@ -9,34 +8,39 @@ use Rattle.interpolator_render.specs.declared.view.Spec.{Spec}
 use Rattle.interpolator_render.specs.Views.{Shown}
 use Rattle.interpolator_render.specs.Written.{Written}
 use Rattle.interpolator_syntax.specs.At.{At}
-use Rattle.interpolator_syntax.specs.Groups.{Group}
-use Rattle.interpolator_syntax.specs.Lists.{ListRequest}
-use Rattle.interpolator_syntax.specs.SpecTexts.{Kind, of_value, of_list, plain_spec}
-use Rattle.interpolator_syntax.specs.Arguments.{Argument}
-use Rattle.interpolator_syntax.specs.Pieces.{Piece, PieceKind, closed, unclosed, pieces}
-use Rattle.interpolator_syntax.specs.Faults.{Answer, parse, iter, expected}
+use Rattle.interpolator_syntax.specs.Faults.{Answer, parse, iter}
+use Rattle.interpolator_syntax.specs.Nodes.{Node, node, Branch, no_branch, branch, as_forest}
+use Rattle.interpolator_syntax.specs.Nodes.{Forest, no_nodes, nodes_and, nodes}
+use Rattle.interpolator_syntax.specs.Nodes.{Content, text_content, argument_content, fault_content}
+use Rattle.interpolator_syntax.specs.Nodes.{Target, target_value, target_list}
+use Rattle.interpolator_syntax.specs.SpecTexts.{plain_spec}
+use Rattle.interpolator_syntax.specs.declared.piece_kind.PieceKind.{PieceKind}
 use Rattle.interpolator_syntax.specs.declared.range.Range.{Range}
 use Rattle.interpolator_eval.specs.Slots.{Slots, SlotsList, bare, listed, no_slots, slots_and, values_of}
-use Rattle.interpolator_eval.specs.Slots.{slots_listed, items}
-use Rattle.interpolator_eval.specs.Meaning.AskedNames.{without_empty, group_asks, kind_asks, piece_asks}
-use Rattle.interpolator_eval.specs.Meaning.AskedNames.{pieces_ask, asked_names}
+use Rattle.interpolator_eval.specs.Slots.{Values, slot_at, slots_listed, items}
+use Rattle.interpolator_eval.specs.Meaning.AskedNames.{without_empty, held_asks, node_asks}
+use Rattle.interpolator_eval.specs.Meaning.AskedNames.{branch_asks}
+use Rattle.interpolator_eval.specs.Meaning.AskedNames.{forest_asks, asked_names, AgreeOn}
 use Rattle.interpolator_eval.specs.Meaning.Choices.{chosen_places, items_between, chosen_items}
-use Rattle.interpolator_eval.specs.Meaning.Environments.{Environment, given, bind}
+use Rattle.interpolator_eval.specs.Meaning.Environments.{Environment, slots_under, bind}
 use Rattle.interpolator_eval.specs.Meaning.EqualValues.{EqualSlot, EqualValues, EqualSlots, EqualItems}
 use Rattle.interpolator_eval.specs.Meaning.EqualValues.{EqualFound, EqualOn}
-use Rattle.interpolator_eval.specs.Meaning.Meanings.{Meaning, fault_alone, joined, view_means, value_means}
+use Rattle.interpolator_eval.specs.Meaning.Meanings.{Meaning, fault_alone, chain, view_means, value_means}
 use Rattle.interpolator_eval.specs.Meaning.Meanings.{forbids_list, padded_list, items_after}
-use Rattle.interpolator_syntax.specs.Groups.{inside}
-use Rattle.interpolator_eval.specs.Meaning.Meanings.{items_mean, item_means, join_means, list_means}
-use Rattle.interpolator_eval.specs.Meaning.Meanings.{kind_means, found_means, piece_means, pieces_mean}
-use Rattle.interpolator_eval.specs.Meaning.Meanings.{means_within, means}
+use Rattle.interpolator_eval.specs.Meaning.Meanings.{items_mean, listed_means, under_name}
+use Rattle.interpolator_eval.specs.Meaning.Meanings.{and_closed}
+use Rattle.interpolator_eval.specs.Meaning.Meanings.{bare_means, held_means, node_means, means}
+use Rattle.interpolator_eval.specs.Meaning.Meanings.{join_branch_means, item_branch_means}
+use Rattle.interpolator_eval.specs.Meaning.Meanings.{forest_means}
 use Rattle.interpolator_eval.specs.Meaning.Outcomes.{Finished}
-use Rattle.interpolator_syntax.proofs.SizeLemmas.{GroupIn, GroupIfIn, ListIn, KindIn}
-use Rattle.interpolator_syntax.proofs.SizeLemmas.{PieceIn, PiecesIn, pieces_in}
-use Rattle.interpolator_eval.proofs.MeaningLemmas.DepthLemmas.{asked_pieces}
-use Rattle.interpolator_eval.proofs.MeaningLemmas.RelatedLemmas.{bound_same}
+use Rattle.interpolator_eval.proofs.MeaningLemmas.AskedPieceLemmas.{branch_in_item}
 
-both_same : {m k l o : Meaning} → m ≡ k → l ≡ o → joined m l ≡ joined k o
+-- a name that is not empty means the same with any inner value
+pub bound_same : {X : Type 0} (e : Environment X) (t : Slots X) (c : ℕ) (cs : List ℕ)
+    → slots_under (bind e t) (c ∷ cs) ≡ slots_under e (c ∷ cs)
+bound_same e t c cs = grind arith
+
+both_same : {m k l o : Meaning} → m ≡ k → l ≡ o → chain m l ≡ chain k o
 both_same e h = cc
 
 by_test : (b : Bool) (m k l : Meaning) → k ≡ l → cond b m k ≡ cond b m l
@@ -44,7 +48,7 @@ by_test true m k l e = refl
 by_test false m k l e = e
 
 module _ {X Y : Type 0} (shows : X → Trait → Spec → Shown) (others : Y → Trait → Spec → Shown) where
-  -- ---- what stands under a name
+  -- ---- what is under a name
 
   value_equal :
       (t : Trait) (spec : Spec) (q : ℕ) (o : Option X) (k : Option Y)
@@ -159,93 +163,96 @@ module _ {X Y : Type 0} (shows : X → Trait → Spec → Shown) (others : Y →
   agree_bound e d t u [] k h = tt
   agree_bound e d t u ([] ∷ names) k h = (k, agree_bound e d t u names k h)
   agree_bound e d t u ((c ∷ cs) ∷ names) k h = (
-    subst (λ o. EqualFound shows others o (given (bind d u) (c ∷ cs))) (sym (bound_same e t c cs))
-        (subst (EqualFound shows others (given e (c ∷ cs))) (sym (bound_same d u c cs)) h.0),
+    subst (λ o. EqualFound shows others o (slots_under (bind d u) (c ∷ cs))) (sym (bound_same e t c cs))
+        (subst (EqualFound shows others (slots_under e (c ∷ cs))) (sym (bound_same d u c cs)) h.0),
     agree_bound e d t u names k h.1,
   )
 
   -- ---- a text
 
-  module _ (a : At) (run : Environment X → At → Meaning) (other : Environment Y → At → Meaning)
-      (same : (e : Environment X) (d : Environment Y) (g : Group) → GroupIn g a
-      → Agree e d (asked_names (inside g)) → run e (inside g) ≡ other d (inside g))
-      (e : Environment X) (d : Environment Y) where
-    item_equal : (q : ℕ) (o : Option Group) → GroupIfIn o a
-        → Agree e d (without_empty (group_asks asked_names o)) → (x : Slots X) (y : Slots Y)
-        → Equal x y → item_means shows run e q o x ≡ item_means others other d q o y
-    item_equal q (Some g) h k x y r =
-        same (bind e x) (bind d y) g h (agree_bound e d x y (asked_names (inside g)) r k)
-    item_equal q None h k x y r =
-        value_equal traits.Display plain_spec q _ _ (values_equal x y r traits.Display)
+  list_equal : (range : Option Range) (spec : Spec) (q : ℕ) (j k : Meaning) (f : Slots X → Meaning)
+      (g : Slots Y → Meaning) (o : Option (List (Slots X))) (p : Option (List (Slots Y))) → j ≡ k
+      → ((x : Slots X) (y : Slots Y) → Equal x y → f x ≡ g y) → EqualLists o p
+      → listed_means range spec q j f o ≡ listed_means range spec q k g p
+  list_equal range spec q j k f g None None joins each h = refl
+  list_equal range spec q j k f g (Some xs) (Some ys) joins each h =
+      by_test (forbids_list spec) (fault_alone (parse (iter q))) _ _
+      (ap (padded_list spec q)
+      (items_mean_equal j k f g joins each (chosen_items range xs) (chosen_items range ys)
+      (chosen_equal range xs ys h)))
+  list_equal range spec q j k f g None (Some ys) joins each h = absurd h
+  list_equal range spec q j k f g (Some xs) None joins each h = absurd h
 
-    join_equal : (o : Option Group) → GroupIfIn o a → Agree e d (group_asks asked_names o)
-        → join_means shows run e o ≡ join_means others other d o
-    join_equal (Some g) h k = same e d g h k
-    join_equal None h k = refl
+  bare_equal : (asked : Target) (spec : Spec) (q : ℕ) (j k : Meaning) (f : Slots X → Meaning)
+      (g : Slots Y → Meaning) (x : Slots X) (y : Slots Y) → j ≡ k
+      → ((x : Slots X) (y : Slots Y) → Equal x y → f x ≡ g y) → Equal x y
+      → bare_means shows asked spec q j f x ≡ bare_means others asked spec q k g y
+  bare_equal (target_value t) spec q j k f g x y joins each h =
+      value_equal t spec q _ _ (values_equal x y h t)
+  bare_equal (target_list range) spec q j k f g x y joins each h =
+      list_equal range spec q j k f g (items x) (items y) joins each (items_equal x y h)
 
-    list_equal : (l : ListRequest) (spec : Spec) (q : ℕ) (o : Option (List (Slots X)))
-        (p : Option (List (Slots Y))) → ListIn l a → EqualLists o p
-        → Agree e d (kind_asks asked_names (of_list l))
-        → list_means shows run e l spec q o ≡ list_means others other d l spec q p
-    list_equal l spec q None None h r k = refl
-    list_equal l spec q (Some xs) (Some ys) h r k =
-        let agree =
-        agree_each e d (without_empty (group_asks asked_names l.item))
-        (group_asks asked_names l.join) k in
-        by_test (forbids_list spec) (fault_alone (parse (iter q))) _ _
-        (ap (padded_list spec q)
-        (items_mean_equal _ _ (item_means shows run e q l.item)
-        (item_means others other d q l.item) (join_equal l.join h.join agree.1)
-        (item_equal q l.item h.item agree.0) (chosen_items l.range xs) (chosen_items l.range ys)
-        (chosen_equal l.range xs ys r)))
-    list_equal l spec q None (Some ys) h r k = absurd r
-    list_equal l spec q (Some xs) None h r k = absurd r
+  found_equal : (name : List ℕ) (start : ℕ) (means : Slots X → Meaning) (mean : Slots Y → Meaning)
+      (o : Option (Slots X)) (p : Option (Slots Y))
+      → ((x : Slots X) (y : Slots Y) → Equal x y → means x ≡ mean y) → EqualFound shows others o p
+      → under_name name start means o ≡ under_name name start mean p
+  found_equal name start means mean None None each h = refl
+  found_equal name start means mean (Some x) (Some y) each h = each x y h
+  found_equal name start means mean None (Some y) each h = absurd h
+  found_equal name start means mean (Some x) None each h = absurd h
 
-    kind_equal : (kind : Kind) (spec : Spec) (q : ℕ) (x : Slots X) (y : Slots Y) → KindIn kind a
-        → Equal x y → Agree e d (kind_asks asked_names kind)
-        → kind_means shows run e kind spec q x ≡ kind_means others other d kind spec q y
-    kind_equal (of_value t) spec q x y h r k =
-        value_equal t spec q _ _ (values_equal x y r t)
-    kind_equal (of_list l) spec q x y h r k =
-        list_equal l spec q (items x) (items y) h (items_equal x y r) k
+  held_equal : (e : Environment X) (d : Environment Y) (kind : PieceKind) (held : Content)
+      (j k : Meaning) (f : ℕ → Slots X → Meaning) (g : ℕ → Slots Y → Meaning) → j ≡ k
+      → ((q : ℕ) (x : Slots X) (y : Slots Y) → Equal x y → f q x ≡ g q y)
+      → Agree e d (held_asks false (Some held))
+      → held_means shows e kind held j f ≡ held_means others d kind held k g
+  held_equal e d kind (text_content from cs) j k f g joins each h = refl
+  held_equal e d kind (argument_content start name spec asked q) j k f g joins each h =
+      ap (and_closed kind q)
+      (found_equal name start (bare_means shows asked spec q j (f q))
+      (bare_means others asked spec q k (g q)) (slots_under e name) (slots_under d name)
+      (λ x y same. bare_equal asked spec q j k (f q) (g q) x y joins (each q) same) h.0)
+  held_equal e d kind (fault_content fault) j k f g joins each h = refl
 
-    found_equal : (start : ℕ) (x : Argument) (q : ℕ) (o : Option (Slots X)) (p : Option (Slots Y))
-        → KindIn x.kind a → EqualFound shows others o p → Agree e d (kind_asks asked_names x.kind)
-        → found_means shows run e start x q o ≡ found_means others other d start x q p
-    found_equal start x q None None h r k = refl
-    found_equal start x q (Some t) (Some u) h r k = kind_equal x.kind x.spec q t u h r k
-    found_equal start x q None (Some u) h r k = absurd r
-    found_equal start x q (Some t) None h r k = absurd r
+  mutual
+    node_equal : (x : Node) (e : Environment X) (d : Environment Y) → Agree e d (node_asks false x)
+        → node_means shows e x ≡ node_means others d x
+    node_equal (node place end kind None item join) e d h = refl
+    node_equal (node place end kind (Some held) item join) e d h =
+        let own = agree_each e d (held_asks false (Some held))
+        (branch_asks true item ++ branch_asks false join) h in
+        let groups = agree_each e d (branch_asks true item) (branch_asks false join) own.1 in
+        held_equal e d kind held (join_branch_means shows e join) (join_branch_means others d join)
+        (item_branch_means shows e item) (item_branch_means others d item)
+        (join_equal join e d groups.1) (item_equal item e d groups.0) own.0
 
-    piece_equal : (p : ℕ) (kind : PieceKind) → PieceIn kind a → Agree e d (piece_asks asked_names kind)
-        → piece_means shows run e p kind ≡ piece_means others other d p kind
-    piece_equal p (closed start x q) h k =
-        found_equal start x q (given e x.name) (given d x.name) h.kind k.0 k.1
-    piece_equal p (unclosed start x q) h k =
-        ap (λ m. joined m (fault_alone (parse (expected (codes "}") q))))
-        (found_equal start x q (given e x.name) (given d x.name) h.kind k.0 k.1)
-    piece_equal p kind h k = refl
+    join_equal : (b : Branch) (e : Environment X) (d : Environment Y)
+        → Agree e d (branch_asks false b)
+        → join_branch_means shows e b ≡ join_branch_means others d b
+    join_equal no_branch e d h = refl
+    join_equal (branch xs) e d h = forest_equal xs e d h
 
-    pieces_equal : (xs : List Piece) → PiecesIn xs a → Agree e d (pieces_ask asked_names xs)
-        → pieces_mean shows run e xs ≡ pieces_mean others other d xs
-    pieces_equal [] h k = refl
-    pieces_equal (x ∷ xs) h k =
-        let agree = agree_each e d (piece_asks asked_names x.kind) (pieces_ask asked_names xs) k in
-        both_same (piece_equal x.place x.kind h.0 agree.0) (pieces_equal xs h.2 agree.1)
+    item_equal : (b : Branch) (e : Environment X) (d : Environment Y)
+        → Agree e d (branch_asks true b) → (q : ℕ) (x : Slots X) (y : Slots Y) → Equal x y
+        → item_branch_means shows e b q x ≡ item_branch_means others d b q y
+    item_equal no_branch e d h q x y same =
+        value_equal traits.Display plain_spec q _ _ (values_equal x y same traits.Display)
+    item_equal (branch xs) e d h q x y same =
+        forest_equal xs (bind e x) (bind d y)
+        (agree_bound e d x y (forest_asks false xs) same
+        (subst (Agree e d) (branch_in_item (branch xs)) h))
 
-  deep_equal : (n : ℕ) (e : Environment X) (d : Environment Y) (a : At) → length a.text < n
-      → Agree e d (asked_names a) → means_within shows n e a ≡ means_within others n d a
-  deep_equal zero e d a h agree = absurd (omega (arith, h))
-  deep_equal (suc n) e d a h agree =
-      pieces_equal a (means_within shows n) (means_within others n)
-      (λ f g b l. deep_equal n f g (inside b) (omega (arith, h, l.shorter))) e d (pieces a)
-      (pieces_in a) (subst (Agree e d) (asked_pieces a) agree)
+    forest_equal : (xs : Forest) (e : Environment X) (d : Environment Y)
+        → Agree e d (forest_asks false xs) → forest_means shows e xs ≡ forest_means others d xs
+    forest_equal no_nodes e d h = refl
+    forest_equal (nodes_and x xs) e d h =
+        let each = agree_each e d (node_asks false x) (forest_asks false xs) h in
+        both_same (node_equal x e d each.0) (forest_equal xs e d each.1)
 
   -- equal values under the asked names give one meaning
   pub means_equal : (e : Environment X) (d : Environment Y) (a : At) → Agree e d (asked_names a)
       → means shows e a ≡ means others d a
-  unfolding means
-  means_equal e d a agree = deep_equal (suc (length a.text)) e d a (omega arith) agree
+  means_equal e d a h = forest_equal (as_forest (nodes a)) e d h
 
   -- ---- outcomes
 
@@ -262,7 +269,7 @@ module _ {X Y : Type 0} (shows : X → Trait → Spec → Shown) (others : Y →
     h.told ∙ sym k.told,
   )
 
-  -- so where nothing refuses they give one outcome
+  -- so if nothing refuses they give one outcome
   pub outcomes_equal :
       (e : Environment X) (d : Environment Y) (a : At) (old new other : Written)
       (answer told : Option Answer) → Agree e d (asked_names a)
@@ -271,3 +278,39 @@ module _ {X Y : Type 0} (shows : X → Trait → Spec → Shown) (others : Y →
   outcomes_equal e d a old new other answer told agree h k =
       one_outcome (means shows e a) old new other answer told h
       (subst (λ m. Finished m old other told) (sym (means_equal e d a agree)) k)
+
+-- ---- one type of values
+
+module _ {X : Type 0} (shows : X → Trait → Spec → Shown) where
+  slot_itself : (t : Trait) (o : Option X) → EqualSlot shows shows t o o
+  slot_itself t None = tt
+  slot_itself t (Some x) = λ spec. refl
+
+  values_itself : (v : Values X) → EqualValues shows shows v v
+  values_itself v t = slot_itself t (slot_at t v)
+
+  mutual
+    slots_itself : (tree : Slots X) → EqualSlots shows shows tree tree
+    slots_itself (bare v) = values_itself v
+    slots_itself (listed v us) = (values_itself v, list_itself us)
+
+    list_itself : (us : SlotsList X) → EqualItems shows shows us us
+    list_itself no_slots = tt
+    list_itself (slots_and tree us) = (slots_itself tree, list_itself us)
+
+  found_itself : (o : Option (Slots X)) → EqualFound shows shows o o
+  found_itself None = tt
+  found_itself (Some tree) = slots_itself tree
+
+  agree_equal : (e d : Environment X) (names : List (List ℕ)) → AgreeOn e d names
+      → EqualOn shows shows e d names
+  agree_equal e d [] h = tt
+  agree_equal e d (name ∷ names) h = (
+    subst (EqualFound shows shows (slots_under e name)) h.0 (found_itself (slots_under e name)),
+    agree_equal e d names h.1,
+  )
+
+  -- what environments give under names that are not asked does not count
+  pub means_same : (e d : Environment X) (a : At) → AgreeOn e d (asked_names a)
+      → means shows e a ≡ means shows d a
+  means_same e d a h = means_equal shows shows e d a (agree_equal e d (asked_names a) h)

@@ -18,8 +18,8 @@ use Rattle.interpolator_eval.specs.Slots.{Slots}
 use Rattle.interpolator_eval.specs.Meaning.Choices.{chosen_items}
 use Rattle.interpolator_eval.specs.Meaning.Environments.{Environment}
 use Rattle.interpolator_eval.specs.Meaning.ListArguments.{FindsList, AllFinish, joined_texts, FirstFault}
-use Rattle.interpolator_eval.specs.Meaning.ListArguments.{in_item, in_join, written, unpadded}
-use Rattle.interpolator_eval.specs.Meaning.Meanings.{Meaning, nothing, fault_alone, joined, items_after}
+use Rattle.interpolator_eval.specs.Meaning.ListArguments.{in_item, in_join, argument_meaning, items_alone}
+use Rattle.interpolator_eval.specs.Meaning.Meanings.{Meaning, nothing, fault_alone, chain, items_after}
 use Rattle.interpolator_eval.specs.Meaning.Meanings.{forbids_list, made_whole, padded_list, items_mean}
 use Rattle.interpolator_syntax.proofs.CaseLemmas.{none_some}
 
@@ -52,10 +52,10 @@ nothing_padded spec q =
 
 -- ---- one meaning after another
 
--- the second is written where the first has no fault
+-- the second is written if the first has no fault
 joined_finishes :
-    (m k : Meaning) → (joined m k).fault ≡ None
-    → (m.fault ≡ None) × (k.fault ≡ None) × ((joined m k).text ≡ m.text ++ k.text)
+    (m k : Meaning) → (chain m k).fault ≡ None
+    → (m.fault ≡ None) × (k.fault ≡ None) × ((chain m k).text ≡ m.text ++ k.text)
 joined_finishes m k h = grind arith
 
 -- a fault is that of the first, or that of the second after the first
@@ -66,8 +66,8 @@ abbrev FailsSecond : Meaning → Meaning → Placed → Fault → Type 0
 FailsSecond m k text f = (m.fault ≡ None) × (k.fault ≡ Some f) × (text ≡ m.text ++ k.text)
 
 joined_fails :
-    (m k : Meaning) (f : Fault) → (joined m k).fault ≡ Some f
-    → FailsFirst m (joined m k).text f ⊎ FailsSecond m k (joined m k).text f
+    (m k : Meaning) (f : Fault) → (chain m k).fault ≡ Some f
+    → FailsFirst m (chain m k).text f ⊎ FailsSecond m k (chain m k).text f
 joined_fails m k f h = grind arith
 
 -- ---- the items in order
@@ -173,7 +173,7 @@ of_list_means spec q m =
 
 module _ {X : Type 0} (shows : X → Trait → Spec → Shown) (e : Environment X) (start q : ℕ)
     (x : Argument) (l : ListRequest) (ts : List (Slots X)) (f : FindsList e x l ts) where
-  list_is : written shows e start x q ≡ of_list_means x.spec q (unpadded shows e l q ts)
+  list_is : argument_meaning shows e start x q ≡ of_list_means x.spec q (items_alone shows e l q ts)
   list_is = rw (f.gives, f.asked, f.listed) refl
 
   -- a list without a fault is one that its spec allows
@@ -186,30 +186,30 @@ module _ {X : Type 0} (shows : X → Trait → Spec → Shown) (e : Environment 
       ≡ cond b (Some (parse (iter q))) None
   by_test b = grind arith
 
-  succeeds : (written shows e start x q).fault ≡ None → forbids_list x.spec ≡ false
+  succeeds : (argument_meaning shows e start x q).fault ≡ None → forbids_list x.spec ≡ false
   succeeds h =
-      allowed (forbids_list x.spec) (padded_list x.spec q (unpadded shows e l q ts))
+      allowed (forbids_list x.spec) (padded_list x.spec q (items_alone shows e l q ts))
       (sym (ap (λ (m : Meaning). m.fault) list_is) ∙ h)
 
   is_padded : forbids_list x.spec ≡ false
-      → written shows e start x q ≡ padded_list x.spec q (unpadded shows e l q ts)
+      → argument_meaning shows e start x q ≡ padded_list x.spec q (items_alone shows e l q ts)
   is_padded h = list_is ∙ rw h refl
 
   -- ---- no item
 
   module _ (none : chosen_items l.range ts ≡ []) where
-    unpadded_is : unpadded shows e l q ts ≡ nothing
+    unpadded_is : items_alone shows e l q ts ≡ nothing
     unpadded_is = rw none refl
 
-    pub empty_text : (written shows e start x q).fault ≡ None
-        → (written shows e start x q).text
+    pub empty_text : (argument_meaning shows e start x q).fault ≡ None
+        → (argument_meaning shows e start x q).text
         ≡ placed_at q (replicate (unwrap_or x.spec.width 0) (fill_of x.spec))
     empty_text h =
         ap (λ (m : Meaning). m.text)
         (is_padded (succeeds h) ∙ ap (padded_list x.spec q) unpadded_is)
         ∙ nothing_padded x.spec q
 
-    pub empty_fault : (written shows e start x q).fault
+    pub empty_fault : (argument_meaning shows e start x q).fault
         ≡ cond (forbids_list x.spec) (Some (parse (iter q))) None
     empty_fault =
         ap (λ (m : Meaning). m.fault) (list_is ∙ ap (of_list_means x.spec q) unpadded_is)
@@ -219,44 +219,44 @@ module _ {X : Type 0} (shows : X → Trait → Spec → Shown) (e : Environment 
 
   module _ (width : ℕ) (wide : x.spec.width ≡ Some width) where
     whole_is : forbids_list x.spec ≡ false
-        → written shows e start x q
-        ≡ made_whole x.spec q (unpadded shows e l q ts).fault
-        (text_of (unpadded shows e l q ts).text)
+        → argument_meaning shows e start x q
+        ≡ made_whole x.spec q (items_alone shows e l q ts).fault
+        (text_of (items_alone shows e l q ts).text)
     whole_is h = is_padded h ∙ rw wide refl
 
     whole_text : (o : Option Fault) (cs : List ℕ) → (made_whole x.spec q o cs).fault ≡ None
         → (made_whole x.spec q o cs).text ≡ placed_at q (padded_text x.spec cs)
     whole_text o cs h = grind arith
 
-    pub wide_text : (written shows e start x q).fault ≡ None
-        → (written shows e start x q).text
-        ≡ placed_at q (padded_text x.spec (text_of (unpadded shows e l q ts).text))
+    pub wide_text : (argument_meaning shows e start x q).fault ≡ None
+        → (argument_meaning shows e start x q).text
+        ≡ placed_at q (padded_text x.spec (text_of (items_alone shows e l q ts).text))
     wide_text h =
         let is = whole_is (succeeds h) in
-        let m = unpadded shows e l q ts in
+        let m = items_alone shows e l q ts in
         ap (λ (k : Meaning). k.text) is
         ∙ whole_text m.fault (text_of m.text) (sym (ap (λ (k : Meaning). k.fault) is) ∙ h)
 
-    pub wide_count : (written shows e start x q).fault ≡ None
-        → length (written shows e start x q).text
-        ≡ max width (length (unpadded shows e l q ts).text)
+    pub wide_count : (argument_meaning shows e start x q).fault ≡ None
+        → length (argument_meaning shows e start x q).text
+        ≡ max width (length (items_alone shows e l q ts).text)
     wide_count h =
-        let m = unpadded shows e l q ts in
+        let m = items_alone shows e l q ts in
         let cs = text_of m.text in
         ap length (wide_text h) ∙ length-map (padded_text x.spec cs) (λ c. (c, q))
         ∙ padded_text_count x.spec cs
         ∙ rw (wide, length-map m.text (λ (w : ℕ × ℕ). w.0)) refl
 
     pub wide_fault : (d : Fault) → forbids_list x.spec ≡ false
-        → (unpadded shows e l q ts).fault ≡ Some d
-        → ((written shows e start x q).text ≡ []) × ((written shows e start x q).fault ≡ Some d)
+        → (items_alone shows e l q ts).fault ≡ Some d
+        → ((argument_meaning shows e start x q).text ≡ []) × ((argument_meaning shows e start x q).fault ≡ Some d)
     wide_fault d h k =
-        let m = unpadded shows e l q ts in
+        let m = items_alone shows e l q ts in
         let is = whole_is h ∙ ap (λ o. made_whole x.spec q o (text_of m.text)) k in
         (ap (λ (n : Meaning). n.text) is, ap (λ (n : Meaning). n.fault) is)
 
   -- ---- no width
 
   pub narrow : forbids_list x.spec ≡ false → x.spec.width ≡ None
-      → written shows e start x q ≡ unpadded shows e l q ts
+      → argument_meaning shows e start x q ≡ items_alone shows e l q ts
   narrow h k = is_padded h ∙ rw k refl

@@ -14,7 +14,7 @@ use Rattle.interpolator_syntax.specs.Faults.{Answer}
 use Rattle.interpolator_eval.specs.Slots.{Slots}
 use Rattle.interpolator_eval.specs.Meaning.Environments.{Environment}
 use Rattle.interpolator_eval.specs.Meaning.Meanings.{Meaning, items_after, chosen_means}
-use Rattle.interpolator_eval.specs.Meaning.Meanings.{item_means, join_means, means}
+use Rattle.interpolator_eval.specs.Meaning.Meanings.{item_means, join_means}
 use Rattle.interpolator_eval.specs.Meaning.Outcomes.{Outcome}
 use Rattle.interpolator_eval.specs.Meaning.Sinks.{Writes, taken_by}
 use Rattle.interpolator_eval.specs.declared.meaning.sink.Sink.{Sink}
@@ -25,7 +25,7 @@ use Rattle.interpolator_render.specs.Written.{Written}
 
 -- ---- how many characters a list's groups have
 
--- those of a group, none where there is no group
+-- those of a group, none if there is no group
 abbrev pub group_size : Option Group → ℕ
 group_size None = 0
 group_size (Some g) = length g.text
@@ -48,7 +48,7 @@ kind_within (of_value t) a h = omega arith
 kind_within (of_list l) a h =
     omega (arith, group_within l.item a h.item, group_within l.join a h.join)
 
--- no group has more characters than what stands after the argument's brace
+-- no group has more characters than what follows the argument's brace
 pub groups_within : (a : At) (x : Argument) (q : At) → argument_at a ≡ Ok (x, q)
     → kind_size x.kind ≤ length a.text
 groups_within a x q h = kind_within x.kind a (argument_in a x q h)
@@ -59,16 +59,16 @@ groups_within a x q h = kind_within x.kind a (argument_in a x q h)
 module _ {F X W : Type 0} (shows : X → Trait → Spec → Shown) (written : W → Written)
     (e : Environment X) (asked : ListRequest) (place : ℕ) (tree : F → Slots X) (xs : List F) where
   abbrev Join : Meaning
-  Join = join_means shows (means shows) e asked.join
+  Join = join_means shows e asked.join
 
   abbrev One : F → Meaning
-  One x = item_means shows (means shows) e place asked.item (tree x)
+  One x = item_means shows e place asked.item (tree x)
 
   abbrev After : List F → Meaning
-  After ys = items_after Join (item_means shows (means shows) e place asked.item) (map tree ys)
+  After ys = items_after Join (item_means shows e place asked.item) (map tree ys)
 
   abbrev All : Meaning
-  All = chosen_means shows (means shows) e asked place (map tree xs)
+  All = chosen_means shows e asked place (map tree xs)
 
   module _ (i : ℕ) (x : F) (h : i < length xs) (is : x ≡ get_or xs i x)
       (s t : Sink W) where

@@ -14,8 +14,9 @@ use Rattle.interpolator_syntax.specs.declared.error.Error.{Error}
 use Rattle.interpolator_syntax.specs.declared.range.Range.{Range}
 use Rattle.interpolator_eval.specs.Slots.{Slots, items}
 use Rattle.interpolator_eval.specs.Meaning.Choices.{chosen_items}
-use Rattle.interpolator_eval.specs.Meaning.Environments.{Environment, given}
+use Rattle.interpolator_eval.specs.Meaning.Environments.{Environment, slots_under}
 use Rattle.interpolator_eval.specs.Meaning.Lists.{IsChosen, IsNotChosen, list_under_name}
+use Rattle.interpolator_eval.specs.Meaning.Lists.{ChosenUnder}
 use Rattle.interpolator_eval.specs.Meaning.Lists.{padded_list_means}
 use Rattle.interpolator_eval.specs.Meaning.Meanings.{Meaning, items_mean, listed_means, under_name}
 use Rattle.interpolator_eval.specs.Meaning.Meanings.{padded_list, forbids_list}
@@ -32,11 +33,11 @@ value_asked t form h = refl
 
 module _ {X : Type 0} (e : Environment X) (name : List ℕ) (start : ℕ) (range : Option Range)
     (spec : Spec) (end : ℕ) where
-  -- the items that a range chooses of a list, where the spec may ask for it
+  -- the items that a range chooses of a list, if the spec may ask for it
   pub list_chosen : {F : Type 0} (tree : F → Slots X) (xs ys : List F)
-      → Some (Some (map tree xs)) ≡ option_map items (given e name) → forbids_list spec ≡ false
+      → Some (Some (map tree xs)) ≡ option_map items (slots_under e name) → forbids_list spec ≡ false
       → ys ≡ chosen_items range xs → IsChosen e name start range spec end (map tree ys)
-  list_chosen tree xs ys found may chosen join item = by_found (given e name) found
+  list_chosen tree xs ys found may chosen join item = by_found (slots_under e name) found
     where
       same_items : map tree ys ≡ chosen_items range (map tree xs)
       same_items = ap (map tree) chosen ∙ map-chosen tree range xs
@@ -47,6 +48,16 @@ module _ {X : Type 0} (e : Environment X) (name : List ℕ) (start : ℕ) (range
       by_found None h = absurd (cc)
       by_found (Some t) h =
           let same : items t ≡ Some (map tree xs) = cc in rw (same, may, same_items) refl
+
+  -- and they are those
+  pub chosen_under : {F : Type 0} (tree : F → Slots X) (xs ys : List F)
+      → Some (Some (map tree xs)) ≡ option_map items (slots_under e name)
+      → ys ≡ chosen_items range xs → ChosenUnder e name range (map tree ys)
+  chosen_under tree xs ys found chosen = record {
+    listed = map tree xs;
+    found = found;
+    chosen_of = ap (map tree) chosen ∙ map-chosen tree range xs;
+  }
 
   module _ {W : Type 0} (written : W → Written) (join : Meaning) (item : Slots X → Meaning)
       (s : Sink W) where

@@ -1,30 +1,24 @@
--- What a text means: what the scan hands on first, and then the rest.
-use Rattle.std.proofs.Common.{◌≡◌, ℕ, ◌+◌, Bool, true, false, eqb, subst, List, [], ◌∷◌}
-use Rattle.std.proofs.Common.{◌++◌, append-nil, map}
-use Rattle.std.proofs.Common.{length, arith, refl, ap, ◌∙◌, sym, Option, Some, None, append_assoc}
-use Rattle.std.proofs.Common.{length-append}
+-- What a text means: what its pieces mean; and what the scan hands on first, and then the rest.
+use Rattle.std.proofs.Common.{◌≡◌, ℕ, ◌+◌, List, [], ◌∷◌, ◌++◌, append-nil, map, length, arith}
+use Rattle.std.proofs.Common.{refl, ap, ◌∙◌, sym, Option, Some, None, append_assoc, length-append}
 use Rattle.std.proofs.lemmas.List.{map-append}
 use Rattle.std.specs.Char.{len_utf8}
 use Rattle.interpolator_render.specs.declared.view.Trait.{Trait}
 use Rattle.interpolator_render.specs.declared.view.Spec.{Spec}
 use Rattle.interpolator_render.specs.Views.{Shown}
-use Rattle.interpolator_syntax.specs.At.{At, placed_from, size, strip}
-use Rattle.interpolator_syntax.specs.Classes.{front_of, after_of, in_class, is_brace, open_brace}
-use Rattle.interpolator_syntax.specs.Classes.{close_brace}
-use Rattle.interpolator_eval.specs.Meaning.Environments.{Environment}
+use Rattle.interpolator_syntax.specs.At.{At, placed_from, size}
 use Rattle.interpolator_syntax.specs.Faults.{Fault}
-use Rattle.interpolator_syntax.specs.Pieces.{Step, piece_from, past, open_step, close_step}
-use Rattle.interpolator_syntax.specs.Pieces.{Piece, argument_from, pieces}
-use Rattle.interpolator_syntax.specs.Tokens.{Token, first_token, past_token, open_scan, close_scan}
-use Rattle.interpolator_syntax.specs.Tokens.{no_open_scan, scan_by, argument}
-use Rattle.interpolator_eval.specs.Meaning.Meanings.{Meaning, nothing, text_alone, or_fault, joined}
-use Rattle.interpolator_eval.specs.Meaning.Meanings.{piece_means, pieces_mean, token_means, means}
-use Rattle.interpolator_syntax.specs.declared.class.Class.TheVariants.{Literal}
-use Rattle.interpolator_eval.proofs.MeaningLemmas.DepthLemmas.{means_pieces}
-use Rattle.interpolator_syntax.proofs.PieceLemmas.{piece_begins, pieces_none}
-use Rattle.interpolator_syntax.proofs.PieceLemmas.{pieces_next}
-use Rattle.interpolator_syntax.proofs.PieceLemmas.{literal_step}
-use Rattle.std.proofs.lemmas.Bool.{cond_both}
+use Rattle.interpolator_syntax.specs.Nodes.{Node, as_forest, piece_node, token_node, nodes}
+use Rattle.interpolator_syntax.specs.Pieces.{piece_from, past, Piece, argument_from, pieces}
+use Rattle.interpolator_syntax.specs.Splits.{literal_nodes, node_alone}
+use Rattle.interpolator_syntax.specs.Tokens.{Token, first_token, past_token, argument}
+use Rattle.interpolator_syntax.proofs.NodeLemmas.{argument_kind, nodes_first, nodes_none}
+use Rattle.interpolator_syntax.proofs.PieceLemmas.{piece_begins, pieces_none, pieces_next}
+use Rattle.interpolator_syntax.proofs.SplitLemmas.{gathered_alone}
+use Rattle.interpolator_eval.specs.Meaning.Environments.{Environment}
+use Rattle.interpolator_eval.specs.Meaning.Meanings.{Meaning, nothing, text_alone, or_fault, chain}
+use Rattle.interpolator_eval.specs.Meaning.Meanings.{node_means, forest_means, means, pieces_mean}
+use Rattle.interpolator_eval.specs.Meaning.Meanings.{argument_from_means}
 
 shift_twice : (a b : ℕ) (ns : List ℕ)
     → map (λ n. a + b + n) ns ≡ map (λ n. a + n) (map (λ n. b + n) ns)
@@ -33,11 +27,11 @@ shift_twice a b (n ∷ ns) =
     let e : a + b + n ≡ a + (b + n) = omega arith in rw (e, shift_twice a b ns) refl
 
 -- joining is associative
-pub joined_assoc : (m k l : Meaning) → joined (joined m k) l ≡ joined m (joined k l)
+pub joined_assoc : (m k l : Meaning) → chain (chain m k) l ≡ chain m (chain k l)
 joined_assoc m k l = by_faults m.fault refl k.fault refl
   where
     by_faults : (o : Option Fault) → m.fault ≡ o → (p : Option Fault) → k.fault ≡ p
-        → joined (or_fault o m k) l ≡ or_fault o m (or_fault p k l)
+        → chain (or_fault o m k) l ≡ or_fault o m (or_fault p k l)
     by_faults (Some f) e p d = rw e refl
     by_faults None e (Some f) d = rw d refl
     by_faults None e None d =
@@ -49,11 +43,11 @@ unmoved [] = refl
 unmoved (n ∷ ns) = let e : 0 + n ≡ n = omega arith in rw (e, unmoved ns) refl
 
 -- an empty text before it changes nothing
-pub joined_none : (m : Meaning) → joined (text_alone []) m ≡ m
+pub joined_none : (m : Meaning) → chain (text_alone []) m ≡ m
 joined_none m = rw (unmoved m.memory_points) refl
 
 -- nor does one after it
-pub nothing_last : (m : Meaning) → joined m nothing ≡ m
+pub nothing_last : (m : Meaning) → chain m nothing ≡ m
 nothing_last m = by_fault m.fault refl
   where
     by_fault : (o : Option Fault) → m.fault ≡ o → or_fault o m nothing ≡ m
@@ -61,117 +55,87 @@ nothing_last m = by_fault m.fault refl
     by_fault None e = rw (append-nil m.text, append-nil m.memory_points, ← e) refl
 
 module _ {X : Type 0} (shows : X → Trait → Spec → Shown) (e : Environment X) where
+  abbrev All : List Node → Meaning
+  All xs = forest_means shows e (as_forest xs)
+
+  -- what some nodes mean, and then what those after them mean
+  pub forest_joined : (xs ys : List Node) → All (xs ++ ys) ≡ chain (All xs) (All ys)
+  forest_joined [] ys = sym (joined_none _)
+  forest_joined (x ∷ xs) ys =
+      ap (chain (node_means shows e x)) (forest_joined xs ys)
+      ∙ sym (joined_assoc (node_means shows e x) _ _)
+
+  -- ---- the pieces of a text
+
+  -- literals mean their characters, as one node or as many
+  literals_mean : (p : ℕ) (cs : List ℕ) (xs : List Node)
+      → chain (text_alone (placed_from p cs)) (All xs) ≡ All (literal_nodes p cs ++ xs)
+  literals_mean p [] xs = joined_none _
+  literals_mean p (c ∷ cs) xs =
+      let first = text_alone ((c, p) ∷ []) in
+      joined_assoc first (text_alone (placed_from (p + len_utf8 c) cs)) (All xs)
+      ∙ ap (chain first) (literals_mean (p + len_utf8 c) cs xs)
+
+  -- a text means what its pieces mean
+  pub means_pieces : (a : At) → means shows e a ≡ pieces_mean shows e (pieces a)
+  means_pieces =
+      gathered_alone All (λ x xs ys h. ap (chain (node_means shows e x)) h)
+      (λ p end cs xs. literals_mean p cs xs)
+
   -- what some pieces mean, and then what those after them mean
   pub pieces_mean_append : (xs ys : List Piece)
-      → pieces_mean shows (means shows) e (xs ++ ys) ≡ joined (pieces_mean shows (means shows) e xs)
-      (pieces_mean shows (means shows) e ys)
-  pieces_mean_append [] ys = sym (joined_none (pieces_mean shows (means shows) e ys))
-  pieces_mean_append (x ∷ xs) ys =
-      let first = piece_means shows (means shows) e x.place x.kind in
-      ap (joined first) (pieces_mean_append xs ys) ∙ sym (joined_assoc first _ _)
+      → pieces_mean shows e (xs ++ ys) ≡ chain (pieces_mean shows e xs) (pieces_mean shows e ys)
+  pieces_mean_append xs ys =
+      ap All (map-append node_alone xs ys) ∙ forest_joined (map node_alone xs) (map node_alone ys)
 
   -- what the pieces before one mean, what it means, and what those after it mean
   pub means_around : (a : At) (before after : List Piece) (x : Piece)
       → pieces a ≡ before ++ (x ∷ after)
-      → means shows e a ≡ joined (pieces_mean shows (means shows) e before)
-      (joined (piece_means shows (means shows) e x.place x.kind)
-      (pieces_mean shows (means shows) e after))
+      → means shows e a ≡ chain (pieces_mean shows e before)
+      (chain (node_means shows e (node_alone x)) (pieces_mean shows e after))
   means_around a before after x h =
-      means_pieces shows e a ∙ ap (pieces_mean shows (means shows) e) h
-      ∙ pieces_mean_append before (x ∷ after)
+      means_pieces a ∙ ap (pieces_mean shows e) h ∙ pieces_mean_append before (x ∷ after)
 
   pub means_none : (p : ℕ) → means shows e (record { place = p; text = [] }) ≡ nothing
   means_none p =
-      means_pieces shows e (record { place = p; text = [] })
-      ∙ ap (pieces_mean shows (means shows) e) (pieces_none p)
+      means_pieces (record { place = p; text = [] }) ∙ ap (pieces_mean shows e) (pieces_none p)
 
-  -- the first piece, and then what stands after it
+  -- the first piece, and then what follows it
   pub means_next : (p c : ℕ) (cs : List ℕ)
-      → means shows e (record { place = p; text = c ∷ cs })
-      ≡ joined (piece_means shows (means shows) e p (piece_from p c (past p c cs)).piece.kind)
-      (means shows e (piece_from p c (past p c cs)).rest)
+      → (let s = piece_from p c (past p c cs) in means shows e (record { place = p; text = c ∷ cs })
+      ≡ chain (node_means shows e (piece_node nodes p (p + size s.piece.text) s.piece.kind))
+      (means shows e s.rest))
   means_next p c cs =
       let s = piece_from p c (past p c cs) in
-      let whole = means_pieces shows e (record { place = p; text = c ∷ cs }) in
-      let begins = piece_begins p c (past p c cs) in
-      rw (whole, pieces_next p c cs, begins, means_pieces shows e s.rest) refl
+      means_pieces (record { place = p; text = c ∷ cs })
+      ∙ ap (pieces_mean shows e) (pieces_next p c cs)
+      ∙ ap (chain (node_means shows e (node_alone s.piece))) (sym (means_pieces s.rest))
+      ∙ ap (λ q. chain
+      (node_means shows e (piece_node nodes q (q + size s.piece.text) s.piece.kind))
+      (means shows e s.rest)) (piece_begins p c (past p c cs))
 
-  literal_next : (p c : ℕ) (cs : List ℕ) → is_brace c ≡ false
-      → means shows e (record { place = p; text = c ∷ cs })
-      ≡ joined (text_alone ((c, p) ∷ [])) (means shows e (past p c cs))
-  literal_next p c cs h =
-      rw (literal_step p c (past p c cs) h) at (means_next p c cs)
+  -- ---- what the scan hands on
 
-  abbrev IsRun : ℕ → List ℕ → Type 0
-  IsRun p cs =
-      means shows e (record { place = p; text = cs })
-      ≡ joined (text_alone (placed_from p (front_of (in_class Literal) cs)))
-      (means shows e
-      (record {
-        place = p + size (front_of (in_class Literal) cs);
-        text = after_of
-            (in_class Literal) cs;
-      }))
+  -- what the scan hands on at p means, with b after it
+  abbrev pub token_means : (p : ℕ) → Token → (b : At) → Meaning
+  token_means p argument b = argument_from_means shows e b
+  token_means p t b = node_means shows e (token_node nodes p t b)
 
-  one_more : (p c : ℕ) (cs : List ℕ) (t : Bool) → is_brace c ≡ t → IsRun (p + len_utf8 c) cs
-      → IsRun p (c ∷ cs)
-  one_more p c cs true h k =
-      let none : p + 0 ≡ p = omega arith in rw (h, none) (sym (joined_none _))
-  one_more p c cs false h k =
-      let front = front_of (in_class Literal) cs in
-      let further : p + (len_utf8 c + size front) ≡ p + len_utf8 c + size front = omega arith in
-      rw (h, further) (literal_next p c cs h ∙ ap (joined (text_alone ((c, p) ∷ []))) k
-      ∙ sym (joined_assoc (text_alone ((c, p) ∷ []))
-      (text_alone (placed_from (p + len_utf8 c) front)) _))
-
-  -- a run of literals, and then what stands after it
-  means_literals : (p : ℕ) (cs : List ℕ) → IsRun p cs
-  means_literals p [] = let none : p + 0 ≡ p = omega arith in rw none (sym (joined_none _))
-  means_literals p (c ∷ cs) = one_more p c cs (is_brace c) refl (means_literals (p + len_utf8 c) cs)
-
-  abbrev Then : ℕ → Step → Meaning
-  Then p s = joined (piece_means shows (means shows) e p s.piece.kind) (means shows e s.rest)
-
-  abbrev ThenScanned : ℕ → Token × At → Meaning
-  ThenScanned p x = joined (token_means shows e p x.0 x.1) (means shows e (past_token x.0 x.1))
-
-  -- the argument after a brace means the same wherever the brace stands
-  argument_first : (p : ℕ) (b : At) → Then p (argument_from p b) ≡ ThenScanned p (argument, b)
-  unfolding argument_from
-  argument_first p b = grind arith
-
-  opened : (p : ℕ) (b : At) (o : Option At)
-      → Then p (open_step p b o) ≡ ThenScanned p (open_scan b o)
-  opened p b (Some rest) = refl
-  opened p b None = argument_first p b
-
-  closed_by : (p : ℕ) (b : At) (o : Option At)
-      → Then p (close_step p b o) ≡ ThenScanned p (close_scan b o)
-  closed_by p b (Some rest) = refl
-  closed_by p b None = refl
-
-  -- what the scan hands on first, and then what stands after it
-  abbrev Leads : At → Option (Token × At) → Type 0
-  Leads a None = means shows e a ≡ nothing
-  Leads a (Some x) = means shows e a ≡ ThenScanned a.place x
-
-  leads_at : (p : ℕ) (cs : List ℕ)
-      → Leads (record { place = p; text = cs }) (first_token (record { place = p; text = cs }))
-  unfolding first_token
-  leads_at p [] = means_none p
-  leads_at p (c ∷ cs) =
-      let a : At = record { place = p; text = c ∷ cs } in
-      let b = past p c cs in
-      cond_both (eqb c open_brace) _ _ (λ o. Leads a (scan_by a o))
-      (λ n. (rw n at (means_next p c cs)) ∙ opened p b (strip open_brace b))
-      (λ n. cond_both (eqb c close_brace) _ _ (λ o. Leads a (no_open_scan a o))
-      (λ d. (rw (n, d) at (means_next p c cs)) ∙ closed_by p b (strip close_brace b))
-      (λ d. means_literals p (c ∷ cs)))
+  -- an argument means the same wherever its brace is
+  token_is : (p : ℕ) (t : Token) (b : At)
+      → node_means shows e (token_node nodes p t b) ≡ token_means p t b
+  token_is p argument b =
+      let end = (argument_from b.place b).rest.place in
+      argument_kind (λ k. node_means shows e (piece_node nodes p end k)
+      ≡ node_means shows e (piece_node nodes b.place end k)) b
+      (λ start x q h. (refl, refl), λ f. refl)
+  token_is p t b = refl
 
   pub means_first : (a : At) (x : Token × At) → first_token a ≡ Some x
-      → means shows e a ≡ joined (token_means shows e a.place x.0 x.1)
-      (means shows e (past_token x.0 x.1))
-  means_first a x h = subst (Leads a) h (leads_at a.place a.text)
+      → means shows e a ≡ chain (token_means a.place x.0 x.1) (means shows e (past_token x.0 x.1))
+  means_first a x h =
+      ap All (nodes_first a x.1 x.0 h)
+      ∙ ap (λ m. chain m (means shows e (past_token x.0 x.1))) (token_is a.place x.0 x.1)
 
   pub means_end : (a : At) → first_token a ≡ None → means shows e a ≡ nothing
-  means_end a h = subst (Leads a) h (leads_at a.place a.text)
+  means_end a h = ap All (nodes_none a h)

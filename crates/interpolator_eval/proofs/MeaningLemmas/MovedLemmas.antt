@@ -1,5 +1,5 @@
--- A text at another base means the same, with every place moved.
-use Rattle.std.proofs.Common.{◌≡◌, ℕ, zero, suc, ◌+◌, Bool, true, false, cond, List, [], ◌∷◌, ◌++◌}
+-- A text at another base means as much, with every place moved.
+use Rattle.std.proofs.Common.{◌≡◌, ℕ, ◌+◌, ◌<◌, Bool, true, false, cond, List, [], ◌∷◌, ◌++◌}
 use Rattle.std.proofs.Common.{length, map, arith, refl, ap, ◌∙◌, sym, Option, Some, None, option_map}
 use Rattle.std.specs.Prelude.{is_some, codes}
 use Rattle.std.proofs.lemmas.List.{map-append, length-map}
@@ -18,21 +18,28 @@ use Rattle.interpolator_syntax.specs.Pieces.{Piece, PieceKind, literal, doubled,
 use Rattle.interpolator_syntax.specs.Pieces.{unclosed, broken, pieces}
 use Rattle.interpolator_syntax.specs.Faults.{Fault, parse, expected}
 use Rattle.interpolator_syntax.specs.Grammar.{from_place}
-use Rattle.interpolator_syntax.specs.Moved.{moved_at, moved_fault, moved_group, moved_list}
-use Rattle.interpolator_syntax.specs.Moved.{moved_kind, moved_argument, moved_piece_kind, moved_piece}
+use Rattle.interpolator_syntax.specs.Moved.{moved_at, moved_fault, moved_group}
+use Rattle.interpolator_syntax.specs.Moved.{moved_kind, moved_piece_kind, moved_piece}
 use Rattle.interpolator_eval.specs.Slots.{Slots, values_of, items, slot_at}
 use Rattle.interpolator_eval.specs.Meaning.Choices.{chosen_items}
-use Rattle.interpolator_eval.specs.Meaning.Environments.{Environment, given, bind}
-use Rattle.interpolator_eval.specs.Meaning.Meanings.{Meaning, fault_alone, or_fault, joined}
+use Rattle.interpolator_eval.specs.Meaning.Environments.{Environment, slots_under, bind}
+use Rattle.interpolator_eval.specs.Meaning.Meanings.{Meaning, fault_alone, or_fault, chain}
 use Rattle.interpolator_eval.specs.Meaning.Meanings.{view_means, value_means, forbids_list, made_whole}
 use Rattle.interpolator_eval.specs.Meaning.Meanings.{padded_list, items_after, items_mean}
 use Rattle.interpolator_syntax.specs.Groups.{inside}
-use Rattle.interpolator_eval.specs.Meaning.Meanings.{item_means, join_means, list_means, kind_means}
-use Rattle.interpolator_eval.specs.Meaning.Meanings.{found_means, piece_means}
-use Rattle.interpolator_eval.specs.Meaning.Meanings.{pieces_mean, means_within, means}
+use Rattle.interpolator_eval.specs.Meaning.Meanings.{listed_means, under_name, bare_means}
+use Rattle.interpolator_eval.specs.Meaning.Meanings.{node_means}
+use Rattle.interpolator_eval.specs.Meaning.Meanings.{join_branch_means, item_branch_means}
+use Rattle.interpolator_eval.specs.Meaning.Meanings.{item_means}
+use Rattle.interpolator_eval.specs.Meaning.Meanings.{join_means, pieces_mean, means}
 use Rattle.interpolator_eval.specs.Meaning.Moves.{moved_text, moved_meaning}
 use Rattle.interpolator_syntax.proofs.LongestLemmas.{at_same}
 use Rattle.interpolator_syntax.proofs.MovePieceLemmas.{pieces_move}
+use Rattle.interpolator_syntax.proofs.NodeLemmas.{by_length}
+use Rattle.interpolator_syntax.proofs.SizeLemmas.{GroupIfIn, ListIn, KindIn, PieceIn, PiecesIn}
+use Rattle.interpolator_syntax.proofs.SizeLemmas.{pieces_in}
+use Rattle.interpolator_syntax.specs.Nodes.{nodes, piece_node, target_of, item_branch, join_branch}
+use Rattle.interpolator_eval.proofs.MeaningLemmas.MeaningLemmas.{means_pieces}
 
 module _ (by : ℕ) where
   -- ---- placed texts
@@ -64,13 +71,13 @@ module _ (by : ℕ) where
       (ap (λ (n : ℕ). m.memory_points ++ map (λ (p : ℕ). n + p) k.memory_points) count)
 
   joined_moves : (m k : Meaning)
-      → joined (moved_meaning by m) (moved_meaning by k) ≡ moved_meaning by (joined m k)
+      → chain (moved_meaning by m) (moved_meaning by k) ≡ moved_meaning by (chain m k)
   joined_moves m k = or_fault_moves m.fault m k
 
   both_move : (m k l o : Meaning) → m ≡ moved_meaning by l → k ≡ moved_meaning by o
-      → joined m k ≡ moved_meaning by (joined l o)
+      → chain m k ≡ moved_meaning by (chain l o)
   both_move m k l o e h =
-      ap (λ (x : Meaning). joined x k) e ∙ ap (joined (moved_meaning by l)) h ∙ joined_moves l o
+      ap (λ (x : Meaning). chain x k) e ∙ ap (chain (moved_meaning by l)) h ∙ joined_moves l o
 
   either_moves : (b : Bool) (m k l o : Meaning) → m ≡ moved_meaning by l → k ≡ moved_meaning by o
       → cond b m k ≡ moved_meaning by (cond b l o)
@@ -127,80 +134,89 @@ module _ (by : ℕ) where
     items_move (x ∷ xs) = both_move _ _ _ _ (each x) (after_moves xs)
 
   module _ {X : Type 0} (shows : X → Trait → Spec → Shown) where
-    module _ (run : Environment X → At → Meaning)
-        (moves : (e : Environment X) (a : At) → run e (moved_at by a) ≡ moved_meaning by (run e a))
+    abbrev Moves : At → Type 0
+    Moves a =
+        (e : Environment X)
+        → means shows e (moved_at by a) ≡ moved_meaning by (means shows e a)
+
+    module _ (a : At) (shorter : (b : At) → length b.text < length a.text → Moves b)
         (e : Environment X) where
-      item_moves : (q : ℕ) (o : Option Group) (item : Slots X)
-          → item_means shows run e (q + by) (option_map (moved_group by) o) item
-          ≡ moved_meaning by (item_means shows run e q o item)
-      item_moves q (Some g) item = moves (bind e item) (inside g)
-      item_moves q None item =
+      item_moves : (q : ℕ) (o : Option Group) (item : Slots X) → GroupIfIn o a
+          → item_means shows e (q + by) (option_map (moved_group by) o) item
+          ≡ moved_meaning by (item_means shows e q o item)
+      item_moves q (Some g) item h = shorter (inside g) h.shorter (bind e item)
+      item_moves q None item h =
           value_moves shows traits.Display plain_spec q (slot_at traits.Display (values_of item))
 
-      join_moves : (o : Option Group)
-          → join_means shows run e (option_map (moved_group by) o)
-          ≡ moved_meaning by (join_means shows run e o)
-      join_moves (Some g) = moves e (inside g)
-      join_moves None = refl
+      join_moves : (o : Option Group) → GroupIfIn o a
+          → join_means shows e (option_map (moved_group by) o)
+          ≡ moved_meaning by (join_means shows e o)
+      join_moves (Some g) h = shorter (inside g) h.shorter e
+      join_moves None h = refl
 
       list_moves : (l : ListRequest) (spec : Spec) (q : ℕ) (o : Option (List (Slots X)))
-          → list_means shows run e (moved_list by l) spec (q + by) o
-          ≡ moved_meaning by (list_means shows run e l spec q o)
-      list_moves l spec q None = refl
-      list_moves l spec q (Some ts) =
+          → ListIn l a → listed_means l.range spec (q + by)
+          (join_means shows e (option_map (moved_group by) l.join))
+          (item_means shows e (q + by) (option_map (moved_group by) l.item)) o
+          ≡ moved_meaning by (listed_means l.range spec q (join_means shows e l.join)
+          (item_means shows e q l.item) o)
+      list_moves l spec q None h = refl
+      list_moves l spec q (Some ts) h =
           either_moves (forbids_list spec) _ _ _ _ refl
           (padded_moves spec q _ _
-          (items_move (join_means shows run e (option_map (moved_group by) l.join))
-          (join_means shows run e l.join)
-          (item_means shows run e (q + by) (option_map (moved_group by) l.item))
-          (item_means shows run e q l.item) (join_moves l.join) (item_moves q l.item)
-          (chosen_items l.range ts)))
+          (items_move (join_means shows e (option_map (moved_group by) l.join))
+          (join_means shows e l.join)
+          (item_means shows e (q + by) (option_map (moved_group by) l.item))
+          (item_means shows e q l.item) (join_moves l.join h.join)
+          (λ item. item_moves q l.item item h.item) (chosen_items l.range ts)))
 
-      kind_moves : (kind : Kind) (spec : Spec) (q : ℕ) (found : Slots X)
-          → kind_means shows run e (moved_kind by kind) spec (q + by) found
-          ≡ moved_meaning by (kind_means shows run e kind spec q found)
-      kind_moves (of_value t) spec q found =
+      -- what was found under a name, by what an argument asks for
+      abbrev kind_means : Kind → Spec → (q : ℕ) → Slots X → Meaning
+      kind_means kind spec q =
+          bare_means shows (target_of kind) spec q
+          (join_branch_means shows e (join_branch nodes kind))
+          (item_branch_means shows e (item_branch nodes kind) q)
+
+      kind_moves : (kind : Kind) (spec : Spec) (q : ℕ) (found : Slots X) → KindIn kind a
+          → kind_means (moved_kind by kind) spec (q + by) found
+          ≡ moved_meaning by (kind_means kind spec q found)
+      kind_moves (of_value t) spec q found h =
           value_moves shows t spec q (slot_at t (values_of found))
-      kind_moves (of_list l) spec q found = list_moves l spec q (items found)
+      kind_moves (of_list l) spec q found h = list_moves l spec q (items found) h
 
-      found_moves : (start : ℕ) (x : Argument) (q : ℕ) (o : Option (Slots X))
-          → found_means shows run e (start + by) (moved_argument by x) (q + by) o
-          ≡ moved_meaning by (found_means shows run e start x q o)
-      found_moves start x q None = refl
-      found_moves start x q (Some found) = kind_moves x.kind x.spec q found
+      found_moves : (start : ℕ) (x : Argument) (q : ℕ) (o : Option (Slots X)) → KindIn x.kind a
+          → under_name x.name (start + by) (kind_means (moved_kind by x.kind) x.spec (q + by)) o
+          ≡ moved_meaning by (under_name x.name start (kind_means x.kind x.spec q) o)
+      found_moves start x q None h = refl
+      found_moves start x q (Some found) h = kind_moves x.kind x.spec q found h
 
-      piece_moves : (p : ℕ) (kind : PieceKind)
-          → piece_means shows run e (p + by) (moved_piece_kind by kind)
-          ≡ moved_meaning by (piece_means shows run e p kind)
-      piece_moves p (closed start x q) = found_moves start x q (given e x.name)
-      piece_moves p (unclosed start x q) =
+      piece_moves : (p n m : ℕ) (kind : PieceKind) → PieceIn kind a
+          → node_means shows e (piece_node nodes (p + by) m (moved_piece_kind by kind))
+          ≡ moved_meaning by (node_means shows e (piece_node nodes p n kind))
+      piece_moves p n m (closed start x q) h = found_moves start x q (slots_under e x.name) h.kind
+      piece_moves p n m (unclosed start x q) h =
           both_move _ _ _ (fault_alone (parse (expected (codes "}") q)))
-          (found_moves start x q (given e x.name)) refl
-      piece_moves p (broken f) = refl
-      piece_moves p (literal c) = refl
-      piece_moves p (doubled c) = refl
-      piece_moves p lone_close = refl
+          (found_moves start x q (slots_under e x.name) h.kind) refl
+      piece_moves p n m (broken f) h = refl
+      piece_moves p n m (literal c) h = refl
+      piece_moves p n m (doubled c) h = refl
+      piece_moves p n m lone_close h = refl
 
-      pieces_mean_moves : (xs : List Piece)
-          → pieces_mean shows run e (map (moved_piece by) xs)
-          ≡ moved_meaning by (pieces_mean shows run e xs)
-      pieces_mean_moves [] = refl
-      pieces_mean_moves (x ∷ xs) =
-          both_move _ _ _ _ (piece_moves x.place x.kind) (pieces_mean_moves xs)
-
-    within_moves : (depth : ℕ) (e : Environment X) (a : At)
-        → means_within shows depth e (moved_at by a)
-        ≡ moved_meaning by (means_within shows depth e a)
-    within_moves zero e a = refl
-    within_moves (suc depth) e a =
-        ap (pieces_mean shows (means_within shows depth) e) (pieces_move by a)
-        ∙ pieces_mean_moves (means_within shows depth) (within_moves depth) e (pieces a)
+      pieces_mean_moves : (xs : List Piece) → PiecesIn xs a
+          → pieces_mean shows e (map (moved_piece by) xs)
+          ≡ moved_meaning by (pieces_mean shows e xs)
+      pieces_mean_moves [] h = refl
+      pieces_mean_moves (x ∷ xs) h =
+          both_move _ _ _ _ (piece_moves x.place _ _ x.kind h.0) (pieces_mean_moves xs h.2)
 
     -- a text at another base means the same, moved
     pub means_moves : (e : Environment X) (a : At)
         → means shows e (moved_at by a) ≡ moved_meaning by (means shows e a)
-    unfolding means
-    means_moves e a = within_moves (suc (length a.text)) e a
+    means_moves e a =
+        by_length Moves (λ b shorter d.
+        means_pieces shows d (moved_at by b) ∙ ap (pieces_mean shows d) (pieces_move by b)
+        ∙ pieces_mean_moves b shorter d (pieces b) (pieces_in b)
+        ∙ ap (moved_meaning by) (sym (means_pieces shows d b))) a e
 
 -- so a text at a place means what it means by itself, moved by the place
 pub means_from :

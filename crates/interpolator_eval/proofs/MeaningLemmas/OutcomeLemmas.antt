@@ -9,7 +9,7 @@ use Rattle.interpolator_render.proofs.LayoutLemmas.{appends_both}
 use Rattle.interpolator_render.specs.Written.{Written}
 use Rattle.interpolator_syntax.specs.At.{Placed, text_of}
 use Rattle.interpolator_syntax.specs.Faults.{Fault, Answer, fault}
-use Rattle.interpolator_eval.specs.Meaning.Meanings.{Meaning, or_fault, joined}
+use Rattle.interpolator_eval.specs.Meaning.Meanings.{Meaning, or_fault, chain}
 use Rattle.interpolator_eval.specs.Meaning.Outcomes.{Finished, Outcome}
 
 text_of-append : (xs ys : Placed) → text_of (xs ++ ys) ≡ text_of xs ++ text_of ys
@@ -33,7 +33,7 @@ Contains-map f xs x h = let k = h.1 in (h.0, rw length-map k, get_or-map f xs h.
 -- after a meaning that was finished without a fault
 pub after_finished :
     (m k : Meaning) (old mid new : Written) (answer : Option Answer) → Finished m old mid None
-    → Outcome k mid new answer → Outcome (joined m k) old new answer
+    → Outcome k mid new answer → Outcome (chain m k) old new answer
 after_finished m k old mid new answer h (inl o) = rw (no_fault m.fault h.told)
     (inl (record {
       all = rw (text_of-append m.text k.text)

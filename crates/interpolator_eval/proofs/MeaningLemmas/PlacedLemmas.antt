@@ -33,8 +33,7 @@ placed_from-append p (c ∷ cs) ys =
     let e : p + (len_utf8 c + size cs) ≡ p + len_utf8 c + size cs = omega arith in
     rw e (ap (λ xs. (c, p) ∷ xs) (placed_from-append (p + len_utf8 c) cs ys))
 
--- a text whose characters are placed, where the next one stands at the end of those before it, was
--- refused
+-- a text whose characters are placed, each at the end of those before it, was refused
 module _ (placed : List ℕ → Placed) (own : (cs : List ℕ) → text_of (placed cs) ≡ cs)
     (end : List ℕ → ℕ)
     (split : (front : List ℕ) (c : ℕ) (rest : List ℕ)

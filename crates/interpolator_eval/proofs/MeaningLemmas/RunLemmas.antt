@@ -1,6 +1,6 @@
 -- The outcome of a text from that of what the scan hands on first, and of the rest; and that of an
 -- argument from that of its value.
-use Rattle.std.proofs.Common.{◌≡◌, ◌∙◌, refl, sym, Option, None, Some, Ok, Err, codes}
+use Rattle.std.proofs.Common.{◌≡◌, ℕ, ◌∙◌, refl, sym, Option, None, Some, Ok, Err, codes}
 use Rattle.interpolator_render.specs.declared.view.Trait.{Trait}
 use Rattle.interpolator_render.specs.declared.view.Spec.{Spec}
 use Rattle.interpolator_render.specs.Views.{Shown}
@@ -12,8 +12,10 @@ use Rattle.interpolator_syntax.specs.At.{At, at, strip}
 use Rattle.interpolator_syntax.specs.Classes.{close_brace}
 use Rattle.interpolator_eval.specs.Meaning.Environments.{Environment}
 use Rattle.interpolator_syntax.specs.Faults.{Fault, Answer, fault, parse, expected}
-use Rattle.interpolator_eval.specs.Meaning.Meanings.{argument_means, argument_from_means, piece_means}
-use Rattle.interpolator_eval.specs.Meaning.Meanings.{token_means, means}
+use Rattle.interpolator_syntax.specs.Nodes.{nodes, piece_node}
+use Rattle.interpolator_eval.specs.Meaning.Meanings.{argument_means, argument_from_means}
+use Rattle.interpolator_eval.specs.Meaning.Meanings.{node_means}
+use Rattle.interpolator_eval.specs.Meaning.Meanings.{means}
 use Rattle.interpolator_syntax.specs.Pieces.{argument_from, argument_step}
 use Rattle.interpolator_syntax.specs.Tokens.{Token, first_token, past_token}
 use Rattle.interpolator_eval.specs.Meaning.Outcomes.{Outcome}
@@ -21,7 +23,8 @@ use Rattle.interpolator_eval.specs.Meaning.Sinks.{Writes, taken_by}
 use Rattle.interpolator_eval.specs.declared.meaning.sink.Sink.{Sink}
 use Rattle.interpolator_eval.proofs.MeaningLemmas.SinkLemmas.{and_then, fault_first, nothing_done, ended}
 use Rattle.interpolator_eval.proofs.MeaningLemmas.SinkLemmas.{same_end}
-use Rattle.interpolator_eval.proofs.MeaningLemmas.MeaningLemmas.{means_first, means_end}
+use Rattle.interpolator_eval.proofs.MeaningLemmas.MeaningLemmas.{token_means, means_first}
+use Rattle.interpolator_eval.proofs.MeaningLemmas.MeaningLemmas.{means_end}
 use Rattle.interpolator_render.specs.Written.{Written}
 
 module _ {X W : Type 0} (shows : X → Trait → Spec → Shown) (written : W → Written)
@@ -56,23 +59,23 @@ module _ {X W : Type 0} (shows : X → Trait → Spec → Shown) (written : W �
   broken_writes s f h = record { outcome = rw h (ended f _); same = same_end s }
 
   value_fault_step :
-      (x : Argument) (q : At) (r : Option At) (s t : Written) (w : Answer)
-      → Outcome (argument_means shows (means shows) e a.place x q.place) s t (Some w)
-      → Outcome (piece_means shows (means shows) e a.place
-      (argument_step a.place a x q r).piece.kind) s t (Some w)
-  value_fault_step x q None s t w o = fault_first _ _ s t w o
-  value_fault_step x q (Some rest) s t w o = o
+      (end : ℕ) (x : Argument) (q : At) (r : Option At) (s t : Written) (w : Answer)
+      → Outcome (argument_means shows e a.place x q.place) s t (Some w)
+      → Outcome (node_means shows e (piece_node nodes a.place end
+      (argument_step a.place a x q r).piece.kind)) s t (Some w)
+  value_fault_step end x q None s t w o = fault_first _ _ s t w o
+  value_fault_step end x q (Some rest) s t w o = o
 
   module _ (x : Argument) (q : At) (h : argument_at a ≡ Ok (x, q)) (s t : Sink W) where
     abbrev Value : Option Answer → Type 0
-    Value r = Writes written (argument_means shows (means shows) e a.place x q.place) s t r
+    Value r = Writes written (argument_means shows e a.place x q.place) s t r
 
     -- one whose value ends the run
     pub value_fault_writes : (w : Answer) → Value (Some w)
         → Writes written (argument_from_means shows e a) s t (Some w)
     unfolding argument_from
     value_fault_writes w o = record {
-      outcome = rw h (value_fault_step x q (strip close_brace q) _ _ w o.outcome);
+      outcome = rw h (value_fault_step _ x q (strip close_brace q) _ _ w o.outcome);
       same = o.same;
     }
 
@@ -92,7 +95,7 @@ module _ {X W : Type 0} (shows : X → Trait → Spec → Shown) (written : W �
       same = o.same;
     }
 
--- what stands after an argument that is closed
+-- what follows an argument that is closed
 pub closed_rest : (a : At) (x : Argument) (q rest : At) → argument_at a ≡ Ok (x, q)
     → strip close_brace q ≡ Some rest → (argument_from a.place a).rest ≡ rest
 unfolding argument_from

@@ -1,4 +1,4 @@
--- What may stand under a name in a sample, and what of it is missing.
+-- What may be under a name in a sample, and what of it is missing.
 use Rattle.std.proofs.Common.{◌≡◌, ◌≢◌, ◌∙◌, refl, sym, ap, arith, ℕ, zero, suc, ◌+◌, ◌<◌, ◌≤◌, Bool}
 use Rattle.std.proofs.Common.{true, false, ◌||◌, List, [], ◌∷◌, ◌++◌, length, drop, map, get_or}
 use Rattle.std.proofs.Common.{Option, Some, None, option_map, add-one}
@@ -76,7 +76,7 @@ view_failed (plain_text text) t spec = refl
 view_failed nothing_implemented t spec = refl
 view_failed failure t spec = refl
 
--- ---- some of what stands below items
+-- ---- some of what is below items
 
 module _ {A B C : Type 0} (p : C → Bool) (f : B → List C) (v : A → B) where
   abbrev some : List A → Bool
@@ -105,7 +105,7 @@ module _ {A B C : Type 0} (p : C → Bool) (f : B → List C) (v : A → B) wher
       → some (drop i xs) ≡ whole → false ≡ whole
   some_over xs i whole l h = ap some (sym (drop_all i xs l)) ∙ h
 
--- ---- what stands so deep below trees
+-- ---- what is so deep below trees
 
 flat_flat : {A B C : Type 0} (f : A → List B) (g : B → List C) (xs : List A)
     → flat_map g (flat_map f xs) ≡ flat_map (λ x. flat_map g (f x)) xs
@@ -134,7 +134,7 @@ module _ {X : Type 0} where
       flat_flat (at_level k) items_or_none (items_or_none found)
       ∙ flat_same _ _ (items_or_none found) (items_below_one k)
 
-  -- the items of what stands so deep stand one deeper
+  -- the items of what is so deep are one deeper
   pub items_of_each : (k : ℕ) (xs : List (Slots X))
       → flat_map (at_level (k + 1)) xs ≡ items_of_all (flat_map (at_level k) xs)
   items_of_each k xs =

@@ -6,7 +6,7 @@ use Rattle.interpolator_render.proofs.LayoutLemmas.{appends_none}
 use Rattle.interpolator_render.specs.Written.{Written}
 use Rattle.interpolator_syntax.specs.At.{text_of}
 use Rattle.interpolator_syntax.specs.Faults.{Fault, Answer, fault, no_memory}
-use Rattle.interpolator_eval.specs.Meaning.Meanings.{Meaning, nothing, fault_alone, made_whole, joined}
+use Rattle.interpolator_eval.specs.Meaning.Meanings.{Meaning, nothing, fault_alone, made_whole, chain}
 use Rattle.interpolator_eval.specs.Meaning.Outcomes.{Outcome}
 use Rattle.interpolator_eval.specs.Meaning.Sinks.{SameEnd, Writes, taken_by}
 use Rattle.interpolator_eval.specs.declared.meaning.sink.Sink.{Sink}
@@ -17,15 +17,15 @@ use Rattle.std.specs.List.{Contains}
 
 pub and_then :
     (m k : Meaning) (s t u : Written) (answer : Option Answer) → Outcome m s t None
-    → Outcome k t u answer → Outcome (joined m k) s u answer
+    → Outcome k t u answer → Outcome (chain m k) s u answer
 and_then m k s t u answer h o = after_finished m k s t u answer (finished_if_none m s t h) o
 
 pub fault_first :
     (m k : Meaning) (s t : Written) (q : Answer) → Outcome m s t (Some q)
-    → Outcome (joined m k) s t (Some q)
+    → Outcome (chain m k) s t (Some q)
 fault_first m k s t q h = before_fault m k s t q m.fault refl h
 
--- where no text is meant, nothing is written
+-- if no text is meant, nothing is written
 stops : (m : Meaning) (s : Written) (answer : Option Answer) → m.text ≡ []
     → answer ≡ option_map fault m.fault → Outcome m s s answer
 stops m s answer none told = inl (record { all = rw none (appends_none s); told = told })

@@ -1,12 +1,43 @@
--- The names that a text asks of its environment.
-use Rattle.std.specs.Prelude.{ℕ, zero, suc, ⊤, ◌≡◌, List, [], ◌∷◌, ◌++◌, length, Option, None, Some}
+-- The names that a text asks of its environment: those of its tree.
+use Rattle.std.specs.Prelude.{ℕ, Bool, true, false, ⊤, ◌≡◌, List, [], ◌∷◌, ◌++◌, Option, None, Some}
 use Rattle.interpolator_syntax.specs.At.{At}
-use Rattle.interpolator_syntax.specs.Groups.{Group}
-use Rattle.interpolator_syntax.specs.SpecTexts.{Kind, of_value, of_list}
-use Rattle.interpolator_syntax.specs.Arguments.{Argument}
-use Rattle.interpolator_syntax.specs.Pieces.{Piece, PieceKind, closed, unclosed, pieces}
-use Rattle.interpolator_eval.specs.Meaning.Environments.{Environment, given}
-use Rattle.interpolator_syntax.specs.Groups.{inside}
+use Rattle.interpolator_syntax.specs.Nodes.{Node, node, Branch, no_branch, branch, as_forest}
+use Rattle.interpolator_syntax.specs.Nodes.{Forest, no_nodes, nodes_and, nodes}
+use Rattle.interpolator_syntax.specs.Nodes.{Content, text_content, argument_content, fault_content}
+use Rattle.interpolator_eval.specs.Meaning.Environments.{Environment, slots_under}
+
+-- a name, but for the empty one in an item format, which is the item
+abbrev pub context_names : (in_item : Bool) → List ℕ → List (List ℕ)
+context_names true [] = []
+context_names true (c ∷ cs) = (c ∷ cs) ∷ []
+context_names false name = name ∷ []
+
+-- the name of an argument that was read
+abbrev pub held_asks : (in_item : Bool) → Option Content → List (List ℕ)
+held_asks in_item None = []
+held_asks in_item (Some (text_content from cs)) = []
+held_asks in_item (Some (argument_content start name spec bare end)) = context_names in_item name
+held_asks in_item (Some (fault_content f)) = []
+
+abbrev mutual
+  -- the name of a piece, then those of its item format, then those of its join
+  pub node_asks : (in_item : Bool) → Node → List (List ℕ)
+  node_asks in_item (node place end kind held item join) =
+      held_asks in_item held ++ (branch_asks true item ++ branch_asks in_item join)
+
+  -- those of a group
+  pub branch_asks : (in_item : Bool) → Branch → List (List ℕ)
+  branch_asks in_item no_branch = []
+  branch_asks in_item (branch xs) = forest_asks in_item xs
+
+  -- those of pieces, in order
+  pub forest_asks : (in_item : Bool) → Forest → List (List ℕ)
+  forest_asks in_item no_nodes = []
+  forest_asks in_item (nodes_and x xs) = node_asks in_item x ++ forest_asks in_item xs
+
+-- the names that a text asks
+abbrev pub asked_names : At → List (List ℕ)
+asked_names a = forest_asks false (as_forest (nodes a))
 
 -- the names that are not empty
 abbrev pub without_empty : List (List ℕ) → List (List ℕ)
@@ -14,43 +45,7 @@ without_empty [] = []
 without_empty ([] ∷ names) = without_empty names
 without_empty ((c ∷ cs) ∷ names) = (c ∷ cs) ∷ without_empty names
 
--- `run` gives the names that a text within this one asks
-module _ (run : At → List (List ℕ)) where
-  -- the names of a group
-  abbrev pub group_asks : Option Group → List (List ℕ)
-  group_asks None = []
-  group_asks (Some g) = run (inside g)
-
-  -- the names of an item format, where the empty name is the item, and then those of the join
-  abbrev pub kind_asks : Kind → List (List ℕ)
-  kind_asks (of_value t) = []
-  kind_asks (of_list l) = without_empty (group_asks l.item) ++ group_asks l.join
-
-  -- the name of an argument, and then those of its groups
-  abbrev pub argument_asks : Argument → List (List ℕ)
-  argument_asks x = x.name ∷ kind_asks x.kind
-
-  -- the names of an argument that was read
-  abbrev pub piece_asks : PieceKind → List (List ℕ)
-  piece_asks (closed start x end) = argument_asks x
-  piece_asks (unclosed start x end) = argument_asks x
-  piece_asks _ = []
-
-  -- the names of the pieces, in order
-  abbrev pub pieces_ask : List Piece → List (List ℕ)
-  pieces_ask [] = []
-  pieces_ask (x ∷ xs) = piece_asks x.kind ++ pieces_ask xs
-
--- the names that a text asks in which groups are nested less than so deep
-abbrev pub asked_within : (depth : ℕ) → At → List (List ℕ)
-asked_within zero a = []
-asked_within (suc depth) a = pieces_ask (asked_within depth) (pieces a)
-
--- the names that a text asks: a group is shorter than the text that it stands in
-unfoldable pub asked_names : At → List (List ℕ)
-asked_names a = asked_within (suc (length a.text)) a
-
 -- two environments give the same under each of these names
 abbrev pub AgreeOn : {X : Type 0} → Environment X → Environment X → List (List ℕ) → Type 0
 AgreeOn e d [] = ⊤
-AgreeOn e d (name ∷ names) = (given e name ≡ given d name) × AgreeOn e d names
+AgreeOn e d (name ∷ names) = (slots_under e name ≡ slots_under d name) × AgreeOn e d names

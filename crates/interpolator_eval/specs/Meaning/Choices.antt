@@ -3,13 +3,13 @@ use Rattle.std.specs.Prelude.{ℕ, ℤ, pos, negsuc, suc, ◌+◌, ◌-◌, min,
 use Rattle.std.specs.Prelude.{List, length, take, drop, Option, None, Some}
 use Rattle.interpolator_syntax.specs.declared.range.Range.{Range}
 
--- where a bound stands in a list of n items: below zero it counts from the list's end, and lies at
--- its beginning where the list is too short
+-- where a bound is in a list of n items: below zero it counts from the list's end, and lies at its
+-- beginning if the list is too short
 abbrev pub bound_in : (n : ℕ) → ℤ → ℕ
 bound_in n (pos k) = k
 bound_in n (negsuc k) = n - suc k
 
--- a bound in a list of n items, or where none is set
+-- a bound in a list of n items, or if none is set
 abbrev pub bound_or : (n absent : ℕ) → Option ℤ → ℕ
 bound_or n absent None = absent
 bound_or n absent (Some bound) = bound_in n bound
@@ -27,7 +27,7 @@ abbrev pub places_of : (n : ℕ) → Range → ℕ × ℕ
 places_of n range =
     (min (lower_in n range) (min (upper_in n range) n), min (upper_in n range) n)
 
--- the same, where without a range all items are chosen
+-- the places that a range chooses, and all items if there is no range
 abbrev pub chosen_places : (n : ℕ) → Option Range → ℕ × ℕ
 chosen_places n None = (0, n)
 chosen_places n (Some range) = places_of n range

@@ -17,11 +17,11 @@ is_among name [] = false
 is_among name (x ∷ xs) = bytes_eq name x || is_among name xs
 
 -- of these names the ones that are among those of a list, if there is one
-abbrev pub kept : Option (List (List ℕ)) → List (List ℕ) → List (List ℕ)
-kept None names = names
-kept (Some own) [] = []
-kept (Some own) (name ∷ names) =
-    if is_among name own then name ∷ kept (Some own) names else kept (Some own) names
+abbrev pub names_among : Option (List (List ℕ)) → List (List ℕ) → List (List ℕ)
+names_among None names = names
+names_among (Some own) [] = []
+names_among (Some own) (name ∷ names) =
+    if is_among name own then name ∷ names_among (Some own) names else names_among (Some own) names
 
 module _ {X : Type 0} where
   -- what the context gives, and nothing for a name outside the list
@@ -36,17 +36,17 @@ module _ {X : Type 0} where
   inner_or None gives name = gives name
 
   -- what the environment gives under a name
-  abbrev pub given : Environment X → List ℕ → Option (Slots X)
-  given e name = inner_or e.inner (within e.names e.finds) name
+  abbrev pub slots_under : Environment X → List ℕ → Option (Slots X)
+  slots_under e name = inner_or e.inner (within e.names e.finds) name
 
   -- a context alone
   abbrev pub environment : (List ℕ → Option (Slots X)) → Environment X
   environment finds = record { finds = finds; inner = None; names = None }
 
-  -- the same with this inner value
+  -- an environment with this inner value
   abbrev pub bind : Environment X → Slots X → Environment X
   bind e t = record { finds = e.finds; inner = Some t; names = e.names }
 
-  -- the same cut to these names: under another name the context is not asked
+  -- an environment cut to these names: under another name the context is not asked
   abbrev pub cut : Environment X → List (List ℕ) → Environment X
-  cut e names = record { finds = e.finds; inner = e.inner; names = Some (kept e.names names) }
+  cut e names = record { finds = e.finds; inner = e.inner; names = Some (names_among e.names names) }

@@ -1,5 +1,5 @@
--- What stands under names, compared by what the values show, and not by what they are: in two
--- contexts whose values may be of different types.
+-- What is under names, compared by what the values show, and not by what they are: in two contexts
+-- whose values may be of different types.
 use Rattle.std.specs.Prelude.{◌≡◌, ℕ, ⊤, List, [], ◌∷◌, Option, None, Some}
 use Rattle.interpolator_render.specs.declared.view.Trait.{Trait}
 use Rattle.interpolator_render.specs.declared.view.Spec.{Spec}
@@ -7,12 +7,12 @@ use Rattle.interpolator_render.specs.Texts.{view_text}
 use Rattle.interpolator_render.specs.Views.{Shown}
 use Rattle.interpolator_eval.specs.Slots.{Values, Slots, SlotsList, bare, listed, no_slots, slots_and}
 use Rattle.interpolator_eval.specs.Slots.{slot_at}
-use Rattle.interpolator_eval.specs.Meaning.Environments.{Environment, given}
+use Rattle.interpolator_eval.specs.Meaning.Environments.{Environment, slots_under}
 
 -- `shows` is what the values of the one context show, and `others` what those of the other do
 module _ {X Y : Type 0} (shows : X → Trait → Spec → Shown) (others : Y → Trait → Spec → Shown) where
   -- the slot of a trait is empty in both, or both values show the same text under every spec, or
-  -- the same lack of one
+  -- one lack of it
   abbrev pub EqualSlot : Trait → Option X → Option Y → Type 0
   EqualSlot t None None = ⊤
   EqualSlot t (Some x) (Some y) =
@@ -47,4 +47,4 @@ module _ {X Y : Type 0} (shows : X → Trait → Spec → Shown) (others : Y →
   -- two environments give equal values under each of these names
   abbrev pub EqualOn : Environment X → Environment Y → List (List ℕ) → Type 0
   EqualOn e d [] = ⊤
-  EqualOn e d (name ∷ names) = EqualFound (given e name) (given d name) × EqualOn e d names
+  EqualOn e d (name ∷ names) = EqualFound (slots_under e name) (slots_under d name) × EqualOn e d names

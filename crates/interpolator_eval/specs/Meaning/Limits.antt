@@ -9,7 +9,7 @@ use Rattle.interpolator_syntax.specs.declared.range.Range.{Range}
 use Rattle.interpolator_eval.specs.Slots.{Values, Slots, SlotsList, bare, listed, no_slots, slots_and}
 use Rattle.interpolator_eval.specs.Slots.{slot_at, slots_listed}
 use Rattle.interpolator_eval.specs.Meaning.Choices.{places_of}
-use Rattle.interpolator_eval.specs.Meaning.Environments.{Environment, given}
+use Rattle.interpolator_eval.specs.Meaning.Environments.{Environment, slots_under}
 
 -- `shows` is what a value shows under a trait and a spec; a text has at most `text` characters, and
 -- a list at most `items` items
@@ -43,24 +43,24 @@ module _ {X : Type 0} (shows : X → Trait → Spec → Shown) (text items : ℕ
   -- what an environment gives under each of these names
   abbrev pub IsWithin : Environment X → List (List ℕ) → Type 0
   IsWithin e [] = ⊤
-  IsWithin e (name ∷ names) = FoundWithin (given e name) × IsWithin e names
+  IsWithin e (name ∷ names) = FoundWithin (slots_under e name) × IsWithin e names
 
 -- ---- the items that a range chooses
 
--- from an item that is `first` items before the list's end up to a bound: where that counts from
--- the end too, both lie as far from one another in every list
+-- from an item that is `first` items before the list's end up to a bound: if that counts from the
+-- end too, both lie as far from one another in every list
 abbrev pub most_from_end : (most first : ℕ) → (inclusive : Bool) → (upper : Option ℤ) → ℕ
 most_from_end most first inclusive (Some (negsuc k)) =
     min most (first - suc k + (if inclusive then 1 else 0))
 most_from_end most first inclusive _ = min most first
 
--- the most items that a range chooses of a list of at most so many, by its lower bound: where that
+-- the most items that a range chooses of a list of at most so many, by its lower bound: if that
 -- counts from the beginning, no list has more chosen ones than the longest
 abbrev pub most_from : (most : ℕ) → Range → (lower : Option ℤ) → ℕ
 most_from most range (Some (negsuc k)) = most_from_end most (suc k) range.inclusive range.upper
 most_from most range _ = (places_of most range).1 - (places_of most range).0
 
--- the same, where without a range all items are chosen
+-- the places that a range chooses, and all items if there is no range
 abbrev pub most_chosen : (most : ℕ) → Option Range → ℕ
 most_chosen most None = most
 most_chosen most (Some range) = most_from most range range.lower

@@ -11,16 +11,16 @@ use Rattle.interpolator_syntax.specs.Arguments.{Argument}
 use Rattle.interpolator_syntax.specs.Faults.{Fault}
 use Rattle.interpolator_eval.specs.Slots.{Slots, items}
 use Rattle.interpolator_eval.specs.Meaning.Choices.{chosen_items}
-use Rattle.interpolator_eval.specs.Meaning.Environments.{Environment, given}
+use Rattle.interpolator_eval.specs.Meaning.Environments.{Environment, slots_under}
 use Rattle.interpolator_eval.specs.Meaning.Meanings.{Meaning, item_means, join_means, chosen_means}
-use Rattle.interpolator_eval.specs.Meaning.Meanings.{argument_means, means}
+use Rattle.interpolator_eval.specs.Meaning.Meanings.{argument_means}
 
--- the argument asks for a list that is written so, and under its name stands a list of these items
+-- the argument asks for a list that is written so, and under its name is a list of these items
 pub record FindsList {X : Type 0} (e : Environment X) (x : Argument) (l : ListRequest)
     (ts : List (Slots X)) : Type 0 where
   pub asked : x.kind ≡ of_list l
   pub found : Slots X
-  pub gives : given e x.name ≡ Some found
+  pub gives : slots_under e x.name ≡ Some found
   pub listed : items found ≡ Some ts
 
 module _ {A : Type 0} (join : Meaning) (item : A → Meaning) where
@@ -47,17 +47,17 @@ module _ {A : Type 0} (join : Meaning) (item : A → Meaning) where
 
 module _ {X : Type 0} (shows : X → Trait → Spec → Shown) (e : Environment X) where
   -- an argument that starts at `start` and whose spec ends at end
-  abbrev pub written : (start : ℕ) → Argument → (end : ℕ) → Meaning
-  written start x end = argument_means shows (means shows) e start x end
+  abbrev pub argument_meaning : (start : ℕ) → Argument → (end : ℕ) → Meaning
+  argument_meaning start x end = argument_means shows e start x end
 
   -- what the join of a list means
   abbrev pub join_of : ListRequest → Meaning
-  join_of l = join_means shows (means shows) e l.join
+  join_of l = join_means shows e l.join
 
   -- what an item of a list means
   abbrev pub item_of : ListRequest → (end : ℕ) → Slots X → Meaning
-  item_of l end item = item_means shows (means shows) e end l.item item
+  item_of l end item = item_means shows e end l.item item
 
   -- what the chosen items mean, one after the other, before they are padded
-  abbrev pub unpadded : ListRequest → (end : ℕ) → List (Slots X) → Meaning
-  unpadded l end ts = chosen_means shows (means shows) e l end (chosen_items l.range ts)
+  abbrev pub items_alone : ListRequest → (end : ℕ) → List (Slots X) → Meaning
+  items_alone l end ts = chosen_means shows e l end (chosen_items l.range ts)

@@ -1,5 +1,5 @@
 -- Lists: what an argument asks for as the code has it, and a text that is made whole.
-use Rattle.std.specs.Prelude.{◌≡◌, ℕ, List, Option, Some}
+use Rattle.std.specs.Prelude.{◌≡◌, ℕ, List, Option, Some, option_map}
 use Rattle.interpolator_render.specs.declared.view.Spec.{Spec}
 use Rattle.interpolator_syntax.specs.At.{text_of}
 use Rattle.interpolator_syntax.specs.Arguments.{list_of}
@@ -10,7 +10,8 @@ use Rattle.interpolator_syntax.specs.declared.error.Error.{Error}
 use Rattle.interpolator_syntax.specs.Faults.{answer_of}
 use Rattle.interpolator_render.specs.Written.{Written}
 use Rattle.interpolator_eval.specs.Slots.{Slots, items}
-use Rattle.interpolator_eval.specs.Meaning.Environments.{Environment, given}
+use Rattle.interpolator_eval.specs.Meaning.Choices.{chosen_items}
+use Rattle.interpolator_eval.specs.Meaning.Environments.{Environment, slots_under}
 use Rattle.interpolator_eval.specs.Meaning.Meanings.{Meaning, made_whole, under_name, listed_means}
 use Rattle.interpolator_eval.specs.Meaning.Meanings.{padded_list, items_mean}
 use Rattle.interpolator_eval.specs.Meaning.Outcomes.{Outcome}
@@ -23,14 +24,14 @@ list_under x = record { spec = x.spec; kind = of_list (list_of x.list) }
 abbrev pub padded_list_means : Spec → (end : ℕ) → Meaning → Meaning
 padded_list_means spec end m = made_whole spec end m.fault (text_of m.text)
 
--- the list under a name, for an argument that starts at `start` and whose spec ends at `end`, where
+-- the list under a name, for an argument that starts at `start` and whose spec ends at `end`, if
 -- this is what the join and an item mean
 module _ {X : Type 0} (e : Environment X) (name : List ℕ) (start : ℕ) (range : Option Range)
     (spec : Spec) (end : ℕ) where
   abbrev pub list_under_name : (join : Meaning) → (item : Slots X → Meaning) → Meaning
   list_under_name join item =
       under_name name start (λ found. listed_means range spec end join item (items found))
-      (given e name)
+      (slots_under e name)
 
   -- it means what these items of it mean, whatever the join and an item mean
   abbrev pub IsChosen : List (Slots X) → Type 0
@@ -43,3 +44,10 @@ module _ {X : Type 0} (e : Environment X) (name : List ℕ) (start : ℕ) (range
   IsNotChosen error =
       (join : Meaning) → (item : Slots X → Meaning) → (w : Written)
       → Outcome (list_under_name join item) w w (Some (answer_of error))
+
+-- these are the items that a range chooses of the list under a name
+pub record ChosenUnder {X : Type 0} (e : Environment X) (name : List ℕ) (range : Option Range)
+    (chosen : List (Slots X)) : Type 0 where
+  pub listed : List (Slots X)
+  pub found : Some (Some listed) ≡ option_map items (slots_under e name)
+  pub chosen_of : chosen ≡ chosen_items range listed

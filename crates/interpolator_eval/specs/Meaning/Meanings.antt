@@ -1,6 +1,6 @@
 -- What a format means: text with places, at most one fault, and where memory is taken.
-use Rattle.std.specs.Prelude.{ℕ, zero, suc, ◌+◌, ◌||◌, Bool, true, false, is_some, if◌then◌else◌}
-use Rattle.std.specs.Prelude.{List, [], ◌∷◌, ◌++◌, map, length, Option, None, Some, codes}
+use Rattle.std.specs.Prelude.{ℕ, ◌+◌, ◌||◌, Bool, true, false, is_some, if◌then◌else◌, codes}
+use Rattle.std.specs.Prelude.{List, [], ◌∷◌, ◌++◌, map, length, Option, None, Some}
 use Rattle.interpolator_render.specs.declared.view.Trait.{Trait}
 use Rattle.interpolator_render.specs.declared.view.Trait.TheVariants as traits
 use Rattle.interpolator_render.specs.declared.view.Sign.{Sign}
@@ -10,21 +10,26 @@ use Rattle.interpolator_render.specs.Padding.{padded_text}
 use Rattle.interpolator_render.specs.Views.{Shown}
 use Rattle.interpolator_render.specs.Texts.{ViewText, has_text, has_no_text, has_failed, view_text}
 use Rattle.interpolator_syntax.specs.At.{At, Placed, placed_at, placed_from, text_of}
-use Rattle.interpolator_syntax.specs.Classes.{close_brace}
-use Rattle.interpolator_syntax.specs.Groups.{Group, inside}
-use Rattle.interpolator_syntax.specs.Lists.{ListRequest}
-use Rattle.interpolator_syntax.specs.SpecTexts.{Kind, of_value, of_list, plain_spec}
 use Rattle.interpolator_syntax.specs.Arguments.{Argument}
-use Rattle.interpolator_syntax.specs.Pieces.{Piece, PieceKind, literal, doubled, lone_close, closed}
-use Rattle.interpolator_syntax.specs.Pieces.{unclosed, broken, argument_from, pieces}
-use Rattle.interpolator_syntax.specs.Tokens.{Token, literals, argument}
-use Rattle.interpolator_syntax.specs.Tokens.{doubled as doubled_token, lone_close as lone_token}
 use Rattle.interpolator_syntax.specs.Faults.{Fault, missing_value, missing_trait_impl, fmt, parse}
 use Rattle.interpolator_syntax.specs.Faults.{expected, iter}
+use Rattle.interpolator_syntax.specs.Groups.{Group}
+use Rattle.interpolator_syntax.specs.Lists.{ListRequest}
+use Rattle.interpolator_syntax.specs.Nodes.{Node, node, Branch, no_branch, branch, as_forest}
+use Rattle.interpolator_syntax.specs.Nodes.{Forest, no_nodes, nodes_and, nodes}
+use Rattle.interpolator_syntax.specs.Nodes.{Content, text_content, argument_content, fault_content}
+use Rattle.interpolator_syntax.specs.Nodes.{Target, target_value, target_list}
+use Rattle.interpolator_syntax.specs.Nodes.{group_branch, argument_node, token_node}
+use Rattle.interpolator_syntax.specs.Pieces.{Piece}
+use Rattle.interpolator_syntax.specs.SpecTexts.{plain_spec}
+use Rattle.interpolator_syntax.specs.Splits.{node_alone}
+use Rattle.interpolator_syntax.specs.Tokens.{argument}
+use Rattle.interpolator_syntax.specs.declared.piece_kind.PieceKind.{PieceKind}
+use Rattle.interpolator_syntax.specs.declared.piece_kind.PieceKind.TheVariants.{Closed, Unclosed}
 use Rattle.interpolator_syntax.specs.declared.range.Range.{Range}
 use Rattle.interpolator_eval.specs.Slots.{Slots, values_of, items, slot_at}
 use Rattle.interpolator_eval.specs.Meaning.Choices.{chosen_items}
-use Rattle.interpolator_eval.specs.Meaning.Environments.{Environment, given, bind}
+use Rattle.interpolator_eval.specs.Meaning.Environments.{Environment, slots_under, bind}
 
 -- a placed text, at most one fault, and the memory points: before how many characters memory is
 -- taken
@@ -49,7 +54,7 @@ fault_alone f = record { text = []; fault = Some f; memory_points = [] }
 abbrev pub fault_wanting_memory : Fault → Meaning
 fault_wanting_memory f = record { text = []; fault = Some f; memory_points = 0 ∷ [] }
 
--- one after the other, where the first has this fault or none: memory points move by its text
+-- one after the other, if this is the fault of the first: memory points move by its text
 abbrev pub or_fault : Option Fault → Meaning → Meaning → Meaning
 or_fault (Some f) m k = m
 or_fault None m k = record {
@@ -58,9 +63,9 @@ or_fault None m k = record {
   memory_points = m.memory_points ++ map (λ n. length m.text + n) k.memory_points;
 }
 
--- the first, and after it the second where the first has no fault
-abbrev pub joined : Meaning → Meaning → Meaning
-joined m k = or_fault m.fault m k
+-- the first and, if it has no fault, the second after it
+abbrev pub chain : Meaning → Meaning → Meaning
+chain m k = or_fault m.fault m k
 
 -- the text of a view, each character at end
 abbrev pub view_means : Trait → (end : ℕ) → ViewText → Meaning
@@ -68,7 +73,7 @@ view_means t end (has_text cs) = text_alone (placed_at end cs)
 view_means t end has_no_text = fault_alone (missing_trait_impl t end)
 view_means t end has_failed = fault_alone (fmt end)
 
--- what stands in a slot, where `shows` is what the value shows under a trait and a spec
+-- what is in a slot, by what the value shows under a trait and a spec
 abbrev pub value_means : {X : Type 0} → (shows : X → Trait → Spec → Shown)
     → Trait → Spec → (end : ℕ) → Option X → Meaning
 value_means shows t spec end None = fault_alone (missing_trait_impl t end)
@@ -99,12 +104,12 @@ padded_list spec end m =
 -- each with the join before it
 abbrev pub items_after : {X : Type 0} → (join : Meaning) → (X → Meaning) → List X → Meaning
 items_after join item [] = nothing
-items_after join item (x ∷ xs) = joined join (joined (item x) (items_after join item xs))
+items_after join item (x ∷ xs) = chain join (chain (item x) (items_after join item xs))
 
 -- the items in order, and the join between two of them
 abbrev pub items_mean : {X : Type 0} → (join : Meaning) → (X → Meaning) → List X → Meaning
 items_mean join item [] = nothing
-items_mean join item (x ∷ xs) = joined (item x) (items_after join item xs)
+items_mean join item (x ∷ xs) = chain (item x) (items_after join item xs)
 
 -- what was found under the name of an argument that starts at `start`, by what a value means
 abbrev pub under_name : {X : Type 0} → (name : List ℕ) → (start : ℕ) → (X → Meaning) → Option X
@@ -112,8 +117,8 @@ abbrev pub under_name : {X : Type 0} → (name : List ℕ) → (start : ℕ) →
 under_name name start means None = fault_wanting_memory (missing_value name start)
 under_name name start means (Some found) = means found
 
--- the items of what was found, if it is a list, of which a range chooses some, where this is what
--- the join and an item mean
+-- the items of what was found, if it is a list, of which a range chooses some, by what the join and
+-- an item mean
 abbrev pub listed_means : {X : Type 0} → Option Range → Spec → (end : ℕ) → (join : Meaning)
     → (item : X → Meaning) → Option (List X) → Meaning
 listed_means range spec end join item None = fault_alone (missing_trait_impl traits.Iter end)
@@ -121,74 +126,84 @@ listed_means range spec end join item (Some ts) =
     if forbids_list spec then fault_alone (parse (iter end))
     else padded_list spec end (items_mean join item (chosen_items range ts))
 
-module _ {X : Type 0} (shows : X → Trait → Spec → Shown) where
-  -- `run` is what a text within this one means
-  module _ (run : Environment X → At → Meaning) (e : Environment X) where
-    -- an item by its format, in which the empty name is the item; without one it is displayed
-    -- plainly
-    abbrev pub item_means : (end : ℕ) → Option Group → Slots X → Meaning
-    item_means end (Some g) item = run (bind e item) (inside g)
-    item_means end None item =
-        value_means shows traits.Display plain_spec end (slot_at traits.Display (values_of item))
+-- after an argument that is not closed: the fault of the missing brace
+abbrev pub and_closed : PieceKind → (end : ℕ) → Meaning → Meaning
+and_closed Unclosed end m = chain m (fault_alone (parse (expected (codes "}") end)))
+and_closed _ end m = m
 
-    -- what stands between two items means the same between any two
+module _ {X : Type 0} (shows : X → Trait → Spec → Shown) where
+  -- what was found under a name, by what is asked for, if this is what the join and an item mean
+  abbrev pub bare_means : Target → Spec → (end : ℕ) → (join : Meaning) → (Slots X → Meaning)
+      → Slots X → Meaning
+  bare_means (target_value t) spec end join item found =
+      value_means shows t spec end (slot_at t (values_of found))
+  bare_means (target_list range) spec end join item found =
+      listed_means range spec end join item (items found)
+
+  -- text that is written means itself, a name what is under it, a fault itself; `join` is what the
+  -- join means and `item`, for a spec that ends at a place, an item
+  abbrev pub held_means : Environment X → PieceKind → Content → (join : Meaning)
+      → (item : ℕ → Slots X → Meaning) → Meaning
+  held_means e kind (text_content from cs) join item = text_alone (placed_from from cs)
+  held_means e kind (argument_content start name spec bare end) join item =
+      and_closed kind end
+      (under_name name start (bare_means bare spec end join (item end)) (slots_under e name))
+  held_means e kind (fault_content f) join item = fault_alone f
+
+  -- an item without a format: it is displayed plainly
+  abbrev pub plain_item_means : (end : ℕ) → Slots X → Meaning
+  plain_item_means end item =
+      value_means shows traits.Display plain_spec end (slot_at traits.Display (values_of item))
+
+  abbrev mutual
+    -- a piece means what it holds, by what its groups mean
+    pub node_means : Environment X → Node → Meaning
+    node_means e (node place end kind None item join) = nothing
+    node_means e (node place end kind (Some held) item join) =
+        held_means e kind held (join_branch_means e join) (item_branch_means e item)
+
+    -- what comes between two items means the same between any two
+    pub join_branch_means : Environment X → Branch → Meaning
+    join_branch_means e no_branch = nothing
+    join_branch_means e (branch xs) = forest_means e xs
+
+    -- an item by its format, in which the empty name is the item
+    pub item_branch_means : Environment X → Branch → (end : ℕ) → Slots X → Meaning
+    item_branch_means e no_branch = plain_item_means
+    item_branch_means e (branch xs) = λ end item. forest_means (bind e item) xs
+
+    -- the meanings of pieces, joined up to the first fault
+    pub forest_means : Environment X → Forest → Meaning
+    forest_means e no_nodes = nothing
+    forest_means e (nodes_and x xs) = chain (node_means e x) (forest_means e xs)
+
+  module _ (e : Environment X) where
+    -- a text means what its tree means
+    abbrev pub means : At → Meaning
+    means a = forest_means e (as_forest (nodes a))
+
+    -- ---- in words of the text
+
+    -- what some of its pieces mean, each by itself
+    abbrev pub pieces_mean : List Piece → Meaning
+    pieces_mean xs = forest_means e (as_forest (map node_alone xs))
+
+    -- what an argument means that starts at `start`, has its spec up to `end` and is closed
+    abbrev pub argument_means : (start : ℕ) → Argument → (end : ℕ) → Meaning
+    argument_means start x end = node_means e (argument_node nodes start end Closed start x end)
+
+    -- the argument that begins at b, after its brace
+    abbrev pub argument_from_means : At → Meaning
+    argument_from_means b = node_means e (token_node nodes b.place argument b)
+
+    -- an item, by its format if it has one
+    abbrev pub item_means : (end : ℕ) → Option Group → Slots X → Meaning
+    item_means end g = item_branch_means e (group_branch nodes g) end
+
+    -- a join, if there is one
     abbrev pub join_means : Option Group → Meaning
-    join_means (Some g) = run e (inside g)
-    join_means None = nothing
+    join_means g = join_branch_means e (group_branch nodes g)
 
     -- the chosen items of a list, written one after the other
     abbrev pub chosen_means : ListRequest → (end : ℕ) → List (Slots X) → Meaning
     chosen_means l end chosen = items_mean (join_means l.join) (item_means end l.item) chosen
-
-    -- the items of what was found, if it is a list
-    abbrev pub list_means : ListRequest → Spec → (end : ℕ) → Option (List (Slots X)) → Meaning
-    list_means l spec end = listed_means l.range spec end (join_means l.join) (item_means end l.item)
-
-    -- what was found means, by what the argument asks for
-    abbrev pub kind_means : Kind → Spec → (end : ℕ) → Slots X → Meaning
-    kind_means (of_value t) spec end found = value_means shows t spec end (slot_at t (values_of found))
-    kind_means (of_list l) spec end found = list_means l spec end (items found)
-
-    -- what was found under the name of an argument that starts at `start`
-    abbrev pub found_means : (start : ℕ) → Argument → (end : ℕ) → Option (Slots X) → Meaning
-    found_means start x end = under_name x.name start (kind_means x.kind x.spec end)
-
-    -- an argument means what its name gives
-    abbrev pub argument_means : (start : ℕ) → Argument → (end : ℕ) → Meaning
-    argument_means start x end = found_means start x end (given e x.name)
-
-    -- what a piece at p means
-    abbrev pub piece_means : (p : ℕ) → PieceKind → Meaning
-    piece_means p (literal c) = text_alone ((c, p) ∷ [])
-    piece_means p (doubled c) = text_alone ((c, p) ∷ [])
-    piece_means p lone_close = text_alone ((close_brace, p) ∷ [])
-    piece_means p (closed start x end) = argument_means start x end
-    piece_means p (unclosed start x end) =
-        joined (argument_means start x end) (fault_alone (parse (expected (codes "}") end)))
-    piece_means p (broken f) = fault_alone f
-
-    -- the meanings of the pieces, joined up to the first fault
-    abbrev pub pieces_mean : List Piece → Meaning
-    pieces_mean [] = nothing
-    pieces_mean (x ∷ xs) = joined (piece_means x.place x.kind) (pieces_mean xs)
-
-  -- what a text means in which groups are nested less than so deep
-  abbrev pub means_within : (depth : ℕ) → Environment X → At → Meaning
-  means_within zero e a = nothing
-  means_within (suc depth) e a = pieces_mean (means_within depth) e (pieces a)
-
-  -- what a text means in an environment: a group is shorter than the text that it stands in
-  unfoldable pub means : Environment X → At → Meaning
-  means e a = means_within (suc (length a.text)) e a
-
-  module _ (e : Environment X) where
-    -- the argument that begins at b, after its brace
-    abbrev pub argument_from_means : At → Meaning
-    argument_from_means b = piece_means means e b.place (argument_from b.place b).piece.kind
-
-    -- what the scan hands on at p, where b stands after it
-    abbrev pub token_means : (p : ℕ) → Token → (b : At) → Meaning
-    token_means p (literals cs) b = text_alone (placed_from p cs)
-    token_means p (doubled_token c) b = text_alone ((c, p) ∷ [])
-    token_means p lone_token b = text_alone ((close_brace, p) ∷ [])
-    token_means p argument b = argument_from_means b

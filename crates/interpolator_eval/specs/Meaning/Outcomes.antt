@@ -12,12 +12,12 @@ use Rattle.interpolator_eval.specs.Meaning.Meanings.{Meaning}
 
 -- a writer before and after, and what was answered
 module _ (m : Meaning) (old new : Written) (answer : Option Answer) where
-  -- all of the meaning's text is appended, and the answer is its fault, or Ok where it has none
+  -- all of the meaning's text is appended, and the answer is its fault, or Ok if it has none
   pub record Finished : Type 0 where
     pub all : Appends old (text_of m.text) new
     pub told : answer ≡ option_map fault m.fault
 
-  -- a proper beginning of the text is appended, none of it where the writer had refused before; the
+  -- a proper beginning of the text is appended, none of it if the writer had refused before; the
   -- answer is `Fmt` at the place of the first character that was not
   pub record Refused : Type 0 where
     pub front : Placed
@@ -43,7 +43,7 @@ module _ (m : Meaning) (old new : Written) (answer : Option Answer) where
   abbrev pub Outcome : Type 0
   Outcome = Finished ⊎ Refused ⊎ WantsMemory
 
--- a new text: the meaning's, where it has no fault; else its fault, or that memory was wanted
+-- a new text: the meaning's, if it has no fault; else its fault, or that memory was wanted
 abbrev pub Formats : {Z : Type 0} → Meaning → Result (String Z) Error → Type 0
 Formats m result = MatchResult result
     (λ s. (m.fault ≡ None) × (chars (string_bytes s) ≡ text_of m.text))

@@ -7,7 +7,7 @@ use Rattle.interpolator_render.specs.Texts.{ViewText, has_text, view_text}
 use Rattle.interpolator_render.specs.Views.{Shown}
 use Rattle.interpolator_eval.specs.Slots.{Values, Slots, SlotsList, bare, listed, no_slots, slots_and}
 use Rattle.interpolator_eval.specs.Slots.{values_of, items, slot_at}
-use Rattle.interpolator_eval.specs.Meaning.Environments.{Environment, given}
+use Rattle.interpolator_eval.specs.Meaning.Environments.{Environment, slots_under}
 
 -- there is a text
 abbrev pub HasText : ViewText → Type 0
@@ -58,4 +58,4 @@ module _ {X Y : Type 0} (shows : X → Trait → Spec → Shown) (others : Y →
   abbrev pub ResemblesOn : Environment Y → Environment X → List (List ℕ) → Type 0
   ResemblesOn e sample [] = ⊤
   ResemblesOn e sample (name ∷ names) =
-      ResemblesFound (given e name) (given sample name) × ResemblesOn e sample names
+      ResemblesFound (slots_under e name) (slots_under sample name) × ResemblesOn e sample names

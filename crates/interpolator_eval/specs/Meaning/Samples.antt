@@ -1,4 +1,4 @@
--- What may stand under a name in a sample, an example of the contexts that a format will be written
+-- What may be under a name in a sample, an example of the contexts that a format will be written
 -- with, and what of it is missing.
 use Rattle.std.specs.Prelude.{ℕ, zero, suc, Bool, true, false, is_some, not, Option, Some, None}
 use Rattle.std.specs.Prelude.{List, [], ◌∷◌, map, flat_map, option_map, unwrap_or}
@@ -16,7 +16,7 @@ use Rattle.interpolator_eval.specs.declared.meaning.sample.Candidates.TheVariant
 use Rattle.interpolator_eval.specs.declared.meaning.sample.Items.{Items}
 use Rattle.interpolator_eval.specs.declared.meaning.sample.Need.{Need}
 use Rattle.interpolator_eval.specs.declared.meaning.sample.Need.TheVariants as needs
-use Rattle.interpolator_eval.specs.declared.meaning.sample.SampleScope.{SampleScope}
+use Rattle.interpolator_eval.specs.declared.meaning.sample.SampleEnvironment.{SampleEnvironment}
 
 -- what the sample gives under a name; and in an item format what the item may be: any item of the
 -- sample's lists
@@ -36,7 +36,7 @@ module _ {X : Type 0} where
   each_or (Some ts) others (c ∷ cs) = others (c ∷ cs)
   each_or None others name = others name
 
-  -- all that may stand under a name, if anything is given under it
+  -- all that may be under a name, if anything is given under it
   abbrev pub may_stand : Sample X → List ℕ → Option (List (Slots X))
   may_stand s name = each_or s.each (λ other. option_map alone (s.gives other)) name
 
@@ -52,7 +52,7 @@ module _ {X : Type 0} where
   abbrev pub sample : (List ℕ → Option (Slots X)) → Sample X
   sample finds = record { gives = finds; each = None }
 
-  -- the same sample in an item format, where the item may be any of these
+  -- a sample in an item format, in which the item may be any of these
   abbrev pub each_of : Sample X → List (Slots X) → Sample X
   each_of s ts = record { gives = s.gives; each = Some ts }
 
@@ -98,7 +98,7 @@ is_failure failure = true
 is_failure _ = false
 
 module _ {X : Type 0} (shows : X → Trait → Spec → Shown) where
-  -- the text of what stands in a slot, and none if it is empty
+  -- the text of what is in a slot, and none if it is empty
   abbrev pub slot_text : Trait → Spec → Option X → ViewText
   slot_text t spec None = has_no_text
   slot_text t spec (Some x) = view_text (shows x t spec) t spec
@@ -124,39 +124,39 @@ module _ {X : Type 0} (shows : X → Trait → Spec → Shown) where
   lacks needs.List found = has_no_list found
 
 module _ {X : Type 0} where
-  -- what stands so deep below a tree
+  -- what is so deep below a tree
   abbrev pub at_level : (level : ℕ) → Slots X → List (Slots X)
   at_level zero found = alone found
   at_level (suc level) found = flat_map (at_level level) (items_or_none found)
 
-  -- what stands so deep below some items
+  -- what is so deep below some items
   abbrev pub items_below : Items X → List (Slots X)
   items_below below = flat_map (at_level below.level) (map slots_of below.items.now)
 
-  -- what may stand under a name
+  -- what may be under a name
   abbrev pub candidates_of : Candidates X → List (Slots X)
   candidates_of (One found) = alone (slots_of found)
   candidates_of (Each below) = items_below below
 
-  -- how deep they stand
+  -- how deep they are
   abbrev pub level_of_candidates : Candidates X → ℕ
   level_of_candidates (One found) = 0
   level_of_candidates (Each below) = below.level
 
-  -- how deep an item may stand
+  -- how deep an item may be
   abbrev pub level_of : Option (Items X) → ℕ
   level_of None = 0
   level_of (Some below) = below.level
 
--- the sample that a scope stands for
-abbrev pub sample_of : {C X : Type 0} → (C → List ℕ → Option (Slots X)) → SampleScope C X → Sample X
+-- the sample that an environment stands for
+abbrev pub sample_of : {C X : Type 0} → (C → List ℕ → Option (Slots X)) → SampleEnvironment C X → Sample X
 sample_of finds s =
     record { gives = finds s.context.now; each = option_map items_below s.each }
 
--- how deep an item may stand in a scope
-abbrev pub level_in : {C X : Type 0} → SampleScope C X → ℕ
+-- how deep an item may be in an environment
+abbrev pub level_in : {C X : Type 0} → SampleEnvironment C X → ℕ
 level_in s = level_of s.each
 
--- how deep items stand
+-- how deep items are
 abbrev pub level_of_items : {X : Type 0} → Items X → ℕ
 level_of_items below = below.level

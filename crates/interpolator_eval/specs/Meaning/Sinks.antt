@@ -10,7 +10,7 @@ use Rattle.interpolator_eval.specs.declared.meaning.sink.Sink.TheVariants.{Write
 use Rattle.interpolator_eval.specs.declared.meaning.sink.WriteFault.{WriteFault}
 use Rattle.interpolator_eval.specs.declared.meaning.sink.WriteFault.TheVariants.{MissingTraitImpl, Fmt}
 
--- what the end of a sink has taken, where `written` is what is known of its writer
+-- what the end of a sink has taken; `written` is what is known of its writer
 abbrev pub taken_by : {W : Type 0} → (W → Written) → Sink W → Written
 taken_by written (Writer out) = written out.now
 taken_by written (Aside buffer) = bounded_writer buffer.now

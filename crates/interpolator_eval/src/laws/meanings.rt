@@ -8,47 +8,54 @@ ghost use Rattle.interpolator_syntax.specs.Arguments.{Argument};
 ghost use Rattle.interpolator_syntax.specs.Lists.{ListRequest};
 ghost use Rattle.interpolator_syntax.specs.Faults.{Fault, expected, iter, parse};
 ghost use Rattle.interpolator_syntax.specs.Grammar.{from_place};
+ghost use Rattle.interpolator_syntax.specs.Groups.{Group, inside};
 ghost use Rattle.interpolator_syntax.specs.Moved.{moved_at};
 ghost use Rattle.interpolator_syntax.specs.Pieces.{Piece, closed, pieces, unclosed};
 ghost use Rattle.interpolator_eval.specs.Slots.{Slots};
 ghost use Rattle.interpolator_eval.specs.Meaning.Choices.{chosen_items};
-ghost use Rattle.interpolator_eval.specs.Meaning.Environments.{Environment};
-ghost use Rattle.interpolator_eval.specs.Meaning.ListArguments.{FindsList, written, unpadded};
+ghost use Rattle.interpolator_eval.specs.Meaning.Environments.{Environment, bind};
+ghost use Rattle.interpolator_eval.specs.Meaning.ListArguments.{FindsList, argument_meaning, items_alone};
 ghost use Rattle.interpolator_eval.specs.Meaning.ListArguments.{join_of, item_of, AllFinish};
 ghost use Rattle.interpolator_eval.specs.Meaning.ListArguments.{joined_texts, FirstFault};
-ghost use Rattle.interpolator_eval.specs.Meaning.Meanings.{fault_alone, forbids_list, joined};
-ghost use Rattle.interpolator_eval.specs.Meaning.Meanings.{means, pieces_mean};
+ghost use Rattle.interpolator_eval.specs.Meaning.Meanings.{fault_alone, forbids_list, chain};
+ghost use Rattle.interpolator_eval.specs.Meaning.Meanings.{item_means, join_means, means};
+ghost use Rattle.interpolator_eval.specs.Meaning.Meanings.{pieces_mean};
 ghost use Rattle.interpolator_eval.specs.Meaning.Moves.{moved_meaning};
 
 use interpolator_render::Value;
 
 /// A text means what its pieces mean, one after the other, up to the first fault: a literal or a
-/// brace the character that is written, an argument what is written of what stands under its name,
-/// and a broken argument its fault. After an unclosed argument, the last piece, a `}` is expected.
-/// What stands in a group means what it means as a text of its own, at its place.
+/// brace the character that is written, an argument what is written of what is under its name, and
+/// a broken argument its fault. After an unclosed argument, the last piece, a `}` is expected. What
+/// is in a group means what it means as a text of its own, at its place.
 ///
 /// So what the laws of lists say of an argument holds of what `write` makes of a text that has it:
-/// `a{l:i({})}b` writes `a`, then what the list writes and, where that has no fault, `b`.
+/// `a{l:i({})}b` writes `a`, then what the list writes and, if that has no fault, `b`.
 pub fn text_means_what_its_pieces_mean<V: Value>()
     ensures pieces { (e : Environment V) (a : At)
-        → means V.shows e a ≡ pieces_mean V.shows (means V.shows) e (pieces a) }
+        → means V.shows e a ≡ pieces_mean V.shows e (pieces a) }
     ensures closed { (e : Environment V) (a : At) (before after : List Piece) (piece : Piece)
         (start q : ℕ) (x : Argument) → pieces a ≡ before ++ (piece ∷ after)
         → piece.kind ≡ closed start x q
-        → means V.shows e a ≡ joined (pieces_mean V.shows (means V.shows) e before)
-        (joined (written V.shows e start x q) (pieces_mean V.shows (means V.shows) e after)) }
+        → means V.shows e a ≡ chain (pieces_mean V.shows e before)
+        (chain (argument_meaning V.shows e start x q) (pieces_mean V.shows e after)) }
     ensures unclosed { (e : Environment V) (a : At) (before : List Piece) (piece : Piece)
         (start q : ℕ) (x : Argument) → pieces a ≡ before ++ (piece ∷ [])
         → piece.kind ≡ unclosed start x q
-        → means V.shows e a ≡ joined (pieces_mean V.shows (means V.shows) e before)
-        (joined (written V.shows e start x q) (fault_alone (parse (expected (codes "}") q)))) }
+        → means V.shows e a ≡ chain (pieces_mean V.shows e before)
+        (chain (argument_meaning V.shows e start x q) (fault_alone (parse (expected (codes "}") q)))) }
+    ensures item { (e : Environment V) (q : ℕ) (g : Group) (item : Slots V)
+        → item_means V.shows e q (Some g) item ≡ means V.shows (bind e item) (inside g) }
+    ensures join { (e : Environment V) (g : Group)
+        → join_means V.shows e (Some g) ≡ means V.shows e (inside g) }
 {}
 
-/// A text means the same wherever it stands: at a base that is so many bytes further on, the same
-/// characters or the same fault, with every place moved by so many bytes, and memory is taken at
-/// the same points. So a text at a place means what it means by itself, moved by the place.
+/// What a text means does not depend on where it is: at a base that is so many bytes further on,
+/// the same characters or the same fault, with every place moved by so many bytes, and memory is
+/// taken at the same points. So a text at a place means what it means by itself, moved by the
+/// place.
 ///
-/// So `{q}`, where nothing stands under `q`, is missed at byte 1, and in `ab{q}` at byte 3.
+/// So `{q}`, with nothing under `q`, is missed at byte 1, and in `ab{q}` at byte 3.
 pub fn meaning_moves_with_the_text<V: Value>()
     ensures moves { (by : ℕ) (e : Environment V) (a : At)
         → means V.shows e (moved_at by a) ≡ moved_meaning by (means V.shows e a) }
@@ -58,26 +65,26 @@ pub fn meaning_moves_with_the_text<V: Value>()
 {}
 
 /// What a list means before it is padded: the chosen items in order and the join between two of
-/// them, up to the first fault. Without a fault in an item or, where there are two, in the join,
-/// all of them are written; else what stands before the first fault, which is the list's.
+/// them, up to the first fault. Without a fault in an item or, if there are two, in the join, all
+/// of them are written; else what comes before the first fault, which is the list's.
 ///
-/// So `{l:i({})(, )}` of the items 1, 2 and 3 writes `1, 2, 3`, and where the second item cannot be
+/// So `{l:i({})(, )}` of the items 1, 2 and 3 writes `1, 2, 3`, and if the second item cannot be
 /// displayed, `1, `.
 pub fn list_is_its_items_and_joins<V: Value>()
     ensures text { (e : Environment V) (q : ℕ) (l : ListRequest) (ts : List (Slots V))
-        → (unpadded V.shows e l q ts).fault ≡ None
-        → (unpadded V.shows e l q ts).text
+        → (items_alone V.shows e l q ts).fault ≡ None
+        → (items_alone V.shows e l q ts).text
         ≡ joined_texts (join_of V.shows e l) (item_of V.shows e l q) (chosen_items l.range ts) }
     ensures all { (e : Environment V) (q : ℕ) (l : ListRequest) (ts : List (Slots V))
-        → (unpadded V.shows e l q ts).fault ≡ None
+        → (items_alone V.shows e l q ts).fault ≡ None
         → AllFinish (join_of V.shows e l) (item_of V.shows e l q) (chosen_items l.range ts) }
     ensures join { (e : Environment V) (q : ℕ) (l : ListRequest) (ts : List (Slots V))
         (x y : Slots V) (more : List (Slots V)) → chosen_items l.range ts ≡ x ∷ y ∷ more
-        → (unpadded V.shows e l q ts).fault ≡ None → (join_of V.shows e l).fault ≡ None }
+        → (items_alone V.shows e l q ts).fault ≡ None → (join_of V.shows e l).fault ≡ None }
     ensures first { (e : Environment V) (q : ℕ) (l : ListRequest) (ts : List (Slots V)) (f : Fault)
-        → (unpadded V.shows e l q ts).fault ≡ Some f
+        → (items_alone V.shows e l q ts).fault ≡ Some f
         → FirstFault (join_of V.shows e l) (item_of V.shows e l q) (chosen_items l.range ts) f
-        (unpadded V.shows e l q ts).text }
+        (items_alone V.shows e l q ts).text }
 {}
 
 /// A list argument that chooses no item writes as many copies of its fill, or spaces, as its width
@@ -89,46 +96,46 @@ pub fn list_is_its_items_and_joins<V: Value>()
 pub fn list_of_no_item_is_its_padding<V: Value>()
     ensures text { (e : Environment V) (start q : ℕ) (x : Argument) (l : ListRequest)
         (ts : List (Slots V)) → FindsList e x l ts → chosen_items l.range ts ≡ []
-        → (written V.shows e start x q).fault ≡ None
-        → (written V.shows e start x q).text
+        → (argument_meaning V.shows e start x q).fault ≡ None
+        → (argument_meaning V.shows e start x q).text
         ≡ placed_at q (replicate (unwrap_or x.spec.width 0) (fill_of x.spec)) }
     ensures fault { (e : Environment V) (start q : ℕ) (x : Argument) (l : ListRequest)
         (ts : List (Slots V)) → FindsList e x l ts → chosen_items l.range ts ≡ []
-        → (written V.shows e start x q).fault
+        → (argument_meaning V.shows e start x q).fault
         ≡ (if forbids_list x.spec then Some (parse (iter q)) else None) }
 {}
 
 /// A list argument with a width that has no fault writes as many characters as the width says, or
-/// all those of its chosen items and of the joins between them where they are more: these, with
-/// copies of its fill, or spaces, before and after them. Each character stands at the byte after the
+/// all those of its chosen items and of the joins between them if they are more: these, with copies
+/// of its fill, or spaces, before and after them. Each character is at the byte after the
 /// argument's spec.
 ///
 /// So `{l:>4i}` of the items 1 and 2 writes `  12`, and `{l:2i(item)}` writes `itemitem`.
 pub fn padded_list_fills_its_width<V: Value>()
     ensures count { (e : Environment V) (start q width : ℕ) (x : Argument) (l : ListRequest)
         (ts : List (Slots V)) → FindsList e x l ts → x.spec.width ≡ Some width
-        → (written V.shows e start x q).fault ≡ None
-        → length (written V.shows e start x q).text
-        ≡ max width (length (unpadded V.shows e l q ts).text) }
+        → (argument_meaning V.shows e start x q).fault ≡ None
+        → length (argument_meaning V.shows e start x q).text
+        ≡ max width (length (items_alone V.shows e l q ts).text) }
     ensures text { (e : Environment V) (start q width : ℕ) (x : Argument) (l : ListRequest)
         (ts : List (Slots V)) → FindsList e x l ts → x.spec.width ≡ Some width
-        → (written V.shows e start x q).fault ≡ None
-        → (written V.shows e start x q).text
-        ≡ placed_at q (padded_text x.spec (text_of (unpadded V.shows e l q ts).text)) }
+        → (argument_meaning V.shows e start x q).fault ≡ None
+        → (argument_meaning V.shows e start x q).text
+        ≡ placed_at q (padded_text x.spec (text_of (items_alone V.shows e l q ts).text)) }
 {}
 
-/// Where a chosen item or a join has a fault, it is the fault of the list. A list with a width then
-/// writes nothing, and one without a width what stands before the fault.
+/// If a chosen item or a join has a fault, it is the fault of the list. A list with a width then
+/// writes nothing, and one without a width what comes before the fault.
 ///
-/// So `{l:i(a{q})}`, where nothing stands under `q`, writes `a` for the first item and ends there,
-/// and `{l:4i(a{q})}` writes nothing.
+/// So `{l:i(a{q})}`, with nothing under `q`, writes `a` for the first item and ends there, and
+/// `{l:4i(a{q})}` writes nothing.
 pub fn fault_ends_a_list<V: Value>()
     ensures padded { (e : Environment V) (start q width : ℕ) (x : Argument) (l : ListRequest)
         (ts : List (Slots V)) (f : Fault) → FindsList e x l ts → forbids_list x.spec ≡ false
-        → x.spec.width ≡ Some width → (unpadded V.shows e l q ts).fault ≡ Some f
-        → ((written V.shows e start x q).text ≡ [])
-        × ((written V.shows e start x q).fault ≡ Some f) }
+        → x.spec.width ≡ Some width → (items_alone V.shows e l q ts).fault ≡ Some f
+        → ((argument_meaning V.shows e start x q).text ≡ [])
+        × ((argument_meaning V.shows e start x q).fault ≡ Some f) }
     ensures unpadded { (e : Environment V) (start q : ℕ) (x : Argument) (l : ListRequest)
         (ts : List (Slots V)) → FindsList e x l ts → forbids_list x.spec ≡ false
-        → x.spec.width ≡ None → written V.shows e start x q ≡ unpadded V.shows e l q ts }
+        → x.spec.width ≡ None → argument_meaning V.shows e start x q ≡ items_alone V.shows e l q ts }
 {}

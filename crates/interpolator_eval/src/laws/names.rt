@@ -44,8 +44,8 @@ pub fn asked_names_are_those_of_the_arguments()
 
 /// A format means the same in two contexts that give equal values under the names that it asks,
 /// whatever these values are: of any type each, and wherever they lie in memory. Values are equal
-/// where they show the same text under each trait and spec, or the same lack of one; and lists
-/// where their items are, one by one. Where nothing refuses, the two then have one outcome.
+/// if they show the same text under each trait and spec, or one lack of it; and lists if their
+/// items are, one by one. If nothing refuses, the two then have one outcome.
 ///
 /// So two contexts that hold the text `Ann` in two buffers are equal here, and so are they for a
 /// name that is not asked.

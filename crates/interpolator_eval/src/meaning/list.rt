@@ -23,7 +23,7 @@ pub fn forbids_list(spec: &Spec) -> bool
     spec.precision.is_some() || has_sign(spec.sign) || spec.alternate || spec.zero
 }
 
-/// Where a bound stands in a list of so many items.
+/// Where a bound is in a list of so many items.
 fn place_of(bound: isize, len: usize) -> usize
     ensures { result ≡ bound_in len bound }
 {
@@ -37,9 +37,9 @@ fn place_of(bound: isize, len: usize) -> usize
 /// Which items of a list of `len` items a range chooses: from the first index up to the second,
 /// without that one.
 ///
-/// A bound below zero counts from the list's end. What lies outside the list is cut off, and where
-/// no item is chosen, both indexes are the same. Without a range all items are chosen. The call
-/// takes no memory.
+/// A bound below zero counts from the list's end. What lies outside the list is cut off, and if no
+/// item is chosen, both indexes are the same. Without a range all items are chosen. The call takes
+/// no memory.
 ///
 /// # Example
 ///

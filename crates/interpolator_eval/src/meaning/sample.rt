@@ -1,4 +1,4 @@
-//! What may stand under the names of a format in a sample, and what of it is missing.
+//! What may be under the names of a format in a sample, and what of it is missing.
 ghost use Rattle.std.specs.Prelude.{◌≡◌, ◌+◌, ◌≤◌, ◌<◌, ◌^◌, ◌⊎◌, ⊤, [], map, flat_map, option_map};
 ghost use Rattle.std.specs.Prelude.{Some, MatchOption, IfSome, unwrap_or};
 ghost use Rattle.std.specs.List.{list_any};
@@ -10,13 +10,14 @@ ghost use Rattle.interpolator_eval.specs.Slots.{slots_of, lent_slots};
 ghost use Rattle.interpolator_eval.specs.Meaning.Samples.{sample, sample_of, each_of, level_in};
 ghost use Rattle.interpolator_eval.specs.Meaning.Samples.{may_stand, items_of_all, items_below};
 ghost use Rattle.interpolator_eval.specs.Meaning.Samples.{candidates_of, at_level, lacks};
-ghost use Rattle.interpolator_eval.specs.Meaning.Samples.{alone, level_of_candidates, level_of_items};
+ghost use Rattle.interpolator_eval.specs.Meaning.Samples.{alone, level_of_candidates};
+ghost use Rattle.interpolator_eval.specs.Meaning.Samples.{level_of_items};
 ghost use Rattle.interpolator_eval.specs.Meaning.Samples.{is_missing, is_failed, slot_text};
 ghost use Rattle.interpolator_eval.specs.Meaning.Samples.{is_for_no_number, is_for_numbers};
 ghost use Rattle.interpolator_eval.specs.Meaning.Samples.{shows_nothing, is_failure};
 
 use crate::context::Context;
-use crate::meaning::scope::Scope;
+use crate::meaning::environment::Environment;
 use crate::slots::Formattable;
 use interpolator_render::{Spec, Trait, Value, View};
 use interpolator_syntax::Error;
@@ -71,16 +72,7 @@ fn no_text(view: View<'_>, t: Trait) -> bool
 fn failed(view: View<'_>) -> bool
     ensures { result ≡ is_failure (shown_by view.entry) }
 {
-    match view {
-        View::Signed(_, _) => false,
-        View::Unsigned(_) => false,
-        View::Truth(_) => false,
-        View::Character(_) => false,
-        View::Text(_) => false,
-        View::Plain(_) => false,
-        View::NotImplemented => false,
-        View::Failed => true,
-    }
+    matches!(view, View::Failed)
 }
 
 /// The slot of a trait is empty, or its value has no text under it.
@@ -116,7 +108,7 @@ fn lacks_one<V: Value>(found: &Formattable<'_, V>, need: Need<'_>) -> bool
     }
 }
 
-/// Some of what stands so deep below some items lacks what is needed.
+/// Some of what is so deep below some items lacks what is needed.
 #[cycle(below)]
 fn lacks_below<V: Value>(items: &[Formattable<'_, V>], level: usize, need: Need<'_>) -> bool
     ensures { result ≡ list_any (lacks V.shows need.entry)
@@ -130,7 +122,7 @@ fn lacks_below<V: Value>(items: &[Formattable<'_, V>], level: usize, need: Need<
     false
 }
 
-/// Some of what stands so deep below an item lacks what is needed.
+/// Some of what is so deep below an item lacks what is needed.
 #[cycle(below)]
 fn lacks_at<V: Value>(item: &Formattable<'_, V>, level: usize, need: Need<'_>) -> bool
     ensures { result ≡ list_any (lacks V.shows need.entry) (at_level level (slots_of item.now)) }
@@ -144,7 +136,7 @@ fn lacks_at<V: Value>(item: &Formattable<'_, V>, level: usize, need: Need<'_>) -
     }
 }
 
-/// Items of lists: all that stand so deep below some items.
+/// Items of lists: all that are so deep below some items.
 pub struct Items<'a, V> {
     items: &'a [Formattable<'a, V>],
     level: usize,
@@ -193,7 +185,7 @@ impl<'a, V: Value> Items<'a, V> {
     }
 }
 
-/// What may stand under a name: what a context gives, or each item that there may be.
+/// What may be under a name: what a context gives, or each item that there may be.
 pub enum Candidates<'a, V> {
     One(Formattable<'a, V>),
     Each(Items<'a, V>),
@@ -241,13 +233,13 @@ impl<'a, V: Value> Candidates<'a, V> {
 
 /// Where names are looked up in a sample: a context, and in an item format what the item may be,
 /// which has the empty name.
-pub struct SampleScope<'a, C, V> {
+pub struct SampleEnvironment<'a, C, V> {
     alloc: Global,
     context: &'a C,
     each: Option<Items<'a, V>>,
 }
 
-impl<'a, C, V> Clone for SampleScope<'a, C, V> {
+impl<'a, C, V> Clone for SampleEnvironment<'a, C, V> {
     ghost is_clone = { λ old new. new ≡ old };
 
     ghost is_infallible = { λ _. ⊤ };
@@ -257,35 +249,35 @@ impl<'a, C, V> Clone for SampleScope<'a, C, V> {
     }
 }
 
-impl<'a, C, V> Copy for SampleScope<'a, C, V> {}
+impl<'a, C, V> Copy for SampleEnvironment<'a, C, V> {}
 
-impl<'a, C: Context> SampleScope<'a, C, C::Object> {
+impl<'a, C: Context> SampleEnvironment<'a, C, C::Object> {
     /// The context alone. `alloc` is where memory for an absent name is taken.
     pub fn outermost(alloc: Global, context: &'a C) -> Self
         ensures sample { sample_of C.finds result ≡ sample (C.finds context.now) }
         ensures level { level_in result ≡ 0 }
     {
-        SampleScope {
+        SampleEnvironment {
             alloc,
             context,
             each: None,
         }
     }
 
-    /// The same in an item format, where the item may be any of these.
+    /// This sample in an item format, in which the item may be any of these.
     pub fn each_of(&self, items: Items<'a, C::Object>) -> Self
         ensures sample { sample_of C.finds result
             ≡ each_of (sample_of C.finds self.now) (items_below items.entry) }
         ensures level { level_in result ≡ level_of_items items.entry }
     {
-        SampleScope {
+        SampleEnvironment {
             alloc: self.alloc,
             context: self.context,
             each: Some(items),
         }
     }
 
-    /// What the item may be, if the name is empty. Elsewhere the name means what the context has.
+    /// What the item may be, if the name is empty. Any other name means what the context has.
     fn each(&self, name: &str) -> Option<Items<'a, C::Object>>
         ensures each { MatchOption result
             (may_stand (sample_of C.finds self.now) (chars name.now)
@@ -297,7 +289,7 @@ impl<'a, C: Context> SampleScope<'a, C, C::Object> {
         if name.is_empty() { self.each } else { None }
     }
 
-    /// What may stand under a name, if anything is given under it.
+    /// What may be under a name, if anything is given under it.
     pub fn candidates(&self, name: &str) -> Option<Candidates<'a, C::Object>>
         ensures found { option_map candidates_of result
             ≡ may_stand (sample_of C.finds self.now) (chars name.now) }
@@ -312,11 +304,12 @@ impl<'a, C: Context> SampleScope<'a, C, C::Object> {
         }
     }
 
-    /// The items of all that may stand under a name.
+    /// The items of all that may be under a name.
     pub fn items(&self, name: &str) -> Items<'a, C::Object>
         requires { level_in self.now + 1 < 2 ^ 64 }
         ensures items { items_below result
-            ≡ items_of_all (unwrap_or (may_stand (sample_of C.finds self.now) (chars name.now)) []) }
+            ≡ items_of_all
+            (unwrap_or (may_stand (sample_of C.finds self.now) (chars name.now)) []) }
         ensures level { level_of_items result ≤ level_in self.now + 1 }
     {
         let Some(found) = self.candidates(name) else {
@@ -330,6 +323,6 @@ impl<'a, C: Context> SampleScope<'a, C, C::Object> {
         ensures told { (answer_of result ≡ fault (missing_value (chars name.now) start))
             ⊎ (answer_of result ≡ no_memory) }
     {
-        Scope::outermost(self.alloc, self.context).missing(name, start)
+        Environment::outermost(self.alloc, self.context).missing(name, start)
     }
 }

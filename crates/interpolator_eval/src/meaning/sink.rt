@@ -16,8 +16,8 @@ use interpolator_render::{Bounded, RenderFault, Spec, TextWrite, Trait, Value, V
 use interpolator_syntax::Error;
 use std::fmt;
 
-/// Why something was not written, and where in the format. An [`Error`] is made of it only where
-/// there is one, since its room, which is bigger, would be cleared for each piece that is written.
+/// Why something was not written, and where in the format. An [`Error`] is made of it only if there
+/// is one, since its slot, which is bigger, would be zeroed for each piece that is written.
 #[derive(Clone, Copy)]
 pub enum WriteFault {
     /// The value has no slot for the trait, or no text under it.
@@ -39,7 +39,6 @@ impl From<WriteFault> for Error {
 }
 
 /// Writes one character of the format.
-#[inline(always)]
 pub fn write_char<W: TextWrite>(out: &mut W, c: char, place: usize) -> Result<(), WriteFault>
     ensures outcome { Outcome (text_alone ((c, place) ∷ []))
         (W.written out.old) (W.written out.new) (write_answered result) }
@@ -50,8 +49,8 @@ pub fn write_char<W: TextWrite>(out: &mut W, c: char, place: usize) -> Result<()
     }
 }
 
-/// Writes characters of the format that stand from a place on. A single one is not written as a
-/// text, which costs more.
+/// Writes characters of the format from a place on. A single one is not written as a text, which
+/// costs more.
 #[inline(always)]
 fn write_run<W: TextWrite>(out: &mut W, text: &str, place: usize) -> Result<(), WriteFault>
     requires fits { place + length text.now < 2 ^ 64 }
@@ -69,7 +68,7 @@ fn write_run<W: TextWrite>(out: &mut W, text: &str, place: usize) -> Result<(), 
     }
 }
 
-/// Writes a view, each character of which stands at one place.
+/// Writes a view, each character of which is at one place.
 #[inline(always)]
 fn write_view<W: TextWrite>(
     out: &mut W,
@@ -90,7 +89,7 @@ fn write_view<W: TextWrite>(
     }
 }
 
-/// Writes a text padded to the width, each character of which stands at one place.
+/// Writes a text padded to the width, each character of which is at one place.
 fn write_padded<W: TextWrite>(
     out: &mut W,
     text: &str,
@@ -114,7 +113,7 @@ pub enum Sink<'s, W> {
 }
 
 impl<'s, W: TextWrite> Sink<'s, W> {
-    /// Characters of the format that stand from a place on, as one slice.
+    /// Characters of the format from a place on, as one slice.
     #[inline(always)]
     pub fn put_run(&mut self, text: &str, place: usize) -> Result<(), WriteFault>
         requires fits { place + length text.now < 2 ^ 64 }
@@ -163,7 +162,7 @@ impl<'s, W: TextWrite> Sink<'s, W> {
         }
     }
 
-    /// What stands in a slot, under a trait and a spec, each character at one place.
+    /// What is in a slot, under a trait and a spec, each character at one place.
     #[inline(always)]
     pub fn put_value<V: Value>(
         &mut self,

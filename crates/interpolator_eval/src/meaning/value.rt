@@ -3,35 +3,35 @@ ghost use Rattle.std.specs.Prelude.{◌≡◌, ◌⊎◌, [], IfOk, MatchResult,
 ghost use Rattle.std.specs.Str.{chars};
 ghost use Rattle.interpolator_render.specs.Bounds.{bounded_writer};
 ghost use Rattle.interpolator_render.specs.declared.view.Trait.TheVariants.{Display};
-ghost use Rattle.interpolator_syntax.specs.Faults.{answered, fault, missing_value, no_memory};
+ghost use Rattle.interpolator_syntax.specs.Faults.{result_answer, fault, missing_value, no_memory};
 ghost use Rattle.interpolator_syntax.specs.SpecTexts.{plain_spec};
-ghost use Rattle.interpolator_eval.specs.Meaning.Environments.{given};
-ghost use Rattle.interpolator_eval.specs.Meaning.Lists.{IsChosen, IsNotChosen};
+ghost use Rattle.interpolator_eval.specs.Meaning.Environments.{slots_under};
+ghost use Rattle.interpolator_eval.specs.Meaning.Lists.{IsChosen, IsNotChosen, ChosenUnder};
 ghost use Rattle.interpolator_eval.specs.Meaning.Meanings.{under_name, value_means, forbids_list};
-ghost use Rattle.interpolator_eval.specs.Meaning.Scopes.{environment_of};
-ghost use Rattle.interpolator_eval.specs.Meaning.Sinks.{HasRoom, Writes};
+ghost use Rattle.interpolator_eval.specs.Meaning.CodeEnvironments.{environment_of};
+ghost use Rattle.interpolator_eval.specs.Meaning.Sinks.{HasRoom, Writes, write_answered};
 ghost use Rattle.interpolator_eval.specs.Slots.{slots_of, slot_at, values_of};
 
 use crate::context::Context;
+use crate::meaning::environment::Environment;
 use crate::meaning::list::{choose, forbids_list};
-use crate::meaning::scope::Scope;
-use crate::meaning::sink::Sink;
+use crate::meaning::sink::{Sink, WriteFault};
 use crate::slots::Formattable;
 use interpolator_render::{Bounded, Spec, TextWrite, Trait, Value};
 use interpolator_syntax::{Error, ParseError, Range};
 
-/// The fault of an absent name, for an argument that starts at `start`. It is a function of its own,
-/// since a function clears the room for its faults where it begins.
+/// The fault of an absent name, for an argument that starts at `start`. It is a function of its
+/// own, since a function zeroes its error slot on entry.
 #[inline(always)]
 fn refused<'a, C: Context>(
-    scope: &Scope<'a, C, C::Object>,
+    environment: &Environment<'a, C, C::Object>,
     start: usize,
     name: &str,
 ) -> Result<(), Error>
-    ensures told { (answered result ≡ Some (fault (missing_value (chars name.now) start)))
-        ⊎ (answered result ≡ Some no_memory) }
+    ensures told { (result_answer result ≡ Some (fault (missing_value (chars name.now) start)))
+        ⊎ (result_answer result ≡ Some no_memory) }
 {
-    Err(scope.missing(name, start))
+    Err(environment.missing(name, start))
 }
 
 /// Writes the value under a name, for an argument that starts at `start` and whose spec ends at
@@ -39,7 +39,7 @@ fn refused<'a, C: Context>(
 #[inline(always)]
 pub fn write_value<'a, W: TextWrite, C: Context>(
     sink: &mut Sink<'_, W>,
-    scope: &Scope<'a, C, C::Object>,
+    environment: &Environment<'a, C, C::Object>,
     start: usize,
     name: &str,
     t: Trait,
@@ -49,11 +49,11 @@ pub fn write_value<'a, W: TextWrite, C: Context>(
     ensures writes { Writes W.written
         (under_name (chars name.now) start
         (λ found. value_means C.Object.shows t spec.now end (slot_at t (values_of found)))
-        (given (environment_of C.finds scope.now) (chars name.now)))
-        sink.old sink.new (answered result) }
+        (slots_under (environment_of C.finds environment.now) (chars name.now)))
+        sink.old sink.new (result_answer result) }
 {
-    let Some(value) = scope.value(name, t) else {
-        return refused(scope, start, name);
+    let Some(value) = environment.value(name, t) else {
+        return refused(environment, start, name);
     };
     sink.put_value(value, t, spec, end)?;
     Ok(())
@@ -61,7 +61,6 @@ pub fn write_value<'a, W: TextWrite, C: Context>(
 
 /// Writes an item of a list that has no format for it: displayed plainly, for an argument whose spec
 /// ends at `end`.
-#[inline(always)]
 pub fn write_plain_item<'a, W: TextWrite, V: Value>(
     sink: &mut Sink<'_, W>,
     item: &'a Formattable<'a, V>,
@@ -69,18 +68,52 @@ pub fn write_plain_item<'a, W: TextWrite, V: Value>(
 ) -> Result<(), Error>
     ensures writes { Writes W.written
         (value_means V.shows Display plain_spec end (slot_at Display (values_of (slots_of item.now))))
-        sink.old sink.new (answered result) }
+        sink.old sink.new (result_answer result) }
 {
     let value = item.slot(Trait::Display);
     sink.put_value(value, Trait::Display, &Spec::default(), end)?;
     Ok(())
 }
 
+/// Writes what is in a slot of an item, under a spec that ends at `end`.
+#[inline(always)]
+pub fn write_item<'a, W: TextWrite, V: Value>(
+    sink: &mut Sink<'_, W>,
+    item: &'a Formattable<'a, V>,
+    t: Trait,
+    spec: &Spec,
+    end: usize,
+) -> Result<(), Error>
+    ensures writes { Writes W.written
+        (value_means V.shows t spec.now end (slot_at t (values_of (slots_of item.now))))
+        sink.old sink.new (result_answer result) }
+{
+    sink.put_value(item.slot(t), t, spec, end)?;
+    Ok(())
+}
+
+/// The same, with a fault that costs less if there is none.
+#[inline(always)]
+pub fn write_slot<'a, W: TextWrite, V: Value>(
+    sink: &mut Sink<'_, W>,
+    item: &'a Formattable<'a, V>,
+    t: Trait,
+    spec: &Spec,
+    end: usize,
+) -> Result<(), WriteFault>
+    ensures writes { Writes W.written
+        (value_means V.shows t spec.now end (slot_at t (values_of (slots_of item.now))))
+        sink.old sink.new (write_answered result) }
+{
+    let value = item.slot(t);
+    sink.put_value(value, t, spec, end)
+}
+
 /// The items that a range chooses of the list under a name, for an argument that starts at `start`
 /// and whose spec ends at `end`.
 #[inline(always)]
 pub fn chosen_list<'a, C: Context>(
-    scope: &Scope<'a, C, C::Object>,
+    environment: &Environment<'a, C, C::Object>,
     start: usize,
     name: &str,
     range: Option<Range>,
@@ -88,14 +121,17 @@ pub fn chosen_list<'a, C: Context>(
     end: usize,
 ) -> Result<&'a [Formattable<'a, C::Object>], Error>
     ensures chosen { MatchResult result
-        (λ items. IsChosen (environment_of C.finds scope.now) (chars name.now) start range spec.now
+        (λ items. IsChosen (environment_of C.finds environment.now) (chars name.now) start range spec.now
         end (map slots_of items.now))
-        (λ error. IsNotChosen (environment_of C.finds scope.now) (chars name.now) start range
+        (λ error. IsNotChosen (environment_of C.finds environment.now) (chars name.now) start range
         spec.now end error) }
+    ensures items { IfOk result
+        (λ items. ChosenUnder (environment_of C.finds environment.now) (chars name.now) range
+        (map slots_of items.now)) }
     ensures allowed { IfOk result (λ _. forbids_list spec.now ≡ false) }
 {
-    let Some(found) = scope.items(name) else {
-        return Err(scope.missing(name, start));
+    let Some(found) = environment.items(name) else {
+        return Err(environment.missing(name, start));
     };
     let Some(items) = found else {
         return Err(Error::MissingTraitImpl(Trait::Iter, end));
@@ -110,10 +146,10 @@ pub fn chosen_list<'a, C: Context>(
 /// bytes as the sink has room for.
 pub fn list_buffer<'a, W: TextWrite, C: Context>(
     sink: &Sink<'_, W>,
-    scope: &Scope<'a, C, C::Object>,
+    environment: &Environment<'a, C, C::Object>,
 ) -> Bounded
     ensures empty { bounded_writer result ≡ record { text = []; refused = false } }
     ensures most { HasRoom W.limit sink.now result.most }
 {
-    Bounded::new(scope.alloc(), sink.room())
+    Bounded::new(environment.alloc(), sink.room())
 }

@@ -1,4 +1,4 @@
-//! Messages by key, whose templates stand in a catalogue.
+//! Messages by key, whose templates are in a catalogue.
 
 use crate::page::Page;
 use interpolator::{ContextMap, Error, Formattable, Interpolate, Template, View};

@@ -1,7 +1,7 @@
-//! A layout for log lines: pairs of a record's fields.
+//! A layout for log lines, prepared for rows of a record's fields.
 
 use crate::page::Page;
-use interpolator::{Error, Formattable, Interpolate, Pairs, Template, TextBuffer, View};
+use interpolator::{Error, Formattable, Pairs, Prepared, Row, Template, TextBuffer, View};
 use std::alloc::Global;
 
 /// What is logged.
@@ -12,15 +12,25 @@ struct Record<'a> {
     message: &'a str,
 }
 
-/// How a record is laid out, by a template that is read once.
+/// How a record is laid out, by a format that is prepared once.
 #[derive(Drop)]
 struct Layout {
-    line: Template,
+    line: Prepared,
 }
 
 impl Layout {
+    /// Reads a layout, and checks it over an example of a record.
     fn new(alloc: Global, line: &str) -> Result<Layout, Error> {
-        let line = Template::parse(alloc, line)?;
+        let template = Template::parse(alloc, line)?;
+        let values = [View::from("INFO"), View::from(1u32), View::from("ready")];
+        let line = template.prepare(
+            alloc,
+            &Pairs(&[
+                ("level", Formattable::debug_display(&values[0])),
+                ("line", Formattable::integer(&values[1])),
+                ("message", Formattable::debug_display(&values[2])),
+            ]),
+        )?;
         Ok(Layout { line })
     }
 
@@ -31,12 +41,12 @@ impl Layout {
             View::from(record.line),
             View::from(record.message),
         ];
-        Pairs(&[
-            ("level", Formattable::debug_display(&values[0])),
-            ("line", Formattable::integer(&values[1])),
-            ("message", Formattable::debug_display(&values[2])),
-        ])
-        .write_template_to(alloc, out, &self.line)
+        let row = [
+            Formattable::debug_display(&values[0]),
+            Formattable::integer(&values[1]),
+            Formattable::debug_display(&values[2]),
+        ];
+        self.line.write(alloc, out, &Row(&row))
     }
 }
 

@@ -30,7 +30,7 @@ fn table(alloc: Global, text: &str) -> Result<String, Error> {
     context.format(alloc, "{rows:i#({:i0({:<6})}{:i1..({:>4})})#(\n)}")
 }
 
-/// How many items stand up to each row's end.
+/// The number of items up to each row's end.
 const ENDS: [&[usize]; 5] = [&[2, 3], &[], &[0, 1, 1], &[2, 1, 9], &[7, 8]];
 
 /// The rows that these ends make.

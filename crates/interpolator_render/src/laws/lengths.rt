@@ -8,8 +8,8 @@ ghost use Rattle.interpolator_render.specs.Views.{Shown};
 ghost use Rattle.interpolator_render.specs.declared.view.Spec.{Spec};
 ghost use Rattle.interpolator_render.specs.declared.view.Trait.{Trait};
 
-/// The text of a view has at most the characters of its width, or of a number or a text under the
-/// trait where these are more.
+/// The text of a view has at most as many characters as its width says, or as a number or a text
+/// under the trait can have, if that is more.
 pub fn a_view_is_no_longer_than_its_trait_allows()
     ensures written { (t : Trait) (spec : Spec) (most : ℕ) (shown : Shown)
         → IsShownWithin most shown → HasAtMost (most_written t spec most) (view_text shown t spec) }

@@ -9,20 +9,20 @@ ghost use Rattle.interpolator_syntax.specs.Arguments.{Argument, argument_at, fro
 ghost use Rattle.interpolator_syntax.specs.Faults.{Fault, fault_place};
 
 /// An argument is its parts, one after the other, and only such a text is an argument: all the
-/// white space that stands there, then the name, up to the first `:` or `}`, and then either a `}`,
+/// white space that is there, then the name, up to the first `:` or `}`, and then either a `}`,
 /// which asks for plain display and is not read, or a `:` and a spec after it. The name is a slice
 /// of the text, at its place in bytes.
 ///
-/// So in `{ name:5}` one character of white space stands after the brace, the name, `name`, begins
+/// So in `{ name:5}` one character of white space follows the brace, the name, `name`, begins
 /// at byte 2, and the spec, `5`, ends in front of the brace. In `{}` the name is empty.
 pub fn argument_lies_in_the_text()
     ensures is { (a q : At) (x : Argument) → argument_at a ≡ Ok (x, q) → IsArgument a x q }
     ensures only { (a q : At) (x : Argument) → IsArgument a x q → argument_at a ≡ Ok (x, q) }
 {}
 
-/// Where no argument begins, the name is read as far as it goes, and either the text ends with it,
-/// and the fault names the byte after the opening brace, or a `:` stands after the name, and the
-/// fault is that of the spec after the colon.
+/// If no argument begins here, the name is read as far as it goes. Either the text ends with it, so
+/// that the fault names the byte after the opening brace; or a `:` follows the name, and the fault
+/// is that of the spec after the colon.
 ///
 /// So in `{name` the argument that begins at byte 1 is not closed, and in `{name:5y}` a `}` is
 /// expected at byte 7.
@@ -31,7 +31,7 @@ pub fn argument_is_broken_otherwise()
     ensures only { (a : At) (f : Fault) → IsNoArgument a f → argument_at a ≡ Err f }
 {}
 
-/// What stands after an opening brace is an argument, or there is none for some reason, and not
+/// What follows an opening brace is an argument, or there is none for some reason, and not
 /// both: one argument alone, which ends at one place, or one fault.
 ///
 /// So of `{x:5y}`, whose fault is the `y`, nothing else is told.

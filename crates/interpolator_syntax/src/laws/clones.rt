@@ -1,4 +1,4 @@
-//! Laws of the clones of what stands in braces, each the contract of a small function: the clone is
+//! Laws of the clones of what is in braces, each the contract of a small function: the clone is
 //! the value, and there always is one.
 
 ghost use Rattle.std.specs.Prelude.{◌≡◌, Ok};

@@ -6,14 +6,14 @@ ghost use Rattle.interpolator_syntax.specs.Faults.{answer_of, parse_fault_of};
 use crate::error::{Error, NumberError, ParseError};
 use std::alloc::AllocError;
 
-/// Tests whether two errors are equal: exactly where their variants and fields are.
+/// Tests whether two errors are equal: exactly when their variants and fields are.
 pub fn is_same_error(error: &Error, other: &Error) -> bool
     ensures { IsTrue result ↔ (answer_of error.now ≡ answer_of other.now) }
 {
     *error == *other
 }
 
-/// Tests whether two faults of a format text are equal: exactly where their variants and fields
+/// Tests whether two faults of a format text are equal: exactly when their variants and fields
 /// are.
 pub fn is_same_parse_error(fault: &ParseError, other: &ParseError) -> bool
     ensures { IsTrue result ↔ (parse_fault_of fault.now ≡ parse_fault_of other.now) }
@@ -21,7 +21,7 @@ pub fn is_same_parse_error(fault: &ParseError, other: &ParseError) -> bool
     *fault == *other
 }
 
-/// Tests whether two faults of a number are equal: exactly where their variants are.
+/// Tests whether two faults of a number are equal: exactly when their variants are.
 pub fn is_same_number_error(kind: &NumberError, other: &NumberError) -> bool
     ensures { IsTrue result ↔ (kind.now ≡ other.now) }
 {

@@ -7,9 +7,9 @@ ghost use Rattle.interpolator_syntax.specs.GroupGrammar.{IsGroup, IsNoGroup};
 ghost use Rattle.interpolator_syntax.specs.Faults.{Fault};
 
 /// A group is what opens it, its text and what closes it, one after the other: all the signs `#`
-/// that stand there and a `(`; the text; and a `)` with as many signs. No `)` of the text has that
-/// many signs right after it, so a group ends where it first can. Only such a text is a group, and
-/// no other group begins at its place.
+/// that are there and a `(`; the text; and a `)` with as many signs. No `)` of the text has that
+/// many signs right after it, so a group ends if it first can. Only such a text is a group, and no
+/// other group begins at its place.
 ///
 /// So the text of `(a)#)` is `a`, that of `#(a)#)#` is `a` and that of `##(a)#)##` is `a)#`.
 pub fn group_is_its_parts()
@@ -19,8 +19,8 @@ pub fn group_is_its_parts()
     ensures one { (a q r : At) (g h : Group) → IsGroup a g q → IsGroup a h r → (g ≡ h) × (q ≡ r) }
 {}
 
-/// Where no group begins, the fault is of one of three kinds: the text ends with the signs, and the
-/// fault names the byte after the opening brace; or another character than `(` stands after the
+/// If no group begins here, the fault is of one of three kinds: the text ends with the signs, and
+/// the fault names the byte after the opening brace; or another character than `(` follows the
 /// signs, and the fault names its place; or no `)` has as many signs after it, and the fault names
 /// the byte after the opening brace.
 ///

@@ -8,15 +8,15 @@ ghost use Rattle.interpolator_syntax.specs.ListGrammar.{IsRange, IsNoRange, IsLi
 ghost use Rattle.interpolator_syntax.specs.Faults.{Fault};
 ghost use Rattle.interpolator_syntax.specs.declared.range.Range.{Range};
 
-/// A range is its parts, one after the other, each where its first character stands:
+/// A range is its parts, one after the other, each of which is there if its first character is:
 ///
-/// 1. a lower bound: where a digit or a `-` stands, the longest run of digits and `-`, which is an
+/// 1. a lower bound: if there is a digit or a `-`, the longest run of digits and `-`, which is an
 ///    integer
-/// 2. `..=`, or `..` where no `=` follows
+/// 2. `..=`, or `..` if no `=` follows
 /// 3. after these points an upper bound, as the lower one
 ///
-/// A bound without points is both bounds, and the item at it is written. Where neither a bound nor
-/// points stand there is no range, and nothing is read. Only such a text is a range.
+/// A bound without points is both bounds, and the item at it is written. Without a bound and points
+/// there is no range, and nothing is read. Only such a text is a range.
 ///
 /// So the bounds of `-1` are -1 and -1, `1..` has no upper bound and `..=` has none at all; and of
 /// `1.` the point is not read.
@@ -27,9 +27,9 @@ pub fn range_is_its_parts()
         → range_at start a ≡ Ok (range, q) }
 {}
 
-/// Where no range can be read, the fault is that of the first bound that does not stand: one that
-/// ends with the text leaves the argument unclosed, and one that is no integer is named by the
-/// place where its run begins.
+/// If no range can be read, the fault is that of the first bound that cannot be read: one that ends
+/// with the text leaves the argument unclosed, and one that is no integer is named by the place if
+/// its run begins.
 ///
 /// So the fault of `{l:i..1` is `FormatSpecUnclosed(1)`, and of `{l:i1..--5}` it is
 /// `RangeBound(InvalidDigit, 7)`.
@@ -40,12 +40,12 @@ pub fn range_is_refused_otherwise()
         → range_at start a ≡ Err fault }
 {}
 
-/// How a list is written stands after its letter as three parts, one after the other, each of
+/// How a list is written follows its letter as three parts, one after the other, each of
 /// which may be absent: a range; a group, the format of an item; and a group, the join. A group is
-/// there exactly where a `(` or a `#` stands, so the first group is always the item's. Only such a
+/// there exactly when a `(` or a `#` is, so the first group is always the item's. Only such a
 /// text asks for a list.
 ///
-/// So after the `i` of `{l:i1..({:>4})(, )}` stand the range `1..`, the item format `{:>4}` and
+/// So after the `i` of `{l:i1..({:>4})(, )}` come the range `1..`, the item format `{:>4}` and
 /// the join `, `; after that of `{l:i( )}` an item format alone; and after that of `{l:i}`
 /// nothing.
 pub fn list_is_its_parts()
@@ -55,7 +55,7 @@ pub fn list_is_its_parts()
         → list_at start a ≡ Ok (list, q) }
 {}
 
-/// Where none can be read, the fault is that of the first of these parts that does not stand, from
+/// If none can be read, the fault is that of the first of these parts that cannot be read, from
 /// the left: of a bound of the range, or of a group that a `(` or a `#` begins.
 ///
 /// So the fault of `{l:i-(a}` is `RangeBound(InvalidDigit, 4)`, and of `{l:i(a)#b}` it is

@@ -38,8 +38,8 @@ pub fn integer_is_its_sign_and_digits()
     ensures only { (text : List ℕ) (z : ℤ) → IsInteger text z → integer text ≡ Ok z }
 {}
 
-/// Any other text is no integer. Where a `-` stands in front, what is after it decides, as with
-/// numbers of at most 2^63, but too great a value is `NegOverflow`. Where none does, the whole text
+/// Any other text is no integer. If it begins with a `-`, what is after that decides, as with
+/// numbers of at most 2^63, but too great a value is `NegOverflow`. If it does not, the whole text
 /// decides, as with numbers below 2^63. A `-` with nothing after it is no sign.
 ///
 /// So `-`, `--1` and `1-` are `InvalidDigit`, `9223372036854775808` is `PosOverflow`, and

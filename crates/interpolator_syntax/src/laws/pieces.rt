@@ -15,11 +15,11 @@ pub fn pieces_join()
     ensures joined { (a : At) → flat_map (λ x. x.text) (pieces a) ≡ a.text }
 {}
 
-/// The pieces of a text are the one list of pieces that stand one after the other, each at its
+/// The pieces of a text are the one list of pieces that follow one after the other, each at its
 /// place in bytes, and each of the first of these kinds that its place allows:
 ///
 /// 1. a doubled brace, `{{` or `}}`
-/// 2. a closed argument, from a `{` to the `}` that stands where the argument ends
+/// 2. a closed argument, from a `{` to the `}` at which the argument ends
 /// 3. an unclosed argument, or a broken one, which takes all the rest
 /// 4. a lone `}`
 /// 5. a literal, one character
@@ -31,13 +31,13 @@ pub fn pieces_are_the_one_list()
     ensures only { (a : At) (xs : List Piece) → IsPieces a xs → xs ≡ pieces a }
 {}
 
-/// A piece that begins with a brace stands by the relation of arguments: it is closed exactly where
-/// an argument stands after its brace, up to the closing one; unclosed exactly where one stands
-/// there and no closing brace after it; and broken exactly where none stands there, for the reason
-/// of the relation.
+/// The relation of arguments says what a piece is that begins with a brace: it is closed exactly
+/// when an argument follows its brace, up to the closing one; unclosed exactly when one follows it,
+/// and no closing brace after that; and broken exactly when none follows it, for the reason of the
+/// relation.
 ///
 /// What the scan hands on, run after run, is the pieces: a run of literals is as many pieces, and a
-/// doubled brace, a lone one or an argument is one; and then come the pieces of what stands after it.
+/// doubled brace, a lone one or an argument is one; and then come the pieces of what follows it.
 ///
 /// So of `ab{{{x}` the scan hands on `ab`, a doubled brace and an argument, which are four pieces.
 pub fn pieces_stand_by_the_grammar()

@@ -6,19 +6,19 @@ ghost use Rattle.interpolator_syntax.specs.SpecTexts.{Request, spec_after};
 ghost use Rattle.interpolator_syntax.specs.SpecGrammar.{IsSpec, IsNoSpec};
 ghost use Rattle.interpolator_syntax.specs.Faults.{Fault};
 
-/// The text after a colon is a spec exactly where its parts stand one after the other, each where
-/// its first character stands:
+/// The text after a colon is a spec exactly when it is these parts, one after the other, each of
+/// which is there if its first character is:
 ///
-/// 1. a fill: where an alignment stands second, the first character, which is no `{`
+/// 1. a fill: if an alignment comes second, the first character, which is no `{`
 /// 2. an alignment: `<`, `^` or `>`
 /// 3. a sign: `+` or `-`
 /// 4. `#`
 /// 5. `0`
-/// 6. a width: where a digit stands, the longest run of digits and `-`, which is a number
-/// 7. a precision: where a `.` stands, the same after it
+/// 6. a width: if there is a digit, the longest run of digits and `-`, which is a number
+/// 7. a precision: if there is a `.`, such a run after it
 /// 8. a trait: `?`, `x?`, `X?`, `o`, `x`, `X`, `b`, `e`, `E` or `i`, or nothing in front of a `}`
-/// 9. after `i`, how a list is written: a range, where a bound or `..` stands, and up to two
-///    groups, the format of an item and the join, each where a `(` or a `#` stands
+/// 9. after `i`, how a list is written: a range, if there is a bound or `..`, and up to two
+///    groups, the format of an item and the join, each if there is a `(` or a `#`
 ///
 /// A text of at most one character is not read, nor is one that begins with `}`: both ask for plain
 /// display.
@@ -33,18 +33,18 @@ pub fn spec_is_its_parts()
         → spec_after start a ≡ Ok (asked, q) }
 {}
 
-/// Where no spec stands, the fault is that of the first part that does not stand, from the left:
+/// If there is no spec, the fault is that of the first part that cannot be read, from the left:
 ///
-/// - a `{` in front of an alignment, where that stands second, would be a fill
+/// - a `{` in front of an alignment, if that comes second, would be a fill
 /// - a width or a precision that ends with the text leaves the argument unclosed, and one that is
-///   no number is named by the place where its run begins
-/// - the end of the text, where a trait may stand, leaves the argument unclosed after `#` or `0`
-/// - `p` is an option that is not supported, and any other character that begins no trait stands
-///   where a `}` is expected
+///   no number is named by the place if its run begins
+/// - the end of the text, if a trait may be, leaves the argument unclosed after `#` or `0`
+/// - `p` is an option that is not supported, and any other character that begins no trait is
+///   found if a `}` is expected
 /// - after `i`, a bound that ends with the text leaves the argument unclosed, and one that is no
-///   integer is named by the place where its run begins
+///   integer is named by the place if its run begins
 /// - a group whose signs end the text, or that nothing closes, leaves the argument unclosed, and
-///   another character than `(` after its signs stands where a `(` is expected
+///   another character than `(` after its signs is found if a `(` is expected
 ///
 /// So the fault of `{a:{<}` is `Fill(3)`, of `{a:1-2}` it is `InvalidWidth(InvalidDigit, 3)`, of
 /// `{a:55` it is `FormatSpecUnclosed(1)`, of `{a:5y}` it is `Expected("}", 4)`, and of `{a:i#b}` it

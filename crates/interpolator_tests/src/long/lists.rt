@@ -4,7 +4,7 @@ use crate::report::Report;
 use interpolator::{Error, Formattable, Interpolate, Pairs, Template, TextBuffer};
 use std::alloc::Global;
 
-/// How many times the ten digits stand in the lists.
+/// How many times the ten digits are in the lists.
 const TIMES: usize = 10_000;
 
 const DIGITS: [&str; 10] = ["0", "1", "2", "3", "4", "5", "6", "7", "8", "9"];

@@ -4,7 +4,7 @@ use crate::given::{Given, format_given, parsed, write_given};
 use crate::report::Report;
 use interpolator::{Error, Formattable, Pairs, TextBuffer};
 
-/// A format, the texts before which it wants memory, what is written where memory is given, and
+/// A format, the texts before which it wants memory, what is written if memory is given, and
 /// the fault that is then answered.
 struct Wanting<'a> {
     format: &'a str,
@@ -81,7 +81,7 @@ fn is_made(
     true
 }
 
-/// The row is given: at once or, where memory was refused, when it is asked again.
+/// The row is given: at once or, if memory was refused, when it is asked again.
 fn gives(report: &mut Report, pairs: Pairs<'_, u64>, row: &Wanting<'_>, given: Given<'_>) {
     let written = is_written(report, pairs, row, given) || is_written(report, pairs, row, given);
     report.holds(row.format, written);

@@ -77,7 +77,7 @@ fn is_prepared(
     true
 }
 
-/// The row is given over a list: at once or, where memory was refused, when it is asked again.
+/// The row is given over a list: at once or, if memory was refused, when it is asked again.
 fn gives(
     report: &mut Report,
     row: &Loading<'_>,

@@ -45,7 +45,7 @@ fn maps(report: &mut Report) {
     report.holds("a name that is entered", has(&map, true, true, 2));
 }
 
-/// A copy of a text. Where memory is refused, it is asked once more.
+/// A copy of a text. If memory is refused, it is asked once more.
 fn copied(alloc: Global, text: &str) -> Result<String, AllocError> {
     match String::from_str(alloc, text) {
         Ok(copy) => Ok(copy),
@@ -113,8 +113,8 @@ fn escapes(report: &mut Report) {
     }
 }
 
-/// Whether the name is told that is missing. Where its copy is refused, the answer is `NoMemory`, and
-/// the text before it stands. The writer has its room before.
+/// Whether the name is told that is missing. If its copy is refused, the answer is `NoMemory`, and
+/// the text before it stays. The writer has its room before.
 fn is_told(report: &mut Report) -> bool {
     let alloc = report.alloc;
     let Ok(room) = String::with_capacity(alloc, 8) else {

@@ -55,7 +55,7 @@ fn is_made(
     true
 }
 
-/// The row is given over a list: at once or, where memory was refused, when it is asked again.
+/// The row is given over a list: at once or, if memory was refused, when it is asked again.
 fn gives(
     report: &mut Report,
     row: &Wanting<'_>,

@@ -1,4 +1,4 @@
-use Rattle.std.proofs.Common.{◌≡◌, ap, ◌∙◌, map, rules}
+use Rattle.std.proofs.Common.{ap, ◌∙◌, map}
 use Rattle.interpolator.specs.Excerpts.{blank}
 use Rattle.interpolator.proofs.ExcerptLemmas.{blanks_more}
 use Rattle.interpolator.proofs.PositionLemmas.{read_more, read_all}

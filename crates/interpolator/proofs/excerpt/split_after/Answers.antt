@@ -1,7 +1,5 @@
-use Rattle.std.proofs.Common.{◌≡◌, List, ℕ, [], arith, rules, sym, ap, ◌∙◌, length}
+use Rattle.std.proofs.Common.{arith, rules, sym, ap, ◌∙◌}
 use Rattle.std.specs.Prelude.{encode_utf8_all}
-use Rattle.std.specs.Str.{chars}
-use Rattle.std.specs.Str.Iter.{chars_rest}
 use Rattle.std.proofs.lemmas.Str.{chars-nil, encodes-chars}
 use Rattle.interpolator.proofs.ExcerptLemmas.{front_none, front_more, front_fits, front_boundary}
 use Rattle.interpolator.proofs.ExcerptLemmas.{front_bytes, back_bytes, front_all, front_text}

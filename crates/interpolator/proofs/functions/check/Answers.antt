@@ -1,7 +1,7 @@
 use Rattle.std.proofs.Common.{◌≡◌, ap, ◌∙◌, inl, option_map}
 use Rattle.std.specs.Str.{chars}
 use Rattle.interpolator_syntax.specs.At.{outermost}
-use Rattle.interpolator_syntax.specs.Faults.{fault, answered}
+use Rattle.interpolator_syntax.specs.Faults.{fault, result_answer}
 use Rattle.interpolator.specs.Template.NodeChecks.{first_fault, text_faults}
 use Rattle.interpolator.specs.Template.Stored.{nodes_of}
 use Rattle.interpolator.proofs.TemplateLemmas.CheckLemmas.{text_told}
@@ -17,7 +17,7 @@ walk_text-requires c =
 
 -- the first fault of the pieces is that of the text
 first_is : (c : goal.After-drop-pieces)
-    → answered c.walk_text.result
+    → result_answer c.walk_text.result
     ≡ option_map fault (first_fault (text_faults (outermost (chars c.args.text.now))))
 first_is c =
     text_told _ (λ old new x answer told. told) (outermost (chars c.args.text.now)) _ _ _

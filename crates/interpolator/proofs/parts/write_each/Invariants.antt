@@ -1,7 +1,7 @@
 use Rattle.std.proofs.Common.{◌≡◌, ◌+◌, drop, Option}
 use Rattle.interpolator_syntax.specs.Faults.{Answer}
 use Rattle.interpolator.specs.Meaning.Parts.{texts_of, bytes_of, parts_mean}
-use Rattle.interpolator_eval.specs.Meaning.Scopes.{environment_of}
+use Rattle.interpolator_eval.specs.Meaning.CodeEnvironments.{environment_of}
 use Rattle.interpolator_eval.specs.Meaning.Outcomes.{Outcome}
 use Rattle.interpolator_render.specs.Written.{Written}
 use Rattle.interpolator_eval.specs.Meaning.Sinks.{SameEnd, taken_by}
@@ -10,7 +10,7 @@ use Rattle.interpolator.proofs.parts.write_each.Given as goal
 -- what the parts that are left come to, after what was written, is what all parts come to
 abbrev pub invariant-loop-part : goal.invariant-loop-part
 invariant-loop-part g l =
-    let meaning = parts_mean g.C.Object.Value.shows (environment_of g.C.Context.finds l.scope) in
+    let meaning = parts_mean g.C.Object.Value.shows (environment_of g.C.Context.finds l.environment) in
     record {
       so_far : (new : Written) (answer : Option Answer)
           → Outcome (meaning l.place (texts_of (drop l.part-index l.parts)))

@@ -1,5 +1,4 @@
 use Rattle.std.proofs.Common.{rules}
-use Rattle.std.specs.Str.{chars}
 use Rattle.interpolator.specs.Prepared.Rows.{name_bytes, row_at}
 use Rattle.interpolator.proofs.PreparedLemmas.StepLemmas.{program_fits}
 use Rattle.interpolator.proofs.PreparedLemmas.WriteLemmas.{names_reached, row_outcome}
@@ -14,6 +13,6 @@ returns g c =
     let names = c.args.named.now.names.now in
     let row = c.args.named.now.row.now in
     let o = row_outcome g.V.Value.shows _ (name_bytes names) (row_at row) c.args.text.now
-    c.args.steps.now _ _ _ c.outermost-scope.ensures (names_reached names row c.requires.reached)
+    c.args.steps.now _ _ _ c.outermost-environment.ensures (names_reached names row c.requires.reached)
     c.requires.program (rw c.in-Writer.is at c.run_steps-answer.ensures.writes.outcome) in
     record { outcome = search rules }

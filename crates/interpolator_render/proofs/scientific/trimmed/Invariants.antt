@@ -1,10 +1,10 @@
 use Rattle.std.proofs.Common.{◌≡◌, false}
 use Rattle.interpolator_render.specs.Digits.{digit_text}
-use Rattle.interpolator_render.specs.Exponent.{trimmed}
+use Rattle.interpolator_render.specs.Exponent.{significant_digits}
 use Rattle.interpolator_render.proofs.scientific.trimmed.Given as goal
 
 abbrev pub invariant-loop-rest : goal.invariant-loop-rest
-invariant-loop-rest l = trimmed (digit_text 10 false l.rest) ≡ trimmed (digit_text 10 false l.n)
+invariant-loop-rest l = significant_digits (digit_text 10 false l.rest) ≡ significant_digits (digit_text 10 false l.n)
 
 abbrev pub decreases-loop-rest : goal.decreases-loop-rest
 decreases-loop-rest l = l.rest

@@ -1,4 +1,4 @@
-use Rattle.std.proofs.Common.{◌≡◌, ◌+◌, ◌-◌, ◌∷◌, [], inl, length, refl, arith}
+use Rattle.std.proofs.Common.{◌≡◌, ◌+◌, ◌-◌, ◌∷◌, [], ap, inl, length, refl, arith}
 use Rattle.std.proofs.Common.{length-append}
 use Rattle.std.specs.Str.Lines.{lines}
 use Rattle.std.proofs.lemmas.Iterator.Adapters.{YieldsList-from_skip}
@@ -6,16 +6,20 @@ use Rattle.std.proofs.lemmas.Iterator.Consumers.{YieldsList-at, YieldsList-end, 
 use Rattle.std.proofs.lemmas.Iterator.Consumers.{YieldsList-turn}
 use Rattle.std.proofs.lemmas.Iterator.Splits.{YieldsList-from_lines}
 use Rattle.std.proofs.lemmas.Result.{err_from_is_err_and}
+use Rattle.interpolator.specs.Prepared.Rows.{PreparedFormat}
 use Rattle.merge.proofs.LetterLemmas.{letters_more, line_at, prevented}
 use Rattle.merge.proofs.letters.merged.Goals as goal
 
-pub returns-in_err-check_template-clause-fault : goal.returns-in_err-check_template-clause-fault
-returns-in_err-check_template-clause-fault c =
-    let err = err_from_is_err_and c.from_residual-in_err-check_template.result
-    c.from_residual-in_err-check_template.ensures.1 in
+pub returns-in_err-letter-clause-fault : goal.returns-in_err-letter-clause-fault
+returns-in_err-letter-clause-fault c =
+    let err = err_from_is_err_and c.from_residual-in_err-letter.result
+    c.from_residual-in_err-letter.ensures.1 in
     rw (err.1, err.2)
     (rw (c.in_ok-template.ensures.template, c.as_slice-names.ensures.value, c.in_ok-held.ensures)
-    at c.in_err-check_template.ensures)
+    at c.in_err-letter.ensures)
+
+pub write_row-requires : goal.write_row-requires
+write_row-requires c = record { names = ap (λ (p : PreparedFormat). p.names) c.in_ok-letter.ensures.1 }
 
 pub returns-in_err-template-clause-fault : goal.returns-in_err-template-clause-fault
 returns-in_err-template-clause-fault c =
@@ -31,13 +35,13 @@ returns-in_err-held-clause-fault c =
 pub returns-clause-sound : goal.returns-clause-sound
 returns-clause-sound c =
     rw (c.in_ok-template.ensures.template, c.as_slice-names.ensures.value, c.in_ok-held.ensures)
-    at c.in_ok-check_template.ensures
+    at c.in_ok-letter.ensures.0
 
 pub returns-in-Err-clause-fault : goal.returns-in-Err-clause-fault
 returns-in-Err-clause-fault c =
     let sound =
     rw (c.in_ok-template.ensures.template, c.as_slice-names.ensures.value, c.in_ok-held.ensures)
-    at c.in_ok-check_template.ensures in
+    at c.in_ok-letter.ensures.0 in
     let road = YieldsList-at c.into_iter-line-iterator.ensures.into_iter_gives
     (YieldsList-from_skip 1 (YieldsList-at c.skip-line-items.ensures.source
     (YieldsList-from_lines c.args.table.now c.lines.ensures.rest))
@@ -56,12 +60,12 @@ returns-in-Err-clause-fault c =
     c.in-Some.line.now c.loop-line.invariant.counted turn.0 turn.1)
     (rw count at (rw so_far at c.loop-line.invariant.letters))
     (rw (c.as_slice-names.ensures.value, c.in_ok-held.ensures)
-    at (c.in-Err.ensures c.in_ok-check_template.ensures))
+    at ((rw (c.in_ok-letter.ensures.1) at c.in-Err.ensures) c.in_ok-letter.ensures.0))
 
 pub loop-line-preserved : goal.loop-line-preserved
 loop-line-preserved c =
     let put = rw (c.in_ok-template.ensures.template, c.as_slice-names.ensures.value, c.in_ok-held.ensures)
-    at (c.in_default.ensures c.in_ok-check_template.ensures) in
+    at ((rw (c.in_ok-letter.ensures.1) at c.in_default.ensures) c.in_ok-letter.ensures.0) in
     record {
       counted = omega (
         arith,

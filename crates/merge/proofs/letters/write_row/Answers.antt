@@ -16,6 +16,12 @@ returns-then-not-is_whole c = λ sound. (
       (rw c.as_slice-fields.ensures.value at c.is_whole.ensures),
 )
 
+pub write_letter-requires : goal.write_letter-requires
+write_letter-requires c = record {
+  names = c.requires.names;
+  whole = c.is_whole.ensures.0 c.if-not-is_whole.false;
+}
+
 pub returns-in-Ok : goal.returns-in-Ok
 returns-in-Ok c =
     let as_many = whole c.args.names.now c.in_ok-held.held.items c.is_whole.result
@@ -29,5 +35,5 @@ returns c =
     let as_many = whole c.args.names.now c.in_ok-held.held.items c.is_whole.result
     c.args.line.now c.in_ok-held.ensures c.if-not-is_whole.false
     (rw c.as_slice-fields.ensures.value at c.is_whole.ensures) in
-    λ sound. fails_of_memory c.args.template.now _ _ c.in-Err.error sound as_many
+    λ sound. fails_of_memory c.args.letter.now.text _ _ c.in-Err.error sound as_many
     (rw (c.as_slice-fields.ensures.value, c.in_ok-held.ensures) at c.in-Err.ensures)

@@ -5,7 +5,8 @@ use Rattle.interpolator_syntax.specs.Lists.{list_at}
 use Rattle.interpolator_syntax.specs.Pieces.{pieces, argument_from}
 use Rattle.interpolator_syntax.specs.Ranges.{range_at}
 use Rattle.interpolator_syntax.specs.SpecTexts.{spec_from_sign, spec_after}
-use Rattle.interpolator_eval.specs.Meaning.AskedNames.{asked_names}
+use Rattle.interpolator_syntax.specs.Nodes.{nodes}
+use Rattle.interpolator_syntax.specs.Tokens.{first_token}
 use Rattle.interpolator.specs.Template.AllArguments.{arguments_of}
 use Rattle.interpolator.proofs.TemplateLemmas.AllArgumentLemmas.{arguments_name}
 use Rattle.interpolator.proofs.laws.all_arguments.arguments_have_the_asked_names.Goals as goal
@@ -18,5 +19,5 @@ unfolding arguments_of pieces argument_from argument_at spec_after spec_from_sig
 returns-clause-arguments c = refl
 
 pub returns-clause-asked : goal.returns-clause-asked
-unfolding asked_names pieces argument_from argument_at spec_after spec_from_sign list_at range_at group_at
+unfolding nodes first_token argument_from argument_at spec_after spec_from_sign list_at range_at group_at
 returns-clause-asked c = refl

@@ -1,4 +1,4 @@
-use Rattle.interpolator.proofs.TemplateLemmas.SplitLemmas.{no_two_literals}
+use Rattle.interpolator_syntax.proofs.SplitLemmas.{no_two_literals}
 use Rattle.interpolator.proofs.laws.templates.no_two_literals_are_neighbours.Goals as goal
 
 pub returns : goal.returns

@@ -7,7 +7,7 @@ use Rattle.interpolator_syntax.specs.Ranges.{range_at}
 use Rattle.interpolator_syntax.specs.SpecTexts.{spec_from_sign, spec_after}
 use Rattle.interpolator_syntax.specs.Tokens.{first_token}
 use Rattle.interpolator_syntax.specs.Nodes.{nodes}
-use Rattle.interpolator.proofs.TemplateLemmas.SplitLemmas.{literals_as_one, pieces_again}
+use Rattle.interpolator_syntax.proofs.SplitLemmas.{literals_as_one, pieces_again}
 use Rattle.interpolator.proofs.laws.templates.nodes_are_the_pieces.Goals as goal
 
 pub returns-clause-merged : goal.returns-clause-merged

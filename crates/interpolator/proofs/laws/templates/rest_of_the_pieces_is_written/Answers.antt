@@ -6,8 +6,8 @@ use Rattle.interpolator.specs.Template.Stored.{nodes_of}
 use Rattle.interpolator.proofs.TemplateLemmas.RunLemmas.{rest_whole, rest_outcome}
 use Rattle.interpolator.proofs.laws.templates.rest_of_the_pieces_is_written.Goals as goal
 
-pub run_pieces-answer-requires : goal.run_pieces-answer-requires
-run_pieces-answer-requires g c =
+pub run_uncounted-answer-requires : goal.run_uncounted-answer-requires
+run_uncounted-answer-requires g c =
     let all =
     ap (λ bs. nodes_of bs c.pieces.result.now) c.text.ensures.text ∙ c.pieces.ensures.pieces in
     rw c.pieces_after-rest.ensures (record {
@@ -22,7 +22,7 @@ returns g c =
     ap (λ bs. nodes_of bs c.pieces.result.now) c.text.ensures.text ∙ c.pieces.ensures.pieces in
     let o = rest_outcome c.text.result.now c.pieces.result.now
     (outermost (chars c.args.template.now)) all c.args.skipped g.C.Object.Value.shows
-    (environment (g.C.Context.finds c.args.context.now)) _ _ _ _ c.outermost-scope.ensures
+    (environment (g.C.Context.finds c.args.context.now)) _ _ _ _ c.outermost-environment.ensures
     (rw (c.pieces_after-rest.ensures, c.in-Writer.is) at
-    c.run_pieces-answer.ensures.writes.outcome) in
+    c.run_uncounted-answer.ensures.writes.outcome) in
     record { outcome = search rules }

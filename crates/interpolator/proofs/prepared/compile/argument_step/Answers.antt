@@ -8,7 +8,7 @@ use Rattle.interpolator.proofs.prepared.compile.argument_step.Goals as goal
 pub returns-in-Name : goal.returns-in-Name
 returns-in-Name c =
     record {
-      step = step_of_name (name_bytes c.args.names.now) c.args.text.now c.args.piece
+      step = step_of_name (name_bytes c.args.names.now) c.args.text.now c.args.piece.now
           c.requires.whole c.in-Some.position c.in-Some.ensures c.in-Name.is;
     }
 
@@ -16,7 +16,7 @@ pub returns-in-Value : goal.returns-in-Value
 returns-in-Value c =
     record {
       step = if_same_all _ c.args.text.now _ _
-          (step_of_value (name_bytes c.args.names.now) c.args.text.now c.args.piece
+          (step_of_value (name_bytes c.args.names.now) c.args.text.now c.args.piece.now
           c.requires.whole c.in-Some.position c.in-Some.ensures c.in-Value.t c.in-Value.is)
           c.under.ensures.step;
     }
@@ -25,7 +25,7 @@ pub returns-in-Text : goal.returns-in-Text
 returns-in-Text c =
     record {
       step = if_same _ (step_of c.args.text.now) _ _
-          (step_other (name_bytes c.args.names.now) c.args.text.now c.args.piece forms.Text
+          (step_other (name_bytes c.args.names.now) c.args.text.now c.args.piece.now forms.Text
           c.in-Text.is tt c.in-Some.position c.in-Some.ensures)
           c.whole.ensures.step;
     }
@@ -34,7 +34,7 @@ pub returns-in-List : goal.returns-in-List
 returns-in-List c =
     record {
       step = if_same _ (step_of c.args.text.now) _ _
-          (step_other (name_bytes c.args.names.now) c.args.text.now c.args.piece _
+          (step_other (name_bytes c.args.names.now) c.args.text.now c.args.piece.now _
           c.in-List.is tt c.in-Some.position c.in-Some.ensures)
           c.whole-in-List.ensures.step;
     }
@@ -43,7 +43,7 @@ pub returns-in-Broken : goal.returns-in-Broken
 returns-in-Broken c =
     record {
       step = if_same _ (step_of c.args.text.now) _ _
-          (step_other (name_bytes c.args.names.now) c.args.text.now c.args.piece _
+          (step_other (name_bytes c.args.names.now) c.args.text.now c.args.piece.now _
           c.in-Broken.is tt c.in-Some.position c.in-Some.ensures)
           c.whole-in-Broken.ensures.step;
     }

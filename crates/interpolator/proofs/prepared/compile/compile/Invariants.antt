@@ -1,4 +1,4 @@
-use Rattle.std.proofs.Common.{vec_len}
+use Rattle.std.proofs.Common.{drop}
 use Rattle.interpolator.specs.Prepared.Rows.{name_bytes}
 use Rattle.interpolator.specs.Template.Stored.{nodes_of}
 use Rattle.interpolator.proofs.PreparedLemmas.CompileLemmas.{Compiled}
@@ -7,7 +7,5 @@ use Rattle.interpolator.proofs.prepared.compile.compile.Given as goal
 -- the steps so far, and those of the pieces that are left, are the program of all
 abbrev pub invariant-loop-piece : goal.invariant-loop-piece
 invariant-loop-piece l =
-    Compiled (name_bytes l.names) l.text (nodes_of l.text l.fn.pieces.items) l.made.items l.left.items
-
-abbrev pub decreases-loop-piece : goal.decreases-loop-piece
-decreases-loop-piece l = vec_len l.left
+    Compiled (name_bytes l.names) l.text (nodes_of l.text l.pieces) l.made.items
+    (drop l.piece-index l.pieces)

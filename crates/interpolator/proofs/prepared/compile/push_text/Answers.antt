@@ -1,7 +1,7 @@
 use Rattle.std.proofs.Common.{◌≡◌, ◌∙◌, ap, Some, ◌++◌, [], ◌∷◌}
 use Rattle.std.specs.Prelude.{string_bytes}
 use Rattle.interpolator_syntax.specs.At.{placed_from}
-use Rattle.interpolator.specs.Template.Stored.{part, node_of}
+use Rattle.interpolator.specs.Template.Stored.{part, nodes_of}
 use Rattle.interpolator.specs.declared.prepared.step.Step.TheVariants as steps
 use Rattle.interpolator.proofs.PreparedLemmas.CompileLemmas.{pushed_joined, pushed_after}
 use Rattle.interpolator.proofs.PreparedLemmas.CompileLemmas.{literal_text, joined_text}
@@ -76,5 +76,5 @@ returns-in-Some-Whole c =
     record {
       pushed = pushed_after _ bs c.args.from c.args.to _ _ _ _
           (steps.Literal c.args.from c.args.to) was c.push_after-in-Some-Whole.ensures
-          (λ xs x h. whole_apart (node_of bs piece.value) x xs h);
+          (λ xs x h. whole_apart (nodes_of bs piece.value.items) x xs h);
     }

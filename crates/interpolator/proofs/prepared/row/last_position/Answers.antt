@@ -1,9 +1,15 @@
-use Rattle.std.proofs.Common.{refl, rules}
-use Rattle.interpolator.proofs.PreparedLemmas.RowLemmas.{found_more}
+use Rattle.std.proofs.Common.{◌∙◌, sym}
+use Rattle.interpolator.proofs.PreparedLemmas.RowLemmas.{found_before, found_last}
 use Rattle.interpolator.proofs.prepared.row.last_position.Goals as goal
 
-pub loop-i-preserved : goal.loop-i-preserved
-loop-i-preserved c =
-    found_more c.args.names.now c.loop-i.i c.index-names-i.result c.args.name.now _ _ _
-    c.loop-i-test.true c.index-names-i.is c.loop-i.invariant (search rules)
-    c.later-found.ensures
+pub returns-then-is_name : goal.returns-then-is_name
+returns-then-is_name c =
+    found_last _ c.in-Some.before.now c.in-Some.own.now c.args.name.now c.in-Some.ensures.cases.0
+    (sym c.is_name.ensures ∙ c.if-is_name.true)
+    ∙ c.loop-own.invariant
+
+pub loop-own-preserved : goal.loop-own-preserved
+loop-own-preserved c =
+    found_before _ c.in-Some.before.now c.in-Some.own.now c.args.name.now c.in-Some.ensures.cases.0
+    (sym c.is_name.ensures ∙ c.if-is_name.false)
+    ∙ c.loop-own.invariant

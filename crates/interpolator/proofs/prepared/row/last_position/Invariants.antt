@@ -1,7 +1,11 @@
-use Rattle.std.proofs.Common.{◌≡◌, take}
+use Rattle.std.proofs.Common.{◌≡◌, length}
 use Rattle.interpolator.specs.Prepared.Rows.{last_position, name_bytes}
 use Rattle.interpolator.proofs.prepared.row.last_position.Given as goal
 
--- the last position among the names so far
-abbrev pub invariant-loop-i : goal.invariant-loop-i
-invariant-loop-i l = l.found ≡ last_position (name_bytes (take l.i l.names)) l.name
+-- the last position among the names that are left is that among all
+abbrev pub invariant-loop-own : goal.invariant-loop-own
+invariant-loop-own l =
+    last_position (name_bytes l.left) l.name ≡ last_position (name_bytes l.names) l.name
+
+abbrev pub decreases-loop-own : goal.decreases-loop-own
+decreases-loop-own l = length l.left

@@ -1,10 +1,9 @@
-use Rattle.std.proofs.Common.{◌≡◌, refl, Some, None}
-use Rattle.interpolator_syntax.proofs.CharacterLemmas.{no_text}
+use Rattle.std.proofs.Common.{◌≡◌, Some, None}
 use Rattle.interpolator_eval.specs.Slots.{slots_of}
-use Rattle.interpolator_eval.specs.Meaning.Scopes.{environment_of}
+use Rattle.interpolator_eval.specs.Meaning.CodeEnvironments.{environment_of}
 use Rattle.interpolator.specs.Prepared.Rows.{row_at}
 use Rattle.interpolator_eval.proofs.MeaningLemmas.SinkLemmas.{nothing_done, same_end}
-use Rattle.interpolator.proofs.PreparedLemmas.WriteLemmas.{item_writes, item_at, none_at}
+use Rattle.interpolator.proofs.PreparedLemmas.WriteLemmas.{item_at, item_writes, none_at}
 use Rattle.interpolator.proofs.prepared.run.put_at.Goals as goal
 
 pub returns-in-Some : goal.returns-in-Some
@@ -14,13 +13,10 @@ returns-in-Some g c =
     let found : row_at row c.args.position ≡ Some (slots_of item) =
     item_at row c.args.position item c.in-Some.ensures.lookup.3.0 c.in-Some.ensures.lookup.1 in
     record {
-      writes =
-          item_writes g.C.Object.Value.shows g.W.TextWrite.written
-          (environment_of g.C.Context.finds c.args.scope.now)
-          (environment_of g.C.Context.finds c.bind.result) (row_at row) c.args.t c.args.spec.now
-          c.args.end (slots_of item) _ (row_at row c.args.position) c.args.sink.now
-          c.write_value.new.sink _ c.bind.ensures (no_text _ refl) found
-          c.write_value.ensures.writes;
+      writes = item_writes g.C.Object.Value.shows g.W.TextWrite.written
+          (environment_of g.C.Context.finds c.args._environment.now) (row_at row) c.args.t
+          c.args.spec.now c.args.end (slots_of item) (row_at row c.args.position) c.args.sink.now
+          c.write_item.new.sink _ found c.write_item.ensures.writes;
     }
 
 pub returns-in-None : goal.returns-in-None

@@ -1,6 +1,6 @@
 use Rattle.std.proofs.Common.{drop, Option}
 use Rattle.interpolator_syntax.specs.Faults.{Answer}
-use Rattle.interpolator_eval.specs.Meaning.Scopes.{environment_of}
+use Rattle.interpolator_eval.specs.Meaning.CodeEnvironments.{environment_of}
 use Rattle.interpolator_eval.specs.Meaning.Outcomes.{Outcome}
 use Rattle.interpolator_render.specs.Written.{Written}
 use Rattle.interpolator_eval.specs.Meaning.Sinks.{SameEnd, taken_by}
@@ -12,7 +12,7 @@ use Rattle.interpolator.proofs.prepared.run.run_steps.Given as goal
 abbrev pub invariant-loop-step : goal.invariant-loop-step
 invariant-loop-step g l =
     let meaning = stored_steps_mean g.C.Object.Value.shows
-    (environment_of g.C.Context.finds l.scope) (row_at l.row) l.text in
+    (environment_of g.C.Context.finds l.environment) (row_at l.row) l.text in
     record {
       so_far : (new : Written) (answer : Option Answer)
           → Outcome (meaning (drop l.step-index l.steps)) (taken_by g.W.TextWrite.written l.sink)

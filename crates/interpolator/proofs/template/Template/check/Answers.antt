@@ -1,7 +1,7 @@
 use Rattle.std.proofs.Common.{◌≡◌, option_map}
 use Rattle.std.specs.Str.{chars}
 use Rattle.interpolator_syntax.specs.At.{outermost}
-use Rattle.interpolator_syntax.specs.Faults.{fault, answered}
+use Rattle.interpolator_syntax.specs.Faults.{fault, result_answer}
 use Rattle.interpolator.specs.Template.NodeChecks.{first_fault, text_faults}
 use Rattle.interpolator.proofs.TemplateLemmas.CheckLemmas.{text_told}
 use Rattle.interpolator.proofs.TemplateLemmas.CheckPlaceLemmas.{first_lies}
@@ -9,7 +9,7 @@ use Rattle.interpolator.proofs.template.Template.check.Goals as goal
 
 -- the first fault of the stored pieces is that of the text
 first_is : (c : goal.After-walk)
-    → answered c.walk.result
+    → result_answer c.walk.result
     ≡ option_map fault (first_fault (text_faults (outermost (chars c.args.self.now))))
 first_is c =
     text_told _ (λ old new x answer told. told) (outermost (chars c.args.self.now)) _ _ _

@@ -3,7 +3,7 @@ use Rattle.std.proofs.lemmas.Str.{IsUtf8-string_bytes}
 use Rattle.std.specs.Prelude.{string_bytes}
 use Rattle.std.specs.Str.{chars, IsUtf8}
 use Rattle.interpolator_syntax.specs.At.{outermost}
-use Rattle.interpolator_syntax.specs.Faults.{answered}
+use Rattle.interpolator_syntax.specs.Faults.{result_answer}
 use Rattle.interpolator_syntax.specs.Nodes.{nodes}
 use Rattle.interpolator_eval.specs.Meaning.Samples.{sample_of, level_in}
 use Rattle.interpolator.specs.Template.NodeSamples.{faults_over}
@@ -22,7 +22,7 @@ tell_pieces-requires g c =
     record {
       whole = walk_whole _ _ (string_bytes c.self.inside.text) utf8 all;
       deep = walk_deep _ _ (string_bytes c.self.inside.text) utf8 all
-          (level_in c.outermost-scope.result) c.outermost-scope.ensures.level small;
+          (level_in c.outermost-environment.result) c.outermost-environment.ensures.level small;
     }
 
 pub returns-clause-first : goal.returns-clause-first
@@ -34,12 +34,12 @@ returns-clause-first g c =
     answers_first
     (faults_over g.C.Object.Value.shows (g.C.Context.finds c.args.sample.now)
     (outermost (chars c.args.self.now)))
-    c.first-telling.result c.tell_pieces.new.telling (answered c.tell_pieces.result)
+    c.first-telling.result c.tell_pieces.new.telling (result_answer c.tell_pieces.result)
     c.first-telling.ensures
     (walk_tells _ _ c.args.self.now utf8 all g.C.Object.Value.shows
-    (g.C.Context.finds c.args.sample.now) (sample_of g.C.Context.finds c.outermost-scope.result)
-    c.first-telling.result c.tell_pieces.new.telling (answered c.tell_pieces.result)
-    c.outermost-scope.ensures.sample c.tell_pieces.ensures.tells)
+    (g.C.Context.finds c.args.sample.now) (sample_of g.C.Context.finds c.outermost-environment.result)
+    c.first-telling.result c.tell_pieces.new.telling (result_answer c.tell_pieces.result)
+    c.outermost-environment.ensures.sample c.tell_pieces.ensures.tells)
 
 pub returns-clause-place : goal.returns-clause-place
 returns-clause-place g c =
@@ -50,11 +50,11 @@ returns-clause-place g c =
     let first = answers_first
     (faults_over g.C.Object.Value.shows (g.C.Context.finds c.args.sample.now)
     (outermost (chars c.args.self.now)))
-    c.first-telling.result c.tell_pieces.new.telling (answered c.tell_pieces.result)
+    c.first-telling.result c.tell_pieces.new.telling (result_answer c.tell_pieces.result)
     c.first-telling.ensures
     (walk_tells _ _ c.args.self.now utf8 all g.C.Object.Value.shows
-    (g.C.Context.finds c.args.sample.now) (sample_of g.C.Context.finds c.outermost-scope.result)
-    c.first-telling.result c.tell_pieces.new.telling (answered c.tell_pieces.result)
-    c.outermost-scope.ensures.sample c.tell_pieces.ensures.tells) in
+    (g.C.Context.finds c.args.sample.now) (sample_of g.C.Context.finds c.outermost-environment.result)
+    c.first-telling.result c.tell_pieces.new.telling (result_answer c.tell_pieces.result)
+    c.outermost-environment.ensures.sample c.tell_pieces.ensures.tells) in
     first_lies_over g.C.Object.Value.shows (g.C.Context.finds c.args.sample.now) c.args.self.now
-    (answered c.tell_pieces.result) utf8 first
+    (result_answer c.tell_pieces.result) utf8 first

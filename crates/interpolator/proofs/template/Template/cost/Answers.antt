@@ -3,7 +3,7 @@ use Rattle.std.specs.Prelude.{string_bytes}
 use Rattle.std.specs.Str.{chars}
 use Rattle.interpolator_syntax.specs.At.{outermost}
 use Rattle.interpolator_syntax.specs.Nodes.{as_forest, nodes}
-use Rattle.interpolator.specs.Template.NodeCosts.{capped_cost, forest_cost}
+use Rattle.interpolator.specs.Template.NodeCosts.{usize_cost, forest_cost}
 use Rattle.interpolator.specs.Template.Stored.{nodes_of, forest_whole}
 use Rattle.interpolator.proofs.TemplateLemmas.WholeLemmas.{nodes_whole}
 use Rattle.interpolator.proofs.template.Template.cost.Goals as goal
@@ -27,5 +27,5 @@ returns c =
     ∙ ap (λ bs. nodes (outermost (chars bs))) c.self.view_is in
     record {
       cost = c.cost_of.ensures
-          ∙ ap (λ xs. capped_cost (forest_cost c.args.limits.now (as_forest xs))) all;
+          ∙ ap (λ xs. usize_cost (forest_cost c.args.limits.now (as_forest xs))) all;
     }

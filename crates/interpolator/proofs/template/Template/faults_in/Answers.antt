@@ -22,7 +22,7 @@ tell_pieces-requires g c =
     record {
       whole = walk_whole _ _ (string_bytes c.self.inside.text) utf8 all;
       deep = walk_deep _ _ (string_bytes c.self.inside.text) utf8 all
-          (level_in c.outermost-scope.result) c.outermost-scope.ensures.level small;
+          (level_in c.outermost-environment.result) c.outermost-environment.ensures.level small;
     }
 
 pub returns-clause-all : goal.returns-clause-all
@@ -36,8 +36,8 @@ returns-clause-all g c =
     (all_kept (faults_over g.C.Object.Value.shows (g.C.Context.finds c.args.sample.now) a)
     c.all-telling.result c.tell_pieces.new.telling c.all-telling.ensures.none
     (walk_tells _ _ c.args.self.now utf8 all g.C.Object.Value.shows
-    (g.C.Context.finds c.args.sample.now) (sample_of g.C.Context.finds c.outermost-scope.result)
-    c.all-telling.result c.tell_pieces.new.telling None c.outermost-scope.ensures.sample
+    (g.C.Context.finds c.args.sample.now) (sample_of g.C.Context.finds c.outermost-environment.result)
+    c.all-telling.result c.tell_pieces.new.telling None c.outermost-environment.ensures.sample
     c.in_ok-tell_pieces.ensures.tells))
 
 pub returns-in_err-tell_pieces-clause-refused : goal.returns-in_err-tell_pieces-clause-refused

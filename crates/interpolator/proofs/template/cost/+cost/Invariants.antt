@@ -1,5 +1,5 @@
 use Rattle.std.proofs.Common.{◌≡◌, drop}
-use Rattle.interpolator.specs.Template.NodeCosts.{then_cost, forest_cost, capped_cost}
+use Rattle.interpolator.specs.Template.NodeCosts.{then_cost, forest_cost, usize_cost}
 use Rattle.interpolator_syntax.specs.Nodes.{as_forest}
 use Rattle.interpolator.specs.Template.Stored.{nodes_of}
 use Rattle.interpolator.proofs.template.cost.+cost.Given as goal
@@ -8,8 +8,8 @@ use Rattle.interpolator.proofs.template.cost.+cost.Given as goal
 abbrev pub invariant-cost_of-loop-piece : goal.invariant-cost_of-loop-piece
 invariant-cost_of-loop-piece l =
     record {
-      so_far : capped_cost (then_cost l.cost
+      so_far : usize_cost (then_cost l.cost
           (forest_cost l.limits (as_forest (nodes_of l.text (drop l.piece-index l.pieces)))))
-          ≡ capped_cost (forest_cost l.limits (as_forest (nodes_of l.text l.pieces)));
-      told : l.cost ≡ capped_cost l.cost;
+          ≡ usize_cost (forest_cost l.limits (as_forest (nodes_of l.text l.pieces)));
+      told : l.cost ≡ usize_cost l.cost;
     }

@@ -5,7 +5,8 @@ use Rattle.interpolator_syntax.specs.At.{at}
 use Rattle.interpolator_syntax.specs.Tokens.{literals, doubled, lone_close, argument, first_token}
 use Rattle.interpolator_syntax.proofs.TokenLemmas.{scan_shorter, token_shorter}
 use Rattle.interpolator_eval.proofs.MeaningLemmas.RunLemmas.{asked_ok, asked_broken}
-use Rattle.interpolator.proofs.TemplateLemmas.WithinLemmas.{handed_on, after_front, within_same}
+use Rattle.interpolator.proofs.TemplateLemmas.WithinLemmas.{after_front, within_same}
+use Rattle.interpolator_syntax.proofs.HandedLemmas.{handed_on}
 use Rattle.interpolator.proofs.TemplateLemmas.ParseLemmas.{rest_is, list_pushed, list_within}
 use Rattle.interpolator.proofs.TemplateLemmas.ParseLemmas.{broken_is, doubled_ends}
 use Rattle.interpolator.proofs.TemplateLemmas.ParseLemmas.{literals_pushed, doubled_pushed}

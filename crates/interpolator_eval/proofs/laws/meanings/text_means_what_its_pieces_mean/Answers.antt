@@ -1,6 +1,6 @@
 use Rattle.std.proofs.Common.{[]}
-use Rattle.interpolator_eval.proofs.MeaningLemmas.DepthLemmas.{means_pieces}
-use Rattle.interpolator_eval.proofs.MeaningLemmas.MeaningLemmas.{means_around, nothing_last}
+use Rattle.interpolator_eval.proofs.MeaningLemmas.MeaningLemmas.{means_pieces, means_around}
+use Rattle.interpolator_eval.proofs.MeaningLemmas.MeaningLemmas.{nothing_last}
 use Rattle.interpolator_eval.proofs.laws.meanings.text_means_what_its_pieces_mean.Goals as goal
 
 pub returns-clause-pieces : goal.returns-clause-pieces

@@ -2,10 +2,11 @@ use Rattle.std.proofs.Common.{refl}
 use Rattle.interpolator_syntax.specs.Arguments.{argument_at}
 use Rattle.interpolator_syntax.specs.Groups.{group_at}
 use Rattle.interpolator_syntax.specs.Lists.{list_at}
-use Rattle.interpolator_syntax.specs.Pieces.{pieces, argument_from}
+use Rattle.interpolator_syntax.specs.Nodes.{nodes}
+use Rattle.interpolator_syntax.specs.Pieces.{argument_from}
+use Rattle.interpolator_syntax.specs.Tokens.{first_token}
 use Rattle.interpolator_syntax.specs.Ranges.{range_at}
 use Rattle.interpolator_syntax.specs.SpecTexts.{spec_from_sign, spec_after}
-use Rattle.interpolator_eval.specs.Meaning.AskedNames.{asked_names}
 use Rattle.interpolator_eval.proofs.MeaningLemmas.AskedGrammarLemmas.{names_asked, names_only}
 use Rattle.interpolator_eval.proofs.laws.names.asked_names_are_those_of_the_arguments.Goals as goal
 
@@ -16,9 +17,9 @@ pub returns-clause-only : goal.returns-clause-only
 returns-clause-only c = names_only
 
 pub returns-clause-value : goal.returns-clause-value
-unfolding asked_names pieces argument_from argument_at spec_after spec_from_sign list_at range_at group_at
+unfolding nodes first_token argument_from argument_at spec_after spec_from_sign list_at range_at group_at
 returns-clause-value c = refl
 
 pub returns-clause-order : goal.returns-clause-order
-unfolding asked_names pieces argument_from argument_at spec_after spec_from_sign list_at range_at group_at
+unfolding nodes first_token argument_from argument_at spec_after spec_from_sign list_at range_at group_at
 returns-clause-order c = refl

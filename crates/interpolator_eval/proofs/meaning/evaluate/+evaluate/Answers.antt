@@ -8,8 +8,8 @@ use Rattle.interpolator_syntax.specs.Tokens.{literals, doubled, lone_close, argu
 use Rattle.interpolator_syntax.proofs.PieceLemmas.{read_alone}
 use Rattle.interpolator_eval.specs.Slots.{slots_of}
 use Rattle.interpolator_syntax.specs.Arguments.{list_of, kind_of_request}
-use Rattle.interpolator_eval.specs.Meaning.Meanings.{means, item_means, join_means, chosen_means}
-use Rattle.interpolator_eval.specs.Meaning.Scopes.{environment_of}
+use Rattle.interpolator_eval.specs.Meaning.Meanings.{item_means, join_means, chosen_means}
+use Rattle.interpolator_eval.specs.Meaning.CodeEnvironments.{environment_of}
 use Rattle.interpolator_eval.proofs.MeaningLemmas.SinkLemmas.{same_end, same_then, goes_on}
 use Rattle.interpolator_eval.proofs.MeaningLemmas.SinkLemmas.{whole_refused, whole_fault}
 use Rattle.interpolator_syntax.proofs.TokenLemmas.{scan_shorter, token_shorter}
@@ -113,8 +113,8 @@ write_text-returns g t c =
 pub write_padded_list-returns-then-refused : goal.write_padded_list-returns-then-refused
 write_padded_list-returns-then-refused g t c =
     let shows = g.C.Object.Value.shows in
-    let e = environment_of g.C.Context.finds c.args.scope.now in
-    let all = chosen_means shows (means shows) e (list_of c.args.form.now) c.args.end
+    let e = environment_of g.C.Context.finds c.args.environment.now in
+    let all = chosen_means shows e (list_of c.args.form.now) c.args.end
     (map slots_of c.args.items.now) in
     record {
       writes = record {
@@ -127,8 +127,8 @@ pub write_padded_list-returns-in_err-answer-in-Aside :
     goal.write_padded_list-returns-in_err-answer-in-Aside
 write_padded_list-returns-in_err-answer-in-Aside g t c =
     let shows = g.C.Object.Value.shows in
-    let e = environment_of g.C.Context.finds c.args.scope.now in
-    let all = chosen_means shows (means shows) e (list_of c.args.form.now) c.args.end
+    let e = environment_of g.C.Context.finds c.args.environment.now in
+    let all = chosen_means shows e (list_of c.args.form.now) c.args.end
     (map slots_of c.args.items.now) in
     let err = err_from_is_err_and c.from_residual.result c.from_residual.ensures.1 in
     rw (err.1, err.2) (record {
@@ -143,7 +143,7 @@ write_padded_list-returns-in_err-answer-in-Aside g t c =
 pub write_items-returns-in_err-write_item : goal.write_items-returns-in_err-write_item
 write_items-returns-in_err-write_item g t c =
     let err = err_from_is_err_and c.from_residual.result c.from_residual.ensures.1 in
-    let e = environment_of g.C.Context.finds c.args.scope.now in
+    let e = environment_of g.C.Context.finds c.args.environment.now in
     let asked = list_of c.args.form.now in
     rw (err.1, err.2) (record {
       writes =
@@ -270,7 +270,7 @@ write_text-loop-token-preserved-in_ok-put_char-in-LoneClose g t c =
 
 pub write_asked-returns-in-Err-clause-writes : goal.write_asked-returns-in-Err-clause-writes
 write_asked-returns-in-Err-clause-writes g t c =
-    let e = environment_of g.C.Context.finds c.args.scope.now in
+    let e = environment_of g.C.Context.finds c.args.environment.now in
     let read = asked_broken (at c.args.here) c.args.named c.requires.named _ c.in-Err.ensures in
     rw c.from.ensures
     (broken_writes g.C.Object.Value.shows _ e (at c.args.here) _ _ read)
@@ -285,7 +285,7 @@ write_asked-write_named-requires g t c =
 pub write_asked-returns-in_err-write_named-clause-writes :
     goal.write_asked-returns-in_err-write_named-clause-writes
 write_asked-returns-in_err-write_named-clause-writes g t c =
-    let e = environment_of g.C.Context.finds c.args.scope.now in
+    let e = environment_of g.C.Context.finds c.args.environment.now in
     let read = asked_ok (at c.args.here) c.args.named c.requires.named _ _ c.in-Ok.ensures in
     let err = err_from_is_err_and c.from_residual.result c.from_residual.ensures.1 in
     rw (err.1, err.2) (value_fault_writes g.C.Object.Value.shows _ e (at c.args.here) _ _
@@ -293,7 +293,7 @@ write_asked-returns-in_err-write_named-clause-writes g t c =
 
 pub write_asked-returns-in-Some-clause-writes : goal.write_asked-returns-in-Some-clause-writes
 write_asked-returns-in-Some-clause-writes g t c =
-    let e = environment_of g.C.Context.finds c.args.scope.now in
+    let e = environment_of g.C.Context.finds c.args.environment.now in
     let read = asked_ok (at c.args.here) c.args.named c.requires.named _ _ c.in-Ok.ensures in
     closed_writes g.C.Object.Value.shows _ e (at c.args.here) _ _ read _ _ _
     (sym c.in-Some.ensures) c.in_ok-write_named.ensures.writes
@@ -305,7 +305,7 @@ write_asked-returns-in-Some-clause-rest g t c =
 
 pub write_asked-returns-in-None-clause-writes : goal.write_asked-returns-in-None-clause-writes
 write_asked-returns-in-None-clause-writes g t c =
-    let e = environment_of g.C.Context.finds c.args.scope.now in
+    let e = environment_of g.C.Context.finds c.args.environment.now in
     let read = asked_ok (at c.args.here) c.args.named c.requires.named _ _ c.in-Ok.ensures in
     unclosed_writes g.C.Object.Value.shows _ e (at c.args.here) _ _ read _ _
     (sym c.in-None.ensures) c.in_ok-write_named.ensures.writes
@@ -313,7 +313,7 @@ write_asked-returns-in-None-clause-writes g t c =
 pub write_argument-returns-in_err-write_alone-in-Some-clause-writes :
     goal.write_argument-returns-in_err-write_alone-in-Some-clause-writes
 write_argument-returns-in_err-write_alone-in-Some-clause-writes g t c =
-    let e = environment_of g.C.Context.finds c.args.scope.now in
+    let e = environment_of g.C.Context.finds c.args.environment.now in
     let err = err_from_is_err_and c.from_residual.result c.from_residual.ensures.1 in
     rw (err.1, err.2) (value_fault_writes g.C.Object.Value.shows _ e (at c.args.here)
     (plain_argument c.take_name-named.result) (at c.take_name-named.result.end)
@@ -323,7 +323,7 @@ write_argument-returns-in_err-write_alone-in-Some-clause-writes g t c =
 pub write_argument-returns-in_ok-write_alone-in-Some-clause-writes :
     goal.write_argument-returns-in_ok-write_alone-in-Some-clause-writes
 write_argument-returns-in_ok-write_alone-in-Some-clause-writes g t c =
-    let e = environment_of g.C.Context.finds c.args.scope.now in
+    let e = environment_of g.C.Context.finds c.args.environment.now in
     closed_writes g.C.Object.Value.shows _ e (at c.args.here)
     (plain_argument c.take_name-named.result) (at c.take_name-named.result.end)
     (read_alone (at c.args.here) c.take_name-named.result _ c.take_name-named.ensures.read
@@ -347,42 +347,42 @@ write_named-returns-in_default g t c =
 pub write_list-returns-in_err-items : goal.write_list-returns-in_err-items
 write_list-returns-in_err-items g t c =
     let shows = g.C.Object.Value.shows in
-    let e = environment_of g.C.Context.finds c.args.scope.now in
+    let e = environment_of g.C.Context.finds c.args.environment.now in
     let form = list_of c.args.asked.now.list in
     let err = err_from_is_err_and c.from_residual.result c.from_residual.ensures.1 in
     rw (err.1, err.2) (record {
       writes =
           not_chosen_writes e (chars c.args.named.name.now) c.args.start form.range
           c.args.asked.now.spec c.args.end g.W.TextWrite.written
-          (join_means shows (means shows) e form.join)
-          (item_means shows (means shows) e c.args.end form.item) _ _
+          (join_means shows e form.join)
+          (item_means shows e c.args.end form.item) _ _
           c.in_err-items.ensures.chosen;
     })
 
 pub write_list-returns-then-is_some : goal.write_list-returns-then-is_some
 write_list-returns-then-is_some g t c =
     let shows = g.C.Object.Value.shows in
-    let e = environment_of g.C.Context.finds c.args.scope.now in
+    let e = environment_of g.C.Context.finds c.args.environment.now in
     let form = list_of c.args.asked.now.list in
     record {
       writes =
           chosen_writes e (chars c.args.named.name.now) c.args.start form.range
           c.args.asked.now.spec c.args.end g.W.TextWrite.written
-          (join_means shows (means shows) e form.join)
-          (item_means shows (means shows) e c.args.end form.item) _ _ _ _
+          (join_means shows e form.join)
+          (item_means shows e c.args.end form.item) _ _ _ _
           c.in_ok-items.ensures.chosen true (search rules) c.write_padded_list.ensures.writes;
     }
 
 pub write_list-returns-else-is_some : goal.write_list-returns-else-is_some
 write_list-returns-else-is_some g t c =
     let shows = g.C.Object.Value.shows in
-    let e = environment_of g.C.Context.finds c.args.scope.now in
+    let e = environment_of g.C.Context.finds c.args.environment.now in
     let form = list_of c.args.asked.now.list in
     record {
       writes =
           chosen_writes e (chars c.args.named.name.now) c.args.start form.range
           c.args.asked.now.spec c.args.end g.W.TextWrite.written
-          (join_means shows (means shows) e form.join)
-          (item_means shows (means shows) e c.args.end form.item) _ _ _ _
+          (join_means shows e form.join)
+          (item_means shows e c.args.end form.item) _ _ _ _
           c.in_ok-items.ensures.chosen false (search rules) c.write_items.ensures.writes;
     }

@@ -6,15 +6,15 @@ use Rattle.interpolator_eval.specs.Slots.{slots_of}
 use Rattle.interpolator_syntax.specs.Arguments.{list_of, kind_of_request}
 use Rattle.interpolator_eval.specs.Meaning.Meanings.{means, item_means, join_means, items_after}
 use Rattle.interpolator_eval.specs.Meaning.Meanings.{chosen_means}
-use Rattle.interpolator_eval.specs.Meaning.Scopes.{environment_of}
+use Rattle.interpolator_eval.specs.Meaning.CodeEnvironments.{environment_of}
 use Rattle.interpolator_eval.specs.Meaning.Outcomes.{Outcome}
 use Rattle.interpolator_render.specs.Written.{Written}
 use Rattle.interpolator_eval.specs.Meaning.Sinks.{SameEnd, taken_by}
 use Rattle.interpolator_eval.proofs.MeaningLemmas.ListLemmas.{group_size, list_size, kind_size}
 use Rattle.interpolator_eval.proofs.meaning.evaluate.+evaluate.Given as goal
 
--- a text: sixteen times its characters; a group of it has fewer characters than stand after the
--- brace of its argument
+-- a text: sixteen times its characters; a group of it has fewer characters than follow the brace of
+-- its argument
 abbrev pub decreases-write_text : goal.decreases-write_text
 decreases-write_text g l = 16 * length (chars l.text.rest.now)
 
@@ -45,7 +45,7 @@ decreases-write_join g l = 16 * group_size (option_map group_of l.format) + 1
 -- what the rest comes to, after what was written, is what the whole text comes to
 abbrev pub invariant-write_text-loop-token : goal.invariant-write_text-loop-token
 invariant-write_text-loop-token g l =
-    let meaning = means g.C.Object.Value.shows (environment_of g.C.Context.finds l.scope) in
+    let meaning = means g.C.Object.Value.shows (environment_of g.C.Context.finds l.environment) in
     record {
       shorter : length (chars l.here.rest.now) ≤ length (chars l.text.rest.now);
       so_far : (new : Written) (answer : Option Answer)
@@ -63,15 +63,15 @@ decreases-write_text-loop-token g l = length (chars l.here.rest.now)
 abbrev pub invariant-write_items-loop-item : goal.invariant-write_items-loop-item
 invariant-write_items-loop-item g l =
     let shows = g.C.Object.Value.shows in
-    let e = environment_of g.C.Context.finds l.scope in
+    let e = environment_of g.C.Context.finds l.environment in
     let asked = list_of l.form in
-    let join = join_means shows (means shows) e asked.join in
-    let one = item_means shows (means shows) e l.end asked.item in
+    let join = join_means shows e asked.join in
+    let one = item_means shows e l.end asked.item in
     record {
       so_far : (new : Written) (answer : Option Answer)
           → Outcome (items_after join one (map slots_of (drop l.item-index l.rest)))
           (taken_by g.W.TextWrite.written l.sink) new answer
-          → Outcome (chosen_means shows (means shows) e asked l.end (map slots_of l.items))
+          → Outcome (chosen_means shows e asked l.end (map slots_of l.items))
           (taken_by g.W.TextWrite.written l.fn.sink) new answer;
       same : SameEnd l.fn.sink l.sink;
     }

@@ -1,5 +1,5 @@
 use Rattle.std.proofs.Common.{◌≡◌, ◌-◌, ◌∙◌, ap, replicate, arith}
-use Rattle.interpolator_render.specs.DigitBuffers.{Buffered, grown_after}
+use Rattle.interpolator_render.specs.DigitBuffers.{Buffered, put_after}
 use Rattle.interpolator_render.proofs.DigitBufferLemmas.{row_grows_after, IsBuffered-grows_after}
 use Rattle.interpolator_render.proofs.digit_buffer.DigitBuffer.pad_after.Goals as goal
 
@@ -18,4 +18,4 @@ returns c =
     let within = c.self.invariant.within in
     row_grows_after row.bytes row.fill c.args.count row.start row.end (omega arith)
     c.self.invariant
-    ∙ ap (λ (r : Buffered). grown_after (replicate c.args.count r.fill) r) c.self.view_is
+    ∙ ap (λ (r : Buffered). put_after (replicate c.args.count r.fill) r) c.self.view_is

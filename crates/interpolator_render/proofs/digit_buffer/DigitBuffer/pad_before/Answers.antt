@@ -1,6 +1,6 @@
 use Rattle.std.proofs.Common.{◌≡◌, ◌≤◌, ◌-◌, ◌∙◌, ap, replicate, arith, refl}
 use Rattle.std.proofs.lemmas.List.{length-replicate}
-use Rattle.interpolator_render.specs.DigitBuffers.{Buffered, grown}
+use Rattle.interpolator_render.specs.DigitBuffers.{Buffered, put_before}
 use Rattle.interpolator_render.proofs.DigitBufferLemmas.{row_grows, copies_in_front}
 use Rattle.interpolator_render.proofs.digit_buffer.DigitBuffer.pad_before.Goals as goal
 
@@ -15,4 +15,4 @@ returns c =
     row_grows row.bytes row.bytes (replicate c.args.count row.fill) row.fill
     (row.start - c.args.count) row.start row.end _ c.self.invariant.ordered (omega arith) written
     refl
-    ∙ ap (λ (r : Buffered). grown (replicate c.args.count r.fill) r) c.self.view_is
+    ∙ ap (λ (r : Buffered). put_before (replicate c.args.count r.fill) r) c.self.view_is

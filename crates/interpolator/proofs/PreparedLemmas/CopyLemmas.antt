@@ -1,0 +1,79 @@
+-- Copies of stored pieces are the nodes of the pieces, and a copy that is kept alone means its node.
+use Rattle.std.proofs.Common.{◌≡◌, ◌∙◌, refl, sym, ap, ℕ, ◌+◌, ◌<◌, Bool, true, false, ◌&&◌}
+use Rattle.std.proofs.Common.{List, [], ◌∷◌, ◌++◌, length, take, get_or, Option, None, Some, IsSome}
+use Rattle.std.proofs.lemmas.List.{take_more}
+use Rattle.std.specs.Prelude.{if◌then◌else◌}
+use Rattle.interpolator_render.specs.declared.view.Trait.{Trait}
+use Rattle.interpolator_render.specs.declared.view.Spec.{Spec}
+use Rattle.interpolator_render.specs.Views.{Shown}
+use Rattle.interpolator_render.specs.Written.{Written}
+use Rattle.interpolator_syntax.specs.Faults.{Answer}
+use Rattle.interpolator_syntax.specs.Nodes.{Node, node, Branch, Content, as_forest}
+use Rattle.interpolator_syntax.specs.declared.piece_kind.PieceKind.{PieceKind}
+use Rattle.interpolator_eval.specs.Slots.{Slots}
+use Rattle.interpolator_eval.specs.Meaning.Environments.{Environment}
+use Rattle.interpolator_eval.specs.Meaning.Sinks.{Writes}
+use Rattle.interpolator_eval.specs.declared.meaning.sink.Sink.{Sink}
+use Rattle.interpolator_eval.proofs.MeaningLemmas.MeaningLemmas.{nothing_last}
+use Rattle.interpolator_eval.specs.Meaning.Meanings.{node_means, forest_means}
+use Rattle.interpolator.specs.Template.Stored.{node_of, nodes_of, node_whole, forest_whole}
+use Rattle.interpolator.specs.Prepared.Programs.{node_step}
+use Rattle.interpolator.specs.Prepared.StoredSteps.{fitting_means, whole_step}
+use Rattle.interpolator.specs.declared.template.piece.Piece.{Piece}
+use Rattle.interpolator.proofs.TemplateLemmas.StoredLemmas.{nodes_of_push}
+
+-- nodes of equal parts
+pub same_node :
+    (place end : ℕ) (kind : PieceKind) (held told : Option Content) (item other join another : Branch)
+    → held ≡ told → item ≡ other → join ≡ another
+    → node place end kind held item join ≡ node place end kind told other another
+same_node place end kind held told item other join another h i j = rw (h, i, j) refl
+
+-- one more piece was copied
+pub copied_more :
+    (bs : List ℕ) (pieces old new : List Piece) (i : ℕ) (x y : Piece) → i < length pieces
+    → x ≡ get_or pieces i x → new ≡ old ++ (y ∷ [])
+    → nodes_of bs old ≡ nodes_of bs (take i pieces) → node_of bs y ≡ node_of bs x
+    → nodes_of bs new ≡ nodes_of bs (take (i + 1) pieces)
+copied_more bs pieces old new i x y l is now so_far same =
+    let more : take (i + 1) pieces ≡ take i pieces ++ (x ∷ []) =
+    take_more pieces i x l ∙ ap (λ z. take i pieces ++ (z ∷ [])) (sym is) in
+    ap (nodes_of bs) now ∙ nodes_of_push bs old y
+    ∙ ap (λ n. nodes_of bs old ++ (n ∷ [])) same
+    ∙ ap (λ ns. ns ++ (node_of bs x ∷ [])) so_far
+    ∙ sym (nodes_of_push bs (take i pieces) x) ∙ ap (nodes_of bs) (sym more)
+
+-- ---- a node that is kept alone
+
+alone_whole : (b : Bool) (n : Node) → IsSome (if b then Some (node_step n) else None)
+    → (b && true) ≡ true
+alone_whole true n h = refl
+alone_whole false n h = absurd (cc)
+
+-- it fits its text
+pub kept_whole : (ns : List Node) → IsSome (whole_step ns) → forest_whole (as_forest ns) ≡ true
+kept_whole [] h = absurd (cc)
+kept_whole (n ∷ []) h = alone_whole (node_whole n) n h
+kept_whole (n ∷ (m ∷ ns)) h = absurd (cc)
+
+module _ {X : Type 0} (shows : X → Trait → Spec → Shown) (e : Environment X)
+    (value_at : ℕ → Option (Slots X)) where
+  alone_means : (b : Bool) (n : Node) → IsSome (if b then Some (node_step n) else None)
+      → node_means shows e n
+      ≡ fitting_means shows e value_at (if b then Some (node_step n) else None)
+  alone_means true n h = refl
+  alone_means false n h = absurd (cc)
+
+  kept_means : (ns : List Node) → IsSome (whole_step ns)
+      → forest_means shows e (as_forest ns) ≡ fitting_means shows e value_at (whole_step ns)
+  kept_means [] h = absurd (cc)
+  kept_means (n ∷ []) h = nothing_last (node_means shows e n) ∙ alone_means (node_whole n) n h
+  kept_means (n ∷ (m ∷ ns)) h = absurd (cc)
+
+  -- and is written as its step
+  pub kept_writes :
+      {W : Type 0} (into : W → Written) (ns : List Node) (s u : Sink W) (answer : Option Answer)
+      → IsSome (whole_step ns) → Writes into (forest_means shows e (as_forest ns)) s u answer
+      → Writes into (fitting_means shows e value_at (whole_step ns)) s u answer
+  kept_writes into ns s u answer h w =
+      record { outcome = rw (kept_means ns h) at w.outcome; same = w.same }

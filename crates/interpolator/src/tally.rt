@@ -1,0 +1,57 @@
+//! How many pieces were gone through: a count that has no code and takes no bytes.
+ghost use Rattle.std.specs.Prelude.{◌≡◌, ◌+◌, ◌<◌};
+
+use std::marker::Model;
+use std::sync::ledger::{Blank, Book, Ledger, Share};
+
+/// How many pieces were gone through. Only `tick` changes it.
+///
+/// # Example
+///
+/// ```text
+/// let mut tally = Tally::<L>::open(blank);    // 0
+/// tally.tick();                               // 1
+/// ```
+#[derive(Drop)]
+pub(crate) struct Tally<L: Ledger> {
+    book: Book<L>,
+    share: Share<L>,
+}
+
+impl<L: Ledger> Model for Tally<L> {
+    ghost use Rattle.std.specs.Prelude.{ℕ, ◌<◌};
+
+    ghost Value = { ℕ };
+
+    ghost view = { λ t. t.book.total };
+
+    ghost invariant = { λ t. 0 < t.share.parts };
+}
+
+impl<L: Ledger> Tally<L> {
+    /// None so far.
+    #[inline(always)]
+    pub(crate) fn open(blank: Blank) -> Tally<L>
+        requires name { blank.name ≡ L.name }
+        requires parts { blank.parts ≡ L.parts }
+        requires some { 0 < blank.parts }
+        ensures none { result ≡ 0 }
+    {
+        let (book, share) = blank.open::<L>();
+        Tally { book, share }
+    }
+
+    /// One more piece.
+    #[inline(always)]
+    pub(crate) fn tick(&mut self)
+        ensures one { self.new ≡ self.old + 1 }
+    {
+        self.book.add(&mut self.share, 1);
+    }
+}
+
+/// The text of a format, for a function that opens a ledger: its signature may have no `&str`.
+#[derive(Clone, Copy)]
+pub(crate) struct Wrapped<'a> {
+    pub(crate) text: &'a str,
+}

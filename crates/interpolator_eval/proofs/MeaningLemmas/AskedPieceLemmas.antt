@@ -1,0 +1,85 @@
+-- The names that a text asks are those of its pieces.
+use Rattle.std.proofs.Common.{◌≡◌, ℕ, ◌+◌, true, false, List, [], ◌∷◌, ◌++◌, map, refl, ap, ◌∙◌}
+use Rattle.std.proofs.Common.{sym, Option, Some, None}
+use Rattle.std.specs.Char.{len_utf8}
+use Rattle.interpolator_syntax.specs.At.{At}
+use Rattle.interpolator_syntax.specs.Groups.{Group}
+use Rattle.interpolator_syntax.specs.Nodes.{Node, node, Branch, no_branch, branch, as_forest}
+use Rattle.interpolator_syntax.specs.Nodes.{Forest, no_nodes, nodes_and, nodes}
+use Rattle.interpolator_syntax.specs.Nodes.{group_branch, item_branch, join_branch}
+use Rattle.interpolator_syntax.specs.Nodes.{Content, text_content, argument_content, fault_content}
+use Rattle.interpolator_syntax.specs.Pieces.{Piece, pieces}
+use Rattle.interpolator_syntax.specs.SpecTexts.{Kind}
+use Rattle.interpolator_syntax.specs.Splits.{literal_nodes, node_alone}
+use Rattle.interpolator_syntax.proofs.SplitLemmas.{gathered_alone}
+use Rattle.interpolator_eval.specs.Meaning.AskedNames.{context_names, held_asks, node_asks}
+use Rattle.interpolator_eval.specs.Meaning.AskedNames.{branch_asks, forest_asks, asked_names}
+use Rattle.interpolator_eval.specs.Meaning.AskedNames.{without_empty}
+
+-- ---- in an item format the empty name is left out
+
+pub without_append : (xs ys : List (List ℕ))
+    → without_empty (xs ++ ys) ≡ without_empty xs ++ without_empty ys
+without_append [] ys = refl
+without_append ([] ∷ xs) ys = without_append xs ys
+without_append ((c ∷ cs) ∷ xs) ys = ap (λ zs. (c ∷ cs) ∷ zs) (without_append xs ys)
+
+pub without_twice : (xs : List (List ℕ)) → without_empty (without_empty xs) ≡ without_empty xs
+without_twice [] = refl
+without_twice ([] ∷ xs) = without_twice xs
+without_twice ((c ∷ cs) ∷ xs) = ap (λ zs. (c ∷ cs) ∷ zs) (without_twice xs)
+
+name_in_item : (name : List ℕ) → context_names true name ≡ without_empty (context_names false name)
+name_in_item [] = refl
+name_in_item (c ∷ cs) = refl
+
+held_in_item : (h : Option Content) → held_asks true h ≡ without_empty (held_asks false h)
+held_in_item None = refl
+held_in_item (Some (text_content from cs)) = refl
+held_in_item (Some (argument_content start name spec bare end)) = name_in_item name
+held_in_item (Some (fault_content f)) = refl
+
+mutual
+  node_in_item : (x : Node) → node_asks true x ≡ without_empty (node_asks false x)
+  node_in_item (node place end kind held item join) =
+      let e = branch_in_item item in
+      let kept : without_empty (branch_asks true item) ≡ branch_asks true item =
+      ap without_empty e ∙ without_twice (branch_asks false item) ∙ sym e in
+      rw (without_append, without_append, held_in_item held, kept, branch_in_item join) refl
+
+  pub branch_in_item : (b : Branch) → branch_asks true b ≡ without_empty (branch_asks false b)
+  branch_in_item no_branch = refl
+  branch_in_item (branch xs) = forest_in_item xs
+
+  forest_in_item : (xs : Forest) → forest_asks true xs ≡ without_empty (forest_asks false xs)
+  forest_in_item no_nodes = refl
+  forest_in_item (nodes_and x xs) =
+      rw (node_in_item x, forest_in_item xs)
+      (sym (without_append (node_asks false x) (forest_asks false xs)))
+
+-- ---- the pieces of a text
+
+-- the names of a group
+abbrev pub group_asks : Option Group → List (List ℕ)
+group_asks o = branch_asks false (group_branch nodes o)
+
+-- those of what an argument asks for
+abbrev pub kind_asks : Kind → List (List ℕ)
+kind_asks k = branch_asks true (item_branch nodes k) ++ branch_asks false (join_branch nodes k)
+
+-- those of pieces, each by itself
+abbrev pub pieces_ask : List Piece → List (List ℕ)
+pieces_ask xs = forest_asks false (as_forest (map node_alone xs))
+
+-- literals ask nothing, as one node or as many
+literals_ask : (p : ℕ) (cs : List ℕ) (xs : List Node)
+    → forest_asks false (as_forest xs) ≡ forest_asks false (as_forest (literal_nodes p cs ++ xs))
+literals_ask p [] xs = refl
+literals_ask p (c ∷ cs) xs = literals_ask (p + len_utf8 c) cs xs
+
+-- the names that a text asks are those of its pieces
+pub asked_pieces : (a : At) → asked_names a ≡ pieces_ask (pieces a)
+asked_pieces a =
+    gathered_alone (λ xs. forest_asks false (as_forest xs))
+    (λ x xs ys h. ap (λ names. node_asks false x ++ names) h)
+    (λ p end cs xs. literals_ask p cs xs) a

@@ -1,0 +1,115 @@
+-- The places that the tree of a text keeps lie in the text, and its faults are those of arguments.
+use Rattle.std.proofs.Common.{◌≡◌, ℕ, ◌+◌, ◌<◌, ◌≤◌, length}
+use Rattle.std.proofs.Common.{arith, refl, Option, Some, None, Result, Ok, Err}
+use Rattle.std.specs.Prelude.{⊤}
+use Rattle.interpolator_syntax.specs.ArgumentFaults.{IsArgumentFault}
+use Rattle.interpolator_syntax.specs.Arguments.{Argument, argument_at}
+use Rattle.interpolator_syntax.specs.At.{At, size, strip}
+use Rattle.interpolator_syntax.specs.Classes.{close_brace}
+use Rattle.interpolator_syntax.specs.Faults.{Fault, fault_place}
+use Rattle.interpolator_syntax.specs.Groups.{Group, inside}
+use Rattle.interpolator_syntax.specs.Nodes.{Node, node, Branch, no_branch, branch, Forest, no_nodes}
+use Rattle.interpolator_syntax.specs.Nodes.{nodes_and, as_forest, nodes, Content, text_content, argument_content}
+use Rattle.interpolator_syntax.specs.Nodes.{fault_content}
+use Rattle.interpolator_syntax.specs.Nodes.{group_branch, item_branch, join_branch}
+use Rattle.interpolator_syntax.specs.Nodes.{piece_node, token_node}
+use Rattle.interpolator_syntax.specs.Pieces.{argument_from, argument_or_broken, argument_step}
+use Rattle.interpolator_syntax.specs.SpecTexts.{Kind, of_value, of_list}
+use Rattle.interpolator_syntax.specs.Tokens.{Token, literals, doubled, lone_close, argument}
+use Rattle.interpolator_syntax.specs.Tokens.{first_token, past_token}
+use Rattle.interpolator_syntax.proofs.ArgumentFaultLemmas.{fault_of_argument}
+use Rattle.interpolator_syntax.proofs.GrammarArgumentLemmas.{broken_is}
+use Rattle.interpolator_syntax.proofs.HandedLemmas.{WrittenSize, handed_on, scan_taken}
+use Rattle.interpolator_syntax.proofs.LocalityLemmas.{takes_reaches}
+use Rattle.interpolator_syntax.proofs.NodeLemmas.{by_length, nodes_first, nodes_none}
+use Rattle.interpolator_syntax.proofs.ReaderLemmas.{argument_takes, argument_refuses}
+use Rattle.interpolator_syntax.proofs.SizeLemmas.{GroupIfIn, KindIn, argument_in}
+use Rattle.interpolator_syntax.proofs.TokenLemmas.{token_shorter, scan_shorter}
+
+-- the places that a tree keeps are at most so far
+module _ (n : ℕ) where
+  abbrev pub HeldLies : Content → Type 0
+  HeldLies (text_content from cs) = from + size cs ≤ n
+  HeldLies (argument_content start name spec bare end) = (start ≤ n) × (end ≤ n)
+  HeldLies (fault_content f) = (fault_place f ≤ n) × IsArgumentFault f
+
+  abbrev mutual
+    pub NodeLies : Node → Type 0
+    NodeLies (node place end kind None item join) = ⊤
+    NodeLies (node place end kind (Some held) item join) =
+        HeldLies held × BranchLies item × BranchLies join
+
+    pub BranchLies : Branch → Type 0
+    BranchLies no_branch = ⊤
+    BranchLies (branch xs) = ForestLies xs
+
+    pub ForestLies : Forest → Type 0
+    ForestLies no_nodes = ⊤
+    ForestLies (nodes_and x xs) = NodeLies x × ForestLies xs
+
+-- those of a text, wherever n is that it ends there or before
+abbrev Lies : At → Type 0
+Lies a = (n : ℕ) → a.place + size a.text ≤ n → ForestLies n (as_forest (nodes a))
+
+module _ (b : At) (n : ℕ) (more : (c : At) → length c.text < length b.text → Lies c)
+    (reach : b.place + size b.text ≤ n) where
+  group_lies : (o : Option Group) → GroupIfIn o b → BranchLies n (group_branch nodes o)
+  group_lies None h = tt
+  group_lies (Some g) h = more (inside g) h.shorter n (omega (arith, h.lies, reach))
+
+  kind_lies : (k : Kind) → KindIn k b
+      → BranchLies n (item_branch nodes k) × BranchLies n (join_branch nodes k)
+  kind_lies (of_value t) h = (tt, tt)
+  kind_lies (of_list asked) h = (group_lies asked.item h.item, group_lies asked.join h.join)
+
+  begins : b.place ≤ n
+  begins = omega (arith, reach)
+
+  step_lies : (p : ℕ) (x : Argument) (q : At) (o : Option At) → argument_at b ≡ Ok (x, q)
+      → (let s = argument_step b.place b x q o in
+      NodeLies n (piece_node nodes p s.rest.place s.piece.kind))
+  step_lies p x q None e =
+      let ends : q.place ≤ n =
+      omega (arith, reach, takes_reaches _ b q (argument_takes b x q e) refl) in
+      let groups = kind_lies x.kind (argument_in b x q e) in
+      ((begins, ends), groups.0, groups.1)
+  step_lies p x q (Some rest) e =
+      let ends : q.place ≤ n =
+      omega (arith, reach, takes_reaches _ b q (argument_takes b x q e) refl) in
+      let groups = kind_lies x.kind (argument_in b x q e) in
+      ((begins, ends), groups.0, groups.1)
+
+  answer_lies : (p : ℕ) (r : Result (Argument × At) Fault) → argument_at b ≡ r
+      → (let s = argument_or_broken b.place b r in
+      NodeLies n (piece_node nodes p s.rest.place s.piece.kind))
+  answer_lies p (Ok w) e = step_lies p w.0 w.1 (strip close_brace w.1) e
+  answer_lies p (Err f) e = (
+    (omega (arith, reach, argument_refuses b f e), fault_of_argument b f (broken_is b f e)),
+    tt,
+    tt,
+  )
+
+  token_lies : (p : ℕ) (t : Token) → WrittenSize p t b → NodeLies n (token_node nodes p t b)
+  unfolding argument_from
+  token_lies p argument w = answer_lies p (argument_at b) refl
+  token_lies p (literals cs) w = (omega (arith, w, begins), tt, tt)
+  token_lies p (doubled c) w = (omega (arith, w.0, w.1, begins), tt, tt)
+  token_lies p lone_close w = (omega (arith, w, begins), tt, tt)
+
+lie_by : (a : At) → ((b : At) → length b.text < length a.text → Lies b) → (o : Option (Token × At))
+    → first_token a ≡ o → Lies a
+lie_by a shorter None e n reach = rw (nodes_none a e) tt
+lie_by a shorter (Some w) e n reach =
+    let rest = past_token w.0 w.1 in
+    let first_reaches = takes_reaches _ a w.1 (handed_on a w e).takes refl in
+    let rest_reaches = takes_reaches _ a rest (scan_taken a w e) refl in
+    let first_shorter = token_shorter a w e in
+    rw (nodes_first a w.1 w.0 e) (
+      token_lies w.1 n (λ c l. shorter c (omega (arith, l, first_shorter)))
+          (omega (arith, reach, first_reaches)) a.place w.0 (handed_on a w e).size,
+      shorter rest (scan_shorter a _ w e refl) n (omega (arith, reach, rest_reaches)),
+    )
+
+-- they lie in the text
+pub places_lie : (a : At) → Lies a
+places_lie = by_length Lies (λ a shorter. lie_by a shorter (first_token a) refl)
