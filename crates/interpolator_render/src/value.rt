@@ -168,6 +168,7 @@ impl Value for String {
 impl<'a> Value for View<'a> {
     ghost shows = { λ view _ _. shown_as_value view };
 
+    #[inline(always)]
     fn view(&self, _t: Trait, _spec: &Spec) -> View<'_> {
         match *self {
             View::Signed(number, bits) => {
