@@ -1,8 +1,10 @@
 //! Writes the steps of a prepared format over a row.
 ghost use Rattle.std.specs.Prelude.{◌≡◌, ℕ, List, IsSome, Some};
 ghost use Rattle.std.specs.List.{All};
+ghost use Rattle.interpolator_render.specs.declared.view.Trait.TheVariants.{Display};
 ghost use Rattle.interpolator_syntax.specs.At.{placed_from};
 ghost use Rattle.interpolator_syntax.specs.Faults.{result_answer};
+ghost use Rattle.interpolator_syntax.specs.SpecTexts.{plain_spec};
 ghost use Rattle.interpolator_eval.specs.Meaning.Meanings.{text_alone};
 ghost use Rattle.interpolator_eval.specs.Meaning.CodeEnvironments.{environment_of};
 ghost use Rattle.interpolator_eval.specs.Meaning.Sinks.{Writes};
@@ -17,7 +19,7 @@ use crate::prepared::joined::put_joined;
 use crate::prepared::step::Step;
 use crate::template::piece::Piece;
 use crate::tree::cut;
-use interpolator_eval::{Context, Environment, Formattable, Sink, write_item};
+use interpolator_eval::{Context, Environment, Formattable, Sink, write_slot};
 use interpolator_render::{Spec, TextWrite, Trait};
 use interpolator_syntax::Error;
 
@@ -41,7 +43,8 @@ pub(crate) fn run_steps<'a, W: TextWrite, C: Context>(
     Ok(())
 }
 
-/// Writes what a step means.
+/// Writes what a step means. Each arm ends in `?`: handed on, an answer would stay in memory and be
+/// copied at each step.
 fn run_step<'a, W: TextWrite, C: Context>(
     sink: &mut Sink<'_, W>,
     environment: &Environment<'a, C, C::Object>,
@@ -56,17 +59,9 @@ fn run_step<'a, W: TextWrite, C: Context>(
         sink.old sink.new (result_answer result) }
 {
     match step {
-        Step::Literal(from, to) => put_literal(sink, text, *from, *to),
-        Step::Joined(joined) => put_joined(sink, joined),
-        Step::Plain(position, end) => put_at(
-            sink,
-            environment,
-            row,
-            *position,
-            Trait::Display,
-            &Spec::default(),
-            *end,
-        ),
+        Step::Literal(from, to) => put_literal(sink, text, *from, *to)?,
+        Step::Joined(joined) => put_joined(sink, joined)?,
+        Step::Plain(position, end) => put_plain(sink, environment, row, *position, *end)?,
         Step::Under(position, asked) => put_at(
             sink,
             environment,
@@ -75,9 +70,10 @@ fn run_step<'a, W: TextWrite, C: Context>(
             asked.slot,
             &asked.spec,
             asked.end,
-        ),
-        Step::Whole(kept) => run_kept(sink, environment, text, row, kept),
+        )?,
+        Step::Whole(kept) => run_kept(sink, environment, text, row, kept)?,
     }
+    Ok(())
 }
 
 /// Writes what a piece means that is kept alone.
@@ -114,6 +110,25 @@ fn put_literal<W: TextWrite>(
     Ok(())
 }
 
+/// Writes the value at a position of the row displayed plainly, if the row reaches it. It is a
+/// function of its own, since a function zeroes the slot of its spec on entry.
+#[inline(always)]
+fn put_plain<'a, W: TextWrite, C: Context>(
+    sink: &mut Sink<'_, W>,
+    environment: &Environment<'a, C, C::Object>,
+    row: &'a [Formattable<'a, C::Object>],
+    position: usize,
+    end: usize,
+) -> Result<(), Error>
+    ensures writes { Writes W.written
+        (position_means C.Object.shows (environment_of C.finds environment.now) (row_at row.now)
+        Display plain_spec end (row_at row.now position))
+        sink.old sink.new (result_answer result) }
+{
+    let spec = Spec::default();
+    put_at(sink, environment, row, position, Trait::Display, &spec, end)
+}
+
 /// Writes the value at a position of the row, if the row reaches it.
 #[inline(always)]
 fn put_at<'a, W: TextWrite, C: Context>(
@@ -130,8 +145,9 @@ fn put_at<'a, W: TextWrite, C: Context>(
         end (row_at row.now position))
         sink.old sink.new (result_answer result) }
 {
-    match row.get(position) {
-        Some(item) => write_item(sink, item, t, spec, end),
-        None => Ok(()),
-    }
+    let Some(item) = row.get(position) else {
+        return Ok(());
+    };
+    write_slot(sink, item, t, spec, end)?;
+    Ok(())
 }

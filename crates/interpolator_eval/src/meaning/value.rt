@@ -77,23 +77,6 @@ pub fn write_plain_item<'a, W: TextWrite, V: Value>(
 
 /// Writes what is in a slot of an item, under a spec that ends at `end`.
 #[inline(always)]
-pub fn write_item<'a, W: TextWrite, V: Value>(
-    sink: &mut Sink<'_, W>,
-    item: &'a Formattable<'a, V>,
-    t: Trait,
-    spec: &Spec,
-    end: usize,
-) -> Result<(), Error>
-    ensures writes { Writes W.written
-        (value_means V.shows t spec.now end (slot_at t (values_of (slots_of item.now))))
-        sink.old sink.new (result_answer result) }
-{
-    sink.put_value(item.slot(t), t, spec, end)?;
-    Ok(())
-}
-
-/// The same, with a fault that costs less if there is none.
-#[inline(always)]
 pub fn write_slot<'a, W: TextWrite, V: Value>(
     sink: &mut Sink<'_, W>,
     item: &'a Formattable<'a, V>,
