@@ -1,4 +1,4 @@
-//! If the scan is: a place in the outermost text, and the text from there on.
+//! Where the scan is: a place in the outermost text, and the text from there on.
 ghost use Rattle.std.specs.Prelude.{◌≡◌, ◌+◌, ◌^◌, ◌<◌, length, option_map, MatchOption};
 ghost use Rattle.std.specs.Prelude.{[], None, IfSome, MatchBool, ◌≢◌};
 ghost use Rattle.std.specs.Str.{chars};
