@@ -50,8 +50,3 @@ module _ {X : Type 0} (shows : X → Trait → Spec → Shown) (e : Environment 
   -- an item of a list
   abbrev pub stored_item_means : Piece → (end : ℕ) → Slots X → Meaning
   stored_item_means x = item_branch_means shows e (branch_of bs (out-Piece x).item)
-
-  -- chosen items, and the join between two of them
-  abbrev pub stored_items_mean : Piece → (end : ℕ) → List (Slots X) → Meaning
-  stored_items_mean x end chosen =
-      items_mean (stored_join_means x) (stored_item_means x end) chosen

@@ -14,7 +14,7 @@ ghost use Rattle.interpolator.specs.Prepared.StoredSteps.{step_of, fitting_means
 ghost use Rattle.interpolator.specs.Prepared.StoredSteps.{whole_step};
 ghost use Rattle.interpolator.specs.Template.Stored.{nodes_of, part};
 
-use crate::prepared::items::run_each;
+use crate::prepared::items::run_whole;
 use crate::prepared::joined::put_joined;
 use crate::prepared::step::Step;
 use crate::template::piece::Piece;
@@ -91,7 +91,7 @@ fn run_kept<'a, W: TextWrite, C: Context>(
         (whole_step (nodes_of text.now kept.now)))
         sink.old sink.new (result_answer result) }
 {
-    run_each(sink, environment, text, kept)
+    run_whole(sink, environment, text, kept)
 }
 
 /// Writes bytes of the format.

@@ -59,6 +59,26 @@ pub fn write_value<'a, W: TextWrite, C: Context>(
     Ok(())
 }
 
+/// Writes the value under a name, displayed plainly, for an argument that starts at `start` and whose
+/// spec ends at `end`. It has a function of its own: there the compiler knows what is asked.
+#[inline(always)]
+pub fn write_name<'a, W: TextWrite, C: Context>(
+    sink: &mut Sink<'_, W>,
+    environment: &Environment<'a, C, C::Object>,
+    start: usize,
+    name: &str,
+    end: usize,
+) -> Result<(), Error>
+    ensures writes { Writes W.written
+        (under_name (chars name.now) start
+        (λ found. value_means C.Object.shows Display plain_spec end (slot_at Display (values_of found)))
+        (slots_under (environment_of C.finds environment.now) (chars name.now)))
+        sink.old sink.new (result_answer result) }
+{
+    let spec = Spec::default();
+    write_value(sink, environment, start, name, Trait::Display, &spec, end)
+}
+
 /// Writes an item of a list that has no format for it: displayed plainly, for an argument whose spec
 /// ends at `end`.
 pub fn write_plain_item<'a, W: TextWrite, V: Value>(
