@@ -150,7 +150,6 @@ fn range_asked(form: &Form) -> Option<Range>
 }
 
 /// Writes what pieces mean up to the first list, in order, and tells whether there is one.
-#[inline(always)]
 fn run_pieces<'t, 'a, W: TextWrite, C: Context, L: Ledger>(
     sink: &mut Sink<'_, W>,
     environment: &Environment<'a, C, C::Object>,

@@ -44,6 +44,11 @@ abbrev mutual
 abbrev pub asked_size : ListArgument → ℕ
 asked_size x = branch_size x.item + branch_size x.join
 
+-- those after it, if it is closed
+abbrev pub follows_size : Option Forest → ℕ
+follows_size None = 0
+follows_size (Some rest) = forest_size rest
+
 from_by : (b : Bool) (x : Node) (xs : Forest) → asks_list x ≡ b
     → forest_size (from_list xs) ≤ forest_size xs
     → forest_size (from_list (nodes_and x xs)) ≤ forest_size (nodes_and x xs)
@@ -64,6 +69,19 @@ pub first_smaller : (x : ListArgument) (after : Option Forest) (xs : Forest)
     → FirstAsks x after (from_list xs) → asked_size x < forest_size xs
 first_smaller x after xs h =
     let whole = from_smaller xs in omega (arith, rw (h.first) at whole)
+
+pub list_smaller : (x : ListArgument) (after : Option Forest) (xs : Forest)
+    → FirstAsks x after (from_list xs) → asked_size x + follows_size after < forest_size xs
+list_smaller x after xs h =
+    let whole = from_smaller xs in
+    let less = after_smaller h.kind h.rest after h.closing in
+    omega (arith, less, rw (h.first) at whole)
+  where
+    after_smaller : (kind : PieceKind) (rest : Forest) (after : Option Forest)
+        → after ≡ (if has_brace kind then Some rest else None)
+        → follows_size after ≤ forest_size rest
+    after_smaller kinds.Unclosed rest after is = rw is (omega arith)
+    after_smaller kind rest after is = rw is (omega arith)
 
 pub rest_smaller : (x : ListArgument) (after : Option Forest) (rest xs : Forest)
     → FirstAsks x after (from_list xs) → after ≡ Some rest → forest_size rest < forest_size xs
@@ -128,7 +146,7 @@ module _ {X : Type 0} (shows : X → Trait → Spec → Shown) (e : Environment 
   before_stops no_nodes = omega arith
   before_stops (nodes_and x xs) = stops_by (asks_list x) x xs refl (before_stops xs)
 
-  abbrev Goes : Forest → Type 0
+  abbrev pub Goes : Forest → Type 0
   Goes xs =
       (All (before_list xs)).fault ≡ None → Gone (before_list xs) + Gone (from_list xs) ≡ Gone xs
 
@@ -154,14 +172,29 @@ module _ {X : Type 0} (shows : X → Trait → Spec → Shown) (e : Environment 
       omega (arith, so, ap (λ ys. Gone ys) before, ap (λ ys. Gone ys) from)
 
   -- and, if they are done, those from it on
-  before_goes : (xs : Forest) → Goes xs
+  pub before_goes : (xs : Forest) → Goes xs
   before_goes no_nodes none = refl
   before_goes (nodes_and x xs) none = goes_by (asks_list x) x xs refl (before_goes xs) none
 
-  -- ---- the first list
+  -- what comes before the first list was written, and then what comes from it on
+  pub from_outcome : {W : Type 0} (written : W → Written) (xs : Forest) (s t : Sink W) (new : Written)
+      (r : Option Answer) → Writes written (All (before_list xs)) s t None
+      → Outcome (All (from_list xs)) (taken_by written t) new r
+      → Outcome (All xs) (taken_by written s) new r
+  from_outcome written xs s t new r before k =
+      rw (means_split xs) (and_then _ _ _ _ _ _ before.outcome k)
 
-  module _ (x : ListArgument) (after : Option Forest) (xs : Forest)
-      (h : FirstAsks x after (from_list xs)) where
+  pub from_runs : {W : Type 0} (written : W → Written) (s t u : Sink W) (xs : Forest)
+      (r : Option Answer) → Writes written (All (before_list xs)) s t None
+      → Writes written (All (from_list xs)) t u r → Writes written (All xs) s u r
+  from_runs written s t u xs r before o = record {
+    outcome = from_outcome written xs s t _ r before o.outcome;
+    same = same_then s t u before.same o.same;
+  }
+
+  -- ---- pieces that begin with a list
+
+  module _ (x : ListArgument) (after : Option Forest) (xs : Forest) (h : FirstAsks x after xs) where
     abbrev First : Node
     First = node h.place h.last h.kind
         (Some (argument_content x.start x.name x.spec (target_list x.range) x.end)) x.item x.join
@@ -179,59 +212,53 @@ module _ {X : Type 0} (shows : X → Trait → Spec → Shown) (e : Environment 
     argument_is : node_means shows e First ≡ its_argument shows e x after
     argument_is = by_kind h.kind h.rest after h.closing
 
-    list_split : All xs
-        ≡ chain (All (before_list xs)) (chain (its_argument shows e x after) (All h.rest))
-    list_split = means_split xs ∙ rw (h.first, argument_is) refl
+    list_split : All xs ≡ chain (its_argument shows e x after) (All h.rest)
+    list_split = rw (h.first, argument_is) refl
 
-    module _ {W : Type 0} (written : W → Written) (s t u : Sink W)
-        (before : Writes written (All (before_list xs)) s t None) where
+    list_gone : Gone xs
+        ≡ (or_stop (its_argument shows e x after).fault (node_work shows e First)
+        (forest_work shows e h.rest)).pieces
+    list_gone =
+        ap (λ ys. Gone ys) h.first
+        ∙ ap (λ m. (or_stop m.fault (node_work shows e First) (forest_work shows e h.rest)).pieces)
+        argument_is
+
+    -- no more are gone through for it than for all
+    pub list_stops : 1 + (its_list_work shows e x).pieces ≤ Gone xs
+    list_stops =
+        omega (
+          arith,
+          list_gone,
+          stops (its_argument shows e x after).fault (node_work shows e First)
+              (forest_work shows e h.rest),
+        )
+
+    module _ {W : Type 0} (written : W → Written) (s t : Sink W) where
       -- it ends the run
-      pub list_fault : (q : Answer) → Writes written (its_argument shows e x after) t u (Some q)
-          → Writes written (All xs) s u (Some q)
+      pub list_fault : (q : Answer) → Writes written (its_argument shows e x after) s t (Some q)
+          → Writes written (All xs) s t (Some q)
       list_fault q o = record {
-        outcome =
-            rw list_split
-            (and_then _ _ _ _ _ _ before.outcome (fault_first _ _ _ _ q o.outcome));
-        same = same_then s t u before.same o.same;
+        outcome = rw list_split (fault_first _ _ _ _ q o.outcome);
+        same = o.same;
       }
 
-      -- it is done, and what follows it is written
-      pub list_runs : (rest : Forest) (new : Written) (r : Option Answer) → after ≡ Some rest
-          → Writes written (its_argument shows e x after) t u None
-          → Outcome (All rest) (taken_by written u) new r
-          → Outcome (All xs) (taken_by written s) new r
-      list_runs rest new r is o k =
-          rw (list_split, brace_rest h.kind h.rest rest (sym h.closing ∙ is))
-          (and_then _ _ _ _ _ _ before.outcome (and_then _ _ _ _ _ _ o.outcome k))
+      module _ (rest : Forest) (is : after ≡ Some rest)
+          (o : Writes written (its_argument shows e x after) s t None) where
+        same_rest : h.rest ≡ rest
+        same_rest = brace_rest h.kind h.rest rest (sym h.closing ∙ is)
 
-      from_gone : Gone (from_list xs)
-          ≡ (or_stop (its_argument shows e x after).fault (node_work shows e First)
-          (forest_work shows e h.rest)).pieces
-      from_gone =
-          ap (λ ys. Gone ys) h.first
-          ∙ ap (λ m. (or_stop m.fault (node_work shows e First) (forest_work shows e h.rest)).pieces)
-          argument_is
+        -- it is done, and what follows it is written
+        pub list_runs : (new : Written) (r : Option Answer)
+            → Outcome (All rest) (taken_by written t) new r
+            → Outcome (All xs) (taken_by written s) new r
+        list_runs new r k = rw (list_split, same_rest) (and_then _ _ _ _ _ _ o.outcome k)
 
-      pub list_stops : Gone (before_list xs) + (1 + (its_list_work shows e x).pieces) ≤ Gone xs
-      list_stops =
-          omega (
-            arith,
-            before_goes xs (no_fault _ _ _ before.outcome),
-            from_gone,
-            stops (its_argument shows e x after).fault (node_work shows e First)
-                (forest_work shows e h.rest),
-          )
-
-      pub list_goes : (rest : Forest) → after ≡ Some rest
-          → Writes written (its_argument shows e x after) t u None
-          → Gone (before_list xs) + (1 + (its_list_work shows e x).pieces) + Gone rest ≡ Gone xs
-      list_goes rest is o =
-          let same = brace_rest h.kind h.rest rest (sym h.closing ∙ is) in
-          omega (
-            arith,
-            before_goes xs (no_fault _ _ _ before.outcome),
-            from_gone,
-            goes (its_argument shows e x after).fault (node_work shows e First)
-                (forest_work shows e h.rest) (no_fault _ _ _ o.outcome),
-            ap (λ r. Gone r) same,
-          )
+        pub list_goes : 1 + (its_list_work shows e x).pieces + Gone rest ≡ Gone xs
+        list_goes =
+            omega (
+              arith,
+              list_gone,
+              goes (its_argument shows e x after).fault (node_work shows e First)
+                  (forest_work shows e h.rest) (no_fault _ _ _ o.outcome),
+              ap (λ r. Gone r) same_rest,
+            )

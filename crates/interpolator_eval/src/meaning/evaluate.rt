@@ -2,11 +2,13 @@
 ghost use Rattle.std.specs.Prelude.{◌≡◌, ◌+◌, ◌-◌, ◌<◌, ◌≤◌, IfOk, None, Some, map};
 ghost use Rattle.interpolator_syntax.specs.At.{at};
 ghost use Rattle.interpolator_syntax.specs.Faults.{result_answer};
+ghost use Rattle.interpolator_syntax.specs.Nodes.{Forest};
 ghost use Rattle.interpolator_eval.specs.Meaning.CodeEnvironments.{environment_of};
 ghost use Rattle.interpolator_eval.specs.Meaning.Lists.{padded_list_means};
 ghost use Rattle.interpolator_eval.specs.Meaning.Meanings.{means, forest_means};
 ghost use Rattle.interpolator_eval.specs.Meaning.Sinks.{Writes};
-ghost use Rattle.interpolator_eval.specs.Meaning.Sources.{empty_counts, its_argument, its_item};
+ghost use Rattle.interpolator_eval.specs.Meaning.Sources.{FirstAsks, empty_counts, its_argument};
+ghost use Rattle.interpolator_eval.specs.Meaning.Sources.{its_item};
 ghost use Rattle.interpolator_eval.specs.Meaning.Sources.{its_item_work, its_items, its_items_work};
 ghost use Rattle.interpolator_eval.specs.Meaning.Sources.{its_join, its_join_work, its_list};
 ghost use Rattle.interpolator_eval.specs.Meaning.Sources.{its_list_work};
@@ -72,7 +74,7 @@ fn write_on<'a, W: TextWrite, C: Context, S: FormatSource, L: Ledger>(
 }
 
 /// Writes what the pieces of a source mean, in order, and counts those that it goes through.
-#[cycle(evaluate)]
+#[inline(always)]
 pub fn write_source<'a, W: TextWrite, C: Context, S: FormatSource, L: Ledger>(
     sink: &mut Sink<'_, W>,
     environment: &Environment<'a, C, C::Object>,
@@ -85,10 +87,54 @@ pub fn write_source<'a, W: TextWrite, C: Context, S: FormatSource, L: Ledger>(
     ensures gone { tally.new ≤ tally.old + (forest_work C.Object.shows
         (environment_of C.finds environment.now) (S.tree source)).pieces }
 {
-    let mut list = source.no_list();
-    let mut here = source;
-    while here.write_to_list(sink, environment, &mut list, tally)? {
-        here = write_argument::<W, C, S, L>(sink, environment, &list, tally)?;
+    let mut room = source.no_list();
+    write_with::<W, C, S, L>(sink, environment, source, &mut room, tally)
+}
+
+/// The same, with room for a list that is met.
+#[cycle(evaluate)]
+#[inline(always)]
+fn write_with<'a, W: TextWrite, C: Context, S: FormatSource, L: Ledger>(
+    sink: &mut Sink<'_, W>,
+    environment: &Environment<'a, C, C::Object>,
+    source: S,
+    room: &mut S::List,
+    tally: &mut Tally<L>,
+) -> Result<(), Error>
+    ensures writes { Writes W.written
+        (forest_means C.Object.shows (environment_of C.finds environment.now) (S.tree source))
+        sink.old sink.new (result_answer result) }
+    ensures gone { tally.new ≤ tally.old + (forest_work C.Object.shows
+        (environment_of C.finds environment.now) (S.tree source)).pieces }
+{
+    if source.write_to_list(sink, environment, room, tally)? {
+        write_lists::<W, C, S, L>(sink, environment, room, tally)?;
+        return Ok(());
+    }
+    Ok(())
+}
+
+/// Writes the list that was met, and what follows it. The list is counted already.
+#[cycle(evaluate)]
+#[inline(never)]
+fn write_lists<'a, W: TextWrite, C: Context, S: FormatSource, L: Ledger>(
+    sink: &mut Sink<'_, W>,
+    environment: &Environment<'a, C, C::Object>,
+    list: &mut S::List,
+    tally: &mut Tally<L>,
+) -> Result<(), Error>
+    requires met { S.is_met list.old }
+    ensures writes { (xs : Forest) → FirstAsks (S.asks list.old) (S.follows list.old) xs
+        → Writes W.written
+        (forest_means C.Object.shows (environment_of C.finds environment.now) xs)
+        sink.old sink.new (result_answer result) }
+    ensures gone { (xs : Forest) → FirstAsks (S.asks list.old) (S.follows list.old) xs
+        → tally.new + 1 ≤ tally.old + (forest_work C.Object.shows
+        (environment_of C.finds environment.now) xs).pieces }
+{
+    let mut here = write_argument::<W, C, S, L>(sink, environment, list, tally)?;
+    while here.write_to_list(sink, environment, list, tally)? {
+        here = write_argument::<W, C, S, L>(sink, environment, list, tally)?;
     }
     Ok(())
 }
@@ -197,21 +243,23 @@ fn write_items<'a, W: TextWrite, C: Context, S: FormatSource, L: Ledger>(
     let Some((first, rest)) = items.split_first() else {
         return Ok(());
     };
-    write_item::<W, C, S, L>(sink, environment, list, first, tally)?;
+    let mut room = *list;
+    write_item::<W, C, S, L>(sink, environment, list, first, &mut room, tally)?;
     for item in rest {
-        write_join::<W, C, S, L>(sink, environment, list, tally)?;
-        write_item::<W, C, S, L>(sink, environment, list, item, tally)?;
+        write_join::<W, C, S, L>(sink, environment, list, &mut room, tally)?;
+        write_item::<W, C, S, L>(sink, environment, list, item, &mut room, tally)?;
     }
     Ok(())
 }
 
-/// Writes one item of a list.
+/// Writes one item of a list. `room` is for a list in its format.
 #[cycle(evaluate)]
 fn write_item<'a, W: TextWrite, C: Context, S: FormatSource, L: Ledger>(
     sink: &mut Sink<'_, W>,
     environment: &Environment<'a, C, C::Object>,
     list: &S::List,
     item: &'a Formattable<'a, C::Object>,
+    room: &mut S::List,
     tally: &mut Tally<L>,
 ) -> Result<(), Error>
     requires met { S.is_met list.now }
@@ -225,7 +273,7 @@ fn write_item<'a, W: TextWrite, C: Context, S: FormatSource, L: Ledger>(
     match S::item(list) {
         Some(format) => {
             count_empty(format, tally);
-            write_source(sink, &environment.bind(item), format, tally)
+            write_with::<W, C, S, L>(sink, &environment.bind(item), format, room, tally)
         }
         None => {
             tally.tick();
@@ -244,12 +292,13 @@ fn count_empty<S: FormatSource, L: Ledger>(format: S, tally: &mut Tally<L>)
     }
 }
 
-/// Writes what comes between two items.
+/// Writes what comes between two items. `room` is for a list in it.
 #[cycle(evaluate)]
 fn write_join<'a, W: TextWrite, C: Context, S: FormatSource, L: Ledger>(
     sink: &mut Sink<'_, W>,
     environment: &Environment<'a, C, C::Object>,
     list: &S::List,
+    room: &mut S::List,
     tally: &mut Tally<L>,
 ) -> Result<(), Error>
     requires met { S.is_met list.now }
@@ -260,7 +309,7 @@ fn write_join<'a, W: TextWrite, C: Context, S: FormatSource, L: Ledger>(
         (environment_of C.finds environment.now) (S.asks list.now)).pieces }
 {
     match S::join(list) {
-        Some(format) => write_source(sink, environment, format, tally),
+        Some(format) => write_with::<W, C, S, L>(sink, environment, format, room, tally),
         None => Ok(()),
     }
 }

@@ -140,7 +140,6 @@ fn group_start(group: Option<Group<'_>>) -> Option<Cursor<'_>>
 }
 
 /// Writes what a text means up to its first list, token by token, and tells whether there is one.
-#[inline(always)]
 fn write_tokens<'t, 'a, W: TextWrite, C: Context, L: Ledger>(
     sink: &mut Sink<'_, W>,
     environment: &Environment<'a, C, C::Object>,

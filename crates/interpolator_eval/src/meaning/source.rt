@@ -35,7 +35,7 @@ use std::sync::ledger::Ledger;
 /// ```
 pub trait FormatSource: Copy {
     /// What asks for a list.
-    type List: Drop;
+    type List: Copy;
 
     /// The pieces that are left.
     ghost tree: { Self → Forest };

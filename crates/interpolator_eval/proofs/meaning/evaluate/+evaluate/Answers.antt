@@ -1,4 +1,4 @@
-use Rattle.std.proofs.Common.{rules, arith, map}
+use Rattle.std.proofs.Common.{rules, arith, ap, map}
 use Rattle.std.proofs.lemmas.Result.{err_from_is_err_and}
 use Rattle.interpolator_eval.specs.Slots.{slots_of}
 use Rattle.interpolator_eval.specs.Meaning.CodeEnvironments.{environment_of}
@@ -12,7 +12,9 @@ use Rattle.interpolator_eval.proofs.MeaningLemmas.SinkLemmas.{whole_fault, whole
 use Rattle.interpolator_eval.proofs.MeaningLemmas.SourceLemmas.{all_before, before_fault}
 use Rattle.interpolator_eval.proofs.MeaningLemmas.SourceLemmas.{before_stops, first_smaller}
 use Rattle.interpolator_eval.proofs.MeaningLemmas.SourceLemmas.{list_fault, list_goes, list_runs}
-use Rattle.interpolator_eval.proofs.MeaningLemmas.SourceLemmas.{list_stops, rest_smaller}
+use Rattle.interpolator_eval.proofs.MeaningLemmas.SourceLemmas.{list_smaller, list_stops, rest_smaller}
+use Rattle.interpolator_eval.proofs.MeaningLemmas.SourceLemmas.{before_goes, follows_size}
+use Rattle.interpolator_eval.proofs.MeaningLemmas.SourceLemmas.{from_outcome, from_runs}
 use Rattle.interpolator_eval.proofs.MeaningLemmas.WorkLemmas.{first_goes, first_stops, item_goes}
 use Rattle.interpolator_eval.proofs.MeaningLemmas.WorkLemmas.{item_stops, join_stops, no_fault}
 use Rattle.interpolator_eval.proofs.meaning.evaluate.+evaluate.Goals as goal
@@ -205,106 +207,247 @@ write_argument-returns-in_err-write_list-clause-writes g t c =
     let err = err_from_is_err_and c.from_residual.result c.from_residual.ensures.1 in
     rw (err.1, err.2) (brace_fault _ _ _ _ _ _ _ c.in_err-write_list.ensures.writes)
 
--- ---- a source, list by list
+-- ---- a source
 
-pub write_source-returns-in_err-write_to_list-clause-writes :
-    goal.write_source-returns-in_err-write_to_list-clause-writes
-write_source-returns-in_err-write_to_list-clause-writes g t c =
+pub write_with-returns-in_err-write_to_list-clause-writes :
+    goal.write_with-returns-in_err-write_to_list-clause-writes
+write_with-returns-in_err-write_to_list-clause-writes g t c =
     let e = environment_of g.C.Context.finds c.args.environment.now in
+    let shows = g.C.Object.Value.shows in
+    let xs = g.S.FormatSource.tree c.args.source in
     let err = err_from_is_err_and c.from_residual.result c.from_residual.ensures.1 in
-    rw (err.1, err.2) (goes_on _ _ _ _ _ _ _ c.loop-list.invariant.so_far c.loop-list.invariant.same
-    (before_fault g.C.Object.Value.shows e _ _ _ (g.S.FormatSource.tree c.loop-list.here) _
-    c.in_err-write_to_list.ensures.writes))
+    rw (err.1, err.2)
+    (before_fault shows e _ _ _ xs _ c.in_err-write_to_list.ensures.writes)
 
-pub write_source-returns-in_err-write_to_list-clause-gone :
-    goal.write_source-returns-in_err-write_to_list-clause-gone
-write_source-returns-in_err-write_to_list-clause-gone g t c =
+pub write_with-returns-in_err-write_to_list-clause-gone :
+    goal.write_with-returns-in_err-write_to_list-clause-gone
+write_with-returns-in_err-write_to_list-clause-gone g t c =
     let e = environment_of g.C.Context.finds c.args.environment.now in
+    let shows = g.C.Object.Value.shows in
+    let xs = g.S.FormatSource.tree c.args.source in
+    omega (arith, c.in_err-write_to_list.ensures.gone, before_stops shows e xs)
+
+pub write_with-returns-clause-writes : goal.write_with-returns-clause-writes
+write_with-returns-clause-writes g t c =
+    let e = environment_of g.C.Context.finds c.args.environment.now in
+    let shows = g.C.Object.Value.shows in
+    let xs = g.S.FormatSource.tree c.args.source in
+    let met = rw c.if-branch.false at c.in_ok-write_to_list.ensures.met in
+    all_before shows e _ _ _ xs met c.in_ok-write_to_list.ensures.writes
+
+pub write_with-returns-clause-gone : goal.write_with-returns-clause-gone
+write_with-returns-clause-gone g t c =
+    let e = environment_of g.C.Context.finds c.args.environment.now in
+    let shows = g.C.Object.Value.shows in
+    let xs = g.S.FormatSource.tree c.args.source in
     omega (
       arith,
-      c.loop-list.invariant.gone,
-      c.in_err-write_to_list.ensures.gone,
-      before_stops g.C.Object.Value.shows e (g.S.FormatSource.tree c.loop-list.here),
+      rw c.if-branch.false at c.in_ok-write_to_list.ensures.gone,
+      before_stops shows e xs,
     )
 
-pub write_source-write_argument-requires : goal.write_source-write_argument-requires
-write_source-write_argument-requires g t c κs within =
+pub write_with-write_lists-requires : goal.write_with-write_lists-requires
+write_with-write_lists-requires g t c κs within =
+    let xs = g.S.FormatSource.tree c.args.source in
     let met = rw c.if-branch.true at c.in_ok-write_to_list.ensures.met in
-    let xs = g.S.FormatSource.tree c.loop-list.here in
-    let smaller = first_smaller _ _ xs met.1 in
-    let most = c.loop-list.invariant.within in
-    (search (rules, smaller, most), (within.0, (within.1.0, (within.1.1.0, (within.1.1.1.0,
+    let smaller = list_smaller _ _ xs met.1 in
+    (search (rules, smaller), (within.0, (within.1.0, (within.1.1.0, (within.1.1.1.0,
     (within.1.1.1.1.0, (within.1.1.1.1.1, met.0)))))))
 
-pub write_source-returns-in_err-here-clause-writes :
-    goal.write_source-returns-in_err-here-clause-writes
-write_source-returns-in_err-here-clause-writes g t c =
+pub write_with-returns-in_err-write_lists-clause-writes :
+    goal.write_with-returns-in_err-write_lists-clause-writes
+write_with-returns-in_err-write_lists-clause-writes g t c =
     let e = environment_of g.C.Context.finds c.args.environment.now in
+    let shows = g.C.Object.Value.shows in
+    let xs = g.S.FormatSource.tree c.args.source in
     let met = rw c.if-branch.true at c.in_ok-write_to_list.ensures.met in
-    let xs = g.S.FormatSource.tree c.loop-list.here in
-    let residual = c.from_residual-in_err-here in
+    let residual = c.from_residual-in_err-write_lists in
     let err = err_from_is_err_and residual.result residual.ensures.1 in
-    rw (err.1, err.2) (goes_on _ _ _ _ _ _ _ c.loop-list.invariant.so_far c.loop-list.invariant.same
-    (list_fault g.C.Object.Value.shows e _ _ xs met.1 _ _ _ _ c.in_ok-write_to_list.ensures.writes _
-    c.in_err-here.ensures.writes))
+    rw (err.1, err.2)
+    (from_runs shows e _ _ _ _ xs _ c.in_ok-write_to_list.ensures.writes
+    (c.in_err-write_lists.ensures.writes _ met.1))
 
-pub write_source-returns-in_err-here-clause-gone : goal.write_source-returns-in_err-here-clause-gone
-write_source-returns-in_err-here-clause-gone g t c =
+pub write_with-returns-in_err-write_lists-clause-gone :
+    goal.write_with-returns-in_err-write_lists-clause-gone
+write_with-returns-in_err-write_lists-clause-gone g t c =
     let e = environment_of g.C.Context.finds c.args.environment.now in
+    let shows = g.C.Object.Value.shows in
+    let xs = g.S.FormatSource.tree c.args.source in
     let met = rw c.if-branch.true at c.in_ok-write_to_list.ensures.met in
-    let xs = g.S.FormatSource.tree c.loop-list.here in
     omega (
       arith,
-      c.loop-list.invariant.gone,
       rw c.if-branch.true at c.in_ok-write_to_list.ensures.gone,
-      c.in_err-here.ensures.gone,
-      list_stops g.C.Object.Value.shows e _ _ xs met.1 _ _ _ c.write_argument.new.sink
-          c.in_ok-write_to_list.ensures.writes,
+      c.in_err-write_lists.ensures.gone _ met.1,
+      before_goes shows e xs (no_fault _ _ _ c.in_ok-write_to_list.ensures.writes.outcome),
     )
 
-pub write_source-loop-list-smaller : goal.write_source-loop-list-smaller
-write_source-loop-list-smaller g t c =
-    let met = rw c.if-branch.true at c.in_ok-write_to_list.ensures.met in
-    let xs = g.S.FormatSource.tree c.loop-list.here in
-    rest_smaller _ _ _ xs met.1 c.in_ok-here.ensures.rest
-
-pub write_source-loop-list-preserved : goal.write_source-loop-list-preserved
-write_source-loop-list-preserved g t c =
+pub write_with-returns-then-branch-clause-writes : goal.write_with-returns-then-branch-clause-writes
+write_with-returns-then-branch-clause-writes g t c =
     let e = environment_of g.C.Context.finds c.args.environment.now in
+    let shows = g.C.Object.Value.shows in
+    let xs = g.S.FormatSource.tree c.args.source in
     let met = rw c.if-branch.true at c.in_ok-write_to_list.ensures.met in
-    let xs = g.S.FormatSource.tree c.loop-list.here in
-    let before = c.in_ok-write_to_list.ensures.writes in
+    from_runs shows e _ _ _ _ xs _ c.in_ok-write_to_list.ensures.writes
+    (c.in_ok-write_lists.ensures.writes _ met.1)
+
+pub write_with-returns-then-branch-clause-gone : goal.write_with-returns-then-branch-clause-gone
+write_with-returns-then-branch-clause-gone g t c =
+    let e = environment_of g.C.Context.finds c.args.environment.now in
+    let shows = g.C.Object.Value.shows in
+    let xs = g.S.FormatSource.tree c.args.source in
+    let met = rw c.if-branch.true at c.in_ok-write_to_list.ensures.met in
+    omega (
+      arith,
+      rw c.if-branch.true at c.in_ok-write_to_list.ensures.gone,
+      c.in_ok-write_lists.ensures.gone _ met.1,
+      before_goes shows e xs (no_fault _ _ _ c.in_ok-write_to_list.ensures.writes.outcome),
+    )
+
+-- ---- lists, one after the other
+
+pub write_lists-returns-in_err-here-clause-writes : goal.write_lists-returns-in_err-here-clause-writes
+write_lists-returns-in_err-here-clause-writes g t c xs first =
+    let e = environment_of g.C.Context.finds c.args.environment.now in
+    let shows = g.C.Object.Value.shows in
+    let err = err_from_is_err_and c.from_residual.result c.from_residual.ensures.1 in
+    rw (err.1, err.2)
+    (list_fault shows e _ _ xs first _ _ _ _ c.in_err-here.ensures.writes)
+
+pub write_lists-returns-in_err-here-clause-gone : goal.write_lists-returns-in_err-here-clause-gone
+write_lists-returns-in_err-here-clause-gone g t c xs first =
+    let e = environment_of g.C.Context.finds c.args.environment.now in
+    let shows = g.C.Object.Value.shows in
+    omega (arith, c.in_err-here.ensures.gone, list_stops shows e _ _ xs first)
+
+pub write_lists-loop-sink-init : goal.write_lists-loop-sink-init
+write_lists-loop-sink-init g t c =
+    let e = environment_of g.C.Context.finds c.args.environment.now in
+    let shows = g.C.Object.Value.shows in
     let o = c.in_ok-here.ensures.writes in
     let rest = c.in_ok-here.ensures.rest in
     record {
-      within = omega (arith, c.loop-list.invariant.within, rest_smaller _ _ _ xs met.1 rest);
-      so_far = λ new answer k. c.loop-list.invariant.so_far new answer
-          (list_runs g.C.Object.Value.shows e _ _ xs met.1 _ _ _ _ before _ _ _ rest o k);
-      same = same_then _ _ _ c.loop-list.invariant.same (same_then _ _ _ before.same o.same);
-      gone =
-          omega (
-            arith,
-            c.loop-list.invariant.gone,
-            rw c.if-branch.true at c.in_ok-write_to_list.ensures.gone,
-            c.in_ok-here.ensures.gone,
-            list_goes g.C.Object.Value.shows e _ _ xs met.1 _ _ _ _ before _ rest o,
-          );
+      within = omega (arith, ap follows_size rest);
+      so_far = λ xs first new answer k. list_runs shows e _ _ xs first _ _ _ _ rest o new answer k;
+      same = o.same;
+      gone = λ xs first. omega (
+        arith,
+        c.in_ok-here.ensures.gone,
+        list_goes shows e _ _ xs first _ _ _ _ rest o,
+      );
     }
 
-pub write_source-returns-clause-writes : goal.write_source-returns-clause-writes
-write_source-returns-clause-writes g t c =
+pub write_lists-returns-in_err-write_to_list-clause-writes :
+    goal.write_lists-returns-in_err-write_to_list-clause-writes
+write_lists-returns-in_err-write_to_list-clause-writes g t c xs first =
     let e = environment_of g.C.Context.finds c.args.environment.now in
-    let met = rw c.if-branch.false at c.in_ok-write_to_list.ensures.met in
-    goes_on _ _ _ _ _ _ _ c.loop-list.invariant.so_far c.loop-list.invariant.same
-    (all_before g.C.Object.Value.shows e _ _ _ (g.S.FormatSource.tree c.loop-list.here) met
-    c.in_ok-write_to_list.ensures.writes)
+    let shows = g.C.Object.Value.shows in
+    let ys = g.S.FormatSource.tree c.loop-sink.here in
+    let residual = c.from_residual-in_err-write_to_list in
+    let err = err_from_is_err_and residual.result residual.ensures.1 in
+    rw (err.1, err.2) (goes_on _ _ _ _ _ _ _ (c.loop-sink.invariant.so_far xs first)
+    c.loop-sink.invariant.same
+    (before_fault shows e _ _ _ ys _ c.in_err-write_to_list.ensures.writes))
 
-pub write_source-returns-clause-gone : goal.write_source-returns-clause-gone
-write_source-returns-clause-gone g t c =
+pub write_lists-returns-in_err-write_to_list-clause-gone :
+    goal.write_lists-returns-in_err-write_to_list-clause-gone
+write_lists-returns-in_err-write_to_list-clause-gone g t c xs first =
     let e = environment_of g.C.Context.finds c.args.environment.now in
+    let shows = g.C.Object.Value.shows in
+    let ys = g.S.FormatSource.tree c.loop-sink.here in
     omega (
       arith,
-      c.loop-list.invariant.gone,
+      c.loop-sink.invariant.gone xs first,
+      c.in_err-write_to_list.ensures.gone,
+      before_stops shows e ys,
+    )
+
+pub write_lists-write_argument-requires-in-loop-sink :
+    goal.write_lists-write_argument-requires-in-loop-sink
+write_lists-write_argument-requires-in-loop-sink g t c κs within =
+    let ys = g.S.FormatSource.tree c.loop-sink.here in
+    let met = rw c.if-branch.true at c.in_ok-write_to_list.ensures.met in
+    let smaller = first_smaller _ _ ys met.1 in
+    let most = c.loop-sink.invariant.within in
+    (search (rules, smaller, most), (within.0, (within.1.0, (within.1.1.0, (within.1.1.1.0,
+    (within.1.1.1.1.0, (within.1.1.1.1.1, met.0)))))))
+
+pub write_lists-returns-in_err-here-2-clause-writes :
+    goal.write_lists-returns-in_err-here-2-clause-writes
+write_lists-returns-in_err-here-2-clause-writes g t c xs first =
+    let e = environment_of g.C.Context.finds c.args.environment.now in
+    let shows = g.C.Object.Value.shows in
+    let ys = g.S.FormatSource.tree c.loop-sink.here in
+    let met = rw c.if-branch.true at c.in_ok-write_to_list.ensures.met in
+    let residual = c.from_residual-in_err-here-2 in
+    let err = err_from_is_err_and residual.result residual.ensures.1 in
+    rw (err.1, err.2) (goes_on _ _ _ _ _ _ _ (c.loop-sink.invariant.so_far xs first)
+    c.loop-sink.invariant.same
+    (from_runs shows e _ _ _ _ ys _ c.in_ok-write_to_list.ensures.writes
+    (list_fault shows e _ _ _ met.1 _ _ _ _ c.in_err-here-2.ensures.writes)))
+
+pub write_lists-returns-in_err-here-2-clause-gone : goal.write_lists-returns-in_err-here-2-clause-gone
+write_lists-returns-in_err-here-2-clause-gone g t c xs first =
+    let e = environment_of g.C.Context.finds c.args.environment.now in
+    let shows = g.C.Object.Value.shows in
+    let ys = g.S.FormatSource.tree c.loop-sink.here in
+    let met = rw c.if-branch.true at c.in_ok-write_to_list.ensures.met in
+    omega (
+      arith,
+      c.loop-sink.invariant.gone xs first,
+      rw c.if-branch.true at c.in_ok-write_to_list.ensures.gone,
+      c.in_err-here-2.ensures.gone,
+      list_stops shows e _ _ _ met.1,
+      before_goes shows e ys (no_fault _ _ _ c.in_ok-write_to_list.ensures.writes.outcome),
+    )
+
+pub write_lists-loop-sink-smaller : goal.write_lists-loop-sink-smaller
+write_lists-loop-sink-smaller g t c =
+    let ys = g.S.FormatSource.tree c.loop-sink.here in
+    let met = rw c.if-branch.true at c.in_ok-write_to_list.ensures.met in
+    rest_smaller _ _ _ ys met.1 c.in_ok-here-2.ensures.rest
+
+pub write_lists-loop-sink-preserved : goal.write_lists-loop-sink-preserved
+write_lists-loop-sink-preserved g t c =
+    let e = environment_of g.C.Context.finds c.args.environment.now in
+    let shows = g.C.Object.Value.shows in
+    let ys = g.S.FormatSource.tree c.loop-sink.here in
+    let met = rw c.if-branch.true at c.in_ok-write_to_list.ensures.met in
+    let before = c.in_ok-write_to_list.ensures.writes in
+    let o = c.in_ok-here-2.ensures.writes in
+    let rest = c.in_ok-here-2.ensures.rest in
+    record {
+      within = omega (arith, c.loop-sink.invariant.within, rest_smaller _ _ _ ys met.1 rest);
+      so_far = λ xs first new answer k. c.loop-sink.invariant.so_far xs first new answer
+          (from_outcome shows e _ ys _ _ _ _ before
+          (list_runs shows e _ _ _ met.1 _ _ _ _ rest o new answer k));
+      same = same_then _ _ _ c.loop-sink.invariant.same (same_then _ _ _ before.same o.same);
+      gone = λ xs first. omega (
+        arith,
+        c.loop-sink.invariant.gone xs first,
+        rw c.if-branch.true at c.in_ok-write_to_list.ensures.gone,
+        c.in_ok-here-2.ensures.gone,
+        list_goes shows e _ _ _ met.1 _ _ _ _ rest o,
+        before_goes shows e ys (no_fault _ _ _ before.outcome),
+      );
+    }
+
+pub write_lists-returns-clause-writes : goal.write_lists-returns-clause-writes
+write_lists-returns-clause-writes g t c xs first =
+    let e = environment_of g.C.Context.finds c.args.environment.now in
+    let shows = g.C.Object.Value.shows in
+    let ys = g.S.FormatSource.tree c.loop-sink.here in
+    let met = rw c.if-branch.false at c.in_ok-write_to_list.ensures.met in
+    goes_on _ _ _ _ _ _ _ (c.loop-sink.invariant.so_far xs first) c.loop-sink.invariant.same
+    (all_before shows e _ _ _ ys met c.in_ok-write_to_list.ensures.writes)
+
+pub write_lists-returns-clause-gone : goal.write_lists-returns-clause-gone
+write_lists-returns-clause-gone g t c xs first =
+    let e = environment_of g.C.Context.finds c.args.environment.now in
+    let shows = g.C.Object.Value.shows in
+    let ys = g.S.FormatSource.tree c.loop-sink.here in
+    omega (
+      arith,
+      c.loop-sink.invariant.gone xs first,
       rw c.if-branch.false at c.in_ok-write_to_list.ensures.gone,
-      before_stops g.C.Object.Value.shows e (g.S.FormatSource.tree c.loop-list.here),
+      before_stops shows e ys,
     )

@@ -1,20 +1,26 @@
 use Rattle.std.proofs.Common.{◌+◌, ◌*◌, ◌≤◌, map, drop, Option}
 use Rattle.interpolator_render.specs.Written.{Written}
 use Rattle.interpolator_syntax.specs.Faults.{Answer}
+use Rattle.interpolator_syntax.specs.Nodes.{Forest}
 use Rattle.interpolator_eval.specs.Slots.{slots_of}
 use Rattle.interpolator_eval.specs.Meaning.CodeEnvironments.{environment_of}
 use Rattle.interpolator_eval.specs.Meaning.Meanings.{forest_means, items_after}
 use Rattle.interpolator_eval.specs.Meaning.Outcomes.{Outcome}
 use Rattle.interpolator_eval.specs.Meaning.Sinks.{SameEnd, taken_by}
 use Rattle.interpolator_eval.specs.Meaning.Sources.{its_items, its_items_work, its_join, its_join_work}
-use Rattle.interpolator_eval.specs.Meaning.Sources.{its_item, its_item_work}
+use Rattle.interpolator_eval.specs.Meaning.Sources.{FirstAsks, its_item, its_item_work}
 use Rattle.interpolator_eval.specs.Meaning.Work.{forest_work, work_after}
-use Rattle.interpolator_eval.proofs.MeaningLemmas.SourceLemmas.{asked_size, forest_size}
+use Rattle.interpolator_eval.proofs.MeaningLemmas.SourceLemmas.{asked_size, follows_size, forest_size}
 use Rattle.interpolator_eval.proofs.meaning.evaluate.+evaluate.Given as goal
 
 -- eight times the pieces that are left, those of groups among them
-abbrev pub decreases-write_source : goal.decreases-write_source
-decreases-write_source g l = 8 * forest_size (g.S.FormatSource.tree l.source) + 6
+abbrev pub decreases-write_with : goal.decreases-write_with
+decreases-write_with g l = 8 * forest_size (g.S.FormatSource.tree l.source) + 6
+
+abbrev pub decreases-write_lists : goal.decreases-write_lists
+decreases-write_lists g l =
+    8 * (asked_size (g.S.FormatSource.asks l.list.now)
+    + follows_size (g.S.FormatSource.follows l.list.now)) + 7
 
 abbrev pub decreases-write_argument : goal.decreases-write_argument
 decreases-write_argument g l = 8 * asked_size (g.S.FormatSource.asks l.list.now) + 5
@@ -34,27 +40,29 @@ decreases-write_item g l = 8 * asked_size (g.S.FormatSource.asks l.list.now) + 1
 abbrev pub decreases-write_join : goal.decreases-write_join
 decreases-write_join g l = 8 * asked_size (g.S.FormatSource.asks l.list.now) + 1
 
--- what is left comes to, after what was written, what the whole comes to; and its pieces with those
--- gone through so far are no more than all
-abbrev pub invariant-write_source-loop-list : goal.invariant-write_source-loop-list
-invariant-write_source-loop-list g l =
+-- what is left comes to, after what was written, what all comes to of which the list is the first;
+-- and its pieces with those gone through so far are no more than all
+abbrev pub invariant-write_lists-loop-sink : goal.invariant-write_lists-loop-sink
+invariant-write_lists-loop-sink g l =
     let shows = g.C.Object.Value.shows in
     let e = environment_of g.C.Context.finds l.environment in
     let tree = g.S.FormatSource.tree in
+    let asked = g.S.FormatSource.asks l.fn.list in
+    let follows = g.S.FormatSource.follows l.fn.list in
     record {
-      within : forest_size (tree l.here) ≤ forest_size (tree l.fn.source);
-      so_far : (new : Written) (answer : Option Answer)
+      within : forest_size (tree l.here) ≤ follows_size follows;
+      so_far : (xs : Forest) → FirstAsks asked follows xs → (new : Written) (answer : Option Answer)
           → Outcome (forest_means shows e (tree l.here)) (taken_by g.W.TextWrite.written l.sink) new
           answer
-          → Outcome (forest_means shows e (tree l.fn.source))
-          (taken_by g.W.TextWrite.written l.fn.sink) new answer;
+          → Outcome (forest_means shows e xs) (taken_by g.W.TextWrite.written l.fn.sink) new answer;
       same : SameEnd l.fn.sink l.sink;
-      gone : l.tally + (forest_work shows e (tree l.here)).pieces
-          ≤ l.fn.tally + (forest_work shows e (tree l.fn.source)).pieces;
+      gone : (xs : Forest) → FirstAsks asked follows xs
+          → l.tally + 1 + (forest_work shows e (tree l.here)).pieces
+          ≤ l.fn.tally + (forest_work shows e xs).pieces;
     }
 
-abbrev pub decreases-write_source-loop-list : goal.decreases-write_source-loop-list
-decreases-write_source-loop-list g l = forest_size (g.S.FormatSource.tree l.here)
+abbrev pub decreases-write_lists-loop-sink : goal.decreases-write_lists-loop-sink
+decreases-write_lists-loop-sink g l = forest_size (g.S.FormatSource.tree l.here)
 
 -- what the items left come to, after what was written, is what the whole list comes to; and their
 -- pieces with those gone through so far are no more than its
