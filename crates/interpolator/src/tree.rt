@@ -174,39 +174,51 @@ fn run_pieces<'t, 'a, W: TextWrite, C: Context, L: Ledger>(
     let mut rest = source.pieces;
     while let Some((piece, after)) = rest.split_first() {
         tally.tick();
-        if run_piece(sink, environment, text, piece)? {
+        if is_list(piece) {
             *list = Stored { text, pieces: rest };
             return Ok(true);
         }
+        run_piece(sink, environment, text, piece)?;
         rest = after;
     }
     Ok(false)
 }
 
-/// Writes what a piece means, and tells whether it asks for a list; of which nothing is written.
+/// Whether a piece asks for a list.
+#[inline(always)]
+fn is_list(piece: &Piece) -> bool
+    ensures { result ≡ is_list_form (out-Piece piece.now).form }
+{
+    match &piece.form {
+        Form::List(_) => true,
+        _ => false,
+    }
+}
+
+/// Writes what a piece means that asks for no list.
 #[inline(always)]
 fn run_piece<'a, W: TextWrite, C: Context>(
     sink: &mut Sink<'_, W>,
     environment: &Environment<'a, C, C::Object>,
     text: &str,
     piece: &Piece,
-) -> Result<bool, Error>
+) -> Result<(), Error>
     requires whole { node_whole (node_of text.now piece.now) ≡ true }
+    requires other { is_list_form (out-Piece piece.now).form ≡ false }
     ensures writes { Writes W.written
         (unlisted_means C.Object.shows (environment_of C.finds environment.now)
         (node_of text.now piece.now))
         sink.old sink.new (result_answer result) }
-    ensures list { IfOk result (λ list. is_list_form (out-Piece piece.now).form ≡ list) }
 {
     match &piece.form {
         Form::Text => {
             sink.put_run(text_of(text, piece), piece.from)?;
-            Ok(false)
+            Ok(())
         }
         Form::Name => {
             let (start, name) = name_of(text, piece);
             write_name(sink, environment, start, name, piece.spec_end)?;
-            value_done(piece)
+            closed(piece)
         }
         Form::Value(t) => {
             let (start, name) = name_of(text, piece);
@@ -219,29 +231,17 @@ fn run_piece<'a, W: TextWrite, C: Context>(
                 &piece.spec,
                 piece.spec_end,
             )?;
-            value_done(piece)
+            closed(piece)
         }
-        Form::List(_) => Ok(true),
+        Form::List(_) => unreachable!(),
         Form::Broken(fault) => refused(fault),
-    }
-}
-
-/// That a value was written and no list is asked for, or the fault of an argument that is not closed.
-#[inline(always)]
-fn value_done(piece: &Piece) -> Result<bool, Error>
-    ensures closed { result_answer result ≡ option_map fault (unclosed_fault piece.now) }
-    ensures value { IfOk result (λ list. list ≡ false) }
-{
-    match closed(piece) {
-        Ok(()) => Ok(false),
-        Err(fault) => Err(fault),
     }
 }
 
 /// The fault of a broken argument. It is a function of its own, since a function zeroes its error slot
 /// on entry.
 #[inline(always)]
-fn refused(broken: &ArgumentFault) -> Result<bool, Error>
+fn refused(broken: &ArgumentFault) -> Result<(), Error>
     ensures { result_answer result ≡ Some (fault (argument_fault_of broken.now)) }
 {
     Err(Error::from(*broken))

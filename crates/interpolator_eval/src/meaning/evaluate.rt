@@ -254,6 +254,7 @@ fn write_items<'a, W: TextWrite, C: Context, S: FormatSource, L: Ledger>(
 
 /// Writes one item of a list. `room` is for a list in its format.
 #[cycle(evaluate)]
+#[inline(always)]
 fn write_item<'a, W: TextWrite, C: Context, S: FormatSource, L: Ledger>(
     sink: &mut Sink<'_, W>,
     environment: &Environment<'a, C, C::Object>,
@@ -294,6 +295,7 @@ fn count_empty<S: FormatSource, L: Ledger>(format: S, tally: &mut Tally<L>)
 
 /// Writes what comes between two items. `room` is for a list in it.
 #[cycle(evaluate)]
+#[inline(always)]
 fn write_join<'a, W: TextWrite, C: Context, S: FormatSource, L: Ledger>(
     sink: &mut Sink<'_, W>,
     environment: &Environment<'a, C, C::Object>,

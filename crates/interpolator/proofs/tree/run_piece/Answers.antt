@@ -20,22 +20,22 @@ text_of-requires g c =
 pub put_run-requires : goal.put_run-requires
 put_run-requires g c = record { fits = c.text_of.ensures.fits }
 
-pub returns-in_err-put_run-in-Text-clause-writes : goal.returns-in_err-put_run-in-Text-clause-writes
-returns-in_err-put_run-in-Text-clause-writes g c =
+pub returns-in_err-put_run-in-Text : goal.returns-in_err-put_run-in-Text
+returns-in_err-put_run-in-Text g c =
     let e = environment_of g.C.Context.finds c.args.environment.now in
     let err = err_from_is_err_and c.from_residual.result c.from_residual.ensures.1 in
     let held = text_held c.args.text.now c.args.piece.now (chars c.text_of.result.now)
     c.in-Text.is c.text_of.ensures.text in
-    rw (err.1, err.2) (unlisted g.C.Object.Value.shows _ e c.args.text.now c.args.piece.now _ _ _ _ held refl
-    (text_writes _ _ _ _ _ _ _ _ _ _ held c.in_err-put_run-in-Text.ensures.writes))
+    rw (err.1, err.2) (record { writes = unlisted g.C.Object.Value.shows _ e c.args.text.now c.args.piece.now _ _ _ _ held refl
+    (text_writes _ _ _ _ _ _ _ _ _ _ held c.in_err-put_run-in-Text.ensures.writes) })
 
-pub returns-in_ok-put_run-in-Text-clause-writes : goal.returns-in_ok-put_run-in-Text-clause-writes
-returns-in_ok-put_run-in-Text-clause-writes g c =
+pub returns-in_ok-put_run-in-Text : goal.returns-in_ok-put_run-in-Text
+returns-in_ok-put_run-in-Text g c =
     let e = environment_of g.C.Context.finds c.args.environment.now in
     let held = text_held c.args.text.now c.args.piece.now (chars c.text_of.result.now)
     c.in-Text.is c.text_of.ensures.text in
-    unlisted g.C.Object.Value.shows _ e c.args.text.now c.args.piece.now _ _ _ _ held refl
-    (text_writes _ _ _ _ _ _ _ _ _ _ held c.in_ok-put_run-in-Text.ensures.writes)
+    record { writes = unlisted g.C.Object.Value.shows _ e c.args.text.now c.args.piece.now _ _ _ _ held refl
+    (text_writes _ _ _ _ _ _ _ _ _ _ held c.in_ok-put_run-in-Text.ensures.writes) }
 
 pub name_of-start-requires : goal.name_of-start-requires
 name_of-start-requires g c =
@@ -47,61 +47,53 @@ name_of-start-requires-in-Value g c =
     let fits = fits_text c.args.text.now c.args.piece.now c.requires.whole in
     record { fits = value_fits c.args.text.now c.args.piece.now _ c.in-Value.is fits.held }
 
-pub returns-in_err-write_name-in-Name-clause-writes : goal.returns-in_err-write_name-in-Name-clause-writes
-returns-in_err-write_name-in-Name-clause-writes g c =
+pub returns-in_err-write_name-in-Name : goal.returns-in_err-write_name-in-Name
+returns-in_err-write_name-in-Name g c =
     let e = environment_of g.C.Context.finds c.args.environment.now in
     let name = c.name_of-start in
     let held = name_held c.args.text.now c.args.piece.now name.result.0 (chars name.result.1.now)
     name.ensures.start name.ensures.name c.in-Name.is in
     let residual = c.from_residual-in_err-write_name-in-Name in
     let err = err_from_is_err_and residual.result residual.ensures.1 in
-    rw (err.1, err.2) (unlisted g.C.Object.Value.shows _ e c.args.text.now c.args.piece.now _ _ _ _ held refl
-    (argument_fault _ _ _ _ _ _ _ _ _ _ (target_value traits.Display) held _ c.in_err-write_name-in-Name.ensures.writes))
+    rw (err.1, err.2) (record { writes = unlisted g.C.Object.Value.shows _ e c.args.text.now c.args.piece.now _ _ _ _ held refl
+    (argument_fault _ _ _ _ _ _ _ _ _ _ (target_value traits.Display) held _ c.in_err-write_name-in-Name.ensures.writes) })
 
-pub returns-in_ok-write_name-in-Name-clause-writes : goal.returns-in_ok-write_name-in-Name-clause-writes
-returns-in_ok-write_name-in-Name-clause-writes g c =
+pub returns-in_ok-write_name-in-Name : goal.returns-in_ok-write_name-in-Name
+returns-in_ok-write_name-in-Name g c =
     let e = environment_of g.C.Context.finds c.args.environment.now in
     let name = c.name_of-start in
     let held = name_held c.args.text.now c.args.piece.now name.result.0 (chars name.result.1.now)
     name.ensures.start name.ensures.name c.in-Name.is in
-    unlisted g.C.Object.Value.shows _ e c.args.text.now c.args.piece.now _ _ _ _ held refl
-    (argument_writes _ _ _ _ _ _ _ _ _ _ (target_value traits.Display) held _ c.value_done.ensures.closed
-    c.in_ok-write_name-in-Name.ensures.writes)
+    record { writes = unlisted g.C.Object.Value.shows _ e c.args.text.now c.args.piece.now _ _ _ _ held refl
+    (argument_writes _ _ _ _ _ _ _ _ _ _ (target_value traits.Display) held _ c.closed.ensures
+    c.in_ok-write_name-in-Name.ensures.writes) }
 
-pub returns-in_err-write_value-in-Value-clause-writes : goal.returns-in_err-write_value-in-Value-clause-writes
-returns-in_err-write_value-in-Value-clause-writes g c =
+pub returns-in_err-write_value-in-Value : goal.returns-in_err-write_value-in-Value
+returns-in_err-write_value-in-Value g c =
     let e = environment_of g.C.Context.finds c.args.environment.now in
     let name = c.name_of-start-in-Value in
     let held = value_held c.args.text.now c.args.piece.now name.result.0 (chars name.result.1.now)
     name.ensures.start name.ensures.name _ c.in-Value.is in
     let residual = c.from_residual-in_err-write_value-in-Value in
     let err = err_from_is_err_and residual.result residual.ensures.1 in
-    rw (err.1, err.2) (unlisted g.C.Object.Value.shows _ e c.args.text.now c.args.piece.now _ _ _ _ held refl
-    (argument_fault _ _ _ _ _ _ _ _ _ _ (target_value _) held _ c.in_err-write_value-in-Value.ensures.writes))
+    rw (err.1, err.2) (record { writes = unlisted g.C.Object.Value.shows _ e c.args.text.now c.args.piece.now _ _ _ _ held refl
+    (argument_fault _ _ _ _ _ _ _ _ _ _ (target_value _) held _ c.in_err-write_value-in-Value.ensures.writes) })
 
-pub returns-in_ok-write_value-in-Value-clause-writes : goal.returns-in_ok-write_value-in-Value-clause-writes
-returns-in_ok-write_value-in-Value-clause-writes g c =
+pub returns-in_ok-write_value-in-Value : goal.returns-in_ok-write_value-in-Value
+returns-in_ok-write_value-in-Value g c =
     let e = environment_of g.C.Context.finds c.args.environment.now in
     let name = c.name_of-start-in-Value in
     let held = value_held c.args.text.now c.args.piece.now name.result.0 (chars name.result.1.now)
     name.ensures.start name.ensures.name _ c.in-Value.is in
-    unlisted g.C.Object.Value.shows _ e c.args.text.now c.args.piece.now _ _ _ _ held refl
-    (argument_writes _ _ _ _ _ _ _ _ _ _ (target_value _) held _ c.value_done-in-Value.ensures.closed
-    c.in_ok-write_value-in-Value.ensures.writes)
+    record { writes = unlisted g.C.Object.Value.shows _ e c.args.text.now c.args.piece.now _ _ _ _ held refl
+    (argument_writes _ _ _ _ _ _ _ _ _ _ (target_value _) held _ c.closed-in-Value.ensures
+    c.in_ok-write_value-in-Value.ensures.writes) }
 
-pub returns-in-List-clause-writes : goal.returns-in-List-clause-writes
-returns-in-List-clause-writes g c =
-    let e = environment_of g.C.Context.finds c.args.environment.now in
-    let fits = fits_text c.args.text.now c.args.piece.now c.requires.whole in
-    let listed = asks_form c.args.text.now c.args.piece.now fits.held ∙ rw c.in-List.is refl in
-    list_waits g.C.Object.Value.shows _ e c.args.text.now c.args.piece.now c.args.sink.now
-    c.args.sink.now listed
-
-pub returns-in-Broken-clause-writes : goal.returns-in-Broken-clause-writes
-returns-in-Broken-clause-writes g c =
+pub returns-in-Broken : goal.returns-in-Broken
+returns-in-Broken g c =
     let e = environment_of g.C.Context.finds c.args.environment.now in
     let held = broken_held c.args.text.now c.args.piece.now _ c.in-Broken.is in
     let same : c.deref.result.now ≡ c.in-Broken.fault.value = search rules in
     rw (c.refused.ensures, same)
-    (unlisted g.C.Object.Value.shows _ e c.args.text.now c.args.piece.now _ _ _ _ held refl
-    (fault_writes _ _ _ _ _ c.args.sink.now c.args.sink.now _ held))
+    (record { writes = unlisted g.C.Object.Value.shows _ e c.args.text.now c.args.piece.now _ _ _ _ held refl
+    (fault_writes _ _ _ _ _ c.args.sink.now c.args.sink.now _ held) })

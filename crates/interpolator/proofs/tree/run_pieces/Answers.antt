@@ -1,4 +1,4 @@
-use Rattle.std.proofs.Common.{rules, arith, ◌≡◌, ◌∷◌, ◌∙◌, ap, true, false}
+use Rattle.std.proofs.Common.{rules, arith, ◌≡◌, ◌∷◌, ◌∙◌, ap, sym, true, false}
 use Rattle.std.proofs.lemmas.Result.{err_from_is_err_and}
 use Rattle.interpolator_syntax.specs.Nodes.{as_forest}
 use Rattle.interpolator_eval.specs.Meaning.CodeEnvironments.{environment_of}
@@ -8,7 +8,8 @@ use Rattle.interpolator_eval.proofs.MeaningLemmas.FirstPieceLemmas.{piece_fault,
 use Rattle.interpolator_eval.proofs.MeaningLemmas.FirstPieceLemmas.{piece_stops}
 use Rattle.interpolator_eval.proofs.MeaningLemmas.SinkLemmas.{goes_on, same_then}
 use Rattle.interpolator.specs.Template.Stored.{forest_whole, node_of, node_whole, nodes_of}
-use Rattle.interpolator.proofs.TemplateLemmas.RunLemmas.{asks_form, first_list, piece_counts}
+use Rattle.interpolator.proofs.TemplateLemmas.RunLemmas.{asks_form, first_list, list_waits}
+use Rattle.interpolator.proofs.TemplateLemmas.RunLemmas.{piece_counts}
 use Rattle.interpolator.proofs.TemplateLemmas.WholePieceLemmas.{both, fits_text}
 use Rattle.interpolator.proofs.tree.run_pieces.Goals as goal
 
@@ -47,8 +48,8 @@ returns-in_err-run_piece-clause-gone g c =
     rw err.1
     (omega (arith, rw split at c.loop-piece.invariant.gone, c.tick.ensures.one, stops))
 
-pub returns-then-branch-clause-writes : goal.returns-then-branch-clause-writes
-returns-then-branch-clause-writes g c =
+pub returns-then-is_list-clause-writes : goal.returns-then-is_list-clause-writes
+returns-then-is_list-clause-writes g c =
     let shows = g.C.Object.Value.shows in
     let e = environment_of g.C.Context.finds c.args.environment.now in
     let bs = c.args.source.text.now in
@@ -60,12 +61,13 @@ returns-then-branch-clause-writes g c =
     let whole = both (node_whole first) (forest_whole rest) (rw split at c.loop-piece.invariant.whole) in
     let fits = fits_text bs x whole.0 in
     let listed : asks_list first ≡ true =
-    asks_form bs x fits.held ∙ c.in_ok-run_piece.ensures.list ∙ c.if-branch.true in
+    asks_form bs x fits.held ∙ sym c.is_list.ensures ∙ c.if-is_list.true in
     goes_on _ _ _ _ _ _ _ c.loop-piece.invariant.so_far c.loop-piece.invariant.same
-    (rw split (list_at first rest shows e _ _ _ listed c.in_ok-run_piece.ensures.writes))
+    (rw split (list_at first rest shows e _ _ _ listed
+    (list_waits shows _ e bs x c.loop-piece.sink c.loop-piece.sink listed)))
 
-pub returns-then-branch-clause-met : goal.returns-then-branch-clause-met
-returns-then-branch-clause-met g c =
+pub returns-then-is_list-clause-met : goal.returns-then-is_list-clause-met
+returns-then-is_list-clause-met g c =
     let shows = g.C.Object.Value.shows in
     let e = environment_of g.C.Context.finds c.args.environment.now in
     let bs = c.args.source.text.now in
@@ -76,7 +78,7 @@ returns-then-branch-clause-met g c =
     let rest = as_forest (nodes_of bs after) in
     let whole = both (node_whole first) (forest_whole rest) (rw split at c.loop-piece.invariant.whole) in
     let fits = fits_text bs x whole.0 in
-    let form = c.in_ok-run_piece.ensures.list ∙ c.if-branch.true in
+    let form = sym c.is_list.ensures ∙ c.if-is_list.true in
     let listed : asks_list first ≡ true = asks_form bs x fits.held ∙ form in
     let left = c.loop-piece.invariant.left
     ∙ ap (λ xs. from_list (as_forest (nodes_of bs xs))) split ∙ left_here first rest listed in
@@ -96,7 +98,7 @@ loop-piece-preserved g c =
     let fits = fits_text bs x whole.0 in
     let one = piece_counts bs x shows e fits.held in
     let other : asks_list first ≡ false =
-    asks_form bs x fits.held ∙ c.in_ok-run_piece.ensures.list ∙ c.if-branch.false in
+    asks_form bs x fits.held ∙ sym c.is_list.ensures ∙ c.if-is_list.false in
     let o = c.in_ok-run_piece.ensures.writes in
     let goes = piece_goes first rest shows e _ _ _ one other o in
     record {
