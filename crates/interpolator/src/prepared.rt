@@ -16,6 +16,7 @@ pub(crate) mod compile;
 pub(crate) mod copy;
 pub(crate) mod items;
 pub(crate) mod joined;
+pub(crate) mod put;
 pub(crate) mod row;
 pub(crate) mod run;
 pub(crate) mod step;
@@ -26,7 +27,7 @@ use crate::prepared::row::{Named, Row};
 use crate::prepared::run::run_steps;
 use crate::prepared::step::Step;
 use crate::template::piece::Piece;
-use interpolator_eval::{Environment, Sink};
+use interpolator_eval::Environment;
 use interpolator_render::{TextWrite, Value};
 use interpolator_syntax::Error;
 use std::alloc::Global;
@@ -72,34 +73,6 @@ impl Model for Prepared {
         (nodes (outermost (chars (string_bytes p.text))))) };
 }
 
-/// Writes the steps of a format over a row that reaches each name.
-fn write_steps<'a, W: TextWrite, V: Value>(
-    alloc: Global,
-    out: &mut W,
-    text: &str,
-    named: &Named<'a, V>,
-    steps: &[Step],
-) -> Result<(), Error>
-    requires program { map (step_of text.now) steps.now
-        ≡ map Some (program (name_bytes named.now.names.now) (nodes (outermost (chars text.now)))) }
-    requires reached { length named.now.names.now ≤ length named.now.row.now }
-    ensures outcome { Outcome
-        (means V.shows (environment (found_by_row (name_bytes named.now.names.now)
-        (row_at named.now.row.now))) (outermost (chars text.now)))
-        (W.written out.old) (W.written out.new) (result_answer result) }
-{
-    let mut sink = Sink::Writer(out);
-    let environment = Environment::outermost(alloc, named);
-    let answer = run_steps(&mut sink, &environment, text, named.row, steps);
-    match sink {
-        Sink::Writer(end) => {
-            let _ = end;
-        }
-        Sink::Aside(_) => unreachable!(),
-    }
-    answer
-}
-
 /// Writes the steps of a format over a row. A row that is too short is written by the text.
 pub(crate) fn write_row<'a, W: TextWrite, V: Value>(
     alloc: Global,
@@ -119,7 +92,9 @@ pub(crate) fn write_row<'a, W: TextWrite, V: Value>(
     if named.row.len() < named.names.len() {
         return write(alloc, out, text, named);
     }
-    write_steps(alloc, out, text, named, steps)
+    let environment = Environment::outermost(alloc, named);
+    run_steps(out, &environment, text, named.row, steps)?;
+    Ok(())
 }
 
 /// The text of the steps of a format over a row, in a new `String`.
@@ -195,7 +170,8 @@ impl Prepared {
             names: &self.names,
             row: row.0,
         };
-        write_row(alloc, out, self.text.as_str(), &named, &self.steps)
+        write_row(alloc, out, self.text.as_str(), &named, &self.steps)?;
+        Ok(())
     }
 
     /// The text that it means over a row, in a new `String`.

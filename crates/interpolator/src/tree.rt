@@ -24,7 +24,7 @@ use crate::tally::Tally;
 use crate::template::piece::{Form, Piece};
 use interpolator_eval::{
     Context, Environment, Formattable, Sink, chosen_list, list_buffer, write_plain_item,
-    write_value,
+    write_plain_value, write_value,
 };
 use interpolator_render::{Spec, TextWrite, Trait};
 use interpolator_syntax::{ArgumentFault, Error, ParseError, PieceKind, Range};
@@ -126,17 +126,9 @@ pub(crate) fn run_piece<'a, W: TextWrite, C: Context, L: Ledger>(
         }
         Form::Name => {
             let (start, name) = name_of(text, piece);
-            let spec = Spec::default();
-            write_value(
-                sink,
-                environment,
-                start,
-                name,
-                Trait::Display,
-                &spec,
-                piece.spec_end,
-            )?;
-            closed(piece)
+            write_plain_value(sink, environment, start, name, piece.spec_end)?;
+            closed(piece)?;
+            Ok(())
         }
         Form::Value(t) => {
             let (start, name) = name_of(text, piece);
@@ -149,9 +141,13 @@ pub(crate) fn run_piece<'a, W: TextWrite, C: Context, L: Ledger>(
                 &piece.spec,
                 piece.spec_end,
             )?;
-            closed(piece)
+            closed(piece)?;
+            Ok(())
         }
-        Form::List(range) => run_list_piece(sink, environment, text, piece, range, tally),
+        Form::List(range) => {
+            run_list_piece(sink, environment, text, piece, range, tally)?;
+            Ok(())
+        }
         Form::Broken(fault) => refused(fault),
     }
 }
@@ -225,9 +221,11 @@ fn run_list<'a, W: TextWrite, C: Context, L: Ledger>(
 {
     let items = chosen_list(environment, start, name, range, &piece.spec, piece.spec_end)?;
     if piece.spec.width.is_some() {
-        run_padded_list(sink, environment, text, piece, items, tally)
+        run_padded_list(sink, environment, text, piece, items, tally)?;
+        Ok(())
     } else {
-        run_items(sink, environment, text, piece, items, tally)
+        run_items(sink, environment, text, piece, items, tally)?;
+        Ok(())
     }
 }
 
@@ -320,11 +318,13 @@ fn run_item<'a, W: TextWrite, C: Context, L: Ledger>(
     match &piece.item {
         Some(pieces) => {
             count_empty(pieces, tally);
-            run_pieces(sink, &environment.bind(item), text, pieces, tally)
+            run_pieces(sink, &environment.bind(item), text, pieces, tally)?;
+            Ok(())
         }
         None => {
             tally.tick();
-            write_plain_item(sink, item, piece.spec_end)
+            write_plain_item(sink, item, piece.spec_end)?;
+            Ok(())
         }
     }
 }
@@ -356,7 +356,10 @@ fn run_join<'a, W: TextWrite, C: Context, L: Ledger>(
         (environment_of C.finds environment.now) text.now piece.now).pieces }
 {
     match &piece.join {
-        Some(pieces) => run_pieces(sink, environment, text, pieces, tally),
+        Some(pieces) => {
+            run_pieces(sink, environment, text, pieces, tally)?;
+            Ok(())
+        }
         None => Ok(()),
     }
 }

@@ -21,8 +21,10 @@ pub use meaning::environment::Environment;
 pub use meaning::evaluate::write_text;
 pub use meaning::list::{chosen, forbids_list};
 pub use meaning::sample::{Candidates, Items, Need, SampleEnvironment};
-pub use meaning::sink::{Sink, WriteFault, write_char};
-pub use meaning::value::{chosen_list, list_buffer, write_plain_item, write_slot, write_value};
+pub use meaning::sink::{Sink, WriteFault, write_char, write_plain, write_run, write_shown};
+pub use meaning::value::{
+    chosen_list, list_buffer, slot_of, write_plain_item, write_plain_value, write_slot, write_value,
+};
 pub use pairs::Pairs;
 pub use rows::{items_of, rows_of};
 pub use slots::Formattable;

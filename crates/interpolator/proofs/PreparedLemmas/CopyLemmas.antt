@@ -12,8 +12,7 @@ use Rattle.interpolator_syntax.specs.Nodes.{Node, node, Branch, Content, as_fore
 use Rattle.interpolator_syntax.specs.declared.piece_kind.PieceKind.{PieceKind}
 use Rattle.interpolator_eval.specs.Slots.{Slots}
 use Rattle.interpolator_eval.specs.Meaning.Environments.{Environment}
-use Rattle.interpolator_eval.specs.Meaning.Sinks.{Writes}
-use Rattle.interpolator_eval.specs.declared.meaning.sink.Sink.{Sink}
+use Rattle.interpolator_eval.specs.Meaning.Outcomes.{Outcome}
 use Rattle.interpolator_eval.proofs.MeaningLemmas.MeaningLemmas.{nothing_last}
 use Rattle.interpolator_eval.specs.Meaning.Meanings.{node_means, forest_means}
 use Rattle.interpolator.specs.Template.Stored.{node_of, nodes_of, node_whole, forest_whole}
@@ -72,8 +71,7 @@ module _ {X : Type 0} (shows : X → Trait → Spec → Shown) (e : Environment 
 
   -- and is written as its step
   pub kept_writes :
-      {W : Type 0} (into : W → Written) (ns : List Node) (s u : Sink W) (answer : Option Answer)
-      → IsSome (whole_step ns) → Writes into (forest_means shows e (as_forest ns)) s u answer
-      → Writes into (fitting_means shows e value_at (whole_step ns)) s u answer
-  kept_writes into ns s u answer h w =
-      record { outcome = rw (kept_means ns h) at w.outcome; same = w.same }
+      (ns : List Node) (old new : Written) (answer : Option Answer) → IsSome (whole_step ns)
+      → Outcome (forest_means shows e (as_forest ns)) old new answer
+      → Outcome (fitting_means shows e value_at (whole_step ns)) old new answer
+  kept_writes ns old new answer h o = rw (kept_means ns h) at o

@@ -13,8 +13,7 @@ use Rattle.interpolator_syntax.specs.Faults.{Answer}
 use Rattle.interpolator_syntax.proofs.CharacterLemmas.{size-chars}
 use Rattle.interpolator_eval.specs.Meaning.Meanings.{text_alone}
 use Rattle.interpolator_eval.specs.Meaning.Outcomes.{Outcome}
-use Rattle.interpolator_eval.specs.Meaning.Sinks.{Writes, write_fault_answer}
-use Rattle.interpolator_eval.specs.declared.meaning.sink.Sink.{Sink}
+use Rattle.interpolator_eval.specs.Meaning.Sinks.{write_fault_answer}
 use Rattle.interpolator_eval.specs.declared.meaning.sink.WriteFault.{WriteFault}
 use Rattle.interpolator_eval.specs.declared.meaning.sink.WriteFault.TheVariants.{MissingTraitImpl, Fmt}
 use Rattle.interpolator_eval.proofs.MeaningLemmas.PlacedLemmas.{placed_from-append}
@@ -181,27 +180,20 @@ placed_refused f xs old new (Fmt p) (inr (inl o)) =
 placed_refused f xs old new (MissingTraitImpl t p) (inr (inr o)) = absurd (let e = o.told in cc)
 placed_refused f xs old new (Fmt p) (inr (inr o)) = absurd (let e = o.told in cc)
 
--- joined text that was written to a sink
-module _ {W : Type 0} (into : W → Written) (ps : List Part) (bs text : List ℕ) (s t : Sink W)
-    (same : text ≡ bs) where
-  pub joined_writes : Writes into (text_alone (placed_from 0 (chars text))) s t None
-      → Writes into (text_alone (joined_placed ps bs)) s t None
-  joined_writes o = record {
-    outcome =
-        rw (← same) (placed_written (joined_place ps) (placed_from 0 (chars text)) _ _ o.outcome);
-    same = o.same;
-  }
+-- joined text that was written, or refused
+module _ (ps : List Part) (bs text : List ℕ) (old new : Written) (same : text ≡ bs) where
+  pub joined_writes : Outcome (text_alone (placed_from 0 (chars text))) old new None
+      → Outcome (text_alone (joined_placed ps bs)) old new None
+  joined_writes o =
+      rw (← same) (placed_written (joined_place ps) (placed_from 0 (chars text)) old new o)
 
-  pub joined_refused :
-      (w : WriteFault) (answer : Answer) (qs : List Part) → answer ≡ moved_fault (joined_place qs) w
-      → qs ≡ ps
-      → Writes into (text_alone (placed_from 0 (chars text))) s t (Some (write_fault_answer w))
-      → Writes into (text_alone (joined_placed ps bs)) s t (Some answer)
-  joined_refused w answer qs told parts o = record {
-    outcome = rw (told, parts, ← same)
-        (placed_refused (joined_place ps) (placed_from 0 (chars text)) _ _ w o.outcome);
-    same = o.same;
-  }
+  pub joined_refused : (w : WriteFault) (answer : Answer) (qs : List Part)
+      → answer ≡ moved_fault (joined_place qs) w → qs ≡ ps
+      → Outcome (text_alone (placed_from 0 (chars text))) old new (Some (write_fault_answer w))
+      → Outcome (text_alone (joined_placed ps bs)) old new (Some answer)
+  joined_refused w answer qs told parts o =
+      rw (told, parts, ← same)
+      (placed_refused (joined_place ps) (placed_from 0 (chars text)) old new w o)
 
 -- ---- no part, and parts one by one
 

@@ -86,7 +86,7 @@ module _ {X : Type 0} (shows : X → Trait → Spec → Shown) (names : List (Li
   by_value :
       (start : ℕ) (name : List ℕ) (t : Trait) (spec : Spec) (q : ℕ) (item join : Branch)
       (o : Option (Slots X)) → IsSome o
-      → position_means shows E value_at t spec q o
+      → position_means shows t spec q o
       ≡ under_name name start (bare_means shows (target_value t) spec q
       (join_branch_means shows E join) (item_branch_means shows E item q)) o
   by_value start name t spec q item join None h = absurd (cc)

@@ -13,10 +13,7 @@ use Rattle.interpolator_eval.specs.Slots.{Slots}
 use Rattle.interpolator_eval.specs.Meaning.Environments.{Environment}
 use Rattle.interpolator_eval.specs.Meaning.Meanings.{Meaning, chain}
 use Rattle.interpolator_eval.specs.Meaning.Outcomes.{Outcome}
-use Rattle.interpolator_eval.specs.Meaning.Sinks.{Writes, taken_by}
-use Rattle.interpolator_eval.specs.declared.meaning.sink.Sink.{Sink}
 use Rattle.interpolator_eval.proofs.MeaningLemmas.SinkLemmas.{and_then, fault_first, nothing_done}
-use Rattle.interpolator_eval.proofs.MeaningLemmas.SinkLemmas.{same_end}
 use Rattle.interpolator.specs.Prepared.Programs.{Instruction, step_means, steps_mean}
 use Rattle.interpolator.specs.Prepared.StoredSteps.{step_of, fitting_means, stored_steps_mean}
 use Rattle.interpolator.specs.declared.prepared.step.Step.{Step}
@@ -62,30 +59,27 @@ module _ {X : Type 0} (shows : X → Trait → Spec → Shown) (e : Environment 
       ∙ ap (chain (step_means shows e value_at p))
       (program_stored ss ps (rest_same (step_of bs s) (Some p) (map (step_of bs) ss) (map Some ps) h))
 
-  module _ {W : Type 0} (into : W → Written) (xs : List Step) (i : ℕ) where
+  module _ (xs : List Step) (i : ℕ) where
     abbrev After : ℕ → Meaning
     After n = stored_steps_mean shows e value_at bs (drop n xs)
 
     -- no step is left
-    pub steps_end : (s : Sink W) → length xs ≤ i → Writes into (After i) s s None
-    steps_end s h =
-        record { outcome = rw (drop_all i xs h) (nothing_done _); same = same_end s }
+    pub steps_end : (s : Written) → length xs ≤ i → Outcome (After i) s s None
+    steps_end s h = rw (drop_all i xs h) (nothing_done s)
 
-    module _ (s t : Sink W) (x : Step) (h : i < length xs) (is : x ≡ get_or xs i x)
-      where
-        next_step : drop i xs ≡ x ∷ drop (i + 1) xs
-        next_step = rw (drop_more xs i x h, ← is) refl
+    module _ (s t : Written) (x : Step) (h : i < length xs) (is : x ≡ get_or xs i x) where
+      next_step : drop i xs ≡ x ∷ drop (i + 1) xs
+      next_step = rw (drop_more xs i x h, ← is) refl
 
-        -- a step ends the run
-        pub step_fault : (q : Answer)
-            → Writes into (fitting_means shows e value_at (step_of bs x)) s t (Some q)
-            → Writes into (After i) s t (Some q)
-        step_fault q o =
-            record { outcome = rw next_step (fault_first _ _ _ _ q o.outcome); same = o.same }
+      -- a step ends the run
+      pub step_fault : (q : Answer)
+          → Outcome (fitting_means shows e value_at (step_of bs x)) s t (Some q)
+          → Outcome (After i) s t (Some q)
+      step_fault q o = rw next_step (fault_first _ _ _ _ q o)
 
-        -- a step is done, and the steps after it follow
-        pub step_runs : (u : Written) (r : Option Answer)
-            → Writes into (fitting_means shows e value_at (step_of bs x)) s t None
-            → Outcome (After (i + 1)) (taken_by into t) u r
-            → Outcome (After i) (taken_by into s) u r
-        step_runs u r o k = rw next_step (and_then _ _ _ _ u r o.outcome k)
+      -- a step is done, and the steps after it follow
+      pub step_runs : (u : Written) (r : Option Answer)
+          → Outcome (fitting_means shows e value_at (step_of bs x)) s t None
+          → Outcome (After (i + 1)) t u r
+          → Outcome (After i) s u r
+      step_runs u r o k = rw next_step (and_then _ _ _ _ u r o k)

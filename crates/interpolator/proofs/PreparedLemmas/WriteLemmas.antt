@@ -17,8 +17,7 @@ use Rattle.interpolator_eval.specs.declared.slots.Formattable.{Formattable}
 use Rattle.interpolator_eval.specs.Meaning.Environments.{Environment, environment}
 use Rattle.interpolator_eval.specs.Meaning.Meanings.{means, value_means}
 use Rattle.interpolator_eval.specs.Meaning.Outcomes.{Outcome}
-use Rattle.interpolator_eval.specs.Meaning.Sinks.{Writes}
-use Rattle.interpolator_eval.specs.declared.meaning.sink.Sink.{Sink}
+use Rattle.interpolator_eval.proofs.MeaningLemmas.SinkLemmas.{nothing_done}
 use Rattle.interpolator.specs.Prepared.Programs.{program, position_means}
 use Rattle.interpolator.specs.Prepared.Rows.{found_by_row, row_at, name_bytes, last_position}
 use Rattle.std.specs.Option.{option_and_then}
@@ -79,15 +78,19 @@ names_reached names row h k l =
 
 -- what is in a slot of a row's value is what its position means
 pub item_writes :
-    {X W : Type 0} (shows : X → Trait → Spec → Shown) (into : W → Written) (e : Environment X)
-    (value_at : ℕ → Option (Slots X)) (t : Trait) (spec : Spec) (end : ℕ) (found : Slots X)
-    (o : Option (Slots X)) (s u : Sink W) (answer : Option Answer) → o ≡ Some found
-    → Writes into (value_means shows t spec end (slot_at t (values_of found))) s u answer
-    → Writes into (position_means shows e value_at t spec end o) s u answer
-item_writes shows into e value_at t spec end found o s u answer is w =
-    let same : position_means shows e value_at t spec end o
-    ≡ value_means shows t spec end (slot_at t (values_of found)) = rw (is) refl in
-    record { outcome = rw same w.outcome; same = w.same }
+    {X : Type 0} (shows : X → Trait → Spec → Shown) (t : Trait) (spec : Spec) (end : ℕ)
+    (slot : Option X) (found : Slots X) (o : Option (Slots X)) (old new : Written)
+    (answer : Option Answer) → o ≡ Some found → slot ≡ slot_at t (values_of found)
+    → Outcome (value_means shows t spec end slot) old new answer
+    → Outcome (position_means shows t spec end o) old new answer
+item_writes shows t spec end slot found o old new answer is held h = rw (is, ← held) h
+
+-- and nothing is written if the row does not reach it
+pub none_writes :
+    {X : Type 0} (shows : X → Trait → Spec → Shown) (t : Trait) (spec : Spec) (end : ℕ)
+    (o : Option (Slots X)) (s : Written) → o ≡ None
+    → Outcome (position_means shows t spec end o) s s None
+none_writes shows t spec end o s none = rw none (nothing_done s)
 
 pub row_outcome :
     {X : Type 0} (shows : X → Trait → Spec → Shown) (f : Environment X) (names : List (List ℕ))

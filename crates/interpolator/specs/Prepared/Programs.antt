@@ -64,19 +64,20 @@ module _ (names : List (List ℕ)) where
   abbrev pub program : List Node → List Instruction
   program xs = fold with_node [] xs
 
+-- the value at a position, and nothing if the row does not reach it
+abbrev pub position_means : {X : Type 0} → (X → Trait → Spec → Shown) → Trait → Spec → (end : ℕ)
+    → Option (Slots X) → Meaning
+position_means shows t spec end None = nothing
+position_means shows t spec end (Some found) =
+    value_means shows t spec end (slot_at t (values_of found))
+
 -- `value_at` gives the value at each position of a row
 module _ {X : Type 0} (shows : X → Trait → Spec → Shown) (e : Environment X)
     (value_at : ℕ → Option (Slots X)) where
-  -- the value at a position, and nothing if the row does not reach it
-  abbrev pub position_means : Trait → Spec → (end : ℕ) → Option (Slots X) → Meaning
-  position_means t spec end None = nothing
-  position_means t spec end (Some found) =
-      value_means shows t spec end (slot_at t (values_of found))
-
   -- a step
   abbrev pub step_means : Instruction → Meaning
   step_means (text_step xs) = text_alone xs
-  step_means (value_step k t spec end) = position_means t spec end (value_at k)
+  step_means (value_step k t spec end) = position_means shows t spec end (value_at k)
   step_means (node_step x) = node_means shows e x
 
   -- steps in order, up to the first fault

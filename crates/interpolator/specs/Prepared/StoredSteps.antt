@@ -1,5 +1,6 @@
 -- How the code stores a program.
 use Rattle.std.specs.Prelude.{◌≡◌, ℕ, ◌+◌, ◌-◌, nat_lt, ◌==◌, if◌then◌else◌, List, [], ◌∷◌}
+use Rattle.std.specs.Prelude.{Bool, true, false}
 use Rattle.std.specs.Prelude.{length, map, Option, Some, None, option_map, string_bytes}
 use Rattle.std.specs.Str.{chars}
 use Rattle.interpolator_render.specs.declared.view.Trait.{Trait}
@@ -60,6 +61,11 @@ step_of bs (Plain position end) = Some (value_step position traits.Display plain
 step_of bs (Under position asked) =
     Some (value_step position asked.value.slot asked.value.spec asked.value.end)
 step_of bs (Whole x) = whole_step (nodes_of bs x.value.items)
+
+-- whether a step keeps a piece
+abbrev pub keeps_piece : Step → Bool
+keeps_piece (Whole x) = true
+keeps_piece _ = false
 
 -- steps that stand for a program become steps that stand for what is made of it
 abbrev pub Becomes : List ℕ → (old new : List Step) → (List Instruction → List Instruction) → Type 0

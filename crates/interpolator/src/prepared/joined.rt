@@ -3,21 +3,18 @@ ghost use Rattle.std.specs.Prelude.{◌≡◌, ◌+◌, ℕ, List, [], ◌++◌,
 ghost use Rattle.std.specs.Prelude.{string_bytes};
 ghost use Rattle.std.specs.Str.{chars};
 ghost use Rattle.interpolator_syntax.specs.At.{Placed, placed_from};
-ghost use Rattle.interpolator_syntax.specs.Faults.{answer_of, result_answer};
 ghost use Rattle.interpolator_eval.specs.Meaning.Meanings.{text_alone};
-ghost use Rattle.interpolator_eval.specs.Meaning.Sinks.{Writes};
+ghost use Rattle.interpolator_eval.specs.Meaning.Outcomes.{Outcome};
+ghost use Rattle.interpolator_eval.specs.Meaning.Sinks.{write_answered};
 ghost use Rattle.interpolator.specs.Prepared.Programs.{text_step};
 ghost use Rattle.interpolator.specs.Prepared.StoredSteps.{joined_place, joined_placed, joined_step};
-ghost use Rattle.interpolator.specs.Prepared.StoredSteps.{moved_fault};
 ghost use Rattle.interpolator.specs.Template.Stored.{part};
 
 use crate::prepared::step::{JoinedText, Part};
 use crate::tree::cut;
-use interpolator_eval::{Sink, WriteFault};
+use interpolator_eval::{WriteFault, write_run};
 use interpolator_render::TextWrite;
-use interpolator_syntax::Error;
 use std::alloc::{AllocError, Global};
-use std::fmt;
 
 /// No parts yet.
 fn no_parts(alloc: Global) -> JoinedText
@@ -83,7 +80,9 @@ pub(crate) fn join_more(
     Ok(joined)
 }
 
-/// The place in the format of a byte of parts.
+/// The place in the format of a byte of parts, worked out once it is refused.
+#[cold]
+#[inline(never)]
 fn place_of(parts: &[Part], offset: usize) -> usize
     ensures { result ≡ joined_place parts.now offset }
 {
@@ -98,30 +97,16 @@ fn place_of(parts: &[Part], offset: usize) -> usize
     left
 }
 
-/// The fault of text that was refused, at its place in the format.
-#[cold]
-#[inline(never)]
-fn refused_at(parts: &[Part], fault: WriteFault) -> Error
-    ensures { answer_of result ≡ moved_fault (joined_place parts.now) fault }
-{
-    match fault {
-        WriteFault::MissingTraitImpl(t, place) => Error::MissingTraitImpl(t, place),
-        WriteFault::Fmt(offset) => Error::Fmt(fmt::Error, place_of(parts, offset)),
-    }
-}
-
 /// Writes text of several parts.
 #[inline(always)]
-pub(crate) fn put_joined<W: TextWrite>(
-    sink: &mut Sink<'_, W>,
-    joined: &JoinedText,
-) -> Result<(), Error>
-    ensures writes { Writes W.written
+pub(crate) fn put_joined<W: TextWrite>(out: &mut W, joined: &JoinedText) -> Result<(), WriteFault>
+    ensures outcome { Outcome
         (text_alone (joined_placed joined.now.parts.items (string_bytes joined.now.text)))
-        sink.old sink.new (result_answer result) }
+        (W.written out.old) (W.written out.new) (write_answered result) }
 {
-    match sink.put_run(joined.text.as_str(), 0) {
+    match write_run(out, joined.text.as_str(), 0) {
         Ok(()) => Ok(()),
-        Err(fault) => Err(refused_at(&joined.parts, fault)),
+        Err(WriteFault::MissingTraitImpl(t, place)) => Err(WriteFault::MissingTraitImpl(t, place)),
+        Err(WriteFault::Fmt(offset)) => Err(WriteFault::Fmt(place_of(&joined.parts, offset))),
     }
 }

@@ -9,7 +9,11 @@ use Rattle.interpolator_render.specs.declared.view.Trait.{Trait}
 use Rattle.interpolator_render.specs.declared.view.RenderFault.TheVariants.{Refused as RefusedFault}
 use Rattle.interpolator_render.specs.Characters.{cut}
 use Rattle.interpolator_render.specs.Padding.{padded_text, displayed_text}
-use Rattle.interpolator_render.specs.Texts.{ViewText, has_text, Renders}
+use Rattle.interpolator_render.specs.Texts.{ViewText, has_text, Renders, view_text}
+use Rattle.interpolator_render.specs.Views.{some_text}
+use Rattle.interpolator_render.specs.declared.view.Trait.TheVariants.{Display}
+use Rattle.interpolator_render.proofs.RenderingLemmas.{displayed_as_it_is}
+use Rattle.interpolator_syntax.specs.SpecTexts.{plain_spec}
 use Rattle.interpolator_render.specs.Written.{Written, Appends, AppendsBeginning, Refuses}
 use Rattle.interpolator_syntax.specs.At.{Placed, text_of, placed_at, placed_from, size}
 use Rattle.interpolator_syntax.specs.Faults.{fault, fmt}
@@ -106,6 +110,13 @@ pub view_refused :
     → Outcome (view_means t p m) old new (Some (fault (fmt p)))
 view_refused t p (has_text cs) old new h = refused_at p cs old new h
 view_refused t p m old new h = absurd h
+
+-- a text that is displayed plainly means itself
+pub plain_text_means : (p : ℕ) (cs : List ℕ)
+    → view_means Display p (view_text (some_text cs) Display plain_spec) ≡ text_alone (placed_at p cs)
+unfolding view_text
+plain_text_means p cs =
+    ap (λ text. text_alone (placed_at p text)) (displayed_as_it_is plain_spec cs refl refl)
 
 -- a padded text was written whole, or refused
 module _ (spec : Spec) (cs : List ℕ) (p : ℕ) (old new : Written) (none : spec.precision

@@ -17,7 +17,9 @@ ghost use Rattle.interpolator_eval.specs.Slots.{slots_of};
 use crate::context::Context;
 use crate::meaning::environment::Environment;
 use crate::meaning::sink::Sink;
-use crate::meaning::value::{chosen_list, list_buffer, write_plain_item, write_value};
+use crate::meaning::value::{
+    chosen_list, list_buffer, write_plain_item, write_plain_value, write_value,
+};
 use crate::slots::Formattable;
 use interpolator_render::{Spec, TextWrite, Trait};
 use interpolator_syntax::{
@@ -93,16 +95,7 @@ fn write_alone<'a, W: TextWrite, C: Context>(
         start (plain_argument named.entry) named.entry.end.place)
         sink.old sink.new (result_answer result) }
 {
-    let spec = Spec::default();
-    write_value(
-        sink,
-        environment,
-        start,
-        named.name,
-        Trait::Display,
-        &spec,
-        named.end.place,
-    )
+    write_plain_value(sink, environment, start, named.name, named.end.place)
 }
 
 /// Writes what the argument means that begins here and has that name, with more after it. Returns
@@ -259,7 +252,10 @@ fn write_item<'a, W: TextWrite, C: Context>(
         sink.old sink.new (result_answer result) }
 {
     match format {
-        Some(group) => write_text(sink, &environment.bind(item), inside(group)),
+        Some(group) => {
+            write_text(sink, &environment.bind(item), inside(group))?;
+            Ok(())
+        }
         None => write_plain_item(sink, item, end),
     }
 }
@@ -277,7 +273,10 @@ fn write_join<'a, W: TextWrite, C: Context>(
         sink.old sink.new (result_answer result) }
 {
     match format {
-        Some(group) => write_text(sink, environment, inside(group)),
+        Some(group) => {
+            write_text(sink, environment, inside(group))?;
+            Ok(())
+        }
         None => Ok(()),
     }
 }

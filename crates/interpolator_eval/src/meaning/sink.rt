@@ -3,10 +3,12 @@ ghost use Rattle.std.specs.Prelude.{◌≡◌, ◌+◌, ◌^◌, ◌<◌, length
 ghost use Rattle.std.specs.Str.{chars};
 ghost use Rattle.std.specs.Option.{option_copied};
 ghost use Rattle.interpolator_render.specs.Views.{IsInRange, shown_by};
+ghost use Rattle.interpolator_render.specs.declared.view.Trait.TheVariants.{Display};
 ghost use Rattle.interpolator_render.specs.Padding.{padded_text};
 ghost use Rattle.interpolator_render.specs.Texts.{view_text};
 ghost use Rattle.interpolator_syntax.specs.At.{placed_at, placed_from};
 ghost use Rattle.interpolator_syntax.specs.Faults.{answer_of};
+ghost use Rattle.interpolator_syntax.specs.SpecTexts.{plain_spec};
 ghost use Rattle.interpolator_eval.specs.Meaning.Meanings.{text_alone, view_means, value_means};
 ghost use Rattle.interpolator_eval.specs.Meaning.Outcomes.{Outcome};
 ghost use Rattle.interpolator_eval.specs.Meaning.Sinks.{HasRoom, Writes, write_answered};
@@ -52,7 +54,7 @@ pub fn write_char<W: TextWrite>(out: &mut W, c: char, place: usize) -> Result<()
 /// Writes characters of the format from a place on. A single one is not written as a text, which
 /// costs more.
 #[inline(always)]
-fn write_run<W: TextWrite>(out: &mut W, text: &str, place: usize) -> Result<(), WriteFault>
+pub fn write_run<W: TextWrite>(out: &mut W, text: &str, place: usize) -> Result<(), WriteFault>
     requires fits { place + length text.now < 2 ^ 64 }
     ensures outcome { Outcome (text_alone (placed_from place (chars text.now)))
         (W.written out.old) (W.written out.new) (write_answered result) }
@@ -89,6 +91,52 @@ fn write_view<W: TextWrite>(
     }
 }
 
+/// Writes a view displayed plainly, each character of which is at one place. A text is written as it
+/// is, since a spec would be zeroed for it.
+#[inline(always)]
+fn write_plain_view<W: TextWrite>(
+    out: &mut W,
+    view: View<'_>,
+    place: usize,
+) -> Result<(), WriteFault>
+    requires in_range { IsInRange (shown_by view) }
+    ensures outcome { Outcome
+        (view_means Display place (view_text (shown_by view.entry) Display plain_spec))
+        (W.written out.old) (W.written out.new) (write_answered result) }
+{
+    match view {
+        View::Text(text) => write_text_at(out, text, place),
+        _ => write_displayed(out, view, place),
+    }
+}
+
+/// Writes a text, each character of which is at one place.
+#[inline(always)]
+fn write_text_at<W: TextWrite>(out: &mut W, text: &str, place: usize) -> Result<(), WriteFault>
+    ensures outcome { Outcome (text_alone (placed_at place (chars text.now)))
+        (W.written out.old) (W.written out.new) (write_answered result) }
+{
+    match out.write_str(text) {
+        Ok(()) => Ok(()),
+        Err(_) => Err(WriteFault::Fmt(place)),
+    }
+}
+
+/// Writes a view under the plain spec.
+#[inline(always)]
+fn write_displayed<W: TextWrite>(
+    out: &mut W,
+    view: View<'_>,
+    place: usize,
+) -> Result<(), WriteFault>
+    requires in_range { IsInRange (shown_by view) }
+    ensures outcome { Outcome
+        (view_means Display place (view_text (shown_by view.entry) Display plain_spec))
+        (W.written out.old) (W.written out.new) (write_answered result) }
+{
+    write_view(out, view, Trait::Display, &Spec::default(), place)
+}
+
 /// Writes a text padded to the width, each character of which is at one place.
 fn write_padded<W: TextWrite>(
     out: &mut W,
@@ -104,6 +152,41 @@ fn write_padded<W: TextWrite>(
         Ok(()) => Ok(()),
         Err(_) => Err(WriteFault::Fmt(place)),
     }
+}
+
+/// Writes what is in a slot, under a trait and a spec, each character of which is at one place.
+#[inline(always)]
+pub fn write_shown<W: TextWrite, V: Value>(
+    out: &mut W,
+    value: Option<&V>,
+    t: Trait,
+    spec: &Spec,
+    place: usize,
+) -> Result<(), WriteFault>
+    ensures outcome { Outcome (value_means V.shows t spec.now place (option_copied value.entry))
+        (W.written out.old) (W.written out.new) (write_answered result) }
+{
+    let Some(value) = value else {
+        return Err(WriteFault::MissingTraitImpl(t, place));
+    };
+    write_view(out, value.view(t, spec), t, spec, place)
+}
+
+/// Writes what is in a slot, displayed plainly, each character of which is at one place.
+#[inline(always)]
+pub fn write_plain<W: TextWrite, V: Value>(
+    out: &mut W,
+    value: Option<&V>,
+    place: usize,
+) -> Result<(), WriteFault>
+    ensures outcome { Outcome (value_means V.shows Display plain_spec place (option_copied value.entry))
+        (W.written out.old) (W.written out.new) (write_answered result) }
+{
+    let Some(value) = value else {
+        return Err(WriteFault::MissingTraitImpl(Trait::Display, place));
+    };
+    let view = value.view(Trait::Display, &Spec::default());
+    write_plain_view(out, view, place)
 }
 
 /// Where text goes: to the writer, or aside into a buffer, for a list that is made whole.
@@ -175,13 +258,22 @@ impl<'s, W: TextWrite> Sink<'s, W> {
             (value_means V.shows t spec.now place (option_copied value.entry))
             self.old self.new (write_answered result) }
     {
-        let Some(value) = value else {
-            return Err(WriteFault::MissingTraitImpl(t, place));
-        };
-        let view = value.view(t, spec);
         match self {
-            Sink::Writer(out) => write_view(&mut **out, view, t, spec, place),
-            Sink::Aside(buffer) => write_view(&mut **buffer, view, t, spec, place),
+            Sink::Writer(out) => write_shown(&mut **out, value, t, spec, place),
+            Sink::Aside(buffer) => write_shown(&mut **buffer, value, t, spec, place),
+        }
+    }
+
+    /// What is in a slot, displayed plainly, each character at one place.
+    #[inline(always)]
+    pub fn put_plain<V: Value>(&mut self, value: Option<&V>, place: usize) -> Result<(), WriteFault>
+        ensures writes { Writes W.written
+            (value_means V.shows Display plain_spec place (option_copied value.entry))
+            self.old self.new (write_answered result) }
+    {
+        match self {
+            Sink::Writer(out) => write_plain(&mut **out, value, place),
+            Sink::Aside(buffer) => write_plain(&mut **buffer, value, place),
         }
     }
 }

@@ -1,6 +1,7 @@
 //! The value and the list under a name, for formats as texts and for those that were read once.
 ghost use Rattle.std.specs.Prelude.{◌≡◌, ◌⊎◌, [], IfOk, MatchResult, Some, false, map};
 ghost use Rattle.std.specs.Str.{chars};
+ghost use Rattle.std.specs.Option.{option_copied};
 ghost use Rattle.interpolator_render.specs.Bounds.{bounded_writer};
 ghost use Rattle.interpolator_render.specs.declared.view.Trait.TheVariants.{Display};
 ghost use Rattle.interpolator_syntax.specs.Faults.{result_answer, fault, missing_value, no_memory};
@@ -59,6 +60,29 @@ pub fn write_value<'a, W: TextWrite, C: Context>(
     Ok(())
 }
 
+/// Writes the value under a name displayed plainly, for an argument that starts at `start` and ends
+/// at `end`.
+#[inline(always)]
+pub fn write_plain_value<'a, W: TextWrite, C: Context>(
+    sink: &mut Sink<'_, W>,
+    environment: &Environment<'a, C, C::Object>,
+    start: usize,
+    name: &str,
+    end: usize,
+) -> Result<(), Error>
+    ensures writes { Writes W.written
+        (under_name (chars name.now) start
+        (λ found. value_means C.Object.shows Display plain_spec end (slot_at Display (values_of found)))
+        (slots_under (environment_of C.finds environment.now) (chars name.now)))
+        sink.old sink.new (result_answer result) }
+{
+    let Some(value) = environment.value(name, Trait::Display) else {
+        return refused(environment, start, name);
+    };
+    sink.put_plain(value, end)?;
+    Ok(())
+}
+
 /// Writes an item of a list that has no format for it: displayed plainly, for an argument whose spec
 /// ends at `end`.
 pub fn write_plain_item<'a, W: TextWrite, V: Value>(
@@ -70,9 +94,16 @@ pub fn write_plain_item<'a, W: TextWrite, V: Value>(
         (value_means V.shows Display plain_spec end (slot_at Display (values_of (slots_of item.now))))
         sink.old sink.new (result_answer result) }
 {
-    let value = item.slot(Trait::Display);
-    sink.put_value(value, Trait::Display, &Spec::default(), end)?;
+    sink.put_plain(item.slot(Trait::Display), end)?;
     Ok(())
+}
+
+/// What is in a slot of an item.
+#[inline(always)]
+pub fn slot_of<'a, V>(item: &Formattable<'a, V>, wanted: Trait) -> Option<&'a V>
+    ensures slot { option_copied result ≡ slot_at wanted (values_of (slots_of item.now)) }
+{
+    item.slot(wanted)
 }
 
 /// Writes what is in a slot of an item, under a spec that ends at `end`.

@@ -2,7 +2,6 @@ use Rattle.std.proofs.Common.{rules, arith, ◌≡◌, map}
 use Rattle.std.specs.Str.{chars}
 use Rattle.std.proofs.lemmas.Result.{err_from_is_err_and}
 use Rattle.interpolator_render.specs.declared.view.Trait.TheVariants as traits
-use Rattle.interpolator_syntax.specs.SpecTexts.{plain_spec}
 use Rattle.interpolator_eval.specs.Slots.{slots_of}
 use Rattle.interpolator_eval.specs.Meaning.CodeEnvironments.{environment_of}
 use Rattle.interpolator_syntax.specs.Nodes.{target_value, target_list}
@@ -148,21 +147,20 @@ run_piece-name_of-start-requires g t c =
     let fits = fits_text c.args.text.now c.args.piece.now (search rules) in
     record { fits = name_fits c.args.text.now c.args.piece.now c.in-Name.is fits.held }
 
-pub run_piece-returns-in_err-write_value-in-Name-clause-writes :
-    goal.run_piece-returns-in_err-write_value-in-Name-clause-writes
-run_piece-returns-in_err-write_value-in-Name-clause-writes g t c =
-    let residual = c.from_residual-in_err-write_value-in-Name in
+pub run_piece-returns-in_err-write_plain_value-in-Name-clause-writes :
+    goal.run_piece-returns-in_err-write_plain_value-in-Name-clause-writes
+run_piece-returns-in_err-write_plain_value-in-Name-clause-writes g t c =
+    let residual = c.from_residual-in_err-write_plain_value-in-Name in
     let err = err_from_is_err_and residual.result residual.ensures.1 in
     let name = c.name_of-start in
-    let plain : c.default-spec.result ≡ plain_spec = search rules in
     let held = name_held c.args.text.now c.args.piece.now name.result.0 (chars name.result.1.now)
     name.ensures.start name.ensures.name c.in-Name.is in
     rw (err.1, err.2) (argument_fault _ _ _ _ _ _ _ _ _ _ (target_value traits.Display) held _
-    (rw (plain) at c.in_err-write_value-in-Name.ensures.writes))
+    c.in_err-write_plain_value-in-Name.ensures.writes)
 
-pub run_piece-returns-in_err-write_value-in-Name-clause-gone :
-    goal.run_piece-returns-in_err-write_value-in-Name-clause-gone
-run_piece-returns-in_err-write_value-in-Name-clause-gone g t c =
+pub run_piece-returns-in_err-write_plain_value-in-Name-clause-gone :
+    goal.run_piece-returns-in_err-write_plain_value-in-Name-clause-gone
+run_piece-returns-in_err-write_plain_value-in-Name-clause-gone g t c =
     let e = environment_of g.C.Context.finds c.args.environment.now in
     let fits = fits_text c.args.text.now c.args.piece.now (search rules) in
     omega (
@@ -171,19 +169,40 @@ run_piece-returns-in_err-write_value-in-Name-clause-gone g t c =
       piece_counts g.C.Object.Value.shows e c.args.text.now c.args.piece.now fits.held,
     )
 
-pub run_piece-returns-in_ok-write_value-in-Name-clause-writes :
-    goal.run_piece-returns-in_ok-write_value-in-Name-clause-writes
-run_piece-returns-in_ok-write_value-in-Name-clause-writes g t c =
+pub run_piece-returns-in_err-closed-in-Name-clause-writes :
+    goal.run_piece-returns-in_err-closed-in-Name-clause-writes
+run_piece-returns-in_err-closed-in-Name-clause-writes g t c =
+    let residual = c.from_residual-in_err-closed-in-Name in
+    let err = err_from_is_err_and residual.result residual.ensures.1 in
     let name = c.name_of-start in
-    let plain : c.default-spec.result ≡ plain_spec = search rules in
+    let held = name_held c.args.text.now c.args.piece.now name.result.0 (chars name.result.1.now)
+    name.ensures.start name.ensures.name c.in-Name.is in
+    rw (err.1, err.2) (argument_writes _ _ _ _ _ _ _ _ _ _ (target_value traits.Display) held _
+    c.in_err-closed-in-Name.ensures c.in_ok-write_plain_value-in-Name.ensures.writes)
+
+pub run_piece-returns-in_err-closed-in-Name-clause-gone :
+    goal.run_piece-returns-in_err-closed-in-Name-clause-gone
+run_piece-returns-in_err-closed-in-Name-clause-gone g t c =
+    let e = environment_of g.C.Context.finds c.args.environment.now in
+    let fits = fits_text c.args.text.now c.args.piece.now (search rules) in
+    omega (
+      arith,
+      c.tick.ensures.one,
+      piece_counts g.C.Object.Value.shows e c.args.text.now c.args.piece.now fits.held,
+    )
+
+pub run_piece-returns-in_ok-closed-in-Name-clause-writes :
+    goal.run_piece-returns-in_ok-closed-in-Name-clause-writes
+run_piece-returns-in_ok-closed-in-Name-clause-writes g t c =
+    let name = c.name_of-start in
     let held = name_held c.args.text.now c.args.piece.now name.result.0 (chars name.result.1.now)
     name.ensures.start name.ensures.name c.in-Name.is in
     argument_writes _ _ _ _ _ _ _ _ _ _ (target_value traits.Display) held _
-    c.closed.ensures (rw (plain) at c.in_ok-write_value-in-Name.ensures.writes)
+    c.in_ok-closed-in-Name.ensures c.in_ok-write_plain_value-in-Name.ensures.writes
 
-pub run_piece-returns-in_ok-write_value-in-Name-clause-gone :
-    goal.run_piece-returns-in_ok-write_value-in-Name-clause-gone
-run_piece-returns-in_ok-write_value-in-Name-clause-gone g t c =
+pub run_piece-returns-in_ok-closed-in-Name-clause-gone :
+    goal.run_piece-returns-in_ok-closed-in-Name-clause-gone
+run_piece-returns-in_ok-closed-in-Name-clause-gone g t c =
     let e = environment_of g.C.Context.finds c.args.environment.now in
     let fits = fits_text c.args.text.now c.args.piece.now (search rules) in
     omega (
@@ -219,18 +238,21 @@ run_piece-returns-in_err-write_value-in-Value-clause-gone g t c =
       piece_counts g.C.Object.Value.shows e c.args.text.now c.args.piece.now fits.held,
     )
 
-pub run_piece-returns-in_ok-write_value-in-Value-clause-writes :
-    goal.run_piece-returns-in_ok-write_value-in-Value-clause-writes
-run_piece-returns-in_ok-write_value-in-Value-clause-writes g t c =
+pub run_piece-returns-in_err-closed-in-Value-clause-writes :
+    goal.run_piece-returns-in_err-closed-in-Value-clause-writes
+run_piece-returns-in_err-closed-in-Value-clause-writes g t c =
+    let residual = c.from_residual-in_err-closed-in-Value in
+    let err = err_from_is_err_and residual.result residual.ensures.1 in
     let name = c.name_of-start-in-Value in
     let held = value_held c.args.text.now c.args.piece.now name.result.0 (chars name.result.1.now)
     name.ensures.start name.ensures.name _ c.in-Value.is in
-    argument_writes _ _ _ _ _ _ _ _ _ _ (target_value _) held _ c.closed-in-Value.ensures
-    c.in_ok-write_value-in-Value.ensures.writes
+    rw (err.1, err.2) (argument_writes _ _ _ _ _ _ _ _ _ _ (target_value _) held _
+    c.in_err-closed-in-Value.ensures
+    c.in_ok-write_value-in-Value.ensures.writes)
 
-pub run_piece-returns-in_ok-write_value-in-Value-clause-gone :
-    goal.run_piece-returns-in_ok-write_value-in-Value-clause-gone
-run_piece-returns-in_ok-write_value-in-Value-clause-gone g t c =
+pub run_piece-returns-in_err-closed-in-Value-clause-gone :
+    goal.run_piece-returns-in_err-closed-in-Value-clause-gone
+run_piece-returns-in_err-closed-in-Value-clause-gone g t c =
     let e = environment_of g.C.Context.finds c.args.environment.now in
     let fits = fits_text c.args.text.now c.args.piece.now (search rules) in
     omega (
@@ -239,9 +261,36 @@ run_piece-returns-in_ok-write_value-in-Value-clause-gone g t c =
       piece_counts g.C.Object.Value.shows e c.args.text.now c.args.piece.now fits.held,
     )
 
-pub run_piece-returns-in-List-clause-gone : goal.run_piece-returns-in-List-clause-gone
-run_piece-returns-in-List-clause-gone g t c =
-    omega (arith, c.tick.ensures.one, c.run_list_piece.ensures.gone)
+pub run_piece-returns-in_ok-closed-in-Value-clause-writes :
+    goal.run_piece-returns-in_ok-closed-in-Value-clause-writes
+run_piece-returns-in_ok-closed-in-Value-clause-writes g t c =
+    let name = c.name_of-start-in-Value in
+    let held = value_held c.args.text.now c.args.piece.now name.result.0 (chars name.result.1.now)
+    name.ensures.start name.ensures.name _ c.in-Value.is in
+    argument_writes _ _ _ _ _ _ _ _ _ _ (target_value _) held _
+    c.in_ok-closed-in-Value.ensures
+    c.in_ok-write_value-in-Value.ensures.writes
+
+pub run_piece-returns-in_ok-closed-in-Value-clause-gone :
+    goal.run_piece-returns-in_ok-closed-in-Value-clause-gone
+run_piece-returns-in_ok-closed-in-Value-clause-gone g t c =
+    let e = environment_of g.C.Context.finds c.args.environment.now in
+    let fits = fits_text c.args.text.now c.args.piece.now (search rules) in
+    omega (
+      arith,
+      c.tick.ensures.one,
+      piece_counts g.C.Object.Value.shows e c.args.text.now c.args.piece.now fits.held,
+    )
+
+pub run_piece-returns-in_err-run_list_piece-in-List-clause-gone :
+    goal.run_piece-returns-in_err-run_list_piece-in-List-clause-gone
+run_piece-returns-in_err-run_list_piece-in-List-clause-gone g t c =
+    omega (arith, c.tick.ensures.one, c.in_err-run_list_piece-in-List.ensures.gone)
+
+pub run_piece-returns-in_ok-run_list_piece-in-List-clause-gone :
+    goal.run_piece-returns-in_ok-run_list_piece-in-List-clause-gone
+run_piece-returns-in_ok-run_list_piece-in-List-clause-gone g t c =
+    omega (arith, c.tick.ensures.one, c.in_ok-run_list_piece-in-List.ensures.gone)
 
 pub run_piece-returns-in-Broken-clause-writes : goal.run_piece-returns-in-Broken-clause-writes
 run_piece-returns-in-Broken-clause-writes g t c =

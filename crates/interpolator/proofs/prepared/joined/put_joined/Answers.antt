@@ -1,16 +1,30 @@
+use Rattle.std.proofs.Common.{ap, refl}
+use Rattle.interpolator_syntax.specs.Faults.{fault, fmt}
+use Rattle.interpolator_eval.specs.declared.meaning.sink.WriteFault.TheVariants as faults
 use Rattle.interpolator.proofs.PreparedLemmas.JoinedLemmas.{joined_writes, joined_refused}
 use Rattle.interpolator.proofs.prepared.joined.put_joined.Goals as goal
 
 pub returns-in-Ok : goal.returns-in-Ok
 returns-in-Ok g c =
     record {
-      writes = joined_writes _ _ _ c.as_str.result.now _ _ c.as_str.ensures.value
-          c.in-Ok.ensures.writes;
+      outcome = joined_writes _ _ c.as_str.result.now _ _ c.as_str.ensures.value
+          c.in-Ok.ensures.outcome;
     }
 
-pub returns-in-Err : goal.returns-in-Err
-returns-in-Err g c =
+pub returns-in-Err-MissingTraitImpl : goal.returns-in-Err-MissingTraitImpl
+returns-in-Err-MissingTraitImpl g c =
+    let e = c.in-Err-MissingTraitImpl in
     record {
-      writes = joined_refused _ _ _ c.as_str.result.now _ _ c.as_str.ensures.value c.in-Err.fault _
-          c.deref.result.now c.refused_at.ensures c.deref.ensures.value c.in-Err.ensures.writes;
+      outcome = joined_refused _ _ c.as_str.result.now _ _ c.as_str.ensures.value
+          (faults.MissingTraitImpl e.t e.place) _ _ refl refl
+          (rw e.field-0-is at e.ensures.outcome);
+    }
+
+pub returns-in-Err-Fmt : goal.returns-in-Err-Fmt
+returns-in-Err-Fmt g c =
+    let e = c.in-Err-Fmt in
+    record {
+      outcome = joined_refused _ _ c.as_str.result.now _ _ c.as_str.ensures.value
+          (faults.Fmt e.offset) _ c.deref.result.now (ap (λ p. fault (fmt p)) c.place_of.ensures)
+          c.deref.ensures.value (rw e.field-0-is at e.ensures.outcome);
     }

@@ -1,18 +1,20 @@
+use Rattle.std.proofs.Common.{rules}
 use Rattle.interpolator_eval.specs.Meaning.CodeEnvironments.{environment_of}
-use Rattle.interpolator.specs.Prepared.Rows.{row_at}
 use Rattle.interpolator.specs.Template.Stored.{nodes_of}
 use Rattle.interpolator.proofs.PreparedLemmas.CopyLemmas.{kept_whole, kept_writes}
 use Rattle.interpolator.proofs.prepared.run.run_kept.Goals as goal
 
-pub run_each-requires : goal.run_each-requires
-run_each-requires g c =
+pub run_each-answer-requires : goal.run_each-answer-requires
+run_each-answer-requires g c =
     record { whole = kept_whole (nodes_of c.args.text.now c.args.kept.now) c.requires.fits }
 
 pub returns : goal.returns
 returns g c =
     record {
-      writes = kept_writes g.C.Object.Value.shows
-          (environment_of g.C.Context.finds c.args.environment.now) (row_at c.args._row.now)
-          g.W.TextWrite.written (nodes_of c.args.text.now c.args.kept.now) c.args.sink.now
-          c.run_each.new.sink _ c.requires.fits c.run_each.ensures.writes;
+      outcome = λ value_at.
+          let o = kept_writes g.C.Object.Value.shows
+          (environment_of g.C.Context.finds c.args.environment.now) value_at
+          (nodes_of c.args.text.now c.args.kept.now) _ _ _ c.requires.fits
+          (rw c.in-Writer.is at c.run_each-answer.ensures.writes.outcome) in
+          search rules;
     }

@@ -3,7 +3,6 @@ use Rattle.interpolator_syntax.specs.Faults.{Answer}
 use Rattle.interpolator_eval.specs.Meaning.CodeEnvironments.{environment_of}
 use Rattle.interpolator_eval.specs.Meaning.Outcomes.{Outcome}
 use Rattle.interpolator_render.specs.Written.{Written}
-use Rattle.interpolator_eval.specs.Meaning.Sinks.{SameEnd, taken_by}
 use Rattle.interpolator.specs.Prepared.Rows.{row_at}
 use Rattle.interpolator.specs.Prepared.StoredSteps.{stored_steps_mean}
 use Rattle.interpolator.proofs.prepared.run.run_steps.Given as goal
@@ -13,10 +12,6 @@ abbrev pub invariant-loop-step : goal.invariant-loop-step
 invariant-loop-step g l =
     let meaning = stored_steps_mean g.C.Object.Value.shows
     (environment_of g.C.Context.finds l.environment) (row_at l.row) l.text in
-    record {
-      so_far : (new : Written) (answer : Option Answer)
-          → Outcome (meaning (drop l.step-index l.steps)) (taken_by g.W.TextWrite.written l.sink)
-          new answer
-          → Outcome (meaning l.steps) (taken_by g.W.TextWrite.written l.fn.sink) new answer;
-      same : SameEnd l.fn.sink l.sink;
-    }
+    (new : Written) (answer : Option Answer)
+    → Outcome (meaning (drop l.step-index l.steps)) (g.W.TextWrite.written l.out) new answer
+    → Outcome (meaning l.steps) (g.W.TextWrite.written l.fn.out) new answer
