@@ -30,4 +30,3 @@ pub mod WalkLemmas
 pub mod WholeLemmas
 pub mod WholePieceLemmas
 pub mod WithinLemmas
-pub mod WorkLemmas

@@ -7,10 +7,9 @@ pub mod NodeExtents
 pub mod NodeNames
 pub mod NodePlaces
 pub mod NodeSamples
-pub mod NodeWork
 pub mod Reading
 pub mod Stored
+pub mod StoredLists
 pub mod StoredMeanings
-pub mod StoredWork
 pub mod Telling
 pub mod Visits

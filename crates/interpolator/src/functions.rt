@@ -12,19 +12,18 @@ ghost use Rattle.interpolator_eval.specs.Meaning.Meanings.{means};
 ghost use Rattle.interpolator_eval.specs.Meaning.Outcomes.{Outcome, Formats};
 ghost use Rattle.interpolator.specs.Template.NodeChecks.{first_fault, text_faults};
 ghost use Rattle.interpolator.specs.Template.NodeCosts.{text_cost};
-ghost use Rattle.interpolator.specs.Template.NodeWork.{text_work};
+ghost use Rattle.interpolator_eval.specs.Meaning.Work.{text_work};
 ghost use Rattle.interpolator.specs.declared.template.cost.Limits.{Limits};
 ghost use Rattle.interpolator_syntax.specs.Nodes.{nodes};
 ghost use Rattle.interpolator.specs.Template.Stored.{nodes_of};
 ghost use Rattle.interpolator_render.specs.Written.{as_writer};
 
-use crate::tally::{Tally, Wrapped};
 use crate::template::check::Check;
 use crate::template::parse::parse_pieces;
 use crate::template::piece::Piece;
 use crate::template::walk::walk_text;
-use crate::tree::run_pieces;
-use interpolator_eval::{Context, Environment, Sink, write_text};
+use crate::tree::Stored;
+use interpolator_eval::{Context, Environment, Sink, Tally, write_source, write_text};
 use interpolator_render::{TextBuffer, TextWrite};
 use interpolator_syntax::{Cursor, Error};
 use std::alloc::{AllocError, Global};
@@ -137,13 +136,12 @@ pub(crate) fn write_counted<W: TextWrite, C: Context, L: Ledger>(
         → tally.new ≤ tally.old + (text_cost limits (outermost (chars format.now))).pieces }
 {
     let mut sink = Sink::Writer(out);
-    let answer = run_pieces(
-        &mut sink,
-        &Environment::outermost(alloc, context),
-        format,
+    let source = Stored {
+        text: format,
         pieces,
-        tally,
-    );
+    };
+    let environment = Environment::outermost(alloc, context);
+    let answer = write_source(&mut sink, &environment, source, tally);
     match sink {
         Sink::Writer(end) => {
             let _ = end;
@@ -151,6 +149,12 @@ pub(crate) fn write_counted<W: TextWrite, C: Context, L: Ledger>(
         Sink::Aside(_) => unreachable!(),
     }
     answer
+}
+
+/// The text of a format, for a function that opens a ledger: its signature may have no `&str`.
+#[derive(Clone, Copy)]
+struct Wrapped<'a> {
+    text: &'a str,
 }
 
 /// Writes what the stored pieces of a format mean in the context, counted from a blank ledger.

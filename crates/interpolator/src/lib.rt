@@ -30,10 +30,8 @@ mod line;
 mod parts;
 mod position;
 mod prepared;
-mod tally;
 mod template;
 mod tree;
-mod uncounted;
 
 pub use escaping::escape;
 pub use explaining::{Source, explain, explain_in};

@@ -1,34 +1,250 @@
-//! Writes what pieces mean that were read before, up to the first fault: callers first.
-ghost use Rattle.std.specs.Prelude.{◌≡◌, ◌+◌, ◌-◌, ◌^◌, ◌<◌, ◌≤◌, IsSome, None, Some, true, length};
-ghost use Rattle.std.specs.Prelude.{map, option_map};
+//! Pieces that were read before, as a source of a format: callers first.
+ghost use Rattle.std.specs.Prelude.{◌≡◌, ◌+◌, ◌^◌, ◌<◌, ◌≤◌, ⊤, IfOk, IsSome, MatchBool, Some};
+ghost use Rattle.std.specs.Prelude.{false, length, option_map, true};
 ghost use Rattle.std.specs.Str.{chars};
 ghost use Rattle.interpolator_syntax.specs.Faults.{result_answer, fault, argument_fault_of};
-ghost use Rattle.interpolator_eval.specs.Meaning.Lists.{list_under_name, padded_list_means};
+ghost use Rattle.interpolator_syntax.specs.Nodes.{as_forest, no_nodes};
 ghost use Rattle.interpolator_eval.specs.Meaning.CodeEnvironments.{environment_of};
+ghost use Rattle.interpolator_eval.specs.Meaning.Meanings.{forest_means};
 ghost use Rattle.interpolator_eval.specs.Meaning.Sinks.{Writes};
-ghost use Rattle.interpolator_eval.specs.Slots.{slots_of};
-ghost use Rattle.interpolator_syntax.specs.Nodes.{as_forest};
+ghost use Rattle.interpolator_eval.specs.Meaning.Sources.{Met, asks_list, before_list, from_list};
+ghost use Rattle.interpolator_eval.specs.Meaning.Sources.{met_pieces, unlisted_means};
+ghost use Rattle.interpolator_eval.specs.Meaning.Work.{forest_work};
 ghost use Rattle.interpolator.specs.Template.Stored.{node_of, nodes_of, node_whole, forest_whole};
 ghost use Rattle.interpolator.specs.Template.Stored.{part, range_of};
+ghost use Rattle.interpolator.specs.Template.StoredLists.{begins_list, is_list_form, range_asked};
+ghost use Rattle.interpolator.specs.Template.StoredLists.{stored_list, stored_rest};
 ghost use Rattle.interpolator.specs.Template.StoredMeanings.{stored_part, stored_name};
-ghost use Rattle.interpolator.specs.Template.StoredMeanings.{stored_pieces_mean, unclosed_fault};
-ghost use Rattle.interpolator.specs.Template.StoredMeanings.{stored_piece_means, stored_join_means};
-ghost use Rattle.interpolator.specs.Template.StoredMeanings.{stored_item_means, stored_items_mean};
-ghost use Rattle.interpolator.specs.Template.StoredWork.{stored_pieces_work, stored_piece_work};
-ghost use Rattle.interpolator.specs.Template.StoredWork.{stored_join_work, stored_item_work};
-ghost use Rattle.interpolator.specs.Template.StoredWork.{stored_items_work, stored_list_work};
+ghost use Rattle.interpolator.specs.Template.StoredMeanings.{unclosed_fault};
 ghost use Rattle.interpolator.specs.declared.template.piece.Form.TheVariants as forms;
 ghost use Rattle.interpolator.specs.declared.template.piece.Piece.TheViews.{out-Piece};
 
-use crate::tally::Tally;
 use crate::template::piece::{Form, Piece};
 use interpolator_eval::{
-    Context, Environment, Formattable, Sink, chosen_list, list_buffer, write_plain_item,
-    write_plain_value, write_value,
+    Context, Environment, FormatSource, Formattable, Sink, Tally, chosen_list, write_plain_value,
+    write_value,
 };
-use interpolator_render::{Spec, TextWrite, Trait};
+use interpolator_render::{Spec, TextWrite};
 use interpolator_syntax::{ArgumentFault, Error, ParseError, PieceKind, Range};
 use std::sync::ledger::Ledger;
+
+/// Pieces of a text that are still to be written: all of a text's, or any others that fit it.
+#[derive(Clone, Copy)]
+pub(crate) struct Stored<'t> {
+    pub(crate) text: &'t str,
+    pub(crate) pieces: &'t [Piece],
+    ghost fits: { forest_whole (as_forest (nodes_of text.now pieces.now)) ≡ true },
+}
+
+impl<'t> FormatSource for Stored<'t> {
+    /// The list, and what follows it.
+    type List = Stored<'t>;
+
+    ghost tree = { λ s. as_forest (nodes_of s.text.now s.pieces.now) };
+
+    ghost is_met = { λ s. begins_list s.pieces.now ≡ true };
+
+    ghost asks = { λ s. stored_list s.text.now s.pieces.now };
+
+    ghost follows = { λ s. stored_rest s.text.now s.pieces.now };
+
+    #[inline(always)]
+    fn is_empty(&self) -> bool {
+        self.pieces.is_empty()
+    }
+
+    #[inline(always)]
+    fn no_list(&self) -> Stored<'t> {
+        *self
+    }
+
+    #[inline(always)]
+    fn write_to_list<'a, W: TextWrite, C: Context, L: Ledger>(
+        &self,
+        sink: &mut Sink<'_, W>,
+        environment: &Environment<'a, C, C::Object>,
+        list: &mut Stored<'t>,
+        tally: &mut Tally<L>,
+    ) -> Result<bool, Error> {
+        run_pieces(sink, environment, *self, list, tally)
+    }
+
+    #[inline(always)]
+    fn items<'a, C: Context>(
+        list: &Stored<'t>,
+        environment: &Environment<'a, C, C::Object>,
+    ) -> Result<&'a [Formattable<'a, C::Object>], Error> {
+        let piece = &list.pieces[0];
+        let (start, name) = name_of(list.text, piece);
+        chosen_list(
+            environment,
+            start,
+            name,
+            range_asked(&piece.form),
+            &piece.spec,
+            piece.spec_end,
+        )
+    }
+
+    #[inline(always)]
+    fn has_width(list: &Stored<'t>) -> bool {
+        list.pieces[0].spec.width.is_some()
+    }
+
+    #[inline(always)]
+    fn spec(list: &Stored<'t>) -> Spec {
+        list.pieces[0].spec
+    }
+
+    #[inline(always)]
+    fn end(list: &Stored<'t>) -> usize {
+        list.pieces[0].spec_end
+    }
+
+    #[inline(always)]
+    fn item(list: &Stored<'t>) -> Option<Stored<'t>> {
+        let pieces = list.pieces;
+        match &pieces[0].item {
+            Some(item) => Some(Stored {
+                text: list.text,
+                pieces: item,
+            }),
+            None => None,
+        }
+    }
+
+    #[inline(always)]
+    fn join(list: &Stored<'t>) -> Option<Stored<'t>> {
+        let pieces = list.pieces;
+        match &pieces[0].join {
+            Some(join) => Some(Stored {
+                text: list.text,
+                pieces: join,
+            }),
+            None => None,
+        }
+    }
+
+    #[inline(always)]
+    fn rest(list: &Stored<'t>) -> Option<Stored<'t>> {
+        let pieces = list.pieces;
+        match pieces[0].kind {
+            PieceKind::Unclosed => None,
+            _ => Some(Stored {
+                text: list.text,
+                pieces: &pieces[1..],
+            }),
+        }
+    }
+}
+
+/// Which items of a list; all, if nothing tells them.
+#[inline(always)]
+fn range_asked(form: &Form) -> Option<Range>
+    ensures { result ≡ range_asked form.now }
+{
+    match form {
+        Form::List(range) => unboxed(range),
+        _ => None,
+    }
+}
+
+/// Writes what pieces mean up to the first list, in order, and tells whether there is one.
+#[inline(always)]
+fn run_pieces<'t, 'a, W: TextWrite, C: Context, L: Ledger>(
+    sink: &mut Sink<'_, W>,
+    environment: &Environment<'a, C, C::Object>,
+    source: Stored<'t>,
+    list: &mut Stored<'t>,
+    tally: &mut Tally<L>,
+) -> Result<bool, Error>
+    ensures writes { Writes W.written
+        (forest_means C.Object.shows (environment_of C.finds environment.now)
+        (before_list (as_forest (nodes_of source.entry.text.now source.entry.pieces.now))))
+        sink.old sink.new (result_answer result) }
+    ensures met { IfOk result (λ met. Met met (begins_list list.new.pieces.now ≡ true)
+        (stored_list list.new.text.now list.new.pieces.now)
+        (stored_rest list.new.text.now list.new.pieces.now)
+        (from_list (as_forest (nodes_of source.entry.text.now source.entry.pieces.now)))) }
+    ensures gone { tally.new ≤ tally.old + ((forest_work C.Object.shows
+        (environment_of C.finds environment.now)
+        (before_list (as_forest (nodes_of source.entry.text.now source.entry.pieces.now)))).pieces
+        + met_pieces result) }
+{
+    let text = source.text;
+    let mut rest = source.pieces;
+    while let Some((piece, after)) = rest.split_first() {
+        tally.tick();
+        if run_piece(sink, environment, text, piece)? {
+            *list = Stored { text, pieces: rest };
+            return Ok(true);
+        }
+        rest = after;
+    }
+    Ok(false)
+}
+
+/// Writes what a piece means, and tells whether it asks for a list; of which nothing is written.
+#[inline(always)]
+fn run_piece<'a, W: TextWrite, C: Context>(
+    sink: &mut Sink<'_, W>,
+    environment: &Environment<'a, C, C::Object>,
+    text: &str,
+    piece: &Piece,
+) -> Result<bool, Error>
+    requires whole { node_whole (node_of text.now piece.now) ≡ true }
+    ensures writes { Writes W.written
+        (unlisted_means C.Object.shows (environment_of C.finds environment.now)
+        (node_of text.now piece.now))
+        sink.old sink.new (result_answer result) }
+    ensures list { IfOk result (λ list. is_list_form (out-Piece piece.now).form ≡ list) }
+{
+    match &piece.form {
+        Form::Text => {
+            sink.put_run(text_of(text, piece), piece.from)?;
+            Ok(false)
+        }
+        Form::Name => {
+            let (start, name) = name_of(text, piece);
+            write_plain_value(sink, environment, start, name, piece.spec_end)?;
+            value_done(piece)
+        }
+        Form::Value(t) => {
+            let (start, name) = name_of(text, piece);
+            write_value(
+                sink,
+                environment,
+                start,
+                name,
+                *t,
+                &piece.spec,
+                piece.spec_end,
+            )?;
+            value_done(piece)
+        }
+        Form::List(_) => Ok(true),
+        Form::Broken(fault) => refused(fault),
+    }
+}
+
+/// That a value was written and no list is asked for, or the fault of an argument that is not closed.
+#[inline(always)]
+fn value_done(piece: &Piece) -> Result<bool, Error>
+    ensures closed { result_answer result ≡ option_map fault (unclosed_fault piece.now) }
+    ensures value { IfOk result (λ list. list ≡ false) }
+{
+    closed(piece)?;
+    Ok(false)
+}
+
+/// The fault of a broken argument. It is a function of its own, since a function zeroes its error slot
+/// on entry.
+#[inline(always)]
+fn refused(broken: &ArgumentFault) -> Result<bool, Error>
+    ensures { result_answer result ≡ Some (fault (argument_fault_of broken.now)) }
+{
+    Err(Error::from(*broken))
+}
 
 /// The text from byte `from` up to `to`.
 pub(crate) fn cut(text: &str, from: usize, to: usize) -> &str
@@ -76,290 +292,5 @@ pub(crate) fn unboxed(range: &Option<Box<Range>>) -> Option<Range>
     match range {
         Some(range) => Some(**range),
         None => None,
-    }
-}
-
-/// Writes what pieces of a text mean, in order. They are all of a text's, or any others that fit it.
-#[cycle(tree)]
-pub(crate) fn run_pieces<'a, W: TextWrite, C: Context, L: Ledger>(
-    sink: &mut Sink<'_, W>,
-    environment: &Environment<'a, C, C::Object>,
-    text: &str,
-    pieces: &[Piece],
-    tally: &mut Tally<L>,
-) -> Result<(), Error>
-    requires whole { forest_whole (as_forest (nodes_of text.now pieces.now)) ≡ true }
-    ensures writes { Writes W.written
-        (stored_pieces_mean C.Object.shows (environment_of C.finds environment.now) text.now pieces.now)
-        sink.old sink.new (result_answer result) }
-    ensures gone { tally.new ≤ tally.old + (stored_pieces_work C.Object.shows
-        (environment_of C.finds environment.now) text.now pieces.now).pieces }
-{
-    for piece in pieces {
-        run_piece(sink, environment, text, piece, tally)?;
-    }
-    Ok(())
-}
-
-/// Writes what a piece means.
-#[cycle(tree)]
-#[inline(always)]
-pub(crate) fn run_piece<'a, W: TextWrite, C: Context, L: Ledger>(
-    sink: &mut Sink<'_, W>,
-    environment: &Environment<'a, C, C::Object>,
-    text: &str,
-    piece: &Piece,
-    tally: &mut Tally<L>,
-) -> Result<(), Error>
-    requires whole { node_whole (node_of text.now piece.now) ≡ true }
-    ensures writes { Writes W.written
-        (stored_piece_means C.Object.shows (environment_of C.finds environment.now) text.now piece.now)
-        sink.old sink.new (result_answer result) }
-    ensures gone { tally.new ≤ tally.old + (stored_piece_work C.Object.shows
-        (environment_of C.finds environment.now) text.now piece.now).pieces }
-{
-    tally.tick();
-    match &piece.form {
-        Form::Text => {
-            sink.put_run(text_of(text, piece), piece.from)?;
-            Ok(())
-        }
-        Form::Name => {
-            let (start, name) = name_of(text, piece);
-            write_plain_value(sink, environment, start, name, piece.spec_end)?;
-            closed(piece)?;
-            Ok(())
-        }
-        Form::Value(t) => {
-            let (start, name) = name_of(text, piece);
-            write_value(
-                sink,
-                environment,
-                start,
-                name,
-                *t,
-                &piece.spec,
-                piece.spec_end,
-            )?;
-            closed(piece)?;
-            Ok(())
-        }
-        Form::List(range) => {
-            run_list_piece(sink, environment, text, piece, range, tally)?;
-            Ok(())
-        }
-        Form::Broken(fault) => refused(fault),
-    }
-}
-
-/// The fault of a broken argument. It is a function of its own, and so is `run_list_piece`, since a
-/// function zeroes its error slot on entry.
-#[inline(always)]
-fn refused(broken: &ArgumentFault) -> Result<(), Error>
-    ensures { result_answer result ≡ Some (fault (argument_fault_of broken.now)) }
-{
-    Err(Error::from(*broken))
-}
-
-/// Writes what a piece means that asks for a list.
-#[cycle(tree)]
-#[inline(always)]
-fn run_list_piece<'a, W: TextWrite, C: Context, L: Ledger>(
-    sink: &mut Sink<'_, W>,
-    environment: &Environment<'a, C, C::Object>,
-    text: &str,
-    piece: &Piece,
-    range: &Option<Box<Range>>,
-    tally: &mut Tally<L>,
-) -> Result<(), Error>
-    requires whole { node_whole (node_of text.now piece.now) ≡ true }
-    requires list { (out-Piece piece.now).form ≡ forms.List range.now }
-    ensures writes { Writes W.written
-        (stored_piece_means C.Object.shows (environment_of C.finds environment.now) text.now piece.now)
-        sink.old sink.new (result_answer result) }
-    ensures gone { tally.new + 1 ≤ tally.old + (stored_piece_work C.Object.shows
-        (environment_of C.finds environment.now) text.now piece.now).pieces }
-{
-    let (start, name) = name_of(text, piece);
-    run_list(
-        sink,
-        environment,
-        text,
-        piece,
-        start,
-        name,
-        unboxed(range),
-        tally,
-    )?;
-    closed(piece)
-}
-
-/// Writes the list under the name of a piece whose argument starts at `start`.
-#[cycle(tree)]
-#[inline(never)]
-fn run_list<'a, W: TextWrite, C: Context, L: Ledger>(
-    sink: &mut Sink<'_, W>,
-    environment: &Environment<'a, C, C::Object>,
-    text: &str,
-    piece: &Piece,
-    start: usize,
-    name: &str,
-    range: Option<Range>,
-    tally: &mut Tally<L>,
-) -> Result<(), Error>
-    requires whole { node_whole (node_of text.now piece.now) ≡ true }
-    ensures writes { Writes W.written
-        (list_under_name (environment_of C.finds environment.now) (chars name.now) start range
-        (out-Piece piece.now).spec (out-Piece piece.now).spec_end
-        (stored_join_means C.Object.shows (environment_of C.finds environment.now) text.now piece.now)
-        (stored_item_means C.Object.shows (environment_of C.finds environment.now) text.now piece.now
-        (out-Piece piece.now).spec_end))
-        sink.old sink.new (result_answer result) }
-    ensures gone { tally.new ≤ tally.old + (stored_list_work C.Object.shows
-        (environment_of C.finds environment.now) text.now piece.now (out-Piece piece.now).spec_end
-        (chars name.now) range).pieces }
-{
-    let items = chosen_list(environment, start, name, range, &piece.spec, piece.spec_end)?;
-    if piece.spec.width.is_some() {
-        run_padded_list(sink, environment, text, piece, items, tally)?;
-        Ok(())
-    } else {
-        run_items(sink, environment, text, piece, items, tally)?;
-        Ok(())
-    }
-}
-
-/// Makes the text of the items in a buffer, and then writes it padded to the width.
-#[cycle(tree)]
-fn run_padded_list<'a, W: TextWrite, C: Context, L: Ledger>(
-    sink: &mut Sink<'_, W>,
-    environment: &Environment<'a, C, C::Object>,
-    text: &str,
-    piece: &Piece,
-    items: &'a [Formattable<'a, C::Object>],
-    tally: &mut Tally<L>,
-) -> Result<(), Error>
-    requires whole { node_whole (node_of text.now piece.now) ≡ true }
-    requires no_precision { (out-Piece piece.now).spec.precision ≡ None }
-    ensures writes { Writes W.written
-        (padded_list_means (out-Piece piece.now).spec (out-Piece piece.now).spec_end
-        (stored_items_mean C.Object.shows (environment_of C.finds environment.now) text.now piece.now
-        (out-Piece piece.now).spec_end (map slots_of items.now)))
-        sink.old sink.new (result_answer result) }
-    ensures gone { tally.new ≤ tally.old + (stored_items_work C.Object.shows
-        (environment_of C.finds environment.now) text.now piece.now (out-Piece piece.now).spec_end
-        (map slots_of items.now)).pieces }
-{
-    let mut made = list_buffer(sink, environment);
-    let mut inner: Sink<'_, W> = Sink::Aside(&mut made);
-    let answer = run_items(&mut inner, environment, text, piece, items, tally);
-    match inner {
-        Sink::Writer(_) => unreachable!(),
-        Sink::Aside(buffer) => {
-            if buffer.refused() {
-                return Err(Error::NoMemory);
-            }
-            answer?;
-            sink.put_padded(buffer.as_str(), &piece.spec, piece.spec_end)?;
-            Ok(())
-        }
-    }
-}
-
-/// Writes items of a list, and the join between two of them.
-#[cycle(tree)]
-fn run_items<'a, W: TextWrite, C: Context, L: Ledger>(
-    sink: &mut Sink<'_, W>,
-    environment: &Environment<'a, C, C::Object>,
-    text: &str,
-    piece: &Piece,
-    items: &'a [Formattable<'a, C::Object>],
-    tally: &mut Tally<L>,
-) -> Result<(), Error>
-    requires whole { node_whole (node_of text.now piece.now) ≡ true }
-    ensures writes { Writes W.written
-        (stored_items_mean C.Object.shows (environment_of C.finds environment.now) text.now piece.now
-        (out-Piece piece.now).spec_end (map slots_of items.now))
-        sink.old sink.new (result_answer result) }
-    ensures gone { tally.new ≤ tally.old + (stored_items_work C.Object.shows
-        (environment_of C.finds environment.now) text.now piece.now (out-Piece piece.now).spec_end
-        (map slots_of items.now)).pieces }
-{
-    let Some((first, rest)) = items.split_first() else {
-        return Ok(());
-    };
-    run_item(sink, environment, text, piece, first, tally)?;
-    for item in rest {
-        run_join(sink, environment, text, piece, tally)?;
-        run_item(sink, environment, text, piece, item, tally)?;
-    }
-    Ok(())
-}
-
-/// Writes one item of a list.
-#[cycle(tree)]
-fn run_item<'a, W: TextWrite, C: Context, L: Ledger>(
-    sink: &mut Sink<'_, W>,
-    environment: &Environment<'a, C, C::Object>,
-    text: &str,
-    piece: &Piece,
-    item: &'a Formattable<'a, C::Object>,
-    tally: &mut Tally<L>,
-) -> Result<(), Error>
-    requires whole { node_whole (node_of text.now piece.now) ≡ true }
-    ensures writes { Writes W.written
-        (stored_item_means C.Object.shows (environment_of C.finds environment.now) text.now piece.now
-        (out-Piece piece.now).spec_end (slots_of item.now))
-        sink.old sink.new (result_answer result) }
-    ensures gone { tally.new ≤ tally.old + (stored_item_work C.Object.shows
-        (environment_of C.finds environment.now) text.now piece.now (out-Piece piece.now).spec_end
-        (slots_of item.now)).pieces }
-{
-    match &piece.item {
-        Some(pieces) => {
-            count_empty(pieces, tally);
-            run_pieces(sink, &environment.bind(item), text, pieces, tally)?;
-            Ok(())
-        }
-        None => {
-            tally.tick();
-            write_plain_item(sink, item, piece.spec_end)?;
-            Ok(())
-        }
-    }
-}
-
-/// Counts an item whose format is empty as one piece.
-#[inline(always)]
-fn count_empty<L: Ledger>(pieces: &[Piece], tally: &mut Tally<L>)
-    ensures one { tally.new ≡ tally.old + (1 - length pieces.now) }
-{
-    if pieces.is_empty() {
-        tally.tick();
-    }
-}
-
-/// Writes what comes between two items.
-#[cycle(tree)]
-fn run_join<'a, W: TextWrite, C: Context, L: Ledger>(
-    sink: &mut Sink<'_, W>,
-    environment: &Environment<'a, C, C::Object>,
-    text: &str,
-    piece: &Piece,
-    tally: &mut Tally<L>,
-) -> Result<(), Error>
-    requires whole { node_whole (node_of text.now piece.now) ≡ true }
-    ensures writes { Writes W.written
-        (stored_join_means C.Object.shows (environment_of C.finds environment.now) text.now piece.now)
-        sink.old sink.new (result_answer result) }
-    ensures gone { tally.new ≤ tally.old + (stored_join_work C.Object.shows
-        (environment_of C.finds environment.now) text.now piece.now).pieces }
-{
-    match &piece.join {
-        Some(pieces) => {
-            run_pieces(sink, environment, text, pieces, tally)?;
-            Ok(())
-        }
-        None => Ok(()),
     }
 }

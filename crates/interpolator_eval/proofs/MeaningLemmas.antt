@@ -4,6 +4,8 @@ pub mod AskedLemmas
 pub mod AskedPieceLemmas
 pub mod ChoiceLemmas
 pub mod EqualLemmas
+pub mod FirstPieceLemmas
+pub mod GroupSizeLemmas
 pub mod ListLawLemmas
 pub mod ListLemmas
 pub mod LookUpLemmas
@@ -12,7 +14,9 @@ pub mod MovedLemmas
 pub mod OutcomeLemmas
 pub mod PlacedLemmas
 pub mod PlaceLemmas
-pub mod RunLemmas
 pub mod SampleLemmas
 pub mod EnvironmentLemmas
+pub mod ScanLemmas
 pub mod SinkLemmas
+pub mod SourceLemmas
+pub mod WorkLemmas

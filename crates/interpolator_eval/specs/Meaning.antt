@@ -13,4 +13,7 @@ pub mod Outcomes
 pub mod Resembling
 pub mod Samples
 pub mod CodeEnvironments
+pub mod ScannedLists
 pub mod Sinks
+pub mod Sources
+pub mod Work

@@ -13,18 +13,20 @@ mod pairs;
 mod rows;
 mod slot_names;
 mod slots;
+mod tally;
 
 pub use context::{ByNames, Context};
 pub use context_map::{ContextMap, NameMap};
 pub use field_names::is_name;
 pub use meaning::environment::Environment;
-pub use meaning::evaluate::write_text;
+pub use meaning::evaluate::{write_source, write_text, write_uncounted};
 pub use meaning::list::{chosen, forbids_list};
 pub use meaning::sample::{Candidates, Items, Need, SampleEnvironment};
+pub use meaning::scan::ScannedList;
 pub use meaning::sink::{Sink, WriteFault, write_char, write_plain, write_run, write_shown};
-pub use meaning::value::{
-    chosen_list, list_buffer, slot_of, write_plain_item, write_plain_value, write_slot, write_value,
-};
+pub use meaning::source::FormatSource;
+pub use meaning::value::{chosen_list, slot_of, write_plain_value, write_slot, write_value};
 pub use pairs::Pairs;
 pub use rows::{items_of, rows_of};
 pub use slots::Formattable;
+pub use tally::Tally;

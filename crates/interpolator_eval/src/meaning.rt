@@ -4,5 +4,7 @@ pub mod environment;
 pub mod evaluate;
 pub mod list;
 pub mod sample;
+pub mod scan;
 pub mod sink;
+pub mod source;
 pub mod value;

@@ -37,7 +37,7 @@ use Rattle.interpolator_eval.proofs.MeaningLemmas.AskedPieceLemmas.{branch_in_it
 use Rattle.interpolator_eval.proofs.MeaningLemmas.AskedPieceLemmas.{without_append, without_twice}
 use Rattle.interpolator_syntax.proofs.NodeLemmas.{by_length}
 use Rattle.interpolator_syntax.proofs.SplitLemmas.{any_brace}
-use Rattle.interpolator_eval.proofs.MeaningLemmas.ListLemmas.{kind_size, groups_within}
+use Rattle.interpolator_eval.proofs.MeaningLemmas.GroupSizeLemmas.{kind_size, groups_within}
 use Rattle.interpolator_syntax.proofs.TokenLemmas.{scan_shorter}
 use Rattle.interpolator.proofs.TemplateLemmas.ParseLemmas.{taken_is}
 

@@ -47,11 +47,11 @@ use Rattle.interpolator_eval.specs.Meaning.Meanings.{item_branch_means, forest_m
 use Rattle.interpolator_eval.specs.Meaning.AskedNames.{context_names, held_asks, node_asks}
 use Rattle.interpolator_eval.specs.Meaning.AskedNames.{branch_asks}
 use Rattle.interpolator_eval.specs.Meaning.AskedNames.{forest_asks}
-use Rattle.interpolator.specs.Template.NodeWork.{Work, no_work, piece_and, or_stop, item_work}
-use Rattle.interpolator.specs.Template.NodeWork.{work_after, items_work, chosen_work, listed_work}
-use Rattle.interpolator.specs.Template.NodeWork.{under_work, bare_work, held_work, node_work}
-use Rattle.interpolator.specs.Template.NodeWork.{join_branch_work, item_branch_work, forest_work}
-use Rattle.interpolator.specs.Template.NodeWork.{text_work}
+use Rattle.interpolator_eval.specs.Meaning.Work.{Work, no_work, piece_and, or_stop, item_work}
+use Rattle.interpolator_eval.specs.Meaning.Work.{work_after, items_work, chosen_work, listed_work}
+use Rattle.interpolator_eval.specs.Meaning.Work.{under_work, bare_work, held_work, node_work}
+use Rattle.interpolator_eval.specs.Meaning.Work.{join_branch_work, item_branch_work, forest_work}
+use Rattle.interpolator_eval.specs.Meaning.Work.{text_work}
 use Rattle.interpolator.specs.declared.template.cost.Cost.{Cost}
 use Rattle.interpolator.specs.declared.template.cost.Limits.{Limits}
 use Rattle.interpolator.proofs.TemplateLemmas.RangeLemmas.{Each, each_chosen, chosen_fewer, chosen_grows}

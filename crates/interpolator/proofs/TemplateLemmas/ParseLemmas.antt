@@ -47,7 +47,7 @@ use Rattle.interpolator.specs.declared.template.piece.Piece.{Piece}
 use Rattle.interpolator_syntax.specs.declared.piece_kind.PieceKind as told
 use Rattle.interpolator_syntax.specs.declared.piece_kind.PieceKind.TheVariants.{Literal, Doubled}
 use Rattle.interpolator_syntax.specs.declared.piece_kind.PieceKind.TheVariants.{LoneClose, Closed}
-use Rattle.interpolator_eval.proofs.MeaningLemmas.ListLemmas.{list_size, groups_within}
+use Rattle.interpolator_eval.proofs.MeaningLemmas.GroupSizeLemmas.{list_size, groups_within}
 use Rattle.interpolator_syntax.proofs.NodeLemmas.{nodes_first, nodes_none}
 use Rattle.interpolator.proofs.TemplateLemmas.PartLemmas.{part_lies, name_lies}
 use Rattle.interpolator.proofs.TemplateLemmas.StoredLemmas.{nodes_of_push}

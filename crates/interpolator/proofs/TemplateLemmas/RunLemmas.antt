@@ -1,9 +1,9 @@
 -- What running stored pieces needs of them: where their text is cut out, what they hold, and the
 -- outcome of pieces from that of the first and of the rest.
-use Rattle.std.proofs.Common.{◌≡◌, ◌∙◌, refl, sym, add-one, arith, ℕ, suc, ◌+◌, ◌-◌, ◌<◌, ◌≤◌}
-use Rattle.std.proofs.Common.{Bool, true, false, not, ◌&&◌, nat_lt, List, ◌∷◌, length, take}
-use Rattle.std.proofs.Common.{ap, drop, map, get_or, Option, None, Some, IsSome, option_map}
-use Rattle.std.proofs.lemmas.List.{drop-map, drop_more, drop_all}
+use Rattle.std.proofs.Common.{◌≡◌, ◌∙◌, refl, sym, add-one, arith, ℕ, suc, ◌+◌, ◌-◌, ◌≤◌}
+use Rattle.std.proofs.Common.{Bool, true, false, not, ◌&&◌, nat_lt, List, [], ◌∷◌, take}
+use Rattle.std.proofs.Common.{ap, drop, get_or, Option, None, Some, IsSome, option_map}
+use Rattle.std.proofs.lemmas.List.{drop-map}
 use Rattle.std.specs.Global.{Box}
 use Rattle.std.specs.Prelude.{if◌then◌else◌}
 use Rattle.std.specs.Str.{chars, IsUtf8, IsCharBoundary}
@@ -19,16 +19,22 @@ use Rattle.interpolator_syntax.specs.declared.argument_fault.ArgumentFault.{Argu
 use Rattle.interpolator_syntax.specs.declared.range.Range.{Range}
 use Rattle.interpolator_eval.specs.Meaning.Environments.{Environment, slots_under}
 use Rattle.interpolator_eval.specs.Meaning.Meanings.{Meaning, text_alone, under_name}
-use Rattle.interpolator_eval.specs.Meaning.Meanings.{items_after, items_mean, means}
+use Rattle.interpolator_eval.specs.Meaning.Meanings.{means}
 use Rattle.interpolator_eval.specs.Meaning.Outcomes.{Outcome}
-use Rattle.interpolator_eval.specs.Meaning.Sinks.{Writes, taken_by}
+use Rattle.interpolator_eval.specs.Meaning.Sinks.{Writes}
+use Rattle.interpolator_eval.specs.Meaning.Work.{forest_work, node_work, text_work}
+use Rattle.interpolator_syntax.specs.Nodes.{node, Branch}
 use Rattle.interpolator_syntax.specs.Nodes.{Content, text_content, argument_content, fault_content, Target}
 use Rattle.interpolator_syntax.specs.Nodes.{target_value, target_list, as_forest, nodes}
 use Rattle.interpolator_eval.specs.Meaning.Meanings.{and_closed, bare_means, held_means}
 use Rattle.interpolator_eval.specs.Meaning.Meanings.{forest_means}
-use Rattle.interpolator.specs.Template.Stored.{may_cut, part, range_of, held_of}
-use Rattle.interpolator.specs.Template.Stored.{node_of, nodes_of, StandFor}
-use Rattle.interpolator.specs.Template.Stored.{forest_whole}
+use Rattle.interpolator_eval.specs.Meaning.Sources.{FirstAsks, asks_list, holds_list, unlisted_means}
+use Rattle.interpolator.specs.Template.Stored.{may_cut, part, range_of, held_of, stored_held}
+use Rattle.interpolator.specs.Template.Stored.{branch_of, node_of, nodes_of, StandFor}
+use Rattle.interpolator.specs.Template.Stored.{forest_whole, node_whole}
+use Rattle.interpolator.specs.Template.StoredLists.{begins_list, is_list_form, stored_list}
+use Rattle.interpolator.specs.Template.StoredLists.{stored_rest}
+use Rattle.interpolator.specs.declared.template.piece.Form.{Form}
 use Rattle.interpolator.specs.Template.StoredMeanings.{stored_part, stored_name, unclosed_fault}
 use Rattle.interpolator.specs.Template.StoredMeanings.{unclosed_fault_of, stored_pieces_mean}
 use Rattle.interpolator.specs.Template.StoredMeanings.{stored_piece_means, stored_join_means}
@@ -40,10 +46,10 @@ use Rattle.interpolator.specs.declared.template.piece.Piece.TheViews.{out-Piece}
 use Rattle.interpolator_syntax.specs.declared.piece_kind.PieceKind.{PieceKind}
 use Rattle.interpolator_syntax.specs.declared.piece_kind.PieceKind.TheVariants as kinds
 use Rattle.interpolator_eval.proofs.MeaningLemmas.SinkLemmas.{and_then, fault_first, nothing_done, ended}
-use Rattle.interpolator_eval.proofs.MeaningLemmas.SinkLemmas.{same_end, same_then}
+use Rattle.interpolator_eval.proofs.MeaningLemmas.SinkLemmas.{same_end}
 use Rattle.interpolator.proofs.TemplateLemmas.StoredLemmas.{node_of_out}
 use Rattle.interpolator.proofs.TemplateLemmas.WholeLemmas.{nodes_whole}
-use Rattle.interpolator.proofs.TemplateLemmas.WholePieceLemmas.{pieces_whole}
+use Rattle.interpolator.proofs.TemplateLemmas.WholePieceLemmas.{both, fits_text, pieces_whole}
 use Rattle.interpolator.proofs.TemplateLemmas.WithinLemmas.{within_same}
 
 -- ---- where a text may be cut
@@ -129,6 +135,105 @@ module _ (bs : List ℕ) (x : Piece) where
         → held_of bs x ≡ Valued (out-Piece x).spec (target_list (range_of range))
     list_held range form = rw (form, ← is, begins) refl
 
+-- ---- what asks for a list
+
+mapped_holds : {A : Type 0} (f : A → Content) (o : Option A) (b : Bool) → IsSome (option_map f o)
+    → ((a : A) → holds_list (Some (f a)) ≡ b) → holds_list (option_map f o) ≡ b
+mapped_holds f None b some h = absurd (cc)
+mapped_holds f (Some a) b some h = h a
+
+module _ (bs : List ℕ) (x : Piece) where
+  asks_held : (h : Content) → held_of bs x ≡ Some h
+      → asks_list (node_of bs x) ≡ holds_list (Some h)
+  asks_held h is = rw (node_of_out bs x, is) refl
+
+  -- a piece that fits its text asks for a list if it is written as one
+  pub asks_form : IsSome (held_of bs x)
+      → asks_list (node_of bs x) ≡ is_list_form (out-Piece x).form
+  asks_form some = rw (node_of_out bs x) (by_form (out-Piece x).form some)
+    where
+      by_form : (f : Form)
+          → IsSome (stored_held bs (out-Piece x).place (out-Piece x).from (out-Piece x).to
+          (out-Piece x).spec_end (out-Piece x).spec f)
+          → holds_list (stored_held bs (out-Piece x).place (out-Piece x).from (out-Piece x).to
+          (out-Piece x).spec_end (out-Piece x).spec f)
+          ≡ is_list_form f
+      by_form forms.Text some = mapped_holds _ _ _ some (λ cs. refl)
+      by_form forms.Name some = mapped_holds _ _ _ some (λ name. refl)
+      by_form (forms.Value t) some = mapped_holds _ _ _ some (λ name. refl)
+      by_form (forms.List range) some = mapped_holds _ _ _ some (λ name. refl)
+      by_form (forms.Broken f) some = refl
+
+  -- the list for which it asks, and what follows it
+  pub first_list : (xs : List Piece) → is_list_form (out-Piece x).form ≡ true → IsSome (held_of bs x)
+      → FirstAsks (stored_list bs (x ∷ xs)) (stored_rest bs (x ∷ xs))
+      (as_forest (nodes_of bs (x ∷ xs)))
+  first_list xs listed some = by_form (out-Piece x).form refl
+    where
+      by_name : (range : Option (Box Range)) → (out-Piece x).form ≡ forms.List range
+          → (o : Option (List ℕ)) → stored_name bs x ≡ o
+          → FirstAsks (stored_list bs (x ∷ xs)) (stored_rest bs (x ∷ xs))
+          (as_forest (nodes_of bs (x ∷ xs)))
+      by_name range form None none = absurd (let fits = list_fits bs x range form some in cc)
+      by_name range form (Some name) is = record {
+        place = (out-Piece x).place;
+        last = (out-Piece x).end;
+        kind = (out-Piece x).kind;
+        rest = as_forest (nodes_of bs xs);
+        first = rw (node_of_out bs x, form, is) refl;
+        closing = refl;
+      }
+
+      by_form : (f : Form) → (out-Piece x).form ≡ f
+          → FirstAsks (stored_list bs (x ∷ xs)) (stored_rest bs (x ∷ xs))
+          (as_forest (nodes_of bs (x ∷ xs)))
+      by_form forms.Text form = absurd (let h = rw form at listed in cc)
+      by_form forms.Name form = absurd (let h = rw form at listed in cc)
+      by_form (forms.Value t) form = absurd (let h = rw form at listed in cc)
+      by_form (forms.List range) form = by_name range form (stored_name bs x) refl
+      by_form (forms.Broken f) form = absurd (let h = rw form at listed in cc)
+
+  -- it counts as a piece at least
+  pub piece_counts :
+      {X : Type 0} (shows : X → Trait → Spec → Shown) (e : Environment X) → IsSome (held_of bs x)
+      → 1 ≤ (node_work shows e (node_of bs x)).pieces
+  piece_counts shows e some =
+      let y = out-Piece x in
+      rw (node_of_out bs x) (by_held (held_of bs x) some y.place y.end y.kind
+      (branch_of bs y.item) (branch_of bs y.join))
+    where
+      by_held : (o : Option Content) → IsSome o → (place end : ℕ) (kind : PieceKind)
+          (item join : Branch) → 1 ≤ (node_work shows e (node place end kind o item join)).pieces
+      by_held None some place end kind item join = absurd (cc)
+      by_held (Some (text_content from cs)) some place end kind item join = omega arith
+      by_held (Some (argument_content start name spec bare q)) some place end kind item join =
+          omega arith
+      by_held (Some (fault_content f)) some place end kind item join = omega arith
+
+-- the first of pieces that begin with a list
+pub record FirstPiece (bs : List ℕ) (x : Piece) : Type 0 where
+  pub whole : node_whole (node_of bs x) ≡ true
+  pub name : IsSome (stored_name bs x)
+
+pub first_piece :
+    (bs : List ℕ) (xs : List Piece) (x : Piece) → begins_list xs ≡ true → x ≡ get_or xs 0 x
+    → forest_whole (as_forest (nodes_of bs xs)) ≡ true → FirstPiece bs x
+first_piece bs [] x listed is whole = absurd (cc)
+first_piece bs (y ∷ ys) x listed is whole =
+    let fits = (both (node_whole (node_of bs y)) (forest_whole (as_forest (nodes_of bs ys))) whole).0 in
+    rw is (record {
+      whole = fits;
+      name = by_form (out-Piece y).form refl listed (fits_text bs y fits).held;
+    })
+  where
+    by_form : (f : Form) → (out-Piece y).form ≡ f → is_list_form f ≡ true → IsSome (held_of bs y)
+        → IsSome (stored_name bs y)
+    by_form forms.Text form listed some = absurd (cc)
+    by_form forms.Name form listed some = absurd (cc)
+    by_form (forms.Value t) form listed some = absurd (cc)
+    by_form (forms.List range) form listed some = list_fits bs y range form some
+    by_form (forms.Broken f) form listed some = absurd (cc)
+
 -- ---- the outcome of one piece
 
 module _ {W : Type 0} (into : W → Written) (m : Meaning) (s t : Sink W) (end : ℕ) where
@@ -164,6 +269,18 @@ module _ {X W : Type 0} (shows : X → Trait → Spec → Shown) (into : W → W
         → Means ≡ held_means shows e (out-Piece x).kind h (stored_join_means shows e bs x)
         (stored_item_means shows e bs x)
     means_held h is = rw (node_of_out bs x, is) refl
+
+    -- what it holds asks for no list
+    pub unlisted : (r : Option Answer) (h : Content) → held_of bs x ≡ Some h
+        → holds_list (Some h) ≡ false → Writes into Means s t r
+        → Writes into (unlisted_means shows e (node_of bs x)) s t r
+    unlisted r h is other o =
+        record { outcome = rw (asks_held bs x h is ∙ other) o.outcome; same = o.same }
+
+    -- it asks for a list, of which nothing is written yet
+    pub list_waits : asks_list (node_of bs x) ≡ true
+        → Writes into (unlisted_means shows e (node_of bs x)) s s None
+    list_waits listed = record { outcome = rw listed (nothing_done _); same = same_end s }
 
     -- a text that is written
     pub text_writes : (r : Option Answer) (from : ℕ) (cs : List ℕ)
@@ -201,90 +318,6 @@ module _ {X W : Type 0} (shows : X → Trait → Spec → Shown) (into : W → W
       argument_writes r told o =
           let c = closed_done into Value s t (out-Piece x).spec_end (out-Piece x).kind o in
           record { outcome = rw (means_held _ is, told) c.outcome; same = c.same }
-
-  -- ---- the outcome of pieces
-
-  module _ (xs : List Piece) (i : ℕ) where
-    abbrev After : ℕ → Meaning
-    After n = stored_pieces_mean shows e bs (drop n xs)
-
-    -- no piece is left
-    pub pieces_end : (s : Sink W) → length xs ≤ i → Writes into (After i) s s None
-    pieces_end s h =
-        record { outcome = rw (drop_all i xs h) (nothing_done _); same = same_end s }
-
-    module _ (s t : Sink W) (x : Piece) (h : i < length xs) (is : x ≡ get_or xs i x)
-      where
-        next_piece : drop i xs ≡ x ∷ drop (i + 1) xs
-        next_piece = rw (drop_more xs i x h, ← is) refl
-
-        -- a piece ends the run
-        pub piece_fault : (q : Answer) → Writes into (stored_piece_means shows e bs x) s t (Some q)
-            → Writes into (After i) s t (Some q)
-        piece_fault q o =
-            record { outcome = rw next_piece (fault_first _ _ _ _ q o.outcome); same = o.same }
-
-        -- a piece is done, and the pieces after it follow
-        pub piece_runs : (u : Written) (r : Option Answer)
-            → Writes into (stored_piece_means shows e bs x) s t None
-            → Outcome (After (i + 1)) (taken_by into t) u r → Outcome (After i) (taken_by into s) u r
-        piece_runs u r o k = rw next_piece (and_then _ _ _ _ u r o.outcome k)
-
--- ---- the items of a list, one by one
-
-module _ {F X W : Type 0} (into : W → Written) (join : Meaning) (item : X → Meaning)
-    (slots : F → X) where
-  abbrev ItemsAfter : List F → Meaning
-  ItemsAfter ys = items_after join item (map slots ys)
-
-  module _ (xs : List F) (i : ℕ) (x : F) (h : i < length xs) (is : x ≡ get_or xs i x)
-      (s t : Sink W) where
-    next_item : map slots (drop i xs) ≡ slots x ∷ map slots (drop (i + 1) xs)
-    next_item = rw (drop_more xs i x h, ← is) refl
-
-    -- the join in front of an item ends the run
-    pub join_fault : (q : Answer) → Writes into join s t (Some q)
-        → Writes into (ItemsAfter (drop i xs)) s t (Some q)
-    join_fault q o =
-        record { outcome = rw next_item (fault_first _ _ _ _ q o.outcome); same = o.same }
-
-    -- an item ends the run
-    pub item_fault : (u : Sink W) (q : Answer) → Writes into join s t None
-        → Writes into (item (slots x)) t u (Some q)
-        → Writes into (ItemsAfter (drop i xs)) s u (Some q)
-    item_fault u q j o = record {
-      outcome =
-          rw next_item (and_then _ _ _ _ _ _ j.outcome (fault_first _ _ _ _ q o.outcome));
-      same = same_then s t u j.same o.same;
-    }
-
-    -- an item is done, and the items after it follow
-    pub item_runs : (u : Sink W) (new : Written) (r : Option Answer)
-        → Writes into join s t None → Writes into (item (slots x)) t u None
-        → Outcome (ItemsAfter (drop (i + 1) xs)) (taken_by into u) new r
-        → Outcome (ItemsAfter (drop i xs)) (taken_by into s) new r
-    item_runs u new r j o k =
-        rw next_item (and_then _ _ _ _ _ _ j.outcome (and_then _ _ _ _ _ _ o.outcome k))
-
-  -- no item is left
-  pub items_end : (xs : List F) (i : ℕ) (s : Sink W) → length xs ≤ i
-      → Writes into (ItemsAfter (drop i xs)) s s None
-  items_end xs i s h =
-      record { outcome = rw (drop_all i xs h) (nothing_done _); same = same_end s }
-
-  module _ (xs : List F) (x : F) (rest : List F) (s t : Sink W)
-      (split : xs ≡ x ∷ rest) where
-    -- the first item is done, and the items after it follow
-    pub first_runs : (u : Written) (r : Option Answer) → Writes into (item (slots x)) s t None
-        → Outcome (ItemsAfter (drop 0 rest)) (taken_by into t) u r
-        → Outcome (items_mean join item (map slots xs)) (taken_by into s) u r
-    first_runs u r o k = rw split (and_then _ _ _ _ u r o.outcome k)
-
-    -- the first item ends the run
-    pub first_fault : (q : Answer) → Writes into (item (slots x)) s t (Some q)
-        → Writes into (items_mean join item (map slots xs)) s t (Some q)
-    first_fault q o =
-        record { outcome = rw split (fault_first _ _ _ _ q o.outcome); same = o.same }
 
 -- ---- the pieces of a whole text
 
@@ -328,3 +361,10 @@ pub format_stands :
     (bs : List ℕ) (xs : List Piece) → IsUtf8 bs → StandFor xs (outermost (chars bs))
     → nodes_of bs xs ≡ nodes (outermost (chars bs))
 format_stands bs xs utf8 stand = stand bs utf8 (within_same (outermost (chars bs)))
+
+-- as many are gone through as the text means
+pub text_goes :
+    {X : Type 0} (shows : X → Trait → Spec → Shown) (e f : Environment X) (bs : List ℕ)
+    (xs : List Piece) (a : At) → nodes_of bs xs ≡ nodes a → f ≡ e
+    → (forest_work shows f (as_forest (nodes_of bs xs))).pieces ≡ (text_work shows e a).pieces
+text_goes shows e f bs xs a same is = rw (same, is) refl

@@ -6,7 +6,7 @@ use Rattle.interpolator_render.specs.Views.{Shown}
 use Rattle.interpolator_syntax.specs.Faults.{Fault, parse, expected}
 use Rattle.interpolator_eval.specs.Slots.{Slots}
 use Rattle.interpolator_eval.specs.Meaning.Environments.{Environment}
-use Rattle.interpolator_eval.specs.Meaning.Meanings.{Meaning, items_mean}
+use Rattle.interpolator_eval.specs.Meaning.Meanings.{Meaning}
 use Rattle.interpolator_syntax.specs.Nodes.{as_forest}
 use Rattle.interpolator_eval.specs.Meaning.Meanings.{node_means, forest_means}
 use Rattle.interpolator_eval.specs.Meaning.Meanings.{item_branch_means, join_branch_means}
@@ -50,8 +50,3 @@ module _ {X : Type 0} (shows : X → Trait → Spec → Shown) (e : Environment 
   -- an item of a list
   abbrev pub stored_item_means : Piece → (end : ℕ) → Slots X → Meaning
   stored_item_means x = item_branch_means shows e (branch_of bs (out-Piece x).item)
-
-  -- chosen items, and the join between two of them
-  abbrev pub stored_items_mean : Piece → (end : ℕ) → List (Slots X) → Meaning
-  stored_items_mean x end chosen =
-      items_mean (stored_join_means x) (stored_item_means x end) chosen

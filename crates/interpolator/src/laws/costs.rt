@@ -11,7 +11,7 @@ ghost use Rattle.interpolator_eval.specs.Meaning.Environments.{Environment};
 ghost use Rattle.interpolator_eval.specs.Meaning.Limits.{IsWithin, most_chosen};
 ghost use Rattle.interpolator_eval.specs.Meaning.Meanings.{means};
 ghost use Rattle.interpolator.specs.Template.NodeCosts.{text_cost, usize_cost, ten_and_three};
-ghost use Rattle.interpolator.specs.Template.NodeWork.{text_work};
+ghost use Rattle.interpolator_eval.specs.Meaning.Work.{text_work};
 ghost use Rattle.interpolator.specs.declared.template.cost.Limits.{Limits};
 
 use interpolator_render::Value;

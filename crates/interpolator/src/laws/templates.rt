@@ -27,8 +27,8 @@ ghost use Rattle.interpolator_syntax.specs.declared.piece_kind.PieceKind.TheVari
 
 use crate::template::Template;
 use crate::template::piece::Piece;
-use crate::uncounted::run_uncounted;
-use interpolator_eval::{Context, Environment, Sink};
+use crate::tree::Stored;
+use interpolator_eval::{Context, Environment, Sink, write_uncounted};
 use interpolator_render::{TextWrite, Value};
 use interpolator_syntax::{Error, PieceKind};
 use std::alloc::{AllocError, Global};
@@ -131,7 +131,11 @@ pub fn rest_of_the_pieces_is_written<W: TextWrite, C: Context>(
     let rest = pieces_after(template.pieces(), skipped);
     let mut sink = Sink::Writer(out);
     let environment = Environment::outermost(alloc, context);
-    let answer = run_uncounted(&mut sink, &environment, template.text(), rest);
+    let source = Stored {
+        text: template.text(),
+        pieces: rest,
+    };
+    let answer = write_uncounted(&mut sink, &environment, source);
     match sink {
         Sink::Writer(end) => {
             let _ = end;

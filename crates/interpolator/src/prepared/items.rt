@@ -19,10 +19,9 @@ ghost use Rattle.interpolator.specs.declared.template.piece.Form.TheVariants as 
 ghost use Rattle.interpolator.specs.declared.template.piece.Piece.TheViews.{out-Piece};
 
 use crate::template::piece::{Form, Piece};
-use crate::tree::{closed, name_of, text_of, unboxed};
-use crate::uncounted::run_one_uncounted;
+use crate::tree::{Stored, closed, name_of, text_of, unboxed};
 use interpolator_eval::{
-    Context, Environment, Formattable, Sink, WriteFault, chosen_list, write_slot,
+    Context, Environment, Formattable, Sink, WriteFault, chosen_list, write_slot, write_uncounted,
 };
 use interpolator_render::{Spec, TextWrite, Trait, Value};
 use interpolator_syntax::{Error, PieceKind, Range};
@@ -35,9 +34,10 @@ pub(crate) struct ItemForm {
     pub(crate) end: usize,
 }
 
-/// Writes what pieces of a text mean, in order.
+/// Writes what kept pieces of a text mean: a single list by a loop of its own if its items and its join
+/// are simple, and it is under no width.
 #[inline(never)]
-pub(crate) fn run_each<'a, W: TextWrite, C: Context>(
+pub(crate) fn run_whole<'a, W: TextWrite, C: Context>(
     sink: &mut Sink<'_, W>,
     environment: &Environment<'a, C, C::Object>,
     text: &str,
@@ -48,53 +48,20 @@ pub(crate) fn run_each<'a, W: TextWrite, C: Context>(
         (stored_pieces_mean C.Object.shows (environment_of C.finds environment.now) text.now pieces.now)
         sink.old sink.new (result_answer result) }
 {
-    for piece in pieces {
-        run_alone(sink, environment, text, piece)?;
-    }
-    Ok(())
-}
-
-/// Writes what a list means, or any other piece.
-fn run_alone<'a, W: TextWrite, C: Context>(
-    sink: &mut Sink<'_, W>,
-    environment: &Environment<'a, C, C::Object>,
-    text: &str,
-    piece: &Piece,
-) -> Result<(), Error>
-    requires whole { node_whole (node_of text.now piece.now) ≡ true }
-    ensures writes { Writes W.written
-        (stored_piece_means C.Object.shows (environment_of C.finds environment.now) text.now piece.now)
-        sink.old sink.new (result_answer result) }
-{
-    match &piece.form {
-        Form::List(range) => run_list(sink, environment, text, piece, range),
-        _ => run_one_uncounted(sink, environment, text, piece),
-    }
-}
-
-/// Writes what a list means, by a loop of its own if its items and its join are simple, and it is
-/// under no width.
-fn run_list<'a, W: TextWrite, C: Context>(
-    sink: &mut Sink<'_, W>,
-    environment: &Environment<'a, C, C::Object>,
-    text: &str,
-    piece: &Piece,
-    range: &Option<Box<Range>>,
-) -> Result<(), Error>
-    requires whole { node_whole (node_of text.now piece.now) ≡ true }
-    requires list { (out-Piece piece.now).form ≡ forms.List range.now }
-    ensures writes { Writes W.written
-        (stored_piece_means C.Object.shows (environment_of C.finds environment.now) text.now piece.now)
-        sink.old sink.new (result_answer result) }
-{
+    let [piece] = pieces else {
+        return write_uncounted(sink, environment, Stored { text, pieces });
+    };
+    let Form::List(range) = &piece.form else {
+        return write_uncounted(sink, environment, Stored { text, pieces });
+    };
     if piece.spec.width.is_some() {
-        return run_one_uncounted(sink, environment, text, piece);
+        return write_uncounted(sink, environment, Stored { text, pieces });
     }
     let Some(form) = item_form(text, piece) else {
-        return run_one_uncounted(sink, environment, text, piece);
+        return write_uncounted(sink, environment, Stored { text, pieces });
     };
     let Some((place, join)) = join_form(text, piece) else {
-        return run_one_uncounted(sink, environment, text, piece);
+        return write_uncounted(sink, environment, Stored { text, pieces });
     };
     run_simple_list(sink, environment, text, piece, range, form, place, join)
 }

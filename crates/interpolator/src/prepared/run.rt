@@ -10,7 +10,7 @@ ghost use Rattle.interpolator.specs.Prepared.StoredSteps.{fitting_means, step_of
 ghost use Rattle.interpolator.specs.Prepared.StoredSteps.{whole_step};
 ghost use Rattle.interpolator.specs.Template.Stored.{nodes_of};
 
-use crate::prepared::items::run_each;
+use crate::prepared::items::run_whole;
 use crate::prepared::put::put_step;
 use crate::prepared::step::Step;
 use crate::template::piece::Piece;
@@ -56,7 +56,7 @@ fn run_kept<'a, W: TextWrite, C: Context>(
         (W.written out.old) (W.written out.new) (result_answer result) }
 {
     let mut sink = Sink::Writer(out);
-    let answer = run_each(&mut sink, environment, text, kept);
+    let answer = run_whole(&mut sink, environment, text, kept);
     match sink {
         Sink::Writer(end) => {
             let _ = end;

@@ -1,4 +1,4 @@
--- What a text means: what its pieces mean; and what the scan hands on first, and then the rest.
+-- What a text means: what its pieces mean.
 use Rattle.std.proofs.Common.{◌≡◌, ℕ, ◌+◌, List, [], ◌∷◌, ◌++◌, append-nil, map, length, arith}
 use Rattle.std.proofs.Common.{refl, ap, ◌∙◌, sym, Option, Some, None, append_assoc, length-append}
 use Rattle.std.proofs.lemmas.List.{map-append}
@@ -8,17 +8,14 @@ use Rattle.interpolator_render.specs.declared.view.Spec.{Spec}
 use Rattle.interpolator_render.specs.Views.{Shown}
 use Rattle.interpolator_syntax.specs.At.{At, placed_from, size}
 use Rattle.interpolator_syntax.specs.Faults.{Fault}
-use Rattle.interpolator_syntax.specs.Nodes.{Node, as_forest, piece_node, token_node, nodes}
-use Rattle.interpolator_syntax.specs.Pieces.{piece_from, past, Piece, argument_from, pieces}
+use Rattle.interpolator_syntax.specs.Nodes.{Node, as_forest, piece_node, nodes}
+use Rattle.interpolator_syntax.specs.Pieces.{piece_from, past, Piece, pieces}
 use Rattle.interpolator_syntax.specs.Splits.{literal_nodes, node_alone}
-use Rattle.interpolator_syntax.specs.Tokens.{Token, first_token, past_token, argument}
-use Rattle.interpolator_syntax.proofs.NodeLemmas.{argument_kind, nodes_first, nodes_none}
 use Rattle.interpolator_syntax.proofs.PieceLemmas.{piece_begins, pieces_none, pieces_next}
 use Rattle.interpolator_syntax.proofs.SplitLemmas.{gathered_alone}
 use Rattle.interpolator_eval.specs.Meaning.Environments.{Environment}
 use Rattle.interpolator_eval.specs.Meaning.Meanings.{Meaning, nothing, text_alone, or_fault, chain}
 use Rattle.interpolator_eval.specs.Meaning.Meanings.{node_means, forest_means, means, pieces_mean}
-use Rattle.interpolator_eval.specs.Meaning.Meanings.{argument_from_means}
 
 shift_twice : (a b : ℕ) (ns : List ℕ)
     → map (λ n. a + b + n) ns ≡ map (λ n. a + n) (map (λ n. b + n) ns)
@@ -113,29 +110,3 @@ module _ {X : Type 0} (shows : X → Trait → Spec → Shown) (e : Environment 
       ∙ ap (λ q. chain
       (node_means shows e (piece_node nodes q (q + size s.piece.text) s.piece.kind))
       (means shows e s.rest)) (piece_begins p c (past p c cs))
-
-  -- ---- what the scan hands on
-
-  -- what the scan hands on at p means, with b after it
-  abbrev pub token_means : (p : ℕ) → Token → (b : At) → Meaning
-  token_means p argument b = argument_from_means shows e b
-  token_means p t b = node_means shows e (token_node nodes p t b)
-
-  -- an argument means the same wherever its brace is
-  token_is : (p : ℕ) (t : Token) (b : At)
-      → node_means shows e (token_node nodes p t b) ≡ token_means p t b
-  token_is p argument b =
-      let end = (argument_from b.place b).rest.place in
-      argument_kind (λ k. node_means shows e (piece_node nodes p end k)
-      ≡ node_means shows e (piece_node nodes b.place end k)) b
-      (λ start x q h. (refl, refl), λ f. refl)
-  token_is p t b = refl
-
-  pub means_first : (a : At) (x : Token × At) → first_token a ≡ Some x
-      → means shows e a ≡ chain (token_means a.place x.0 x.1) (means shows e (past_token x.0 x.1))
-  means_first a x h =
-      ap All (nodes_first a x.1 x.0 h)
-      ∙ ap (λ m. chain m (means shows e (past_token x.0 x.1))) (token_is a.place x.0 x.1)
-
-  pub means_end : (a : At) → first_token a ≡ None → means shows e a ≡ nothing
-  means_end a h = ap All (nodes_none a h)

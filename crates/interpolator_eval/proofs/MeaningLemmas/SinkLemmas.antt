@@ -1,10 +1,10 @@
 -- What is written to a sink, one after another.
-use Rattle.std.proofs.Common.{◌≡◌, refl, ◌∙◌, ℕ, List, [], Option, None, Some, option_map, false}
+use Rattle.std.proofs.Common.{◌≡◌, refl, ◌∙◌, ℕ, List, [], ◌∷◌, ◌++◌, Option, None, Some, option_map, false}
 use Rattle.std.proofs.Common.{inl, inr, arith}
 use Rattle.interpolator_render.specs.declared.view.Spec.{Spec}
 use Rattle.interpolator_render.proofs.LayoutLemmas.{appends_none}
 use Rattle.interpolator_render.specs.Written.{Written}
-use Rattle.interpolator_syntax.specs.At.{text_of}
+use Rattle.interpolator_syntax.specs.At.{Placed, text_of}
 use Rattle.interpolator_syntax.specs.Faults.{Fault, Answer, fault, no_memory}
 use Rattle.interpolator_eval.specs.Meaning.Meanings.{Meaning, nothing, fault_alone, made_whole, chain}
 use Rattle.interpolator_eval.specs.Meaning.Outcomes.{Outcome}
@@ -35,6 +35,16 @@ nothing_done s = stops nothing s None refl refl
 
 pub ended : (f : Fault) (s : Written) → Outcome (fault_alone f) s s (Some (fault f))
 ended f s = stops (fault_alone f) s (Some (fault f)) refl refl
+
+-- where nothing is meant no fault is told
+pub nothing_fails : (s t : Written) (q : Answer) → Outcome nothing s t (Some q) → ⊥
+nothing_fails s t q (inl k) = let told = k.told in cc
+nothing_fails s t q (inr (inl k)) = by_front k.front k.split
+  where
+    by_front : (front : Placed) → [] ≡ front ++ ((k.c, k.place) ∷ k.back) → ⊥
+    by_front [] split = cc
+    by_front (x ∷ front) split = cc
+nothing_fails s t q (inr (inr k)) = omega (arith, k.point.1)
 
 pub same_end : {W : Type 0} (s : Sink W) → SameEnd s s
 same_end (Writer out) = refl

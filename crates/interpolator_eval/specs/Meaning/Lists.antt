@@ -1,10 +1,7 @@
--- Lists: what an argument asks for as the code has it, and a text that is made whole.
+-- Lists: what is written under a name, and a text that is made whole.
 use Rattle.std.specs.Prelude.{◌≡◌, ℕ, List, Option, Some, option_map}
 use Rattle.interpolator_render.specs.declared.view.Spec.{Spec}
 use Rattle.interpolator_syntax.specs.At.{text_of}
-use Rattle.interpolator_syntax.specs.Arguments.{list_of}
-use Rattle.interpolator_syntax.specs.SpecTexts.{Request, of_list}
-use Rattle.interpolator_syntax.specs.declared.argument.Request as code_request
 use Rattle.interpolator_syntax.specs.declared.range.Range.{Range}
 use Rattle.interpolator_syntax.specs.declared.error.Error.{Error}
 use Rattle.interpolator_syntax.specs.Faults.{answer_of}
@@ -15,10 +12,6 @@ use Rattle.interpolator_eval.specs.Meaning.Environments.{Environment, slots_unde
 use Rattle.interpolator_eval.specs.Meaning.Meanings.{Meaning, made_whole, under_name, listed_means}
 use Rattle.interpolator_eval.specs.Meaning.Meanings.{padded_list, items_mean}
 use Rattle.interpolator_eval.specs.Meaning.Outcomes.{Outcome}
-
--- a list in that form, under that spec
-abbrev pub list_under : code_request.Request → Request
-list_under x = record { spec = x.spec; kind = of_list (list_of x.list) }
 
 -- a list whose text is made whole and padded, by what its items mean
 abbrev pub padded_list_means : Spec → (end : ℕ) → Meaning → Meaning

@@ -19,11 +19,10 @@ use Rattle.interpolator_syntax.specs.Nodes.{Node, node, Branch, no_branch, branc
 use Rattle.interpolator_syntax.specs.Nodes.{Forest, no_nodes, nodes_and, nodes}
 use Rattle.interpolator_syntax.specs.Nodes.{Content, text_content, argument_content, fault_content}
 use Rattle.interpolator_syntax.specs.Nodes.{Target, target_value, target_list}
-use Rattle.interpolator_syntax.specs.Nodes.{group_branch, argument_node, token_node}
+use Rattle.interpolator_syntax.specs.Nodes.{group_branch, argument_node}
 use Rattle.interpolator_syntax.specs.Pieces.{Piece}
 use Rattle.interpolator_syntax.specs.SpecTexts.{plain_spec}
 use Rattle.interpolator_syntax.specs.Splits.{node_alone}
-use Rattle.interpolator_syntax.specs.Tokens.{argument}
 use Rattle.interpolator_syntax.specs.declared.piece_kind.PieceKind.{PieceKind}
 use Rattle.interpolator_syntax.specs.declared.piece_kind.PieceKind.TheVariants.{Closed, Unclosed}
 use Rattle.interpolator_syntax.specs.declared.range.Range.{Range}
@@ -191,10 +190,6 @@ module _ {X : Type 0} (shows : X → Trait → Spec → Shown) where
     -- what an argument means that starts at `start`, has its spec up to `end` and is closed
     abbrev pub argument_means : (start : ℕ) → Argument → (end : ℕ) → Meaning
     argument_means start x end = node_means e (argument_node nodes start end Closed start x end)
-
-    -- the argument that begins at b, after its brace
-    abbrev pub argument_from_means : At → Meaning
-    argument_from_means b = node_means e (token_node nodes b.place argument b)
 
     -- an item, by its format if it has one
     abbrev pub item_means : (end : ℕ) → Option Group → Slots X → Meaning

@@ -1,34 +1,31 @@
-//! Writes what a text means, up to the first fault: callers first, as one reads.
-ghost use Rattle.std.specs.Prelude.{◌≡◌, IfOk, None, Some, map, option_map};
-ghost use Rattle.interpolator_syntax.specs.At.{at, strip};
-ghost use Rattle.interpolator_syntax.specs.Classes.{close_brace};
-ghost use Rattle.interpolator_syntax.specs.Arguments.{argument_at, argument_after, plain_argument};
-ghost use Rattle.interpolator_syntax.specs.Arguments.{named_argument, request_of, list_of};
-ghost use Rattle.interpolator_syntax.specs.Groups.{group_of};
+//! Writes what a format means, up to the first fault: callers first, as one reads.
+ghost use Rattle.std.specs.Prelude.{◌≡◌, ◌+◌, ◌-◌, ◌<◌, ◌≤◌, IfOk, None, Some, map};
+ghost use Rattle.interpolator_syntax.specs.At.{at};
 ghost use Rattle.interpolator_syntax.specs.Faults.{result_answer};
-ghost use Rattle.interpolator_eval.specs.Meaning.Meanings.{means, argument_means, argument_from_means};
-ghost use Rattle.interpolator_eval.specs.Meaning.Meanings.{chosen_means, item_means, join_means};
-ghost use Rattle.interpolator_eval.specs.Meaning.Lists.{list_under, padded_list_means};
-ghost use Rattle.interpolator_syntax.specs.Pieces.{argument_from};
 ghost use Rattle.interpolator_eval.specs.Meaning.CodeEnvironments.{environment_of};
+ghost use Rattle.interpolator_eval.specs.Meaning.Lists.{padded_list_means};
+ghost use Rattle.interpolator_eval.specs.Meaning.Meanings.{means, forest_means};
 ghost use Rattle.interpolator_eval.specs.Meaning.Sinks.{Writes};
+ghost use Rattle.interpolator_eval.specs.Meaning.Sources.{empty_counts, its_argument, its_item};
+ghost use Rattle.interpolator_eval.specs.Meaning.Sources.{its_item_work, its_items, its_items_work};
+ghost use Rattle.interpolator_eval.specs.Meaning.Sources.{its_join, its_join_work, its_list};
+ghost use Rattle.interpolator_eval.specs.Meaning.Sources.{its_list_work};
+ghost use Rattle.interpolator_eval.specs.Meaning.Work.{forest_work};
 ghost use Rattle.interpolator_eval.specs.Slots.{slots_of};
 
 use crate::context::Context;
 use crate::meaning::environment::Environment;
 use crate::meaning::sink::Sink;
-use crate::meaning::value::{
-    chosen_list, list_buffer, write_plain_item, write_plain_value, write_value,
-};
+use crate::meaning::source::FormatSource;
+use crate::meaning::value::{list_buffer, write_plain_item};
 use crate::slots::Formattable;
-use interpolator_render::{Spec, TextWrite, Trait};
-use interpolator_syntax::{
-    ArgumentName, Cursor, Error, Group, ListForm, ParseError, Request, Token, inside, next_token,
-    take_name, take_request,
-};
+use crate::tally::Tally;
+use interpolator_render::TextWrite;
+use interpolator_syntax::{Cursor, Error, ParseError};
+use std::marker::Brand;
+use std::sync::ledger::{Blank, Ledger};
 
-/// Writes what a text means, token by token.
-#[cycle(evaluate)]
+/// Writes what a text means.
 pub fn write_text<'a, W: TextWrite, C: Context>(
     sink: &mut Sink<'_, W>,
     environment: &Environment<'a, C, C::Object>,
@@ -38,166 +35,160 @@ pub fn write_text<'a, W: TextWrite, C: Context>(
         (means C.Object.shows (environment_of C.finds environment.now) (at text.entry))
         sink.old sink.new (result_answer result) }
 {
-    let mut here = text;
-    while let Some((token, rest)) = next_token(here) {
-        here = match token {
-            Token::Literals(run) => {
-                sink.put_run(run, here.place)?;
-                rest
-            }
-            Token::Doubled(brace) => {
-                sink.put_char(brace, here.place)?;
-                rest
-            }
-            Token::LoneClose => {
-                sink.put_char('}', here.place)?;
-                rest
-            }
-            Token::Argument => write_argument(sink, environment, rest)?,
-        };
+    write_uncounted(sink, environment, text)?;
+    Ok(())
+}
+
+/// Writes what the pieces of a source mean, for a caller that does not ask how many there are.
+#[inline(always)]
+pub fn write_uncounted<'a, W: TextWrite, C: Context, S: FormatSource>(
+    sink: &mut Sink<'_, W>,
+    environment: &Environment<'a, C, C::Object>,
+    source: S,
+) -> Result<(), Error>
+    ensures writes { Writes W.written
+        (forest_means C.Object.shows (environment_of C.finds environment.now) (S.tree source))
+        sink.old sink.new (result_answer result) }
+{
+    write_on::<W, C, S, Brand>(sink, environment, source, Blank::new(1))?;
+    Ok(())
+}
+
+/// Writes what the pieces of a source mean, and counts from a blank ledger.
+#[inline(always)]
+fn write_on<'a, W: TextWrite, C: Context, S: FormatSource, L: Ledger>(
+    sink: &mut Sink<'_, W>,
+    environment: &Environment<'a, C, C::Object>,
+    source: S,
+    blank: Blank,
+) -> Result<(), Error>
+    requires name { blank.name ≡ L.name }
+    requires parts { blank.parts ≡ L.parts }
+    requires some { 0 < blank.parts }
+    ensures writes { Writes W.written
+        (forest_means C.Object.shows (environment_of C.finds environment.now) (S.tree source))
+        sink.old sink.new (result_answer result) }
+{
+    let mut tally = Tally::<L>::open(blank);
+    write_source(sink, environment, source, &mut tally)?;
+    Ok(())
+}
+
+/// Writes what the pieces of a source mean, in order, and counts those that it goes through.
+#[inline(always)]
+pub fn write_source<'a, W: TextWrite, C: Context, S: FormatSource, L: Ledger>(
+    sink: &mut Sink<'_, W>,
+    environment: &Environment<'a, C, C::Object>,
+    source: S,
+    tally: &mut Tally<L>,
+) -> Result<(), Error>
+    ensures writes { Writes W.written
+        (forest_means C.Object.shows (environment_of C.finds environment.now) (S.tree source))
+        sink.old sink.new (result_answer result) }
+    ensures gone { tally.new ≤ tally.old + (forest_work C.Object.shows
+        (environment_of C.finds environment.now) (S.tree source)).pieces }
+{
+    let mut room = source.no_list();
+    write_with::<W, C, S, L>(sink, environment, source, &mut room, tally)?;
+    Ok(())
+}
+
+/// Writes what the pieces of a source mean, as [`write_source`]. Each list that is met is put into
+/// `room`, which is made once for all items of a list, since it is zeroed first.
+#[cycle(evaluate)]
+fn write_with<'a, W: TextWrite, C: Context, S: FormatSource, L: Ledger>(
+    sink: &mut Sink<'_, W>,
+    environment: &Environment<'a, C, C::Object>,
+    source: S,
+    room: &mut S::List,
+    tally: &mut Tally<L>,
+) -> Result<(), Error>
+    ensures writes { Writes W.written
+        (forest_means C.Object.shows (environment_of C.finds environment.now) (S.tree source))
+        sink.old sink.new (result_answer result) }
+    ensures gone { tally.new ≤ tally.old + (forest_work C.Object.shows
+        (environment_of C.finds environment.now) (S.tree source)).pieces }
+{
+    let mut here = source;
+    while here.write_to_list(sink, environment, room, tally)? {
+        here = write_argument::<W, C, S, L>(sink, environment, room, tally)?;
     }
     Ok(())
 }
 
-/// Writes what the argument means that begins here, after its brace. Returns what follows its
-/// closing brace. A name alone has a function of its own: there the compiler knows what is asked.
-#[cycle(evaluate)]
-fn write_argument<'t, 'a, W: TextWrite, C: Context>(
-    sink: &mut Sink<'_, W>,
-    environment: &Environment<'a, C, C::Object>,
-    here: Cursor<'t>,
-) -> Result<Cursor<'t>, Error>
-    ensures writes { Writes W.written
-        (argument_from_means C.Object.shows (environment_of C.finds environment.now) (at here.entry))
-        sink.old sink.new (result_answer result) }
-    ensures rest { IfOk result (λ r. at r ≡ (argument_from here.entry.place (at here.entry)).rest) }
-{
-    let named = take_name(here);
-    match named.end.strip(b'}') {
-        Some(after) => {
-            write_alone(sink, environment, here.place, named)?;
-            Ok(after)
-        }
-        None => write_asked(sink, environment, here, named),
-    }
-}
-
-/// Writes the value of a name alone, for an argument that starts at `start`.
-#[inline(always)]
-fn write_alone<'a, W: TextWrite, C: Context>(
-    sink: &mut Sink<'_, W>,
-    environment: &Environment<'a, C, C::Object>,
-    start: usize,
-    named: ArgumentName<'_>,
-) -> Result<(), Error>
-    ensures writes { Writes W.written
-        (argument_means C.Object.shows (environment_of C.finds environment.now)
-        start (plain_argument named.entry) named.entry.end.place)
-        sink.old sink.new (result_answer result) }
-{
-    write_plain_value(sink, environment, start, named.name, named.end.place)
-}
-
-/// Writes what the argument means that begins here and has that name, with more after it. Returns
-/// what follows its closing brace.
+/// Writes the list that was met. Returns what follows the closing brace of its argument.
 #[cycle(evaluate)]
 #[inline(always)]
-fn write_asked<'t, 'a, W: TextWrite, C: Context>(
+fn write_argument<'a, W: TextWrite, C: Context, S: FormatSource, L: Ledger>(
     sink: &mut Sink<'_, W>,
     environment: &Environment<'a, C, C::Object>,
-    here: Cursor<'t>,
-    named: ArgumentName<'t>,
-) -> Result<Cursor<'t>, Error>
-    requires open { strip close_brace (at named.end) ≡ None }
-    requires named { argument_at (at here)
-        ≡ argument_after here.place (plain_argument named) (at named.end) }
+    list: &S::List,
+    tally: &mut Tally<L>,
+) -> Result<S, Error>
+    requires met { S.is_met list.now }
     ensures writes { Writes W.written
-        (argument_from_means C.Object.shows (environment_of C.finds environment.now) (at here.entry))
+        (its_argument C.Object.shows (environment_of C.finds environment.now) (S.asks list.now)
+        (S.follows list.now))
         sink.old sink.new (result_answer result) }
-    ensures rest { IfOk result (λ r. at r ≡ (argument_from here.entry.place (at here.entry)).rest) }
+    ensures rest { IfOk result (λ rest. S.follows list.now ≡ Some (S.tree rest)) }
+    ensures gone { tally.new ≤ tally.old + (its_list_work C.Object.shows
+        (environment_of C.finds environment.now) (S.asks list.now)).pieces }
 {
-    let mut end = named.end;
-    let mut asked = Request::plain();
-    match take_request(&mut end, &mut asked, here.place) {
-        Ok(()) => {}
-        Err(fault) => return Err(Error::from(fault)),
-    }
-    write_named(sink, environment, here.place, named, &asked, end.place)?;
-    match end.strip(b'}') {
-        Some(after) => Ok(after),
-        None => Err(Error::Parse(ParseError::Expected("}", end.place))),
+    write_list::<W, C, S, L>(sink, environment, list, tally)?;
+    match S::rest(list) {
+        Some(rest) => Ok(rest),
+        None => Err(Error::Parse(ParseError::Expected("}", S::end(list)))),
     }
 }
 
-/// Writes what is asked of a name, for an argument that starts at `start` and whose spec ends at
-/// `end`.
-#[cycle(evaluate)]
-#[inline(always)]
-fn write_named<'a, W: TextWrite, C: Context>(
-    sink: &mut Sink<'_, W>,
-    environment: &Environment<'a, C, C::Object>,
-    start: usize,
-    named: ArgumentName<'_>,
-    asked: &Request<'_>,
-    end: usize,
-) -> Result<(), Error>
-    ensures writes { Writes W.written
-        (argument_means C.Object.shows (environment_of C.finds environment.now)
-        start (named_argument named.entry (request_of asked.now)) end)
-        sink.old sink.new (result_answer result) }
-{
-    match asked.slot {
-        Trait::Iter => write_list(sink, environment, start, named, asked, end),
-        t => write_value(sink, environment, start, named.name, t, &asked.spec, end),
-    }
-}
-
-/// Writes the list under a name, for an argument that starts at `start` and whose spec ends at
-/// `end`.
+/// Writes the list that was met.
 #[cycle(evaluate)]
 #[inline(never)]
-fn write_list<'a, W: TextWrite, C: Context>(
+fn write_list<'a, W: TextWrite, C: Context, S: FormatSource, L: Ledger>(
     sink: &mut Sink<'_, W>,
     environment: &Environment<'a, C, C::Object>,
-    start: usize,
-    named: ArgumentName<'_>,
-    asked: &Request<'_>,
-    end: usize,
+    list: &S::List,
+    tally: &mut Tally<L>,
 ) -> Result<(), Error>
+    requires met { S.is_met list.now }
     ensures writes { Writes W.written
-        (argument_means C.Object.shows (environment_of C.finds environment.now)
-        start (named_argument named.entry (list_under asked.now)) end)
+        (its_list C.Object.shows (environment_of C.finds environment.now) (S.asks list.now))
         sink.old sink.new (result_answer result) }
+    ensures gone { tally.new ≤ tally.old + (its_list_work C.Object.shows
+        (environment_of C.finds environment.now) (S.asks list.now)).pieces }
 {
-    let spec = &asked.spec;
-    let items = chosen_list(environment, start, named.name, asked.list.range, spec, end)?;
-    if spec.width.is_some() {
-        write_padded_list(sink, environment, items, &asked.list, spec, end)
+    let items = S::items(list, environment)?;
+    if S::has_width(list) {
+        write_padded_list::<W, C, S, L>(sink, environment, list, items, tally)?;
+        Ok(())
     } else {
-        write_items(sink, environment, items, &asked.list, end)
+        write_items::<W, C, S, L>(sink, environment, list, items, tally)?;
+        Ok(())
     }
 }
 
 /// Makes the text of the items in a buffer, and then writes it padded to the width.
 #[cycle(evaluate)]
-fn write_padded_list<'a, W: TextWrite, C: Context>(
+fn write_padded_list<'a, W: TextWrite, C: Context, S: FormatSource, L: Ledger>(
     sink: &mut Sink<'_, W>,
     environment: &Environment<'a, C, C::Object>,
+    list: &S::List,
     items: &'a [Formattable<'a, C::Object>],
-    form: &ListForm<'_>,
-    spec: &Spec,
-    end: usize,
+    tally: &mut Tally<L>,
 ) -> Result<(), Error>
-    requires no_precision { spec.now.precision ≡ None }
+    requires met { S.is_met list.now }
+    requires no_precision { (S.asks list.now).spec.precision ≡ None }
     ensures writes { Writes W.written
-        (padded_list_means spec.now end
-        (chosen_means C.Object.shows (environment_of C.finds environment.now)
-        (list_of form.now) end (map slots_of items.now)))
+        (padded_list_means (S.asks list.now).spec (S.asks list.now).end
+        (its_items C.Object.shows (environment_of C.finds environment.now) (S.asks list.now)
+        (map slots_of items.now)))
         sink.old sink.new (result_answer result) }
+    ensures gone { tally.new ≤ tally.old + (its_items_work C.Object.shows
+        (environment_of C.finds environment.now) (S.asks list.now) (map slots_of items.now)).pieces }
 {
     let mut made = list_buffer(sink, environment);
     let mut inner: Sink<'_, W> = Sink::Aside(&mut made);
-    let answer = write_items(&mut inner, environment, items, form, end);
+    let answer = write_items::<W, C, S, L>(&mut inner, environment, list, items, tally);
     match inner {
         Sink::Writer(_) => unreachable!(),
         Sink::Aside(buffer) => {
@@ -205,76 +196,102 @@ fn write_padded_list<'a, W: TextWrite, C: Context>(
                 return Err(Error::NoMemory);
             }
             answer?;
-            sink.put_padded(buffer.as_str(), spec, end)?;
+            sink.put_padded(buffer.as_str(), &S::spec(list), S::end(list))?;
             Ok(())
         }
     }
 }
 
-/// Writes items of a list, and the join between two of them, for an argument whose spec ends at
-/// `end`.
+/// Writes items of a list, and the join between two of them.
 #[cycle(evaluate)]
-fn write_items<'a, W: TextWrite, C: Context>(
+fn write_items<'a, W: TextWrite, C: Context, S: FormatSource, L: Ledger>(
     sink: &mut Sink<'_, W>,
     environment: &Environment<'a, C, C::Object>,
+    list: &S::List,
     items: &'a [Formattable<'a, C::Object>],
-    form: &ListForm<'_>,
-    end: usize,
+    tally: &mut Tally<L>,
 ) -> Result<(), Error>
+    requires met { S.is_met list.now }
     ensures writes { Writes W.written
-        (chosen_means C.Object.shows (environment_of C.finds environment.now)
-        (list_of form.now) end (map slots_of items.now))
+        (its_items C.Object.shows (environment_of C.finds environment.now) (S.asks list.now)
+        (map slots_of items.now))
         sink.old sink.new (result_answer result) }
+    ensures gone { tally.new ≤ tally.old + (its_items_work C.Object.shows
+        (environment_of C.finds environment.now) (S.asks list.now) (map slots_of items.now)).pieces }
 {
     let Some((first, rest)) = items.split_first() else {
         return Ok(());
     };
-    write_item(sink, environment, first, form.item, end)?;
+    let mut room = *list;
+    write_item::<W, C, S, L>(sink, environment, list, first, &mut room, tally)?;
     for item in rest {
-        write_join(sink, environment, form.join)?;
-        write_item(sink, environment, item, form.item, end)?;
+        write_join::<W, C, S, L>(sink, environment, list, &mut room, tally)?;
+        write_item::<W, C, S, L>(sink, environment, list, item, &mut room, tally)?;
     }
     Ok(())
 }
 
-/// Writes one item of a list, for an argument whose spec ends at `end`.
+/// Writes one item of a list. `room` is for a list in its format.
 #[cycle(evaluate)]
-fn write_item<'a, W: TextWrite, C: Context>(
+fn write_item<'a, W: TextWrite, C: Context, S: FormatSource, L: Ledger>(
     sink: &mut Sink<'_, W>,
     environment: &Environment<'a, C, C::Object>,
+    list: &S::List,
     item: &'a Formattable<'a, C::Object>,
-    format: Option<Group<'_>>,
-    end: usize,
+    room: &mut S::List,
+    tally: &mut Tally<L>,
 ) -> Result<(), Error>
+    requires met { S.is_met list.now }
     ensures writes { Writes W.written
-        (item_means C.Object.shows (environment_of C.finds environment.now) end
-        (option_map group_of format.entry) (slots_of item.now))
+        (its_item C.Object.shows (environment_of C.finds environment.now) (S.asks list.now)
+        (slots_of item.now))
         sink.old sink.new (result_answer result) }
+    ensures gone { tally.new ≤ tally.old + (its_item_work C.Object.shows
+        (environment_of C.finds environment.now) (S.asks list.now) (slots_of item.now)).pieces }
 {
-    match format {
-        Some(group) => {
-            write_text(sink, &environment.bind(item), inside(group))?;
+    match S::item(list) {
+        Some(format) => {
+            count_empty(format, tally);
+            write_with::<W, C, S, L>(sink, &environment.bind(item), format, room, tally)?;
             Ok(())
         }
-        None => write_plain_item(sink, item, end),
+        None => {
+            tally.tick();
+            write_plain_item(sink, item, S::end(list))?;
+            Ok(())
+        }
     }
 }
 
-/// Writes what comes between two items.
+/// Counts an item whose format is empty as one piece.
+#[inline(always)]
+fn count_empty<S: FormatSource, L: Ledger>(format: S, tally: &mut Tally<L>)
+    ensures most { tally.new ≤ tally.old + empty_counts (S.tree format) }
+{
+    if format.is_empty() {
+        tally.tick();
+    }
+}
+
+/// Writes what comes between two items. `room` is for a list in it.
 #[cycle(evaluate)]
-fn write_join<'a, W: TextWrite, C: Context>(
+fn write_join<'a, W: TextWrite, C: Context, S: FormatSource, L: Ledger>(
     sink: &mut Sink<'_, W>,
     environment: &Environment<'a, C, C::Object>,
-    format: Option<Group<'_>>,
+    list: &S::List,
+    room: &mut S::List,
+    tally: &mut Tally<L>,
 ) -> Result<(), Error>
+    requires met { S.is_met list.now }
     ensures writes { Writes W.written
-        (join_means C.Object.shows (environment_of C.finds environment.now)
-        (option_map group_of format.entry))
+        (its_join C.Object.shows (environment_of C.finds environment.now) (S.asks list.now))
         sink.old sink.new (result_answer result) }
+    ensures gone { tally.new ≤ tally.old + (its_join_work C.Object.shows
+        (environment_of C.finds environment.now) (S.asks list.now)).pieces }
 {
-    match format {
-        Some(group) => {
-            write_text(sink, environment, inside(group))?;
+    match S::join(list) {
+        Some(format) => {
+            write_with::<W, C, S, L>(sink, environment, format, room, tally)?;
             Ok(())
         }
         None => Ok(()),

@@ -6,13 +6,12 @@ use Rattle.interpolator_syntax.proofs.CharacterLemmas.{size-chars}
 use Rattle.interpolator_eval.proofs.MeaningLemmas.AskedLemmas.{asked_outcome}
 use Rattle.interpolator_eval.proofs.MeaningLemmas.PlaceLemmas.{outcome_lies_from}
 use Rattle.interpolator.proofs.TemplateLemmas.CostLawLemmas.{text_at_most}
-use Rattle.interpolator.proofs.TemplateLemmas.RunLemmas.{text_whole, text_outcome}
-use Rattle.interpolator.proofs.TemplateLemmas.WorkLemmas.{text_goes}
+use Rattle.interpolator.proofs.TemplateLemmas.RunLemmas.{text_goes, text_outcome, text_whole}
 use Rattle.interpolator.proofs.functions.write_counted.Goals as goal
 
-pub run_pieces-answer-requires : goal.run_pieces-answer-requires
-run_pieces-answer-requires g c = record {
-  whole =
+pub invariant_of-source : goal.invariant_of-source
+invariant_of-source g c = record {
+  fits =
       text_whole c.args.format.now c.args.pieces.now (outermost (chars c.args.format.now))
       c.requires.pieces;
 }
@@ -21,8 +20,8 @@ pub returns-clause-outcome : goal.returns-clause-outcome
 returns-clause-outcome g c =
     let e = environment (g.C.Context.finds c.args.context.now) in
     let o = text_outcome c.args.format.now c.args.pieces.now (outermost (chars c.args.format.now))
-    c.requires.pieces g.C.Object.Value.shows e _ _ _ _ c.outermost.ensures
-    (rw c.in-Writer.is at c.run_pieces-answer.ensures.writes.outcome) in
+    c.requires.pieces g.C.Object.Value.shows e _ _ _ _ c.outermost-environment.ensures
+    (rw c.in-Writer.is at c.write_source-answer.ensures.writes.outcome) in
     search rules
 
 pub returns-clause-asked : goal.returns-clause-asked
@@ -30,8 +29,8 @@ returns-clause-asked g c =
     let e = environment (g.C.Context.finds c.args.context.now) in
     let a = outermost (chars c.args.format.now) in
     let o = text_outcome c.args.format.now c.args.pieces.now a c.requires.pieces
-    g.C.Object.Value.shows e _ _ _ _ c.outermost.ensures
-    (rw c.in-Writer.is at c.run_pieces-answer.ensures.writes.outcome) in
+    g.C.Object.Value.shows e _ _ _ _ c.outermost-environment.ensures
+    (rw c.in-Writer.is at c.write_source-answer.ensures.writes.outcome) in
     asked_outcome g.C.Object.Value.shows e a _ _ _ (search rules)
 
 pub returns-clause-place : goal.returns-clause-place
@@ -41,8 +40,8 @@ returns-clause-place g c =
     outcome_lies_from g.C.Object.Value.shows e 0 (chars c.args.format.now)
     (length c.args.format.now) _ _ _ (omega (arith, size-chars c.args.format.now c.utf8.format))
     (text_outcome c.args.format.now c.args.pieces.now a c.requires.pieces
-    g.C.Object.Value.shows e _ _ _ _ c.outermost.ensures
-    (rw c.in-Writer.is at c.run_pieces-answer.ensures.writes.outcome))
+    g.C.Object.Value.shows e _ _ _ _ c.outermost-environment.ensures
+    (rw c.in-Writer.is at c.write_source-answer.ensures.writes.outcome))
 
 pub returns-clause-gone : goal.returns-clause-gone
 returns-clause-gone g c =
@@ -50,8 +49,8 @@ returns-clause-gone g c =
     let a = outermost (chars c.args.format.now) in
     let shows = g.C.Object.Value.shows in
     let goes = text_goes shows e _ c.args.format.now c.args.pieces.now a c.requires.pieces
-    c.outermost.ensures in
-    omega (arith, c.run_pieces-answer.ensures.gone, goes)
+    c.outermost-environment.ensures in
+    omega (arith, c.write_source-answer.ensures.gone, goes)
 
 pub returns-clause-within : goal.returns-clause-within
 returns-clause-within g c limits within =
@@ -59,6 +58,6 @@ returns-clause-within g c limits within =
     let a = outermost (chars c.args.format.now) in
     let shows = g.C.Object.Value.shows in
     let goes = text_goes shows e _ c.args.format.now c.args.pieces.now a c.requires.pieces
-    c.outermost.ensures in
+    c.outermost-environment.ensures in
     let cost = text_at_most shows limits e a within in
-    omega (arith, c.run_pieces-answer.ensures.gone, goes, cost.pieces)
+    omega (arith, c.write_source-answer.ensures.gone, goes, cost.pieces)

@@ -6,12 +6,12 @@ use Rattle.interpolator.specs.Template.Stored.{nodes_of}
 use Rattle.interpolator.proofs.TemplateLemmas.RunLemmas.{rest_whole, rest_outcome}
 use Rattle.interpolator.proofs.laws.templates.rest_of_the_pieces_is_written.Goals as goal
 
-pub run_uncounted-answer-requires : goal.run_uncounted-answer-requires
-run_uncounted-answer-requires g c =
+pub invariant_of-source : goal.invariant_of-source
+invariant_of-source g c =
     let all =
     ap (λ bs. nodes_of bs c.pieces.result.now) c.text.ensures.text ∙ c.pieces.ensures.pieces in
     rw c.pieces_after-rest.ensures (record {
-      whole =
+      fits =
           rest_whole c.text.result.now c.pieces.result.now (outermost (chars c.args.template.now))
           all c.args.skipped;
     })
@@ -24,5 +24,5 @@ returns g c =
     (outermost (chars c.args.template.now)) all c.args.skipped g.C.Object.Value.shows
     (environment (g.C.Context.finds c.args.context.now)) _ _ _ _ c.outermost-environment.ensures
     (rw (c.pieces_after-rest.ensures, c.in-Writer.is) at
-    c.run_uncounted-answer.ensures.writes.outcome) in
+    c.write_uncounted-answer.ensures.writes.outcome) in
     record { outcome = search rules }

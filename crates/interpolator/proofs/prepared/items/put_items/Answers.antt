@@ -6,8 +6,8 @@ use Rattle.interpolator_eval.specs.Meaning.Meanings.{text_alone}
 use Rattle.interpolator_eval.specs.Slots.{slots_of}
 use Rattle.interpolator_eval.proofs.MeaningLemmas.SinkLemmas.{goes_on, same_then}
 use Rattle.interpolator.specs.Prepared.Items.{value_under}
-use Rattle.interpolator.proofs.TemplateLemmas.RunLemmas.{first_fault, first_runs, item_fault}
-use Rattle.interpolator.proofs.TemplateLemmas.RunLemmas.{item_runs, items_end, join_fault}
+use Rattle.interpolator_eval.proofs.MeaningLemmas.ListLemmas.{first_fault, first_runs, item_fault}
+use Rattle.interpolator_eval.proofs.MeaningLemmas.ListLemmas.{item_runs, items_end, join_fault}
 use Rattle.interpolator.proofs.prepared.items.put_items.Goals as goal
 
 pub put_run-requires : goal.put_run-requires

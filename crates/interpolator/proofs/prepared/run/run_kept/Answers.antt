@@ -4,8 +4,8 @@ use Rattle.interpolator.specs.Template.Stored.{nodes_of}
 use Rattle.interpolator.proofs.PreparedLemmas.CopyLemmas.{kept_whole, kept_writes}
 use Rattle.interpolator.proofs.prepared.run.run_kept.Goals as goal
 
-pub run_each-answer-requires : goal.run_each-answer-requires
-run_each-answer-requires g c =
+pub run_whole-answer-requires : goal.run_whole-answer-requires
+run_whole-answer-requires g c =
     record { whole = kept_whole (nodes_of c.args.text.now c.args.kept.now) c.requires.fits }
 
 pub returns : goal.returns
@@ -15,6 +15,6 @@ returns g c =
           let o = kept_writes g.C.Object.Value.shows
           (environment_of g.C.Context.finds c.args.environment.now) value_at
           (nodes_of c.args.text.now c.args.kept.now) _ _ _ c.requires.fits
-          (rw c.in-Writer.is at c.run_each-answer.ensures.writes.outcome) in
+          (rw c.in-Writer.is at c.run_whole-answer.ensures.writes.outcome) in
           search rules;
     }

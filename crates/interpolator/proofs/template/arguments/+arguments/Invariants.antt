@@ -3,7 +3,7 @@ use Rattle.std.specs.Str.{chars}
 use Rattle.interpolator_syntax.specs.Arguments.{argument_of, kind_of}
 use Rattle.interpolator_syntax.specs.At.{at}
 use Rattle.interpolator_syntax.specs.Groups.{group_of}
-use Rattle.interpolator_eval.proofs.MeaningLemmas.ListLemmas.{group_size, kind_size}
+use Rattle.interpolator_eval.proofs.MeaningLemmas.GroupSizeLemmas.{group_size, kind_size}
 use Rattle.interpolator.proofs.TemplateLemmas.AllArgumentLemmas.{Gathering}
 use Rattle.interpolator.proofs.template.arguments.+arguments.Given as goal
 

@@ -4,7 +4,7 @@ use Rattle.std.specs.Str.{chars}
 use Rattle.interpolator_syntax.specs.At.{at}
 use Rattle.interpolator_syntax.specs.Tokens.{literals, doubled, lone_close, argument, first_token}
 use Rattle.interpolator_syntax.proofs.TokenLemmas.{scan_shorter, token_shorter}
-use Rattle.interpolator_eval.proofs.MeaningLemmas.RunLemmas.{asked_ok, asked_broken}
+use Rattle.interpolator_eval.proofs.MeaningLemmas.ScanLemmas.{asked_ok, asked_broken}
 use Rattle.interpolator.proofs.TemplateLemmas.WithinLemmas.{after_front, within_same}
 use Rattle.interpolator_syntax.proofs.HandedLemmas.{handed_on}
 use Rattle.interpolator.proofs.TemplateLemmas.ParseLemmas.{rest_is, list_pushed, list_within}

@@ -2,7 +2,7 @@ use Rattle.std.proofs.Common.{length, ◌+◌, ◌*◌, option_map}
 use Rattle.std.specs.Str.{chars}
 use Rattle.interpolator_syntax.specs.At.{at}
 use Rattle.interpolator_syntax.specs.Groups.{group_of}
-use Rattle.interpolator_eval.proofs.MeaningLemmas.ListLemmas.{group_size}
+use Rattle.interpolator_eval.proofs.MeaningLemmas.GroupSizeLemmas.{group_size}
 use Rattle.interpolator.proofs.TemplateLemmas.ParseLemmas.{Reading}
 use Rattle.interpolator.proofs.template.parse.+parse.Given as goal
 

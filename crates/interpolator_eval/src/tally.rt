@@ -13,7 +13,7 @@ use std::sync::ledger::{Blank, Book, Ledger, Share};
 /// tally.tick();                               // 1
 /// ```
 #[derive(Drop)]
-pub(crate) struct Tally<L: Ledger> {
+pub struct Tally<L: Ledger> {
     book: Book<L>,
     share: Share<L>,
 }
@@ -31,7 +31,7 @@ impl<L: Ledger> Model for Tally<L> {
 impl<L: Ledger> Tally<L> {
     /// None so far.
     #[inline(always)]
-    pub(crate) fn open(blank: Blank) -> Tally<L>
+    pub fn open(blank: Blank) -> Tally<L>
         requires name { blank.name ≡ L.name }
         requires parts { blank.parts ≡ L.parts }
         requires some { 0 < blank.parts }
@@ -43,15 +43,9 @@ impl<L: Ledger> Tally<L> {
 
     /// One more piece.
     #[inline(always)]
-    pub(crate) fn tick(&mut self)
+    pub fn tick(&mut self)
         ensures one { self.new ≡ self.old + 1 }
     {
         self.book.add(&mut self.share, 1);
     }
-}
-
-/// The text of a format, for a function that opens a ledger: its signature may have no `&str`.
-#[derive(Clone, Copy)]
-pub(crate) struct Wrapped<'a> {
-    pub(crate) text: &'a str,
 }

@@ -1,0 +1,43 @@
+-- What the scan of a text tells of a list that it met.
+use Rattle.std.specs.Prelude.{◌≡◌, ℕ, true, false, Option, None, Some, option_map}
+use Rattle.std.specs.Str.{chars}
+use Rattle.interpolator_syntax.specs.At.{At, at, strip}
+use Rattle.interpolator_syntax.specs.Arguments.{list_of}
+use Rattle.interpolator_syntax.specs.Classes.{close_brace}
+use Rattle.interpolator_syntax.specs.Nodes.{Forest, nodes_and, as_forest, nodes, group_branch, token_node}
+use Rattle.interpolator_syntax.specs.Pieces.{argument_from}
+use Rattle.interpolator_syntax.specs.Tokens.{argument}
+use Rattle.interpolator_syntax.specs.declared.cursor.Cursor.{Cursor}
+use Rattle.interpolator_eval.specs.Meaning.Sources.{ListArgument, FirstAsks, asks_list}
+use Rattle.interpolator_eval.specs.declared.meaning.scan.ScannedList.{ScannedList}
+
+-- the pieces of a text
+abbrev pub text_forest : At → Forest
+text_forest a = as_forest (nodes a)
+
+-- what asks for it
+abbrev pub scanned_list : ScannedList → ListArgument
+scanned_list l = record {
+  start = l.start;
+  name = chars l.name.now;
+  range = l.asked.list.range;
+  spec = l.asked.spec;
+  end = l.end.place;
+  item = group_branch nodes (list_of l.asked.list).item;
+  join = group_branch nodes (list_of l.asked.list).join;
+}
+
+-- the pieces after its closing brace, if that is there
+abbrev pub scanned_rest : ScannedList → Option Forest
+scanned_rest l = option_map text_forest (strip close_brace (at l.end))
+
+-- of an argument that begins at a, after a brace at p: that it asks for this list; or what follows it,
+-- if it asks for none
+abbrev pub ArgumentTold : (p : ℕ) → (a : At) → ScannedList → Option Cursor → Type 0
+ArgumentTold p a l None =
+    (asks_list (token_node nodes p argument a) ≡ true)
+    × FirstAsks (scanned_list l) (scanned_rest l)
+    (nodes_and (token_node nodes p argument a) (text_forest (argument_from a.place a).rest))
+ArgumentTold p a l (Some rest) =
+    (asks_list (token_node nodes p argument a) ≡ false)
+    × (at rest ≡ (argument_from a.place a).rest)

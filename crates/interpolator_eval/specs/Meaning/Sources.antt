@@ -1,0 +1,147 @@
+-- What a source of a format gives: text and values up to its first list, and what asks for that list.
+use Rattle.std.specs.Prelude.{◌≡◌, ℕ, List, Bool, true, false, if◌then◌else◌, codes}
+use Rattle.std.specs.Prelude.{Option, None, Some, Result, Ok, Err}
+use Rattle.interpolator_render.specs.declared.view.Spec.{Spec}
+use Rattle.interpolator_render.specs.declared.view.Trait.{Trait}
+use Rattle.interpolator_render.specs.Views.{Shown}
+use Rattle.interpolator_syntax.specs.Faults.{parse, expected}
+use Rattle.interpolator_syntax.specs.Nodes.{Node, node, Branch, no_branch, branch}
+use Rattle.interpolator_syntax.specs.Nodes.{Forest, no_nodes, nodes_and}
+use Rattle.interpolator_syntax.specs.Nodes.{Content, argument_content}
+use Rattle.interpolator_syntax.specs.Nodes.{Target, target_value, target_list}
+use Rattle.interpolator_syntax.specs.declared.piece_kind.PieceKind.{PieceKind}
+use Rattle.interpolator_syntax.specs.declared.piece_kind.PieceKind.TheVariants.{Unclosed}
+use Rattle.interpolator_syntax.specs.declared.range.Range.{Range}
+use Rattle.interpolator_eval.specs.Slots.{Slots, items}
+use Rattle.interpolator_eval.specs.Meaning.Environments.{Environment, slots_under}
+use Rattle.interpolator_eval.specs.Meaning.Lists.{list_under_name}
+use Rattle.interpolator_eval.specs.Meaning.Meanings.{Meaning, nothing, chain, fault_alone, items_mean}
+use Rattle.interpolator_eval.specs.Meaning.Meanings.{node_means, join_branch_means}
+use Rattle.interpolator_eval.specs.Meaning.Meanings.{item_branch_means}
+use Rattle.interpolator_eval.specs.Meaning.Work.{Work, under_work, listed_work, items_work}
+use Rattle.interpolator_eval.specs.Meaning.Work.{join_branch_work, item_branch_work}
+
+-- ---- the first list of some pieces
+
+-- what an argument asks for is a list
+abbrev pub wants_list : Target → Bool
+wants_list (target_value t) = false
+wants_list (target_list range) = true
+
+-- what a piece holds asks for a list
+abbrev pub holds_list : Option Content → Bool
+holds_list (Some (argument_content start name spec bare end)) = wants_list bare
+holds_list _ = false
+
+-- a piece asks for a list
+abbrev pub asks_list : Node → Bool
+asks_list (node place end kind held item join) = holds_list held
+
+-- the pieces before the first that asks for a list
+abbrev pub before_list : Forest → Forest
+before_list no_nodes = no_nodes
+before_list (nodes_and x xs) = if asks_list x then no_nodes else nodes_and x (before_list xs)
+
+-- the pieces from the first on that asks for a list
+abbrev pub from_list : Forest → Forest
+from_list no_nodes = no_nodes
+from_list (nodes_and x xs) = if asks_list x then nodes_and x xs else from_list xs
+
+-- ---- what asks for a list
+
+-- an argument that starts at `start`, whose spec ends at `end`, and the pieces of its groups
+pub record ListArgument : Type 0 where
+  pub start : ℕ
+  pub name : List ℕ
+  pub range : Option Range
+  pub spec : Spec
+  pub end : ℕ
+  pub item : Branch
+  pub join : Branch
+
+-- an argument of this kind has its closing brace
+abbrev pub has_brace : PieceKind → Bool
+has_brace Unclosed = false
+has_brace _ = true
+
+-- the first of some pieces asks for this list; if it is closed, these follow it
+pub record FirstAsks (x : ListArgument) (after : Option Forest) (xs : Forest) : Type 0 where
+  pub place : ℕ
+  pub last : ℕ
+  pub kind : PieceKind
+  pub rest : Forest
+  pub first : xs
+      ≡ nodes_and (node place last kind
+      (Some (argument_content x.start x.name x.spec (target_list x.range) x.end)) x.item x.join) rest
+  pub closing : after ≡ (if has_brace kind then Some rest else None)
+
+-- a list was met, or no pieces are left
+abbrev pub Met : (met : Bool) → (ready : Type 0) → ListArgument → (after : Option Forest) → Forest
+    → Type 0
+Met true ready x after xs = ready × FirstAsks x after xs
+Met false ready x after xs = xs ≡ no_nodes
+
+-- a list that was met counts as a piece
+abbrev pub met_pieces : {E : Type 0} → Result Bool E → ℕ
+met_pieces (Ok true) = 1
+met_pieces (Ok false) = 0
+met_pieces (Err e) = 0
+
+-- an item whose format has no pieces counts as one
+abbrev pub empty_counts : Forest → ℕ
+empty_counts no_nodes = 1
+empty_counts (nodes_and x xs) = 0
+
+-- the pieces of a group, by those of the source that begins it
+abbrev pub branch_of : {S : Type 0} → (tree : S → Forest) → Option S → Branch
+branch_of tree None = no_branch
+branch_of tree (Some source) = branch (tree source)
+
+-- ---- what it means
+
+-- an argument, and after it the fault of the missing brace, if nothing is known to follow one
+abbrev pub with_brace : {A : Type 0} → (follows : Option A) → (end : ℕ) → Meaning → Meaning
+with_brace (Some rest) end m = m
+with_brace None end m = chain m (fault_alone (parse (expected (codes "}") end)))
+
+module _ {X : Type 0} (shows : X → Trait → Spec → Shown) (e : Environment X) where
+  -- a piece that asks for no list
+  abbrev pub unlisted_means : Node → Meaning
+  unlisted_means x = if asks_list x then nothing else node_means shows e x
+
+  module _ (x : ListArgument) where
+    abbrev pub its_join : Meaning
+    its_join = join_branch_means shows e x.join
+
+    abbrev pub its_item : Slots X → Meaning
+    its_item = item_branch_means shows e x.item x.end
+
+    -- these items of it, and the join between two of them
+    abbrev pub its_items : List (Slots X) → Meaning
+    its_items chosen = items_mean its_join its_item chosen
+
+    -- the list under its name
+    abbrev pub its_list : Meaning
+    its_list = list_under_name e x.name x.start x.range x.spec x.end its_join its_item
+
+    -- and the missing brace, if there is none
+    abbrev pub its_argument : (follows : Option Forest) → Meaning
+    its_argument follows = with_brace follows x.end its_list
+
+    -- ---- how many pieces it goes through
+
+    abbrev pub its_join_work : Work
+    its_join_work = join_branch_work shows e x.join
+
+    abbrev pub its_item_work : Slots X → Work
+    its_item_work = item_branch_work shows e x.item x.end
+
+    abbrev pub its_items_work : List (Slots X) → Work
+    its_items_work chosen = items_work its_join its_join_work its_item its_item_work chosen
+
+    abbrev pub its_list_work : Work
+    its_list_work =
+        under_work
+        (λ found. listed_work its_join its_join_work its_item its_item_work x.range x.spec
+        (items found))
+        (slots_under e x.name)
