@@ -1,4 +1,4 @@
--- What the fault of an argument can be and if it lies, and that an argument has one outcome.
+-- What the fault of an argument can be and where it lies; and that an argument has one outcome.
 use Rattle.std.proofs.Common.{◌≡◌, ℕ, ◌≤◌, List, length, drop, arith, refl, ◌∙◌, sym, inl, inr, ◌⊎◌}
 use Rattle.std.proofs.Common.{Result, Ok, Err, length-drop}
 use Rattle.std.specs.Str.{IsUtf8, IsCharBoundary}

@@ -69,7 +69,7 @@ module _ (first second : ℕ) where
       ap (count_trailing_zeros 64) is
       ∙ trailing_mask_l IsEither 64 xs (omega (arith, long, room)) more
 
--- how far the first that passes lies from the end is the same of a whole and of what is left of it
+-- the first that passes is as far from the end in the whole as in what is left of it
 abbrev pub SameFirst : (ℕ → Bool) → List ℕ → List ℕ → Type 0
 SameFirst test all rest =
     (length rest ≤ length all) × (position_or_len test all + length rest
@@ -144,10 +144,10 @@ encode_head c more b e = elim (cases_lt c 128) [
       omega (arith, high, long)
 ]
 
--- ---- the two fronts are one
+-- ---- the front by bytes is the front by characters
 
 module _ (first second : ℕ) (low_first : first < 128) (low_second : second < 128) where
-  -- what lies past ASCII is neither
+  -- a byte past ASCII is neither of the two
   avoids_high : (b : ℕ) → 128 ≤ b → avoids first second b ≡ true
   avoids_high b h =
       rw (ne_eqb b first (λ e. omega arith), ne_eqb b second (λ e. omega arith)) refl
@@ -159,7 +159,7 @@ module _ (first second : ℕ) (low_first : first < 128) (low_second : second < 1
   over (x ∷ xs) ys h =
       let more = over xs ys h.1 in rw (avoids_high x h.0) (ap (λ zs. x ∷ zs) more.0, more.1)
 
-  -- one more character, by the size of its code
+  -- one more character, by how many bytes it takes
   bytes : (cs : List ℕ)
       → (front_of (avoids first second) (encode_utf8_all cs)
       ≡ encode_utf8_all (front_of (avoids first second) cs))

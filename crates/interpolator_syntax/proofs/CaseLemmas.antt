@@ -16,7 +16,7 @@ head_same e = cc
 pub tail_same : {A : Type 0} {x y : A} {xs ys : List A} → x ∷ xs ≡ y ∷ ys → xs ≡ ys
 tail_same e = cc
 
--- what holds in both cases
+-- a property that holds in both cases
 pub in_both : {A : Type 0} (P : A → Type 0) (b : Bool) (x y : A) → P x → P y → P (cond b x y)
 in_both P true x y p q = p
 in_both P false x y p q = q

@@ -39,6 +39,6 @@ size-chars bs u = sym (length-encodes (chars bs)) ∙ ap length (encodes-chars b
 pub no_text : (bs : List ℕ) → bs ≡ [] → chars bs ≡ []
 no_text bs e = ap chars e ∙ chars-nil
 
--- what the first character leaves of a text
+-- the text that is left after the first character
 pub ruleset first_character =
     (chars_of_next, chars_of_end, length_of_next, shorter_after, nil_of_end)

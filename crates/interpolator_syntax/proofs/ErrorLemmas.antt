@@ -1,4 +1,4 @@
--- An error told by the bytes of a missing name, and by its characters: both say the same.
+-- An error with the bytes of a missing name, and with its characters: both say the same.
 use Rattle.std.proofs.Common.{◌≡◌, ℕ, List, refl, ap, sym, ◌∙◌, string_bytes, encode_utf8_all}
 use Rattle.std.specs.Str.{chars}
 use Rattle.std.proofs.lemmas.Str.{encodes-chars, IsUtf8-string_bytes}
@@ -29,7 +29,7 @@ bytes_of_answer (MissingValue name place) =
     (sym (encodes-chars _ (IsUtf8-string_bytes name)))
 bytes_of_answer error = refl
 
--- what is one in bytes is one in characters
+-- answers that are the same in bytes are the same in characters
 pub same_answers : (first second : Error) →
     byte_answer_of first ≡ byte_answer_of second → answer_of first ≡ answer_of second
 same_answers first second same =

@@ -1,4 +1,4 @@
--- What the first byte of a text tells of its characters.
+-- What the first byte of a text says about its characters.
 use Rattle.std.proofs.Common.{◌≡◌, ℕ, ◌≤◌, List, [], ◌∷◌, arith, refl, ap, ◌∙◌, sym}
 use Rattle.std.proofs.Common.{Option, Some, None, length, Bool, true, false, eqb}
 use Rattle.std.specs.Prelude.{MatchOption, MatchBool}

@@ -15,7 +15,7 @@ front_after passes (c ∷ cs) =
     elim (passes c) as (λ b. cond b (c ∷ front_of passes cs) [] ++ cond b (after_of passes cs)
     (c ∷ cs) ≡ c ∷ cs) [ true ↦ ap (λ xs. c ∷ xs) (front_after passes cs) | false ↦ refl ]
 
--- a front, after which ends is a rest of the text
+-- `rest` is what some front of the text leaves
 abbrev pub IsRest : List ℕ → List ℕ → Type 0
 IsRest text rest = (front : List ℕ) × (text ≡ front ++ rest)
 

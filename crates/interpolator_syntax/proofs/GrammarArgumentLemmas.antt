@@ -1,4 +1,4 @@
--- An argument is its parts, one after the other, both ways.
+-- An argument is its parts, one after the other, and the reverse.
 use Rattle.std.proofs.Common.{◌≡◌, ℕ, IsFalse, List, [], ◌∷◌, ◌++◌, arith, refl, ap, ◌∙◌, sym}
 use Rattle.std.proofs.Common.{subst, Result, Ok, Err, Option, Some, None, inl, inr, eqb, eqb-true}
 use Rattle.std.proofs.lemmas.Bool.{not-false, or_cases}
@@ -43,7 +43,7 @@ module _ (a : At) where
         end_place = refl;
       }
 
--- what is asked after a name, put under that name
+-- the request after a name, with that name
 abbrev named_so : (start : ℕ) → (name : List ℕ) → (p : ℕ) → (b : At) → Result (Argument × At) Fault
 named_so start name p b = on (asked_at start b) (λ x. give (argument name p x))
 
@@ -56,14 +56,14 @@ name_found a name p b h =
     let named = longest_front (in_class Name) (name ++ b.text) name b.text h.named in
     rw (white.0, white.1, named.0, named.1, ← h.name_place, ← h.end_place) refl
 
--- ---- what follows the name
+-- ---- after the name
 
--- what is answered after a name is there
+-- what is returned after a name is there
 abbrev Told : (start : ℕ) → (b : At) → Result (Request × At) Fault → Type 0
 Told start b (Ok w) = Asks start b w.0 w.1
 Told start b (Err f) = AsksNothing start b f
 
--- the text ends if a name does that neither `:` nor `}` ends
+-- the text ends where a name does, if neither `:` nor `}` ends the name
 name_ends :
     (cs : List ℕ) → ((c : ℕ) (more : List ℕ) → cs ≡ c ∷ more → IsFalse (in_class Name c))
     → NotFirst close_brace cs → NotFirst colon cs → cs ≡ []
@@ -106,7 +106,7 @@ module _ (a : At) where
       asked_told a.place n (named_is a).named.stops (strip close_brace n) (strip colon n)
       (stripped close_brace n) (stripped colon n)
 
-  -- what is answered at a is an argument there, or why there is none
+  -- the result at a is an argument there, or why there is none
   abbrev ArgumentSays : Result (Argument × At) Fault → Type 0
   ArgumentSays (Ok w) = IsArgument a w.0 w.1
   ArgumentSays (Err f) = IsNoArgument a f

@@ -62,7 +62,7 @@ nothing_closes : (k : ℕ) (after : List ℕ) → NoneCloses k [] after
 nothing_closes k after [] more rest e h = cc
 nothing_closes k after (d ∷ front) more rest e h = cc
 
--- whether the signs of a bracket follow c
+-- by whether the signs of a bracket follow c
 abbrev signs_at : (k p c : ℕ) → List ℕ → Option At
 signs_at k p c cs = cond (eqb c close_bracket) (after_hashes k (p + len_utf8 c) cs) None
 
@@ -83,13 +83,13 @@ none_here k p c cs h =
       | Some q ↦ λ e. let s = signs_here k p c cs q e in absurd (h q.text (cc) (cc))
     ] refl
 
--- the text at p ends in front of q, at the first place at which it closes
+-- the text at p ends in front of q, at the first place where it closes
 pub record IsClose (k p : ℕ) (cs inner : List ℕ) (q : At) : Type 0 where
   pub split : cs ≡ inner ++ (close_text k ++ q.text)
   pub place : q.place ≡ p + size inner + 1 + k
   pub first : NoneCloses k inner (close_text k ++ q.text)
 
--- if a text closes, if it does
+-- where a text closes, if it does
 abbrev pub Closes : (k p : ℕ) → List ℕ → Option (List ℕ × At) → Type 0
 Closes k p cs (Some w) = IsClose k p cs w.0 w.1
 Closes k p cs None = NoneCloses k cs []
@@ -166,13 +166,13 @@ signs_front zero [] h = (refl, refl)
 signs_front zero (c ∷ cs) h = rw (ne_eqb c hash h) (refl, refl)
 signs_front (suc k) rest h = grind (arith, signs_front k rest h)
 
--- what follows all the signs begins with none
+-- the text after all the signs begins with none
 after_no_sign : (cs : List ℕ) → NoSign (after_of (in_class Hash) cs)
 after_no_sign [] = tt
 after_no_sign (c ∷ cs) =
     cond_both (eqb c hash) _ _ NoSign (λ e. after_no_sign cs) (λ e. eqb-false c hash e)
 
--- a group by the signs in front and what follows them
+-- a group by the signs in front and the text after them
 pub group_of_signs : (start k : ℕ) (a : At) (rest : List ℕ) → a.text ≡ sign_text k ++ rest
     → NoSign rest → group_at start a ≡ bracket_first start k (stands (a.place + k) rest)
     (first_of (a.place + k) rest)
@@ -206,7 +206,7 @@ only_group start a g q h =
     ∙ rw (there, here) refl
 
 module _ (start k : ℕ) (a : At) where
-  -- what a bracket opens, by if it closes
+  -- what a bracket opens, by where it closes
   opened_says :
       (p : ℕ) (cs : List ℕ) (o : Option (List ℕ × At)) → p ≡ a.place + k + 1
       → a.text ≡ open_text k ++ cs → Closes k p cs o → Says (group start) a (closed_group start p o)
@@ -219,7 +219,7 @@ module _ (start k : ℕ) (a : At) where
     end_place = omega (arith, close.place, close_size w.0 k);
   }
 
-  -- what follows the signs
+  -- the text after the signs
   bracket_says :
       (rest : List ℕ) → a.text ≡ sign_text k ++ rest → NoSign rest
       → Says (group start) a

@@ -13,7 +13,7 @@ use Rattle.interpolator_syntax.specs.Grammar.{rank, from_place, NotFirst, Fits, 
 use Rattle.interpolator_syntax.specs.Grammar.{IsPieces}
 use Rattle.interpolator_syntax.proofs.CaseLemmas.{tail_same}
 
--- what a piece of this kind in front of this rest shows of a text that begins with c at p
+-- what a piece of this kind in front of this rest says about a text that begins with c at p
 abbrev pub Shows : (p c : ℕ) (cs : List ℕ) → PieceKind → (rest : List ℕ) → Type 0
 Shows p c cs (doubled brace) rest = IsTrue (is_brace c) × (brace ≡ c) × (cs ≡ c ∷ rest)
 Shows p c cs (closed start x end) rest =
@@ -62,7 +62,7 @@ not_empty p (broken f) text rest e h = let k = e ∙ ap (λ t. t ++ rest) h.in_f
 not_empty p lone_close text rest e h = let k = e ∙ ap (λ t. t ++ rest) h in cc
 not_empty p (literal c) text rest e h = let k = e ∙ ap (λ t. t ++ rest) h in cc
 
--- two arguments that were read alike
+-- two arguments read from the same text
 pub same_ok :
     {x y : Argument} {q r : At} → ◌≡◌ {A = Result (Argument × At) Fault} (Ok (x, q)) (Ok (y, r))
     → (x ≡ y) × (q ≡ r)
@@ -90,7 +90,7 @@ piece_same :
     (record { place = q; text = ds; kind = l })
 piece_same e d h = cc
 
--- two pieces that come first in a text that is not empty are one
+-- two pieces that come first in a text that is not empty are the same
 first_same_at :
     (p c : ℕ) (cs : List ℕ) (x y : Piece) (r s : List ℕ) → StandsFirst (from_place p (c ∷ cs)) x r
     → StandsFirst (from_place p (c ∷ cs)) y s → (x ≡ y) × (r ≡ s)
@@ -115,7 +115,7 @@ pieces_moved :
     → IsPieces (from_place (p + size y.text) s) xs → IsPieces (from_place (p + size x.text) r) xs
 pieces_moved p xs e d h = rw (e, d) h
 
--- at most one list is the pieces of a text
+-- at most one list consists of the pieces of a text
 pub one_list : (xs ys : List Piece) (a : At) → IsPieces a xs → IsPieces a ys → xs ≡ ys
 one_list [] [] a h k = refl
 one_list [] (y ∷ ys) a h k =

@@ -1,5 +1,5 @@
--- The text after the letter of a list is its parts, one after the other, both ways; and what its
--- readers keep.
+-- The text after the letter of a list is its parts, one after the other, and the reverse; and what
+-- its readers keep.
 use Rattle.std.proofs.Common.{◌≡◌, ℕ, ◌+◌, Bool, List, [], ◌∷◌, arith, refl, ap, ◌∙◌, sym, subst}
 use Rattle.std.proofs.Common.{Result, Ok, Option, Some, None, option_map, inl, inr}
 use Rattle.interpolator_render.specs.declared.view.Trait.{Trait}
@@ -43,7 +43,7 @@ lies_after a b q c cs h k = record {
   place = omega (arith, h.place, k.place);
 }
 
--- what is answered after two points, in front of which is a
+-- the result after two points, in front of which is a
 abbrev by_equals : (d : At) → Option At → Result (Option Bool × At) Fault
 by_equals d o = on (was_there d o) (λ inclusive. give (Some inclusive))
 
@@ -93,7 +93,7 @@ agrees_points = record {
 -- ---- ranges
 
 module _ (s : Setting) where
-  -- no closing brace is lost with a point
+  -- a point that is passed is no closing brace
   point_settled : (cs ds : List ℕ) → cs ≡ point ∷ ds → IsSettled s cs → IsSettled s ds
   point_settled cs ds e (inr none) = inr none
   point_settled cs ds e (inl guard) =
@@ -108,7 +108,7 @@ module _ (s : Setting) where
   reads_inclusive =
       let law = law_flag s equals in reads_then _ law.reads (λ inclusive. reads_give s stays _)
 
-  -- after a point one character more is looked at
+  -- after a point, one more character is looked at
   law_points : Law s stays read_points read_points points
   law_points = record {
     agrees = agrees_points;
@@ -160,7 +160,7 @@ module _ (s : Setting) where
       law_then _ law_group_there (λ item.
       law_then _ law_group_there (λ join. law_ends s (moved_list s.by) _)))
 
-  -- what is asked for under a trait
+  -- the kind under a trait
   pub law_kind :
       (t : Trait)
       → Law s (moved_kind s.by) (kind_at s.start t) (kind_at (s.start + s.by) t) (kind s.start t)

@@ -1,4 +1,4 @@
--- A number is its digits, both ways, and why a text is none.
+-- A number is its digits, and the reverse; and why a text is none.
 use Rattle.std.proofs.Common.{◌≡◌, ℕ, ◌+◌, ◌*◌, ◌-◌, ◌^◌, ◌<◌, ◌≤◌, true, false, ltb, eqb, IsTrue}
 use Rattle.std.proofs.Common.{List, [], ◌∷◌, ◌++◌, length, arith, refl, ◌≢◌, ap, ◌∙◌, sym, subst}
 use Rattle.std.proofs.Common.{Result, Ok, Err, inl, inr, eqb-true, append-nil, append_assoc}
@@ -68,7 +68,7 @@ module _ (limit : ℕ) (overflow : NumberError) where
   abbrev read_from : ℕ → List ℕ → Result ℕ NumberError
   read_from n cs = digits_after limit overflow n cs
 
-  -- what the digits of a text answer
+  -- what the digits of a text yield
   abbrev Spelled : List ℕ → Result ℕ NumberError → Type 0
   Spelled text (Ok n) = AreDigits text × (n ≡ decimal_value text) × (n < limit)
   Spelled text (Err kind) = IsStopped limit overflow text kind
@@ -116,7 +116,7 @@ module _ (limit : ℕ) (overflow : NumberError) where
       by_digits (Ok n) s = record { not_empty = λ k. cc; digits = s.0; value = s.1; below = s.2 }
       by_digits (Err kind) s = inr s
 
-  -- digits of a value below the limit are read, and what follows them goes on from it
+  -- digits of a value below the limit are read, and the text after them goes on from that value
   read_over : (n : ℕ) (cs rest : List ℕ) → AreDigits cs → value_from n cs < limit
       → read_from n (cs ++ rest) ≡ read_from (value_from n cs) rest
   read_over n [] rest d h = ap (λ m. read_from m rest) (sym (value_none n))
@@ -246,7 +246,7 @@ only_negative :
 only_negative [] n h = absurd (h.not_empty refl)
 only_negative (d ∷ ds) n h = ap (with_sign negation) (only_number (2 ^ 63 + 1) NegOverflow (d ∷ ds) n h)
 
--- if a text without a sign begins with `-`, that is all of it
+-- if a text without a sign begins with `-`, the `-` is all of it
 only_lone :
     (c : ℕ) (cs : List ℕ) (kind : NumberError) → eqb c minus ≡ true
     → ((after : List ℕ) → IsSigned (c ∷ cs) after → ⊥)

@@ -120,13 +120,13 @@ module _ (read : Reader (Option ℕ)) (part : Part (Option ℕ)) (h : Agrees rea
 
 -- ---- numbers
 
--- the number of a text at p, or the fault that it spells none
+-- the number that a text at p spells, or the fault that it spells none
 abbrev told_or : {A : Type 0} → (NumberError → ℕ → ParseFault) → (p : ℕ) → Result A NumberError
     → Reader (Option A)
 told_or wrong p (Ok n) = λ a. Ok (Some n, a)
 told_or wrong p (Err kind) = λ a. Err (parse (wrong kind p))
 
--- the place of a number's fault is the one that it is told with
+-- the place of a number's fault is the one that it is made with
 record TellsPlace (wrong : NumberError → ℕ → ParseFault) : Type 0 where
   is : (kind : NumberError) (p : ℕ) → parse_place (wrong kind p) ≡ p
   moves :
@@ -151,7 +151,7 @@ module _
   }
 
   module _ (s : Setting) (tells : TellsPlace wrong) where
-    -- the number of what was read at a up to b, where l is the answer elsewhere
+    -- the number of what was read at a up to b, where l is the result elsewhere
     keeps_told :
         (a b : At) (l : Result (Option A × At) Fault) (o : Result A NumberError) → Takes a b
         → (IsSettled s b.text → l ≡ told_or wrong (a.place + s.by) o (elsewhere s b))
@@ -172,7 +172,7 @@ module _
         number_from start =
             λ a. (read_run (in_class Number) start >>> λ cs. tell a.place (read cs)) a
 
-        -- a run of digits and `-`, and what it spells, told at its place
+        -- a run of digits and `-`, and what it spells, with its place
         law_number :
             Law s stays (number_from s.start) (number_from (s.start + s.by))
             (number spelling wrong s.start)

@@ -22,12 +22,12 @@ pub ok_pair :
     → ◌≡◌ {A = Result (A × At) Fault} (Ok (x, q)) (Ok (y, r))
 ok_pair e h = cc
 
--- what a reader answers is there
+-- what a reader returns is there
 abbrev pub Says : {A : Type 0} → Part A → At → Result (A × At) Fault → Type 0
 Says part a (Ok w) = part.is a w.0 w.1
 Says part a (Err f) = part.is_not a f
 
--- a reader and a part that say the same
+-- a reader and a part that agree
 pub record Agrees {A : Type 0} (read : Reader A) (part : Part A) : Type 0 where
   pub says : (a : At) → Says part a (read a)
   pub only : (a q : At) (x : A) → part.is a x q → read a ≡ Ok (x, q)
@@ -69,7 +69,7 @@ agrees_ends x = record {
   only_not = λ a f t. absurd t;
 }
 
--- a reader that answers as one that agrees
+-- a reader that returns the same as one that agrees
 pub agrees_same :
     {A : Type 0} {read other : Reader A} {part : Part A} → ((a : At) → read a ≡ other a)
     → Agrees other part → Agrees read part
@@ -100,7 +100,7 @@ pub lies_cons :
 lies_cons p c cs ds q h =
     record { split = ap (λ xs. c ∷ xs) h.split; place = omega (arith, h.place) }
 
--- what follows characters at a
+-- the text after characters at a
 pub lies_end : (a : At) (cs : List ℕ) (q : At) → Lies a cs q
     → from_place (a.place + size cs) q.text ≡ q
 lies_end a cs q h = at_same (sym h.place) refl
@@ -112,7 +112,7 @@ past_end a c q h = at_same (omega (arith, h.place)) refl
 pub first_lies : (a : At) (c : ℕ) (q : At) → Lies a (c ∷ []) q → first a ≡ Some (c, q)
 first_lies a c q h = ap (first_of a.place) h.split ∙ ap (λ (b : At). Some (c, b)) (past_end a c q h)
 
--- what `strip` tells
+-- what `strip` returns
 abbrev pub Stripped : (c : ℕ) (a : At) → Option At → Type 0
 Stripped c a (Some q) = Lies a (c ∷ []) q
 Stripped c a None = NotFirst c a.text

@@ -18,12 +18,12 @@ use Rattle.interpolator_syntax.proofs.GrammarLemmas.{Shows, stands_shown, same_o
 use Rattle.interpolator_syntax.proofs.LocalityLemmas.{size-append}
 use Rattle.interpolator_syntax.proofs.ReaderLemmas.{argument_takes}
 
--- a text that begins with the character c is stripped of it
+-- stripping a text that begins with the character c
 strip_none : (c p : ℕ) (cs : List ℕ) → strip_of c p cs ≡ None → NotFirst c cs
 strip_none c p [] e ds h = cc
 strip_none c p (d ∷ more) e ds h = grind (arith, eqb-false)
 
--- a step hands out the first piece, and goes on after it
+-- a step returns the first piece, and the text after it
 abbrev IsFirstStep : (p c : ℕ) → List ℕ → Step → Type 0
 IsFirstStep p c cs s =
     (s.piece.place ≡ p) × (c ∷ cs ≡ s.piece.text ++ s.rest.text)
@@ -202,7 +202,7 @@ are_pieces (suc most) p (c ∷ cs) h =
 pub pieces_are : (a : At) → IsPieces a (pieces a)
 pieces_are a = are_pieces (length a.text) a.place a.text (omega arith)
 
--- what follows the first piece ends where the text ends
+-- the text after the first piece ends where the text ends
 pub step_reaches :
     (p c : ℕ) (cs : List ℕ)
     → (piece_from p c (past p c cs)).rest.place + size (piece_from p c (past p c cs)).rest.text

@@ -1,4 +1,4 @@
--- A spec's text is its parts, one after the other, both ways; and what its readers keep.
+-- The text of a spec is its parts, one after the other, and the reverse; and what its readers keep.
 use Rattle.std.proofs.Common.{◌≡◌, ℕ, ◌+◌, true, false, eqb, eqb-true, List, [], ◌∷◌, ◌++◌, arith}
 use Rattle.std.proofs.Common.{refl, ap, ◌∙◌, sym, Result, Ok, Err, Option, Some, None, inl, inr}
 use Rattle.std.proofs.Common.{◌||◌}
@@ -34,7 +34,7 @@ use Rattle.interpolator_syntax.proofs.LongestLemmas.{at_same}
 use Rattle.interpolator_syntax.proofs.SimpleReaderLemmas.{Law, law_then, law_ends, law_letter}
 use Rattle.interpolator_syntax.proofs.SimpleReaderLemmas.{law_flag}
 
--- what is asked for, with its groups moved
+-- a request with its groups moved
 abbrev pub moved_request : (by : ℕ) → Request → Request
 moved_request by x = record { spec = x.spec; kind = moved_kind by x.kind }
 
@@ -174,14 +174,14 @@ module _ (s : Setting) where
       ))
       (keeps_stay s stays a None)
 
-  -- what a closing brace begins is not read
+  -- a text that begins with a closing brace is not read
   not_read :
       (start : ℕ) (a : At) (c : ℕ) (cs : List ℕ) → c ≡ close_brace
       → spec_of start a (c ∷ cs) ≡ Ok (plain_display, a)
   not_read start a c [] e = refl
   not_read start a c (d ∷ ds) e = rw e refl
 
-  -- in front of a closing brace that is not passed is no character, or the second one
+  -- a closing brace that is not passed is the first character, or the second one
   one_left :
       (c : ℕ) (b : At) → IsSettled s (c ∷ [])
       → spec_of (s.start + s.by) b (c ∷ s.more) ≡ Ok (plain_display, b)

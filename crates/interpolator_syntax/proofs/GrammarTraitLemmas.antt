@@ -1,4 +1,4 @@
--- A trait is its text, both ways, why a text begins none, and what its reader keeps.
+-- A trait is its text, and the reverse; why a text begins none; and what its reader keeps.
 use Rattle.std.proofs.Common.{◌≡◌, ◌≢◌, ℕ, ◌+◌, Bool, true, false, eqb, All, List, [], ◌∷◌, ◌++◌}
 use Rattle.std.proofs.Common.{arith, refl, ap, ◌∙◌, sym, Result, Ok, Err, Option, Some, None}
 use Rattle.std.proofs.Common.{inl, inr, eqb-true, get_or, ltb, cond}

@@ -1,4 +1,4 @@
--- If a group closes.
+-- Where a group closes.
 use Rattle.std.proofs.Common.{◌≡◌, ℕ, suc, ◌+◌, ◌-◌, ◌<◌, ◌≤◌, List, [], ◌∷◌, ◌++◌, length, take}
 use Rattle.std.proofs.Common.{arith, refl, ap, ◌∙◌, sym, subst, Option, Some, None, append_assoc}
 use Rattle.std.proofs.lemmas.List.{append-nil, append_cancel_right, length-append}
@@ -20,7 +20,7 @@ use Rattle.interpolator_syntax.proofs.CaseLemmas.{none_some, some_same}
 
 -- ---- signs
 
--- after a sign one less is wanted
+-- after a sign, one sign fewer has to follow
 pub signs_next : (k p : ℕ) (cs : List ℕ) (q : At) → strip_of hash p cs ≡ Some q
     → after_hashes (suc k) p cs ≡ after_hashes k q.place q.text
 signs_next k p [] q e = absurd (none_some e)
@@ -35,14 +35,14 @@ pub signs_size : (cs : List ℕ) → size (front_of (in_class Hash) cs)
 signs_size [] = refl
 signs_size (c ∷ cs) = grind (arith, eqb-true, signs_size cs)
 
--- so the bytes of the signs are their count
+-- so the signs have as many bytes as there are signs
 pub signs_bytes : (bs cs : List ℕ) → IsUtf8 bs → chars bs ≡ front_of (in_class Hash) cs → length bs
     ≡ length (front_of (in_class Hash) cs)
 signs_bytes bs cs u e = sym (size-chars bs u) ∙ ap size e ∙ signs_size cs
 
 -- ---- the closing bracket
 
--- a text that closes, after a front of it
+-- where a text closes, after a front of it
 abbrev pub after_front : List ℕ → Option (List ℕ × At) → Option (List ℕ × At)
 after_front front o = option_map (λ w. (front ++ w.0, w.1)) o
 
@@ -59,7 +59,7 @@ front_then xs ys (Some w) = ap (λ zs. Some (zs, w.1)) (sym (append_assoc xs ys 
 abbrev enclosed : List ℕ → List ℕ
 enclosed cs = front_of (in_class Enclosed) cs
 
--- a text whose front has no bracket closes if it closes after that
+-- a text whose front has no bracket closes where the text after that front does
 pub close_past : (k p : ℕ) (cs : List ℕ) → close_from k p cs
     ≡ after_front (enclosed cs) (close_from k (p + size (enclosed cs))
     (after_of (in_class Enclosed) cs))
@@ -112,7 +112,7 @@ next_is h b r e =
           (record { is = refl; bracket = here })
     ] refl e
 
--- what follows it is shorter
+-- the text after it is shorter
 pub next_shorter : (h b r : At) → next_close h ≡ Some (b, r) → length r.text < length h.text
 next_shorter h b r e =
     let n = next_is h b r e in
@@ -122,13 +122,13 @@ next_shorter h b r e =
 
 -- ---- the search for it
 
--- the text at a closes if it closes after what was passed, up to h
+-- the text at a closes where the text at h does, after what was passed up to h
 pub record Reached (k : ℕ) (a h : At) : Type 0 where
   pub front : List ℕ
   pub split : a.text ≡ front ++ h.text
   pub closes : after_front front (close_from k h.place h.text) ≡ close_from k a.place a.text
 
--- nothing closes if no bracket is left
+-- if no bracket is left, nothing closes
 pub reached_end : (k : ℕ) (a h : At) → Reached k a h → next_close h ≡ None → None
     ≡ close_from k a.place a.text
 reached_end k a h g e = ap (after_front g.front) (sym (close_none k h e)) ∙ g.closes

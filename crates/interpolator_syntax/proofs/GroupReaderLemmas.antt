@@ -30,7 +30,7 @@ signs_before (suc k) (c ∷ cs) after more rest e =
     let s = signs_before k cs after more rest others in
     (s.0, ap (λ n. n ∷ (cs ++ (close_bracket ∷ more))) first ∙ ap (λ xs. hash ∷ xs) s.1)
 
--- a text of which no bracket closes has none that does, whatever comes after the one that closes
+-- if no bracket of a text closes, none does whatever comes after the bracket that closes the text
 none_closes_with :
     (k : ℕ) (inner after more : List ℕ) → NoneCloses k inner (close_bracket ∷ after)
     → NoneCloses k inner (close_bracket ∷ more)
@@ -51,7 +51,7 @@ close_elsewhere s k p cs w h =
     rw whole (only_close k (p + s.by) w.0 (q.text ++ s.more) none
     ∙ ap (λ n. Some (w.0, stands n (q.text ++ s.more))) there)
 
--- what closes is a front of the text
+-- the text up to where it closes is a front of the text
 close_takes :
     (k : ℕ) (a : At) (inner : List ℕ) (q : At) → IsClose k a.place a.text inner q → Takes a q
 close_takes k a inner q h = record {

@@ -1,4 +1,4 @@
--- If the groups of an argument begin: after a `:` and the letter of a list, in the text.
+-- Where the groups of an argument begin: in the text, after a `:` and the letter of a list.
 use Rattle.std.proofs.Common.{◌≡◌, ℕ, ◌+◌, ◌≤◌, List, ◌∷◌, [], ◌++◌, length, arith, ap, Bool, ◌||◌}
 use Rattle.std.proofs.Common.{subst, sym, ◌∙◌, Ok, Option, Some, None, inl, inr, append_assoc}
 use Rattle.std.specs.Prelude.{⊤}
@@ -33,7 +33,7 @@ use Rattle.interpolator_syntax.proofs.SimpleReaderLemmas.{Law, law_takes, law_le
 use Rattle.interpolator_syntax.proofs.LocalityLemmas.{Takes, takes_none, takes_then, size-append}
 use Rattle.interpolator_syntax.proofs.LocalityLemmas.{takes_shorter}
 
--- a group begins in the text at a, after that many characters of it or more
+-- a group begins in the text at a, after at least n characters of it
 pub record BeginsAfter (n : ℕ) (g : Group) (a : At) : Type 0 where
   pub opens : At
   pub closed : At
@@ -41,17 +41,17 @@ pub record BeginsAfter (n : ℕ) (g : Group) (a : At) : Type 0 where
   pub takes : Takes a opens
   pub far : n + length opens.text ≤ length a.text
 
--- so does a group, if there is one
+-- so does a group that may be absent, if there is one
 abbrev pub GroupAfter : (n : ℕ) → Option Group → At → Type 0
 GroupAfter n None a = ⊤
 GroupAfter n (Some g) a = BeginsAfter n g a
 
--- the groups of what an argument asks for
+-- the groups of an argument's kind
 abbrev pub KindAfter : (n : ℕ) → Kind → At → Type 0
 KindAfter n (of_value t) a = ⊤
 KindAfter n (of_list l) a = GroupAfter n l.item a × GroupAfter n l.join a
 
--- ---- what follows a front
+-- ---- the text after a front
 
 -- it is no longer
 pub no_longer : (n : ℕ) (a b : At) → Takes a b → n + length b.text ≤ n + length a.text
@@ -72,11 +72,11 @@ module _ (m n : ℕ) (a b : At) (t : Takes a b) (far : n + length b.text ≤ m +
   kind_grows (of_value t) h = tt
   kind_grows (of_list l) h = (group_grows l.item h.0, group_grows l.join h.1)
 
--- so many characters come before each group of what is read as this part
+-- at least n characters come before each group of what is read as this part
 record Begins {A : Type 0} (n : ℕ) (kind_of : A → Kind) (part : Part A) : Type 0 where
   after : (a : At) (x : A) (q : At) → part.is a x q → KindAfter n (kind_of x) a
 
--- so it is after another part
+-- so do they after another part
 begins_then :
     {s : Setting} {A B : Type 0} {n : ℕ} {kind_of : B → Kind} {move : A → A}
     {read other : Reader A} {part : Part A} {next : A → Part B} → Law s move read other part
@@ -191,7 +191,7 @@ module _ (start : ℕ) where
       let t = lies_takes a (colon ∷ []) h.0 h.1 in
       kind_grows 1 2 a h.0 t (omega (arith, ap length h.1.split)) x.kind (spec_after h.0 x q h.2)
 
--- the groups of an argument begin after two characters or more
+-- the groups of an argument begin after at least two characters
 pub argument_after : (a : At) (x : Argument) (q : At) → argument_at a ≡ Ok (x, q)
     → KindAfter 2 x.kind a
 argument_after a x q e =

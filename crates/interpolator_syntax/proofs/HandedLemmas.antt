@@ -1,4 +1,4 @@
--- What the scan hands on, and what follows it, in the text.
+-- Tokens, and the text after them, as parts of the whole text.
 use Rattle.std.proofs.Common.{◌≡◌, ℕ, ◌+◌, List, [], ◌∷◌, ◌++◌}
 use Rattle.std.proofs.Common.{arith, refl, sym, subst, Option, Some, None, Result, Ok, Err}
 use Rattle.std.specs.Char.{len_utf8}
@@ -17,28 +17,28 @@ use Rattle.interpolator_syntax.proofs.LocalityLemmas.{Takes, takes_none, takes_t
 use Rattle.interpolator_syntax.proofs.PieceLemmas.{strip_after}
 use Rattle.interpolator_syntax.proofs.ReaderLemmas.{argument_takes}
 
--- what follows all of the text
+-- the end of the text
 takes_all_after : (a : At) → Takes a (all_after a)
 takes_all_after a =
     record { front = a.text; split = sym (append-nil a.text); place = refl }
 
--- ---- what the scan hands on
+-- ---- tokens
 
--- the characters that are written; of an argument its brace
+-- the characters of a token that are written; of an argument its brace
 abbrev pub written_text : Token → List ℕ
 written_text (literals cs) = cs
 written_text (doubled c) = c ∷ []
 written_text lone_close = close_brace ∷ []
 written_text argument = open_brace ∷ []
 
--- how many bytes they take
+-- how many bytes a token at p takes, up to b
 abbrev pub WrittenSize : ℕ → Token → At → Type 0
 WrittenSize p (literals cs) b = b.place ≡ p + size cs
 WrittenSize p (doubled c) b = (len_utf8 c ≡ 1) × (b.place ≡ p + 2)
 WrittenSize p lone_close b = b.place ≡ p + 1
 WrittenSize p argument b = b.place ≡ p + 1
 
--- they begin the text at a, and b is after a front of it
+-- the token begins the text at a, and b is after a front of it
 pub record HandedOn (a : At) (x : Token) (b : At) : Type 0 where
   pub takes : Takes a b
   pub more : List ℕ
@@ -108,7 +108,7 @@ pub handed_on : (a : At) (w : Token × At) → first_token a ≡ Some w → Hand
 unfolding first_token
 handed_on a w e = subst (MayHandOn a) e (scan_handed a (strip open_brace a) refl)
 
--- ---- what follows an argument
+-- ---- the text after an argument
 
 step_taken :
     (p : ℕ) (a : At) (x : Argument) (q : At) (o : Option At) → Takes a q → strip close_brace q ≡ o
@@ -133,7 +133,7 @@ past_taken : (x : Token) (b : At) → Takes b (past_token x b)
 past_taken argument b = argument_taken b.place b
 past_taken x b = takes_none b
 
--- what follows what the scan hands on, and after its argument
+-- the text after a token, and after its argument
 pub scan_taken : (a : At) (w : Token × At) → first_token a ≡ Some w → Takes a (past_token w.0 w.1)
 scan_taken a w e =
     takes_then a w.1 (past_token w.0 w.1) (handed_on a w e).takes (past_taken w.0 w.1)

@@ -1,5 +1,5 @@
--- What a reader keeps: what it takes is a front of its text, its faults lie there, and elsewhere it
--- answers the same; and how it keeps this when readers are put together.
+-- What a reader keeps: it takes a front of its text, its faults lie there, and elsewhere it returns
+-- the same; and how this is kept when readers are put together.
 use Rattle.std.proofs.Common.{◌≡◌, ℕ, ◌+◌, ◌≤◌, Bool, true, false, cond, eqb, List, [], ◌∷◌, ◌++◌}
 use Rattle.std.proofs.Common.{arith, refl, ap, ◌∙◌, sym, subst, Result, Ok, Err, Option, Some, None}
 use Rattle.std.proofs.Common.{inl, inr, ◌⊎◌}
@@ -14,8 +14,8 @@ use Rattle.interpolator_syntax.proofs.LocalityLemmas.{Takes, stands, takes_none,
 use Rattle.interpolator_syntax.proofs.LocalityLemmas.{takes_then, takes_reaches, Guarded}
 use Rattle.interpolator_syntax.proofs.LocalityLemmas.{takes_guards}
 
--- the argument that is read begins at `start`; elsewhere the same text is so many bytes further
--- on, with more after it
+-- the argument that is read begins at `start`; elsewhere the same text is `by` bytes further on,
+-- with more after it
 pub record Setting : Type 0 where
   pub start : ℕ
   pub by : ℕ
@@ -38,7 +38,7 @@ module _ (s : Setting) where
   elsewhere a = record { place = a.place + s.by; text = a.text ++ s.more }
 
   -- what follows the text changes nothing: a closing brace is left in front of it, or nothing
-  -- follows
+  -- follows it
   abbrev pub IsSettled : List ℕ → Type 0
   IsSettled cs = Guarded cs ⊎ (s.more ≡ [])
 
@@ -50,14 +50,14 @@ module _ (s : Setting) where
   settled_before a q h (inl guard) = inl (takes_guards a q h guard)
   settled_before a q h (inr e) = inr e
 
-  -- what was read at a is after a front of the text and, elsewhere, the same moved
+  -- what was read at a ends after a front of the text and, elsewhere, is the same moved
   abbrev pub KeepsValue :
       {A : Type 0} → (A → A) → (a : At) → (x : A) → (q : At) → (other : Result (A × At) Fault)
       → Type 0
   KeepsValue move a x q other =
       Takes a q × (IsSettled q.text → other ≡ Ok (move x, elsewhere q))
 
-  -- a fault at a is such as an argument can have, lies in it and, elsewhere, is the same moved
+  -- a fault at a is one that an argument can have, lies in it and, elsewhere, is the same moved
   abbrev pub KeepsFault :
       {A : Type 0} → (a : At) → (f : Fault) → (other : Result (A × At) Fault) → Type 0
   KeepsFault a f other =
@@ -65,26 +65,26 @@ module _ (s : Setting) where
       × (s.start ≤ a.place → fault_place f ≤ a.place + size a.text)
       × (s.more ≡ [] → other ≡ Err (moved_fault s.by f))
 
-  -- what an answer at a keeps, where `other` is the answer elsewhere and `move` moves what was read
+  -- what a result at a keeps, where `other` is the result elsewhere and `move` moves what was read
   abbrev pub Keeps :
       {A : Type 0} → (A → A) → (a : At) → (answer other : Result (A × At) Fault) → Type 0
   Keeps move a (Ok w) other = KeepsValue move a w.0 w.1 other
   Keeps move a (Err f) other = KeepsFault a f other
 
   -- what every reader of an argument keeps, where `other` reads elsewhere: what it takes is a front
-  -- of the text; a fault is such as an argument can have, and lies in the text; and the answer
+  -- of the text; a fault is one that an argument can have, and lies in the text; and the result
   -- moves with the text, whatever follows a closing brace that is not passed
   pub record Reads {A : Type 0} (move : A → A) (read other : Reader A) : Type 0 where
     pub keeps : (a : At) → Keeps move a (read a) (other (elsewhere a))
 
-  -- ---- answers
+  -- ---- results
 
   module _ {A : Type 0} (move : A → A) (a : At) where
     -- nothing is taken
     pub keeps_stay : (x : A) → Keeps move a (Ok (x, a)) (Ok (move x, elsewhere a))
     keeps_stay x = (takes_none a, λ settled. refl)
 
-    -- an answer after a front
+    -- a result after a front
     pub keeps_past :
         (b : At) (o k l : Result (A × At) Fault) → Takes a b → (IsSettled b.text → l ≡ k)
         → Keeps move b o k → Keeps move a o l
@@ -104,7 +104,7 @@ module _ (s : Setting) where
     keeps_either true o k p l h g = h
     keeps_either false o k p l h g = g
 
-  -- after an answer another, by what that keeps of the text at a, where l is the other elsewhere
+  -- after a result the next, by what that keeps of the text at a, where l is the result elsewhere
   pub keeps_through :
       {A B : Type 0} (move : A → A) (next : B → B) (a : At) (o k : Result (A × At) Fault)
       (g h : A → Reader B) → Keeps move a o k
@@ -116,7 +116,7 @@ module _ (s : Setting) where
   keeps_through move next a (Err f) k g h kept r =
       (kept.0, kept.1, kept.2, λ none. ap (λ answer. on answer h) (kept.3 none))
 
-  -- after an answer the next reader
+  -- after a result the next reader
   pub keeps_then :
       {A B : Type 0} (move : A → A) (next : B → B) (a : At) (o k : Result (A × At) Fault)
       (g h : A → Reader B) → Keeps move a o k
@@ -126,10 +126,10 @@ module _ (s : Setting) where
       keeps_through move next a o k g h kept (λ x b l t e.
       keeps_past next a b (g x b) (h (move x) (elsewhere b)) l t e (r x b t))
 
-  -- ---- what decides by the first character
+  -- ---- readers that decide by the first character
 
   module _ {A : Type 0} (move : A → A) where
-    -- an answer by the first character, if there is one
+    -- a result by the first character, if there is one
     pub keeps_first :
         (p : ℕ) (cs : List ℕ) (f g : Option (ℕ × At) → Result (A × At) Fault)
         → Keeps move (stands p cs) (f None) (g None)
@@ -145,7 +145,7 @@ module _ (s : Setting) where
         (g (Some (c, stands q (cs ++ s.more))))) (sym (step_moved p s.by (len_utf8 c)))
         (some c (stands (p + len_utf8 c) cs) (takes_one p c cs))
 
-    -- an answer at a by whether a text that ends if that at a does begins with c
+    -- a result at a by whether c begins the text cs, which ends where the text at a does
     pub keeps_strip_at :
         (a : At) (c p : ℕ) (cs : List ℕ) (f g : Option At → Result (A × At) Fault)
         → (IsSettled a.text → IsSettled cs)
@@ -167,7 +167,7 @@ module _ (s : Setting) where
           | false ↦ λ e. none
         ] (eqb-true d c))
 
-    -- an answer by whether the first character is c
+    -- a result by whether the first character is c
     pub keeps_strip :
         (c p : ℕ) (cs : List ℕ) (f g : Option At → Result (A × At) Fault)
         → Keeps move (stands p cs) (f None) (g None)

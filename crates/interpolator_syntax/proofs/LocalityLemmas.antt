@@ -1,4 +1,4 @@
--- Fronts of a text, and what follows them.
+-- Fronts of a text, and the text after them.
 use Rattle.std.proofs.Common.{◌≡◌, ℕ, ◌+◌, ◌≤◌, Bool, List, [], ◌∷◌, ◌++◌, length, arith, refl, ap}
 use Rattle.std.proofs.Common.{◌∙◌, sym, subst, inr, ◌⊎◌, append_assoc}
 use Rattle.std.specs.Char.{len_utf8}
@@ -46,7 +46,7 @@ takes_after passes a = record {
   place = refl;
 }
 
--- what follows a front is no longer
+-- the text after a front is no longer
 pub takes_shorter : (a q : At) → Takes a q → length q.text ≤ length a.text
 takes_shorter a q h = omega (arith, ap length h.split, length-append h.front q.text)
 

@@ -1,5 +1,5 @@
--- The longest front of a text whose characters pass: the one defined by recursion is one, and no
--- other is.
+-- The longest front of a text whose characters pass: that defined by recursion is one, and there is
+-- no other.
 use Rattle.std.proofs.Common.{◌≡◌, ℕ, Bool, false, IsTrue, IsFalse, All, List, []}
 use Rattle.std.proofs.Common.{◌∷◌, ◌++◌, refl, ap, ◌∙◌, sym}
 use Rattle.std.proofs.lemmas.Bool.{cond_both}

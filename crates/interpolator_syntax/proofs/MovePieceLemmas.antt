@@ -17,7 +17,7 @@ use Rattle.interpolator_syntax.proofs.KeepLemmas.{step_moved}
 use Rattle.interpolator_syntax.proofs.ReaderLemmas.{moved_read, moves_argument}
 
 module _ (by : ℕ) where
-  -- a piece, and what follows it
+  -- a piece, and the text after it
   abbrev moved_step : Step → Step
   moved_step s = record { piece = moved_piece by s.piece; rest = moved_at by s.rest }
 
@@ -30,7 +30,7 @@ module _ (by : ℕ) where
       ≡ moved_step (takes_all p b kind)
   takes_all_moves p b kind = step_same (at_same (step_moved b.place by (size b.text)) refl)
 
-  -- what is made of what follows the character c, if it is there
+  -- a step by the text after the character c, if that is there
   by_strip :
       (c p : ℕ) (cs : List ℕ) (f g : Option At → Step) → f None ≡ moved_step (g None)
       → ((r : At) → f (Some (moved_at by r)) ≡ moved_step (g (Some r)))
@@ -82,7 +82,7 @@ module _ (by : ℕ) where
   first_piece_moves p c cs =
       ap (piece_from (p + by) c) (past_moves p c cs) ∙ piece_from_moves p c (past p c cs)
 
-  -- the pieces of what follows a piece follow it
+  -- the pieces of the text after a piece follow it
   abbrev from_step : ℕ → Step → List Piece
   from_step most s = s.piece ∷ pieces_within most s.rest.place s.rest.text
 

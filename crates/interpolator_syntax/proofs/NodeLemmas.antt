@@ -1,4 +1,4 @@
--- The pieces of a text: the first, and then those of what follows it.
+-- The pieces of a text: the first, and then those of the text after it.
 use Rattle.std.proofs.Common.{◌≡◌, ℕ, zero, suc, ◌<◌, ◌≤◌, List, [], ◌∷◌, length, arith, refl, ap}
 use Rattle.std.proofs.Common.{◌∙◌, sym, Option, Some, None, Result, Ok, Err}
 use Rattle.interpolator_syntax.specs.At.{At, strip}
@@ -25,20 +25,20 @@ below : (P : At → Type 0) → ((a : At) → ((b : At) → length b.text < leng
 below P step zero a h = absurd (omega (arith, h))
 below P step (suc n) a h = step a (λ b l. below P step n b (omega (arith, h, l)))
 
--- what holds of a text if it holds of each shorter one holds of all
+-- a property that holds for a text if it holds for each shorter one holds for all texts
 pub by_length : (P : At → Type 0)
     → ((a : At) → ((b : At) → length b.text < length a.text → P b) → P a) → (a : At) → P a
 by_length P step a = below P step (suc (length a.text)) a (omega arith)
 
 -- ---- the kind of an argument
 
--- of an argument whose groups lie in its text, or of a broken one
+-- the kind is that of an argument whose groups lie in its text, or of a broken one
 abbrev pub ArgumentKind : (PieceKind → Type 0) → At → Type 0
 ArgumentKind P b =
     ((start : ℕ) (x : Argument) (q : ℕ) → KindIn x.kind b → P (closed start x q) × P (unclosed start x q))
     × ((f : Fault) → P (broken f))
 
--- what holds of each such kind holds of that of the argument that begins at b
+-- a property of each such kind is one of the kind of the argument that begins at b
 pub argument_kind : (P : PieceKind → Type 0) (b : At) → ArgumentKind P b
     → P (argument_from b.place b).piece.kind
 unfolding argument_from
@@ -108,7 +108,7 @@ enough (suc n) (suc m) a h k =
     leading_same a (nodes_within n) (nodes_within m)
     (λ b l. enough n m b (omega (arith, h, l)) (omega (arith, k, l))) (first_token a) refl
 
--- the pieces of a text are the first one, and those of what follows it
+-- the pieces of a text are the first one, and those of the text after it
 pub nodes_lead : (a : At) → nodes a ≡ leading_nodes nodes a.place (first_token a)
 unfolding nodes
 nodes_lead a =

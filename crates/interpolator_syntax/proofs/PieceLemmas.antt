@@ -23,7 +23,7 @@ after_shorter passes (c ∷ cs) =
     elim (passes c) as (λ b. length (cond b (after_of passes cs) (c ∷ cs)) ≤ length (c ∷ cs))
     [ true ↦ omega (arith, after_shorter passes cs) | false ↦ omega arith ]
 
--- what follows a character, if it is there, is no longer than so many characters
+-- the text after a character, if that is there, has at most n characters
 abbrev pub OptionWithin : ℕ → Option At → Type 0
 OptionWithin n None = Unit {0}
 OptionWithin n (Some rest) = length rest.text ≤ n
@@ -33,7 +33,7 @@ pub strip_within : (c p : ℕ) (cs : List ℕ) (n : ℕ) → length cs ≤ n
 strip_within c p [] n h = tt
 strip_within c p (d ∷ ds) n h = in_both (OptionWithin n) (eqb d c) _ _ (omega arith) tt
 
--- what follows a character that is there
+-- the text after a character that is there
 pub strip_after : (c p : ℕ) (cs : List ℕ) (r : At) → strip_of c p cs ≡ Some r
     → (cs ≡ c ∷ r.text) × (r.place ≡ p + len_utf8 c)
 strip_after c p [] r e = absurd (none_some e)
@@ -62,7 +62,7 @@ argument_from_within p b = argument_or_broken_within p b (argument_at b) refl
 pub piece_within : (p c : ℕ) (b : At) → length (piece_from p c b).rest.text ≤ length b.text
 piece_within p c b = grind (arith, argument_from_within p b)
 
--- a piece is where it begins
+-- the place of a piece is where it begins
 abbrev BeginsAt : ℕ → Step → Type 0
 BeginsAt p s = s.piece.place ≡ p
 
@@ -70,7 +70,7 @@ pub piece_begins : (p c : ℕ) (b : At) → BeginsAt p (piece_from p c b)
 unfolding argument_from
 piece_begins p c b = grind arith
 
--- any bound that is long enough gives the same pieces
+-- any bound that is great enough yields the same pieces
 enough : (n m p : ℕ) (cs : List ℕ) → length cs ≤ n → length cs ≤ m
     → pieces_within n p cs ≡ pieces_within m p cs
 enough n m p [] h k = refl
@@ -85,7 +85,7 @@ pub pieces_none : (p : ℕ) → pieces (record { place = p; text = [] }) ≡ []
 unfolding pieces
 pieces_none p = refl
 
--- the first piece, and then those of what follows it
+-- the first piece, and then those of the text after it
 pub pieces_next : (p c : ℕ) (cs : List ℕ)
     → pieces (record { place = p; text = c ∷ cs }) ≡ (piece_from p c (past p c cs)).piece ∷ pieces
     (piece_from p c (past p c cs)).rest
@@ -106,7 +106,7 @@ closed_text b r front e =
     append_cancel_right (text_up_to b r) (open_brace ∷ inner) r.text
     (cut_at_rest (open_brace ∷ b.text) r.text (open_brace ∷ inner, whole) ∙ whole)
 
--- a name that a closing brace follows is plain display of it
+-- a name with a closing brace after it stands for plain display
 pub read_alone : (a : At) (n : ArgumentName) (r : At)
     → argument_at a ≡ argument_after a.place (plain_argument n) (at n.end)
     → strip close_brace (at n.end) ≡ Some r → argument_at a ≡ Ok (plain_argument n, at n.end)

@@ -1,4 +1,4 @@
--- What the reader of an argument keeps: what it takes, if its faults lie, and what it answers
+-- What the reader of an argument keeps: what it takes, where its faults lie, and what it returns
 -- elsewhere.
 use Rattle.std.proofs.Common.{◌≡◌, ℕ, ◌+◌, ◌≤◌, List, [], arith, refl, ap, ◌∙◌, sym, Result, Ok}
 use Rattle.std.proofs.Common.{Err, None, inl, inr, append-nil}
@@ -39,7 +39,7 @@ module _ (s : Setting) where
         (λ rest e t. keeps_stay s move a plain_display);
   }
 
-  -- what is asked after a name at p, and the name with it
+  -- the request after a name at p, with that name
   abbrev asks : (start p : ℕ) → List ℕ → Reader Argument
   asks start p name = asked_at start >>= λ asked. give (argument name p asked)
 
@@ -78,7 +78,7 @@ module _ (by : ℕ) (more : List ℕ) (a : At) where
 pub argument_takes : (a : At) (x : Argument) (q : At) → argument_at a ≡ Ok (x, q) → Takes a q
 argument_takes a x q e = (read_argument 0 [] a x q e).0
 
--- why it is broken is a fault in it, such as an argument can have
+-- if it is broken, the fault lies in it, and is one that an argument can have
 pub argument_refuses :
     (a : At) (f : Fault) → argument_at a ≡ Err f → fault_place f ≤ a.place + size a.text
 argument_refuses a f e = (refused_argument 0 [] a f e).2 (omega arith)
@@ -89,7 +89,7 @@ fault_from a f e = (refused_argument 0 [] a f e).1 (omega arith)
 pub argument_fault : (a : At) (f : Fault) → argument_at a ≡ Err f → IsArgumentFault f
 argument_fault a f e = (refused_argument 0 [] a f e).0
 
--- what an argument is elsewhere, as the laws have it
+-- what an argument is elsewhere, as the laws state it
 abbrev pub moved_read : (by : ℕ) → Result (Argument × At) Fault → Result (Argument × At) Fault
 moved_read by (Ok w) = Ok (moved_argument by w.0, moved_at by w.1)
 moved_read by (Err f) = Err (moved_fault by f)

@@ -1,4 +1,4 @@
--- What the scan hands on first, in pieces, and then the pieces of what follows it.
+-- The pieces of the first token, and then those of the text after it.
 use Rattle.std.proofs.Common.{◌≡◌, ℕ, ◌+◌, Bool, true, false, eqb, List, [], ◌∷◌, ◌++◌}
 use Rattle.std.proofs.Common.{arith, refl, ap, ◌∙◌, subst, Option, Some, None, eqb-true}
 use Rattle.std.specs.Char.{len_utf8}
@@ -16,16 +16,16 @@ use Rattle.interpolator_syntax.proofs.LocalityLemmas.{stands}
 use Rattle.interpolator_syntax.proofs.LongestLemmas.{at_same}
 use Rattle.interpolator_syntax.proofs.PieceLemmas.{literal_step, pieces_none, pieces_next}
 
--- the first piece of a text, and those of what follows it
+-- the first piece of a text, and those of the text after it
 abbrev of_step : Step → List Piece
 of_step s = s.piece ∷ pieces s.rest
 
--- what the scan hands on at p, and then the pieces of what follows it
+-- the pieces of a token at p, and then those of the text after it
 abbrev of_scan : ℕ → Option (Token × At) → List Piece
 of_scan p None = []
 of_scan p (Some x) = token_pieces p x.0 x.1 ++ pieces (past_token x.0 x.1)
 
--- what follows an argument is the same wherever its brace is
+-- the text after an argument is the same wherever its brace is
 any_rest : (q p : ℕ) (b : At) → (argument_from q b).rest ≡ (argument_from p b).rest
 unfolding argument_from
 any_rest q p b = grind arith
@@ -73,7 +73,7 @@ run_is : (p : ℕ) (cs : List ℕ) → IsRun p cs
 run_is p [] = at_end p []
 run_is p (c ∷ cs) = run_of p c cs (is_brace c) refl (run_is (p + len_utf8 c) cs)
 
--- ---- what the scan hands on
+-- ---- tokens
 
 abbrev Hands : At → Option (Token × At) → Type 0
 Hands a o = pieces a ≡ of_scan a.place o

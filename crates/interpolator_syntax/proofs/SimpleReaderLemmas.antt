@@ -28,7 +28,7 @@ module _ (s : Setting) where
         (front_of passes (cs ++ s.more) ≡ front_of passes cs)
         × (after_of passes (cs ++ s.more) ≡ after_of passes cs ++ s.more)
 
-    -- if a closing brace is left, it is the same whatever comes after the text
+    -- if a closing brace is left, the front is the same whatever comes after the text
     same_front : (cs : List ℕ) → IsSettled s (after_of passes cs) → SameFront cs
     same_front cs (inr e) = rw (e, append-nil cs, append-nil (after_of passes cs)) (refl, refl)
     same_front [] (inl guard) = absurd guard
@@ -106,7 +106,7 @@ law_then h first then = record {
   reads = reads_then h first.reads (λ x. (then x).reads);
 }
 
--- a reader that answers as one of which it holds
+-- a reader that returns the same as one for which it holds
 pub law_same :
     {s : Setting} {A : Type 0} {move : A → A} {read other f g : Reader A} {part : Part A}
     → ((a : At) → f a ≡ read a) → ((a : At) → g a ≡ other a) → Law s move read other part

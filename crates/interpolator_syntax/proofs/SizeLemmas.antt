@@ -31,7 +31,7 @@ pub record GroupIn (g : Group) (a : At) : Type 0 where
   pub shorter : length g.text < length a.text
   pub lies : g.place + size g.text ≤ a.place + size a.text
 
--- so is a group, if there is one
+-- so is a group that may be absent, if there is one
 abbrev pub GroupIfIn : Option Group → At → Type 0
 GroupIfIn None a = ⊤
 GroupIfIn (Some g) a = GroupIn g a
@@ -41,7 +41,7 @@ pub record ListIn (l : ListRequest) (a : At) : Type 0 where
   pub item : GroupIfIn l.item a
   pub join : GroupIfIn l.join a
 
--- the groups of what an argument asks for
+-- the groups of an argument's kind
 abbrev pub KindIn : Kind → At → Type 0
 KindIn (of_value t) a = ⊤
 KindIn (of_list l) a = ListIn l a
@@ -84,7 +84,7 @@ pub record ArgumentIn (start : ℕ) (x : Argument) (end : ℕ) (a : At) : Type 0
   pub ends : end ≤ a.place + size a.text
   pub kind : KindIn x.kind a
 
--- so does what a piece is
+-- so does the kind of a piece
 abbrev pub PieceIn : PieceKind → At → Type 0
 PieceIn (closed start x end) a = ArgumentIn start x end a
 PieceIn (unclosed start x end) a = ArgumentIn start x end a
@@ -109,7 +109,7 @@ argument_lies a b x q t e =
     }
 
 module _ (a b : At) (t : Takes a b) where
-  -- what follows a brace
+  -- the text after a brace
   after_brace : (start : ℕ) (inner : List ℕ) → b.text ≡ open_brace ∷ inner → start ≡ b.place + 1
       → Takes a (stands start inner)
   after_brace start inner e k =

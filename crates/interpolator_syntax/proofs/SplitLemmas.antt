@@ -49,7 +49,7 @@ split_other (node p end Closed held item join) h = refl
 split_other (node p end Unclosed held item join) h = refl
 split_other (node p end Broken held item join) h = refl
 
--- literals in front of nodes of which the first is of something else
+-- literals in front of nodes, the first of which is not of literals
 before_other : (p end : ℕ) (cs : List ℕ) (xs : List Node) → begins_literal xs ≡ false
     → with_literals p end cs xs ≡ text_node p end Literal cs ∷ xs
 before_other p end cs [] h = refl
@@ -69,7 +69,7 @@ argument_other p end b =
 
 -- ---- runs of literals
 
--- the scan hands on something else than literals, or nothing
+-- the first token is not of literals, or there is none
 abbrev NoRun : Token → Type 0
 NoRun (literals cs) = ⊥
 NoRun t = ⊤
@@ -78,7 +78,7 @@ abbrev LeadsNoRun : Option (Token × At) → Type 0
 LeadsNoRun None = ⊤
 LeadsNoRun (Some w) = NoRun w.0
 
--- a run of literals has one, and none is after it
+-- a run of literals is not empty, and no literal is after it
 abbrev WholeRun : Token → At → Type 0
 WholeRun (literals cs) b = (0 < length cs) × LeadsNoRun (first_token b)
 WholeRun t b = ⊤
@@ -221,7 +221,7 @@ argument_alone p b end e =
     ∙ ap (λ n. piece_node nodes p n (argument_from p b).piece.kind) e
     ∙ ap (piece_node nodes p end) same.1
 
--- what the scan hands on, if it is no run of literals
+-- a token that is no run of literals
 token_alone : (a : At) (t : Token) (b : At) → first_token a ≡ Some (t, b) → NoRun t
     → map node_alone (token_pieces a.place t b) ≡ token_node nodes a.place t b ∷ []
 token_alone a (literals cs) b h k = absurd k
@@ -237,7 +237,7 @@ token_alone a argument b h k =
     let ends = piece_ends a rest x (hands_on a argument b h) (scan_taken a (argument, b) h) in
     ap (λ y. y ∷ []) (argument_alone a.place b rest.place ends)
 
--- the first pieces, and those of what follows them
+-- the first pieces, and those of the text after them
 alone_first : (a : At) (w : Token × At) → first_token a ≡ Some w
     → nodes_alone a
     ≡ map node_alone (token_pieces a.place w.0 w.1) ++ nodes_alone (past_token w.0 w.1)
@@ -246,7 +246,7 @@ alone_first a w h = ap (map node_alone) (hands_on a w.0 w.1 h)
 
 -- ---- literals as one
 
--- a run of literals becomes one
+-- a run of literals becomes one node
 run_merged : (p c : ℕ) (cs : List ℕ) (xs : List Node) → begins_literal (join_literals xs) ≡ false
     → join_literals (literal_nodes p (c ∷ cs) ++ xs)
     ≡ text_node p (p + size (c ∷ cs)) Literal (c ∷ cs) ∷ join_literals xs
@@ -342,7 +342,7 @@ pieces_again = by_length SplitsAgain step
         by_token (Some w) e =
             first_splits a w e (more (past_token w.0 w.1) (scan_shorter a _ w e refl))
 
--- ---- what is gathered from nodes one by one, and from a run of literals as from each by itself
+-- ---- gathering from nodes, where a run of literals yields what its characters yield one by one
 
 module _ {M : Type 0} (all : List Node → M)
     (next : (x : Node) (xs ys : List Node) → all xs ≡ all ys → all (x ∷ xs) ≡ all (x ∷ ys))
@@ -367,7 +367,7 @@ module _ {M : Type 0} (all : List Node → M)
       next (token_node nodes a.place t b) (nodes rest) (nodes_alone rest) more
       ∙ ap (λ xs. all (xs ++ nodes_alone rest)) (sym (token_alone a t b h tt))
 
-  -- of a text it is that of its pieces
+  -- what is gathered from the nodes of a text is what is gathered from its pieces
   pub gathered_alone : (a : At) → all (nodes a) ≡ all (nodes_alone a)
   gathered_alone = by_length Gathers step
     where

@@ -1,4 +1,4 @@
--- What follows a token is shorter than the text.
+-- The text after a token is shorter than the text.
 use Rattle.std.proofs.Common.{◌≡◌, ℕ, ◌+◌, ◌<◌, ◌≤◌, eqb, subst, List, [], ◌∷◌}
 use Rattle.std.proofs.Common.{length, arith, Option, Some, None}
 use Rattle.std.specs.Char.{len_utf8}
@@ -12,7 +12,7 @@ use Rattle.interpolator_syntax.proofs.PieceLemmas.{after_shorter, OptionWithin, 
 use Rattle.interpolator_syntax.proofs.PieceLemmas.{argument_from_within}
 use Rattle.std.proofs.lemmas.Bool.{cond_both}
 
--- what follows what the scan hands on has fewer characters
+-- the text after a token has fewer characters
 abbrev ScanShorter : ℕ → Option (Token × At) → Type 0
 ScanShorter n None = Unit {0}
 ScanShorter n (Some x) = length x.1.text < n
@@ -46,7 +46,7 @@ pub token_shorter : (a : At) (x : Token × At) → first_token a ≡ Some x
     → length x.1.text < length a.text
 token_shorter a x h = subst (ScanShorter (length a.text)) h (scan_shorter_at a.place a.text)
 
--- what follows its argument has no more
+-- the text after its argument has no more
 past_within : (x : Token) (b : At) → length (past_token x b).text ≤ length b.text
 past_within argument b = argument_from_within b.place b
 past_within x b = omega arith

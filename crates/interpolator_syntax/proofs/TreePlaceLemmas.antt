@@ -26,7 +26,7 @@ use Rattle.interpolator_syntax.proofs.ReaderLemmas.{argument_takes, argument_ref
 use Rattle.interpolator_syntax.proofs.SizeLemmas.{GroupIfIn, KindIn, argument_in}
 use Rattle.interpolator_syntax.proofs.TokenLemmas.{token_shorter, scan_shorter}
 
--- the places that a tree keeps are at most so far
+-- the places that a tree keeps are at most n
 module _ (n : ℕ) where
   abbrev pub HeldLies : Content → Type 0
   HeldLies (text_content from cs) = from + size cs ≤ n
@@ -47,7 +47,7 @@ module _ (n : ℕ) where
     ForestLies no_nodes = ⊤
     ForestLies (nodes_and x xs) = NodeLies x × ForestLies xs
 
--- those of a text, wherever n is that it ends there or before
+-- those of a text, if it ends at n or before
 abbrev Lies : At → Type 0
 Lies a = (n : ℕ) → a.place + size a.text ≤ n → ForestLies n (as_forest (nodes a))
 

@@ -1,4 +1,4 @@
--- What goes through a writer over a formatter is written to the formatter.
+-- What is written through a writer on top of a formatter is written to the formatter.
 use Rattle.std.proofs.Common.{◌≡◌, refl, sym, subst, ◌∙◌, List, [], ◌∷◌, ℕ}
 use Rattle.std.proofs.lemmas.Bool.{false≢true}
 use Rattle.std.specs.Prelude.{Option, Some, None, Result, OnOk, Ok, Err}
@@ -10,7 +10,7 @@ use Rattle.std.specs.declared.fmt.Error.{Error}
 use Rattle.std.proofs.Output.{has_written_styled_nil, has_written_styled_append}
 
 module _ {W : Type 0} (took : W → List ℕ → W → Type 0) where
-  -- what is written whatever the options is written if there are none
+  -- a text that is written whatever the options are is written if there are none
   pub displays_plainly : (f g : Formatter W) (result : Result (Unit {0}) Error)
       (text : Option (List ℕ)) → DisplaysStyledOnOk took f result text g
       → DisplaysOnOk took f result text g
@@ -25,7 +25,7 @@ module _ {W : Type 0} (took : W → List ℕ → W → Type 0) where
       }
 
   module _ {S N : Type 0} (name : S → N) (below : S → Formatter W) where
-    -- a call goes on to the formatter below
+    -- a call is passed on to the formatter below
     abbrev pub Through : S → List ℕ → S → Type 0
     Through old text new = (name new ≡ name old)
         × (IsFlush (below old) → HasWrittenStyled took (below old) text (below new))
@@ -42,7 +42,7 @@ module _ {W : Type 0} (took : W → List ℕ → W → Type 0) where
               has_written_styled_append took _ _ _ _ _ first (rest.1 first.flush),
         )
 
-    -- calls that each go on to the formatter do so together
+    -- calls that are each passed on to the formatter are passed on together
     pub displays_through : (old new : S) (g : Formatter W) (result : Result (Unit {0}) Error)
         (text : Option (List ℕ)) → (name new ≡ name old → g ≡ below new)
         → OnOk result (WritesText Through old text new)

@@ -2,7 +2,7 @@
 use Rattle.std.specs.Prelude.{⊤}
 use Rattle.interpolator_syntax.specs.Faults.{Fault, parse, unsupported_option}
 
--- its text is broken, or an option is asked for that is left out
+-- its text is broken, or it uses an option that is not supported
 abbrev pub IsArgumentFault : Fault → Type 0
 IsArgumentFault (parse f) = ⊤
 IsArgumentFault (unsupported_option option feature place) = ⊤

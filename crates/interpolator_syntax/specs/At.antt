@@ -11,7 +11,7 @@ abbrev pub size : List ℕ → ℕ
 size [] = 0
 size (c ∷ cs) = len_utf8 c + size cs
 
--- characters, each with its place
+-- characters, each with a place
 abbrev pub Placed : Type 0
 Placed = List (ℕ × ℕ)
 
@@ -24,7 +24,7 @@ abbrev pub placed_from : ℕ → List ℕ → Placed
 placed_from p [] = []
 placed_from p (c ∷ cs) = (c, p) ∷ placed_from (p + len_utf8 c) cs
 
--- characters that all have one place
+-- characters, all with the same place
 abbrev pub placed_at : ℕ → List ℕ → Placed
 placed_at p cs = map (λ c. (c, p)) cs
 
@@ -33,7 +33,7 @@ pub record At : Type 0 where
   pub place : ℕ
   pub text : List ℕ
 
--- a whole format
+-- a whole format, which begins at byte 0
 abbrev pub outermost : List ℕ → At
 outermost cs = record { place = 0; text = cs }
 
@@ -41,29 +41,29 @@ outermost cs = record { place = 0; text = cs }
 abbrev pub at : Cursor → At
 at c = record { place = c.place; text = chars c.rest.now }
 
--- the first character of a text at a place, and what follows it
+-- the first character of a text at a place, and the text after it
 abbrev pub first_of : ℕ → List ℕ → Option (ℕ × At)
 first_of p [] = None
 first_of p (c ∷ cs) = Some (c, record { place = p + len_utf8 c; text = cs })
 
--- the first character of a text, if there is one, and what follows it
+-- the first character of the text at a, if there is one, and the text after it
 abbrev pub first : At → Option (ℕ × At)
 first a = first_of a.place a.text
 
--- what follows the longest front whose characters pass
+-- the text after the longest front whose characters pass
 abbrev pub after : (ℕ → Bool) → At → At
 after passes a =
     record { place = a.place + size (front_of passes a.text); text = after_of passes a.text }
 
--- what follows the character c, if the text begins with it
+-- the text after the character c, if a text at p begins with it
 abbrev pub strip_of : ℕ → ℕ → List ℕ → Option At
 strip_of c p [] = None
 strip_of c p (d ∷ ds) = if d == c then Some (record { place = p + len_utf8 d; text = ds }) else None
 
--- what follows the character c, if the text at a begins with it
+-- the text after the character c, if the text at a begins with it
 abbrev pub strip : ℕ → At → Option At
 strip c a = strip_of c a.place a.text
 
--- what follows all of the text
+-- the end of the text
 abbrev pub all_after : At → At
 all_after a = record { place = a.place + size a.text; text = [] }

@@ -96,7 +96,7 @@ lower_p = 112
 abbrev pub is_brace : ℕ → Bool
 is_brace c = c == open_brace || c == close_brace
 
--- neither of two characters
+-- a character is neither of two
 abbrev pub avoids : ℕ → ℕ → ℕ → Bool
 avoids first second c = not (c == first || c == second)
 
@@ -104,8 +104,8 @@ avoids first second c = not (c == first || c == second)
 abbrev pub is_alignment : ℕ → Bool
 is_alignment c = c == left_angle || c == caret || c == right_angle
 
--- a name goes on up to the first colon or closing brace, a number as long as digits and `-` follow,
--- a literal text up to the first brace, and the text in a bracket up to the first `)`
+-- whether a character is of a class: a name goes on up to the first colon or closing brace, a
+-- literal text up to the first brace, and the text in a bracket up to the first `)`
 abbrev pub in_class : Class → ℕ → Bool
 in_class WhiteSpace c = is_whitespace c
 in_class Name c = avoids colon close_brace c
@@ -119,7 +119,7 @@ abbrev pub front_of : (ℕ → Bool) → List ℕ → List ℕ
 front_of passes [] = []
 front_of passes (c ∷ cs) = if passes c then c ∷ front_of passes cs else []
 
--- what follows it
+-- the text after that front
 abbrev pub after_of : (ℕ → Bool) → List ℕ → List ℕ
 after_of passes [] = []
 after_of passes (c ∷ cs) = if passes c then after_of passes cs else (c ∷ cs)

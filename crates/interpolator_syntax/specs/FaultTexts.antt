@@ -30,14 +30,14 @@ trait_name UpperExp = codes "UpperExp"
 trait_name UpperHex = codes "UpperHex"
 trait_name Iter = codes "Iter"
 
--- why a number is refused
+-- why a text is not a number
 abbrev pub number_text : NumberError → List ℕ
 number_text Empty = codes "cannot parse integer from empty string"
 number_text InvalidDigit = codes "invalid digit found in string"
 number_text PosOverflow = codes "number too large to fit in target type"
 number_text NegOverflow = codes "number too small to fit in target type"
 
--- why a format text is refused
+-- why a format text is rejected
 abbrev pub parse_fault_text : ParseFault → List ℕ
 parse_fault_text (unclosed place) =
     codes "Format spec at " ++ (decimal place ++ codes " is nether closed with a `}`")
@@ -58,14 +58,14 @@ parse_fault_text (range_bound kind place) =
     codes "Unable to parse range bound at "
     ++ (decimal place ++ (codes " as isize: " ++ number_text kind))
 
--- which option wants which feature
+-- which option needs which feature
 abbrev pub unsupported_text : List ℕ → List ℕ → ℕ → List ℕ
 unsupported_text option feature place =
     codes "option `"
     ++ (option ++ (codes "` is not supported without feature `"
     ++ (feature ++ (codes "` at " ++ decimal place))))
 
--- why a format has no text
+-- why a format was not written
 abbrev pub fault_text : Fault → List ℕ
 fault_text (missing_trait_impl wanted place) =
     codes "trait `"
@@ -80,15 +80,15 @@ fault_text (missing_value name place) =
     ++ (encode_utf8_all name ++ (codes "` at " ++ decimal place))
 fault_text (unsupported_option option feature place) = unsupported_text option feature place
 
--- a fault's text, or that memory was refused
+-- a fault's text, or that memory ran out
 abbrev pub answer_text : Answer → List ℕ
 answer_text (fault why) = fault_text why
 answer_text no_memory = codes "out of memory"
 
--- what `{}` writes of a `ParseError`
+-- what `{}` writes for a `ParseError`
 abbrev pub parse_error_text : ParseError → List ℕ
 parse_error_text error = parse_fault_text (parse_fault_of error)
 
--- what `{}` writes of an `Error`
+-- what `{}` writes for an `Error`
 abbrev pub error_text : Error → List ℕ
 error_text error = answer_text (answer_of error)

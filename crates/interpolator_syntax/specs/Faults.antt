@@ -1,4 +1,4 @@
--- What a fault says: its variant and its fields, borrows and allocators aside.
+-- What a fault says: its variant and its fields, without borrows and allocators.
 use Rattle.std.specs.Prelude.{ℕ, ◌≤◌, List, Option, None, Some, Result, Ok, Err, string_bytes, ⊤}
 use Rattle.std.specs.Prelude.{codes}
 use Rattle.std.specs.Str.{chars}
@@ -18,7 +18,7 @@ use Rattle.interpolator_syntax.specs.declared.error.Error.TheVariants.{MissingVa
 use Rattle.interpolator_syntax.specs.declared.error.Error.TheVariants.{UnsupportedOption}
 use Rattle.interpolator_syntax.specs.declared.error.Error.TheVariants.{NoMemory}
 
--- a fault of the format text: the bytes of a wanted text, and places
+-- a fault of the format text, with its place and, for `expected`, the bytes of the expected text
 pub data ParseFault : Type 0 where
   unclosed : ℕ → ParseFault
   expected : List ℕ → ℕ → ParseFault
@@ -28,8 +28,8 @@ pub data ParseFault : Type 0 where
   iter : ℕ → ParseFault
   range_bound : NumberError → ℕ → ParseFault
 
--- a fault that a format can have: the characters of a missing name, the bytes of an option and
--- its feature, and places
+-- a fault that a format can have, with its place and the characters of a missing name, or the bytes
+-- of an option and of its feature
 pub data Fault : Type 0 where
   missing_trait_impl : Trait → ℕ → Fault
   fmt : ℕ → Fault
@@ -37,7 +37,7 @@ pub data Fault : Type 0 where
   missing_value : List ℕ → ℕ → Fault
   unsupported_option : List ℕ → List ℕ → ℕ → Fault
 
--- what an error says: a fault of the format, or that memory was refused
+-- what an error says: a fault of the format, or that memory ran out
 pub data Answer : Type 0 where
   fault : Fault → Answer
   no_memory : Answer
@@ -62,17 +62,17 @@ answer_of (UnsupportedOption option feature place) =
     fault (unsupported_option option.now feature.now place)
 answer_of NoMemory = no_memory
 
--- what a call answered beside its result: nothing for `Ok`
+-- what the error of a result says: nothing for `Ok`
 abbrev pub result_answer : {A : Type 0} → Result A Error → Option Answer
 result_answer (Ok _) = None
 result_answer (Err error) = Some (answer_of error)
 
--- why no argument can be read
+-- what an `ArgumentFault` says
 abbrev pub argument_fault_of : ArgumentFault → Fault
 argument_fault_of (Text error) = parse (parse_fault_of error)
 argument_fault_of (Pointer place) = unsupported_option (codes "p") (codes "pointer") place
 
--- the one fault that owns memory
+-- the error is of the one variant that owns memory
 abbrev pub IsMissingValue : Error → Type 0
 IsMissingValue (MissingValue _ _) = ⊤
 IsMissingValue _ = ⊥
@@ -95,12 +95,12 @@ fault_place (parse f) = parse_place f
 fault_place (missing_value name place) = place
 fault_place (unsupported_option option feature place) = place
 
--- the place that an answer carries; none if memory was refused
+-- the place that an answer carries; none if memory ran out
 abbrev pub answer_place : Answer → Option ℕ
 answer_place (fault f) = Some (fault_place f)
 answer_place no_memory = None
 
--- an answered fault carries a place of at most so many bytes
+-- the place of an answer, if it has one, is at most `length`
 abbrev pub PlaceWithin : ℕ → Option Answer → Type 0
 PlaceWithin length None = ⊤
 PlaceWithin length (Some (fault f)) = fault_place f ≤ length

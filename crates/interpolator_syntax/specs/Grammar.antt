@@ -1,4 +1,4 @@
--- The pieces of a text as a relation: each is of the first kind that its place allows.
+-- The pieces of a text as a relation: each piece is of the first kind that its place allows.
 use Rattle.std.specs.Prelude.{◌≡◌, ◌≢◌, ℕ, ◌+◌, ◌≤◌, Bool, IsTrue, IsFalse, All, List, [], ◌∷◌}
 use Rattle.std.specs.Prelude.{◌++◌, Ok, Err}
 use Rattle.interpolator_syntax.specs.At.{At, size}
@@ -25,7 +25,7 @@ from_place p cs = record { place = p; text = cs }
 abbrev pub NotFirst : ℕ → List ℕ → Type 0
 NotFirst c text = (more : List ℕ) → text ≢ c ∷ more
 
--- from a brace at p to its closing brace: the argument after the one ends in front of the other
+-- from a brace at p to its closing brace: the argument after the former ends in front of the latter
 pub record IsClosed (p start : ℕ) (x : Argument) (end : ℕ) (text rest : List ℕ) : Type 0 where
   pub inner : List ℕ
   pub in_braces : text ≡ open_brace ∷ (inner ++ (close_brace ∷ []))
@@ -34,7 +34,7 @@ pub record IsClosed (p start : ℕ) (x : Argument) (end : ℕ) (text rest : List
       argument_at (from_place start (inner ++ (close_brace ∷ rest)))
       ≡ Ok (x, from_place end (close_brace ∷ rest))
 
--- from a brace at p on all the rest: no closing brace is if the argument after it ends
+-- from a brace at p all the rest: no closing brace is where the argument after the brace ends
 pub record IsUnclosed (p start : ℕ) (x : Argument) (end : ℕ) (text rest : List ℕ) : Type 0 where
   pub inner : List ℕ
   pub left : List ℕ
@@ -44,7 +44,7 @@ pub record IsUnclosed (p start : ℕ) (x : Argument) (end : ℕ) (text rest : Li
   pub reads : argument_at (from_place start inner) ≡ Ok (x, from_place end left)
   pub not_closed : NotFirst close_brace left
 
--- from a brace at p on all the rest: no argument follows it, for this reason
+-- from a brace at p all the rest: no argument follows the brace, for this reason
 pub record IsBroken (p : ℕ) (f : Fault) (text rest : List ℕ) : Type 0 where
   pub inner : List ℕ
   pub takes_all : rest ≡ []
@@ -66,7 +66,7 @@ pub record Stands (a : At) (x : Piece) (rest : List ℕ) : Type 0 where
   pub split : a.text ≡ x.text ++ rest
   pub fits : Fits a.place x.kind x.text rest
 
--- and no piece that may be there is of an earlier kind
+-- the piece may come first, and no piece that may is of an earlier kind
 pub record StandsFirst (a : At) (x : Piece) (rest : List ℕ) : Type 0 where
   pub stands : Stands a x rest
   pub first : (y : Piece) (after : List ℕ) → Stands a y after → rank x.kind ≤ rank y.kind
@@ -80,7 +80,7 @@ IsPieces a (x ∷ xs) =
 
 -- ---- fronts of a text
 
--- the longest front of a text whose characters pass, and what follows it
+-- `front` is the longest front of the text whose characters pass, and `rest` follows it
 pub record IsLongest (passes : ℕ → Bool) (text front rest : List ℕ) : Type 0 where
   pub split : text ≡ front ++ rest
   pub pass : All (λ c. IsTrue (passes c)) front

@@ -1,5 +1,5 @@
--- Parts of a text by relation: what is at a place, or the fault that it is not. A part reads
--- nothing, and parts come one after the other.
+-- Parts of a text as relations: what is at a place, or why it is not there. A part computes
+-- nothing; parts come one after the other.
 use Rattle.std.specs.Prelude.{◌≡◌, ◌≢◌, ◌⊎◌, ℕ, ◌+◌, Bool, true, false, IsTrue, IsFalse}
 use Rattle.std.specs.Prelude.{List, [], ◌∷◌, ◌++◌, Option, Some, None}
 use Rattle.interpolator_syntax.specs.At.{At, size}
@@ -11,13 +11,13 @@ use Rattle.interpolator_syntax.specs.declared.error.NumberError.{NumberError}
 use Rattle.interpolator_syntax.specs.declared.class.Class.{Class}
 use Rattle.interpolator_syntax.specs.declared.class.Class.TheVariants.{Number}
 
--- `is a x q`: x is at a, and after it what is at q; `is_not a f`: none is at a, and f is the fault
+-- `is a x q`: x is at a, and after it the text at q; `is_not a f`: none is at a, and f is the fault
 pub record Part (A : Type 0) : Type 1 where
   pub is : At → A → At → Type 0
   pub is_not : At → Fault → Type 0
 
 infixl 10 ◌>>=◌
--- a part and, after it, the next; the fault is of the first part that is not there
+-- a part and, after it, the next; the fault is that of the first part that is not there
 abbrev pub ◌>>=◌ : {A B : Type 0} → Part A → (A → Part B) → Part B
 ◌>>=◌ {A = A} part next = record {
   is = λ a y q. (x : A) × (b : At) × part.is a x b × (next x).is b y q;
@@ -25,11 +25,11 @@ abbrev pub ◌>>=◌ : {A B : Type 0} → Part A → (A → Part B) → Part B
       λ a f. part.is_not a f ⊎ ((x : A) × (b : At) × part.is a x b × (next x).is_not b f);
 }
 
--- no text at all, which says x
+-- no text at all, with x as its meaning
 abbrev pub ends : {A : Type 0} → A → Part A
 ends x = record { is = λ a y q. (y ≡ x) × (q ≡ a); is_not = λ a f. ⊥ }
 
--- a part that tells its own place
+-- a part that depends on its own place
 abbrev pub at_place : {A : Type 0} → (ℕ → Part A) → Part A
 at_place part =
     record { is = λ a. (part a.place).is a; is_not = λ a. (part a.place).is_not a }
@@ -38,7 +38,7 @@ at_place part =
 abbrev pub IsFirst : (c : ℕ) → List ℕ → Type 0
 IsFirst c text = (more : List ℕ) × (text ≡ c ∷ more)
 
--- the characters are at a, and after them what is at q
+-- the characters are at a, and after them the text at q
 pub record Lies (a : At) (cs : List ℕ) (q : At) : Type 0 where
   pub split : a.text ≡ cs ++ q.text
   pub place : q.place ≡ a.place + size cs
@@ -89,7 +89,7 @@ where_after c part = record {
   is_not = λ a f. (b : At) × Lies a (c ∷ []) b × part.is_not b f;
 }
 
--- the longest run of a class is at a, and after it what is at q
+-- the longest run of a class is at a, and after it the text at q
 pub record IsRun (class : Class) (a : At) (cs : List ℕ) (q : At) : Type 0 where
   pub longest : IsLongest (in_class class) a.text cs q.text
   pub place : q.place ≡ a.place + size cs

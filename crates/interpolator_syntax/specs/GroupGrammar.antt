@@ -1,4 +1,4 @@
--- Which texts are groups, and why the others are none.
+-- Which texts are groups, and why the others are not.
 use Rattle.std.specs.Prelude.{◌≡◌, ◌≢◌, ℕ, zero, suc, ◌+◌, List, [], ◌∷◌, ◌++◌, codes}
 use Rattle.interpolator_syntax.specs.At.{At, size}
 use Rattle.interpolator_syntax.specs.Classes.{hash, open_bracket, close_bracket}
@@ -24,8 +24,8 @@ NoneCloses k inner after =
     (front more rest : List ℕ) → inner ≡ front ++ (close_bracket ∷ more)
     → more ++ after ≢ sign_text k ++ rest
 
--- the group that begins at a, in front of what is at q: what opens it, the text, and what
--- closes it, at the first place at which it closes
+-- the group that begins at a, in front of the text at q: what opens it, the text, and what
+-- closes it, at the first place where it can close
 pub record IsGroup (a : At) (g : Group) (q : At) : Type 0 where
   pub k : ℕ
   pub split : a.text ≡ open_text k ++ (g.text ++ (close_text k ++ q.text))

@@ -13,18 +13,19 @@ use Rattle.interpolator_syntax.specs.declared.argument_fault.ArgumentFault.{Argu
 use Rattle.interpolator_syntax.specs.declared.cursor.Cursor.{Cursor}
 use Rattle.interpolator_syntax.specs.declared.group.Group as code_group
 
--- what follows k signs, if there are so many at p
+-- the text after k signs, if there are as many at p
 abbrev pub after_hashes : (k p : ℕ) → List ℕ → Option At
 after_hashes zero p cs = Some (record { place = p; text = cs })
 after_hashes (suc k) p [] = None
 after_hashes (suc k) p (c ∷ cs) = if c == hash then after_hashes k (p + len_utf8 c) cs else None
 
--- the text ends in front of the character c, whose signs are followed by this; or it ends later
+-- a group's text that ends in front of the character c, with q after the signs that follow c; or
+-- one that goes on with c and ends later
 abbrev pub here_or_later : (c : ℕ) → Option At → Option (List ℕ × At) → Option (List ℕ × At)
 here_or_later c (Some q) later = Some ([], q)
 here_or_later c None later = option_map (λ w. (c ∷ w.0, w.1)) later
 
--- the text up to the first `)` that is followed by k signs, and what follows those
+-- the text up to the first `)` that is followed by k signs, and the text after those
 abbrev pub close_from : (k p : ℕ) → List ℕ → Option (List ℕ × At)
 close_from k p [] = None
 close_from k p (c ∷ cs) =
@@ -36,7 +37,7 @@ pub record Group : Type 0 where
   pub text : List ℕ
   pub place : ℕ
 
--- what is in a group, at its place
+-- the text in a group, at its place
 abbrev pub inside : Group → At
 inside g = record { place = g.place; text = g.text }
 
@@ -45,7 +46,7 @@ abbrev pub closed_group : (start p : ℕ) → Option (List ℕ × At) → Result
 closed_group start p None = Err (parse (unclosed start))
 closed_group start p (Some w) = Ok (record { text = w.0; place = p }, w.1)
 
--- after k signs, a bracket, and the text up to if it closes
+-- after k signs, a bracket as the first character, and the text up to where that closes
 abbrev pub bracket_first : (start k : ℕ) → (a : At) → Option (ℕ × At) → Result (Group × At) Fault
 bracket_first start k a None = Err (parse (unclosed start))
 bracket_first start k a (Some w) =
@@ -53,7 +54,7 @@ bracket_first start k a (Some w) =
     then closed_group start w.1.place (close_from k w.1.place w.1.text)
     else Err (parse (expected (codes "(") a.place))
 
--- after k signs, a bracket of a text at a place, and the text up to if it closes
+-- after k signs, a bracket, and the text up to where that closes
 abbrev pub bracket_at : (start k : ℕ) → Reader Group
 bracket_at start k = λ a. bracket_first start k a (first a)
 
@@ -76,30 +77,30 @@ if_bracket read a (Some w) =
 abbrev pub group_if : (start : ℕ) → Reader (Option Group)
 group_if start = λ a. if_bracket (group_at start) a (first a)
 
--- a `)`, if one is at b, and what follows it
+-- the place b of a `)`, if one is there, and the text after it
 abbrev pub with_after : (b : At) → Option At → Option (At × At)
 with_after b None = None
 with_after b (Some rest) = Some (b, rest)
 
--- the next `)`, and what follows it
+-- the next `)`, and the text after it
 abbrev pub next_close : At → Option (At × At)
 next_close a =
     with_after (after (in_class Enclosed) a) (strip close_bracket (after (in_class Enclosed) a))
 
--- a text as the code has it, and what follows it
+-- a text that the code read, and the text after it
 abbrev pub text_read : Bor (List ℕ) × Cursor → List ℕ × At
 text_read x = (chars x.0.now, at x.1)
 
--- a group as the code has it, without if it lies in memory
+-- the group that the code's group stands for, wherever in memory its text lies
 abbrev pub group_of : code_group.Group → Group
 group_of g = record { text = chars g.text.now; place = g.place }
 
--- a group as the code has it, which was read up to `end`; or why it is broken
+-- a group that the code read up to `end`; or why it is broken
 abbrev pub group_read : Result code_group.Group ArgumentFault → (end : At) → Result (Group × At) Fault
 group_read (Ok g) end = Ok (group_of g, end)
 group_read (Err broken) end = Err (argument_fault_of broken)
 
--- a group that may be absent, which was read up to `end`; or why it is broken
+-- a group that may be absent, read up to `end`; or why it is broken
 abbrev pub group_if_read : Result (Option code_group.Group) ArgumentFault → (end : At)
     → Result (Option Group × At) Fault
 group_if_read (Ok g) end = Ok (option_map group_of g, end)

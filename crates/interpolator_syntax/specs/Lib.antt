@@ -1,4 +1,4 @@
--- The definitions that the contracts cite.
+-- The definitions that the contracts use.
 pub mod At
 pub mod Classes
 pub mod Readers

@@ -1,4 +1,4 @@
--- The text after the letter of a list as its parts, one after the other: a range and two groups.
+-- The text after the letter of a list by its parts, one after the other: a range and two groups.
 use Rattle.std.specs.Prelude.{◌≡◌, ◌≢◌, ◌⊎◌, ℕ, ℤ, Bool, true, false, ◌==◌, ◌||◌, List, ◌∷◌}
 use Rattle.std.specs.Prelude.{Option, Some, None, codes}
 use Rattle.interpolator_syntax.specs.At.{At}
@@ -22,7 +22,7 @@ bound start = where_first (in_class Number) (number integers range_bound start)
 abbrev pub NoPoints : List ℕ → Type 0
 NoPoints text = (more : List ℕ) → text ≢ point ∷ point ∷ more
 
--- `..=`, or `..` if no `=` follows, and whether it is the one with `=`; or neither
+-- `..=`, or `..` if no `=` follows, and whether it has the `=`; or neither
 abbrev pub points : Part (Option Bool)
 points = record {
   is =
@@ -32,7 +32,7 @@ points = record {
   is_not = λ a f. ⊥;
 }
 
--- an upper bound may follow points alone
+-- an upper bound, which is there only after points
 abbrev pub upper : (start : ℕ) → Option Bool → Part (Option ℤ)
 upper start None = ends None
 upper start (Some inclusive) = bound start
@@ -46,7 +46,7 @@ range start =
       upper ← upper start inclusive
       ends (range_of lower inclusive upper)
 
--- this range, if any, is at a, and after it what is at q
+-- this range, if any, is at a, and after it the text at q
 abbrev pub IsRange : (start : ℕ) → (a : At) → (x : Option Range) → (q : At) → Type 0
 IsRange start = (range start).is
 
@@ -69,7 +69,7 @@ group_there start =
       g ← group start
       ends (Some g))
 
--- how a list is written: a range, the format of an item, and the join
+-- the form of a list: a range, the format of an item, and the join
 abbrev pub list : (start : ℕ) → Part ListRequest
 list start =
     do
@@ -78,10 +78,10 @@ list start =
       join ← group_there start
       ends (record { range = range; item = item; join = join })
 
--- x is at a, after the letter of a list, and after it what is at q
+-- x is at a, after the letter of a list, and after it the text at q
 abbrev pub IsList : (start : ℕ) → (a : At) → (x : ListRequest) → (q : At) → Type 0
 IsList start = (list start).is
 
--- why what follows the letter is no list
+-- no form of a list can be at a, after its letter, for this reason
 abbrev pub IsNoList : (start : ℕ) → (a : At) → (f : Fault) → Type 0
 IsNoList start = (list start).is_not

@@ -1,4 +1,4 @@
--- How a list is written: which of its items, the format of an item, and the text between them.
+-- The form of a list: which of its items are written, how each is, and what is between two.
 use Rattle.std.specs.Prelude.{ℕ, Option, None}
 use Rattle.interpolator_syntax.specs.Groups.{Group, group_if}
 use Rattle.interpolator_syntax.specs.Ranges.{range_at}
@@ -15,7 +15,7 @@ pub record ListRequest : Type 0 where
 abbrev pub plain_list : ListRequest
 plain_list = record { range = None; item = None; join = None }
 
--- what follows the letter `i` of the argument that begins at `start`
+-- the form of a list, after the letter `i`, in the argument that begins at `start`
 unfoldable pub list_at : (start : ℕ) → Reader ListRequest
 list_at start =
     do

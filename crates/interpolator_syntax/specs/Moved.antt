@@ -1,4 +1,4 @@
--- What a text means at another base: the same, with every place moved by so many bytes.
+-- What a text means at another base: the same, with every place moved by `by` bytes.
 use Rattle.std.specs.Prelude.{ℕ, ◌+◌, option_map}
 use Rattle.interpolator_syntax.specs.At.{At}
 use Rattle.interpolator_syntax.specs.Groups.{Group}
@@ -13,7 +13,7 @@ use Rattle.interpolator_syntax.specs.Faults.{range_bound, Fault, missing_trait_i
 use Rattle.interpolator_syntax.specs.Faults.{missing_value, unsupported_option}
 
 module _ (by : ℕ) where
-  -- a text at a place that is so many bytes further on
+  -- the text at a place that is `by` bytes further on
   abbrev pub moved_at : At → At
   moved_at a = record { place = a.place + by; text = a.text }
 
@@ -40,7 +40,7 @@ module _ (by : ℕ) where
   abbrev pub moved_group : Group → Group
   moved_group g = record { text = g.text; place = g.place + by }
 
-  -- how a list is written: its groups
+  -- the form of a list: its groups
   abbrev pub moved_list : ListRequest → ListRequest
   moved_list l = record {
     range = l.range;
@@ -48,7 +48,7 @@ module _ (by : ℕ) where
     join = option_map moved_group l.join;
   }
 
-  -- what is asked for
+  -- the kind of an argument
   abbrev pub moved_kind : Kind → Kind
   moved_kind (of_value t) = of_value t
   moved_kind (of_list l) = of_list (moved_list l)

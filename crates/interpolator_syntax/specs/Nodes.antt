@@ -1,5 +1,5 @@
--- A format text as a tree: its pieces in order, neighbouring literals as one, and under each list
--- the pieces of its groups.
+-- A format text as a tree: its pieces in order, with neighbouring literals as one, and under each
+-- list the pieces of its groups.
 use Rattle.std.specs.Prelude.{ℕ, zero, suc, List, [], ◌∷◌, length, Option, Some, None, option_map}
 use Rattle.interpolator_render.specs.declared.view.Trait.{Trait}
 use Rattle.interpolator_render.specs.declared.view.Spec.{Spec}
@@ -20,19 +20,19 @@ use Rattle.interpolator_syntax.specs.declared.piece_kind.PieceKind.TheVariants.{
 use Rattle.interpolator_syntax.specs.declared.piece_kind.PieceKind.TheVariants.{LoneClose, Closed}
 use Rattle.interpolator_syntax.specs.declared.piece_kind.PieceKind.TheVariants.{Unclosed, Broken}
 
--- what an argument asks for, without its groups: a value under a trait, or a list, of which a range
--- chooses the items
+-- the kind of an argument, without its groups: a value under a trait, or a list, whose items a
+-- range chooses
 pub data Target : Type 0 where
   target_value : Trait → Target
   target_list : (range : Option Range) → Target
 
--- what is in braces, without its groups
+-- a kind without its groups
 abbrev pub target_of : Kind → Target
 target_of (of_value t) = target_value t
 target_of (of_list l) = target_list l.range
 
--- what a piece comes to: text that is written, whose first character is at `from`; a name, of
--- an argument that begins at `start` and whose spec ends at `end`; or a fault
+-- the content of a piece: text that is written, whose first character is at `from`; a name, in an
+-- argument that begins at `start` and whose spec ends at `end`; or a fault
 pub data Content : Type 0 where
   text_content : (from : ℕ) (text : List ℕ) → Content
   argument_content : (start : ℕ) (name : List ℕ) (spec : Spec) (bare : Target) (end : ℕ) → Content
@@ -40,7 +40,7 @@ pub data Content : Type 0 where
 
 mutual
   -- a piece from byte `place` up to `end`, with the pieces of its item format and of its join;
-  -- if `held` is None, what is stored of it fits no text
+  -- if `held` is None, what is stored for it belongs to no text
   pub data Node : Type 0 where
     node :
         (place end : ℕ) (kind : told.PieceKind) (held : Option Content) (item join : Branch) → Node
@@ -65,11 +65,11 @@ abbrev pub as_branch : Option (List Node) → Branch
 as_branch None = no_branch
 as_branch (Some xs) = branch (as_forest xs)
 
--- a piece that is written as it is, from its first byte on
+-- a piece that writes the characters cs, the first of which is at its first byte
 abbrev pub text_node : (p end : ℕ) → told.PieceKind → List ℕ → Node
 text_node p end kind cs = node p end kind (Some (text_content p cs)) no_branch no_branch
 
--- `run` gives the pieces of a text within this one
+-- `run` returns the pieces of a text within this one
 module _ (run : At → List Node) where
   -- those of a group
   abbrev pub group_branch : Option Group → Branch
@@ -100,7 +100,7 @@ module _ (run : At → List Node) where
   piece_node p end (unclosed start x q) = argument_node p end Unclosed start x q
   piece_node p end (broken f) = node p end Broken (Some (fault_content f)) no_branch no_branch
 
-  -- what the scan hands on at p, if b comes after it
+  -- a token at p, if the text at b comes after it
   abbrev pub token_node : (p : ℕ) → Token → (b : At) → Node
   token_node p (literals cs) b = text_node p b.place Literal cs
   token_node p (doubled_token c) b = text_node p b.place Doubled (c ∷ [])
@@ -108,16 +108,16 @@ module _ (run : At → List Node) where
   token_node p argument b =
       let s = argument_from b.place b in piece_node p s.rest.place s.piece.kind
 
-  -- the first piece at p, and then the pieces of what follows it
+  -- the first piece at p, and then the pieces of the text after it
   abbrev pub leading_nodes : (p : ℕ) → Option (Token × At) → List Node
   leading_nodes p None = []
   leading_nodes p (Some w) = token_node p w.0 w.1 ∷ run (past_token w.0 w.1)
 
--- the pieces of a text of at most so many characters
+-- the pieces of a text of at most `most` characters
 abbrev pub nodes_within : (most : ℕ) → At → List Node
 nodes_within zero a = []
 nodes_within (suc most) a = leading_nodes (nodes_within most) a.place (first_token a)
 
--- the pieces of a text: what follows a piece, and each group, is shorter than the text
+-- the pieces of a text: the text after a piece, and that of each group, is shorter than the text
 unfoldable pub nodes : At → List Node
 nodes a = nodes_within (length a.text) a

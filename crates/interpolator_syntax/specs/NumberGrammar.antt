@@ -25,8 +25,8 @@ pub record IsNumber (limit : ℕ) (text : List ℕ) (n : ℕ) : Type 0 where
   pub value : n ≡ decimal_value text
   pub below : n < limit
 
--- why the digits in `front` do not go on with the character c: it is no digit, or its digit takes
--- their value to the limit
+-- why the character c ends the digits in `front`: it is no digit, or its digit takes their value to
+-- the limit
 abbrev pub IsStop : (limit : ℕ) (overflow : NumberError) (front : List ℕ) (c : ℕ)
     (kind : NumberError) → Type 0
 IsStop limit overflow front c kind =
@@ -51,7 +51,7 @@ abbrev pub IsNoNumber : (limit : ℕ) (overflow : NumberError) (text : List ℕ)
 IsNoNumber limit overflow text kind =
     ((text ≡ []) × (kind ≡ Empty)) ⊎ IsStopped limit overflow text kind
 
--- the text is a `-`, the sign, with something after it
+-- the text is a `-`, as the sign, with something after it
 pub record IsSigned (text after : List ℕ) : Type 0 where
   pub split : text ≡ minus ∷ after
   pub not_empty : after ≢ []
@@ -63,8 +63,8 @@ IsInteger text z =
     ⊎ ((after : List ℕ) × (n : ℕ) × IsSigned text after × IsNumber (2 ^ 63 + 1) after n
     × (z ≡ negation n))
 
--- the text spells no integer of 64 bits, for this reason: if it has a sign, what follows
--- the sign decides
+-- the text spells no integer of 64 bits, for this reason: if it has a sign, the text after the sign
+-- decides
 abbrev pub IsNoInteger : (text : List ℕ) (kind : NumberError) → Type 0
 IsNoInteger text kind =
     (((after : List ℕ) → IsSigned text after → ⊥) × IsNoNumber (2 ^ 63) PosOverflow text kind)

@@ -8,12 +8,12 @@ use Rattle.interpolator_syntax.specs.declared.error.NumberError.TheVariants.{Emp
 use Rattle.interpolator_syntax.specs.declared.error.NumberError.TheVariants.{PosOverflow}
 use Rattle.interpolator_syntax.specs.declared.error.NumberError.TheVariants.{NegOverflow}
 
--- a number and, after it, one digit more
+-- the number with one more digit after those of n
 abbrev pub with_digit : ℕ → ℕ → ℕ
 with_digit n c = n * 10 + (c - zero_digit)
 
--- the digits after those of n, for numbers below `limit`: from the left, the first character
--- decides that is no digit, or whose digit takes the number to the limit
+-- the number of n and the digits after it, if it is below `limit`: what decides is the first
+-- character, from the left, that is no digit or whose digit takes the number to the limit
 abbrev pub digits_after : (limit : ℕ) → (overflow : NumberError) → ℕ → List ℕ
     → Result ℕ NumberError
 digits_after limit overflow n [] = Ok n
@@ -24,7 +24,7 @@ digits_after limit overflow n (c ∷ cs) =
     else Err overflow)
     else Err InvalidDigit
 
--- the number of such digits, of which there is at least one; `none` if there is none
+-- the number of such digits, of which there has to be at least one; else the fault is `none`
 abbrev pub digits_or : (none : NumberError) → (limit : ℕ) → (overflow : NumberError) → List ℕ
     → Result ℕ NumberError
 digits_or none limit overflow [] = Err none
@@ -40,11 +40,11 @@ abbrev pub with_sign : (ℕ → ℤ) → Result ℕ NumberError → Result ℤ N
 with_sign sign (Ok n) = Ok (sign n)
 with_sign sign (Err kind) = Err kind
 
--- a number taken from zero
+-- the negation of a number
 abbrev pub negation : ℕ → ℤ
 negation n = neg_ℤ (pos n)
 
--- the digits after a `-`, of which there is at least one
+-- the number of the digits after a `-`, of which there has to be at least one
 abbrev pub negative : List ℕ → Result ℤ NumberError
 negative [] = Err InvalidDigit
 negative (c ∷ cs) = with_sign negation (digits_after (2 ^ 63 + 1) NegOverflow 0 (c ∷ cs))

@@ -1,4 +1,4 @@
--- A range of the indexes of a list.
+-- How a range of list indices is read.
 use Rattle.std.specs.Prelude.{ℕ, ℤ, Bool, true, if◌then◌else◌, Option, None, Some, Result, Ok, Err}
 use Rattle.interpolator_syntax.specs.At.{At, first, strip}
 use Rattle.interpolator_syntax.specs.Classes.{in_class, point, equals}
@@ -9,12 +9,12 @@ use Rattle.interpolator_syntax.specs.declared.error.NumberError.{NumberError}
 use Rattle.interpolator_syntax.specs.declared.class.Class.TheVariants.{Number}
 use Rattle.interpolator_syntax.specs.declared.range.Range.{Range}
 
--- the bound of a run at p, or the fault that it is none
+-- the bound that a run at p spells, or the fault that it spells none
 abbrev pub bound_or : (p : ℕ) → Result ℤ NumberError → Reader (Option ℤ)
 bound_or p (Ok n) = give (Some n)
 bound_or p (Err kind) = λ a. Err (parse (range_bound kind p))
 
--- a run of digits and `-` that spells a bound
+-- the bound that a run of digits and `-` spells
 abbrev pub bound_at : (start : ℕ) → Reader (Option ℤ)
 bound_at start = λ a. (run (in_class Number) start >>= λ cs. bound_or a.place (integer cs)) a
 
@@ -37,11 +37,11 @@ abbrev pub first_point : (a : At) → Option At → Result (Option Bool × At) F
 first_point a None = Ok (None, a)
 first_point a (Some rest) = second_point a (strip point rest)
 
--- `..` or `..=`, if there is one here: whether it is the one with `=`
+-- `..` or `..=`, if there is one here: whether it has the `=`
 abbrev pub points : Reader (Option Bool)
 points = λ a. first_point a (strip point a)
 
--- after `..` or `..=` an upper bound may follow
+-- an upper bound, which may follow `..` or `..=`
 abbrev pub upper_at : (start : ℕ) → Option Bool → Reader (Option ℤ)
 upper_at start None = give None
 upper_at start (Some inclusive) = bound_if start

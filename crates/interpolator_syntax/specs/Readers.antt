@@ -1,4 +1,4 @@
--- Readers of a text, one after the other: each says what it read, or why it reads nothing.
+-- Readers of a text, one after the other: each returns what it read, or why it could not.
 use Rattle.std.specs.Prelude.{ℕ, Bool, true, false, List, [], ◌∷◌, Option, None, Some, Result}
 use Rattle.std.specs.Prelude.{Ok, Err}
 use Rattle.interpolator_syntax.specs.At.{At, first, after, strip}
@@ -6,7 +6,7 @@ use Rattle.interpolator_syntax.specs.Classes.{front_of, in_class}
 use Rattle.interpolator_syntax.specs.Faults.{Fault, parse, unclosed}
 use Rattle.interpolator_syntax.specs.declared.class.Class.{Class}
 
--- what is at the front of a text, and the text after it; or a fault
+-- reads the front of a text: its meaning and the text after it, or a fault
 abbrev pub Reader : Type 0 → Type 0
 Reader A = At → Result (A × At) Fault
 
@@ -20,39 +20,39 @@ infixl 10 ◌>>=◌
 abbrev pub ◌>>=◌ : {A B : Type 0} → Reader A → (A → Reader B) → Reader B
 read >>= next = λ a. on (read a) next
 
--- reads nothing
+-- reads nothing, and returns x
 abbrev pub give : {A : Type 0} → A → Reader A
 give x = λ a. Ok (x, a)
 
--- reads nothing, and tells the place
+-- reads nothing, and returns the place
 abbrev pub here : Reader ℕ
 here = λ a. Ok (a.place, a)
 
--- the longest front of that class
+-- the longest front of a class
 abbrev pub span : Class → Reader (List ℕ)
 span class = λ a. Ok (front_of (in_class class) a.text, after (in_class class) a)
 
--- the first character is read if it means something
+-- by the meaning of the first character: it is read if it has one
 abbrev pub read_or_stay : {A : Type 0} → A → (a rest : At) → Option A → Result (A × At) Fault
 read_or_stay absent a rest None = Ok (absent, a)
 read_or_stay absent a rest (Some x) = Ok (x, rest)
 
--- the first character, if there is one, is read if it means something
+-- the first character, if there is one, is read if it has a meaning
 abbrev pub letter_first : {A : Type 0} → (ℕ → Option A) → A → At → Option (ℕ × At)
     → Result (A × At) Fault
 letter_first table absent a None = Ok (absent, a)
 letter_first table absent a (Some w) = read_or_stay absent a w.1 (table w.0)
 
--- a letter of a table, which is read; or, if there is none, that it is absent
+-- a letter of a table, which is read; or `absent`, if there is none
 abbrev pub letter : {A : Type 0} → (ℕ → Option A) → A → Reader A
 letter table absent = λ a. letter_first table absent a (first a)
 
--- whether a character was there
+-- whether a character was there, by the text after it
 abbrev pub was_there : At → Option At → Result (Bool × At) Fault
 was_there a None = Ok (false, a)
 was_there a (Some rest) = Ok (true, rest)
 
--- whether that character is here; it is read
+-- whether a character is here; if so, it is read
 abbrev pub flag : ℕ → Reader Bool
 flag c = λ a. was_there a (strip c a)
 
@@ -61,8 +61,8 @@ abbrev pub run_before : (start : ℕ) → List ℕ → (rest : At) → List ℕ 
 run_before start cs rest [] = Err (parse (unclosed start))
 run_before start cs rest (d ∷ ds) = Ok (cs, rest)
 
--- the longest run of characters that pass, in the argument that begins at `start`: the text does
--- not end with it
+-- the longest run of characters that pass, in the argument that begins at `start`; a text that ends
+-- with it is a fault
 abbrev pub run : (ℕ → Bool) → (start : ℕ) → Reader (List ℕ)
 run passes start =
     λ a. run_before start (front_of passes a.text) (after passes a) (after passes a).text

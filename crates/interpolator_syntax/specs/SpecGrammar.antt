@@ -1,4 +1,4 @@
--- A spec's text as its parts, one after the other, each there if its first character is.
+-- The text of a spec by its parts, one after the other, each there if its beginning is.
 use Rattle.std.specs.Prelude.{◌≡◌, ◌≢◌, ◌⊎◌, ℕ, ◌≤◌, ◌||◌, Bool, IsTrue, IsFalse, All}
 use Rattle.std.specs.Prelude.{List, [], ◌∷◌, length, Option, Some, None, codes, ⊤}
 use Rattle.std.specs.Char.{is_ascii_digit}
@@ -30,7 +30,7 @@ width start = where_first is_ascii_digit (number naturals invalid_width start)
 abbrev pub precision : (start : ℕ) → Part (Option ℕ)
 precision start = where_after point (number naturals invalid_precision start)
 
--- the text of a trait, and of how debug writes numbers; display has none
+-- the text that stands for a trait, and for how debug writes numbers; display has none
 abbrev pub trait_text : Trait → HexDebug → Option (List ℕ)
 trait_text traits.Debug hex_debugs.No = Some (codes "?")
 trait_text traits.Debug hex_debugs.Lower = Some (codes "x?")
@@ -44,18 +44,18 @@ trait_text traits.UpperExp hex_debugs.No = Some (codes "E")
 trait_text traits.Iter hex_debugs.No = Some (codes "i")
 trait_text _ _ = None
 
--- `x` and `X` end only if no `?` follows
+-- the trait's text may end here: `x` and `X` only if no `?` follows
 abbrev pub MayEnd : Trait → (rest : List ℕ) → Type 0
 MayEnd traits.LowerHex rest = NotFirst question_mark rest
 MayEnd traits.UpperHex rest = NotFirst question_mark rest
 MayEnd _ rest = ⊤
 
--- display is asked for in front of a `}`, and at the end of the text if no `#` or `0` was read
+-- display is meant in front of a `}`, and at the end of the text if no `#` or `0` was read
 abbrev pub AsksDisplay : (flagged : Bool) → (text : List ℕ) → Type 0
 AsksDisplay flagged text = IsFirst close_brace text ⊎ ((text ≡ []) × IsFalse flagged)
 
--- a trait's text, or nothing for display; why there is none: the text ends, there is a `p`, or
--- another character that begins no trait
+-- a trait's text, or nothing for display; or why there is none: the text ends, or there is a `p`,
+-- or another character that begins no trait
 abbrev pub trait_part : (start : ℕ) → (flagged : Bool) → Part Wanted
 trait_part start flagged = record {
   is =
@@ -70,7 +70,7 @@ trait_part start flagged = record {
       × (f ≡ parse (expected (codes "}") a.place))));
 }
 
--- what is asked for under a trait: after the letter of a list comes how it is written
+-- the kind under a trait: after the letter of a list comes the form of that list
 abbrev pub kind : (start : ℕ) → Trait → Part Kind
 kind start traits.Iter =
     do
@@ -103,7 +103,7 @@ from_sign start fill alignment =
         kind = kind;
       })
 
--- the character c is at a, and at q an alignment
+-- the character c is at a, and an alignment follows it at q
 abbrev pub Fills : (c : ℕ) → (a q : At) → Type 0
 Fills c a q = Lies a (c ∷ []) q × FirstPasses is_alignment q.text
 
@@ -142,7 +142,7 @@ spec start = record {
   is_not = λ a f. (¬ IsUnread a.text) × (parts start).is_not a f;
 }
 
--- what x asks follows the colon, and after it comes what is at q
+-- the spec of x follows the colon, and after it comes the text at q
 abbrev pub IsSpec : (start : ℕ) → (a : At) → (x : Request) → (q : At) → Type 0
 IsSpec start = (spec start).is
 

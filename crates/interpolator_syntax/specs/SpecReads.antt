@@ -1,4 +1,4 @@
--- What the readers of a spec's parts answer, without if it lies in memory.
+-- What the code read, as results of the readers of a spec's parts; and what is left to read.
 use Rattle.std.specs.Prelude.{◌≡◌, ℕ, ◌-◌, false, ◌||◌, if◌then◌else◌, min, List, ◌∷◌}
 use Rattle.std.specs.Prelude.{Option, Some, None, Result, Ok, Err}
 use Rattle.std.specs.Char.{is_ascii_digit}
@@ -25,27 +25,27 @@ pub record FirstByte (b : ℕ) (text : List ℕ) : Type 0 where
 abbrev pub digit_letter : ℕ → Option (Option ℕ)
 digit_letter c = if is_ascii_digit c then Some (Some (c - zero_digit)) else None
 
--- a part that is never refused
+-- a part that the code read, and that cannot be broken
 abbrev pub part_read : {A : Type 0} → A × Cursor → Result (A × At) Fault
 part_read x = Ok (x.0, at x.1)
 
--- a part that was read up to `end`; or why it is broken
+-- a part that the code read up to `end`; or why it is broken
 abbrev pub part_or_broken : {A : Type 0} → Result A ArgumentFault → (end : At)
     → Result (A × At) Fault
 part_or_broken (Ok x) end = Ok (x, end)
 part_or_broken (Err broken) end = Err (argument_fault_of broken)
 
--- a trait, and how debug writes numbers
+-- a trait that the code read, and how debug writes numbers; or why it is broken
 abbrev pub wanted_read : Result (Trait × HexDebug) ArgumentFault → (end : At)
     → Result (Wanted × At) Fault
 wanted_read (Ok x) end = Ok (record { slot = x.0; hex_debug = x.1 }, end)
 wanted_read (Err broken) end = Err (argument_fault_of broken)
 
--- what is left of a spec after its trait: what is asked for
+-- the rest of a spec after its trait: its kind
 abbrev pub kind_left : (start : ℕ) → Spec → Trait → Reader Request
 kind_left start spec slot = kind_at start slot >>= λ kind. give (record { spec = spec; kind = kind })
 
--- what is left of a spec after its options: the trait, and what is asked for
+-- the rest of a spec after its options: the trait, and the kind
 abbrev pub trait_left : (start : ℕ) → Spec → Reader Request
 trait_left start spec = trait_at start (spec.alternate || spec.zero) >>= λ shown.
     kind_left start (record {
@@ -67,13 +67,13 @@ pub record HasNoOptions (spec : Spec) : Type 0 where
   pub width : spec.width ≡ None
   pub precision : spec.precision ≡ None
 
--- if the options were read up to `end`, what is left
+-- the rest of a spec, if its options were read up to `end`
 abbrev pub options_left : (start : ℕ) → Result (Unit {0}) ArgumentFault → Spec → (end : At)
     → Result (Request × At) Fault
 options_left start (Ok _) spec end = trait_left start spec end
 options_left start (Err broken) spec end = Err (argument_fault_of broken)
 
--- if all was read up to `end`, the letter of a list included, what is left
+-- the rest of a spec, if all was read up to `end`, the letter of a list included
 abbrev pub spec_left : (start : ℕ) → Result (Unit {0}) ArgumentFault → Spec → Trait → (end : At)
     → Result (Request × At) Fault
 spec_left start (Ok _) spec slot end = kind_left start spec slot end

@@ -1,4 +1,4 @@
--- What follows the colon of an argument.
+-- The spec after the colon of an argument: how it is read.
 use Rattle.std.specs.Prelude.{ℕ, ◌+◌, Bool, false, ◌==◌, ◌||◌, if◌then◌else◌, List, [], ◌∷◌}
 use Rattle.std.specs.Prelude.{Option, None, Some, Result, Ok, Err, codes}
 use Rattle.std.specs.Char.{is_ascii_digit, len_utf8}
@@ -26,17 +26,17 @@ use Rattle.interpolator_syntax.specs.Faults.{ParseFault}
 use Rattle.interpolator_syntax.specs.declared.error.NumberError.{NumberError}
 use Rattle.interpolator_syntax.specs.declared.class.Class.TheVariants.{Number}
 
--- what an argument asks for: a value under a trait, or a list
+-- the kind of an argument: a value under a trait, or a list
 pub data Kind : Type 0 where
   of_value : Trait → Kind
   of_list : ListRequest → Kind
 
--- a spec, and what is asked for
+-- a spec, and a kind
 pub record Request : Type 0 where
   pub spec : Spec
   pub kind : Kind
 
--- nothing is set
+-- the spec in which nothing is set
 abbrev pub plain_spec : Spec
 plain_spec = record {
   fill = None;
@@ -65,13 +65,13 @@ abbrev pub sign_letter : ℕ → Option Sign
 sign_letter c =
     if c == plus then Some signs.Plus else (if c == minus then Some signs.Minus else None)
 
--- the number of a run at p, or the fault that it is none
+-- the number that a run at p spells, or the fault that it spells none
 abbrev pub number_or : (NumberError → ℕ → ParseFault) → (p : ℕ) → Result ℕ NumberError
     → Reader (Option ℕ)
 number_or wrong p (Ok n) = give (Some n)
 number_or wrong p (Err kind) = λ a. Err (parse (wrong kind p))
 
--- a run of digits and `-` that spells a number
+-- the number that a run of digits and `-` spells
 abbrev pub number_at : (NumberError → ℕ → ParseFault) → (start : ℕ) → Reader (Option ℕ)
 number_at wrong start =
     λ a. (run (in_class Number) start >>= λ cs. number_or wrong a.place (natural cs)) a
@@ -81,7 +81,7 @@ abbrev pub if_digit : Reader (Option ℕ) → (a : At) → Option (ℕ × At) �
 if_digit read a None = Ok (None, a)
 if_digit read a (Some w) = if is_ascii_digit w.0 then read a else Ok (None, a)
 
--- there is a width if there is a digit
+-- a width, if there is a digit here
 abbrev pub width_at : (start : ℕ) → Reader (Option ℕ)
 width_at start = λ a. if_digit (number_at invalid_width start) a (first a)
 
@@ -90,7 +90,7 @@ abbrev pub if_point : Reader (Option ℕ) → (a : At) → Option At → Result 
 if_point read a None = Ok (None, a)
 if_point read a (Some rest) = read rest
 
--- a precision follows a point
+-- a precision, if there is a point here
 abbrev pub precision_at : (start : ℕ) → Reader (Option ℕ)
 precision_at start = λ a. if_point (number_at invalid_precision start) a (strip point a)
 
@@ -124,12 +124,12 @@ no_trait c p =
     if c == lower_p then unsupported_option (codes "p") (codes "pointer") p
     else parse (expected (codes "}") p)
 
--- the trait of a letter c at p
+-- the trait of a letter c at p, or the fault that it is none
 abbrev pub letter_trait : (c p : ℕ) → (rest : At) → Option Trait → Result (Wanted × At) Fault
 letter_trait c p rest (Some t) = Ok (trait_alone t, rest)
 letter_trait c p rest None = Err (no_trait c p)
 
--- the trait that the first character begins: `}` is display and is not read
+-- the trait that the first character begins: `}` stands for display, and is not read
 abbrev pub trait_from : (a : At) → (c : ℕ) → (rest : At) → Result (Wanted × At) Fault
 trait_from a c rest =
     if c == close_brace then Ok (trait_alone traits.Display, a)
@@ -139,28 +139,28 @@ trait_from a c rest =
     then hexadecimal traits.UpperHex hex_debugs.Upper rest (strip question_mark rest)
     else letter_trait c a.place rest (trait_letter c)))
 
--- at the end of the text display, but no argument after `#` or `0`
+-- the trait by the first character: at the end of the text display, or a fault after `#` or `0`
 abbrev pub trait_first : (start : ℕ) → (flagged : Bool) → (a : At) → Option (ℕ × At)
     → Result (Wanted × At) Fault
 trait_first start flagged a None =
     if flagged then Err (parse (unclosed start)) else Ok (trait_alone traits.Display, a)
 trait_first start flagged a (Some w) = trait_from a w.0 w.1
 
--- the trait here; `flagged` tells whether `#` or `0` was read
+-- the trait here; `flagged` says whether `#` or `0` was read
 abbrev pub trait_at : (start : ℕ) → (flagged : Bool) → Reader Wanted
 trait_at start flagged = λ a. trait_first start flagged a (first a)
 
--- how a list is written, after its letter
+-- the kind of a list: its form, after its letter
 abbrev pub list_kind_at : (start : ℕ) → Reader Kind
 list_kind_at start = list_at start >>= λ l. give (of_list l)
 
--- what is asked for under a trait that was read
+-- the kind under a trait that was read
 abbrev pub kind_at : (start : ℕ) → Trait → Reader Kind
 kind_at start traits.Iter = list_kind_at start
 kind_at start t = give (of_value t)
 
--- sign, `#`, `0`, width, precision, trait, each if it is there; and after the letter of a list how
--- it is written
+-- sign, `#`, `0`, width, precision and trait, each if it is there; and, after the letter of a list,
+-- the form of that list
 unfoldable pub spec_from_sign : (start : ℕ) → (fill : Option ℕ) → Alignment → Reader Request
 spec_from_sign start fill alignment =
     do
@@ -212,8 +212,8 @@ fill_at = λ a. fill_of a a.text
 abbrev pub spec_parts : (start : ℕ) → Reader Request
 spec_parts start = fill_at >>= spec_from_alignment start
 
--- the text after the colon of the argument that begins at `start`: at most one character is not
--- read, nor is a text that begins with `}`; of any other its parts are read
+-- the text after the colon of the argument that begins at `start`: a text of at most one character
+-- is not read, nor is one that begins with `}`; of any other the parts are read
 abbrev pub spec_of : (start : ℕ) → (a : At) → List ℕ → Result (Request × At) Fault
 spec_of start a [] = Ok (plain_display, a)
 spec_of start a (c ∷ []) = Ok (plain_display, a)

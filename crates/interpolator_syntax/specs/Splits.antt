@@ -10,7 +10,7 @@ use Rattle.interpolator_syntax.specs.Nodes.{Branch, no_branch, branch}
 use Rattle.interpolator_syntax.specs.Nodes.{Forest, no_nodes, nodes_and}
 use Rattle.interpolator_syntax.specs.declared.piece_kind.PieceKind.TheVariants.{Literal}
 
--- a piece as a node: of an argument, with the trees of the texts of its groups
+-- a piece as a node: that of an argument has the trees of its groups under it
 abbrev pub node_alone : Piece → Node
 node_alone x = piece_node nodes x.place (x.place + size x.text) x.kind
 
@@ -20,8 +20,8 @@ nodes_alone a = map node_alone (pieces a)
 
 -- ---- neighbouring literals as one
 
--- literals from p up to `end` in front of nodes: one with the first of these, if that is of
--- literals too
+-- literals from p up to `end` in front of nodes: they become one with the first of these, if that
+-- is of literals too
 abbrev pub with_literals : (p end : ℕ) → List ℕ → List Node → List Node
 with_literals p end cs (node q last Literal (Some (text_content from ds)) item join ∷ xs) =
     text_node p last Literal (cs ++ ds) ∷ xs
@@ -32,25 +32,25 @@ abbrev pub with_node : Node → List Node → List Node
 with_node (node p end Literal (Some (text_content from cs)) item join) xs = with_literals p end cs xs
 with_node x xs = x ∷ xs
 
--- nodes, of which neighbouring literals become one
+-- nodes with neighbouring literals made one
 abbrev pub join_literals : List Node → List Node
 join_literals [] = []
 join_literals (x ∷ xs) = with_node x (join_literals xs)
 
 -- ---- and each literal by itself again
 
--- characters from p on, each a literal
+-- the characters from p on, each as a literal
 abbrev pub literal_nodes : (p : ℕ) → List ℕ → List Node
 literal_nodes p [] = []
 literal_nodes p (c ∷ cs) =
     text_node p (p + len_utf8 c) Literal (c ∷ []) ∷ literal_nodes (p + len_utf8 c) cs
 
--- a node of literals as one for each of its characters, and any other as it is
+-- a node of literals becomes one for each of its characters, and any other stays as it is
 abbrev pub split_node : Node → List Node
 split_node (node p end Literal (Some (text_content from cs)) item join) = literal_nodes from cs
 split_node x = x ∷ []
 
--- nodes, each of literals split so
+-- nodes, with each node of literals split so
 abbrev pub split_again : List Node → List Node
 split_again xs = flat_map split_node xs
 
@@ -61,7 +61,7 @@ abbrev pub is_literal : Node → Bool
 is_literal (node p end Literal held item join) = true
 is_literal x = false
 
--- the first of some nodes is one of literals
+-- the first of the nodes is one of literals
 abbrev pub begins_literal : List Node → Bool
 begins_literal [] = false
 begins_literal (x ∷ xs) = is_literal x
@@ -82,8 +82,8 @@ abbrev pub node_end : Node → ℕ
 node_end (node p end kind held item join) = end
 
 abbrev mutual
-  -- nodes in order: the first begins at p, each of the others where the one before it ends, and the
-  -- last ends at `end`; and so do those of their groups, in them
+  -- nodes in order: the first begins at p, each other where the one before it ends, and the last
+  -- ends at `end`; and the nodes of each group are in order too, in its node
   pub Contiguous : (p : ℕ) → Forest → (end : ℕ) → Type 0
   Contiguous p no_nodes end = p ≡ end
   Contiguous p (nodes_and x xs) end =
@@ -94,7 +94,7 @@ abbrev mutual
   GroupsInside (node p end kind held item join) =
       GroupInside p end item × GroupInside p end join
 
-  -- those of one group, if there is one: after the first byte, and not after the last
+  -- the nodes of one group, if there is one, are in order, after the byte p and up to `end`
   pub GroupInside : (p end : ℕ) → Branch → Type 0
   GroupInside p end no_branch = ⊤
   GroupInside p end (branch xs) =

@@ -1,4 +1,4 @@
-//! The argument in braces.
+//! Arguments in braces.
 ghost use Rattle.std.specs.Prelude.{◌≡◌, ◌+◌, option_map, None, IfOk};
 ghost use Rattle.std.specs.Str.{IsCharBoundary, chars};
 ghost use Rattle.interpolator_syntax.specs.At.{at, after, size, strip};
@@ -20,24 +20,24 @@ use crate::range::Range;
 use crate::spec::take_spec;
 use interpolator_render::{Spec, Trait};
 
-/// What an argument asks for.
+/// What an argument writes: a value, or a list.
 #[derive(Clone, Copy, Debug, PartialEq)]
 pub enum Kind<'a> {
-    /// A value, written under a trait.
+    /// A value, written through this trait.
     Value(Trait),
     /// A list, written item by item.
     List {
-        /// Which of its items; all, if there is none.
+        /// Which of its items are written; without a range, all of them.
         range: Option<Range>,
-        /// The format of an item, in which the empty name is the item. Without one each item is
+        /// The format of an item, in which the empty name is the item. Without one, each item is
         /// displayed plainly.
         item: Option<Group<'a>>,
-        /// The format of what is written between two items; nothing, if there is none.
+        /// The format of what is written between two items; without one, nothing is.
         join: Option<Group<'a>>,
     },
 }
 
-/// What is in braces: a name, and how its value is written.
+/// The argument in braces: a name, and how its value is written.
 #[derive(Clone, Copy, Debug, PartialEq)]
 pub struct Argument<'a> {
     /// The name, a slice of the text.
@@ -46,22 +46,22 @@ pub struct Argument<'a> {
     pub name_place: usize,
     /// How the value is written.
     pub spec: Spec,
-    /// What is asked for.
+    /// Whether it is written as a value or as a list.
     pub kind: Kind<'a>,
 }
 
-/// A name in braces, and what follows it.
+/// The name of an argument, and the text after it.
 #[derive(Clone, Copy)]
 pub struct ArgumentName<'a> {
     /// The name, a slice of the text.
     pub name: &'a str,
     /// The byte of the text at which it begins.
     pub place: usize,
-    /// What follows it.
+    /// The text after it.
     pub end: Cursor<'a>,
 }
 
-/// The name here, after an opening brace and white space.
+/// Reads the white space here, after an opening brace, and the name after it.
 #[tactic(auto, unfolding(crate::specs::Arguments::argument_at))]
 #[inline(always)]
 pub fn take_name(here: Cursor<'_>) -> ArgumentName<'_>
@@ -87,7 +87,7 @@ pub fn take_name(here: Cursor<'_>) -> ArgumentName<'_>
 /// How the value of a name is written.
 #[derive(Clone, Copy)]
 pub struct Request<'a> {
-    /// Under which trait; `Iter` asks for a list.
+    /// The trait through which it is written; `Iter` stands for a list.
     pub slot: Trait,
     /// How the value is written.
     pub spec: Spec,
@@ -98,7 +98,7 @@ pub struct Request<'a> {
 impl<'a> Request<'a> {
     ghost use Rattle.interpolator_syntax.specs.Arguments.{IsPlain};
 
-    /// Plain display.
+    /// Returns the request for plain display.
     #[inline(always)]
     pub fn plain() -> Self
         ensures { IsPlain result }
@@ -111,9 +111,9 @@ impl<'a> Request<'a> {
     }
 }
 
-/// What is asked after the name of the argument that begins at `start`, if it is not closed at
-/// once. Goes after the spec. `asked` is filled in place, since a returned one would be copied
-/// whole.
+/// Reads how the value is written, after the name of the argument that begins at `start`, if no
+/// closing brace follows that name; goes past the spec. `asked` is filled in place, since returning
+/// it would copy the whole of it.
 #[inline(always)]
 pub fn take_request<'a>(
     here: &mut Cursor<'a>,
@@ -139,18 +139,19 @@ pub fn take_request<'a>(
 pub struct TakenArgument<'a> {
     /// Its name.
     pub name: ArgumentName<'a>,
-    /// What is asked of it.
+    /// How its value is written.
     pub asked: Request<'a>,
-    /// What follows its spec.
+    /// The text after its spec.
     pub end: Cursor<'a>,
-    /// What follows its closing brace; none if no such brace follows its spec.
+    /// The text after its closing brace; none if no closing brace follows its spec.
     pub rest: Option<Cursor<'a>>,
 }
 
-/// The argument that begins here, after its opening brace, and what follows its closing one.
+/// Reads the argument that begins here, after its opening brace; the result also has the text after
+/// its closing brace.
 ///
-/// If only the written value counts, [`take_name`] and [`take_request`] are called apart: then a
-/// name alone makes no [`Request`].
+/// A caller that only writes the value calls [`take_name`] and [`take_request`] instead: a name
+/// alone then makes no [`Request`].
 pub fn take_argument(here: Cursor<'_>) -> Result<TakenArgument<'_>, ArgumentFault>
     ensures read { taken_read result ≡ argument_at (at here.entry) }
     ensures rest { IfOk result (λ t. option_map at t.rest ≡ strip close_brace (at t.end)) }
@@ -173,7 +174,7 @@ pub fn take_argument(here: Cursor<'_>) -> Result<TakenArgument<'_>, ArgumentFaul
     })
 }
 
-/// What is asked for, as a caller of [`parse_argument`] gets it.
+/// Converts the request to the [`Kind`] that a caller of [`parse_argument`] gets.
 fn kind_asked(asked: Request<'_>) -> Kind<'_>
     ensures { kind_of result ≡ kind_of_request asked.entry }
 {
@@ -187,7 +188,7 @@ fn kind_asked(asked: Request<'_>) -> Kind<'_>
     }
 }
 
-/// An argument that was read, as [`parse_argument`] answers it.
+/// Converts an argument that was read to the one that [`parse_argument`] returns.
 pub fn argument_of<'a>(taken: &TakenArgument<'a>) -> Argument<'a>
     ensures { argument_of result ≡ named_argument taken.now.name (request_of taken.now.asked) }
 {
@@ -201,20 +202,22 @@ pub fn argument_of<'a>(taken: &TakenArgument<'a>) -> Argument<'a>
 
 /// Reads the argument that starts at byte `start` of the text, after its opening brace.
 ///
-/// Answers the argument, and the byte after its spec, if its closing brace should be. No value is
-/// looked up, and no memory is taken: the name is a slice of the text. Places count bytes from the
-/// beginning of the text. A fill is one character, of any number of bytes.
+/// Returns the argument, and the byte after its spec, where its closing brace should be. No value
+/// is looked up, and nothing is allocated: the name is a slice of the text. Places count bytes from
+/// the beginning of the text. A fill is one character, of any number of bytes.
 ///
-/// The caller proves that a character begins at `start`, or the text ends there: what
-/// `text.is_char_boundary(start)` tells. Any other `start` is refused when it is checked.
+/// The caller proves that a character begins at `start`, or that the text ends there, which is what
+/// `text.is_char_boundary(start)` returns. A call with any other `start` does not pass the check.
 ///
-/// Two faults are left to `write`: that there is no closing brace at the answered byte, and that a
-/// list is asked for with a precision, a sign, `#` or the zero flag (`Iter`).
+/// Two faults are left to `write`: that there is no closing brace at the returned byte, and that a
+/// list has a precision, a sign, `#` or the zero flag (`Iter`).
 ///
 /// # Errors
 ///
-/// - `Parse`: the text is no argument, by the first fault from left to right.
-/// - `UnsupportedOption`: a pointer is asked for.
+/// The first fault from left to right:
+///
+/// - `Parse`: the text is no argument.
+/// - `UnsupportedOption`: the argument uses the pointer trait, `p`.
 ///
 /// # Example
 ///

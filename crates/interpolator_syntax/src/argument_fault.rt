@@ -1,19 +1,19 @@
-//! Why no argument can be read.
+//! The reason why an argument cannot be read.
 ghost use Rattle.std.specs.Prelude.{◌≡◌, ◌+◌};
 ghost use Rattle.interpolator_syntax.specs.Faults.{answer_of, argument_fault_of, fault};
 
 use crate::error::{Error, ParseError};
 
-/// Why no argument can be read. It is small and copied, as an `Error` is not.
+/// The reason why an argument cannot be read. Unlike an `Error`, it is small and can be copied.
 #[derive(Clone, Copy)]
 pub enum ArgumentFault {
-    /// The text is refused.
+    /// The text is no argument.
     Text(ParseError),
-    /// A pointer is asked for, by a letter at this place.
+    /// The argument uses the pointer trait, whose letter is at this place.
     Pointer(usize),
 }
 
-/// Gives the fault as a caller gets it.
+/// Converts the fault to the `Error` that a caller gets.
 impl From<ArgumentFault> for Error {
     ghost from_gives = { λ broken error. answer_of error ≡ fault (argument_fault_of broken) };
 

@@ -1,4 +1,4 @@
-//! Reads a text in round brackets, which signs `#` may guard.
+//! Texts in round brackets, which may be guarded by signs `#`.
 ghost use Rattle.std.specs.Prelude.{◌≡◌, ◌≤◌, ◌++◌, length, List, ℕ, option_map, IfSome};
 ghost use Rattle.std.specs.Str.{chars};
 ghost use Rattle.interpolator_syntax.specs.At.{at, after};
@@ -14,7 +14,7 @@ use crate::cursor::Cursor;
 use crate::error::ParseError;
 use crate::group::Group;
 
-/// How many signs there are here, and what follows them.
+/// Counts the signs here, and returns the text after them.
 fn take_hashes(here: Cursor<'_>) -> (usize, Cursor<'_>)
     ensures count { result.0 ≡ length (front_of (in_class Hash) (at here.entry).text) }
     ensures after { at result.1 ≡ after (in_class Hash) (at here.entry) }
@@ -23,7 +23,7 @@ fn take_hashes(here: Cursor<'_>) -> (usize, Cursor<'_>)
     (signs.len(), rest)
 }
 
-/// What follows so many signs.
+/// Goes past `count` signs, if there are as many here.
 fn skip_hashes(start: Cursor<'_>, count: usize) -> Option<Cursor<'_>>
     ensures { option_map (λ c. at c) result
         ≡ after_hashes count start.entry.place (chars start.entry.rest.now) }
@@ -35,7 +35,7 @@ fn skip_hashes(start: Cursor<'_>, count: usize) -> Option<Cursor<'_>>
     Some(here)
 }
 
-/// The next `)`, and what follows it.
+/// Returns the next `)`, and the text after it.
 fn find_bracket(here: Cursor<'_>) -> Option<(Cursor<'_>, Cursor<'_>)>
     ensures { option_map (λ r. (at r.0, at r.1)) result ≡ next_close (at here.entry) }
 {
@@ -44,7 +44,7 @@ fn find_bracket(here: Cursor<'_>) -> Option<(Cursor<'_>, Cursor<'_>)>
     Some((close, after))
 }
 
-/// The text in front of a rest of it.
+/// Returns the text in front of the rest that ends it.
 pub fn text_before<'a>(text: &'a str, rest: &str) -> &'a str
     requires { (front : List ℕ) × (chars text.now ≡ front ++ chars rest.now) }
     ensures chars { chars result.now ++ chars rest.now ≡ chars text.now }
@@ -54,7 +54,7 @@ pub fn text_before<'a>(text: &'a str, rest: &str) -> &'a str
     front
 }
 
-/// The text up to the first `)` that is followed by so many signs, and what follows those.
+/// Returns the text up to the first `)` that has `count` signs after it, and the text after those.
 fn find_close(start: Cursor<'_>, count: usize) -> Option<(&str, Cursor<'_>)>
     ensures found { option_map text_read result
         ≡ close_from count start.entry.place (chars start.entry.rest.now) }
@@ -70,7 +70,7 @@ fn find_close(start: Cursor<'_>, count: usize) -> Option<(&str, Cursor<'_>)>
     None
 }
 
-/// The group here, in the argument that begins at `start`.
+/// Reads the group here, in the argument that begins at `start`.
 #[tactic(auto, unfolding(crate::specs::Groups::group_at))]
 #[inline(never)]
 fn take_group<'a>(here: &mut Cursor<'a>, start: usize) -> Result<Group<'a>, ArgumentFault>
@@ -93,7 +93,7 @@ fn take_group<'a>(here: &mut Cursor<'a>, start: usize) -> Result<Group<'a>, Argu
     })
 }
 
-/// The group here, if there is one, in the argument that begins at `start`.
+/// Reads the group here, if there is one, in the argument that begins at `start`.
 pub(crate) fn take_group_if<'a>(
     here: &mut Cursor<'a>,
     start: usize,
@@ -109,7 +109,7 @@ pub(crate) fn take_group_if<'a>(
     }
 }
 
-/// The beginning of a group's text.
+/// Returns a cursor at the beginning of a group's text.
 pub fn inside(group: Group<'_>) -> Cursor<'_>
     ensures { at result ≡ inside (group_of group.entry) }
 {

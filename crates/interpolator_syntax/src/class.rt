@@ -1,4 +1,4 @@
-//! Classes of characters, and the longest front of a text that is of one class.
+//! Classes of characters, and the longest front of a text whose characters are of one class.
 ghost use Rattle.std.specs.Prelude.{◌≡◌, ◌+◌, ◌++◌, ◌<◌, ◌≤◌, length, take, [], ◌∷◌, ◌==◌, ◌||◌};
 ghost use Rattle.std.specs.Prelude.{MatchOption, IfSome, ℕ};
 ghost use Rattle.std.specs.Str.{chars};
@@ -15,19 +15,19 @@ use std::simd::prelude::*;
 pub enum Class {
     /// White space.
     WhiteSpace,
-    /// What a name is made of: neither `:` nor `}`.
+    /// The characters of a name: all but `:` and `}`.
     Name,
-    /// What a number is made of: ASCII digits and `-`.
+    /// The characters of a number: ASCII digits and `-`.
     Number,
-    /// What is copied as it is: no brace.
+    /// The characters that are copied as they are: all but the braces.
     Literal,
-    /// What guards a group: `#`.
+    /// The sign that guards a group: `#`.
     Hash,
-    /// What may come before the first `)`.
+    /// The characters that may come before the first `)`: all others.
     Enclosed,
 }
 
-/// The first character of a text, and the text after it.
+/// Returns the first character of a text, and the text after it; none for the empty text.
 #[tactic(auto, using(crate::proofs::CharacterLemmas::first_character))]
 #[inline(always)]
 pub fn split_first(text: &str) -> Option<(char, &str)>
@@ -44,7 +44,7 @@ pub fn split_first(text: &str) -> Option<(char, &str)>
     Some((c, characters.as_str()))
 }
 
-/// What follows that ASCII character, if the text begins with it.
+/// Returns the text after this ASCII character, if it begins the text.
 #[inline(always)]
 pub(crate) fn strip_ascii(text: &str, wanted: u8) -> Option<&str>
     requires ascii { wanted < 128 }
@@ -58,7 +58,7 @@ pub(crate) fn strip_ascii(text: &str, wanted: u8) -> Option<&str>
     Some(rest)
 }
 
-/// Whether a character is of that class.
+/// Returns whether a character is of this class.
 fn is_in(class: Class, c: char) -> bool
     ensures { result ≡ in_class class c }
 {
@@ -72,7 +72,7 @@ fn is_in(class: Class, c: char) -> bool
     }
 }
 
-/// What follows the first character, if it is of that class.
+/// Returns the text after the first character, if that is of this class.
 #[inline(always)]
 fn past_one(text: &str, class: Class) -> Option<&str>
     ensures after { MatchOption result
@@ -86,7 +86,7 @@ fn past_one(text: &str, class: Class) -> Option<&str>
     if is_in(class, c) { Some(rest) } else { None }
 }
 
-/// The longest front of that class, read character by character, and what follows it.
+/// Splits a text after its longest front of this class, character by character.
 #[inline(always)]
 fn split_while(text: &str, class: Class) -> (&str, &str)
     ensures front { chars result.0.now ≡ front_of (in_class class) (chars text.now) }
@@ -100,7 +100,8 @@ fn split_while(text: &str, class: Class) -> (&str, &str)
     text.split_at(text.len() - rest.len())
 }
 
-/// The white space in front, and what follows it. Usually the first byte tells that there is none.
+/// Splits a text after the white space in front of it. Usually the first byte shows that there is
+/// none.
 #[inline(always)]
 fn split_space(text: &str) -> (&str, &str)
     ensures front { chars result.0.now ≡ front_of (in_class WhiteSpace) (chars text.now) }
@@ -113,16 +114,16 @@ fn split_space(text: &str) -> (&str, &str)
     }
 }
 
-/// How many bytes of a literal text are tested one by one before a search by vectors.
+/// How many bytes of a literal text are tested one by one before the search in vectors.
 const NEAR_LITERAL: usize = 2;
 
-/// How many bytes of the text in a bracket are tested one by one before a search by vectors.
+/// How many bytes of the text in a bracket are tested one by one before the search in vectors.
 const NEAR_ENCLOSED: usize = 8;
 
 /// How many bytes are tested at once.
 const BLOCK: usize = 16;
 
-/// How many bytes of the first block come before the first byte that is one of these two.
+/// Returns the index of the first byte of the first block that is one of these two.
 #[inline(always)]
 fn block_position(bytes: &[u8], first: u8, second: u8) -> Option<usize>
     requires { 16 ≤ length bytes.now }
@@ -140,8 +141,8 @@ fn block_position(bytes: &[u8], first: u8, second: u8) -> Option<usize>
     Some(hits.trailing_zeros() as usize)
 }
 
-/// What is left of the bytes after some that are none of these two: it begins with one of them, or
-/// is shorter than a block.
+/// Skips bytes that are neither of these two. What is left begins with one of them, or is shorter
+/// than a block.
 #[inline(always)]
 fn skip_blocks(bytes: &[u8], first: u8, second: u8) -> &[u8]
     ensures shorter { length result.now ≤ length bytes.now }
@@ -160,7 +161,7 @@ fn skip_blocks(bytes: &[u8], first: u8, second: u8) -> &[u8]
     rest
 }
 
-/// The index of the first byte that is one of these two.
+/// Returns the index of the first byte that is one of these two.
 #[inline(always)]
 fn byte_position(bytes: &[u8], first: u8, second: u8) -> Option<usize>
     ensures { result ≡ position (λ b. b == first || b == second) bytes.now }
@@ -168,7 +169,7 @@ fn byte_position(bytes: &[u8], first: u8, second: u8) -> Option<usize>
     bytes.iter().position(|b| *b == first || *b == second)
 }
 
-/// The index of the first byte that is one of these two, if it is among the first `near`.
+/// Returns the index of the first byte that is one of these two, if it is among the first `near`.
 #[inline(always)]
 fn near_position(bytes: &[u8], near: usize, first: u8, second: u8) -> Option<usize>
     ensures { IfSome result (λ r. r ≡ position_or_len (λ b. b == first || b == second) bytes.now) }
@@ -177,7 +178,7 @@ fn near_position(bytes: &[u8], near: usize, first: u8, second: u8) -> Option<usi
     byte_position(front, first, second)
 }
 
-/// The index of the first byte that is one of these two, if it is among the first sixteen.
+/// Returns the index of the first byte that is one of these two, if it is among the first sixteen.
 #[inline(always)]
 fn block_index(bytes: &[u8], first: u8, second: u8) -> Option<usize>
     requires { 16 ≤ length bytes.now }
@@ -187,8 +188,8 @@ fn block_index(bytes: &[u8], first: u8, second: u8) -> Option<usize>
     if index < BLOCK { Some(index) } else { None }
 }
 
-/// How many bytes come before the first that is one of these two, or all if there is none. It is
-/// likely to be among the first `near`, if that is told, and else among the first sixteen.
+/// Returns how many bytes come before the first that is one of these two: all, if none is. That one
+/// is likely to be among the first `near`, if `near` is given, or else among the first sixteen.
 #[tactic(auto, using(crate::proofs::ByteLemmas::first_or_all))]
 #[inline(always)]
 fn bytes_before(bytes: &[u8], near: Option<usize>, first: u8, second: u8) -> usize
@@ -213,7 +214,7 @@ fn bytes_before(bytes: &[u8], near: Option<usize>, first: u8, second: u8) -> usi
     }
 }
 
-/// The text up to the first of two ASCII characters, and the text from there on.
+/// Splits a text before the first of two ASCII characters; at its end, if it has neither.
 #[inline(always)]
 fn split_before(text: &str, near: Option<usize>, first: u8, second: u8) -> (&str, &str)
     requires first { first < 128 }
@@ -225,7 +226,7 @@ fn split_before(text: &str, near: Option<usize>, first: u8, second: u8) -> (&str
     text.split_at(bytes_before(text.as_bytes(), near, first, second))
 }
 
-/// The longest front of that class, and what follows it.
+/// Splits a text after its longest front of this class.
 #[inline(always)]
 pub fn split_class(text: &str, class: Class) -> (&str, &str)
     ensures front { chars result.0.now ≡ front_of (in_class class) (chars text.now) }

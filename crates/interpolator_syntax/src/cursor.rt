@@ -1,4 +1,4 @@
-//! Where the scan is: a place in the outermost text, and the text from there on.
+//! Where the scan stands: a place in the outermost text, and the text from there on.
 ghost use Rattle.std.specs.Prelude.{◌≡◌, ◌+◌, ◌^◌, ◌<◌, length, option_map, MatchOption};
 ghost use Rattle.std.specs.Prelude.{[], None, IfSome, MatchBool, ◌≢◌};
 ghost use Rattle.std.specs.Str.{chars};
@@ -19,7 +19,7 @@ impl<'a> Cursor<'a> {
     ghost use Rattle.interpolator_syntax.specs.SpecReads.{FirstByte, digit_letter, part_read};
     ghost use Rattle.interpolator_syntax.specs.Classes.{in_class, front_of};
 
-    /// The character here, and what follows it.
+    /// Returns the character here, and the text after it; none at the end of the text.
     #[inline(always)]
     pub fn next(self) -> Option<(char, Cursor<'a>)>
         ensures { option_map (λ r. (r.0, at r.1)) result ≡ first (at self.entry) }
@@ -32,7 +32,7 @@ impl<'a> Cursor<'a> {
         Some((c, after))
     }
 
-    /// What follows that ASCII character, if the text begins with it.
+    /// Returns the text after this ASCII character, if it begins the text.
     #[inline(always)]
     pub fn strip(self, wanted: u8) -> Option<Cursor<'a>>
         requires ascii { wanted < 128 }
@@ -45,7 +45,7 @@ impl<'a> Cursor<'a> {
         })
     }
 
-    /// The longest front of that class, and what follows it.
+    /// Splits the text after its longest front of this class.
     #[inline(always)]
     pub fn take_class(self, class: Class) -> (&'a str, Cursor<'a>)
         ensures front { chars result.0.now ≡ front_of (in_class class) (at self.entry).text }
@@ -60,7 +60,8 @@ impl<'a> Cursor<'a> {
         (front, after)
     }
 
-    /// The first byte here: the character itself, if that is ASCII.
+    /// Returns the first byte here: the character itself, if that is ASCII; none at the end of the
+    /// text.
     pub fn byte(self) -> Option<u8>
         ensures { MatchOption result ((at self.entry).text ≡ [])
             (λ b. FirstByte b (at self.entry).text) }
@@ -68,14 +69,14 @@ impl<'a> Cursor<'a> {
         self.rest.as_bytes().first().copied()
     }
 
-    /// Whether the text ends here.
+    /// Returns whether the text ends here.
     pub fn is_at_end(self) -> bool
         ensures { MatchBool result ((at self.entry).text ≡ []) ((at self.entry).text ≢ []) }
     {
         self.rest.is_empty()
     }
 
-    /// Goes past that ASCII character, if it is here, and tells whether it did.
+    /// Goes past this ASCII character, if it is here, and returns whether it was.
     #[inline(always)]
     pub fn eat(&mut self, wanted: u8) -> bool
         requires ascii { wanted < 128 }
@@ -90,7 +91,7 @@ impl<'a> Cursor<'a> {
         }
     }
 
-    /// Goes past the digit here, if there is one, and gives its value.
+    /// Goes past the digit here, if there is one, and returns its value.
     #[inline(always)]
     pub fn eat_digit(&mut self) -> Option<usize>
         ensures read { part_read (result, self.new) ≡ letter digit_letter None (at self.old) }

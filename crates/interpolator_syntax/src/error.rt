@@ -1,4 +1,4 @@
-//! The faults: what a call answers in place of its result.
+//! The faults: what a call returns in place of its result.
 
 ghost use Rattle.std.specs.Prelude.{◌≡◌, IfOk, IfErr, IsOk};
 ghost use Rattle.interpolator_syntax.specs.Faults.{answer_of, parse_fault_of, IsMissingValue};
@@ -9,15 +9,15 @@ use interpolator_render::Trait;
 use std::alloc::{AllocError, AllocFailed, Global};
 use std::fmt;
 
-/// Why the text of a number is refused.
+/// Why a text is not a number.
 ///
-/// From the left, the first character decides that is no digit, or that takes the number out of the
-/// range of its type.
+/// What decides is the first character, from the left, that is no digit or takes the number out of
+/// the range of its type.
 #[derive(Debug, PartialEq, Eq, Clone, Copy)]
 pub enum NumberError {
     /// There is no character to read.
     Empty,
-    /// A `-` is alone, or if none is allowed.
+    /// A `-` stands alone, or where none is allowed.
     InvalidDigit,
     /// The number is greater than the greatest of its type.
     PosOverflow,
@@ -25,7 +25,7 @@ pub enum NumberError {
     NegOverflow,
 }
 
-/// Why a format text is refused.
+/// Why a format text is rejected.
 ///
 /// Each place counts bytes from the beginning of the outermost format text.
 #[derive(Debug, PartialEq, Clone, Copy)]
@@ -40,37 +40,36 @@ pub enum ParseError {
     InvalidPrecision(NumberError, usize),
     /// A `{` is used as a fill character at this place, in front of an alignment.
     Fill(usize),
-    /// A list is asked for with a precision, a sign, `#` or the zero flag; the place is the byte
-    /// after its spec.
+    /// A list has a precision, a sign, `#` or the zero flag; the place is the byte after its spec.
     Iter(usize),
     /// The bound of a range that begins at this place is no `isize`.
     RangeBound(NumberError, usize),
 }
 
-/// Why a format has no text, or no whole one.
+/// Why a format was not written, or not in full.
 ///
 /// Each place counts bytes from the beginning of the outermost format text. Two faults are equal
-/// when their variants and fields are. `{}` writes a sentence:
+/// when their variants and fields are. `{}` writes one line:
 ///
 /// ```text
 /// specified value not in context `name` at 7
 /// ```
 #[derive(Debug, PartialEq, Drop)]
 pub enum Error {
-    /// The value has no text under this trait; the place is the byte after the argument's spec.
+    /// The value does not implement this trait; the place is the byte after the argument's spec.
     MissingTraitImpl(Trait, usize),
     /// A value failed, or the writer refused a text.
     ///
-    /// The place is the byte after the argument's spec, or that of the first literal character
-    /// that was not appended.
+    /// The place is the byte after the argument's spec, or that of the first literal character that
+    /// was not appended.
     Fmt(fmt::Error, usize),
     /// The format text is broken.
     Parse(ParseError),
     /// The context has no value of this name; the place is the byte after the argument's `{`.
     MissingValue(String, usize),
-    /// This option, at this place, wants this feature, which is left out.
+    /// This option, at this place, needs this feature, which this crate leaves out.
     UnsupportedOption(&'static str, &'static str, usize),
-    /// Memory was refused.
+    /// Memory ran out.
     NoMemory,
 }
 
@@ -80,7 +79,7 @@ impl std::error::Error for ParseError {}
 
 impl std::error::Error for Error {}
 
-/// Gives `Error::Parse` of the fault.
+/// Converts the fault to `Error::Parse`.
 impl From<ParseError> for Error {
     ghost from_gives = { λ fault error. error ≡ Parse fault };
 
@@ -89,7 +88,7 @@ impl From<ParseError> for Error {
     }
 }
 
-/// Gives `Error::NoMemory`.
+/// Converts to `Error::NoMemory`.
 impl From<AllocError> for Error {
     ghost from_gives = { λ _ error. error ≡ NoMemory };
 
@@ -98,7 +97,7 @@ impl From<AllocError> for Error {
     }
 }
 
-/// Gives `Error::NoMemory`, and drops what could not be stored.
+/// Converts to `Error::NoMemory`, and drops what could not be stored.
 impl<T: Drop> From<AllocFailed<T>> for Error {
     ghost from_gives = { λ _ error. error ≡ NoMemory };
 
@@ -108,7 +107,7 @@ impl<T: Drop> From<AllocFailed<T>> for Error {
 }
 
 impl ParseError {
-    /// The place of the fault, in bytes of the outermost format text.
+    /// Returns the place of the fault, in bytes of the outermost format text.
     ///
     /// ```text
     /// ParseError::Expected("}", 9).place()    // 9
@@ -129,7 +128,7 @@ impl ParseError {
 }
 
 impl Error {
-    /// The place of the fault, in bytes of the outermost format text; none for `NoMemory`.
+    /// Returns the place of the fault, in bytes of the outermost format text; none for `NoMemory`.
     ///
     /// ```text
     /// Error::NoMemory.place()    // None
@@ -147,16 +146,16 @@ impl Error {
         }
     }
 
-    /// Gives an equal fault.
+    /// Returns an equal fault.
     ///
-    /// Only the name of a `MissingValue` takes memory.
+    /// Only the name of a `MissingValue` needs memory.
     ///
     /// # Errors
     ///
     /// `NoMemory` if that name cannot be copied.
     ///
     /// ```text
-    /// error.try_clone(alloc)?    // of `NoMemory`: `NoMemory`
+    /// Error::NoMemory.try_clone(alloc)?    // `NoMemory`
     /// ```
     pub fn try_clone(&self, alloc: Global) -> Result<Error, Error>
         ensures ok { IfOk result (λ copy. answer_of copy ≡ answer_of self.now) }

@@ -1,4 +1,4 @@
-//! What `{}` writes of the faults: the same text whatever the options.
+//! What `{}` writes for a fault: the same text whatever the formatter's options.
 
 ghost use Rattle.std.specs.Prelude.{◌≡◌, Some};
 ghost use Rattle.std.specs.Fmt.{WritesOnOk, WritesStyledOnOk};
@@ -125,7 +125,7 @@ fn trait_name(t: Trait) -> &'static str
     }
 }
 
-// A function of its own, since the two texts that live for `'static` are shown as parameters alone.
+// A function of its own, since the prover knows the two `'static` texts only as parameters.
 fn write_unsupported<W: fmt::Write>(
     f: &mut fmt::Formatter<W>,
     option: &str,

@@ -4,7 +4,7 @@ ghost use Rattle.std.specs.Prelude.{◌+◌, ◌^◌, ◌<◌, length};
 /// A text in round brackets, and its place.
 ///
 /// ```text
-/// {items:i({:>4})(, )}    // each item with width 4, and a comma and a space between two
+/// {items:i({:>4})(, )}    // each item with width 4, with a comma and a space between items
 /// {items:i#(a (nested) text)#}
 /// ```
 #[derive(Clone, Copy, Debug, PartialEq)]

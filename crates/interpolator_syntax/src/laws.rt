@@ -1,5 +1,5 @@
-//! Laws, each the contract of a small function: of the faults, of what is in braces (numbers,
-//! groups, lists, specs and arguments), of the pieces of a format, and of a format at another base.
+//! Laws, each the contract of a small function: of the faults; of numbers, groups, lists, specs and
+//! arguments; of the pieces of a format; and of a format at another base.
 
 pub mod arguments;
 pub mod clones;

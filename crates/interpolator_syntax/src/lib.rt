@@ -1,20 +1,20 @@
-//! What a format text is made of, and what can be wrong with it.
+//! The syntax of format texts, and the faults that one can have.
 //!
-//! A format is read by a [`Cursor`], a place in the text and the text from there on. [`next_token`]
-//! tells what comes next: literals, a brace that is written, or an opening brace, after which an
-//! argument begins. [`take_argument`] reads it: by [`take_name`] its name, and by [`take_request`],
-//! after a colon, its spec and how it asks for a list. What is wrong is told by a [`ParseError`],
-//! at its place in bytes.
+//! A format is read with a [`Cursor`]: a place in the text, and the text from there on.
+//! [`next_token`] returns what comes next: literals, a brace that is written, or an opening brace,
+//! after which an argument begins. [`take_argument`] reads that argument: [`take_name`] reads its
+//! name, and [`take_request`] reads its spec and the form of a list, if a colon follows the name. A
+//! fault is reported as a [`ParseError`], with its place in bytes.
 //!
 //! ```text
 //! let (argument, end) = parse_argument("{x:>8}", 1)?;
 //! // the name `x` at byte 1, display, aligned to the right, of width 8; end is 5
 //! ```
 //!
-//! The readers know no writer and no context, and take no memory. Each has a clause that it answers
-//! what the reader of the same part in `specs/` computes; that those compute the right thing is
-//! said by the laws of [`laws`]. Read on at [`parse_argument`], and at `Arguments` and `Pieces` in
-//! `specs/`.
+//! The readers know no writer and no context, and allocate nothing. The contract of each says that
+//! it returns what the reader of the same part in `specs/` computes; that those compute the right
+//! thing is stated by the laws in [`laws`]. Read on at [`parse_argument`], and at `Arguments` and
+//! `Pieces` in `specs/`.
 #![tactic(auto)]
 
 mod argument;

@@ -1,4 +1,4 @@
-//! What follows the letter `i`: how a list is written.
+//! How a list is written: the part of a spec after the letter `i`.
 ghost use Rattle.std.specs.Prelude.{◌≡◌};
 ghost use Rattle.interpolator_syntax.specs.At.{at};
 ghost use Rattle.interpolator_syntax.specs.Arguments.{list_read};
@@ -13,12 +13,12 @@ use crate::range::{Range, take_range};
 /// How a list is written.
 #[derive(Clone, Copy)]
 pub struct ListForm<'a> {
-    /// Which of its items; all, if there is none.
+    /// Which of its items are written; without a range, all of them.
     pub range: Option<Range>,
-    /// The format of an item, in which the empty name is the item. Without one each item is
+    /// The format of an item, in which the empty name is the item. Without one, each item is
     /// displayed plainly.
     pub item: Option<Group<'a>>,
-    /// The format of what is written between two items; nothing, if there is none.
+    /// The format of what is written between two items; without one, nothing is.
     pub join: Option<Group<'a>>,
 }
 
@@ -39,8 +39,8 @@ impl<'a> ListForm<'a> {
     }
 }
 
-/// What follows the letter, in the argument that begins at `start`. Goes after it. `list` is filled
-/// in place, since a returned one would be copied whole.
+/// Reads what follows the letter, in the argument that begins at `start`, and goes past it. `list`
+/// is filled in place, since returning it would copy the whole of it.
 #[tactic(auto, unfolding(crate::specs::Lists::list_at))]
 #[inline(never)]
 pub(crate) fn take_list<'a>(

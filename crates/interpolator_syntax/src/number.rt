@@ -1,4 +1,4 @@
-//! Whole numbers in a format. A number is the longest run of ASCII digits and `-`.
+//! Whole numbers in a format. A number is read from the longest run of ASCII digits and `-`.
 ghost use Rattle.std.specs.Prelude.{◌≡◌, ◌+◌, ◌*◌, ◌^◌, ◌<◌, ◌≤◌, IfOk, MatchOption};
 ghost use Rattle.interpolator_syntax.specs.At.{at, after};
 ghost use Rattle.interpolator_syntax.specs.Classes.{in_class, front_of};
@@ -9,7 +9,7 @@ use crate::class::Class;
 use crate::cursor::Cursor;
 use crate::error::NumberError;
 
-/// What follows the run that goes on here.
+/// Goes past the rest of a run.
 #[cold]
 #[inline(never)]
 fn skip_run(here: Cursor<'_>) -> Cursor<'_>
@@ -19,7 +19,7 @@ fn skip_run(here: Cursor<'_>) -> Cursor<'_>
     rest
 }
 
-/// A number and, after it, one digit more, if that is at most `most`.
+/// Appends a digit to a number, if the result is at most `most`.
 #[inline(always)]
 fn append_digit(n: usize, digit: usize, most: usize) -> Option<usize>
     requires digit { digit < 10 }
@@ -27,15 +27,15 @@ fn append_digit(n: usize, digit: usize, most: usize) -> Option<usize>
     ensures { MatchOption result (most < n * 10 + digit)
         (λ m. (m ≡ n * 10 + digit) × (m ≤ most)) }
 {
-    // Usually the number is far below: then nothing is divided.
+    // Usually the number is far below `most`: then `most - digit` is not divided.
     if n >= most / 10 && n > (most - digit) / 10 {
         return None;
     }
     Some(n * 10 + digit)
 }
 
-/// The number of the digits of the run here, which is at most `most`; of none `empty`. Goes after
-/// the run.
+/// Reads the number that the digits of the run here spell, if it is at most `most`; the fault is
+/// `empty` if there are none. Goes past the run.
 #[inline(always)]
 fn take_digits(
     here: &mut Cursor<'_>,
@@ -70,7 +70,7 @@ fn take_digits(
     Ok(n)
 }
 
-/// The number that the run here spells. Goes after the run.
+/// Reads the number that the run here spells, and goes past the run.
 #[inline(always)]
 pub(crate) fn take_natural(here: &mut Cursor<'_>) -> Result<usize, NumberError>
     ensures number { result ≡ natural (front_of (in_class Number) (at here.old).text) }
@@ -84,7 +84,7 @@ pub(crate) fn take_natural(here: &mut Cursor<'_>) -> Result<usize, NumberError>
     )
 }
 
-/// A number taken from zero, as far as an `isize` goes.
+/// Returns the negation of a number, down to the least `isize`.
 fn negate(n: usize) -> isize
     requires fits { n ≤ 2 ^ 63 }
     ensures { result ≡ negation n }
@@ -95,7 +95,7 @@ fn negate(n: usize) -> isize
     -1 - (n - 1) as isize
 }
 
-/// The number that the run here spells, which may have a `-` in front. Goes after the run.
+/// Reads the number that the run here spells, which may have a `-` in front, and goes past the run.
 pub(crate) fn take_integer(here: &mut Cursor<'_>) -> Result<isize, NumberError>
     ensures number { result ≡ integer (front_of (in_class Number) (at here.old).text) }
     ensures after { at here.new ≡ after (in_class Number) (at here.old) }

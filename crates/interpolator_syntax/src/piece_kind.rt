@@ -3,16 +3,16 @@
 /// What a piece of a format is.
 #[derive(Clone, Copy, Debug, PartialEq, Eq)]
 pub enum PieceKind {
-    /// Characters that are no braces, as many as there are side by side.
+    /// A run of characters other than braces, as long as it can be.
     Literal,
-    /// A doubled brace, of which one is written.
+    /// A doubled brace, which is written as one.
     Doubled,
     /// A closing brace by itself, which is written.
     LoneClose,
     /// An argument with its closing brace.
     Closed,
-    /// An argument without a closing brace. It ends if its text ends.
+    /// An argument that lacks its closing brace. It extends to the end of its text.
     Unclosed,
-    /// What cannot be read as an argument. It ends if its text ends.
+    /// An opening brace after which no argument can be read. It extends to the end of its text.
     Broken,
 }

@@ -1,4 +1,4 @@
-//! A range of the indexes of a list.
+//! Ranges of list indices.
 ghost use Rattle.std.specs.Prelude.{◌≡◌};
 ghost use Rattle.interpolator_syntax.specs.At.{at};
 ghost use Rattle.interpolator_syntax.specs.Ranges.{bound_if, points, range_at};
@@ -9,7 +9,7 @@ use crate::cursor::Cursor;
 use crate::error::ParseError;
 use crate::number::take_integer;
 
-/// Which items of a list are written, by their indexes.
+/// Which items of a list are written, by their indices.
 ///
 /// A bound below zero counts from the list's end: -1 is the index of the last item.
 ///
@@ -27,7 +27,7 @@ pub struct Range {
     pub upper: Option<isize>,
 }
 
-/// The bound here, if there is one, in the argument that begins at `start`.
+/// Reads the bound here, if there is one, in the argument that begins at `start`.
 fn take_bound(here: &mut Cursor<'_>, start: usize) -> Result<Option<isize>, ArgumentFault>
     ensures { part_or_broken result (at here.new) ≡ bound_if start (at here.old) }
 {
@@ -46,7 +46,7 @@ fn take_bound(here: &mut Cursor<'_>, start: usize) -> Result<Option<isize>, Argu
     }
 }
 
-/// Whether `..` or `..=` is here, and if so, whether it is the one with `=`.
+/// Reads the `..` or `..=` here, if there is one, and returns whether it has the `=`.
 fn take_points(here: &mut Cursor<'_>) -> Option<bool>
     ensures { part_read (result, here.new) ≡ points (at here.old) }
 {
@@ -55,8 +55,8 @@ fn take_points(here: &mut Cursor<'_>) -> Option<bool>
     Some(here.eat(b'='))
 }
 
-/// The range here, if there is one, in the argument that begins at `start`. A bound alone
-/// is both bounds.
+/// Reads the range here, if there is one, in the argument that begins at `start`. A bound alone is
+/// both bounds.
 #[tactic(auto, unfolding(crate::specs::Ranges::range_at))]
 pub(crate) fn take_range(
     here: &mut Cursor<'_>,

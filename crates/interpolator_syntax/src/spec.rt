@@ -1,4 +1,4 @@
-//! What follows the colon of an argument, up to what follows the letter of lists.
+//! The spec after the colon of an argument, up to and including the letter of a list.
 ghost use Rattle.std.specs.Prelude.{◌≡◌, Err, Ok, Some};
 ghost use Rattle.interpolator_syntax.specs.At.{at, first, strip};
 ghost use Rattle.interpolator_syntax.specs.Classes.{question_mark};
@@ -21,7 +21,7 @@ use crate::error::{NumberError, ParseError};
 use crate::number::take_natural;
 use interpolator_render::{Alignment, HexDebug, Sign, Spec, Trait};
 
-/// The alignment here, if there is one.
+/// Reads the alignment here, if there is one.
 fn take_alignment(here: &mut Cursor<'_>) -> Alignment
     ensures { part_read (result, here.new)
         ≡ letter alignment_letter alignments.Unset (at here.old) }
@@ -37,7 +37,7 @@ fn take_alignment(here: &mut Cursor<'_>) -> Alignment
     }
 }
 
-/// The sign here, if there is one.
+/// Reads the sign here, if there is one.
 fn take_sign(here: &mut Cursor<'_>) -> Sign
     ensures { part_read (result, here.new) ≡ letter sign_letter signs.Unset (at here.old) }
 {
@@ -50,8 +50,8 @@ fn take_sign(here: &mut Cursor<'_>) -> Sign
     }
 }
 
-/// The fault of an argument that begins at `start`, whose text ends with a number. It is a function
-/// of its own, as the two after it are, since a function zeroes the space of its faults on entry.
+/// The fault of the argument that begins at `start`, whose text ends with a number. It and the next
+/// two are functions of their own, since a function zeroes the space for its faults on entry.
 fn unclosed(start: usize) -> Result<Option<usize>, ArgumentFault>
     ensures { result ≡ Err (faults.Text (errors.FormatSpecUnclosed start)) }
 {
@@ -72,7 +72,7 @@ fn bad_precision(kind: NumberError, place: usize) -> Result<Option<usize>, Argum
     Err(ArgumentFault::Text(ParseError::InvalidPrecision(kind, place)))
 }
 
-/// The width here, if there is one, in the argument that begins at `start`.
+/// Reads the width here, if there is one, in the argument that begins at `start`.
 fn take_width(here: &mut Cursor<'_>, start: usize) -> Result<Option<usize>, ArgumentFault>
     ensures { part_or_broken result (at here.new) ≡ width_at start (at here.old) }
 {
@@ -91,7 +91,7 @@ fn take_width(here: &mut Cursor<'_>, start: usize) -> Result<Option<usize>, Argu
     }
 }
 
-/// The precision here, if there is one, in the argument that begins at `start`.
+/// Reads the precision here, if there is one, in the argument that begins at `start`.
 fn take_precision(here: &mut Cursor<'_>, start: usize) -> Result<Option<usize>, ArgumentFault>
     ensures { part_or_broken result (at here.new) ≡ precision_at start (at here.old) }
 {
@@ -109,8 +109,8 @@ fn take_precision(here: &mut Cursor<'_>, start: usize) -> Result<Option<usize>, 
     }
 }
 
-/// Sign, flags, width and precision, as many as there are here, one after the other. Here and below
-/// `spec` is filled in place, since a returned one would be copied whole.
+/// Reads those of sign, flags, width and precision that are here, in this order. Here and below,
+/// `spec` is filled in place, since returning it would copy the whole of it.
 #[tactic(auto, unfolding(crate::specs::SpecTexts::spec_from_sign))]
 fn take_each_option(
     here: &mut Cursor<'_>,
@@ -128,8 +128,8 @@ fn take_each_option(
     Ok(())
 }
 
-/// As [`take_each_option`], but looks only before a byte up to `9`: each of them begins with one,
-/// and no letter does.
+/// As [`take_each_option`], but looks only if the byte here is at most `9`: each option begins with
+/// such a byte, and no letter does.
 #[tactic(auto, unfolding(crate::specs::SpecTexts::spec_from_sign))]
 fn take_options(here: &mut Cursor<'_>, spec: &mut Spec, start: usize) -> Result<(), ArgumentFault>
     requires { HasNoOptions spec.old }
@@ -142,7 +142,7 @@ fn take_options(here: &mut Cursor<'_>, spec: &mut Spec, start: usize) -> Result<
     }
 }
 
-/// The trait of a letter by itself.
+/// Returns the trait of a letter that stands alone.
 fn trait_of(letter: u8) -> Option<Trait>
     ensures { result ≡ trait_letter letter }
 {
@@ -157,7 +157,8 @@ fn trait_of(letter: u8) -> Option<Trait>
     }
 }
 
-/// After the letter of a hexadecimal trait: debug with such numbers if a `?` follows.
+/// Reads the `?` here, if there is one, after the letter of a hexadecimal trait: debug with such
+/// numbers if there is, else the trait alone.
 fn hexadecimal_or_debug(here: &mut Cursor<'_>, alone: Trait, debug: HexDebug) -> (Trait, HexDebug)
     ensures { wanted_read (Ok result) (at here.new)
         ≡ hexadecimal alone debug (at here.old) (strip question_mark (at here.old)) }
@@ -169,8 +170,7 @@ fn hexadecimal_or_debug(here: &mut Cursor<'_>, alone: Trait, debug: HexDebug) ->
     }
 }
 
-/// The trait here, and how debug writes numbers. `flagged` tells whether `#` or `0` was
-/// read.
+/// Reads the trait here, and how debug writes numbers. `flagged` says whether `#` or `0` was read.
 fn take_trait(
     here: &mut Cursor<'_>,
     start: usize,
@@ -207,8 +207,8 @@ fn take_trait(
     }
 }
 
-/// The parts of a spec from the alignment on, in their order, of the argument that begins at
-/// `start`, up to what follows the letter of a list. Goes after them.
+/// Reads the parts of a spec from the alignment on, in their order, in the argument that begins at
+/// `start`, up to and including the letter of a list.
 fn take_parts(
     here: &mut Cursor<'_>,
     spec: &mut Spec,
@@ -227,8 +227,8 @@ fn take_parts(
     Ok(())
 }
 
-/// The fill here, if there is one: the first character `c`, if an alignment begins the text `after`
-/// it. Goes after the fill.
+/// Reads the fill here, if there is one: the first character `c`, if an alignment begins the text
+/// `after` it.
 fn take_fill<'a>(
     here: &mut Cursor<'a>,
     c: char,
@@ -248,9 +248,8 @@ fn take_fill<'a>(
     Ok(Some(c))
 }
 
-/// What follows the colon of the argument that begins at `start`, up to what follows the
-/// letter of a list. Goes after it; of one character alone, and of what a `}` begins, nothing is
-/// read.
+/// Reads the spec after the colon of the argument that begins at `start`, up to and including the
+/// letter of a list. If one character is left, or a `}` comes first, nothing is read.
 #[tactic(auto, unfolding(crate::specs::SpecTexts::spec_after))]
 #[inline(never)]
 pub(crate) fn take_spec(

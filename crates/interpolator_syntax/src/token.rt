@@ -6,12 +6,12 @@ ghost use Rattle.interpolator_syntax.specs.Tokens.{first_token, token_read, RunF
 use crate::class::Class;
 use crate::cursor::Cursor;
 
-/// What is at a place of a format. Neighbouring literals are one.
+/// What is at a place in a format. Neighbouring literals are one token.
 #[derive(Clone, Copy)]
 pub enum Token<'a> {
-    /// Characters that are no braces.
+    /// Characters other than braces.
     Literals(&'a str),
-    /// A doubled brace, of which one is written.
+    /// A doubled brace, which is written as one.
     Doubled(char),
     /// A closing brace by itself, which is written.
     LoneClose,
@@ -19,7 +19,7 @@ pub enum Token<'a> {
     Argument,
 }
 
-/// The next piece, and what follows it.
+/// Returns the next token, and the text after it; none at the end of the text.
 #[tactic(auto, unfolding(crate::specs::Tokens::first_token), using(crate::proofs::CharacterLemmas::chars_of_end))]
 #[inline(always)]
 pub fn next_token(here: Cursor<'_>) -> Option<(Token<'_>, Cursor<'_>)>

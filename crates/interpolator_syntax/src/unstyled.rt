@@ -5,7 +5,7 @@ ghost use Rattle.std.specs.Fmt.{DisplaysOnOk, DisplaysStyledOnOk, HasWrittenStyl
 use std::fmt;
 use std::fmt::Write;
 
-// A writer that hands each text on to a formatter.
+// A writer that passes each text on to a formatter.
 #[derive(Drop)]
 struct Unstyled<'a, W> {
     f: &'a mut fmt::Formatter<W>,
@@ -20,9 +20,9 @@ impl<W: Write> Write for Unstyled<'_, W> {
     }
 }
 
-/// Writes what `{}` writes of a value, whatever options the formatter has.
+/// Writes what `{}` writes for a value, whatever options the formatter has.
 ///
-/// `write!` does the same, but says so only of a formatter that has none.
+/// `write!` does the same, but its contract says so only for a formatter without options.
 pub fn write_unstyled<W: Write, T: fmt::Display + Drop>(
     f: &mut fmt::Formatter<W>,
     value: T,

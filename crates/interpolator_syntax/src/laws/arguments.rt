@@ -10,8 +10,8 @@ ghost use Rattle.interpolator_syntax.specs.Faults.{Fault, fault_place};
 
 /// An argument is its parts, one after the other, and only such a text is an argument: all the
 /// white space that is there, then the name, up to the first `:` or `}`, and then either a `}`,
-/// which asks for plain display and is not read, or a `:` and a spec after it. The name is a slice
-/// of the text, at its place in bytes.
+/// which stands for plain display and is not read, or a `:` and a spec after it. The name is a
+/// slice of the text, at its place in bytes.
 ///
 /// So in `{ name:5}` one character of white space follows the brace, the name, `name`, begins
 /// at byte 2, and the spec, `5`, ends in front of the brace. In `{}` the name is empty.
@@ -20,9 +20,9 @@ pub fn argument_lies_in_the_text()
     ensures only { (a q : At) (x : Argument) → IsArgument a x q → argument_at a ≡ Ok (x, q) }
 {}
 
-/// If no argument begins here, the name is read as far as it goes. Either the text ends with it, so
-/// that the fault names the byte after the opening brace; or a `:` follows the name, and the fault
-/// is that of the spec after the colon.
+/// If no argument begins here, the name is still read as far as it goes. Either the text ends with
+/// it, and the place of the fault is the byte after the opening brace; or a `:` follows the name,
+/// and the fault is that of the spec after the colon.
 ///
 /// So in `{name` the argument that begins at byte 1 is not closed, and in `{name:5y}` a `}` is
 /// expected at byte 7.
@@ -31,10 +31,10 @@ pub fn argument_is_broken_otherwise()
     ensures only { (a : At) (f : Fault) → IsNoArgument a f → argument_at a ≡ Err f }
 {}
 
-/// What follows an opening brace is an argument, or there is none for some reason, and not
-/// both: one argument alone, which ends at one place, or one fault.
+/// After an opening brace there is either exactly one argument, which ends at one place, or exactly
+/// one fault, and never both.
 ///
-/// So of `{x:5y}`, whose fault is the `y`, nothing else is told.
+/// So for `{x:5y}`, whose fault is the `y`, nothing else is reported.
 pub fn one_outcome_of_an_argument()
     ensures some { (a : At) → ((x : Argument) × (q : At) × IsArgument a x q)
         ⊎ ((f : Fault) × IsNoArgument a f) }
@@ -45,12 +45,12 @@ pub fn one_outcome_of_an_argument()
     ensures one_fault { (a : At) (f g : Fault) → IsNoArgument a f → IsNoArgument a g → f ≡ g }
 {}
 
-/// The fault of an argument is that its text is broken, or that an option is left out that it asks
-/// for, and it lies in the text: at a place from the byte after the opening brace up to the end. No
-/// value is missing, none fails, and memory is not asked for.
+/// The fault of an argument is either that its text is broken, or that it uses an option that is
+/// not supported. Its place lies in the text, from the byte after the opening brace up to the end.
+/// No value is missing, none fails, and memory is not needed.
 ///
-/// So the faults that `parse_argument` answers are `Parse` and `UnsupportedOption` alone, each at a
-/// byte from `start` up to the length of the text.
+/// So `parse_argument` returns no other faults than `Parse` and `UnsupportedOption`, each at a byte
+/// from `start` up to the length of the text.
 pub fn faults_of_arguments_lie_in_them()
     ensures kinds { (a : At) (f : Fault) → argument_at a ≡ Err f → IsArgumentFault f }
     ensures places { (a : At) (f : Fault) → argument_at a ≡ Err f

@@ -1,5 +1,5 @@
-//! Laws of the clones of what is in braces, each the contract of a small function: the clone is
-//! the value, and there always is one.
+//! Laws of the clones of arguments and their parts, each the contract of a small function: the
+//! clone equals the value, and cloning never fails.
 
 ghost use Rattle.std.specs.Prelude.{◌≡◌, Ok};
 
@@ -22,7 +22,7 @@ pub fn group<'a>(group: &Group<'a>) -> Result<Group<'a>, AllocError>
     group.clone()
 }
 
-/// Clones what an argument asks for.
+/// Clones the kind of an argument.
 pub fn kind<'a>(kind: &Kind<'a>) -> Result<Kind<'a>, AllocError>
     ensures { result ≡ Ok kind.now }
 {

@@ -8,8 +8,8 @@ ghost use Rattle.interpolator_syntax.specs.Faults.{Fault};
 
 /// A group is what opens it, its text and what closes it, one after the other: all the signs `#`
 /// that are there and a `(`; the text; and a `)` with as many signs. No `)` of the text has that
-/// many signs right after it, so a group ends if it first can. Only such a text is a group, and no
-/// other group begins at its place.
+/// many signs right after it, so a group ends at the first place where it can. Only such a text is
+/// a group, and no other group begins at its place.
 ///
 /// So the text of `(a)#)` is `a`, that of `#(a)#)#` is `a` and that of `##(a)#)##` is `a)#`.
 pub fn group_is_its_parts()
@@ -20,11 +20,11 @@ pub fn group_is_its_parts()
 {}
 
 /// If no group begins here, the fault is of one of three kinds: the text ends with the signs, and
-/// the fault names the byte after the opening brace; or another character than `(` follows the
-/// signs, and the fault names its place; or no `)` has as many signs after it, and the fault names
-/// the byte after the opening brace.
+/// the place is the byte after the opening brace; or a character other than `(` follows the signs,
+/// and the place is that character's; or no `)` has as many signs after it, and the place is the
+/// byte after the opening brace.
 ///
-/// So in `{l:i##a` a `(` is expected at byte 6, and in `{l:i#(a)` the argument that starts at byte
+/// So in `{l:i##a` a `(` is expected at byte 6, and in `{l:i#(a)` the argument that begins at byte
 /// 1 is not closed.
 pub fn no_group_otherwise()
     ensures is { (start : ℕ) (a : At) (f : Fault) → group_at start a ≡ Err f → IsNoGroup start a f }

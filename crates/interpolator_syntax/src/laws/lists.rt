@@ -8,18 +8,18 @@ ghost use Rattle.interpolator_syntax.specs.ListGrammar.{IsRange, IsNoRange, IsLi
 ghost use Rattle.interpolator_syntax.specs.Faults.{Fault};
 ghost use Rattle.interpolator_syntax.specs.declared.range.Range.{Range};
 
-/// A range is its parts, one after the other, each of which is there if its first character is:
+/// A range is its parts, one after the other, each of which is there exactly when its beginning is:
 ///
 /// 1. a lower bound: if there is a digit or a `-`, the longest run of digits and `-`, which is an
 ///    integer
 /// 2. `..=`, or `..` if no `=` follows
-/// 3. after these points an upper bound, as the lower one
+/// 3. after these points, an upper bound, in the form of the lower one
 ///
-/// A bound without points is both bounds, and the item at it is written. Without a bound and points
-/// there is no range, and nothing is read. Only such a text is a range.
+/// A bound without points is both bounds, and the item at it is written. With neither a bound nor
+/// points there is no range, and nothing is read. Only such a text is a range.
 ///
-/// So the bounds of `-1` are -1 and -1, `1..` has no upper bound and `..=` has none at all; and of
-/// `1.` the point is not read.
+/// So the bounds of `-1` are -1 and -1, `1..` has no upper bound, `..=` has no bound at all, and
+/// the point of `1.` is not read.
 pub fn range_is_its_parts()
     ensures is { (start : ℕ) (a q : At) (range : Option Range) → range_at start a ≡ Ok (range, q)
         → IsRange start a range q }
@@ -27,11 +27,11 @@ pub fn range_is_its_parts()
         → range_at start a ≡ Ok (range, q) }
 {}
 
-/// If no range can be read, the fault is that of the first bound that cannot be read: one that ends
-/// with the text leaves the argument unclosed, and one that is no integer is named by the place if
-/// its run begins.
+/// If no range can be read, the fault is that of the first bound that cannot be read: a bound that
+/// ends with the text leaves the argument unclosed, and one that is no integer is reported at the
+/// place where its run begins.
 ///
-/// So the fault of `{l:i..1` is `FormatSpecUnclosed(1)`, and of `{l:i1..--5}` it is
+/// So the fault of `{l:i..1` is `FormatSpecUnclosed(1)`, and that of `{l:i1..--5}` is
 /// `RangeBound(InvalidDigit, 7)`.
 pub fn range_is_refused_otherwise()
     ensures is { (start : ℕ) (a : At) (fault : Fault) → range_at start a ≡ Err fault
@@ -40,13 +40,13 @@ pub fn range_is_refused_otherwise()
         → range_at start a ≡ Err fault }
 {}
 
-/// How a list is written follows its letter as three parts, one after the other, each of
-/// which may be absent: a range; a group, the format of an item; and a group, the join. A group is
-/// there exactly when a `(` or a `#` is, so the first group is always the item's. Only such a
-/// text asks for a list.
+/// The form of a list follows its letter in three parts, one after the other, each of which may be
+/// absent: a range; a group, the format of an item; and a group, the join. A group is there exactly
+/// when a `(` or a `#` is, so the first group is always the item's. Only such a text is the form of
+/// a list.
 ///
 /// So after the `i` of `{l:i1..({:>4})(, )}` come the range `1..`, the item format `{:>4}` and
-/// the join `, `; after that of `{l:i( )}` an item format alone; and after that of `{l:i}`
+/// the join `, `; after that of `{l:i( )}` comes an item format alone; and after that of `{l:i}`
 /// nothing.
 pub fn list_is_its_parts()
     ensures is { (start : ℕ) (a q : At) (list : ListRequest) → list_at start a ≡ Ok (list, q)
@@ -55,10 +55,10 @@ pub fn list_is_its_parts()
         → list_at start a ≡ Ok (list, q) }
 {}
 
-/// If none can be read, the fault is that of the first of these parts that cannot be read, from
-/// the left: of a bound of the range, or of a group that a `(` or a `#` begins.
+/// If the form of a list cannot be read, the fault is that of the first of these parts, from the
+/// left, that cannot be read: of a bound of the range, or of a group that a `(` or a `#` begins.
 ///
-/// So the fault of `{l:i-(a}` is `RangeBound(InvalidDigit, 4)`, and of `{l:i(a)#b}` it is
+/// So the fault of `{l:i-(a}` is `RangeBound(InvalidDigit, 4)`, and that of `{l:i(a)#b}` is
 /// `Expected("(", 8)`.
 pub fn list_is_refused_otherwise()
     ensures is { (start : ℕ) (a : At) (fault : Fault) → list_at start a ≡ Err fault

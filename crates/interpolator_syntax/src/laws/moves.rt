@@ -8,9 +8,9 @@ ghost use Rattle.interpolator_syntax.specs.Faults.{Fault};
 ghost use Rattle.interpolator_syntax.specs.Moved.{moved_at, moved_argument, moved_fault};
 ghost use Rattle.interpolator_syntax.specs.Moved.{moved_piece};
 
-/// A text reads the same wherever it is: at a base that is so many bytes further on, the same
-/// argument is there, or the same fault, and the same pieces, with every place moved by so many
-/// bytes: of a name, of a group, of a piece, and of a fault.
+/// A text reads the same wherever it is. At a base that is `by` bytes further on, there is the same
+/// argument or the same fault, and there are the same pieces, with every place moved by `by` bytes:
+/// that of a name, of a group, of a piece and of a fault.
 ///
 /// So in `{x:5y}` a `}` is expected at byte 4, and in `ab{x:5y}` at byte 6.
 pub fn places_move_with_the_text()

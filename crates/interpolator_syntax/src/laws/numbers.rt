@@ -16,12 +16,12 @@ pub fn number_is_its_digits()
     ensures only { (text : List ℕ) (n : ℕ) → IsNumber (2 ^ 64) text n → natural text ≡ Ok n }
 {}
 
-/// Any other text is no number. From the left, the first character decides that is no digit, which
-/// is `InvalidDigit`, or whose digit takes the value to 2^64, which is `PosOverflow`. The empty
-/// text is `Empty`.
+/// Any other text is no number. What decides is the first character, from the left, that is no
+/// digit, with the fault `InvalidDigit`, or whose digit takes the value to 2^64, with the fault
+/// `PosOverflow`. The fault of the empty text is `Empty`.
 ///
-/// So `1-2` and `1-99999999999999999999` are `InvalidDigit`, and `99999999999999999999-` is
-/// `PosOverflow`.
+/// So the fault of `1-2` and of `1-99999999999999999999` is `InvalidDigit`, and that of
+/// `99999999999999999999-` is `PosOverflow`.
 pub fn number_is_refused_otherwise()
     ensures is { (text : List ℕ) (kind : NumberError) → natural text ≡ Err kind
         → IsNoNumber (2 ^ 64) PosOverflow text kind }
@@ -30,7 +30,7 @@ pub fn number_is_refused_otherwise()
 {}
 
 /// An integer is a number below 2^63, or a `-` and, after it, a number of at most 2^63, which is
-/// taken from zero. Only such a text is one.
+/// negated. Only such a text is one.
 ///
 /// So `-007` is -7, `-0` is 0, and `-9223372036854775808` is the least.
 pub fn integer_is_its_sign_and_digits()
@@ -38,12 +38,12 @@ pub fn integer_is_its_sign_and_digits()
     ensures only { (text : List ℕ) (z : ℤ) → IsInteger text z → integer text ≡ Ok z }
 {}
 
-/// Any other text is no integer. If it begins with a `-`, what is after that decides, as with
-/// numbers of at most 2^63, but too great a value is `NegOverflow`. If it does not, the whole text
-/// decides, as with numbers below 2^63. A `-` with nothing after it is no sign.
+/// Any other text is no integer. If it begins with a `-`, the text after that decides, as with
+/// numbers of at most 2^63, but the fault of too great a value is `NegOverflow`. If it does not,
+/// the whole text decides, as with numbers below 2^63. A `-` with nothing after it is no sign.
 ///
-/// So `-`, `--1` and `1-` are `InvalidDigit`, `9223372036854775808` is `PosOverflow`, and
-/// `-9223372036854775809` is `NegOverflow`.
+/// So the fault of `-`, `--1` and `1-` is `InvalidDigit`, that of `9223372036854775808` is
+/// `PosOverflow`, and that of `-9223372036854775809` is `NegOverflow`.
 pub fn integer_is_refused_otherwise()
     ensures is { (text : List ℕ) (kind : NumberError) → integer text ≡ Err kind
         → IsNoInteger text kind }

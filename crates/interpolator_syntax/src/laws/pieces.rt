@@ -15,7 +15,7 @@ pub fn pieces_join()
     ensures joined { (a : At) → flat_map (λ x. x.text) (pieces a) ≡ a.text }
 {}
 
-/// The pieces of a text are the one list of pieces that follow one after the other, each at its
+/// The pieces of a text are the only list of pieces that follow one after the other, each at its
 /// place in bytes, and each of the first of these kinds that its place allows:
 ///
 /// 1. a doubled brace, `{{` or `}}`
@@ -31,15 +31,16 @@ pub fn pieces_are_the_one_list()
     ensures only { (a : At) (xs : List Piece) → IsPieces a xs → xs ≡ pieces a }
 {}
 
-/// The relation of arguments says what a piece is that begins with a brace: it is closed exactly
-/// when an argument follows its brace, up to the closing one; unclosed exactly when one follows it,
-/// and no closing brace after that; and broken exactly when none follows it, for the reason of the
-/// relation.
+/// The relation of arguments decides what a piece that begins with a brace is: closed exactly when
+/// an argument follows the brace, up to a closing one; unclosed exactly when an argument follows,
+/// but no closing brace after that; and broken exactly when no argument follows, for the reason
+/// that the relation gives.
 ///
-/// What the scan hands on, run after run, is the pieces: a run of literals is as many pieces, and a
-/// doubled brace, a lone one or an argument is one; and then come the pieces of what follows it.
+/// The tokens of the scan are the pieces: a run of literals is a piece for each of its characters,
+/// and a doubled brace, a lone brace and an argument are one piece each; then come the pieces of
+/// the rest of the text.
 ///
-/// So of `ab{{{x}` the scan hands on `ab`, a doubled brace and an argument, which are four pieces.
+/// So the tokens of `ab{{{x}` are `ab`, a doubled brace and an argument, which are four pieces.
 pub fn pieces_stand_by_the_grammar()
     ensures closed { (p start end : ℕ) (x : Argument) (text rest : List ℕ)
         → IsClosed p start x end text rest ↔ ClosedStands p start x end text rest }

@@ -7,7 +7,7 @@ ghost use Rattle.interpolator_syntax.specs.SpecGrammar.{IsSpec, IsNoSpec};
 ghost use Rattle.interpolator_syntax.specs.Faults.{Fault};
 
 /// The text after a colon is a spec exactly when it is these parts, one after the other, each of
-/// which is there if its first character is:
+/// which is there exactly when its beginning is:
 ///
 /// 1. a fill: if an alignment comes second, the first character, which is no `{`
 /// 2. an alignment: `<`, `^` or `>`
@@ -20,12 +20,12 @@ ghost use Rattle.interpolator_syntax.specs.Faults.{Fault};
 /// 9. after `i`, how a list is written: a range, if there is a bound or `..`, and up to two
 ///    groups, the format of an item and the join, each if there is a `(` or a `#`
 ///
-/// A text of at most one character is not read, nor is one that begins with `}`: both ask for plain
-/// display.
+/// A text of at most one character is not read, nor is one that begins with `}`: both stand for
+/// plain display.
 ///
-/// So `*<+#08.3x?}` is a spec whose `}` is not read, `3` at the end of the format asks for no
-/// width, nor does `}<5}`, and `>6i1..({})(,)}` asks for the list from its second item on, with
-/// `{}` for an item and `,` between two.
+/// So `*<+#08.3x?}` is a spec whose `}` is not read; neither `3` at the end of the format nor
+/// `}<5}` has a width; and `>6i1..({})(,)}` stands for the list from its second item on, with `{}`
+/// for each item and `,` between two.
 pub fn spec_is_its_parts()
     ensures is { (start : ℕ) (a q : At) (asked : Request) → spec_after start a ≡ Ok (asked, q)
         → IsSpec start a asked q }
@@ -33,22 +33,22 @@ pub fn spec_is_its_parts()
         → spec_after start a ≡ Ok (asked, q) }
 {}
 
-/// If there is no spec, the fault is that of the first part that cannot be read, from the left:
+/// If there is no spec, the fault is that of the first part, from the left, that cannot be read:
 ///
-/// - a `{` in front of an alignment, if that comes second, would be a fill
+/// - a `{` that comes first, with an alignment second, would be a fill
 /// - a width or a precision that ends with the text leaves the argument unclosed, and one that is
-///   no number is named by the place if its run begins
-/// - the end of the text, if a trait may be, leaves the argument unclosed after `#` or `0`
-/// - `p` is an option that is not supported, and any other character that begins no trait is
-///   found if a `}` is expected
+///   no number is reported at the place where its run begins
+/// - the end of the text, where a trait may be, leaves the argument unclosed after `#` or `0`
+/// - `p` is an option that is not supported, and any other character that begins no trait stands
+///   where a `}` is expected
 /// - after `i`, a bound that ends with the text leaves the argument unclosed, and one that is no
-///   integer is named by the place if its run begins
+///   integer is reported at the place where its run begins
 /// - a group whose signs end the text, or that nothing closes, leaves the argument unclosed, and
-///   another character than `(` after its signs is found if a `(` is expected
+///   a character other than `(` after its signs stands where a `(` is expected
 ///
-/// So the fault of `{a:{<}` is `Fill(3)`, of `{a:1-2}` it is `InvalidWidth(InvalidDigit, 3)`, of
-/// `{a:55` it is `FormatSpecUnclosed(1)`, of `{a:5y}` it is `Expected("}", 4)`, and of `{a:i#b}` it
-/// is `Expected("(", 5)`.
+/// So the fault of `{a:{<}` is `Fill(3)`, that of `{a:1-2}` is `InvalidWidth(InvalidDigit, 3)`,
+/// that of `{a:55` is `FormatSpecUnclosed(1)`, that of `{a:5y}` is `Expected("}", 4)`, and that of
+/// `{a:i#b}` is `Expected("(", 5)`.
 pub fn spec_is_refused_otherwise()
     ensures is { (start : ℕ) (a : At) (fault : Fault) → spec_after start a ≡ Err fault
         → IsNoSpec start a fault }

@@ -1,4 +1,4 @@
--- The calls of the writer in between are calls of the formatter.
+-- Calls of the writer in between are calls of the formatter.
 use Rattle.std.proofs.Common.{rules}
 use Rattle.interpolator_syntax.proofs.UnstyledLemmas.{displays_through, displays_plainly}
 use Rattle.interpolator_syntax.proofs.unstyled.write_unstyled.Goals as goal

@@ -1,4 +1,4 @@
--- A spec is refused if no parts make it: a lemma a clause.
+-- A text is no spec if no parts make it one: a lemma a clause.
 use Rattle.interpolator_syntax.proofs.GrammarPartLemmas.{agrees_is_not}
 use Rattle.interpolator_syntax.proofs.GrammarSpecLemmas.{law_spec}
 use Rattle.interpolator_syntax.proofs.KeepLemmas.{still}
