@@ -1,5 +1,5 @@
 -- The bytes of a name are those of its characters.
 use Rattle.std.proofs.lemmas.Str.{encodes-chars}
 
--- a key is told by bytes, and asked by characters
+-- a key is compared by its bytes, and looked up by its characters
 pub ruleset name_bytes = (encodes-chars)

@@ -126,7 +126,7 @@ module _ {T : Type 0} where
     value_cases old added name lent (Some value) e as_before found =
         let there = as_before.finds name in cc
 
-    -- the value that is lent of a name that was put in first
+    -- the value that is lent for a name that was put in first
     pub value_after :
         (old added : NameMap T) (name : List ℕ) (lent : T) → HasAdded IsDefault old name added
         → Some lent ≡ under added name → IsEntry IsDefault old name lent

@@ -11,7 +11,7 @@ use Rattle.interpolator_eval.specs.declared.slots.Formattable.{fold-Formattable,
 use Rattle.interpolator_eval.specs.declared.slots.Formattable.{out-roll-Formattable}
 
 module _ {X : Type 0} where
-  -- a list that is made one value, and a list again, is the list
+  -- a list that is made one value, and then a list again, is the same list
   pub slots_listed-listed_slots : (list : List (Slots X)) → slots_listed (listed_slots list) ≡ list
   slots_listed-listed_slots [] = refl
   slots_listed-listed_slots (tree ∷ others) = ap (λ rest. tree ∷ rest) (slots_listed-listed_slots others)
@@ -26,7 +26,7 @@ module _ {X : Type 0} where
   items-with_items filled None = refl
   items-with_items filled (Some others) = ap Some (slots_listed-listed_slots others)
 
-  -- what a fold over one layer makes of the slice
+  -- what a fold of one layer makes of the slice
   mapped : {A : Type 0} (f : Formattable X → A) (slice : Option (Bor (List (Formattable X))))
       → option_copied ((former-Formattable-iter X).map (Formattable X) A f slice)
       ≡ option_map (λ lent. map f lent.now) slice

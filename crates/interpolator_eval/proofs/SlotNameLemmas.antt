@@ -24,7 +24,7 @@ abbrev pub no_name : List (List ℕ) → Bool
 no_name [] = true
 no_name (name ∷ names) = false
 
--- the names of the filled ones of these slots
+-- the names of those of these slots that are filled
 abbrev pub names_of : (Trait → Bool) → List Trait → List (List ℕ)
 names_of filled slots = map slot_name (filter filled slots)
 
@@ -56,7 +56,7 @@ module _ (filled : Trait → Bool) (index : ℕ) (below : index < 9) where
       []
   one_more passes = rw passes at next_names
 
-  -- one that is not changes no name
+  -- a slot that is empty changes no name
   pub none_more : filled (get_or slot_order index Binary) ≡ false
       → names_of filled (take (index + 1) slot_order) ≡ names_of filled (take index slot_order)
   none_more fails = (rw fails at next_names) ∙ append-nil _

@@ -1,4 +1,4 @@
--- What maps of std, and pairs, find under a name, which is a list of characters.
+-- What std's maps, and pairs, find under a name, which is a list of characters.
 use Rattle.std.specs.Prelude.{ℕ, List, Option, String, reverse}
 use Rattle.std.specs.List.{find}
 use Rattle.std.specs.Option.{option_map}
@@ -8,7 +8,7 @@ use Rattle.std.specs.HashMap.{HashMap, get_by, get_by_text}
 use Rattle.interpolator_eval.specs.Slots.{Slots, slots_of}
 use Rattle.interpolator_eval.specs.declared.slots.Formattable.{Formattable}
 
--- the tree under the name, in a map whose keys are lent texts
+-- the tree under the name, in a map whose keys are borrowed texts
 abbrev pub found_by_str : {X S : Type 0} → HashMap (Bor (List ℕ)) (Formattable X) S → List ℕ
     → Option (Slots X)
 found_by_str map name =
@@ -19,7 +19,7 @@ abbrev pub found_by_text : {X A S : Type 0} → HashMap (String A) (Formattable 
     → Option (Slots X)
 found_by_text map name = option_map slots_of (get_by_text map (encode_utf8_all name))
 
--- what the last pair holds whose name has these bytes
+-- the value of the last pair whose name has these bytes
 abbrev pub held_last : {Y : Type 0} → List (Bor (List ℕ) × Y) → List ℕ → Option Y
 held_last pairs bytes =
     option_map (λ pair. pair.1) (find (λ pair. bytes_eq bytes pair.0.now) (reverse pairs))

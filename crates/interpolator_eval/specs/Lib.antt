@@ -1,4 +1,4 @@
--- The definitions that the contracts cite.
+-- The definitions that the contracts use.
 pub use Rattle.interpolator_render.specs.Texts
 pub use Rattle.interpolator_render.specs.Views
 pub use Rattle.interpolator_render.specs.Written

@@ -19,18 +19,18 @@ module _ {T : Type 0} where
   abbrev pub name_count : NameMap T → ℕ
   name_count map = hash_map_len map.map
 
-  -- new is old with the value under the name, which it has once
+  -- `new` is `old` with the value under the name, which counts once
   pub record HasPut (old : NameMap T) (name : List ℕ) (value : T) (new : NameMap T) : Type 0 where
     pub here : under new name ≡ Some value
     pub others : (other : List ℕ) → other ≢ name → under new other ≡ under old other
     pub count : name_count new ≡ name_count old + (if is_some (under old name) then 0 else 1)
 
-  -- new has the names of old, and the same value under each
+  -- `new` has the names of `old`, and the same value under each
   pub record IsSame (old new : NameMap T) : Type 0 where
     pub finds : (name : List ℕ) → under new name ≡ under old name
     pub count : name_count new ≡ name_count old
 
-  -- an absent name was put in with a default value, and a name that was there changed nothing
+  -- an absent name was put in with a default value; if the name was there, nothing changed
   abbrev pub HasAdded : (T → Type 0) → NameMap T → List ℕ → NameMap T → Type 0
   HasAdded IsDefault old name new = MatchOption (under old name)
       ((value : T) × (IsDefault value × HasPut old name value new)) (λ _. IsSame old new)
@@ -46,7 +46,7 @@ abbrev pub LendsUnder : (T : RattleType) (map : MutBor (NameMap T.Denot))
 LendsUnder T map name lent = LendsSo (the_row T) T map lent
     (λ new last. OnSome lent (HasPut map.now name last new)) (λ new. IsSame map.now new)
 
--- a call that lends so, or fails
+-- the same for a call that may fail
 abbrev pub LendsEntry : {E : Type 0} (T : RattleType) (map : MutBor (NameMap T.Denot))
     (name : List ℕ) → Result (MutBor T.Denot) E → Fml
 LendsEntry T map name lent = LendsSoOk (the_row T) T map lent

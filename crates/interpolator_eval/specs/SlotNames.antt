@@ -26,7 +26,7 @@ abbrev pub slot_order : List Trait
 slot_order =
     Debug ∷ Display ∷ Binary ∷ LowerExp ∷ LowerHex ∷ Octal ∷ UpperExp ∷ UpperHex ∷ Iter ∷ []
 
--- what comes before a name, and the name
+-- a name, after the parenthesis or the comma that comes before it
 abbrev pub name_after : Bool → List ℕ → List ℕ
 name_after is_first name = (if is_first then codes "(" else codes ", ") ++ name
 

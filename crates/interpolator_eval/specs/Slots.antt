@@ -1,4 +1,4 @@
--- What a `Formattable` means: a tree of slots and items, in which borrows do not count.
+-- What a `Formattable` means: a tree of slots and items, without the borrows.
 use Rattle.std.specs.Prelude.{List, [], ◌∷◌, map, Option, None, Some}
 use Rattle.std.specs.Option.{option_map, option_copied}
 use Rattle.std.specs.Borrow.{Bor}
@@ -96,11 +96,11 @@ module _ {X : Type 0} where
   unfoldable pub slots_of : Formattable X → Slots X
   slots_of formattable = fold-Formattable X (Slots X) layer_slots formattable
 
-  -- the trees after an optional slice
+  -- the trees of an optional slice
   abbrev pub lent_slots : Option (Bor (List (Formattable X))) → Option (List (Slots X))
   lent_slots slice = option_map (λ lent. map slots_of lent.now) slice
 
-  -- the value in the slot that a trait asks
+  -- the value in the slot of a trait
   abbrev pub slot_at : Trait → Values X → Option X
   slot_at Binary filled = filled.binary
   slot_at Debug filled = filled.debug

@@ -1,4 +1,4 @@
-//! Formattables made of one value, and more slots filled in a chain of calls.
+//! Constructors of `Formattable`, and calls that fill more slots in a chain.
 ghost use Rattle.std.specs.Prelude.{◌≡◌, map};
 ghost use Rattle.interpolator_eval.specs.Slots.{slots_of, empty_slots};
 ghost use Rattle.interpolator_eval.specs.Slots.{with_debug_display, with_debug, with_display};
@@ -8,9 +8,9 @@ ghost use Rattle.interpolator_eval.specs.Slots.{with_upper_exp, with_upper_hex};
 
 use crate::slots::Formattable;
 
-/// The slots of the name are filled, and no other.
+/// Each constructor fills the slots of its name, and no others.
 impl<'a, V> Formattable<'a, V> {
-    /// Only the debug and display slots are filled.
+    /// Makes a value with only the debug and display slots filled.
     ///
     /// `Formattable::debug_display(&n)` of 255: `{n} {n:?}` is `255 255`.
     pub fn debug_display(value: &'a V) -> Self
@@ -19,7 +19,7 @@ impl<'a, V> Formattable<'a, V> {
         Formattable::default().and_debug_display(value)
     }
 
-    /// Only the debug slot is filled.
+    /// Makes a value with only the debug slot filled.
     ///
     /// `Formattable::debug(&n)` of 255: `{n:?}` is `255`.
     pub fn debug(value: &'a V) -> Self
@@ -28,7 +28,7 @@ impl<'a, V> Formattable<'a, V> {
         Formattable::default().and_debug(value)
     }
 
-    /// Only the display slot is filled.
+    /// Makes a value with only the display slot filled.
     ///
     /// `Formattable::display(&n)` of 255: `{n:>5}` is `  255`.
     pub fn display(value: &'a V) -> Self
@@ -37,7 +37,7 @@ impl<'a, V> Formattable<'a, V> {
         Formattable::default().and_display(value)
     }
 
-    /// Only the eight slots of the formatting traits are filled.
+    /// Makes a value with only the eight slots of the formatting traits filled.
     ///
     /// `Formattable::integer(&n)` of 255: `{n:#x}` is `0xff`.
     pub fn integer(value: &'a V) -> Self
@@ -46,7 +46,7 @@ impl<'a, V> Formattable<'a, V> {
         Formattable::default().and_integer(value)
     }
 
-    /// Only the debug, display, lower_exp and upper_exp slots are filled.
+    /// Makes a value with only the debug, display, lower_exp and upper_exp slots filled.
     ///
     /// `Formattable::float(&n)` of 255: `{n:.1e}` is `2.6e2`.
     pub fn float(value: &'a V) -> Self
@@ -55,7 +55,7 @@ impl<'a, V> Formattable<'a, V> {
         Formattable::default().and_float(value)
     }
 
-    /// Only the binary slot is filled.
+    /// Makes a value with only the binary slot filled.
     ///
     /// `Formattable::binary(&n)` of 255: `{n:b}` is `11111111`.
     pub fn binary(value: &'a V) -> Self
@@ -64,7 +64,7 @@ impl<'a, V> Formattable<'a, V> {
         Formattable::default().and_binary(value)
     }
 
-    /// Only the lower_exp slot is filled.
+    /// Makes a value with only the lower_exp slot filled.
     ///
     /// `Formattable::lower_exp(&n)` of 255: `{n:e}` is `2.55e2`.
     pub fn lower_exp(value: &'a V) -> Self
@@ -73,7 +73,7 @@ impl<'a, V> Formattable<'a, V> {
         Formattable::default().and_lower_exp(value)
     }
 
-    /// Only the lower_hex slot is filled.
+    /// Makes a value with only the lower_hex slot filled.
     ///
     /// `Formattable::lower_hex(&n)` of 255: `{n:x}` is `ff`.
     pub fn lower_hex(value: &'a V) -> Self
@@ -82,7 +82,7 @@ impl<'a, V> Formattable<'a, V> {
         Formattable::default().and_lower_hex(value)
     }
 
-    /// Only the octal slot is filled.
+    /// Makes a value with only the octal slot filled.
     ///
     /// `Formattable::octal(&n)` of 255: `{n:o}` is `377`.
     pub fn octal(value: &'a V) -> Self
@@ -91,7 +91,7 @@ impl<'a, V> Formattable<'a, V> {
         Formattable::default().and_octal(value)
     }
 
-    /// Only the upper_exp slot is filled.
+    /// Makes a value with only the upper_exp slot filled.
     ///
     /// `Formattable::upper_exp(&n)` of 255: `{n:E}` is `2.55E2`.
     pub fn upper_exp(value: &'a V) -> Self
@@ -100,7 +100,7 @@ impl<'a, V> Formattable<'a, V> {
         Formattable::default().and_upper_exp(value)
     }
 
-    /// Only the upper_hex slot is filled.
+    /// Makes a value with only the upper_hex slot filled.
     ///
     /// `Formattable::upper_hex(&n)` of 255: `{n:X}` is `FF`.
     pub fn upper_hex(value: &'a V) -> Self
@@ -109,7 +109,7 @@ impl<'a, V> Formattable<'a, V> {
         Formattable::default().and_upper_hex(value)
     }
 
-    /// Only the iter slot, with the items of a list, is filled.
+    /// Makes a value with only the iter slot filled: the items of a list.
     ///
     /// `Formattable::iter(&items)` of 255 twice: `{n:i({})(, )}` is `255, 255`.
     pub fn iter(value: &'a [Formattable<'a, V>]) -> Self
@@ -119,7 +119,7 @@ impl<'a, V> Formattable<'a, V> {
     }
 }
 
-/// The slots of the name are filled as well, and the others stay as they were.
+/// Each `and_` call fills the slots of its name too, and leaves the others as they were.
 impl<'a, V> Formattable<'a, V> {
     /// Fills the debug and display slots too.
     ///

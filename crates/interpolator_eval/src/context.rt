@@ -1,4 +1,4 @@
-//! Where a format finds its values.
+//! Contexts, in which a format finds its values.
 ghost use Rattle.std.specs.Prelude.{◌≡◌, ℕ, List, Option};
 ghost use Rattle.std.specs.Option.{option_copied, option_map};
 ghost use Rattle.std.specs.Str.{chars};
@@ -10,9 +10,9 @@ use interpolator_render::Value;
 use std::collections::HashMap;
 use std::marker::PhantomData;
 
-/// Where a format finds what its names stand for.
+/// Finds what the names of a format stand for.
 ///
-/// A name is its characters: what it stands for depends on the object and on these alone.
+/// What a name stands for depends on the context and on the characters of the name alone.
 pub trait Context {
     /// The type of the values that are written.
     type Object: Value;
@@ -20,7 +20,7 @@ pub trait Context {
     // the tree of what is under a name
     ghost finds: { Self → List ℕ → Option (Slots Self.Object) };
 
-    /// What is under a name, or `None`. It takes no memory.
+    /// Returns what a name stands for, or `None` if it stands for nothing. It allocates nothing.
     ///
     /// ```text
     /// let context = Pairs(&[("n", Formattable::display(&n))]);
@@ -31,7 +31,7 @@ pub trait Context {
         ensures found { option_map slots_of result ≡ finds self.now (chars key.now) };
 }
 
-// What a map lends, copied in the place that asks, with no call.
+// Copies what a map lends, inlined where it is used.
 #[inline(always)]
 pub(crate) fn copied<'a, V>(lent: Option<&Formattable<'a, V>>) -> Option<Formattable<'a, V>>
     ensures { result ≡ option_copied lent.entry }
@@ -65,7 +65,7 @@ impl<'a, V: Value> Context for HashMap<String, Formattable<'a, V>> {
     }
 }
 
-/// A map with `&str` keys that names one lifetime, although the map's own type names two.
+/// A map with `&str` keys, in a type that names one lifetime, although that of the map names two.
 #[derive(Drop)]
 pub struct ByNames<'m, V> {
     map: &'m HashMap<&'m str, Formattable<'m, V>>,
@@ -73,7 +73,7 @@ pub struct ByNames<'m, V> {
 }
 
 impl<'m, V> ByNames<'m, V> {
-    /// The names of this map.
+    /// Wraps a map.
     #[inline(always)]
     pub fn new(map: &'m HashMap<&'m str, Formattable<'m, V>>) -> Self
         ensures { result.map.now ≡ map.now }

@@ -1,4 +1,4 @@
-//! A map from names that is built name by name.
+//! A map from names, filled name by name.
 ghost use Rattle.std.specs.Prelude.{◌≡◌, ◌↔◌, ℕ, List, None, Some, Option, IsTrue};
 ghost use Rattle.std.specs.Prelude.{IfOk, IfErr, OnOk, OnErr};
 ghost use Rattle.std.specs.Option.{option_copied, option_copied_mut};
@@ -15,7 +15,7 @@ use std::alloc::{AllocError, Global};
 use std::collections::HashMap;
 use std::marker::PhantomData;
 
-/// A context that is built name by name: each name stands for a [`Formattable`].
+/// A context that is filled name by name: each name stands for a [`Formattable`].
 ///
 /// ```text
 /// let name = View::from("Ann");
@@ -28,7 +28,7 @@ use std::marker::PhantomData;
 pub type ContextMap<'a, V> = NameMap<Formattable<'a, V>>;
 
 /// A map from names, which are compared by their characters. It keeps the allocator that `new`
-/// took, and copies each name that it puts in.
+/// takes, and copies each name that is put in.
 #[derive(Drop)]
 pub struct NameMap<T> {
     map: HashMap<String, T>,
@@ -37,7 +37,7 @@ pub struct NameMap<T> {
 }
 
 impl<T> NameMap<T> {
-    /// A map with no name. It takes no memory.
+    /// Makes a map with no names. It allocates nothing.
     pub fn new(alloc: Global) -> NameMap<T>
         ensures names { (name : List ℕ) → under result name ≡ None }
         ensures count { name_count result ≡ 0 }
@@ -49,21 +49,21 @@ impl<T> NameMap<T> {
         }
     }
 
-    /// How many names the map has: after `put` of `a`, of `b` and of `a` again, 2.
+    /// Returns how many names the map has: 2 after `put` of `a`, `b` and `a` again.
     pub fn len(&self) -> usize
         ensures { result ≡ name_count self.now }
     {
         self.map.len()
     }
 
-    /// Whether the map has no name.
+    /// Returns whether the map has no names.
     pub fn is_empty(&self) -> bool
         ensures { IsTrue result ↔ (name_count self.now ≡ 0) }
     {
         self.map.is_empty()
     }
 
-    // The value under a name.
+    // Finds the value under a name.
     #[inline(always)]
     fn find(&self, name: &str) -> Option<&T>
         ensures { option_copied result ≡ under self.now (chars name.now) }
@@ -71,7 +71,7 @@ impl<T> NameMap<T> {
         self.map.get(name)
     }
 
-    // Lends the value under a name, to be written.
+    // Lends the value under a name, to be changed.
     fn lend(&mut self, name: &str) -> Option<&mut T>
         ensures* writes_back { sem 𝓛 (LendsUnder T.row self.entry (chars name.now) result) }
         ensures value { option_copied_mut result ≡ under self.old (chars name.now) }
@@ -110,7 +110,7 @@ impl<T: Default + Drop> NameMap<T> {
         }
     }
 
-    /// Lends the value under a name, to be written; an absent name is put in first, with a default
+    /// Lends the value under a name, to be changed; an absent name is put in first, with a default
     /// value (a [`Formattable`] with no slot filled). The other names stay as they were.
     ///
     /// # Errors
@@ -135,14 +135,15 @@ impl<T: Default + Drop> NameMap<T> {
         }
     }
 
-    /// Puts a value under a name, in place of the one that stood there. The other names stay.
+    /// Puts a value under a name, and replaces the one that was there. The other names stay as they
+    /// were.
     ///
-    /// A list goes so, too: `map.put("l", Formattable::iter(&items))?`.
+    /// A list is put in the same way: `map.put("l", Formattable::iter(&items))?`.
     ///
     /// # Errors
     ///
-    /// `AllocError`, which `?` makes `NoMemory`, and only for an absent name. The map is then as it
-    /// was.
+    /// `AllocError`, which `?` converts to `NoMemory`, and only for an absent name. The map is then
+    /// as it was.
     pub fn put(&mut self, name: &str, value: T) -> Result<(), AllocError>
         ensures ok { OnOk result (HasPut self.old (chars name.now) value self.new) }
         ensures err { OnErr result (IsSame self.old self.new) }

@@ -1,9 +1,9 @@
-//! Whether a key is a name, as a context of one's own asks.
+//! Comparison of a key with a name, for contexts that a caller writes.
 ghost use Rattle.std.specs.Prelude.{◌≡◌};
 ghost use Rattle.std.specs.Str.{bytes_eq, chars, encode_utf8_all};
 
-/// Whether a key is this name. A context of one's own asks it in `get`, once for each of its fields:
-/// so what it finds is proved by itself to be what its `finds` says.
+/// Returns whether a key is this name. If the `get` of your own context calls it for each of its
+/// fields, the checker proves without your help that `get` finds what `finds` says.
 ///
 /// # Example
 ///

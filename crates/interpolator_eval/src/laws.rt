@@ -1,5 +1,5 @@
 //! Laws, each the contract of a small function: of what texts and lists mean, of the names that a
-//! format asks, and of the items that a range chooses.
+//! format uses, and of the items that a range chooses.
 
 pub mod choices;
 pub mod meanings;

@@ -1,6 +1,12 @@
-//! What a format means, and the scan that writes it: slots, contexts, and where names are looked up.
+//! Looks up the values of a format, and writes what the format means.
 //!
-//! `interpolator` re-exports what a caller names. The rest is for its templates.
+//! A [`Formattable`] has the values that a name stands for, one slot for each trait, and a
+//! [`Context`] finds the `Formattable` of a name. [`write_text`] scans a format text from left to
+//! right, and writes its literals and values as it reads them. [`write_source`] does the same for
+//! any [`FormatSource`]: a text, or pieces that were read before. What a format means is defined in
+//! `specs/Meaning`.
+//!
+//! `interpolator` re-exports what its callers name. The rest is for its own templates.
 #![tactic(auto)]
 
 mod constructors;

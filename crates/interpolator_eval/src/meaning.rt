@@ -1,4 +1,4 @@
-//! What a format means, written: names are looked up, and texts go to the writer.
+//! Writes what a format means: looks up its names, and passes its texts to the writer.
 
 pub mod environment;
 pub mod evaluate;

@@ -1,4 +1,4 @@
-//! Pairs of a name and what it stands for, as a context.
+//! A context made of pairs of a name and its value.
 ghost use Rattle.std.specs.Prelude.{◌≡◌, ⊤, option_map};
 ghost use Rattle.std.specs.Option.{option_copied};
 ghost use Rattle.interpolator_eval.specs.Contexts.{found_by_pairs, held_last};
@@ -8,10 +8,11 @@ use crate::slots::Formattable;
 use interpolator_render::Value;
 use std::alloc::AllocError;
 
-/// A context of pairs: a name, and the [`Formattable`] that it stands for.
+/// A context made of pairs: a name, and the [`Formattable`] that it stands for.
 ///
-/// The last pair of a name counts. Names are compared by their characters, from the last pair to
-/// the first, which costs less than a map if the names are few. Making it takes no memory.
+/// If a name occurs more than once, its last pair counts. Names are compared by their characters,
+/// from the last pair to the first, which costs less than a map if there are few names. Making a
+/// `Pairs` allocates nothing.
 ///
 /// ```text
 /// struct Guest<'a> { name: &'a str, city: &'a str }
@@ -38,7 +39,7 @@ impl<'a, V> Clone for Pairs<'a, V> {
 
 impl<'a, V> Copy for Pairs<'a, V> {}
 
-// The last pair of that name. It is not inlined, so that its few words stay in registers.
+// Returns the last pair of this name. It is not inlined, so that its few words stay in registers.
 #[inline(never)]
 fn last_pair<'s, 'k, T>(pairs: &'s [(&'k str, T)], name: &str) -> Option<&'s (&'k str, T)>
     ensures { option_map (λ pair. pair.1) (option_copied result) ≡ held_last pairs.now name.now }

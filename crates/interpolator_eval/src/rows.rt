@@ -1,4 +1,4 @@
-//! Lists whose items come when the program runs, and lists of such lists.
+//! Lists whose items are known only at run time, and lists of such lists.
 ghost use Rattle.std.specs.Prelude.{◌≡◌, map, drop, take, IfOk, IfErr};
 ghost use Rattle.interpolator_eval.specs.Rows.{parts_to};
 ghost use Rattle.interpolator_eval.specs.Slots.{slots_of, empty_slots, with_integer, with_iter};
@@ -8,19 +8,19 @@ use crate::slots::Formattable;
 use interpolator_syntax::Error;
 use std::alloc::Global;
 
-/// An item for each value, in order, with the eight slots of the formatting traits filled: what a
-/// list lends.
+/// Makes the items of a list: one for each value, in order, with the eight slots of the formatting
+/// traits filled.
 ///
 /// # Errors
 ///
-/// `NoMemory`: the items find no memory.
+/// `NoMemory`: there is no memory for the items.
 ///
 /// # Example
 ///
 /// ```text
 /// let items = items_of(alloc, &cells)?;
 /// map.put("cells", Formattable::iter(&items))?;
-/// map.format(alloc, "{cells:i({:>4})(, )}")?    // of `a` and `bc`: "   a,   bc"
+/// map.format(alloc, "{cells:i({:>4})(, )}")?    // with `a` and `bc`: "   a,   bc"
 /// ```
 pub fn items_of<'a, V>(alloc: Global, values: &'a [V]) -> Result<Vec<Formattable<'a, V>>, Error>
     ensures items { IfOk result (λ items. map slots_of items.items
@@ -34,7 +34,7 @@ pub fn items_of<'a, V>(alloc: Global, values: &'a [V]) -> Result<Vec<Formattable
     Ok(items)
 }
 
-/// The items from one place up to another, as a list; what lies past the last item is left out.
+/// Makes a list of the items from one index up to another; what lies past the last is left out.
 fn row<'a, V>(items: &'a [Formattable<'a, V>], from: usize, to: usize) -> Formattable<'a, V>
     ensures { slots_of result
         ≡ with_iter empty_slots (drop from (take to (map slots_of items.now))) }
@@ -43,19 +43,19 @@ fn row<'a, V>(items: &'a [Formattable<'a, V>], from: usize, to: usize) -> Format
     Formattable::iter(&front[from.min(front.len())..])
 }
 
-/// A list for each row of a flat slice of items. `ends` has, for each row, the number of items up
-/// to its end: a row has the items from the end of the row before it up to its own. It may be
-/// empty, and what lies past the last item is left out.
+/// Makes a list for each row of a flat slice of items. `ends` has, for each row, the index at which
+/// the row ends: a row has the items from the end of the row before it up to its own end. A row may
+/// be empty, and what lies past the last item is left out.
 ///
 /// # Errors
 ///
-/// `NoMemory`: the rows find no memory.
+/// `NoMemory`: there is no memory for the rows.
 ///
 /// # Example
 ///
 /// ```text
-/// let items = items_of(alloc, &cells)?;              // of `a`, `b`, `c`
-/// let rows = rows_of(alloc, &items, &[2, 3])?;       // the lists of `a`, `b`, and of `c`
+/// let items = items_of(alloc, &cells)?;              // with cells `a`, `b`, `c`
+/// let rows = rows_of(alloc, &items, &[2, 3])?;       // a list of `a` and `b`, and one of `c`
 /// map.put("rows", Formattable::iter(&rows))?;
 /// map.format(alloc, "{rows:i#({:i({})(,)})#(;)}")?   // "a,b;c"
 /// ```

@@ -1,4 +1,4 @@
-//! The text of a `Formattable` for debugging: the names of its filled slots.
+//! The debug text of a `Formattable`: the names of its filled slots.
 ghost use Rattle.std.specs.Prelude.{◌≡◌, Some};
 ghost use Rattle.std.specs.Fmt.{WritesOnOk, WritesStyledOnOk};
 ghost use Rattle.interpolator_eval.specs.Slots.{slots_of};
@@ -22,7 +22,7 @@ const SLOTS: [Trait; 9] = [
     Trait::Iter,
 ];
 
-// The name of a trait's slot.
+// Returns the name of a trait's slot.
 fn name_of(slot: Trait) -> &'static str
     ensures { result.now ≡ slot_name slot }
 {
@@ -40,7 +40,7 @@ fn name_of(slot: Trait) -> &'static str
 }
 
 impl<'a, V> Formattable<'a, V> {
-    // Whether the slot is filled.
+    // Returns whether the slot is filled.
     fn has(&self, slot: Trait) -> bool
         ensures { result ≡ is_filled (slots_of self.now) slot }
     {
@@ -51,7 +51,7 @@ impl<'a, V> Formattable<'a, V> {
     }
 }
 
-// Writes a name after a parenthesis, or after the name in front of it.
+// Writes a name, with a parenthesis before the first and a comma before each other.
 fn write_name<W: fmt::Write>(f: &mut fmt::Formatter<W>, is_first: bool, name: &str) -> fmt::Result
     ensures { WritesStyledOnOk W.write_str_gives f.old result
         (name_after is_first name.now) f.new }

@@ -1,4 +1,4 @@
-//! A value's slots: which traits a format may write it with.
+//! The slots of a name: the values that a format may write through each trait.
 ghost use Rattle.std.specs.Prelude.{◌≡◌, map, ⊤};
 ghost use Rattle.std.specs.Option.{option_copied};
 ghost use Rattle.interpolator_eval.specs.Slots.{slots_of, empty_slots};
@@ -11,18 +11,18 @@ ghost use Rattle.interpolator_eval.specs.Slots.{with_upper_exp, with_upper_hex};
 use interpolator_render::Trait;
 use std::alloc::AllocError;
 
-/// What a name of a format stands for: a value for each trait that it may be written with, and a
-/// list of items.
+/// What a name in a format stands for: a value for each trait that may write it, and a list of
+/// items.
 ///
-/// There are nine slots, each empty or filled: one for each formatting trait, which lends a `V`,
-/// and `iter`, which lends a slice of `Formattable`s. A format that asks an empty slot is refused.
-/// The values are lent, so a `Formattable` is copied freely and takes no memory.
+/// There are nine slots, each empty or filled: one for each formatting trait, which borrows a `V`,
+/// and `iter`, which borrows a slice of `Formattable`s. A format that uses an empty slot fails with
+/// `MissingTraitImpl`. The values are borrowed, so a `Formattable` is `Copy` and owns no memory.
 ///
 /// ```text
-/// let name = Formattable::debug_display(&"Ann");    // {name} and {name:?}
-/// let count = Formattable::integer(&3);             // {count:x}, {count:o}, {count:e} too
+/// let name = Formattable::debug_display(&"Ann");    // for {name} and {name:?}
+/// let count = Formattable::integer(&3);             // for {count:x}, {count:o}, {count:e} too
 /// let parts = [Formattable::display(&1), Formattable::display(&2)];
-/// let list = Formattable::iter(&parts);             // {list:i}
+/// let list = Formattable::iter(&parts);             // for {list:i}
 /// ```
 pub struct Formattable<'a, V> {
     debug: Option<&'a V>,
@@ -52,7 +52,7 @@ impl<'a, V> Copy for Formattable<'a, V> {}
 impl<'a, V> Default for Formattable<'a, V> {
     ghost is_default = { λ formattable. slots_of formattable ≡ empty_slots };
 
-    /// No slot is filled.
+    /// Returns a value with no slot filled.
     fn default() -> Self {
         Formattable {
             debug: None,
@@ -202,7 +202,7 @@ impl<'a, V> Formattable<'a, V> {
 
 #[tactic(auto, using(crate::proofs::SlotLemmas::slots_layers))]
 impl<'a, V> Formattable<'a, V> {
-    // The value in the slot that a trait asks; the iter slot holds no value.
+    // Returns the value in the slot of a trait; the iter slot has no value.
     #[inline(always)]
     pub(crate) fn slot(self, wanted: Trait) -> Option<&'a V>
         ensures { option_copied result ≡ slot_at wanted (values_of (slots_of self.entry)) }
@@ -220,7 +220,7 @@ impl<'a, V> Formattable<'a, V> {
         }
     }
 
-    // The items, if the iter slot is filled.
+    // Returns the items, if the iter slot is filled.
     #[inline(always)]
     pub(crate) fn list(self) -> Option<&'a [Formattable<'a, V>]>
         ensures { lent_slots result ≡ items (slots_of self.entry) }

@@ -1,10 +1,10 @@
-//! How many pieces were gone through: a count that has no code and takes no bytes.
+//! A ghost counter of the pieces that were gone through: it has no code and takes no bytes.
 ghost use Rattle.std.specs.Prelude.{◌≡◌, ◌+◌, ◌<◌};
 
 use std::marker::Model;
 use std::sync::ledger::{Blank, Book, Ledger, Share};
 
-/// How many pieces were gone through. Only `tick` changes it.
+/// A ghost counter of the pieces that were gone through. Only `tick` changes it.
 ///
 /// # Example
 ///
@@ -29,7 +29,7 @@ impl<L: Ledger> Model for Tally<L> {
 }
 
 impl<L: Ledger> Tally<L> {
-    /// None so far.
+    /// Opens a counter at 0.
     #[inline(always)]
     pub fn open(blank: Blank) -> Tally<L>
         requires name { blank.name ≡ L.name }
@@ -41,7 +41,7 @@ impl<L: Ledger> Tally<L> {
         Tally { book, share }
     }
 
-    /// One more piece.
+    /// Counts one more piece.
     #[inline(always)]
     pub fn tick(&mut self)
         ensures one { self.new ≡ self.old + 1 }

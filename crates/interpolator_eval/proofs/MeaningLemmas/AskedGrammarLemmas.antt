@@ -1,4 +1,4 @@
--- The names that a text asks, by relation and computed: one list.
+-- The names that a text uses, by the relation and as computed, are the same list.
 use Rattle.std.proofs.Common.{◌≡◌, ℕ, zero, suc, ◌<◌, List, [], ◌∷◌, ◌++◌, length, arith, refl, ap}
 use Rattle.std.proofs.Common.{◌∙◌, sym, subst, Option, Some, None, true, false}
 use Rattle.std.specs.List.{filter}
@@ -28,7 +28,7 @@ item_named : (o : Option Group)
     → branch_asks true (group_branch nodes o) ≡ filter is_named (group_asks o)
 item_named o = branch_in_item (group_branch nodes o) ∙ named_kept (group_asks o)
 
--- ---- the computed names are asked
+-- ---- the computed names are used
 
 module _ (a : At) (Asks : At → List (List ℕ) → Type 0)
     (holds : (g : Group) → GroupIn g a → Asks (inside g) (asked_names (inside g))) where
@@ -69,7 +69,7 @@ within_holds (suc n) a h =
     (pieces_hold a (AsksWithin n)
     (λ g l. within_holds n (inside g) (omega (arith, h, l.shorter))) (pieces a) (pieces_in a))
 
--- a text asks the names that are computed
+-- a text uses the names that are computed
 pub names_asked : (a : At) → AsksNames a (asked_names a)
 names_asked a = (suc (length a.text), within_holds (suc (length a.text)) a (omega arith))
 
@@ -111,6 +111,6 @@ within_only zero a names h = absurd h
 within_only (suc n) a names h =
     pieces_only (AsksWithin n) (within_only n) (pieces a) names h ∙ sym (asked_pieces a)
 
--- the names that a text asks are those that are computed
+-- the names that a text uses are those that are computed
 pub names_only : (a : At) (names : List (List ℕ)) → AsksNames a names → names ≡ asked_names a
 names_only a names h = within_only h.0 a names h.1

@@ -1,4 +1,4 @@
--- A text means the same in its environment cut to the names that it asks.
+-- A text means the same in an environment cut to the names that it uses.
 use Rattle.std.proofs.Common.{◌≡◌, ℕ, List, [], ◌∷◌, arith, refl, sym, ap, ◌∙◌, subst, cond, Bool}
 use Rattle.std.proofs.Common.{true, Option, Some, None}
 use Rattle.std.specs.Prelude.{◌||◌, ◌&&◌}
@@ -23,7 +23,7 @@ use Rattle.interpolator_eval.proofs.MeaningLemmas.EqualLemmas.{means_same}
 or_right : (b m : Bool) → m ≡ true → (b || m) ≡ true
 or_right b m h = grind arith
 
--- whether a name is among those that are kept: in both lists
+-- a name is among those that are kept if it is in both lists
 one_kept : (b m p t : Bool) → (b ≡ true → p ≡ t)
     → cond t (b || (m && p)) (m && p) ≡ ((b || m) && p)
 one_kept b m p t h = grind arith
@@ -67,14 +67,14 @@ module _ {X : Type 0} where
         agree_cut e all xs (λ n k. h n (or_right (bytes_eq n x) (is_among n xs) k)),
       )
 
--- a text means the same in its environment cut to the names that it asks
+-- a text means the same in an environment cut to the names that it uses
 pub asked_alone : {X : Type 0} (shows : X → Trait → Spec → Shown) (e : Environment X) (a : At)
     → means shows e a ≡ means shows (cut e (asked_names a)) a
 asked_alone shows e a =
     means_same shows e (cut e (asked_names a)) a
     (agree_cut e (asked_names a) (asked_names a) (λ n h. h))
 
--- so an outcome in the one is an outcome in the other
+-- so an outcome in the former is an outcome in the latter
 pub asked_outcome :
     {X : Type 0} (shows : X → Trait → Spec → Shown) (e : Environment X) (a : At)
     (old new : Written) (answer : Option Answer) → Outcome (means shows e a) old new answer

@@ -1,4 +1,4 @@
--- The names that a text asks are those of its pieces.
+-- The names that a text uses are those of its pieces.
 use Rattle.std.proofs.Common.{◌≡◌, ℕ, ◌+◌, true, false, List, [], ◌∷◌, ◌++◌, map, refl, ap, ◌∙◌}
 use Rattle.std.proofs.Common.{sym, Option, Some, None}
 use Rattle.std.specs.Char.{len_utf8}
@@ -63,7 +63,7 @@ mutual
 abbrev pub group_asks : Option Group → List (List ℕ)
 group_asks o = branch_asks false (group_branch nodes o)
 
--- those of what an argument asks for
+-- those of an argument's kind
 abbrev pub kind_asks : Kind → List (List ℕ)
 kind_asks k = branch_asks true (item_branch nodes k) ++ branch_asks false (join_branch nodes k)
 
@@ -71,13 +71,13 @@ kind_asks k = branch_asks true (item_branch nodes k) ++ branch_asks false (join_
 abbrev pub pieces_ask : List Piece → List (List ℕ)
 pieces_ask xs = forest_asks false (as_forest (map node_alone xs))
 
--- literals ask nothing, as one node or as many
+-- literals use no names, as one node or as many
 literals_ask : (p : ℕ) (cs : List ℕ) (xs : List Node)
     → forest_asks false (as_forest xs) ≡ forest_asks false (as_forest (literal_nodes p cs ++ xs))
 literals_ask p [] xs = refl
 literals_ask p (c ∷ cs) xs = literals_ask (p + len_utf8 c) cs xs
 
--- the names that a text asks are those of its pieces
+-- the names that a text uses are those of its pieces
 pub asked_pieces : (a : At) → asked_names a ≡ pieces_ask (pieces a)
 asked_pieces a =
     gathered_alone (λ xs. forest_asks false (as_forest xs))

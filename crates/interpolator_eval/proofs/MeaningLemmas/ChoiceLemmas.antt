@@ -17,8 +17,8 @@ pub places_ordered : (n : ℕ) (range : Option Range)
     → (chosen_places n range).0 ≤ (chosen_places n range).1
 places_ordered n range = (in_order_and_inside n range).0
 
--- an index in a list of n items lies between places that are cut exactly if it lies between those
--- that are not
+-- an index in a list of n items lies between places that are cut exactly if it lies between the
+-- same places before they are cut
 pub between_cut : (n k lower upper : ℕ) → k < n
     → ((min lower (min upper n) ≤ k) × (k < min upper n)) ↔ ((lower ≤ k) × (k < upper))
 between_cut n k lower upper h = (
@@ -26,7 +26,7 @@ between_cut n k lower upper h = (
   λ both. (omega (arith, both.0, both.1), omega (arith, both.0, both.1)),
 )
 
--- if there is no such index, the places are one
+-- if there is no such index, the two places are the same
 pub none_between : (n lower upper : ℕ) → ((k : ℕ) → k < n → lower ≤ k → k < upper → ⊥)
     → ◌≡◌ {A = ℕ × ℕ} (min lower (min upper n), min upper n) (min upper n, min upper n)
 none_between n lower upper h =
@@ -39,7 +39,7 @@ between i j xs h =
     let e : i + (j - i) ≡ j = omega (arith, h) in
     rw e at (sym (drop-take i (j - i) xs))
 
--- what the chosen items are mapped to are the chosen ones of what all are mapped to
+-- mapping the chosen items is choosing from the mapped items
 pub map-chosen : {A B : Type 0} (f : A → B) (range : Option Range) (xs : List A)
     → map f (chosen_items range xs) ≡ chosen_items range (map f xs)
 map-chosen f range xs =

@@ -1,4 +1,4 @@
--- Two contexts that give equal values under the names that a text asks give it one meaning.
+-- A text means the same in two contexts that have equal values under the names that it uses.
 use Rattle.std.proofs.Common.{◌≡◌, ℕ, zero, suc, Bool, true, false, cond, List, [], ◌∷◌, ◌++◌}
 use Rattle.std.proofs.Common.{length, take, drop, arith, refl, ap, ◌∙◌, sym, subst, Option, Some, None}
 use Rattle.std.specs.Prelude.{⊤}
@@ -69,7 +69,7 @@ module _ {X Y : Type 0} (shows : X → Trait → Spec → Shown) (others : Y →
   values_equal (bare f) (listed g vs) h = absurd h
   values_equal (listed f us) (bare g) h = absurd h
 
-  -- each is equal to that at its index
+  -- each item is equal to the one at the same index
   abbrev EachEqual : List (Slots X) → List (Slots Y) → Type 0
   EachEqual [] [] = ⊤
   EachEqual (x ∷ xs) (y ∷ ys) = Equal x y × EachEqual xs ys
@@ -249,7 +249,7 @@ module _ {X Y : Type 0} (shows : X → Trait → Spec → Shown) (others : Y →
         let each = agree_each e d (node_asks false x) (forest_asks false xs) h in
         both_same (node_equal x e d each.0) (forest_equal xs e d each.1)
 
-  -- equal values under the asked names give one meaning
+  -- with equal values under the names that are used, a text means the same
   pub means_equal : (e : Environment X) (d : Environment Y) (a : At) → Agree e d (asked_names a)
       → means shows e a ≡ means others d a
   means_equal e d a h = forest_equal (as_forest (nodes a)) e d h
@@ -269,7 +269,7 @@ module _ {X Y : Type 0} (shows : X → Trait → Spec → Shown) (others : Y →
     h.told ∙ sym k.told,
   )
 
-  -- so if nothing refuses they give one outcome
+  -- so if both finish, they have the same outcome
   pub outcomes_equal :
       (e : Environment X) (d : Environment Y) (a : At) (old new other : Written)
       (answer told : Option Answer) → Agree e d (asked_names a)
@@ -310,7 +310,7 @@ module _ {X : Type 0} (shows : X → Trait → Spec → Shown) where
     agree_equal e d names h.1,
   )
 
-  -- what environments give under names that are not asked does not count
+  -- what environments have under names that are not used does not matter
   pub means_same : (e d : Environment X) (a : At) → AgreeOn e d (asked_names a)
       → means shows e a ≡ means shows d a
   means_same e d a h = means_equal shows shows e d a (agree_equal e d (asked_names a) h)

@@ -20,7 +20,7 @@ module _ (x : Node) (xs : Forest) where
   abbrev Whole : Forest
   Whole = nodes_and x xs
 
-  -- a piece that asks for no list: those before the first list begin with it
+  -- a piece that is no list: those before the first list begin with it
   pub before_after : asks_list x ≡ false → before_list Whole ≡ nodes_and x (before_list xs)
   before_after other = rw other refl
 
@@ -28,7 +28,7 @@ module _ (x : Node) (xs : Forest) where
   pub left_after : asks_list x ≡ false → from_list Whole ≡ from_list xs
   left_after other = rw other refl
 
-  -- one that asks for a list: nothing comes before it
+  -- one that is a list: nothing comes before it
   pub before_none : asks_list x ≡ true → before_list Whole ≡ no_nodes
   before_none listed = rw listed refl
 
@@ -47,7 +47,7 @@ module _ (x : Node) (xs : Forest) where
     gone_is other = ap (λ ys. (forest_work shows e ys).pieces) (before_after other)
 
     module _ {W : Type 0} (written : W → Written) (s t : Sink W) where
-      -- it is done, and what follows it is written
+      -- it is done, and the rest is written
       pub piece_runs : (u : Written) (answer : Option Answer) → asks_list x ≡ false
           → Writes written (unlisted_means shows e x) s t None
           → Outcome (Before xs) (taken_by written t) u answer
@@ -55,7 +55,7 @@ module _ (x : Node) (xs : Forest) where
       piece_runs u answer other o k =
           rw (before_after other) (and_then _ _ _ _ u answer (rw other at o.outcome) k)
 
-      -- it asks for a list: nothing is written before it
+      -- it is a list: nothing is written before it
       pub list_at : asks_list x ≡ true → Writes written (unlisted_means shows e x) s t None
           → Writes written (Before Whole) s t None
       list_at listed o =

@@ -7,7 +7,7 @@ use Rattle.interpolator_syntax.specs.SpecTexts.{Kind, of_value, of_list}
 use Rattle.interpolator_syntax.specs.Arguments.{Argument, argument_at}
 use Rattle.interpolator_syntax.proofs.SizeLemmas.{GroupIfIn, KindIn, argument_in}
 
--- those of a group, none if there is no group
+-- those of a group; none if there is no group
 abbrev pub group_size : Option Group → ℕ
 group_size None = 0
 group_size (Some g) = length g.text
@@ -16,7 +16,7 @@ group_size (Some g) = length g.text
 abbrev pub list_size : ListRequest → ℕ
 list_size l = max (group_size l.item) (group_size l.join)
 
--- those of the longer group of what is asked for
+-- those of the longer group of a kind
 abbrev pub kind_size : Kind → ℕ
 kind_size (of_value t) = 0
 kind_size (of_list l) = list_size l
@@ -30,7 +30,7 @@ kind_within (of_value t) a h = omega arith
 kind_within (of_list l) a h =
     omega (arith, group_within l.item a h.item, group_within l.join a h.join)
 
--- no group has more characters than what follows the argument's brace
+-- no group has more characters than the text after the argument's brace
 pub groups_within : (a : At) (x : Argument) (q : At) → argument_at a ≡ Ok (x, q)
     → kind_size x.kind ≤ length a.text
 groups_within a x q h = kind_within x.kind a (argument_in a x q h)

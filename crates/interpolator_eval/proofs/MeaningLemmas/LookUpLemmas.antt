@@ -1,5 +1,5 @@
--- What a trait asks for under a name; and the list under it: which of its items are chosen, or why
--- none are, and what is written for each.
+-- What is looked up under a name, by the trait; and the list under it: which of its items are
+-- chosen, or why none are, and what is written for each.
 use Rattle.std.proofs.Common.{◌≡◌, refl, ap, ◌∙◌, ℕ, Bool, false, cond, List, map, Option, None}
 use Rattle.std.proofs.Common.{Some, option_map, is_some}
 use Rattle.interpolator_render.specs.Written.{Written}
@@ -25,7 +25,7 @@ use Rattle.interpolator_eval.specs.declared.meaning.sink.Sink.{Sink}
 use Rattle.interpolator_eval.proofs.MeaningLemmas.ChoiceLemmas.{map-chosen}
 use Rattle.interpolator_eval.proofs.MeaningLemmas.SinkLemmas.{same_end}
 
--- each trait but `Iter` asks for a value
+-- each trait but `Iter` stands for a value
 pub value_asked : (t : Trait) (form : ListRequest) → (t ≡ traits.Iter → ⊥)
     → kind_under t form ≡ of_value t
 value_asked traits.Iter form h = absurd (h refl)
@@ -33,7 +33,7 @@ value_asked t form h = refl
 
 module _ {X : Type 0} (e : Environment X) (name : List ℕ) (start : ℕ) (range : Option Range)
     (spec : Spec) (end : ℕ) where
-  -- the items that a range chooses of a list, if the spec may ask for it
+  -- the items that a range chooses of a list, if a list may have the spec
   pub list_chosen : {F : Type 0} (tree : F → Slots X) (xs ys : List F)
       → Some (Some (map tree xs)) ≡ option_map items (slots_under e name) → forbids_list spec ≡ false
       → ys ≡ chosen_items range xs → IsChosen e name start range spec end (map tree ys)

@@ -1,4 +1,4 @@
--- What a text means: what its pieces mean.
+-- A text means what its pieces mean.
 use Rattle.std.proofs.Common.{◌≡◌, ℕ, ◌+◌, List, [], ◌∷◌, ◌++◌, append-nil, map, length, arith}
 use Rattle.std.proofs.Common.{refl, ap, ◌∙◌, sym, Option, Some, None, append_assoc, length-append}
 use Rattle.std.proofs.lemmas.List.{map-append}
@@ -97,7 +97,7 @@ module _ {X : Type 0} (shows : X → Trait → Spec → Shown) (e : Environment 
   means_none p =
       means_pieces (record { place = p; text = [] }) ∙ ap (pieces_mean shows e) (pieces_none p)
 
-  -- the first piece, and then what follows it
+  -- the first piece, and then the rest
   pub means_next : (p c : ℕ) (cs : List ℕ)
       → (let s = piece_from p c (past p c cs) in means shows e (record { place = p; text = c ∷ cs })
       ≡ chain (node_means shows e (piece_node nodes p (p + size s.piece.text) s.piece.kind))

@@ -1,4 +1,4 @@
--- A text at another base means as much, with every place moved.
+-- A text at another base means the same, with every place moved.
 use Rattle.std.proofs.Common.{◌≡◌, ℕ, ◌+◌, ◌<◌, Bool, true, false, cond, List, [], ◌∷◌, ◌++◌}
 use Rattle.std.proofs.Common.{length, map, arith, refl, ap, ◌∙◌, sym, Option, Some, None, option_map}
 use Rattle.std.specs.Prelude.{is_some, codes}
@@ -170,7 +170,7 @@ module _ (by : ℕ) where
           (item_means shows e q l.item) (join_moves l.join h.join)
           (λ item. item_moves q l.item item h.item) (chosen_items l.range ts)))
 
-      -- what was found under a name, by what an argument asks for
+      -- what was found under a name, by the kind of its argument
       abbrev kind_means : Kind → Spec → (q : ℕ) → Slots X → Meaning
       kind_means kind spec q =
           bare_means shows (target_of kind) spec q

@@ -19,7 +19,7 @@ pub no_fault : (o : Option Fault) → None ≡ option_map fault o → o ≡ None
 no_fault None e = refl
 no_fault (Some f) e = cc
 
--- of the three outcomes only the first answers no fault
+-- of the three outcomes, only the first can be without a fault
 pub finished_if_none : (m : Meaning) (old new : Written) → Outcome m old new None
     → Finished m old new None
 finished_if_none m old new (inl h) = h
@@ -66,7 +66,7 @@ after_finished m k old mid new answer h (inr (inr o)) = rw (no_fault m.fault h.t
       told = o.told;
     })))
 
--- a fault ends the run: what would follow is neither written nor read
+-- a fault ends the run: what would come next is neither written nor read
 pub before_fault :
     (m k : Meaning) (old new : Written) (q : Answer) (o : Option Fault) → m.fault ≡ o
     → Outcome m old new (Some q) → Outcome (or_fault o m k) old new (Some q)

@@ -41,7 +41,7 @@ use Rattle.interpolator_eval.specs.Meaning.Outcomes.{Outcome}
 
 -- ---- meanings whose places are among the first
 
--- each character is at one of the first places
+-- each character is at one of the first n places
 abbrev pub StandsWithin : ℕ → Placed → Type 0
 StandsWithin n [] = ⊤
 StandsWithin n (x ∷ xs) = (x.1 ≤ n) × StandsWithin n xs
@@ -80,7 +80,7 @@ within_joined n m k h j = elim m.fault as (λ o. Within n (or_fault o m k)) [
   }
 ]
 
--- what lies in a text lies in each that is longer
+-- what lies in a text lies in every longer one
 pub lies_in_more : (m n : ℕ) (answer : Option Answer) → m ≤ n → PlaceWithin m answer
     → PlaceWithin n answer
 lies_in_more m n None h k = tt
@@ -200,7 +200,7 @@ outcome_within n m old new answer h (inr (inl k)) =
     rw k.told (stands_in n k.front k.c k.place k.back there)
 outcome_within n m old new answer h (inr (inr k)) = rw k.told tt
 
--- an answered fault lies in the text, wherever that is
+-- a fault that is returned lies in the text, wherever that is
 pub outcome_lies_from :
     {X : Type 0} (shows : X → Trait → Spec → Shown) (e : Environment X) (p : ℕ) (cs : List ℕ)
     (n : ℕ) (old new : Written) (answer : Option Answer) → p + size cs ≡ n

@@ -37,7 +37,7 @@ placed_from-append p (c ∷ cs) ys =
     let e : p + (len_utf8 c + size cs) ≡ p + len_utf8 c + size cs = omega arith in
     rw e (ap (λ xs. (c, p) ∷ xs) (placed_from-append (p + len_utf8 c) cs ys))
 
--- a text whose characters are placed, each at the end of those before it, was refused
+-- a writer refused a text whose characters are each at the end of those before it
 module _ (placed : List ℕ → Placed) (own : (cs : List ℕ) → text_of (placed cs) ≡ cs)
     (end : List ℕ → ℕ)
     (split : (front : List ℕ) (c : ℕ) (rest : List ℕ)
@@ -65,7 +65,7 @@ module _ (placed : List ℕ → Placed) (own : (cs : List ℕ) → text_of (plac
   refused : IsRefused
   refused = refused_before h.rest h.parts h.not_whole
 
--- at one place
+-- a text whose characters are all at one place was written whole, or refused
 pub wrote_at : (p : ℕ) (cs : List ℕ) (old new : Written) → Appends old cs new
     → Outcome (text_alone (placed_at p cs)) old new None
 wrote_at p cs old new h = inl (record { all = rw (text_of-placed_at p cs) h; told = refl })
@@ -76,7 +76,7 @@ refused_at p =
     refused (placed_at p) (text_of-placed_at p) (λ xs. p)
     (λ front c rest. (placed_at p rest, map-append (λ c. (c, p)) front (c ∷ rest)))
 
--- one after the other
+-- a text whose characters are one after the other was written whole, or refused
 pub wrote_from : (p : ℕ) (cs : List ℕ) (old new : Written) → Appends old cs new
     → Outcome (text_alone (placed_from p cs)) old new None
 wrote_from p cs old new h = inl (record { all = rw (text_of-placed_from p cs) h; told = refl })

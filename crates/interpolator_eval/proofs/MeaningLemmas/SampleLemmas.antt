@@ -1,4 +1,4 @@
--- What may be under a name in a sample, and what of it is missing.
+-- What a name may stand for in a sample, and what those values lack.
 use Rattle.std.proofs.Common.{◌≡◌, ◌∙◌, refl, sym, ap, arith, ℕ, zero, suc, ◌+◌, ◌<◌, ◌≤◌, Bool}
 use Rattle.std.proofs.Common.{true, false, ◌||◌, List, [], ◌∷◌, ◌++◌, length, drop, map, get_or}
 use Rattle.std.proofs.Common.{Option, Some, None, option_map, add-one}
@@ -35,7 +35,7 @@ no_letters Display n m = absurd (n refl)
 no_letters Debug n m = absurd (m refl)
 no_letters _ n m = refl
 
--- by the kind of what is shown and the trait alone
+-- this depends only on the kind of what is shown and on the trait
 pub view_missing : (s : Shown) (t : Trait) (spec : Spec)
     → is_missing (view_text s t spec) ≡ shows_nothing s t
 unfolding view_text
@@ -76,7 +76,7 @@ view_failed (plain_text text) t spec = refl
 view_failed nothing_implemented t spec = refl
 view_failed failure t spec = refl
 
--- ---- some of what is below items
+-- ---- some of the values below items
 
 module _ {A B C : Type 0} (p : C → Bool) (f : B → List C) (v : A → B) where
   abbrev some : List A → Bool
@@ -105,7 +105,7 @@ module _ {A B C : Type 0} (p : C → Bool) (f : B → List C) (v : A → B) wher
       → some (drop i xs) ≡ whole → false ≡ whole
   some_over xs i whole l h = ap some (sym (drop_all i xs l)) ∙ h
 
--- ---- what is so deep below trees
+-- ---- the values at a level below trees
 
 flat_flat : {A B C : Type 0} (f : A → List B) (g : B → List C) (xs : List A)
     → flat_map g (flat_map f xs) ≡ flat_map (λ x. flat_map g (f x)) xs
@@ -134,7 +134,7 @@ module _ {X : Type 0} where
       flat_flat (at_level k) items_or_none (items_or_none found)
       ∙ flat_same _ _ (items_or_none found) (items_below_one k)
 
-  -- the items of what is so deep are one deeper
+  -- the items of the values at a level are one level deeper
   pub items_of_each : (k : ℕ) (xs : List (Slots X))
       → flat_map (at_level (k + 1)) xs ≡ items_of_all (flat_map (at_level k) xs)
   items_of_each k xs =
@@ -147,7 +147,7 @@ module _ {X : Type 0} where
 -- ---- the empty name and others
 
 module _ {X : Type 0} (others : List ℕ → Option (List (Slots X))) where
-  -- what the item may be is what the empty name may be
+  -- what the item may be is what the empty name may stand for
   pub each_at : {W : Type 0} (f : W → List (Slots X)) (each : Option W) (bs : List ℕ) → length bs ≡ 0
       → MatchOption each (each_or (option_map f each) others (chars bs) ≡ others (chars bs))
       (λ items. each_or (option_map f each) others (chars bs) ≡ Some (f items))

@@ -1,5 +1,5 @@
--- The outcome of a text up to its first list, from that of what the scan hands on first and of the
--- rest; and that of an argument from that of its value.
+-- The outcome of a text up to its first list, from those of its first token and of the rest; and
+-- the outcome of an argument, from that of its value.
 use Rattle.std.proofs.Common.{◌≡◌, ◌∙◌, refl, sym, ap, ℕ, true, false}
 use Rattle.std.proofs.Common.{[], Option, None, Some, option_map, Ok, Err, codes}
 use Rattle.interpolator_render.specs.Written.{Written}
@@ -31,7 +31,7 @@ use Rattle.interpolator_eval.specs.declared.meaning.sink.Sink.{Sink}
 use Rattle.interpolator_eval.proofs.MeaningLemmas.SinkLemmas.{and_then, fault_first, nothing_done, ended}
 use Rattle.interpolator_eval.proofs.MeaningLemmas.SinkLemmas.{same_end}
 
--- an argument whose name was read, by what is asked after it
+-- an argument whose name was read, by the request after it
 module _ (a : At) (n : ArgumentName)
     (named : argument_at a ≡ argument_after a.place (plain_argument n) (at n.end)) where
   pub asked_ok : (asked : Request) (q : At) → Ok (asked, q) ≡ asked_at a.place (at n.end)
@@ -82,7 +82,7 @@ module _ (a : At) (p : ℕ) where
     unfolding argument_from
     here_is = rw h refl
 
-    -- one that asks for a value
+    -- one that is a value
     module _ (t : Trait) (value : x.kind ≡ of_value t) where
       no_list : (o : Option At) → asks_list (Piece o) ≡ false
       no_list None = rw value refl
@@ -102,7 +102,7 @@ module _ (a : At) (p : ℕ) where
             ≡ with_brace (strip close_brace q) q.place (argument_means shows e a.place x q.place)
         value_means_so = rw here_is (by_brace (strip close_brace q))
 
-    -- one that asks for a list
+    -- one that is a list
     module _ (l : ListRequest) (list : x.kind ≡ of_list l) where
       some_list : (o : Option At) → asks_list (Piece o) ≡ true
       some_list None = rw list refl
@@ -142,13 +142,13 @@ module _ (a : At) (p : ℕ) where
       unfolding argument_from
       list_first = rw h (first_by (strip close_brace q))
 
--- what follows an argument that is closed
+-- the text after an argument that is closed
 pub closed_rest : (a : At) (x : Argument) (q rest : At) → argument_at a ≡ Ok (x, q)
     → strip close_brace q ≡ Some rest → (argument_from a.place a).rest ≡ rest
 unfolding argument_from
 closed_rest a x q rest h d = rw (h, d) refl
 
--- ---- a text by what the scan hands on first
+-- ---- a text by its first token
 
 module _ (a : At) where
   text_none : first_token a ≡ None → text_forest a ≡ no_nodes
@@ -163,7 +163,7 @@ module _ (a : At) where
   left_none h = rw (text_none h) refl
 
   module _ (x : Token × At) (h : first_token a ≡ Some x) where
-    -- the first piece, and then those of what follows it
+    -- the first piece, and then those of the text after it
     pub text_next : text_forest a
         ≡ nodes_and (token_node nodes a.place x.0 x.1) (text_forest (past_token x.0 x.1))
     text_next = ap as_forest (nodes_first a x.1 x.0 h)

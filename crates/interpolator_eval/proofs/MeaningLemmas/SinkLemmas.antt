@@ -36,7 +36,7 @@ nothing_done s = stops nothing s None refl refl
 pub ended : (f : Fault) (s : Written) → Outcome (fault_alone f) s s (Some (fault f))
 ended f s = stops (fault_alone f) s (Some (fault f)) refl refl
 
--- where nothing is meant no fault is told
+-- if nothing is meant, no fault is returned
 pub nothing_fails : (s t : Written) (q : Answer) → Outcome nothing s t (Some q) → ⊥
 nothing_fails s t q (inl k) = let told = k.told in cc
 nothing_fails s t q (inr (inl k)) = by_front k.front k.split
@@ -58,7 +58,7 @@ same_then (Aside a) (Aside b) (Writer c) h k = k
 same_then (Writer a) (Aside b) c h k = absurd h
 same_then (Aside a) (Writer b) c h k = absurd h
 
--- after what was written so far, with which the whole goes on
+-- the whole goes on from what was written so far
 pub goes_on :
     {W : Type 0} (written : W → Written) (m k : Meaning) (s t u : Sink W) (answer : Option Answer)
     → ((new : Written) (r : Option Answer) → Outcome k (taken_by written t) new r
@@ -70,7 +70,7 @@ goes_on written m k s t u answer so_far same o =
 -- ---- a text that is made whole in a buffer, and then written
 
 module _ (spec : Spec) (q : ℕ) where
-  -- memory for it was refused: nothing of it was written
+  -- there was no memory for it: nothing of it was written
   wants_memory : (o : Option Fault) (cs : List ℕ) (s : Written)
       → Outcome (made_whole spec q o cs) s s (Some no_memory)
   wants_memory o cs s =

@@ -1,5 +1,5 @@
--- Pieces by those before the first list and those from it on: what they mean, how many are gone
--- through, and how many there are.
+-- Pieces split into those before the first list and those from it on: what they mean, how many are
+-- gone through, and how many there are.
 use Rattle.std.proofs.Common.{◌≡◌, ◌∙◌, refl, sym, arith, ℕ, suc, ◌+◌, ◌<◌, ◌≤◌, Bool, true, false}
 use Rattle.std.proofs.Common.{ap, Option, None, Some, if◌then◌else◌}
 use Rattle.interpolator_render.specs.Written.{Written}
@@ -59,7 +59,7 @@ brace_rest : (kind : PieceKind) (r rest : Forest)
 brace_rest kinds.Unclosed r rest is = absurd (cc)
 brace_rest kind r rest is = cc
 
--- the groups of the first list, and what follows it
+-- the groups of the first list, and the pieces after it
 pub first_smaller : (x : ListArgument) (after : Option Forest) (xs : Forest)
     → FirstAsks x after (from_list xs) → asked_size x < forest_size xs
 first_smaller x after xs h =

@@ -1,4 +1,4 @@
--- How many pieces are gone through: of pieces and of items, from that of the first and of the rest.
+-- How many pieces are gone through, for pieces and for items: from the first and from the rest.
 use Rattle.std.proofs.Common.{◌≡◌, refl, arith, ℕ, ◌+◌, ◌<◌, ◌≤◌}
 use Rattle.std.proofs.Common.{List, ◌∷◌, length, map, drop, get_or}
 use Rattle.std.proofs.Common.{Option, None, Some, option_map}
@@ -43,7 +43,7 @@ goes None w v none = refl
 -- ---- pieces in order
 
 module _ {X : Type 0} (shows : X → Trait → Spec → Shown) (e : Environment X) where
-  -- what the scan hands on is a piece at least
+  -- a token is at least one piece
   pub token_counts : (p : ℕ) (t : Token) (b : At) → 1 ≤ (node_work shows e (token_node nodes p t b)).pieces
   token_counts p argument b = by_kind (argument_from b.place b).piece.kind
     where

@@ -1,4 +1,4 @@
--- The names that a text asks, by relation: those of its arguments, and of the arguments of their
+-- The names that a text uses, as a relation: those of its arguments, and of the arguments in their
 -- groups, at any depth.
 use Rattle.std.specs.Prelude.{◌≡◌, ℕ, zero, suc, Bool, true, false, List, [], ◌∷◌, ◌++◌, filter}
 use Rattle.std.specs.Prelude.{Option, None, Some}
@@ -14,14 +14,14 @@ abbrev pub is_named : List ℕ → Bool
 is_named [] = false
 is_named (c ∷ cs) = true
 
--- `Asks` says which names a text within this one asks, in order
+-- `Asks` says which names a text within this one uses, in order
 module _ (Asks : At → List (List ℕ) → Type 0) where
   -- the names of a group, if there is one
   abbrev pub GroupAsks : Option Group → List (List ℕ) → Type 0
   GroupAsks None names = names ≡ []
   GroupAsks (Some g) names = Asks (inside g) names
 
-  -- of a list: the names of the item format that are not empty, and after them those of the join
+  -- for a list: the names of the item format that are not empty, and after them those of the join
   abbrev pub KindAsks : Kind → List (List ℕ) → Type 0
   KindAsks (of_value t) names = names ≡ []
   KindAsks (of_list l) names =
@@ -33,24 +33,24 @@ module _ (Asks : At → List (List ℕ) → Type 0) where
   ArgumentAsks x names =
       (of_groups : List (List ℕ)) × KindAsks x.kind of_groups × (names ≡ x.name ∷ of_groups)
 
-  -- a closed or an unclosed argument; no other piece asks a name
+  -- the names of a closed or an unclosed argument; no other piece uses a name
   abbrev pub PieceAsks : PieceKind → List (List ℕ) → Type 0
   PieceAsks (closed start x end) names = ArgumentAsks x names
   PieceAsks (unclosed start x end) names = ArgumentAsks x names
   PieceAsks _ names = names ≡ []
 
-  -- the pieces in order
+  -- the names of the pieces, in order
   abbrev pub PiecesAsk : List Piece → List (List ℕ) → Type 0
   PiecesAsk [] names = names ≡ []
   PiecesAsk (x ∷ xs) names =
       (of_first : List (List ℕ)) × (of_rest : List (List ℕ)) × PieceAsks x.kind of_first
       × PiecesAsk xs of_rest × (names ≡ of_first ++ of_rest)
 
--- the names of a text in which groups are nested less than so deep
+-- the names of a text in which groups are nested less than `depth` deep
 abbrev pub AsksWithin : (depth : ℕ) → At → List (List ℕ) → Type 0
 AsksWithin zero a names = ⊥
 AsksWithin (suc depth) a names = PiecesAsk (AsksWithin depth) (pieces a) names
 
--- the text asks these names, in order
+-- the text uses these names, in order
 abbrev pub AsksNames : At → List (List ℕ) → Type 0
 AsksNames a names = (depth : ℕ) × AsksWithin depth a names

@@ -1,4 +1,4 @@
--- The names that a text asks of its environment: those of its tree.
+-- The names that a text looks up in its environment, computed from its tree.
 use Rattle.std.specs.Prelude.{ℕ, Bool, true, false, ⊤, ◌≡◌, List, [], ◌∷◌, ◌++◌, Option, None, Some}
 use Rattle.interpolator_syntax.specs.At.{At}
 use Rattle.interpolator_syntax.specs.Nodes.{Node, node, Branch, no_branch, branch, as_forest}
@@ -6,13 +6,13 @@ use Rattle.interpolator_syntax.specs.Nodes.{Forest, no_nodes, nodes_and, nodes}
 use Rattle.interpolator_syntax.specs.Nodes.{Content, text_content, argument_content, fault_content}
 use Rattle.interpolator_eval.specs.Meaning.Environments.{Environment, slots_under}
 
--- a name, but for the empty one in an item format, which is the item
+-- a name, except the empty one in an item format, which is the item
 abbrev pub context_names : (in_item : Bool) → List ℕ → List (List ℕ)
 context_names true [] = []
 context_names true (c ∷ cs) = (c ∷ cs) ∷ []
 context_names false name = name ∷ []
 
--- the name of an argument that was read
+-- the name of a piece's content, if that is an argument
 abbrev pub held_asks : (in_item : Bool) → Option Content → List (List ℕ)
 held_asks in_item None = []
 held_asks in_item (Some (text_content from cs)) = []
@@ -35,17 +35,17 @@ abbrev mutual
   forest_asks in_item no_nodes = []
   forest_asks in_item (nodes_and x xs) = node_asks in_item x ++ forest_asks in_item xs
 
--- the names that a text asks
+-- the names that a text uses
 abbrev pub asked_names : At → List (List ℕ)
 asked_names a = forest_asks false (as_forest (nodes a))
 
--- the names that are not empty
+-- those of the names that are not empty
 abbrev pub without_empty : List (List ℕ) → List (List ℕ)
 without_empty [] = []
 without_empty ([] ∷ names) = without_empty names
 without_empty ((c ∷ cs) ∷ names) = (c ∷ cs) ∷ without_empty names
 
--- two environments give the same under each of these names
+-- two environments have the same under each of these names
 abbrev pub AgreeOn : {X : Type 0} → Environment X → Environment X → List (List ℕ) → Type 0
 AgreeOn e d [] = ⊤
 AgreeOn e d (name ∷ names) = (slots_under e name ≡ slots_under d name) × AgreeOn e d names

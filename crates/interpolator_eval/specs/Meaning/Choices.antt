@@ -3,31 +3,32 @@ use Rattle.std.specs.Prelude.{ℕ, ℤ, pos, negsuc, suc, ◌+◌, ◌-◌, min,
 use Rattle.std.specs.Prelude.{List, length, take, drop, Option, None, Some}
 use Rattle.interpolator_syntax.specs.declared.range.Range.{Range}
 
--- where a bound is in a list of n items: below zero it counts from the list's end, and lies at its
--- beginning if the list is too short
+-- the index of a bound in a list of n items: below zero it counts from the list's end, and lies at
+-- its beginning if the list is too short
 abbrev pub bound_in : (n : ℕ) → ℤ → ℕ
 bound_in n (pos k) = k
 bound_in n (negsuc k) = n - suc k
 
--- a bound in a list of n items, or if none is set
+-- the index of a bound in a list of n items, or `absent` if there is no bound
 abbrev pub bound_or : (n absent : ℕ) → Option ℤ → ℕ
 bound_or n absent None = absent
 bound_or n absent (Some bound) = bound_in n bound
 
--- the index of the first item of a range, as its bound reads
+-- the index of the first item of a range, by its bound
 abbrev pub lower_in : (n : ℕ) → Range → ℕ
 lower_in n range = bound_or n 0 range.lower
 
--- the index after the last item of a range, as its bound reads
+-- the index after the last item of a range, by its bound
 abbrev pub upper_in : (n : ℕ) → Range → ℕ
 upper_in n range = bound_or n n range.upper + (if range.inclusive then 1 else 0)
 
--- from where up to where a range lies in a list of n items, cut to the list and to one another
+-- the indices at which a range begins and ends in a list of n items: the end is cut to the list,
+-- and the beginning to the end
 abbrev pub places_of : (n : ℕ) → Range → ℕ × ℕ
 places_of n range =
     (min (lower_in n range) (min (upper_in n range) n), min (upper_in n range) n)
 
--- the places that a range chooses, and all items if there is no range
+-- the indices that a range chooses; all, if there is no range
 abbrev pub chosen_places : (n : ℕ) → Option Range → ℕ × ℕ
 chosen_places n None = (0, n)
 chosen_places n (Some range) = places_of n range

@@ -1,11 +1,11 @@
--- The environment that one of the code stands for.
+-- The environment that the code's environment stands for.
 use Rattle.std.specs.Prelude.{ℕ, List, Option, None}
 use Rattle.std.specs.Option.{option_map}
 use Rattle.interpolator_eval.specs.declared.meaning.environment.Environment as code_environment
 use Rattle.interpolator_eval.specs.Slots.{Slots, slots_of}
 use Rattle.interpolator_eval.specs.Meaning.Environments.{Environment}
 
--- `finds` is what a context finds under a name
+-- the environment of s, if `finds` is what a context finds under a name
 abbrev pub environment_of : {C X : Type 0} → (C → List ℕ → Option (Slots X))
     → code_environment.Environment C X → Environment X
 environment_of finds s =

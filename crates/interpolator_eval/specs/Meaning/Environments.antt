@@ -4,8 +4,8 @@ use Rattle.std.specs.Prelude.{if◌then◌else◌}
 use Rattle.std.specs.Str.{bytes_eq}
 use Rattle.interpolator_eval.specs.Slots.{Slots}
 
--- a context, at most one inner value, and at most one list of the names that the context may be
--- asked for
+-- a context, at most one inner value, and at most one list of the names that may be looked up in
+-- the context
 pub record Environment (X : Type 0) : Type 0 where
   pub finds : List ℕ → Option (Slots X)
   pub inner : Option (Slots X)
@@ -16,7 +16,7 @@ abbrev pub is_among : List ℕ → List (List ℕ) → Bool
 is_among name [] = false
 is_among name (x ∷ xs) = bytes_eq name x || is_among name xs
 
--- of these names the ones that are among those of a list, if there is one
+-- those of the names that are in the list `own`, or all of them if there is no list
 abbrev pub names_among : Option (List (List ℕ)) → List (List ℕ) → List (List ℕ)
 names_among None names = names
 names_among (Some own) [] = []
@@ -24,7 +24,7 @@ names_among (Some own) (name ∷ names) =
     if is_among name own then name ∷ names_among (Some own) names else names_among (Some own) names
 
 module _ {X : Type 0} where
-  -- what the context gives, and nothing for a name outside the list
+  -- what the context finds, and nothing for a name outside the list
   abbrev pub within : Option (List (List ℕ)) → (List ℕ → Option (Slots X)) → List ℕ → Option (Slots X)
   within None finds name = finds name
   within (Some names) finds name = if is_among name names then finds name else None
@@ -35,7 +35,7 @@ module _ {X : Type 0} where
   inner_or (Some t) gives (c ∷ cs) = gives (c ∷ cs)
   inner_or None gives name = gives name
 
-  -- what the environment gives under a name
+  -- what the environment has under a name
   abbrev pub slots_under : Environment X → List ℕ → Option (Slots X)
   slots_under e name = inner_or e.inner (within e.names e.finds) name
 
@@ -47,6 +47,6 @@ module _ {X : Type 0} where
   abbrev pub bind : Environment X → Slots X → Environment X
   bind e t = record { finds = e.finds; inner = Some t; names = e.names }
 
-  -- an environment cut to these names: under another name the context is not asked
+  -- an environment cut to these names: no other name is looked up in the context
   abbrev pub cut : Environment X → List (List ℕ) → Environment X
   cut e names = record { finds = e.finds; inner = e.inner; names = Some (names_among e.names names) }

@@ -1,5 +1,4 @@
--- Arguments that ask for a list, what their chosen items mean before they are padded, and where
--- that ends.
+-- List arguments: what their chosen items mean before they are padded, and where that ends.
 use Rattle.std.specs.Prelude.{◌≡◌, ℕ, ⊤, ◌⊎◌, List, [], ◌∷◌, ◌++◌, flat_map, None, Some}
 use Rattle.interpolator_render.specs.declared.view.Trait.{Trait}
 use Rattle.interpolator_render.specs.declared.view.Spec.{Spec}
@@ -15,7 +14,7 @@ use Rattle.interpolator_eval.specs.Meaning.Environments.{Environment, slots_unde
 use Rattle.interpolator_eval.specs.Meaning.Meanings.{Meaning, item_means, join_means, chosen_means}
 use Rattle.interpolator_eval.specs.Meaning.Meanings.{argument_means}
 
--- the argument asks for a list that is written so, and under its name is a list of these items
+-- the argument is a list of the form l, and under its name is a list of the items ts
 pub record FindsList {X : Type 0} (e : Environment X) (x : Argument) (l : ListRequest)
     (ts : List (Slots X)) : Type 0 where
   pub asked : x.kind ≡ of_list l
@@ -34,8 +33,8 @@ module _ {A : Type 0} (join : Meaning) (item : A → Meaning) where
   joined_texts [] = []
   joined_texts (x ∷ xs) = (item x).text ++ flat_map (λ y. join.text ++ (item y).text) xs
 
-  -- the first fault, and the text up to it: it is that of an item, before which no item has one,
-  -- nor the join; or that of the join after the first item
+  -- the first fault, and the text up to it: it is that of an item, and no item before that has one,
+  -- nor has the join; or it is that of the join after the first item
   pub data FirstFault (xs : List A) (f : Fault) (text : Placed) : Type 0 where
     in_item :
         (front : List A) (x : A) (back : List A) → xs ≡ front ++ (x ∷ back) → AllFinish front
@@ -46,7 +45,7 @@ module _ {A : Type 0} (join : Meaning) (item : A → Meaning) where
         → join.fault ≡ Some f → text ≡ (item x).text ++ join.text → FirstFault xs f text
 
 module _ {X : Type 0} (shows : X → Trait → Spec → Shown) (e : Environment X) where
-  -- an argument that starts at `start` and whose spec ends at end
+  -- what an argument means that starts at `start` and whose spec ends at `end`
   abbrev pub argument_meaning : (start : ℕ) → Argument → (end : ℕ) → Meaning
   argument_meaning start x end = argument_means shows e start x end
 

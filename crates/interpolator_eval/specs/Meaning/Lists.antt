@@ -1,4 +1,4 @@
--- Lists: what is written under a name, and a text that is made whole.
+-- Lists: what is written for the list under a name, and a text that is made whole.
 use Rattle.std.specs.Prelude.{◌≡◌, ℕ, List, Option, Some, option_map}
 use Rattle.interpolator_render.specs.declared.view.Spec.{Spec}
 use Rattle.interpolator_syntax.specs.At.{text_of}
@@ -13,12 +13,12 @@ use Rattle.interpolator_eval.specs.Meaning.Meanings.{Meaning, made_whole, under_
 use Rattle.interpolator_eval.specs.Meaning.Meanings.{padded_list, items_mean}
 use Rattle.interpolator_eval.specs.Meaning.Outcomes.{Outcome}
 
--- a list whose text is made whole and padded, by what its items mean
+-- what a list means whose text is made whole and padded, by what its items mean
 abbrev pub padded_list_means : Spec → (end : ℕ) → Meaning → Meaning
 padded_list_means spec end m = made_whole spec end m.fault (text_of m.text)
 
--- the list under a name, for an argument that starts at `start` and whose spec ends at `end`, if
--- this is what the join and an item mean
+-- the list under a name, for an argument that starts at `start` and whose spec ends at `end`, by
+-- what the join and an item mean
 module _ {X : Type 0} (e : Environment X) (name : List ℕ) (start : ℕ) (range : Option Range)
     (spec : Spec) (end : ℕ) where
   abbrev pub list_under_name : (join : Meaning) → (item : Slots X → Meaning) → Meaning
@@ -26,13 +26,13 @@ module _ {X : Type 0} (e : Environment X) (name : List ℕ) (start : ℕ) (range
       under_name name start (λ found. listed_means range spec end join item (items found))
       (slots_under e name)
 
-  -- it means what these items of it mean, whatever the join and an item mean
+  -- the list means what these items of it mean, whatever the join and an item mean
   abbrev pub IsChosen : List (Slots X) → Type 0
   IsChosen chosen =
       (join : Meaning) → (item : Slots X → Meaning)
       → list_under_name join item ≡ padded_list spec end (items_mean join item chosen)
 
-  -- nothing of it is written, and this is the answer, whatever the join and an item mean
+  -- nothing of the list is written, and this is the error, whatever the join and an item mean
   abbrev pub IsNotChosen : Error → Type 0
   IsNotChosen error =
       (join : Meaning) → (item : Slots X → Meaning) → (w : Written)

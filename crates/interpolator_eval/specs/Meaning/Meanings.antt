@@ -1,4 +1,4 @@
--- What a format means: text with places, at most one fault, and where memory is taken.
+-- What a format means: text with places, at most one fault, and where memory is needed.
 use Rattle.std.specs.Prelude.{ℕ, ◌+◌, ◌||◌, Bool, true, false, is_some, if◌then◌else◌, codes}
 use Rattle.std.specs.Prelude.{List, [], ◌∷◌, ◌++◌, map, length, Option, None, Some}
 use Rattle.interpolator_render.specs.declared.view.Trait.{Trait}
@@ -30,8 +30,8 @@ use Rattle.interpolator_eval.specs.Slots.{Slots, values_of, items, slot_at}
 use Rattle.interpolator_eval.specs.Meaning.Choices.{chosen_items}
 use Rattle.interpolator_eval.specs.Meaning.Environments.{Environment, slots_under, bind}
 
--- a placed text, at most one fault, and the memory points: before how many characters memory is
--- taken
+-- a placed text, at most one fault, and the memory points: after how many characters memory is
+-- needed
 pub record Meaning : Type 0 where
   pub text : Placed
   pub fault : Option Fault
@@ -49,11 +49,11 @@ text_alone text = record { text = text; fault = None; memory_points = [] }
 abbrev pub fault_alone : Fault → Meaning
 fault_alone f = record { text = []; fault = Some f; memory_points = [] }
 
--- a fault that takes memory
+-- a fault that needs memory
 abbrev pub fault_wanting_memory : Fault → Meaning
 fault_wanting_memory f = record { text = []; fault = Some f; memory_points = 0 ∷ [] }
 
--- one after the other, if this is the fault of the first: memory points move by its text
+-- one meaning after the other, by the fault of the first: memory points move by its text
 abbrev pub or_fault : Option Fault → Meaning → Meaning → Meaning
 or_fault (Some f) m k = m
 or_fault None m k = record {
@@ -62,62 +62,63 @@ or_fault None m k = record {
   memory_points = m.memory_points ++ map (λ n. length m.text + n) k.memory_points;
 }
 
--- the first and, if it has no fault, the second after it
+-- the first meaning and, if it has no fault, the second after it
 abbrev pub chain : Meaning → Meaning → Meaning
 chain m k = or_fault m.fault m k
 
--- the text of a view, each character at end
+-- what the text of a view means, with each character at `end`
 abbrev pub view_means : Trait → (end : ℕ) → ViewText → Meaning
 view_means t end (has_text cs) = text_alone (placed_at end cs)
 view_means t end has_no_text = fault_alone (missing_trait_impl t end)
 view_means t end has_failed = fault_alone (fmt end)
 
--- what is in a slot, by what the value shows under a trait and a spec
+-- what a slot means, by what the value in it shows under a trait and a spec
 abbrev pub value_means : {X : Type 0} → (shows : X → Trait → Spec → Shown)
     → Trait → Spec → (end : ℕ) → Option X → Meaning
 value_means shows t spec end None = fault_alone (missing_trait_impl t end)
 value_means shows t spec end (Some x) = view_means t end (view_text (shows x t spec) t spec)
 
--- a sign was asked for
+-- a sign is set
 abbrev pub has_sign : Sign → Bool
 has_sign signs.Unset = false
 has_sign signs.Plus = true
 has_sign signs.Minus = true
 
--- what the spec of a list may not ask: a precision, a sign, `#` or the zero flag
+-- the spec has an option that no list may have: a precision, a sign, `#` or the zero flag
 abbrev pub forbids_list : Spec → Bool
 forbids_list spec = is_some spec.precision || (has_sign spec.sign || (spec.alternate || spec.zero))
 
--- a text that is made whole in a buffer and then padded, each character at end: memory is taken
--- first, and with a fault inside nothing of it is written
+-- a text that is made whole in a buffer and then padded, each character at `end`: memory is needed
+-- first, and after a fault in it nothing is written
 abbrev pub made_whole : Spec → (end : ℕ) → Option Fault → List ℕ → Meaning
 made_whole spec end (Some f) cs = fault_wanting_memory f
 made_whole spec end None cs =
     record { text = placed_at end (padded_text spec cs); fault = None; memory_points = 0 ∷ [] }
 
--- under a spec with a width a list is made whole and padded
+-- under a spec with a width, a list is made whole and padded
 abbrev pub padded_list : Spec → (end : ℕ) → Meaning → Meaning
 padded_list spec end m =
     if is_some spec.width then made_whole spec end m.fault (text_of m.text) else m
 
--- each with the join before it
+-- the items in order, each with the join before it
 abbrev pub items_after : {X : Type 0} → (join : Meaning) → (X → Meaning) → List X → Meaning
 items_after join item [] = nothing
 items_after join item (x ∷ xs) = chain join (chain (item x) (items_after join item xs))
 
--- the items in order, and the join between two of them
+-- the items in order, with the join between two of them
 abbrev pub items_mean : {X : Type 0} → (join : Meaning) → (X → Meaning) → List X → Meaning
 items_mean join item [] = nothing
 items_mean join item (x ∷ xs) = chain (item x) (items_after join item xs)
 
--- what was found under the name of an argument that starts at `start`, by what a value means
+-- the meaning of what was found under the name of an argument that starts at `start`; if nothing
+-- was, its fault
 abbrev pub under_name : {X : Type 0} → (name : List ℕ) → (start : ℕ) → (X → Meaning) → Option X
     → Meaning
 under_name name start means None = fault_wanting_memory (missing_value name start)
 under_name name start means (Some found) = means found
 
--- the items of what was found, if it is a list, of which a range chooses some, by what the join and
--- an item mean
+-- what the items mean that a range chooses of the list that was found, by what the join and an item
+-- mean; if no list was, its fault
 abbrev pub listed_means : {X : Type 0} → Option Range → Spec → (end : ℕ) → (join : Meaning)
     → (item : X → Meaning) → Option (List X) → Meaning
 listed_means range spec end join item None = fault_alone (missing_trait_impl traits.Iter end)
@@ -125,13 +126,13 @@ listed_means range spec end join item (Some ts) =
     if forbids_list spec then fault_alone (parse (iter end))
     else padded_list spec end (items_mean join item (chosen_items range ts))
 
--- after an argument that is not closed: the fault of the missing brace
+-- an argument, and after it the fault of the missing brace, if it is not closed
 abbrev pub and_closed : PieceKind → (end : ℕ) → Meaning → Meaning
 and_closed Unclosed end m = chain m (fault_alone (parse (expected (codes "}") end)))
 and_closed _ end m = m
 
 module _ {X : Type 0} (shows : X → Trait → Spec → Shown) where
-  -- what was found under a name, by what is asked for, if this is what the join and an item mean
+  -- what was found under a name, as a value or a list, by what the join and an item mean
   abbrev pub bare_means : Target → Spec → (end : ℕ) → (join : Meaning) → (Slots X → Meaning)
       → Slots X → Meaning
   bare_means (target_value t) spec end join item found =
@@ -139,8 +140,8 @@ module _ {X : Type 0} (shows : X → Trait → Spec → Shown) where
   bare_means (target_list range) spec end join item found =
       listed_means range spec end join item (items found)
 
-  -- text that is written means itself, a name what is under it, a fault itself; `join` is what the
-  -- join means and `item`, for a spec that ends at a place, an item
+  -- text that is written means itself, a name what is under it, and a fault itself; `join` is what
+  -- the join means, and `item` what an item means, for a spec that ends at a place
   abbrev pub held_means : Environment X → PieceKind → Content → (join : Meaning)
       → (item : ℕ → Slots X → Meaning) → Meaning
   held_means e kind (text_content from cs) join item = text_alone (placed_from from cs)
@@ -155,7 +156,7 @@ module _ {X : Type 0} (shows : X → Trait → Spec → Shown) where
       value_means shows traits.Display plain_spec end (slot_at traits.Display (values_of item))
 
   abbrev mutual
-    -- a piece means what it holds, by what its groups mean
+    -- a piece means its content, by what its groups mean
     pub node_means : Environment X → Node → Meaning
     node_means e (node place end kind None item join) = nothing
     node_means e (node place end kind (Some held) item join) =
@@ -166,7 +167,7 @@ module _ {X : Type 0} (shows : X → Trait → Spec → Shown) where
     join_branch_means e no_branch = nothing
     join_branch_means e (branch xs) = forest_means e xs
 
-    -- an item by its format, in which the empty name is the item
+    -- an item means its format, in which the empty name is the item; without one, it is displayed
     pub item_branch_means : Environment X → Branch → (end : ℕ) → Slots X → Meaning
     item_branch_means e no_branch = plain_item_means
     item_branch_means e (branch xs) = λ end item. forest_means (bind e item) xs
@@ -181,13 +182,13 @@ module _ {X : Type 0} (shows : X → Trait → Spec → Shown) where
     abbrev pub means : At → Meaning
     means a = forest_means e (as_forest (nodes a))
 
-    -- ---- in words of the text
+    -- ---- by the pieces of the text
 
     -- what some of its pieces mean, each by itself
     abbrev pub pieces_mean : List Piece → Meaning
     pieces_mean xs = forest_means e (as_forest (map node_alone xs))
 
-    -- what an argument means that starts at `start`, has its spec up to `end` and is closed
+    -- what a closed argument means that starts at `start` and whose spec ends at `end`
     abbrev pub argument_means : (start : ℕ) → Argument → (end : ℕ) → Meaning
     argument_means start x end = node_means e (argument_node nodes start end Closed start x end)
 

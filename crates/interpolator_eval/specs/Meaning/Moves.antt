@@ -1,4 +1,4 @@
--- What a meaning is at another base: the same, with every place moved by so many bytes.
+-- What a meaning is at another base: the same, with every place moved by `by` bytes.
 use Rattle.std.specs.Prelude.{ℕ, ◌+◌, map, option_map}
 use Rattle.interpolator_syntax.specs.At.{Placed}
 use Rattle.interpolator_syntax.specs.Moved.{moved_fault}

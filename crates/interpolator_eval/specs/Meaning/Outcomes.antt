@@ -10,15 +10,15 @@ use Rattle.interpolator_syntax.specs.At.{Placed, text_of}
 use Rattle.interpolator_syntax.specs.Faults.{Answer, fault, no_memory, fmt, answer_of}
 use Rattle.interpolator_eval.specs.Meaning.Meanings.{Meaning}
 
--- a writer before and after, and what was answered
+-- a meaning, what the writer had taken before and has after, and what was returned
 module _ (m : Meaning) (old new : Written) (answer : Option Answer) where
-  -- all of the meaning's text is appended, and the answer is its fault, or Ok if it has none
+  -- all of the meaning's text is appended, and its fault is returned, or Ok if it has none
   pub record Finished : Type 0 where
     pub all : Appends old (text_of m.text) new
     pub told : answer ≡ option_map fault m.fault
 
-  -- a proper beginning of the text is appended, none of it if the writer had refused before; the
-  -- answer is `Fmt` at the place of the first character that was not
+  -- a proper beginning of the text is appended, or none of it if the writer had refused before;
+  -- `Fmt` is returned, at the place of the first character that was not appended
   pub record Refused : Type 0 where
     pub front : Placed
     pub c : ℕ
@@ -30,7 +30,7 @@ module _ (m : Meaning) (old new : Written) (answer : Option Answer) where
     pub none_after_refusal : old.refused ≡ true → text_of front ≡ []
     pub told : answer ≡ Some (fault (fmt place))
 
-  -- exactly the characters before one of the memory points are appended
+  -- memory ran out: exactly the characters before one of the memory points are appended
   pub record WantsMemory : Type 0 where
     pub front : Placed
     pub back : Placed
@@ -39,11 +39,11 @@ module _ (m : Meaning) (old new : Written) (answer : Option Answer) where
     pub begun : Appends old (text_of front) new
     pub told : answer ≡ Some no_memory
 
-  -- finished, refused, or memory was wanted
+  -- finished, refused by the writer, or out of memory
   abbrev pub Outcome : Type 0
   Outcome = Finished ⊎ Refused ⊎ WantsMemory
 
--- a new text: the meaning's, if it has no fault; else its fault, or that memory was wanted
+-- a new text: the meaning's, if it has no fault; else its fault, or that memory ran out
 abbrev pub Formats : {Z : Type 0} → Meaning → Result (String Z) Error → Type 0
 Formats m result = MatchResult result
     (λ s. (m.fault ≡ None) × (chars (string_bytes s) ≡ text_of m.text))

@@ -1,5 +1,5 @@
--- What may be under a name in a sample, an example of the contexts that a format will be written
--- with, and what of it is missing.
+-- What a name may stand for in a sample, which is an example of the contexts that a format will be
+-- written with; and what those values lack.
 use Rattle.std.specs.Prelude.{ℕ, zero, suc, Bool, true, false, is_some, not, Option, Some, None}
 use Rattle.std.specs.Prelude.{List, [], ◌∷◌, map, flat_map, option_map, unwrap_or}
 use Rattle.std.specs.List.{list_any}
@@ -18,7 +18,7 @@ use Rattle.interpolator_eval.specs.declared.meaning.sample.Need.{Need}
 use Rattle.interpolator_eval.specs.declared.meaning.sample.Need.TheVariants as needs
 use Rattle.interpolator_eval.specs.declared.meaning.sample.SampleEnvironment.{SampleEnvironment}
 
--- what the sample gives under a name; and in an item format what the item may be: any item of the
+-- what the sample has under a name and, in an item format, what the item may be: any item of the
 -- sample's lists
 pub record Sample (X : Type 0) : Type 0 where
   pub gives : List ℕ → Option (Slots X)
@@ -29,18 +29,18 @@ module _ {X : Type 0} where
   abbrev pub alone : Slots X → List (Slots X)
   alone found = found ∷ []
 
-  -- these at the empty name, if the item may be any of them
+  -- the empty name may stand for any of these, if they are what the item may be
   abbrev pub each_or : Option (List (Slots X)) → (List ℕ → Option (List (Slots X))) → List ℕ
       → Option (List (Slots X))
   each_or (Some ts) others [] = Some ts
   each_or (Some ts) others (c ∷ cs) = others (c ∷ cs)
   each_or None others name = others name
 
-  -- all that may be under a name, if anything is given under it
+  -- everything that a name may stand for, if it stands for anything
   abbrev pub may_stand : Sample X → List ℕ → Option (List (Slots X))
   may_stand s name = each_or s.each (λ other. option_map alone (s.gives other)) name
 
-  -- the items of a tree, and none if it has no list
+  -- the items of a tree, or none if it has no list
   abbrev pub items_or_none : Slots X → List (Slots X)
   items_or_none found = unwrap_or (items found) []
 
@@ -70,18 +70,18 @@ abbrev pub is_failed : ViewText → Bool
 is_failed has_failed = true
 is_failed _ = false
 
--- no number is written under the trait
+-- no number is written under a trait
 abbrev pub is_for_no_number : Trait → Bool
 is_for_no_number Iter = true
 is_for_no_number _ = false
 
--- no truth value, character or text is written under the trait
+-- no truth value, character or text is written under a trait
 abbrev pub is_for_numbers : Trait → Bool
 is_for_numbers Display = false
 is_for_numbers Debug = false
 is_for_numbers _ = true
 
--- what shows nothing under a trait, and did not fail
+-- a value shows nothing under a trait, although it did not fail
 abbrev pub shows_nothing : Shown → Trait → Bool
 shows_nothing (signed_number number bits) t = is_for_no_number t
 shows_nothing (unsigned_number number) t = is_for_no_number t
@@ -92,13 +92,13 @@ shows_nothing (plain_text text) t = false
 shows_nothing nothing_implemented t = true
 shows_nothing failure t = false
 
--- what failed
+-- a value failed
 abbrev pub is_failure : Shown → Bool
 is_failure failure = true
 is_failure _ = false
 
 module _ {X : Type 0} (shows : X → Trait → Spec → Shown) where
-  -- the text of what is in a slot, and none if it is empty
+  -- the text of the value in a slot, or none if the slot is empty
   abbrev pub slot_text : Trait → Spec → Option X → ViewText
   slot_text t spec None = has_no_text
   slot_text t spec (Some x) = view_text (shows x t spec) t spec
@@ -115,7 +115,7 @@ module _ {X : Type 0} (shows : X → Trait → Spec → Shown) where
   abbrev pub some_failed : Trait → Spec → List (Slots X) → Bool
   some_failed t spec ts = list_any (λ x. is_failed (text_under t spec x)) ts
 
-  -- ---- as the code has it
+  -- ---- in the code
 
   -- a tree lacks what is needed
   abbrev pub lacks : Need → Slots X → Bool
@@ -124,21 +124,21 @@ module _ {X : Type 0} (shows : X → Trait → Spec → Shown) where
   lacks needs.List found = has_no_list found
 
 module _ {X : Type 0} where
-  -- what is so deep below a tree
+  -- the trees that are `level` levels below a tree
   abbrev pub at_level : (level : ℕ) → Slots X → List (Slots X)
   at_level zero found = alone found
   at_level (suc level) found = flat_map (at_level level) (items_or_none found)
 
-  -- what is so deep below some items
+  -- the trees that are as deep below some items as `level` says
   abbrev pub items_below : Items X → List (Slots X)
   items_below below = flat_map (at_level below.level) (map slots_of below.items.now)
 
-  -- what may be under a name
+  -- what a name may stand for
   abbrev pub candidates_of : Candidates X → List (Slots X)
   candidates_of (One found) = alone (slots_of found)
   candidates_of (Each below) = items_below below
 
-  -- how deep they are
+  -- how deep the candidates are
   abbrev pub level_of_candidates : Candidates X → ℕ
   level_of_candidates (One found) = 0
   level_of_candidates (Each below) = below.level

@@ -1,4 +1,4 @@
--- What the scan of a text tells of a list that it met.
+-- What the scan of a text keeps of a list that it met.
 use Rattle.std.specs.Prelude.{◌≡◌, ℕ, true, false, Option, None, Some, option_map}
 use Rattle.std.specs.Str.{chars}
 use Rattle.interpolator_syntax.specs.At.{At, at, strip}
@@ -15,7 +15,7 @@ use Rattle.interpolator_eval.specs.declared.meaning.scan.ScannedList.{ScannedLis
 abbrev pub text_forest : At → Forest
 text_forest a = as_forest (nodes a)
 
--- what asks for it
+-- the list argument that was met
 abbrev pub scanned_list : ScannedList → ListArgument
 scanned_list l = record {
   start = l.start;
@@ -31,8 +31,8 @@ scanned_list l = record {
 abbrev pub scanned_rest : ScannedList → Option Forest
 scanned_rest l = option_map text_forest (strip close_brace (at l.end))
 
--- of an argument that begins at a, after a brace at p: that it asks for this list; or what follows it,
--- if it asks for none
+-- the result for an argument that begins at a, after a brace at p: None if it is this list, or what
+-- follows it if it is no list
 abbrev pub ArgumentTold : (p : ℕ) → (a : At) → ScannedList → Option Cursor → Type 0
 ArgumentTold p a l None =
     (asks_list (token_node nodes p argument a) ≡ true)

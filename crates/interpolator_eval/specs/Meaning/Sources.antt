@@ -1,4 +1,4 @@
--- What a source of a format gives: text and values up to its first list, and what asks for that list.
+-- What a source of a format consists of: its pieces up to the first list, and that list's argument.
 use Rattle.std.specs.Prelude.{◌≡◌, ℕ, List, Bool, true, false, if◌then◌else◌, codes}
 use Rattle.std.specs.Prelude.{Option, None, Some, Result, Ok, Err}
 use Rattle.interpolator_render.specs.declared.view.Spec.{Spec}
@@ -23,33 +23,34 @@ use Rattle.interpolator_eval.specs.Meaning.Work.{join_branch_work, item_branch_w
 
 -- ---- the first list of some pieces
 
--- what an argument asks for is a list
+-- an argument of this kind is a list
 abbrev pub wants_list : Target → Bool
 wants_list (target_value t) = false
 wants_list (target_list range) = true
 
--- what a piece holds asks for a list
+-- the content of a piece is a list argument
 abbrev pub holds_list : Option Content → Bool
 holds_list (Some (argument_content start name spec bare end)) = wants_list bare
 holds_list _ = false
 
--- a piece asks for a list
+-- a piece is a list argument
 abbrev pub asks_list : Node → Bool
 asks_list (node place end kind held item join) = holds_list held
 
--- the pieces before the first that asks for a list
+-- the pieces before the first list argument
 abbrev pub before_list : Forest → Forest
 before_list no_nodes = no_nodes
 before_list (nodes_and x xs) = if asks_list x then no_nodes else nodes_and x (before_list xs)
 
--- the pieces from the first on that asks for a list
+-- the pieces from the first list argument on
 abbrev pub from_list : Forest → Forest
 from_list no_nodes = no_nodes
 from_list (nodes_and x xs) = if asks_list x then nodes_and x xs else from_list xs
 
--- ---- what asks for a list
+-- ---- list arguments
 
--- an argument that starts at `start`, whose spec ends at `end`, and the pieces of its groups
+-- a list argument that starts at `start` and has its spec up to `end`, and the pieces of its
+-- groups
 pub record ListArgument : Type 0 where
   pub start : ℕ
   pub name : List ℕ
@@ -64,7 +65,7 @@ abbrev pub has_brace : PieceKind → Bool
 has_brace Unclosed = false
 has_brace _ = true
 
--- the first of some pieces asks for this list; if it is closed, these follow it
+-- the first of the pieces xs is the list argument x; if it is closed, the pieces `after` follow it
 pub record FirstAsks (x : ListArgument) (after : Option Forest) (xs : Forest) : Type 0 where
   pub place : ℕ
   pub last : ℕ
@@ -99,13 +100,13 @@ branch_of tree (Some source) = branch (tree source)
 
 -- ---- what it means
 
--- an argument, and after it the fault of the missing brace, if nothing is known to follow one
+-- an argument, and after it the fault of the missing brace, if `follows` is None
 abbrev pub with_brace : {A : Type 0} → (follows : Option A) → (end : ℕ) → Meaning → Meaning
 with_brace (Some rest) end m = m
 with_brace None end m = chain m (fault_alone (parse (expected (codes "}") end)))
 
 module _ {X : Type 0} (shows : X → Trait → Spec → Shown) (e : Environment X) where
-  -- a piece that asks for no list
+  -- what a piece means if it is no list argument
   abbrev pub unlisted_means : Node → Meaning
   unlisted_means x = if asks_list x then nothing else node_means shows e x
 
@@ -116,7 +117,7 @@ module _ {X : Type 0} (shows : X → Trait → Spec → Shown) (e : Environment 
     abbrev pub its_item : Slots X → Meaning
     its_item = item_branch_means shows e x.item x.end
 
-    -- these items of it, and the join between two of them
+    -- these items of it, with the join between two of them
     abbrev pub its_items : List (Slots X) → Meaning
     its_items chosen = items_mean its_join its_item chosen
 
@@ -124,7 +125,7 @@ module _ {X : Type 0} (shows : X → Trait → Spec → Shown) (e : Environment 
     abbrev pub its_list : Meaning
     its_list = list_under_name e x.name x.start x.range x.spec x.end its_join its_item
 
-    -- and the missing brace, if there is none
+    -- the list, and after it the fault of the missing brace, if that is missing
     abbrev pub its_argument : (follows : Option Forest) → Meaning
     its_argument follows = with_brace follows x.end its_list
 

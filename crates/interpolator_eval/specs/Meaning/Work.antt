@@ -1,5 +1,5 @@
--- What writing the pieces of a format goes through, up to the first fault: how many pieces, and how
--- many characters lists under a width hold in buffers at one time.
+-- The work of writing a format, up to the first fault: how many pieces are gone through, and how
+-- many characters lists under a width have in buffers at one time.
 use Rattle.std.specs.Prelude.{ℕ, ◌+◌, max, length, List, [], ◌∷◌, Option, None, Some}
 use Rattle.std.specs.Prelude.{if◌then◌else◌}
 use Rattle.interpolator_render.specs.declared.view.Spec.{Spec}
@@ -32,16 +32,16 @@ no_work = record { pieces = 0; held = 0 }
 abbrev pub piece_and : Work → Work
 piece_and w = record w { pieces = 1 + w.pieces }
 
--- one after the other, if the first has this fault or none
+-- the work of one after the other, by the fault of the first
 abbrev pub or_stop : Option Fault → Work → Work → Work
 or_stop (Some f) w v = w
 or_stop None w v = record { pieces = w.pieces + v.pieces; held = max w.held v.held }
 
--- an item by its format: if no piece is gone through, the item counts as one
+-- the work of an item by its format: if no piece is gone through, the item counts as one
 abbrev pub item_work : Work → Work
 item_work w = record w { pieces = max 1 w.pieces }
 
--- if this is what the join and an item mean and go through
+-- the join and an item, with what they mean and go through
 module _ {A : Type 0} (join : Meaning) (joins : Work) (item : A → Meaning) (each : A → Work) where
   -- items, each with the join before it
   abbrev pub work_after : List A → Work
@@ -49,12 +49,12 @@ module _ {A : Type 0} (join : Meaning) (joins : Work) (item : A → Meaning) (ea
   work_after (x ∷ xs) =
       or_stop join.fault joins (or_stop (item x).fault (each x) (work_after xs))
 
-  -- items in order, and the join between two of them
+  -- items in order, with the join between two of them
   abbrev pub items_work : List A → Work
   items_work [] = no_work
   items_work (x ∷ xs) = or_stop (item x).fault (each x) (work_after xs)
 
-  -- under a width their text is held, and what lists in them hold beside it
+  -- under a width, their text is held, and beside it what lists in them hold
   abbrev pub chosen_work : (width : Option ℕ) → List A → Work
   chosen_work None chosen = items_work chosen
   chosen_work (Some width) chosen = record {
@@ -62,26 +62,26 @@ module _ {A : Type 0} (join : Meaning) (joins : Work) (item : A → Meaning) (ea
     held = length (items_mean join item chosen).text + (items_work chosen).held;
   }
 
-  -- the items of what was found, if it is a list, of which a range chooses some
+  -- the items that a range chooses of the list that was found, if one was
   abbrev pub listed_work : Option Range → Spec → Option (List A) → Work
   listed_work range spec None = no_work
   listed_work range spec (Some ts) =
       if forbids_list spec then no_work else chosen_work spec.width (chosen_items range ts)
 
--- what was found under a name
+-- the work of what was found under a name
 abbrev pub under_work : {A : Type 0} → (A → Work) → Option A → Work
 under_work work None = no_work
 under_work work (Some found) = work found
 
 module _ {X : Type 0} (shows : X → Trait → Spec → Shown) where
-  -- what was found, by what is asked for
+  -- the work of what was found, as a value or a list
   abbrev pub bare_work : Target → Spec → (join : Meaning) → (joins : Work) → (Slots X → Meaning)
       → (Slots X → Work) → Slots X → Work
   bare_work (target_value t) spec join joins item each found = no_work
   bare_work (target_list range) spec join joins item each found =
       listed_work join joins item each range spec (items found)
 
-  -- what a piece holds
+  -- the work of a piece's content
   abbrev pub held_work : Environment X → Content → (join : Meaning) → (joins : Work)
       → (item : ℕ → Slots X → Meaning) → (each : ℕ → Slots X → Work) → Work
   held_work e (text_content from cs) join joins item each = piece_and no_work

@@ -25,11 +25,12 @@ ghost use Rattle.interpolator_eval.specs.Meaning.Moves.{moved_meaning};
 use interpolator_render::Value;
 
 /// A text means what its pieces mean, one after the other, up to the first fault: a literal or a
-/// brace the character that is written, an argument what is written of what is under its name, and
-/// a broken argument its fault. After an unclosed argument, the last piece, a `}` is expected. What
-/// is in a group means what it means as a text of its own, at its place.
+/// brace means the character that is written; an argument, what is written for the value or the
+/// list under its name; and a broken argument, its fault. After an unclosed argument, which is the
+/// last piece, a `}` is expected. The text of a group means what it means as a text of its own, at
+/// its place.
 ///
-/// So what the laws of lists say of an argument holds of what `write` makes of a text that has it:
+/// So what the laws of lists say about an argument is also true of a text that contains it:
 /// `a{l:i({})}b` writes `a`, then what the list writes and, if that has no fault, `b`.
 pub fn text_means_what_its_pieces_mean<V: Value>()
     ensures pieces { (e : Environment V) (a : At)
@@ -50,12 +51,12 @@ pub fn text_means_what_its_pieces_mean<V: Value>()
         → join_means V.shows e (Some g) ≡ means V.shows e (inside g) }
 {}
 
-/// What a text means does not depend on where it is: at a base that is so many bytes further on,
-/// the same characters or the same fault, with every place moved by so many bytes, and memory is
-/// taken at the same points. So a text at a place means what it means by itself, moved by the
+/// What a text means does not depend on where it is. At a base that is `by` bytes further on, it
+/// means the same characters and the same fault, with every place moved by `by` bytes, and memory
+/// is needed at the same points. So a text at a place means what it means by itself, moved by the
 /// place.
 ///
-/// So `{q}`, with nothing under `q`, is missed at byte 1, and in `ab{q}` at byte 3.
+/// So in `{q}`, with nothing under `q`, the value is missing at byte 1, and in `ab{q}` at byte 3.
 pub fn meaning_moves_with_the_text<V: Value>()
     ensures moves { (by : ℕ) (e : Environment V) (a : At)
         → means V.shows e (moved_at by a) ≡ moved_meaning by (means V.shows e a) }
@@ -64,11 +65,11 @@ pub fn meaning_moves_with_the_text<V: Value>()
         ≡ moved_meaning p (means V.shows e (outermost text)) }
 {}
 
-/// What a list means before it is padded: the chosen items in order and the join between two of
-/// them, up to the first fault. Without a fault in an item or, if there are two, in the join, all
-/// of them are written; else what comes before the first fault, which is the list's.
+/// Before it is padded, a list means its chosen items in order, with the join between two of them,
+/// up to the first fault. If no item has a fault, nor the join if there are two items, all of them
+/// are written; else what comes before the first fault is written, and that fault is the list's.
 ///
-/// So `{l:i({})(, )}` of the items 1, 2 and 3 writes `1, 2, 3`, and if the second item cannot be
+/// So `{l:i({})(, )}` with the items 1, 2 and 3 writes `1, 2, 3`, and if the second item cannot be
 /// displayed, `1, `.
 pub fn list_is_its_items_and_joins<V: Value>()
     ensures text { (e : Environment V) (q : ℕ) (l : ListRequest) (ts : List (Slots V))
@@ -88,10 +89,10 @@ pub fn list_is_its_items_and_joins<V: Value>()
 {}
 
 /// A list argument that chooses no item writes as many copies of its fill, or spaces, as its width
-/// says, and without a width nothing. Its groups are not looked at, so it finds no fault in them:
-/// the one fault that it can have is that of a spec that no list may have.
+/// says, and nothing without a width. Its groups are not read, so a fault in them is not found: the
+/// only fault that it can have is that of a spec that no list may have.
 ///
-/// So `{l:i2..({q})}` of a list of two items writes nothing, whatever `q` is, `{l:4i2..}` writes
+/// So `{l:i2..({q})}` with a list of two items writes nothing, whatever `q` is, `{l:4i2..}` writes
 /// four spaces, and `{l:*>4i2..}` writes `****`.
 pub fn list_of_no_item_is_its_padding<V: Value>()
     ensures text { (e : Environment V) (start q : ℕ) (x : Argument) (l : ListRequest)
@@ -105,12 +106,12 @@ pub fn list_of_no_item_is_its_padding<V: Value>()
         ≡ (if forbids_list x.spec then Some (parse (iter q)) else None) }
 {}
 
-/// A list argument with a width that has no fault writes as many characters as the width says, or
-/// all those of its chosen items and of the joins between them if they are more: these, with copies
-/// of its fill, or spaces, before and after them. Each character is at the byte after the
-/// argument's spec.
+/// A list argument that has a width and no fault writes the characters of its chosen items and of
+/// the joins between them, with copies of its fill, or spaces, before and after them: as many
+/// characters in all as the width says, or more if the items and joins have more. Each character is
+/// at the byte after the argument's spec.
 ///
-/// So `{l:>4i}` of the items 1 and 2 writes `  12`, and `{l:2i(item)}` writes `itemitem`.
+/// So `{l:>4i}` with the items 1 and 2 writes `  12`, and `{l:2i(item)}` writes `itemitem`.
 pub fn padded_list_fills_its_width<V: Value>()
     ensures count { (e : Environment V) (start q width : ℕ) (x : Argument) (l : ListRequest)
         (ts : List (Slots V)) → FindsList e x l ts → x.spec.width ≡ Some width
@@ -124,8 +125,8 @@ pub fn padded_list_fills_its_width<V: Value>()
         ≡ placed_at q (padded_text x.spec (text_of (items_alone V.shows e l q ts).text)) }
 {}
 
-/// If a chosen item or a join has a fault, it is the fault of the list. A list with a width then
-/// writes nothing, and one without a width what comes before the fault.
+/// If a chosen item or a join has a fault, that is the fault of the list. A list with a width then
+/// writes nothing, and one without a width writes what comes before the fault.
 ///
 /// So `{l:i(a{q})}`, with nothing under `q`, writes `a` for the first item and ends there, and
 /// `{l:4i(a{q})}` writes nothing.

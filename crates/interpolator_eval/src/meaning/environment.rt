@@ -1,4 +1,4 @@
-//! What names mean while a format is written.
+//! Looks up names while a format is written.
 ghost use Rattle.std.specs.Prelude.{◌≡◌, ◌⊎◌, ⊤, Some, MatchOption, option_map};
 ghost use Rattle.std.specs.Str.{chars};
 ghost use Rattle.interpolator_syntax.specs.Faults.{answer_of, fault, missing_value, no_memory};
@@ -33,7 +33,7 @@ impl<'a, C, V> Clone for Environment<'a, C, V> {
 impl<'a, C, V> Copy for Environment<'a, C, V> {}
 
 impl<'a, C: Context> Environment<'a, C, C::Object> {
-    /// The context alone. `alloc` is where memory for an absent name is taken.
+    /// Makes an environment of a context alone. `alloc` has the memory for a missing name.
     pub fn outermost(alloc: Global, context: &'a C) -> Self
         ensures { environment_of C.finds result ≡ environment (C.finds context.now) }
     {
@@ -44,12 +44,12 @@ impl<'a, C: Context> Environment<'a, C, C::Object> {
         }
     }
 
-    // Where memory is taken.
+    // Returns the allocator.
     pub(crate) fn alloc(&self) -> Global {
         self.alloc
     }
 
-    /// This environment with an inner value.
+    /// Returns this environment with an inner value.
     #[inline(always)]
     pub fn bind(&self, item: &'a Formattable<'a, C::Object>) -> Self
         ensures { environment_of C.finds result
@@ -62,7 +62,8 @@ impl<'a, C: Context> Environment<'a, C, C::Object> {
         }
     }
 
-    /// The inner value, if the name is empty. Any other name means what the context has.
+    /// Returns the inner value, if there is one and the name is empty. Any other name means what
+    /// the context finds.
     #[inline(always)]
     fn inner(&self, name: &str) -> Option<&'a Formattable<'a, C::Object>>
         ensures { MatchOption result
@@ -74,7 +75,7 @@ impl<'a, C: Context> Environment<'a, C, C::Object> {
         if name.is_empty() { self.inner } else { None }
     }
 
-    /// What is in the slot for a trait of what the name means; `None` if it means nothing.
+    /// Returns the value that the name has in the slot of a trait; `None` if it means nothing.
     #[inline(always)]
     pub fn value(&self, name: &str, t: Trait) -> Option<Option<&'a C::Object>>
         ensures { option_map (λ v. option_copied v) result
@@ -90,7 +91,7 @@ impl<'a, C: Context> Environment<'a, C, C::Object> {
         }
     }
 
-    /// The items of what the name means; `None` if it means nothing.
+    /// Returns the items that the name has; `None` if it means nothing.
     #[inline(always)]
     pub fn items(&self, name: &str) -> Option<Option<&'a [Formattable<'a, C::Object>]>>
         ensures { option_map lent_slots result
@@ -105,7 +106,7 @@ impl<'a, C: Context> Environment<'a, C, C::Object> {
         }
     }
 
-    /// The fault of an absent name, which is copied.
+    /// Returns the fault of an absent name, which is copied; `NoMemory` if it cannot be.
     #[inline(never)]
     pub fn missing(&self, name: &str, start: usize) -> Error
         ensures told { (answer_of result ≡ fault (missing_value (chars name.now) start))

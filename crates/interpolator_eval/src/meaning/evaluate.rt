@@ -1,4 +1,4 @@
-//! Writes what a format means, up to the first fault: callers first, as one reads.
+//! Writes what a format means, up to the first fault. Callers come before what they call.
 ghost use Rattle.std.specs.Prelude.{◌≡◌, ◌+◌, ◌-◌, ◌<◌, ◌≤◌, IfOk, None, Some, map};
 ghost use Rattle.interpolator_syntax.specs.At.{at};
 ghost use Rattle.interpolator_syntax.specs.Faults.{result_answer};
@@ -39,7 +39,7 @@ pub fn write_text<'a, W: TextWrite, C: Context>(
     Ok(())
 }
 
-/// Writes what the pieces of a source mean, for a caller that does not ask how many there are.
+/// Writes what the pieces of a source mean, for a caller that needs no count of them.
 #[inline(always)]
 pub fn write_uncounted<'a, W: TextWrite, C: Context, S: FormatSource>(
     sink: &mut Sink<'_, W>,
@@ -93,8 +93,8 @@ pub fn write_source<'a, W: TextWrite, C: Context, S: FormatSource, L: Ledger>(
     Ok(())
 }
 
-/// Writes what the pieces of a source mean, as [`write_source`]. Each list that is met is put into
-/// `room`, which is made once for all items of a list, since it is zeroed first.
+/// Writes what the pieces of a source mean, as [`write_source`] does. Each list that is met is
+/// stored in `room`, which is made once for all items of a list, since making it zeroes it.
 #[cycle(evaluate)]
 fn write_with<'a, W: TextWrite, C: Context, S: FormatSource, L: Ledger>(
     sink: &mut Sink<'_, W>,
@@ -116,7 +116,7 @@ fn write_with<'a, W: TextWrite, C: Context, S: FormatSource, L: Ledger>(
     Ok(())
 }
 
-/// Writes the list that was met. Returns what follows the closing brace of its argument.
+/// Writes the list that was met, and returns what follows the closing brace of its argument.
 #[cycle(evaluate)]
 #[inline(always)]
 fn write_argument<'a, W: TextWrite, C: Context, S: FormatSource, L: Ledger>(
@@ -202,7 +202,7 @@ fn write_padded_list<'a, W: TextWrite, C: Context, S: FormatSource, L: Ledger>(
     }
 }
 
-/// Writes items of a list, and the join between two of them.
+/// Writes items of a list, with the join between two of them.
 #[cycle(evaluate)]
 fn write_items<'a, W: TextWrite, C: Context, S: FormatSource, L: Ledger>(
     sink: &mut Sink<'_, W>,
@@ -231,7 +231,7 @@ fn write_items<'a, W: TextWrite, C: Context, S: FormatSource, L: Ledger>(
     Ok(())
 }
 
-/// Writes one item of a list. `room` is for a list in its format.
+/// Writes one item of a list. `room` is for lists in the item format.
 #[cycle(evaluate)]
 fn write_item<'a, W: TextWrite, C: Context, S: FormatSource, L: Ledger>(
     sink: &mut Sink<'_, W>,
@@ -273,7 +273,7 @@ fn count_empty<S: FormatSource, L: Ledger>(format: S, tally: &mut Tally<L>)
     }
 }
 
-/// Writes what comes between two items. `room` is for a list in it.
+/// Writes what comes between two items. `room` is for lists in the join.
 #[cycle(evaluate)]
 fn write_join<'a, W: TextWrite, C: Context, S: FormatSource, L: Ledger>(
     sink: &mut Sink<'_, W>,

@@ -1,4 +1,4 @@
-//! Lists: which of their items are written, and what a spec may ask of them.
+//! Lists: which of their items are written, and which options their specs may have.
 ghost use Rattle.std.specs.Prelude.{◌≡◌};
 ghost use Rattle.interpolator_eval.specs.Meaning.Choices.{bound_in, chosen_places, chosen_items};
 ghost use Rattle.interpolator_eval.specs.Meaning.Meanings.{has_sign, forbids_list};
@@ -16,14 +16,15 @@ fn has_sign(sign: Sign) -> bool
     }
 }
 
-/// Whether the spec asks what a list's may not: a precision, a sign, `#` or the zero flag.
+/// Returns whether the spec has an option that no list may have: a precision, a sign, `#` or the
+/// zero flag.
 pub fn forbids_list(spec: &Spec) -> bool
     ensures { result ≡ forbids_list spec.now }
 {
     spec.precision.is_some() || has_sign(spec.sign) || spec.alternate || spec.zero
 }
 
-/// Where a bound is in a list of so many items.
+/// Returns the index that a bound stands for in a list of `len` items.
 fn place_of(bound: isize, len: usize) -> usize
     ensures { result ≡ bound_in len bound }
 {
@@ -34,12 +35,12 @@ fn place_of(bound: isize, len: usize) -> usize
     }
 }
 
-/// Which items of a list of `len` items a range chooses: from the first index up to the second,
-/// without that one.
+/// Returns which items a range chooses of a list of `len` items: those from the first index up to
+/// the second, without that one.
 ///
 /// A bound below zero counts from the list's end. What lies outside the list is cut off, and if no
-/// item is chosen, both indexes are the same. Without a range all items are chosen. The call takes
-/// no memory.
+/// item is chosen, both indices are the same. Without a range, all items are chosen. The call
+/// allocates nothing.
 ///
 /// # Example
 ///
@@ -71,7 +72,7 @@ pub fn chosen(len: usize, range: Option<Range>) -> (usize, usize)
     (lower.min(end), end)
 }
 
-/// The items that a range chooses.
+/// Returns the items that a range chooses.
 pub(crate) fn choose<T>(items: &[T], range: Option<Range>) -> &[T]
     ensures { result.now ≡ chosen_items range items.now }
 {

@@ -1,4 +1,4 @@
-//! What may be under the names of a format in a sample, and what of it is missing.
+//! What the names of a format may stand for in a sample, and what those values lack.
 ghost use Rattle.std.specs.Prelude.{◌≡◌, ◌+◌, ◌≤◌, ◌<◌, ◌^◌, ◌⊎◌, ⊤, [], map, flat_map, option_map};
 ghost use Rattle.std.specs.Prelude.{Some, MatchOption, IfSome, unwrap_or};
 ghost use Rattle.std.specs.List.{list_any};
@@ -23,7 +23,7 @@ use interpolator_render::{Spec, Trait, Value, View};
 use interpolator_syntax::Error;
 use std::alloc::{AllocError, Global};
 
-/// What is needed of a value.
+/// What an argument needs of a value.
 #[derive(Clone, Copy)]
 pub enum Need<'s> {
     /// That a slot is filled and has a text under a trait and a spec.
@@ -34,14 +34,14 @@ pub enum Need<'s> {
     List,
 }
 
-/// No number is written under the trait.
+/// Returns whether no number is written under a trait.
 fn is_for_no_number(t: Trait) -> bool
     ensures { result ≡ is_for_no_number t }
 {
     matches!(t, Trait::Iter)
 }
 
-/// No truth value, character or text is written under the trait.
+/// Returns whether no truth value, character or text is written under a trait.
 fn is_for_numbers(t: Trait) -> bool
     ensures { result ≡ is_for_numbers t }
 {
@@ -52,7 +52,7 @@ fn is_for_numbers(t: Trait) -> bool
     }
 }
 
-/// A view has no text under a trait, and did not fail.
+/// Returns whether a view has no text under a trait, although it did not fail.
 fn no_text(view: View<'_>, t: Trait) -> bool
     ensures { result ≡ shows_nothing (shown_by view.entry) t }
 {
@@ -68,14 +68,14 @@ fn no_text(view: View<'_>, t: Trait) -> bool
     }
 }
 
-/// A view failed.
+/// Returns whether a view failed.
 fn failed(view: View<'_>) -> bool
     ensures { result ≡ is_failure (shown_by view.entry) }
 {
     matches!(view, View::Failed)
 }
 
-/// The slot of a trait is empty, or its value has no text under it.
+/// Returns whether the slot of a trait is empty, or its value has no text under the trait.
 #[tactic(auto, using(crate::proofs::MeaningLemmas::SampleLemmas::view_missing))]
 fn slot_misses<V: Value>(value: Option<&V>, t: Trait, spec: &Spec) -> bool
     ensures { result ≡ is_missing (slot_text V.shows t spec.now (option_copied value.entry)) }
@@ -86,7 +86,7 @@ fn slot_misses<V: Value>(value: Option<&V>, t: Trait, spec: &Spec) -> bool
     }
 }
 
-/// The value in the slot of a trait fails under it.
+/// Returns whether the value in the slot of a trait fails under the trait.
 #[tactic(auto, using(crate::proofs::MeaningLemmas::SampleLemmas::view_failed))]
 fn slot_fails<V: Value>(value: Option<&V>, t: Trait, spec: &Spec) -> bool
     ensures { result ≡ is_failed (slot_text V.shows t spec.now (option_copied value.entry)) }
@@ -97,7 +97,7 @@ fn slot_fails<V: Value>(value: Option<&V>, t: Trait, spec: &Spec) -> bool
     }
 }
 
-/// A value lacks what is needed.
+/// Returns whether a value lacks what is needed.
 fn lacks_one<V: Value>(found: &Formattable<'_, V>, need: Need<'_>) -> bool
     ensures { result ≡ lacks V.shows need.entry (slots_of found.now) }
 {
@@ -108,7 +108,7 @@ fn lacks_one<V: Value>(found: &Formattable<'_, V>, need: Need<'_>) -> bool
     }
 }
 
-/// Some of what is so deep below some items lacks what is needed.
+/// Returns whether some value `level` levels below some of the items lacks what is needed.
 #[cycle(below)]
 fn lacks_below<V: Value>(items: &[Formattable<'_, V>], level: usize, need: Need<'_>) -> bool
     ensures { result ≡ list_any (lacks V.shows need.entry)
@@ -122,7 +122,7 @@ fn lacks_below<V: Value>(items: &[Formattable<'_, V>], level: usize, need: Need<
     false
 }
 
-/// Some of what is so deep below an item lacks what is needed.
+/// Returns whether some value `level` levels below the item lacks what is needed.
 #[cycle(below)]
 fn lacks_at<V: Value>(item: &Formattable<'_, V>, level: usize, need: Need<'_>) -> bool
     ensures { result ≡ list_any (lacks V.shows need.entry) (at_level level (slots_of item.now)) }
@@ -136,7 +136,7 @@ fn lacks_at<V: Value>(item: &Formattable<'_, V>, level: usize, need: Need<'_>) -
     }
 }
 
-/// Items of lists: all that are so deep below some items.
+/// Items of lists: all values that are `level` levels below some items.
 pub struct Items<'a, V> {
     items: &'a [Formattable<'a, V>],
     level: usize,
@@ -155,7 +155,7 @@ impl<'a, V> Clone for Items<'a, V> {
 impl<'a, V> Copy for Items<'a, V> {}
 
 impl<'a, V: Value> Items<'a, V> {
-    /// No items.
+    /// Returns no items.
     pub fn none() -> Self
         ensures items { items_below result ≡ [] }
         ensures level { level_of_items result ≡ 0 }
@@ -166,7 +166,7 @@ impl<'a, V: Value> Items<'a, V> {
         }
     }
 
-    /// The items of a list, and none if there is no list.
+    /// Returns the items of a list, or none if there is no list.
     fn of_list(list: Option<&'a [Formattable<'a, V>]>) -> Self
         ensures items { items_below result ≡ unwrap_or (lent_slots list.entry) [] }
         ensures level { level_of_items result ≡ 0 }
@@ -177,7 +177,7 @@ impl<'a, V: Value> Items<'a, V> {
         Items { items, level: 0 }
     }
 
-    /// Whether some of them lacks what is needed.
+    /// Returns whether any of them lacks what is needed.
     pub fn lack(&self, need: Need<'_>) -> bool
         ensures { result ≡ list_any (lacks V.shows need.entry) (items_below self.now) }
     {
@@ -185,7 +185,7 @@ impl<'a, V: Value> Items<'a, V> {
     }
 }
 
-/// What may be under a name: what a context gives, or each item that there may be.
+/// What a name may stand for: what a context finds, or any of the items that there may be.
 pub enum Candidates<'a, V> {
     One(Formattable<'a, V>),
     Each(Items<'a, V>),
@@ -204,7 +204,7 @@ impl<'a, V> Clone for Candidates<'a, V> {
 impl<'a, V> Copy for Candidates<'a, V> {}
 
 impl<'a, V: Value> Candidates<'a, V> {
-    /// Whether some of them lacks what is needed.
+    /// Returns whether any of them lacks what is needed.
     pub fn lack(&self, need: Need<'_>) -> bool
         ensures { result ≡ list_any (lacks V.shows need.entry) (candidates_of self.now) }
     {
@@ -214,7 +214,7 @@ impl<'a, V: Value> Candidates<'a, V> {
         }
     }
 
-    /// The items of all of them.
+    /// Returns the items of all of them.
     #[tactic(auto, using(crate::proofs::MeaningLemmas::SampleLemmas::items_of_one))]
     pub fn items(&self) -> Items<'a, V>
         requires { level_of_candidates self.now + 1 < 2 ^ 64 }
@@ -231,8 +231,8 @@ impl<'a, V: Value> Candidates<'a, V> {
     }
 }
 
-/// Where names are looked up in a sample: a context, and in an item format what the item may be,
-/// which has the empty name.
+/// Where names are looked up in a sample: a context and, in an item format, whatever the item may
+/// be, which has the empty name.
 pub struct SampleEnvironment<'a, C, V> {
     alloc: Global,
     context: &'a C,
@@ -252,7 +252,7 @@ impl<'a, C, V> Clone for SampleEnvironment<'a, C, V> {
 impl<'a, C, V> Copy for SampleEnvironment<'a, C, V> {}
 
 impl<'a, C: Context> SampleEnvironment<'a, C, C::Object> {
-    /// The context alone. `alloc` is where memory for an absent name is taken.
+    /// Makes a sample of a context alone. `alloc` has the memory for a missing name.
     pub fn outermost(alloc: Global, context: &'a C) -> Self
         ensures sample { sample_of C.finds result ≡ sample (C.finds context.now) }
         ensures level { level_in result ≡ 0 }
@@ -264,7 +264,7 @@ impl<'a, C: Context> SampleEnvironment<'a, C, C::Object> {
         }
     }
 
-    /// This sample in an item format, in which the item may be any of these.
+    /// Returns this sample for an item format in which the item may be any of these.
     pub fn each_of(&self, items: Items<'a, C::Object>) -> Self
         ensures sample { sample_of C.finds result
             ≡ each_of (sample_of C.finds self.now) (items_below items.entry) }
@@ -277,7 +277,8 @@ impl<'a, C: Context> SampleEnvironment<'a, C, C::Object> {
         }
     }
 
-    /// What the item may be, if the name is empty. Any other name means what the context has.
+    /// Returns what the item may be, if the name is empty. Any other name means what the context
+    /// finds.
     fn each(&self, name: &str) -> Option<Items<'a, C::Object>>
         ensures each { MatchOption result
             (may_stand (sample_of C.finds self.now) (chars name.now)
@@ -289,7 +290,7 @@ impl<'a, C: Context> SampleEnvironment<'a, C, C::Object> {
         if name.is_empty() { self.each } else { None }
     }
 
-    /// What may be under a name, if anything is given under it.
+    /// Returns what a name may stand for, if it stands for anything.
     pub fn candidates(&self, name: &str) -> Option<Candidates<'a, C::Object>>
         ensures found { option_map candidates_of result
             ≡ may_stand (sample_of C.finds self.now) (chars name.now) }
@@ -304,7 +305,7 @@ impl<'a, C: Context> SampleEnvironment<'a, C, C::Object> {
         }
     }
 
-    /// The items of all that may be under a name.
+    /// Returns the items of everything that a name may stand for.
     pub fn items(&self, name: &str) -> Items<'a, C::Object>
         requires { level_in self.now + 1 < 2 ^ 64 }
         ensures items { items_below result
@@ -318,7 +319,7 @@ impl<'a, C: Context> SampleEnvironment<'a, C, C::Object> {
         found.items()
     }
 
-    /// The fault of an absent name, which is copied.
+    /// Returns the fault of an absent name, which is copied; `NoMemory` if it cannot be.
     pub fn missing(&self, name: &str, start: usize) -> Error
         ensures told { (answer_of result ≡ fault (missing_value (chars name.now) start))
             ⊎ (answer_of result ≡ no_memory) }

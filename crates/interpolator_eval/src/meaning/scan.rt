@@ -1,4 +1,4 @@
-//! A text as a source: it is read as it is written. Callers first, as one reads.
+//! A text as a source: it is written while it is read. Callers come before what they call.
 ghost use Rattle.std.specs.Prelude.{◌≡◌, ◌≢◌, ◌+◌, ◌≤◌, ⊤, ℕ, IfOk, None, Some, option_map};
 ghost use Rattle.interpolator_render.specs.declared.view.Trait.TheVariants.{Iter};
 ghost use Rattle.interpolator_syntax.specs.At.{at, strip};
@@ -35,7 +35,7 @@ use interpolator_syntax::{
 };
 use std::sync::ledger::Ledger;
 
-/// An argument that asks for a list.
+/// A list argument that the scan has met.
 #[derive(Clone, Copy)]
 pub struct ScannedList<'t> {
     start: usize,
@@ -127,7 +127,7 @@ impl<'t> FormatSource for Cursor<'t> {
     }
 }
 
-/// The beginning of a group's text, if there is a group.
+/// Returns a cursor at the beginning of a group's text, if there is a group.
 #[inline(always)]
 fn group_start(group: Option<Group<'_>>) -> Option<Cursor<'_>>
     ensures { branch_of (λ c. text_forest (at c)) result
@@ -139,7 +139,7 @@ fn group_start(group: Option<Group<'_>>) -> Option<Cursor<'_>>
     }
 }
 
-/// Writes what a text means up to its first list, token by token, and tells whether there is one.
+/// Writes what a text means up to its first list, token by token, and returns whether there is one.
 #[inline(always)]
 fn write_tokens<'t, 'a, W: TextWrite, C: Context, L: Ledger>(
     sink: &mut Sink<'_, W>,
@@ -183,10 +183,11 @@ fn write_tokens<'t, 'a, W: TextWrite, C: Context, L: Ledger>(
     Ok(false)
 }
 
-/// Writes what the argument means that begins here, after its brace, and returns what follows its
-/// closing one. If it asks for a list, nothing is written, and the list is told.
+/// Writes what the argument means that begins here, after its brace, and returns the text after its
+/// closing one. If the argument is a list, nothing is written; it is stored in `list`, and the
+/// result is `None`.
 ///
-/// A name alone has a function of its own: there the compiler knows what is asked.
+/// A name alone has a function of its own, in which the compiler knows the trait and the spec.
 fn write_argument<'t, 'a, W: TextWrite, C: Context>(
     sink: &mut Sink<'_, W>,
     environment: &Environment<'a, C, C::Object>,
@@ -209,8 +210,9 @@ fn write_argument<'t, 'a, W: TextWrite, C: Context>(
     }
 }
 
-/// Writes what the argument means that begins here and has that name, with more after it. Returns
-/// what follows its closing brace. If it asks for a list, nothing is written, and the list is told.
+/// Writes what the argument means that begins here and has this name, with more after the name.
+/// Returns the text after its closing brace. If the argument is a list, nothing is written; it is
+/// stored in `list`, and the result is `None`.
 #[inline(always)]
 fn write_asked<'t, 'a, W: TextWrite, C: Context>(
     sink: &mut Sink<'_, W>,
@@ -248,7 +250,7 @@ fn write_asked<'t, 'a, W: TextWrite, C: Context>(
 }
 
 /// Writes the value under a name, for an argument that starts at `start` and whose spec ends at
-/// `end`. Returns what follows its closing brace.
+/// `end`. Returns the text after its closing brace.
 #[inline(always)]
 fn write_closed<'t, 'a, W: TextWrite, C: Context>(
     sink: &mut Sink<'_, W>,

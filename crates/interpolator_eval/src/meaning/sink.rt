@@ -18,13 +18,13 @@ use interpolator_render::{Bounded, RenderFault, Spec, TextWrite, Trait, Value, V
 use interpolator_syntax::Error;
 use std::fmt;
 
-/// Why something was not written, and where in the format. An [`Error`] is made of it only if there
-/// is one, since its slot, which is bigger, would be zeroed for each piece that is written.
+/// Why something was not written, and where in the format. An [`Error`] is made of it only after a
+/// fault: else the slot of an `Error`, which is bigger, would be zeroed for each piece.
 #[derive(Clone, Copy)]
 pub enum WriteFault {
-    /// The value has no slot for the trait, or no text under it.
+    /// The slot of the trait is empty, or its value has no text under the trait.
     MissingTraitImpl(Trait, usize),
-    /// A value failed, or the writer refused.
+    /// A value failed, or the writer refused a text.
     Fmt(usize),
 }
 
@@ -51,8 +51,8 @@ pub fn write_char<W: TextWrite>(out: &mut W, c: char, place: usize) -> Result<()
     }
 }
 
-/// Writes characters of the format from a place on. A single one is not written as a text, which
-/// costs more.
+/// Writes characters of the format from a place on. A single ASCII character is written as such,
+/// since a text costs more.
 #[inline(always)]
 pub fn write_run<W: TextWrite>(out: &mut W, text: &str, place: usize) -> Result<(), WriteFault>
     requires fits { place + length text.now < 2 ^ 64 }
@@ -70,7 +70,7 @@ pub fn write_run<W: TextWrite>(out: &mut W, text: &str, place: usize) -> Result<
     }
 }
 
-/// Writes a view, each character of which is at one place.
+/// Writes a view, with all its characters at one place.
 #[inline(always)]
 fn write_view<W: TextWrite>(
     out: &mut W,
@@ -91,8 +91,8 @@ fn write_view<W: TextWrite>(
     }
 }
 
-/// Writes a view displayed plainly, each character of which is at one place. A text is written as it
-/// is, since a spec would be zeroed for it.
+/// Writes a view displayed plainly, with all its characters at one place. A text is written as it
+/// is, which saves making a spec.
 #[inline(always)]
 fn write_plain_view<W: TextWrite>(
     out: &mut W,
@@ -110,7 +110,7 @@ fn write_plain_view<W: TextWrite>(
     }
 }
 
-/// Writes a text, each character of which is at one place.
+/// Writes a text, with all its characters at one place.
 #[inline(always)]
 fn write_text_at<W: TextWrite>(out: &mut W, text: &str, place: usize) -> Result<(), WriteFault>
     ensures outcome { Outcome (text_alone (placed_at place (chars text.now)))
@@ -137,7 +137,7 @@ fn write_displayed<W: TextWrite>(
     write_view(out, view, Trait::Display, &Spec::default(), place)
 }
 
-/// Writes a text padded to the width, each character of which is at one place.
+/// Writes a text padded to the width, with all its characters at one place.
 fn write_padded<W: TextWrite>(
     out: &mut W,
     text: &str,
@@ -154,7 +154,7 @@ fn write_padded<W: TextWrite>(
     }
 }
 
-/// Writes what is in a slot, under a trait and a spec, each character of which is at one place.
+/// Writes the value in a slot, under a trait and a spec, with all its characters at one place.
 #[inline(always)]
 pub fn write_shown<W: TextWrite, V: Value>(
     out: &mut W,
@@ -172,7 +172,7 @@ pub fn write_shown<W: TextWrite, V: Value>(
     write_view(out, value.view(t, spec), t, spec, place)
 }
 
-/// Writes what is in a slot, displayed plainly, each character of which is at one place.
+/// Writes the value in a slot, displayed plainly, with all its characters at one place.
 #[inline(always)]
 pub fn write_plain<W: TextWrite, V: Value>(
     out: &mut W,
@@ -189,14 +189,14 @@ pub fn write_plain<W: TextWrite, V: Value>(
     write_plain_view(out, view, place)
 }
 
-/// Where text goes: to the writer, or aside into a buffer, for a list that is made whole.
+/// Where text goes: to the writer, or aside into a buffer, for a list that is made whole first.
 pub enum Sink<'s, W> {
     Writer(&'s mut W),
     Aside(&'s mut Bounded),
 }
 
 impl<'s, W: TextWrite> Sink<'s, W> {
-    /// Characters of the format from a place on, as one slice.
+    /// Writes characters of the format from a place on, as one slice.
     #[inline(always)]
     pub fn put_run(&mut self, text: &str, place: usize) -> Result<(), WriteFault>
         requires fits { place + length text.now < 2 ^ 64 }
@@ -209,7 +209,7 @@ impl<'s, W: TextWrite> Sink<'s, W> {
         }
     }
 
-    /// One character of the format.
+    /// Writes one character of the format.
     #[inline(always)]
     pub fn put_char(&mut self, c: char, place: usize) -> Result<(), WriteFault>
         ensures writes { Writes W.written (text_alone ((c, place) ∷ []))
@@ -221,7 +221,7 @@ impl<'s, W: TextWrite> Sink<'s, W> {
         }
     }
 
-    /// A text padded to the width, each character at one place.
+    /// Writes a text padded to the width, with all its characters at one place.
     pub fn put_padded(&mut self, text: &str, spec: &Spec, place: usize) -> Result<(), WriteFault>
         requires no_precision { spec.now.precision ≡ None }
         ensures writes { Writes W.written
@@ -234,8 +234,8 @@ impl<'s, W: TextWrite> Sink<'s, W> {
         }
     }
 
-    /// How many bytes it could still take at most: what is left of the buffer; of the writer what that
-    /// tells, and the greatest `usize` if it tells nothing.
+    /// Returns how many more bytes it can take at most: for a buffer what is left of it, and for a
+    /// writer what that reports, or the greatest `usize` if it reports nothing.
     pub(crate) fn room(&self) -> usize
         ensures room { HasRoom W.limit self.now result }
     {
@@ -245,7 +245,7 @@ impl<'s, W: TextWrite> Sink<'s, W> {
         }
     }
 
-    /// What is in a slot, under a trait and a spec, each character at one place.
+    /// Writes the value in a slot, under a trait and a spec, with all its characters at one place.
     #[inline(always)]
     pub fn put_value<V: Value>(
         &mut self,
@@ -264,7 +264,7 @@ impl<'s, W: TextWrite> Sink<'s, W> {
         }
     }
 
-    /// What is in a slot, displayed plainly, each character at one place.
+    /// Writes the value in a slot, displayed plainly, with all its characters at one place.
     #[inline(always)]
     pub fn put_plain<V: Value>(&mut self, value: Option<&V>, place: usize) -> Result<(), WriteFault>
         ensures writes { Writes W.written

@@ -1,4 +1,4 @@
-//! A format, wherever it is read from: a text, or pieces that were read before.
+//! Sources of a format: a text, or pieces that were read before.
 ghost use Rattle.std.specs.Prelude.{◌≡◌, ◌+◌, ◌≤◌, ⊤, Option, IfOk, MatchBool, MatchResult};
 ghost use Rattle.std.specs.Prelude.{false, is_some, map, option_map};
 ghost use Rattle.interpolator_syntax.specs.Faults.{result_answer};
@@ -21,10 +21,10 @@ use interpolator_render::{Spec, TextWrite};
 use interpolator_syntax::Error;
 use std::sync::ledger::Ledger;
 
-/// What is left of a format, wherever it is read from: a text that is read on, or pieces that were
-/// read before.
+/// What is left of a format, wherever it comes from: a text that is still to be read, or pieces
+/// that were read before.
 ///
-/// A source writes text and values by itself, up to the first list. Lists are written by
+/// A source itself writes text and values, up to the first list. Lists are written by
 /// [`write_source`](crate::write_source), which is the same for every source:
 ///
 /// ```text
@@ -34,7 +34,7 @@ use std::sync::ledger::Ledger;
 /// }
 /// ```
 pub trait FormatSource: Copy {
-    /// What asks for a list.
+    /// An argument that is a list.
     type List: Copy;
 
     /// The pieces that are left.
@@ -43,21 +43,21 @@ pub trait FormatSource: Copy {
     /// A list was met.
     ghost is_met: { Self.List → Type 0 };
 
-    /// What asks for it.
+    /// The list argument that was met.
     ghost asks: { Self.List → ListArgument };
 
     /// The pieces after its argument, if that is closed.
     ghost follows: { Self.List → Option Forest };
 
-    /// Whether nothing is left of it.
+    /// Returns whether nothing is left.
     fn is_empty(&self) -> bool
         ensures { MatchBool result (tree self.now ≡ no_nodes) ⊤ };
 
-    /// Room for what asks for a list.
+    /// Returns room for a list argument.
     fn no_list(&self) -> Self::List;
 
-    /// Writes all up to the first list, and tells whether there is one. Counts the pieces that it
-    /// comes to, and the list as one.
+    /// Writes everything up to the first list, and returns whether there is one. Counts the pieces
+    /// that it reaches, the list as one.
     fn write_to_list<'a, W: TextWrite, C: Context, L: Ledger>(
         &self,
         sink: &mut Sink<'_, W>,
@@ -75,7 +75,7 @@ pub trait FormatSource: Copy {
             (environment_of C.finds environment.now) (before_list (tree self.now))).pieces
             + met_pieces result) };
 
-    /// The chosen items of a list that was met.
+    /// Returns the chosen items of a list that was met.
     fn items<'a, C: Context>(
         list: &Self::List,
         environment: &Environment<'a, C, C::Object>,
@@ -91,33 +91,33 @@ pub trait FormatSource: Copy {
             (map slots_of items.now)) }
         ensures allowed { IfOk result (λ _. forbids_list (asks list.now).spec ≡ false) };
 
-    /// Whether its text is padded to a width.
+    /// Returns whether its text is padded to a width.
     fn has_width(list: &Self::List) -> bool
         requires met { is_met list.now }
         ensures { result ≡ is_some (asks list.now).spec.width };
 
-    /// The spec of its argument.
+    /// Returns the spec of its argument.
     fn spec(list: &Self::List) -> Spec
         requires met { is_met list.now }
         ensures { result ≡ (asks list.now).spec };
 
-    /// The byte after its spec.
+    /// Returns the place of the byte after its spec.
     fn end(list: &Self::List) -> usize
         requires met { is_met list.now }
         ensures { result ≡ (asks list.now).end };
 
-    /// The format of an item, in which the empty name is the item. Without one each item is displayed
-    /// plainly.
+    /// Returns the format of an item, in which the empty name is the item. Without one, each item
+    /// is displayed plainly.
     fn item(list: &Self::List) -> Option<Self>
         requires met { is_met list.now }
         ensures { branch_of tree result ≡ (asks list.now).item };
 
-    /// The format of what comes between two items; nothing, if there is none.
+    /// Returns the format of what comes between two items. Without one, nothing does.
     fn join(list: &Self::List) -> Option<Self>
         requires met { is_met list.now }
         ensures { branch_of tree result ≡ (asks list.now).join };
 
-    /// What follows the closing brace, if that is there.
+    /// Returns what follows the closing brace, if there is one.
     fn rest(list: &Self::List) -> Option<Self>
         requires met { is_met list.now }
         ensures { option_map tree result ≡ follows list.now };

@@ -1,4 +1,4 @@
-//! The value and the list under a name, for formats as texts and for those that were read once.
+//! The value and the list under a name, for formats as texts and for formats that were parsed.
 ghost use Rattle.std.specs.Prelude.{◌≡◌, ◌⊎◌, [], IfOk, MatchResult, Some, false, map};
 ghost use Rattle.std.specs.Str.{chars};
 ghost use Rattle.std.specs.Option.{option_copied};
@@ -21,8 +21,8 @@ use crate::slots::Formattable;
 use interpolator_render::{Bounded, Spec, TextWrite, Trait, Value};
 use interpolator_syntax::{Error, ParseError, Range};
 
-/// The fault of an absent name, for an argument that starts at `start`. It is a function of its
-/// own, since a function zeroes its error slot on entry.
+/// Returns the fault of an absent name, for an argument that starts at `start`. It is a function of
+/// its own, since a function zeroes its error slot on entry.
 #[inline(always)]
 fn refused<'a, C: Context>(
     environment: &Environment<'a, C, C::Object>,
@@ -60,8 +60,8 @@ pub fn write_value<'a, W: TextWrite, C: Context>(
     Ok(())
 }
 
-/// Writes the value under a name displayed plainly, for an argument that starts at `start` and ends
-/// at `end`.
+/// Writes the value under a name, displayed plainly, for an argument that starts at `start` and
+/// ends at `end`.
 #[inline(always)]
 pub fn write_plain_value<'a, W: TextWrite, C: Context>(
     sink: &mut Sink<'_, W>,
@@ -83,7 +83,7 @@ pub fn write_plain_value<'a, W: TextWrite, C: Context>(
     Ok(())
 }
 
-/// Writes an item of a list that has no format for it: displayed plainly, for an argument whose spec
+/// Writes an item of a list without an item format: displayed plainly, for an argument whose spec
 /// ends at `end`.
 pub fn write_plain_item<'a, W: TextWrite, V: Value>(
     sink: &mut Sink<'_, W>,
@@ -98,7 +98,7 @@ pub fn write_plain_item<'a, W: TextWrite, V: Value>(
     Ok(())
 }
 
-/// What is in a slot of an item.
+/// Returns the value in a slot of an item.
 #[inline(always)]
 pub fn slot_of<'a, V>(item: &Formattable<'a, V>, wanted: Trait) -> Option<&'a V>
     ensures slot { option_copied result ≡ slot_at wanted (values_of (slots_of item.now)) }
@@ -106,7 +106,7 @@ pub fn slot_of<'a, V>(item: &Formattable<'a, V>, wanted: Trait) -> Option<&'a V>
     item.slot(wanted)
 }
 
-/// Writes what is in a slot of an item, under a spec that ends at `end`.
+/// Writes the value in a slot of an item, under a spec that ends at `end`.
 #[inline(always)]
 pub fn write_slot<'a, W: TextWrite, V: Value>(
     sink: &mut Sink<'_, W>,
@@ -123,8 +123,8 @@ pub fn write_slot<'a, W: TextWrite, V: Value>(
     sink.put_value(value, t, spec, end)
 }
 
-/// The items that a range chooses of the list under a name, for an argument that starts at `start`
-/// and whose spec ends at `end`.
+/// Returns the items that a range chooses of the list under a name, for an argument that starts at
+/// `start` and whose spec ends at `end`.
 #[inline(always)]
 pub fn chosen_list<'a, C: Context>(
     environment: &Environment<'a, C, C::Object>,
@@ -156,8 +156,8 @@ pub fn chosen_list<'a, C: Context>(
     Ok(choose(items, range))
 }
 
-/// An empty buffer for the text of a list that is made whole before it is written. It takes as many
-/// bytes as the sink has room for.
+/// Makes an empty buffer for the text of a list that is made whole before it is written. The buffer
+/// takes at most as many bytes as the sink has room for.
 pub fn list_buffer<'a, W: TextWrite, C: Context>(
     sink: &Sink<'_, W>,
     environment: &Environment<'a, C, C::Object>,

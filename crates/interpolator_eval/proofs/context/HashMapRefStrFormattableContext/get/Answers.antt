@@ -1,4 +1,4 @@
--- The map is asked for the bytes of the name, which are the bytes of its characters.
+-- The map is searched for the bytes of the name, which are the bytes of its characters.
 use Rattle.std.proofs.Common.{ap, ◌∙◌}
 use Rattle.std.specs.Option.{option_map}
 use Rattle.std.proofs.lemmas.Str.{encodes-chars}

@@ -34,8 +34,8 @@ decreases-write_item g l = 8 * asked_size (g.S.FormatSource.asks l.list.now) + 1
 abbrev pub decreases-write_join : goal.decreases-write_join
 decreases-write_join g l = 8 * asked_size (g.S.FormatSource.asks l.list.now) + 1
 
--- what is left comes to, after what was written, what the whole comes to; and its pieces with those
--- gone through so far are no more than all
+-- what was written and any outcome of what is left are an outcome of the whole; and the pieces left
+-- and those gone through so far are no more than all
 abbrev pub invariant-write_with-loop-sink : goal.invariant-write_with-loop-sink
 invariant-write_with-loop-sink g l =
     let shows = g.C.Object.Value.shows in
@@ -56,8 +56,8 @@ invariant-write_with-loop-sink g l =
 abbrev pub decreases-write_with-loop-sink : goal.decreases-write_with-loop-sink
 decreases-write_with-loop-sink g l = forest_size (g.S.FormatSource.tree l.here)
 
--- what the items left come to, after what was written, is what the whole list comes to; and their
--- pieces with those gone through so far are no more than its
+-- what was written and any outcome of the items left are an outcome of the whole list; and their
+-- pieces and those gone through so far are no more than the list's
 abbrev pub invariant-write_items-loop-item : goal.invariant-write_items-loop-item
 invariant-write_items-loop-item g l =
     let shows = g.C.Object.Value.shows in

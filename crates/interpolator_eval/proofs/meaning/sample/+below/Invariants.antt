@@ -10,7 +10,7 @@ decreases-lacks_below g l = 2 * l.level + 1
 abbrev pub decreases-lacks_at : goal.decreases-lacks_at
 decreases-lacks_at g l = 2 * l.level
 
--- whether something lacks below the items that are left is so of all
+-- something is lacking below the items that are left exactly if it is below all of them
 abbrev pub invariant-lacks_below-loop-item : goal.invariant-lacks_below-loop-item
 invariant-lacks_below-loop-item g l =
     let test = lacks g.V.Value.shows l.need in

@@ -12,8 +12,8 @@ use Rattle.interpolator_eval.specs.Meaning.Sources.{before_list, from_list}
 use Rattle.interpolator_eval.specs.Meaning.Work.{forest_work}
 use Rattle.interpolator_eval.proofs.meaning.scan.write_tokens.Given as goal
 
--- what the rest comes to up to its first list, after what was written, is what the whole text comes
--- to; the first list is the same; and with the pieces gone through so far those of the rest are no
+-- what was written and any outcome of the rest, up to its first list, are an outcome of the whole
+-- text; the first list is the same; and the pieces of the rest and those gone through so far are no
 -- more than all
 abbrev pub invariant-loop-token : goal.invariant-loop-token
 invariant-loop-token g l =

@@ -1,4 +1,4 @@
--- The names so far are those of the filled slots that were passed.
+-- The names so far are those of the filled slots among the slots passed.
 use Rattle.std.proofs.Common.{◌≡◌, ◌++◌, take}
 use Rattle.std.specs.Prelude.{codes}
 use Rattle.std.specs.Fmt.{HasWrittenStyled, IsFlush}
