@@ -50,10 +50,7 @@ fn letters(
 
 /// Pairs of several kinds, in one local.
 fn apples(alloc: Global, name: &str, apples: i32) -> Result<String, Error> {
-    let values = [
-        View::Text(name),
-        View::Signed(i128::from(apples), Bits::B32),
-    ];
+    let values = [View::Text(name), View::from(apples)];
     Pairs(&[
         ("name", Formattable::debug_display(&values[0])),
         ("n", Formattable::integer(&values[1])),
