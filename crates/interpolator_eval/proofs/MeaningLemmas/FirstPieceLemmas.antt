@@ -42,6 +42,10 @@ module _ (x : Node) (xs : Forest) where
     abbrev Gone : Forest → ℕ
     Gone ys = (forest_work shows e (before_list ys)).pieces
 
+    -- nothing is gone through before it
+    pub none_gone : asks_list x ≡ true → Gone Whole ≡ 0
+    none_gone listed = ap (λ ys. (forest_work shows e ys).pieces) (before_none listed)
+
     gone_is : asks_list x ≡ false
         → Gone Whole ≡ (forest_work shows e (nodes_and x (before_list xs))).pieces
     gone_is other = ap (λ ys. (forest_work shows e ys).pieces) (before_after other)
@@ -86,11 +90,11 @@ module _ (x : Node) (xs : Forest) where
 
         -- it is done, and the pieces after it come to it
         pub piece_goes : asks_list x ≡ false → Writes written (unlisted_means shows e x) s t None
-            → 1 + Gone xs ≤ Gone Whole
+            → 1 + Gone xs ≡ Gone Whole
         piece_goes other o =
             omega (
               arith,
               gone_is other,
-              counts_and_rest shows e x (before_list xs) one
+              counts_and_rest shows e x (before_list xs) one other
                   (no_fault _ _ _ (rw other at o.outcome)),
             )

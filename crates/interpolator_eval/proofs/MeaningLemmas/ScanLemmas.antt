@@ -1,7 +1,7 @@
 -- The outcome of a text up to its first list, from those of its first token and of the rest; and
 -- the outcome of an argument, from that of its value.
-use Rattle.std.proofs.Common.{◌≡◌, ◌∙◌, refl, sym, ap, ℕ, true, false}
-use Rattle.std.proofs.Common.{[], Option, None, Some, option_map, Ok, Err, codes}
+use Rattle.std.proofs.Common.{◌≡◌, ◌≢◌, ◌∙◌, refl, sym, ap, ℕ, true, false}
+use Rattle.std.proofs.Common.{List, [], ◌∷◌, Option, None, Some, option_map, Ok, Err, codes}
 use Rattle.interpolator_render.specs.Written.{Written}
 use Rattle.interpolator_render.specs.declared.view.Trait.{Trait}
 use Rattle.interpolator_render.specs.declared.view.Spec.{Spec}
@@ -9,15 +9,18 @@ use Rattle.interpolator_render.specs.Views.{Shown}
 use Rattle.interpolator_syntax.specs.Arguments.{Argument, argument_at, argument_after, asked_at}
 use Rattle.interpolator_syntax.specs.Arguments.{named_argument, plain_argument}
 use Rattle.interpolator_syntax.specs.At.{At, at, strip}
-use Rattle.interpolator_syntax.specs.Classes.{close_brace}
+use Rattle.interpolator_syntax.specs.Classes.{close_brace, open_brace}
 use Rattle.interpolator_syntax.specs.Faults.{Fault, Answer, fault, parse, expected}
 use Rattle.interpolator_syntax.specs.Lists.{ListRequest}
-use Rattle.interpolator_syntax.specs.Nodes.{Node}
+use Rattle.interpolator_syntax.specs.Nodes.{Node, Forest}
 use Rattle.interpolator_syntax.specs.Nodes.{no_nodes, nodes_and, as_forest, nodes}
 use Rattle.interpolator_syntax.specs.Nodes.{group_branch, piece_node, token_node}
 use Rattle.interpolator_syntax.specs.Pieces.{argument_from, argument_step}
+use Rattle.interpolator_syntax.specs.Pieces.{PieceKind, literal, doubled, lone_close, closed, unclosed}
+use Rattle.interpolator_syntax.specs.Pieces.{broken}
 use Rattle.interpolator_syntax.specs.SpecTexts.{Request, of_value, of_list}
 use Rattle.interpolator_syntax.specs.Tokens.{Token, first_token, past_token, argument}
+use Rattle.interpolator_syntax.specs.Tokens.{literal_scan, no_open_scan, scan_by}
 use Rattle.interpolator_syntax.specs.declared.argument.ArgumentName.{ArgumentName}
 use Rattle.interpolator_syntax.proofs.NodeLemmas.{nodes_first, nodes_none}
 use Rattle.interpolator_eval.specs.Meaning.Environments.{Environment}
@@ -26,7 +29,8 @@ use Rattle.interpolator_eval.specs.Meaning.Meanings.{forest_means}
 use Rattle.interpolator_eval.specs.Meaning.ScannedLists.{text_forest}
 use Rattle.interpolator_eval.specs.Meaning.Sinks.{Writes}
 use Rattle.interpolator_eval.specs.Meaning.Sources.{asks_list, before_list, from_list, unlisted_means}
-use Rattle.interpolator_eval.specs.Meaning.Sources.{ListArgument, FirstAsks, with_brace}
+use Rattle.interpolator_eval.specs.Meaning.Sources.{ListArgument, FirstAsks, first_holds, with_brace}
+use Rattle.interpolator_eval.specs.Meaning.Work.{forest_work}
 use Rattle.interpolator_eval.specs.declared.meaning.sink.Sink.{Sink}
 use Rattle.interpolator_eval.proofs.MeaningLemmas.SinkLemmas.{and_then, fault_first, nothing_done, ended}
 use Rattle.interpolator_eval.proofs.MeaningLemmas.SinkLemmas.{same_end}
@@ -150,6 +154,38 @@ closed_rest a x q rest h d = rw (h, d) refl
 
 -- ---- a text by its first token
 
+-- nothing is handed on at the end alone
+token_none : (a : At) → first_token a ≡ None → a.text ≡ []
+unfolding first_token
+token_none a h = by_open (strip open_brace a) h
+  where
+    by_text : (cs : List ℕ) → literal_scan a cs ≡ None → cs ≡ []
+    by_text [] h = refl
+    by_text (c ∷ cs) h = absurd (cc)
+
+    by_close : (o : Option At) → no_open_scan a o ≡ None → a.text ≡ []
+    by_close None h = by_text a.text h
+    by_close (Some b) h = absurd (cc)
+
+    by_open : (o : Option At) → scan_by a o ≡ None → a.text ≡ []
+    by_open None h = by_close (strip close_brace a) h
+    by_open (Some b) h = absurd (cc)
+
+-- what is handed on holds something
+token_holds : (p : ℕ) (t : Token) (b : At) (xs : Forest)
+    → first_holds (nodes_and (token_node nodes p t b) xs) ≡ true
+token_holds p argument b xs = by_kind (argument_from b.place b).piece.kind
+  where
+    by_kind : (k : PieceKind)
+        → first_holds (nodes_and (piece_node nodes p (argument_from b.place b).rest.place k) xs) ≡ true
+    by_kind (literal c) = refl
+    by_kind (doubled c) = refl
+    by_kind lone_close = refl
+    by_kind (closed start x q) = refl
+    by_kind (unclosed start x q) = refl
+    by_kind (broken f) = refl
+token_holds p t b xs = refl
+
 module _ (a : At) where
   text_none : first_token a ≡ None → text_forest a ≡ no_nodes
   text_none h = ap as_forest (nodes_none a h)
@@ -167,6 +203,19 @@ module _ (a : At) where
     pub text_next : text_forest a
         ≡ nodes_and (token_node nodes a.place x.0 x.1) (text_forest (past_token x.0 x.1))
     text_next = ap as_forest (nodes_first a x.1 x.0 h)
+
+  -- with characters there is one, and it holds something
+  pub text_holds : a.text ≢ [] → first_holds (text_forest a) ≡ true
+  text_holds some = by_first (first_token a) refl
+    where
+      by_first : (o : Option (Token × At)) → first_token a ≡ o → first_holds (text_forest a) ≡ true
+      by_first None h = absurd (some (token_none a h))
+      by_first (Some x) h = rw (text_next x h) (token_holds a.place x.0 x.1 _)
+
+-- nothing is left, and so nothing to go through
+pub end_gone : {X : Type 0} (shows : X → Trait → Spec → Shown) (e : Environment X) (a : At)
+    → first_token a ≡ None → (forest_work shows e (before_list (text_forest a))).pieces ≡ 0
+end_gone shows e a h = rw (text_none a h) refl
 
 -- nothing is left
 pub end_writes : {X W : Type 0} (shows : X → Trait → Spec → Shown) (e : Environment X)

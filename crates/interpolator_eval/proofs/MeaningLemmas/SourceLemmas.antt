@@ -158,6 +158,13 @@ module _ {X : Type 0} (shows : X → Trait → Spec → Shown) (e : Environment 
   before_goes no_nodes none = refl
   before_goes (nodes_and x xs) none = goes_by (asks_list x) x xs refl (before_goes xs) none
 
+  -- nothing comes after them
+  pub goes_before : (xs : Forest) → from_list xs ≡ no_nodes → (All (before_list xs)).fault ≡ None
+      → Gone (before_list xs) ≡ Gone xs
+  goes_before xs none done =
+      let left : Gone (from_list xs) ≡ 0 = ap (λ ys. Gone ys) none in
+      omega (arith, left, before_goes xs done)
+
   -- ---- the first list
 
   module _ (x : ListArgument) (after : Option Forest) (xs : Forest)

@@ -1,23 +1,27 @@
 -- How many pieces are gone through, for pieces and for items: from the first and from the rest.
-use Rattle.std.proofs.Common.{◌≡◌, refl, arith, ℕ, ◌+◌, ◌<◌, ◌≤◌}
+use Rattle.std.proofs.Common.{◌≡◌, refl, arith, ℕ, ◌+◌, ◌<◌, ◌≤◌, false}
 use Rattle.std.proofs.Common.{List, ◌∷◌, length, map, drop, get_or}
 use Rattle.std.proofs.Common.{Option, None, Some, option_map}
-use Rattle.std.proofs.lemmas.List.{drop_more}
+use Rattle.std.proofs.lemmas.List.{drop_all, drop_more}
 use Rattle.interpolator_render.specs.Views.{Shown}
 use Rattle.interpolator_render.specs.Written.{Written}
 use Rattle.interpolator_render.specs.declared.view.Spec.{Spec}
 use Rattle.interpolator_render.specs.declared.view.Trait.{Trait}
 use Rattle.interpolator_syntax.specs.At.{At}
 use Rattle.interpolator_syntax.specs.Faults.{Fault, fault}
-use Rattle.interpolator_syntax.specs.Nodes.{Node, Forest, nodes_and, nodes, piece_node, token_node}
+use Rattle.interpolator_syntax.specs.Nodes.{Node, node, Forest, nodes_and, nodes}
+use Rattle.interpolator_syntax.specs.Nodes.{piece_node, token_node, target_value, target_list}
+use Rattle.interpolator_syntax.specs.Nodes.{text_content, argument_content, fault_content}
 use Rattle.interpolator_syntax.specs.Pieces.{PieceKind, literal, doubled, lone_close, closed, unclosed}
 use Rattle.interpolator_syntax.specs.Pieces.{broken, argument_from}
 use Rattle.interpolator_syntax.specs.Tokens.{Token, argument}
-use Rattle.interpolator_eval.specs.Meaning.Environments.{Environment}
+use Rattle.interpolator_eval.specs.Slots.{Slots}
+use Rattle.interpolator_eval.specs.Meaning.Environments.{Environment, slots_under}
 use Rattle.interpolator_eval.specs.Meaning.Meanings.{Meaning, node_means}
 use Rattle.interpolator_eval.specs.Meaning.Outcomes.{Outcome}
 use Rattle.interpolator_eval.specs.Meaning.Work.{Work, or_stop, work_after, items_work, node_work}
-use Rattle.interpolator_eval.specs.Meaning.Work.{forest_work}
+use Rattle.interpolator_eval.specs.Meaning.Sources.{asks_list}
+use Rattle.interpolator_eval.specs.Meaning.Work.{forest_work, no_work, under_work}
 use Rattle.interpolator_eval.proofs.MeaningLemmas.OutcomeLemmas.{finished_if_none}
 
 -- what was written whole has no fault
@@ -57,6 +61,22 @@ module _ {X : Type 0} (shows : X → Trait → Spec → Shown) (e : Environment 
       by_kind (broken f) = omega arith
   token_counts p t b = omega arith
 
+  -- one that asks for no list counts as one
+  pub value_counts : (x : Node) → asks_list x ≡ false → (node_work shows e x).pieces ≤ 1
+  value_counts (node p end kind None item join) other = omega arith
+  value_counts (node p end kind (Some (text_content from cs)) item join) other = omega arith
+  value_counts (node p end kind (Some (argument_content start name spec (target_value t) q)) item join)
+      other =
+      by_found (slots_under e name)
+    where
+      by_found : (found : Option (Slots X)) → 1 + (under_work (λ _. no_work) found).pieces ≤ 1
+      by_found None = omega arith
+      by_found (Some slots) = omega arith
+  value_counts (node p end kind (Some (argument_content start name spec (target_list r) q)) item join)
+      other =
+      absurd (cc)
+  value_counts (node p end kind (Some (fault_content f)) item join) other = omega arith
+
   module _ (x : Node) (xs : Forest) (one : 1 ≤ (node_work shows e x).pieces) where
     -- the first of some pieces is a piece
     pub counts_first : 1 ≤ (forest_work shows e (nodes_and x xs)).pieces
@@ -64,12 +84,13 @@ module _ {X : Type 0} (shows : X → Trait → Spec → Shown) (e : Environment 
         omega (arith, one, stops (node_means shows e x).fault (node_work shows e x) (forest_work shows e xs))
 
     -- and if it is done the others come after it
-    pub counts_and_rest : (node_means shows e x).fault ≡ None
-        → 1 + (forest_work shows e xs).pieces ≤ (forest_work shows e (nodes_and x xs)).pieces
-    counts_and_rest none =
+    pub counts_and_rest : asks_list x ≡ false → (node_means shows e x).fault ≡ None
+        → 1 + (forest_work shows e xs).pieces ≡ (forest_work shows e (nodes_and x xs)).pieces
+    counts_and_rest other none =
         omega (
           arith,
           one,
+          value_counts x other,
           goes (node_means shows e x).fault (node_work shows e x) (forest_work shows e xs) none,
         )
 
@@ -79,6 +100,10 @@ module _ {F X : Type 0} (join : Meaning) (joins : Work) (item : X → Meaning) (
     (slots : F → X) where
   abbrev After : List F → ℕ
   After ys = (work_after join joins item each (map slots ys)).pieces
+
+  -- no items are left
+  pub items_gone : (xs : List F) (i : ℕ) → length xs ≤ i → After (drop i xs) ≡ 0
+  items_gone xs i h = rw (drop_all i xs h) refl
 
   module _ (xs : List F) (i : ℕ) (x : F) (h : i < length xs) (is : x ≡ get_or xs i x) where
     next_item : map slots (drop i xs) ≡ slots x ∷ map slots (drop (i + 1) xs)

@@ -1,6 +1,6 @@
 -- What a source of a format consists of: its pieces up to the first list, and that list's argument.
 use Rattle.std.specs.Prelude.{◌≡◌, ℕ, List, Bool, true, false, if◌then◌else◌, codes}
-use Rattle.std.specs.Prelude.{Option, None, Some, Result, Ok, Err}
+use Rattle.std.specs.Prelude.{Option, None, Some, is_some, Result, Ok, Err}
 use Rattle.interpolator_render.specs.declared.view.Spec.{Spec}
 use Rattle.interpolator_render.specs.declared.view.Trait.{Trait}
 use Rattle.interpolator_render.specs.Views.{Shown}
@@ -92,6 +92,11 @@ met_pieces (Err e) = 0
 abbrev pub empty_counts : Forest → ℕ
 empty_counts no_nodes = 1
 empty_counts (nodes_and x xs) = 0
+
+-- the first of some pieces holds something, as each piece of a text does
+abbrev pub first_holds : Forest → Bool
+first_holds no_nodes = false
+first_holds (nodes_and (node place end kind held item join) xs) = is_some held
 
 -- the pieces of a group, by those of the source that begins it
 abbrev pub branch_of : {S : Type 0} → (tree : S → Forest) → Option S → Branch

@@ -1,12 +1,14 @@
 //! Writes what a format means, up to the first fault. Callers come before what they call.
-ghost use Rattle.std.specs.Prelude.{◌≡◌, ◌+◌, ◌-◌, ◌<◌, ◌≤◌, IfOk, None, Some, map};
+ghost use Rattle.std.specs.Prelude.{◌≡◌, ◌+◌, ◌-◌, ◌<◌, ◌≤◌, ◌⊎◌, IfOk, None, Some, map, true};
 ghost use Rattle.interpolator_syntax.specs.At.{at};
 ghost use Rattle.interpolator_syntax.specs.Faults.{result_answer};
+ghost use Rattle.interpolator_syntax.specs.Nodes.{no_nodes};
 ghost use Rattle.interpolator_eval.specs.Meaning.CodeEnvironments.{environment_of};
 ghost use Rattle.interpolator_eval.specs.Meaning.Lists.{padded_list_means};
 ghost use Rattle.interpolator_eval.specs.Meaning.Meanings.{means, forest_means};
 ghost use Rattle.interpolator_eval.specs.Meaning.Sinks.{Writes};
-ghost use Rattle.interpolator_eval.specs.Meaning.Sources.{empty_counts, its_argument, its_item};
+ghost use Rattle.interpolator_eval.specs.Meaning.Sources.{empty_counts, first_holds, its_argument};
+ghost use Rattle.interpolator_eval.specs.Meaning.Sources.{its_item};
 ghost use Rattle.interpolator_eval.specs.Meaning.Sources.{its_item_work, its_items, its_items_work};
 ghost use Rattle.interpolator_eval.specs.Meaning.Sources.{its_join, its_join_work, its_list};
 ghost use Rattle.interpolator_eval.specs.Meaning.Sources.{its_list_work};
@@ -87,6 +89,8 @@ pub fn write_source<'a, W: TextWrite, C: Context, S: FormatSource, L: Ledger>(
         sink.old sink.new (result_answer result) }
     ensures gone { tally.new ≤ tally.old + (forest_work C.Object.shows
         (environment_of C.finds environment.now) (S.tree source)).pieces }
+    ensures exact { IfOk result (λ _. tally.new ≡ tally.old + (forest_work C.Object.shows
+        (environment_of C.finds environment.now) (S.tree source)).pieces) }
 {
     let mut room = source.no_list();
     write_with::<W, C, S, L>(sink, environment, source, &mut room, tally)?;
@@ -108,6 +112,8 @@ fn write_with<'a, W: TextWrite, C: Context, S: FormatSource, L: Ledger>(
         sink.old sink.new (result_answer result) }
     ensures gone { tally.new ≤ tally.old + (forest_work C.Object.shows
         (environment_of C.finds environment.now) (S.tree source)).pieces }
+    ensures exact { IfOk result (λ _. tally.new ≡ tally.old + (forest_work C.Object.shows
+        (environment_of C.finds environment.now) (S.tree source)).pieces) }
 {
     let mut here = source;
     while here.write_to_list(sink, environment, room, tally)? {
@@ -133,6 +139,8 @@ fn write_argument<'a, W: TextWrite, C: Context, S: FormatSource, L: Ledger>(
     ensures rest { IfOk result (λ rest. S.follows list.now ≡ Some (S.tree rest)) }
     ensures gone { tally.new ≤ tally.old + (its_list_work C.Object.shows
         (environment_of C.finds environment.now) (S.asks list.now)).pieces }
+    ensures exact { IfOk result (λ _. tally.new ≡ tally.old + (its_list_work C.Object.shows
+        (environment_of C.finds environment.now) (S.asks list.now)).pieces) }
 {
     write_list::<W, C, S, L>(sink, environment, list, tally)?;
     match S::rest(list) {
@@ -156,6 +164,8 @@ fn write_list<'a, W: TextWrite, C: Context, S: FormatSource, L: Ledger>(
         sink.old sink.new (result_answer result) }
     ensures gone { tally.new ≤ tally.old + (its_list_work C.Object.shows
         (environment_of C.finds environment.now) (S.asks list.now)).pieces }
+    ensures exact { IfOk result (λ _. tally.new ≡ tally.old + (its_list_work C.Object.shows
+        (environment_of C.finds environment.now) (S.asks list.now)).pieces) }
 {
     let items = S::items(list, environment)?;
     if S::has_width(list) {
@@ -185,6 +195,8 @@ fn write_padded_list<'a, W: TextWrite, C: Context, S: FormatSource, L: Ledger>(
         sink.old sink.new (result_answer result) }
     ensures gone { tally.new ≤ tally.old + (its_items_work C.Object.shows
         (environment_of C.finds environment.now) (S.asks list.now) (map slots_of items.now)).pieces }
+    ensures exact { IfOk result (λ _. tally.new ≡ tally.old + (its_items_work C.Object.shows
+        (environment_of C.finds environment.now) (S.asks list.now) (map slots_of items.now)).pieces) }
 {
     let mut made = list_buffer(sink, environment);
     let mut inner: Sink<'_, W> = Sink::Aside(&mut made);
@@ -218,6 +230,8 @@ fn write_items<'a, W: TextWrite, C: Context, S: FormatSource, L: Ledger>(
         sink.old sink.new (result_answer result) }
     ensures gone { tally.new ≤ tally.old + (its_items_work C.Object.shows
         (environment_of C.finds environment.now) (S.asks list.now) (map slots_of items.now)).pieces }
+    ensures exact { IfOk result (λ _. tally.new ≡ tally.old + (its_items_work C.Object.shows
+        (environment_of C.finds environment.now) (S.asks list.now) (map slots_of items.now)).pieces) }
 {
     let Some((first, rest)) = items.split_first() else {
         return Ok(());
@@ -248,6 +262,8 @@ fn write_item<'a, W: TextWrite, C: Context, S: FormatSource, L: Ledger>(
         sink.old sink.new (result_answer result) }
     ensures gone { tally.new ≤ tally.old + (its_item_work C.Object.shows
         (environment_of C.finds environment.now) (S.asks list.now) (slots_of item.now)).pieces }
+    ensures exact { IfOk result (λ _. tally.new ≡ tally.old + (its_item_work C.Object.shows
+        (environment_of C.finds environment.now) (S.asks list.now) (slots_of item.now)).pieces) }
 {
     match S::item(list) {
         Some(format) => {
@@ -266,7 +282,8 @@ fn write_item<'a, W: TextWrite, C: Context, S: FormatSource, L: Ledger>(
 /// Counts an item whose format is empty as one piece.
 #[inline(always)]
 fn count_empty<S: FormatSource, L: Ledger>(format: S, tally: &mut Tally<L>)
-    ensures most { tally.new ≤ tally.old + empty_counts (S.tree format) }
+    ensures exact { tally.new ≡ tally.old + empty_counts (S.tree format) }
+    ensures holds { (S.tree format ≡ no_nodes) ⊎ (first_holds (S.tree format) ≡ true) }
 {
     if format.is_empty() {
         tally.tick();
@@ -288,6 +305,8 @@ fn write_join<'a, W: TextWrite, C: Context, S: FormatSource, L: Ledger>(
         sink.old sink.new (result_answer result) }
     ensures gone { tally.new ≤ tally.old + (its_join_work C.Object.shows
         (environment_of C.finds environment.now) (S.asks list.now)).pieces }
+    ensures exact { IfOk result (λ _. tally.new ≡ tally.old + (its_join_work C.Object.shows
+        (environment_of C.finds environment.now) (S.asks list.now)).pieces) }
 {
     match S::join(list) {
         Some(format) => {

@@ -157,6 +157,9 @@ fn write_tokens<'t, 'a, W: TextWrite, C: Context, L: Ledger>(
     ensures gone { tally.new ≤ tally.old + ((forest_work C.Object.shows
         (environment_of C.finds environment.now) (before_list (text_forest (at text.entry)))).pieces
         + met_pieces result) }
+    ensures exact { IfOk result (λ _. tally.new ≡ tally.old + ((forest_work C.Object.shows
+        (environment_of C.finds environment.now) (before_list (text_forest (at text.entry)))).pieces
+        + met_pieces result)) }
 {
     let mut here = text;
     while let Some((token, rest)) = next_token(here) {

@@ -1,6 +1,6 @@
 //! Sources of a format: a text, or pieces that were read before.
-ghost use Rattle.std.specs.Prelude.{◌≡◌, ◌+◌, ◌≤◌, ⊤, Option, IfOk, MatchBool, MatchResult};
-ghost use Rattle.std.specs.Prelude.{false, is_some, map, option_map};
+ghost use Rattle.std.specs.Prelude.{◌≡◌, ◌+◌, ◌≤◌, Option, IfOk, MatchBool, MatchResult};
+ghost use Rattle.std.specs.Prelude.{false, is_some, map, option_map, true};
 ghost use Rattle.interpolator_syntax.specs.Faults.{result_answer};
 ghost use Rattle.interpolator_syntax.specs.Nodes.{Forest, no_nodes};
 ghost use Rattle.interpolator_eval.specs.Slots.{slots_of};
@@ -9,7 +9,7 @@ ghost use Rattle.interpolator_eval.specs.Meaning.Lists.{IsChosen, IsNotChosen, C
 ghost use Rattle.interpolator_eval.specs.Meaning.Meanings.{forbids_list, forest_means};
 ghost use Rattle.interpolator_eval.specs.Meaning.Sinks.{Writes};
 ghost use Rattle.interpolator_eval.specs.Meaning.Sources.{ListArgument, Met, before_list, from_list};
-ghost use Rattle.interpolator_eval.specs.Meaning.Sources.{branch_of, met_pieces};
+ghost use Rattle.interpolator_eval.specs.Meaning.Sources.{branch_of, first_holds, met_pieces};
 ghost use Rattle.interpolator_eval.specs.Meaning.Work.{forest_work};
 
 use crate::context::Context;
@@ -51,7 +51,7 @@ pub trait FormatSource: Copy {
 
     /// Returns whether nothing is left.
     fn is_empty(&self) -> bool
-        ensures { MatchBool result (tree self.now ≡ no_nodes) ⊤ };
+        ensures { MatchBool result (tree self.now ≡ no_nodes) (first_holds (tree self.now) ≡ true) };
 
     /// Returns room for a list argument.
     fn no_list(&self) -> Self::List;
@@ -73,7 +73,10 @@ pub trait FormatSource: Copy {
             (from_list (tree self.now))) }
         ensures gone { tally.new ≤ tally.old + ((forest_work C.Object.shows
             (environment_of C.finds environment.now) (before_list (tree self.now))).pieces
-            + met_pieces result) };
+            + met_pieces result) }
+        ensures exact { IfOk result (λ _. tally.new ≡ tally.old + ((forest_work C.Object.shows
+            (environment_of C.finds environment.now) (before_list (tree self.now))).pieces
+            + met_pieces result)) };
 
     /// Returns the chosen items of a list that was met.
     fn items<'a, C: Context>(

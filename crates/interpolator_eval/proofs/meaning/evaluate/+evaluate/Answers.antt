@@ -10,11 +10,12 @@ use Rattle.interpolator_eval.proofs.MeaningLemmas.ScanLemmas.{brace_fault}
 use Rattle.interpolator_eval.proofs.MeaningLemmas.SinkLemmas.{goes_on, same_end, same_then}
 use Rattle.interpolator_eval.proofs.MeaningLemmas.SinkLemmas.{whole_fault, whole_refused}
 use Rattle.interpolator_eval.proofs.MeaningLemmas.SourceLemmas.{all_before, before_fault}
-use Rattle.interpolator_eval.proofs.MeaningLemmas.SourceLemmas.{before_stops, first_smaller}
+use Rattle.interpolator_eval.proofs.MeaningLemmas.SourceLemmas.{before_stops, first_smaller, goes_before}
 use Rattle.interpolator_eval.proofs.MeaningLemmas.SourceLemmas.{list_fault, list_goes, list_runs}
 use Rattle.interpolator_eval.proofs.MeaningLemmas.SourceLemmas.{list_stops, rest_smaller}
 use Rattle.interpolator_eval.proofs.MeaningLemmas.WorkLemmas.{first_goes, first_stops, item_goes}
-use Rattle.interpolator_eval.proofs.MeaningLemmas.WorkLemmas.{item_stops, join_stops, no_fault}
+use Rattle.interpolator_eval.proofs.MeaningLemmas.WorkLemmas.{item_stops, items_gone, join_stops}
+use Rattle.interpolator_eval.proofs.MeaningLemmas.WorkLemmas.{no_fault}
 use Rattle.interpolator_eval.proofs.meaning.evaluate.+evaluate.Goals as goal
 
 -- ---- the items of a list
@@ -88,7 +89,7 @@ write_items-loop-item-init g t c =
       gone =
           omega (
             arith,
-            c.in_ok-write_item.ensures.gone,
+            c.in_ok-write_item.ensures.exact,
             first_goes join joins item each slots_of c.args.items.now c.in-Some.first.now
                 c.in-Some.rest.now (search rules) (no_fault _ _ _ o.outcome),
           );
@@ -176,8 +177,8 @@ write_items-loop-item-preserved g t c =
           omega (
             arith,
             c.loop-item.invariant.gone,
-            c.in_ok-write_join.ensures.gone,
-            c.in_ok-write_item-2.ensures.gone,
+            c.in_ok-write_join.ensures.exact,
+            c.in_ok-write_item-2.ensures.exact,
             item_goes join joins item each slots_of c.in-Some.rest.now
                 c.loop-item.item-index c.item-item.result c.loop-item-test.true
                 c.item-item.is (no_fault _ _ _ before.outcome) (no_fault _ _ _ o.outcome),
@@ -196,6 +197,21 @@ write_items-returns-clause-writes g t c =
 pub write_items-returns-clause-gone : goal.write_items-returns-clause-gone
 write_items-returns-clause-gone g t c =
     omega (arith, c.loop-item.invariant.gone)
+
+pub write_items-returns-clause-exact : goal.write_items-returns-clause-exact
+write_items-returns-clause-exact g t c =
+    let e = environment_of g.C.Context.finds c.args.environment.now in
+    let asked = g.S.FormatSource.asks c.args.list.now in
+    let join = its_join g.C.Object.Value.shows e asked in
+    let joins = its_join_work g.C.Object.Value.shows e asked in
+    let item = its_item g.C.Object.Value.shows e asked in
+    let each = its_item_work g.C.Object.Value.shows e asked in
+    omega (
+      arith,
+      c.loop-item.invariant.gone,
+      items_gone join joins item each slots_of c.in-Some.rest.now c.loop-item.item-index
+          c.loop-item-test.false,
+    )
 
 -- ---- a list that was met
 
@@ -298,8 +314,8 @@ write_with-loop-sink-preserved g t c =
           omega (
             arith,
             c.loop-sink.invariant.gone,
-            rw c.if-branch.true at c.in_ok-write_to_list.ensures.gone,
-            c.in_ok-here.ensures.gone,
+            rw c.if-branch.true at c.in_ok-write_to_list.ensures.exact,
+            c.in_ok-here.ensures.exact,
             list_goes g.C.Object.Value.shows e _ _ xs met.1 _ _ _ _ before _ rest o,
           );
     }
@@ -320,4 +336,16 @@ write_with-returns-clause-gone g t c =
       c.loop-sink.invariant.gone,
       rw c.if-branch.false at c.in_ok-write_to_list.ensures.gone,
       before_stops g.C.Object.Value.shows e (g.S.FormatSource.tree c.loop-sink.here),
+    )
+
+pub write_with-returns-clause-exact : goal.write_with-returns-clause-exact
+write_with-returns-clause-exact g t c =
+    let e = environment_of g.C.Context.finds c.args.environment.now in
+    let met = rw c.if-branch.false at c.in_ok-write_to_list.ensures.met in
+    omega (
+      arith,
+      c.loop-sink.invariant.gone,
+      rw c.if-branch.false at c.in_ok-write_to_list.ensures.exact,
+      goes_before g.C.Object.Value.shows e (g.S.FormatSource.tree c.loop-sink.here) met
+          (no_fault _ _ _ c.in_ok-write_to_list.ensures.writes.outcome),
     )

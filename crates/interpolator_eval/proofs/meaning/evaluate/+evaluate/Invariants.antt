@@ -1,4 +1,4 @@
-use Rattle.std.proofs.Common.{◌+◌, ◌*◌, ◌≤◌, map, drop, Option}
+use Rattle.std.proofs.Common.{◌≡◌, ◌+◌, ◌*◌, ◌≤◌, map, drop, Option}
 use Rattle.interpolator_render.specs.Written.{Written}
 use Rattle.interpolator_syntax.specs.Faults.{Answer}
 use Rattle.interpolator_eval.specs.Slots.{slots_of}
@@ -35,7 +35,7 @@ abbrev pub decreases-write_join : goal.decreases-write_join
 decreases-write_join g l = 8 * asked_size (g.S.FormatSource.asks l.list.now) + 1
 
 -- what was written and any outcome of what is left are an outcome of the whole; and the pieces left
--- and those gone through so far are no more than all
+-- and those gone through so far are all of them
 abbrev pub invariant-write_with-loop-sink : goal.invariant-write_with-loop-sink
 invariant-write_with-loop-sink g l =
     let shows = g.C.Object.Value.shows in
@@ -50,14 +50,14 @@ invariant-write_with-loop-sink g l =
           (taken_by g.W.TextWrite.written l.fn.sink) new answer;
       same : SameEnd l.fn.sink l.sink;
       gone : l.tally + (forest_work shows e (tree l.here)).pieces
-          ≤ l.fn.tally + (forest_work shows e (tree l.fn.source)).pieces;
+          ≡ l.fn.tally + (forest_work shows e (tree l.fn.source)).pieces;
     }
 
 abbrev pub decreases-write_with-loop-sink : goal.decreases-write_with-loop-sink
 decreases-write_with-loop-sink g l = forest_size (g.S.FormatSource.tree l.here)
 
 -- what was written and any outcome of the items left are an outcome of the whole list; and their
--- pieces and those gone through so far are no more than the list's
+-- pieces and those gone through so far are the list's
 abbrev pub invariant-write_items-loop-item : goal.invariant-write_items-loop-item
 invariant-write_items-loop-item g l =
     let shows = g.C.Object.Value.shows in
@@ -73,5 +73,5 @@ invariant-write_items-loop-item g l =
       gone : l.tally
           + (work_after (its_join shows e asked) (its_join_work shows e asked) (its_item shows e asked)
           (its_item_work shows e asked) (map slots_of (drop l.item-index l.rest))).pieces
-          ≤ l.fn.tally + (its_items_work shows e asked (map slots_of l.items)).pieces;
+          ≡ l.fn.tally + (its_items_work shows e asked (map slots_of l.items)).pieces;
     }

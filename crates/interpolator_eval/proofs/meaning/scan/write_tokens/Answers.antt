@@ -12,8 +12,9 @@ use Rattle.interpolator_eval.specs.Meaning.Sources.{before_list, from_list}
 use Rattle.interpolator_eval.specs.Meaning.Work.{forest_work}
 use Rattle.interpolator_eval.proofs.MeaningLemmas.FirstPieceLemmas.{left_after, left_here, list_at}
 use Rattle.interpolator_eval.proofs.MeaningLemmas.FirstPieceLemmas.{piece_fault, piece_goes, piece_runs}
-use Rattle.interpolator_eval.proofs.MeaningLemmas.FirstPieceLemmas.{piece_stops}
-use Rattle.interpolator_eval.proofs.MeaningLemmas.ScanLemmas.{end_writes, left_none, text_next}
+use Rattle.interpolator_eval.proofs.MeaningLemmas.FirstPieceLemmas.{none_gone, piece_stops}
+use Rattle.interpolator_eval.proofs.MeaningLemmas.ScanLemmas.{end_gone, end_writes, left_none}
+use Rattle.interpolator_eval.proofs.MeaningLemmas.ScanLemmas.{text_next}
 use Rattle.interpolator_eval.proofs.MeaningLemmas.SinkLemmas.{goes_on, same_then}
 use Rattle.interpolator_eval.proofs.MeaningLemmas.WorkLemmas.{token_counts}
 use Rattle.interpolator_eval.proofs.meaning.scan.write_tokens.Goals as goal
@@ -240,6 +241,19 @@ returns-in-None-clause-met g c =
     let told = rw c.in-None.is at (c.in_ok-after-in-Argument.ensures.rest here.place) in
     (tt, rw (c.loop-token.invariant.left ∙ ap from_list next ∙ left_here first after told.0) told.1)
 
+pub returns-in-None-clause-exact : goal.returns-in-None-clause-exact
+returns-in-None-clause-exact g c =
+    let e = environment_of g.C.Context.finds c.args.environment.now in
+    let here = at c.loop-token.here in
+    let token : Token × At = (argument, at c.in-Some.rest) in
+    let is : first_token here ≡ Some token = rw c.in-Argument.is at (sym c.in-Some.ensures.token) in
+    let next = text_next here token is in
+    let first = token_node nodes here.place token.0 token.1 in
+    let after = text_forest (past_token token.0 token.1) in
+    let told = rw c.in-None.is at (c.in_ok-after-in-Argument.ensures.rest here.place) in
+    let none = none_gone first after g.C.Object.Value.shows e told.0 in
+    omega (arith, rw next at c.loop-token.invariant.gone, c.tick.ensures.one, none)
+
 pub loop-token-smaller : goal.loop-token-smaller
 loop-token-smaller g c =
     let here = at c.loop-token.here in
@@ -287,3 +301,9 @@ returns-clause-writes g c =
 pub returns-clause-met : goal.returns-clause-met
 returns-clause-met g c =
     c.loop-token.invariant.left ∙ left_none (at c.loop-token.here) (sym c.in_default.ensures.token)
+
+pub returns-clause-exact : goal.returns-clause-exact
+returns-clause-exact g c =
+    let e = environment_of g.C.Context.finds c.args.environment.now in
+    let none = end_gone g.C.Object.Value.shows e (at c.loop-token.here) (sym c.in_default.ensures.token) in
+    omega (arith, c.loop-token.invariant.gone, none)

@@ -1,4 +1,4 @@
-use Rattle.std.proofs.Common.{◌≡◌, ◌+◌, ◌≤◌, length, Option}
+use Rattle.std.proofs.Common.{◌≡◌, ◌+◌, length, Option}
 use Rattle.std.specs.Str.{chars}
 use Rattle.interpolator_render.specs.Written.{Written}
 use Rattle.interpolator_syntax.specs.At.{At}
@@ -13,8 +13,8 @@ use Rattle.interpolator_eval.specs.Meaning.Work.{forest_work}
 use Rattle.interpolator_eval.proofs.meaning.scan.write_tokens.Given as goal
 
 -- what was written and any outcome of the rest, up to its first list, are an outcome of the whole
--- text; the first list is the same; and the pieces of the rest and those gone through so far are no
--- more than all
+-- text; the first list is the same; and the pieces of the rest and those gone through so far are all
+-- of them
 abbrev pub invariant-loop-token : goal.invariant-loop-token
 invariant-loop-token g l =
     let shows = g.C.Object.Value.shows in
@@ -29,7 +29,7 @@ invariant-loop-token g l =
       same : SameEnd l.fn.sink l.sink;
       left : from_list (text_forest text) ≡ from_list (text_forest here);
       gone : l.tally + (forest_work shows e (before_list (text_forest here))).pieces
-          ≤ l.fn.tally + (forest_work shows e (before_list (text_forest text))).pieces;
+          ≡ l.fn.tally + (forest_work shows e (before_list (text_forest text))).pieces;
     }
 
 abbrev pub decreases-loop-token : goal.decreases-loop-token
