@@ -154,7 +154,7 @@ closed_rest a x q rest h d = rw (h, d) refl
 
 -- ---- a text by its first token
 
--- nothing is handed on at the end alone
+-- there is no first token only at the end of the text
 token_none : (a : At) → first_token a ≡ None → a.text ≡ []
 unfolding first_token
 token_none a h = by_open (strip open_brace a) h
@@ -171,7 +171,7 @@ token_none a h = by_open (strip open_brace a) h
     by_open None h = by_close (strip close_brace a) h
     by_open (Some b) h = absurd (cc)
 
--- what is handed on holds something
+-- the nodes of a token hold something
 token_holds : (p : ℕ) (t : Token) (b : At) (xs : Forest)
     → first_holds (nodes_and (token_node nodes p t b) xs) ≡ true
 token_holds p argument b xs = by_kind (argument_from b.place b).piece.kind

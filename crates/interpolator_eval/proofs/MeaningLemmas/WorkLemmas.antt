@@ -61,7 +61,7 @@ module _ {X : Type 0} (shows : X → Trait → Spec → Shown) (e : Environment 
       by_kind (broken f) = omega arith
   token_counts p t b = omega arith
 
-  -- one that asks for no list counts as one
+  -- an argument that is no list counts as one
   pub value_counts : (x : Node) → asks_list x ≡ false → (node_work shows e x).pieces ≤ 1
   value_counts (node p end kind None item join) other = omega arith
   value_counts (node p end kind (Some (text_content from cs)) item join) other = omega arith
