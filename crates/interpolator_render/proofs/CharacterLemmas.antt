@@ -1,4 +1,4 @@
--- Texts walked character by character: if a number of characters end.
+-- Texts walked character by character: where a number of characters ends.
 use Rattle.std.proofs.Common.{◌≡◌, ℕ, ◌-◌, ◌+◌, List, [], ◌∷◌, Bool, true, ◌&&◌, ◌++◌, length, take}
 use Rattle.std.proofs.Common.{refl, sym, ◌∙◌, ap, arith, append_assoc, append-nil, length-append}
 use Rattle.std.proofs.Common.{encode_utf8, chars, IsUtf8, IsCharBoundary}
@@ -18,7 +18,7 @@ scalar_first rest after c u e = let p = cons_from_encodes u.0 after c (u.1.1 ∙
     and_true_left : (a b : Bool) → (a && b) ≡ true → a ≡ true
     and_true_left a b h = grind arith
 
--- so many characters of the text are after, and `rest` is to come
+-- `count` characters of the text were passed, and `rest` is to come
 pub record Walked (text rest : List ℕ) (count : ℕ) : Type 0 where
   pub after : List ℕ
   pub parts : text ≡ after ++ rest
@@ -48,7 +48,7 @@ walked_more text rest after count c e w = let s = scalar_first rest after c w.re
       rest_valid = u;
     }
 
--- if the first `count` characters end
+-- where the first `count` characters end
 pub walked_chars : (text rest : List ℕ) (count : ℕ) → (w : Walked text rest count) →
     chars w.after ≡ take count (chars text)
 walked_chars text rest count w =

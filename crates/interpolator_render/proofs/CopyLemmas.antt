@@ -55,7 +55,7 @@ copies_boundary run count s few h = rw (h.unit, ← bytes_of_copies count run.c)
 pub few_bytes : (count c : ℕ) → count ≤ 64 → count * len_utf8 c ≤ 256
 few_bytes count c few = mul-le count (len_utf8 c) 64 4 few (len_utf8_bounds c).1
 
--- so many copies that are done, and so many that come
+-- the copies that are done, and those that come
 pub copies_split : (count left k c : ℕ) → k ≤ left → left ≤ count → replicate (count - left) c
     ++ replicate k c ≡ replicate (count - (left - k)) c
 copies_split count left k c h l = let e : count - left + k ≡ count - (left - k) = omega arith in

@@ -77,7 +77,7 @@ rounded_count places n h =
           rw f (digits_between (nearest n unit) places within.0 (omega (arith, none)))
     ]
 
--- with a precision there are exactly so many digits after the first
+-- with a precision there are exactly that many digits after the first
 pub scientific_count : (places n : ℕ) → length (scientific (Some places) n).digits ≡ places + 1
 scientific_count places n = elim (cases_lt places (exponent_of n)) [
   | inl fewer ↦ rw (scientific_long places n fewer) (rounded_count places n fewer)

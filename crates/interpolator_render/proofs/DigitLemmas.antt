@@ -36,7 +36,7 @@ digit_text_some base n upper b = elim (eq-zero-or-pos n) [
       (omega (arith, length-digits_of_step base n b h))
 ]
 
--- a number below a power of the base has at most so many digits
+-- a number below a power of the base has at most as many digits as the power says
 pub length-digit_text-le : (base k n : ℕ) (upper : Bool) → 2 ≤ base → 0 < k → n < base ^ k →
     length (digit_text base upper n) ≤ k
 length-digit_text-le base k n upper b p h = elim (eq-zero-or-pos n) [

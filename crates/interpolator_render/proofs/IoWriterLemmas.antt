@@ -2,12 +2,14 @@
 use Rattle.std.proofs.Common.{◌≡◌, ℕ, ◌+◌, ◌-◌, ◌<◌, ◌≤◌, List, [], ◌++◌, Option, None, Some, length}
 use Rattle.std.proofs.Common.{take, drop, refl, sym, ◌∙◌, ap, subst, append_assoc, append-nil}
 use Rattle.std.proofs.Common.{Bool, true, false, Result, Ok, Err, OnOk, OnErr, MatchResult}
-use Rattle.std.proofs.Common.{string_bytes}
+use Rattle.std.proofs.Common.{string_bytes, encode_utf8_all, chars, IsUtf8}
 use Rattle.std.specs.Io.KnownBytes.{Appends, Keeps}
 use Rattle.std.proofs.lemmas.List.{take-append-drop}
-use Rattle.interpolator_render.specs.IoWriters.{HandsOn}
+use Rattle.std.proofs.lemmas.Str.{chars-append, encodes-append, encodes-chars, IsUtf8-string_bytes}
+use Rattle.interpolator_render.specs.IoWriters.{GotPrefix, HandsOn, io_written, KeepsPrefix}
 use Rattle.interpolator_render.specs.Written.{Written, Refuses, RefusesWhole}
 use Rattle.interpolator_render.specs.Written.{Appends as Extends}
+use Rattle.interpolator_render.specs.declared.handed.Handed.{Handed}
 use Rattle.interpolator_render.specs.declared.io_writer.IoWriter.{IoWriter}
 use Rattle.interpolator_render.specs.declared.text_write.Refusal.{Refusal}
 use Rattle.interpolator_render.proofs.WrittenLemmas.{refuses_all}
@@ -26,6 +28,13 @@ pub gets_none : (a b : Option (List ℕ)) → Keeps a b → Appends a b []
 gets_none None b p = tt
 gets_none (Some x) None p = absurd p
 gets_none (Some x) (Some y) p = p ∙ sym (append-nil x)
+
+-- bytes that stay after they grew
+pub gets_kept : (a b c : Option (List ℕ)) (bs : List ℕ) → Appends a b bs → Keeps b c → Appends a c bs
+gets_kept None b c bs p q = tt
+gets_kept (Some x) None c bs p q = absurd p
+gets_kept (Some x) (Some y) None bs p q = absurd q
+gets_kept (Some x) (Some y) (Some z) bs p q = q ∙ p
 
 pub keeps_all : (a : Option (List ℕ)) → Keeps a a
 keeps_all None = tt
@@ -145,9 +154,84 @@ module _ {W : Type 0} (told : W → Option (List ℕ)) where
     held = λ f. not_refused new.refused _ err.1 f;
   }
 
--- bytes that stay after they grew
-pub gets_kept : (a b c : Option (List ℕ)) (bs : List ℕ) → Appends a b bs → Keeps b c → Appends a c bs
-gets_kept None b c bs p q = tt
-gets_kept (Some x) None c bs p q = absurd p
-gets_kept (Some x) (Some y) None bs p q = absurd q
-gets_kept (Some x) (Some y) (Some z) bs p q = q ∙ p
+  -- ---- what was handed on since the beginning
+
+  -- a writer that has taken nothing
+  pub prefix_of_none : (w : IoWriter W) (start : Option (List ℕ)) → (io_written w).text ≡ []
+      → string_bytes w.held ≡ [] → told w.inner ≡ start → GotPrefix told start w
+  prefix_of_none w start e h same = record {
+    front = [];
+    rest = [];
+    parts = ap encode_utf8_all e;
+    got = gets_none _ _ (subst (λ (t : Option (List ℕ)). Keeps start t) (sym same) (keeps_all start));
+    held = λ _. h;
+  }
+
+  -- a writer that nothing was done to
+  pub prefix_stays : (old new : IoWriter W) → new ≡ old → KeepsPrefix told old new
+  prefix_stays old new e start h = subst (λ (w : IoWriter W). GotPrefix told start w) (sym e) h
+
+  -- a writer that took more bytes, and handed a front of what it then held on
+  pub prefix_grows : (old new : IoWriter W) (more : List ℕ) → old.refused ≡ false
+      → encode_utf8_all (io_written new).text ≡ encode_utf8_all (io_written old).text ++ more
+      → HandsOn told old new more → KeepsPrefix told old new
+  prefix_grows old new more f e s start h = record {
+    front = h.front ++ s.front;
+    rest = s.rest;
+    parts = e ∙ (ap (λ (l : List ℕ). l ++ more) h.parts ∙ (append_assoc h.front h.rest more
+        ∙ (ap (λ (l : List ℕ). h.front ++ (l ++ more)) (sym (h.held f))
+        ∙ (ap (λ (l : List ℕ). h.front ++ l) s.parts ∙ sym (append_assoc h.front s.front s.rest)))));
+    got = gets_more _ _ _ _ _ h.got s.got;
+    held = s.held;
+  }
+
+  -- a writer that took nothing more
+  pub prefix_kept : (old new : IoWriter W) → old.refused ≡ false
+      → (io_written new).text ≡ (io_written old).text
+      → HandsOn told old new [] → KeepsPrefix told old new
+  prefix_kept old new f e s =
+      prefix_grows old new [] f (ap encode_utf8_all e ∙ sym (append-nil _)) s
+
+  -- a writer that had refused before, or whose write below failed
+  pub prefix_refused : (old new : IoWriter W) (refused : Bool) → old.refused ≡ refused
+      → (old.refused ≡ true → new ≡ old) → (io_written new).text ≡ (io_written old).text
+      → HandsOn told old new [] → KeepsPrefix told old new
+  prefix_refused old new true e quiet same s = prefix_stays old new (quiet e)
+  prefix_refused old new false e quiet same s = prefix_kept old new e same s
+
+  -- a writer that handed on all that it held, and whose flush below did nothing or failed
+  pub prefix_flushed : (old mid new : IoWriter W) → old.refused ≡ false
+      → (io_written mid).text ≡ (io_written old).text → string_bytes mid.held ≡ []
+      → Appends (told old.inner) (told mid.inner) (string_bytes old.held)
+      → new.handed ≡ mid.handed → new.held ≡ mid.held → Keeps (told mid.inner) (told new.inner)
+      → KeepsPrefix told old new
+  prefix_flushed old mid new f same none got handed held keeps =
+      prefix_kept old new f (rw (handed, held) same)
+      (hands_all old new (rw held none) (gets_kept _ _ _ _ got keeps))
+
+  -- a writer that made way for bytes, and then gathered them or refused them
+  pub prefix_after : (old mid new : IoWriter W) (more : List ℕ) (answer : Result (Unit {0}) Refusal)
+      → IsUtf8 more → old.refused ≡ false → io_written mid ≡ io_written old
+      → HandsOn told old mid [] → new.inner ≡ mid.inner → new.handed ≡ mid.handed
+      → OnOk answer ((string_bytes new.held ≡ string_bytes mid.held ++ more)
+      × (mid.refused ≡ false) × (new.refused ≡ false))
+      → OnErr answer ((string_bytes new.held ≡ string_bytes mid.held) × (new.refused ≡ true))
+      → KeepsPrefix told old new
+  prefix_after old mid new more (Ok x) u f same s inner handed ok err =
+      let text : (io_written new).text ≡ (io_written old).text ++ chars more =
+      ap (λ (l : List ℕ). l ++ chars (string_bytes new.held)) (ap (λ (h : Handed). h.text) handed)
+      ∙ (ap (λ (l : List ℕ). mid.handed.text ++ chars l) ok.0
+      ∙ (ap (λ (l : List ℕ). mid.handed.text ++ l)
+      (chars-append (string_bytes mid.held) more (IsUtf8-string_bytes mid.held))
+      ∙ (sym (append_assoc mid.handed.text (chars (string_bytes mid.held)) (chars more))
+      ∙ ap (λ (w : Written). w.text ++ chars more) same))) in
+      prefix_grows old new more f
+      (ap encode_utf8_all text ∙ (encodes-append (io_written old).text (chars more)
+      ∙ ap (λ (l : List ℕ). encode_utf8_all (io_written old).text ++ l) (encodes-chars more u)))
+      (hands_more old mid new more (Ok x) s inner ok err)
+  prefix_after old mid new more (Err r) u f same s inner handed ok err =
+      prefix_kept old new f
+      (ap (λ (l : List ℕ). l ++ chars (string_bytes new.held)) (ap (λ (h : Handed). h.text) handed)
+      ∙ (ap (λ (l : List ℕ). mid.handed.text ++ chars l) err.0
+      ∙ ap (λ (w : Written). w.text) same))
+      (hands_more old mid new more (Err r) s inner ok err)

@@ -60,7 +60,7 @@ stops_in_first a b t u p = record {
   none_after_refusal = p.none_after_refusal;
 }
 
--- what a call answered, whatever its error says
+-- what a call returned, whatever its error says
 pub writes_from_puts : (a b : Written) (t : List ℕ) (r : Result (Unit {0}) Refusal) → Puts a t r b →
     Writes a t r b
 writes_from_puts a b t (Ok x) p = p
@@ -91,7 +91,7 @@ unfolding stops_in_first
 refuses_in_first a b t u taken p = record
     { part = stops_in_first a b t u p.part; counted = p.counted }
 
--- a writer's own answer, for a text that a `&str` holds
+-- a writer's own result, for a text that a `&str` holds
 pub puts_from_write : (a b : Written) (t : List ℕ) (r : Result (Unit {0}) Refusal) →
     byte_count t < 2 ^ 64 →
     MatchResult r (λ _. Appends a t b) (λ x. Refuses a t x.taken b) → Puts a t r b

@@ -75,7 +75,7 @@ nothing_padded spec front body z m =
     let all : fill_before spec.alignment 0 0 ≡ 0 = omega arith in
     rw (z, ← m, all) (sym (append-nil (front ++ body)))
 
--- a number of which no more is asked than its digits, and a minus if it is negative
+-- a number that is written by its digits alone, after a minus if it is negative
 pub bare_number : (spec : Spec) (negative : Bool) (n : ℕ) → spec.width ≡ None →
     spec.zero ≡ false → spec.alternate ≡ false → spec.sign ≡ NoSign →
     number_text (InDigits Decimal) spec negative n

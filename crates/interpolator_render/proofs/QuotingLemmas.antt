@@ -23,7 +23,7 @@ use Rattle.std.proofs.lemmas.Bool.Decides.{nat_tests}
 
 -- ---- characters that are written as they are
 
--- past ASCII every character is, if the quote is ASCII
+-- every character past ASCII is, if the quote is ASCII
 pub escaped_wide : (quote c : ℕ) → quote < 128 → 128 ≤ c → escape_of quote c ≡ c ∷ []
 escaped_wide quote c q w = grind (arith, nat_tests)
 

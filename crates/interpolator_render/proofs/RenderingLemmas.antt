@@ -1,4 +1,4 @@
--- What a text is without options, and what `render` answers for what a writer answered.
+-- What a text is without options, and what `render` returns for what a writer returned.
 use Rattle.std.proofs.Common.{◌≡◌, ℕ, ◌-◌, List, length, refl, Result, Ok, Err, None, Some, ℤ}
 use Rattle.std.proofs.Common.{append-nil, arith, false}
 use Rattle.interpolator_render.specs.declared.number_form.NumberForm.{NumberForm}
@@ -24,7 +24,7 @@ displayed_as_it_is spec text p w =
     let missing : 0 - length text ≡ 0 = omega arith in
     rw (p, w, missing, all) (append-nil text)
 
--- what a writer answered is what `render` answers
+-- what a writer returned is what `render` returns
 pub renders_puts : (old new : Written) (text : List ℕ) (answer : Result (Unit {0}) Refusal)
     (meaning : ViewText) (result : Result (Unit {0}) RenderFault) →
     meaning ≡ has_text text → result ≡ render_answer answer → Puts old text answer new →

@@ -16,7 +16,7 @@ use Rattle.interpolator_render.specs.Unquoting.{text_in_quotes, at_character, in
 use Rattle.interpolator_render.proofs.DigitLemmas.{digit_text_zero, digit_text_map}
 use Rattle.interpolator_render.proofs.LawLemmas.{digits_read}
 
--- what is asked of a quote: it is no backslash and no `u`, and stands for itself
+-- what a quote has to be: neither a backslash nor `u`, and standing for itself
 record StandsForItself (quote : ℕ) : Type 0 where
   slash : (92 == quote) ≡ false
   letter : (quote == 117) ≡ false

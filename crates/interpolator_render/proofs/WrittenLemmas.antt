@@ -39,7 +39,7 @@ chars-encode c s = let nil : encode_utf8 c ≡ encode_utf8 c
 
 pub ruleset one_character = chars-encode
 
--- what a writer appended or answered, whatever its limit
+-- what a writer appended or returned, whatever its limit
 pub appended_within : (limit after : Option ℕ) (now new : Written) (text : List ℕ) →
     AppendsWithin limit after now text new → Appends now text new
 appended_within None after now new text p = p
@@ -109,7 +109,7 @@ pub may_refuse : (old : Buffered) (bytes : List ℕ) (room count : ℕ) (refused
 may_refuse old bytes room count refused (Ok x) u e h = tt
 may_refuse old bytes room count refused (Err r) u e h = rw (← e, encodes-chars bytes u) h
 
--- the room of a `String` for so many bytes more, by its characters
+-- the room of a `String` for this many more bytes, by its characters
 pub ready_for : (after : List ℕ) (room count : ℕ) (refused refused_after : Bool)
     (answer : Result (Unit {0}) Refusal) → IsUtf8 after →
     OnOk answer ((refused_after ≡ refused) × (length after + count ≤ room)) →

@@ -14,7 +14,7 @@ pub record Scientific : Type 0 where
 abbrev pub exponent_of : ℕ → ℕ
 exponent_of n = length (digit_text 10 false n) - 1
 
--- the number nearest to n / unit: of two, the even one
+-- the whole number nearest to n / unit, the even one on a tie
 abbrev pub nearest : ℕ → ℕ → ℕ
 nearest n unit =
     let low = n / unit in

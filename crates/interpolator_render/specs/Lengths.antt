@@ -18,7 +18,7 @@ use Rattle.interpolator_render.specs.Texts.{ViewText, has_text}
 use Rattle.interpolator_render.specs.Views.{Shown, signed_number, unsigned_number, some_text}
 use Rattle.interpolator_render.specs.Views.{plain_text, integer_width}
 
--- a view whose text has at most so many characters; its number is one that a view can have
+-- a view whose text has at most `most` characters; its number is one that a view can have
 abbrev pub IsShownWithin : (most : ℕ) → Shown → Type 0
 IsShownWithin most (signed_number z bits) = FitsSigned (integer_width bits) z
 IsShownWithin most (unsigned_number n) = n < 2 ^ 128
@@ -48,12 +48,12 @@ most_body (InExponent upper) None = 43
 most_body (InExponent upper) (Some zero) = 4
 most_body (InExponent upper) (Some (suc places)) = suc places + 5
 
--- a number in the form that a trait asks, if it asks one
+-- a number in the form that a trait writes, if it writes numbers
 abbrev pub most_number : Option NumberForm → Spec → ℕ
 most_number None spec = 0
 most_number (Some form) spec = most_front form spec + most_body form spec.precision
 
--- a text of at most so many characters: under debug each may take six, between two quotes
+-- a text of at most `most` characters: under debug each may take six, between two quotes
 abbrev pub most_text : Trait → (most : ℕ) → ℕ
 most_text Debug most = most * 6 + 2
 most_text _ most = most
@@ -64,11 +64,11 @@ most_written t spec most =
     max (unwrap_or spec.width 0)
     (max (most_number (number_form t spec.hex_debug) spec) (most_text t most))
 
--- a text has at most so many characters; if there is none, nothing is written
+-- a text has at most `most` characters; if there is none, nothing is written
 abbrev pub HasAtMost : (most : ℕ) → ViewText → Type 0
 HasAtMost most (has_text text) = length text ≤ most
 HasAtMost most _ = ⊤
 
--- a count as a `usize` tells it: the greatest means as many or more
+-- a count as a `usize`: the greatest means that many or more
 abbrev pub usize_count : ℕ → ℕ
 usize_count count = min count (2 ^ 64 - 1)

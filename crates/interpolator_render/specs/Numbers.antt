@@ -49,7 +49,7 @@ prefix_of InOctal = codes "0o"
 prefix_of InLowerHex = codes "0x"
 prefix_of InUpperHex = codes "0x"
 
--- debug is display, or hexadecimal if that is asked for
+-- debug is as display, or hexadecimal if the spec says so
 abbrev pub debug_radix : HexDebug → Radix
 debug_radix No = Decimal
 debug_radix Lower = InLowerHex
@@ -69,7 +69,7 @@ number_form Iter hex_debug = None
 
 -- ---- its sign
 
--- `-` before a negative number, `+` before another if it is asked for
+-- `-` before a negative number, `+` before any other if the spec says so
 abbrev pub sign_text : Bool → Sign → List ℕ
 sign_text true sign = codes "-"
 sign_text false Plus = codes "+"

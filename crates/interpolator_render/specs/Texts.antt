@@ -1,4 +1,4 @@
--- The text of a view, and what `render` answers of it.
+-- The text of a view, and what `render` returns for it.
 use Rattle.std.specs.Prelude.{◌≡◌, Bool, true, false, ℕ, List, [], ◌∷◌, Option, Some, None, Result}
 use Rattle.std.specs.Prelude.{Ok, Err, codes}
 use Rattle.interpolator_render.specs.declared.number_form.NumberForm.{NumberForm}
@@ -25,7 +25,7 @@ pub data ViewText : Type 0 where
   has_no_text : ViewText
   has_failed : ViewText
 
--- a number's text in the form that the trait asks for, if it asks for one
+-- a number's text in the form that the trait writes, if it writes numbers
 abbrev pub in_form : Option NumberForm → (NumberForm → List ℕ) → ViewText
 in_form None text = has_no_text
 in_form (Some form) text = has_text (text form)
@@ -67,7 +67,7 @@ Renders has_no_text old (Err Nothing) new = new ≡ old
 Renders has_failed old (Err FailedFault) new = new ≡ old
 Renders _ _ _ _ = ⊥
 
--- a refusal of the writer as the answer of `render`
+-- a refusal of the writer as the result of `render`
 abbrev pub render_answer : Result (Unit {0}) Refusal → Result (Unit {0}) RenderFault
 render_answer (Ok x) = Ok x
 render_answer (Err refusal) = Err Refused

@@ -11,8 +11,8 @@ use Rattle.interpolator_render.specs.Characters.{zero_digit}
 abbrev pub IsQuote : ℕ → Type 0
 IsQuote quote = (quote ≡ double_quote) ⊎ (quote ≡ single_quote)
 
--- how far a reader is: at a character, after a backslash, after `\u`, or in a number, of which
--- it has read so much
+-- where a reader is: at a character, after a backslash, after `\u`, or in a number, with what it
+-- has read of it
 pub data Reading : Type 0 where
   at_character : Reading
   after_backslash : Reading
@@ -28,7 +28,7 @@ pub record Unquoted : Type 0 where
 abbrev pub preceded_by : ℕ → Unquoted → Unquoted
 preceded_by c read = record { text = c ∷ read.text; after = read.after }
 
--- what a character after a backslash stands for, but for `u`
+-- what a character after a backslash stands for, except `u`
 abbrev pub escape_meaning : ℕ → ℕ
 escape_meaning c =
     if c == zero_digit then null else

@@ -30,7 +30,7 @@ pub record Appends (old : Written) (text : List ℕ) (new : Written) : Type 0 wh
   pub same_flag : new.refused ≡ old.refused
   pub only_empty : old.refused ≡ true → text ≡ []
 
--- a limit of bytes and the one after so many more: they and what is then left are within the first
+-- a limit of bytes, and the one after `count` more: these and what is then left are within the first
 abbrev pub KeepsTo : Option ℕ → ℕ → Option ℕ → Type 0
 KeepsTo None count after = Unit {0}
 KeepsTo (Some most) count None = ⊥
@@ -58,7 +58,7 @@ pub record AppendsBeginning (old : Written) (text : List ℕ) (new : Written) : 
   pub flag_set : new.refused ≡ true
   pub none_after_refusal : old.refused ≡ true → beginning ≡ []
 
--- a proper beginning of so many bytes was appended, and the rest was refused
+-- a proper beginning of `taken` bytes was appended, and the rest was refused
 pub record Refuses (old : Written) (text : List ℕ) (taken : ℕ) (new : Written) : Type 0 where
   pub part : AppendsBeginning old text new
   pub counted : taken ≡ byte_count part.beginning

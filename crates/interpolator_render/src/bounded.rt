@@ -1,4 +1,4 @@
-//! A writer over a `String` that takes at most so many bytes.
+//! A writer over a `String` with a limit on its bytes.
 ghost use Rattle.std.specs.Prelude.{◌≡◌, ℕ, ◌+◌, ◌<◌, ◌≤◌, ◌++◌, ◌∷◌, [], ◌⊎◌, true, false};
 ghost use Rattle.std.specs.Prelude.{length, min, take, string_bytes, string_capacity};
 ghost use Rattle.std.specs.Prelude.{MatchResult, OnErr, OnOk, Some};
@@ -12,14 +12,14 @@ use crate::text_write::{Refusal, TextWrite};
 use std::alloc::Global;
 use std::marker::Model;
 
-/// A writer over a `String` that takes at most so many bytes in all. Its text never has more.
+/// A writer over a `String` with a limit on its bytes, which its text never exceeds.
 ///
-/// Of a text that goes over its bound it takes the longest beginning of whole characters that still
+/// Of a text that would exceed the limit it takes the longest prefix of whole characters that still
 /// fits, and refuses the rest. A text for which there is no memory it refuses whole. After a
-/// refusal it takes the empty text alone, and refuses also a text that would fit.
+/// refusal it takes only the empty text, and refuses even a text that would fit.
 ///
-/// Its `reserve` takes memory for the bytes asked, or for those that are left if these are
-/// fewer, and refuses only if there is none for that. Its `room` is what is left.
+/// Its `reserve` takes memory for the bytes named or for those that are left, whichever are fewer,
+/// and refuses only if there is no memory for these. Its `room` is what is left.
 ///
 /// ```text
 /// let mut out = Bounded::new(rt.alloc(), 3);

@@ -53,7 +53,7 @@ fn run_len(run: Run<'_>, count: usize) -> usize
     count.saturating_mul(run.unit)
 }
 
-/// The refusal of what follows `count` copies.
+/// The refusal of a text that comes after `count` copies.
 fn refused_after(run: Run<'_>, count: usize, refusal: Refusal) -> Refusal
     requires { IsRun run }
     ensures { result.taken ≡ min (min (byte_count (replicate count run.entry.c)) (2 ^ 64 - 1)
@@ -167,8 +167,8 @@ fn put_amid_copies<W: TextWrite, const N: usize>(
     put_amid(out, text, run, before, after)
 }
 
-/// Writes a text between copies of any character. The compiler knows how many bytes that has in each
-/// call.
+/// Writes a text between copies of any character. In each of its calls the compiler knows how many
+/// bytes the character has.
 #[inline(always)]
 pub(crate) fn put_between<W: TextWrite>(
     out: &mut W,

@@ -11,7 +11,7 @@ use crate::digit_tables::{digit_in_base, pair_digits};
 const MOST_DIGITS: usize = 128;
 
 /// Writes digits of a number from the last one on, ending at the place `end`, until what is left of
-/// the number fits 64 bits. Returns if the digits begin, and what is left.
+/// the number fits 64 bits. Returns where the digits begin, and what is left.
 ///
 /// The rest is then divided as a `u64`, which costs a fraction of a division of a `u128`.
 #[tactic(auto, using(crate::proofs::DigitLemmas::digit_count_step))]
@@ -79,7 +79,7 @@ fn write_last_four(n: u64, base: u64, upper: bool, at: usize, out: &mut [u8; 128
 }
 
 /// Writes digits of a number from the last one on, ending at the place `end` and four at a time,
-/// until one to four are left. Returns if the digits begin, and what is left of the number.
+/// until one to four are left. Returns where the digits begin, and what is left of the number.
 #[tactic(auto, using(crate::proofs::DigitLemmas::four_count))]
 #[inline(always)]
 fn write_fours(n: u64, base: u64, upper: bool, end: usize, out: &mut [u8; 128]) -> (usize, u64)

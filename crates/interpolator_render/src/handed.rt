@@ -1,12 +1,12 @@
-//! The text that a writer has handed on, for proofs alone.
+//! The text that a writer has passed on, which only proofs read.
 ghost use Rattle.std.specs.Prelude.{◌≡◌, ℕ, List, [], ◌++◌, string_bytes};
 ghost use Rattle.std.specs.Borrow.{ftrue};
 ghost use Rattle.std.specs.Str.{chars};
 
 use std::marker::{Model, PhantomData};
 
-/// The text that a writer has handed on. Only proofs read it: it takes no memory, and its methods do
-/// nothing when they run.
+/// The text that a writer has passed on. Only proofs read it: it takes no memory, and its methods do
+/// nothing at run time.
 #[derive(Drop)]
 pub(crate) struct Handed {
     of: PhantomData<()>,
@@ -25,7 +25,7 @@ impl Handed {
         Handed { of: PhantomData }
     }
 
-    /// This text, and another after it.
+    /// This text, with another after it.
     pub(crate) fn and(&self, more: &String) -> Handed
         ensures { result.text ≡ self.now.text ++ chars (string_bytes more.now) }
     {

@@ -32,7 +32,7 @@ fn plus_count(sign: Sign) -> usize
     }
 }
 
-/// The prefix, if `#` asks for it.
+/// The prefix, if `#` is set.
 fn prefix_count(radix: Radix, alternate: bool) -> usize
     ensures { result ≡ length (if alternate then prefix_of radix else []) }
 {
@@ -64,7 +64,7 @@ fn most_body(form: NumberForm, precision: Option<usize>) -> usize
     }
 }
 
-/// A number in the form that a trait asks, if it asks one.
+/// A number in the form that a trait writes, if it writes numbers.
 fn most_number(form: Option<NumberForm>, spec: &Spec) -> usize
     ensures { result ≡ usize_count (most_number form spec.now) }
 {
@@ -74,7 +74,7 @@ fn most_number(form: Option<NumberForm>, spec: &Spec) -> usize
     }
 }
 
-/// A text of at most so many characters.
+/// A text of at most this many characters.
 fn most_text(t: Trait, most: usize) -> usize
     ensures { result ≡ usize_count (most_text t most) }
 {

@@ -4,9 +4,9 @@
 //! [`Trait`] says in which way (display, debug, a base, an exponent form), and a [`Spec`] with which
 //! flags, to which width and at which precision, as the text after the colon of a format string
 //! does in Rust. [`render`] appends the text of a view to a writer, and [`pad`] a text as display
-//! shows it. A writer is any type with [`TextWrite`]; [`TextBuffer`] is one over a `String`, and
-//! [`Bounded`] one that takes at most so many bytes. A type of one's own becomes writable by
-//! [`Value`], which says what it shows.
+//! shows it. A writer is any type with [`TextWrite`]: [`TextBuffer`] writes to a `String`,
+//! [`Bounded`] to a `String` with a limit on its bytes, and [`IoWriter`] to any `std::io::Write`. A
+//! type of your own can be written once it implements [`Value`], which says what it shows.
 //!
 //! ```text
 //! let mut out = TextBuffer::new(rt.alloc());
@@ -15,9 +15,9 @@
 //! out.as_str()                                                   // "0x000a"
 //! ```
 //!
-//! The contracts pin the texts. Read on at [`render`], at the laws of [`laws`], and in the
-//! definitions of `specs/`, of which `Texts` is the first. Nothing here takes memory but a
-//! `TextBuffer` and a `Bounded`, each from the allocator that it was made with.
+//! The contracts pin the texts. Read on at [`render`], in the laws of [`laws`], and in the
+//! definitions in `specs/`, starting with `Texts`. Only a `TextBuffer`, a `Bounded` and an `IoWriter`
+//! take memory here, each from the allocator that it was made with.
 #![tactic(auto)]
 
 mod bounded;

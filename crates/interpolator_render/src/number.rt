@@ -134,7 +134,7 @@ fn put_bare_negative<W: TextWrite>(out: &mut W, n: u64) -> Result<(), Refusal>
 }
 
 /// Writes a number with a sign in base ten, and nothing around it. It is one call, so that the code
-/// that writes a number gets no longer than for one without a sign.
+/// that writes a number is no longer than for one without a sign.
 #[inline(never)]
 fn put_bare_signed<W: TextWrite>(out: &mut W, number: i64) -> Result<(), Refusal>
     ensures { Puts (W.written out.old)

@@ -17,7 +17,7 @@ fn number_fill(spec: &Spec) -> char
     if spec.zero { '0' } else { fill_char(spec) }
 }
 
-/// Whether a number's padding has room in a buffer: a short one of bytes.
+/// Whether a number's padding fits in a buffer: it is short, and of an ASCII character.
 #[inline(always)]
 pub(crate) fn fits_buffer(spec: &Spec) -> bool
     ensures narrow { result ≡ true → unwrap_or spec.now.width 0 ≤ 40 }

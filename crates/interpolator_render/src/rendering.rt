@@ -19,14 +19,15 @@ use crate::quoting::put_quoted;
 use crate::text_write::{Refusal, TextWrite};
 use crate::view::{RenderFault, Spec, Trait, View};
 
-/// Writes a text as display does: its first characters, as many as the precision says, and copies
-/// of the fill up to the width, after it unless the alignment says otherwise. Sign, `#` and the
-/// zero flag do nothing. Width and precision count characters. The call takes no memory of its own.
+/// Writes a text as display does: at most as many of its first characters as the precision says, and
+/// copies of the fill up to the width, after the text unless the alignment says otherwise. Sign, `#`
+/// and the zero flag have no effect. Width and precision count characters. The call itself takes no
+/// memory.
 ///
 /// # Errors
 ///
-/// A [`Refusal`] if the writer refused, whose flag is then set. Its `taken` is the bytes that
-/// this whole call appended, or the greatest `usize` if they are more.
+/// A [`Refusal`] if the writer refused; the writer's flag is then set. `taken` is how many bytes this
+/// whole call appended, or the greatest `usize` if they are more.
 ///
 /// # Examples
 ///
@@ -45,7 +46,7 @@ pub fn pad<W: TextWrite>(out: &mut W, text: &str, spec: &Spec) -> Result<(), Ref
     }
 }
 
-/// As [`pad`], under a precision or a width.
+/// As [`pad`], with a precision or a width.
 #[tactic(auto, unfolding(crate::specs::Padding::padded_text))]
 #[inline(never)]
 fn put_cut<W: TextWrite>(out: &mut W, text: &str, spec: &Spec) -> Result<(), Refusal>
@@ -60,7 +61,7 @@ fn put_cut<W: TextWrite>(out: &mut W, text: &str, spec: &Spec) -> Result<(), Ref
     put_between_spaces(out, shown, before, missing - before)
 }
 
-/// As [`pad`], filled with a character.
+/// As [`pad`], with a given fill.
 #[tactic(auto, unfolding(crate::specs::Padding::padded_text))]
 #[inline(never)]
 fn put_filled<W: TextWrite>(out: &mut W, text: &str, spec: &Spec, fill: char) -> Result<(), Refusal>
@@ -141,16 +142,16 @@ fn render_truth<W: TextWrite>(
 
 /// Writes the text of a view under a trait and a spec.
 ///
-/// `Ok` says that exactly this text was appended. A signed number has to lie in the range of its
-/// width. The call takes no memory of its own.
+/// After `Ok`, exactly this text was appended. A signed number has to lie in the range of its width.
+/// The call itself takes no memory.
 ///
 /// # Errors
 ///
-/// - [`RenderFault::NotImplemented`] if the view has no text under this trait, as a text under
-///   `Trait::Octal`. Nothing was written.
+/// - [`RenderFault::NotImplemented`] if the view has no text under this trait, such as a text
+///   under `Trait::Octal`. Nothing was written.
 /// - [`RenderFault::Failed`] if the view is `View::Failed`. Nothing was written.
-/// - [`RenderFault::Refused`] if the writer refused. A proper beginning of the text was
-///   appended, none of it if the writer's flag was set before, and the flag is set.
+/// - [`RenderFault::Refused`] if the writer refused. A proper prefix of the text was appended, or
+///   nothing if the writer's flag was set before, and the flag is set.
 ///
 /// # Examples
 ///
@@ -184,7 +185,7 @@ pub fn render<W: TextWrite>(
     render_any(out, view, t, spec)
 }
 
-/// As [`render`], for every view and trait: [`render`] has tried the most likely ones first.
+/// As [`render`], for every view and trait; [`render`] tries the most likely ones first.
 #[tactic(auto, unfolding(crate::specs::Texts::view_text))]
 #[inline(never)]
 fn render_any<W: TextWrite>(

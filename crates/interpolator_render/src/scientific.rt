@@ -96,7 +96,7 @@ fn exponent_of(n: u128) -> usize
     exponent
 }
 
-/// The number nearest to `n / unit`: of two, the even one.
+/// The whole number nearest to `n / unit`, the even one on a tie.
 fn nearest(n: u128, unit: u128) -> u128
     requires { 2 ≤ unit }
     ensures { result ≡ nearest n unit }

@@ -13,8 +13,9 @@ use std::marker::Model;
 /// A writer over a `String`.
 ///
 /// It refuses a text for which there is no memory, whole, and from then on every text but the
-/// empty one, until [`TextBuffer::forget_refusal`]. A text that its `String` has room for is never
-/// refused otherwise. After a `reserve` that answers `Ok`, that is so for as many bytes as it asked.
+/// empty one, until [`TextBuffer::clear`] or [`TextBuffer::forget_refusal`]. Otherwise it never
+/// refuses a text that its `String` has room for. After a `reserve` that returns `Ok`, it has room
+/// for the bytes reserved.
 ///
 /// ```text
 /// let mut out = TextBuffer::new(rt.alloc());
@@ -80,8 +81,8 @@ impl TextBuffer {
         text
     }
 
-    /// Empties the buffer, and clears the flag that a refusal has set. Its room stays: a loop over
-    /// records makes each text in one buffer, and takes memory for the longest alone.
+    /// Empties the buffer, and clears the flag that a refusal has set. Its capacity stays, so that a
+    /// loop over records can make each text in the same buffer, and takes memory only for the longest.
     ///
     /// ```text
     /// for record in records {
@@ -153,7 +154,7 @@ pub(crate) fn append_char(held: &mut String, refused: &mut bool, c: char) -> Res
     }
 }
 
-/// Makes room in a buffer for so many bytes more, or sets the flag and changes nothing else.
+/// Makes room in a buffer for this many more bytes, or sets the flag and changes nothing else.
 pub(crate) fn make_room(held: &mut String, refused: &mut bool, bytes: usize) -> Result<(), Refusal>
     ensures same { string_bytes held.new ≡ string_bytes held.old }
     ensures ok { OnOk result ((refused.new ≡ refused.old)

@@ -13,9 +13,9 @@ pub struct Refusal {
 
 /// Where text goes, from front to back.
 ///
-/// A call that answers `Ok` has taken its whole text. One that answers `Err` has taken the first
+/// A call that returns `Ok` has taken its whole text. One that returns `Err` has taken the first
 /// `taken` bytes of it and has set the writer's flag, `refused`. While the flag is set, the writer
-/// takes the empty text alone, and no write clears it. An empty text is never refused.
+/// takes only the empty text, and no write clears the flag. An empty text is never refused.
 ///
 /// ```text
 /// let mut out = TextBuffer::new(alloc);
@@ -52,11 +52,13 @@ pub trait TextWrite {
     fn refused(&self) -> bool
         ensures { result ≡ (written self.now).refused };
 
-    /// Makes room in memory for so many bytes of a text that comes next, or refuses that text whole.
-    /// A writer that cannot do so answers `Ok`, and refuses the text itself if it has to.
+    /// Makes room in memory for this many bytes of the text that comes next, or refuses that text
+    /// whole. A writer that cannot reserve memory returns `Ok`, and refuses the text itself if it has
+    /// to.
     ///
-    /// It is asked for the bytes of each run of more than 64 copies of a character, such as a wide
-    /// padding. So a run for which there is no memory is refused before any of it is written.
+    /// It is called before each run of more than 64 copies of a character, such as a wide padding,
+    /// with the bytes of the run. So a run for which there is no memory is refused before any of it is
+    /// written.
     fn reserve(&mut self, _bytes: usize) -> Result<(), Refusal>
         ensures { MatchResult result
             (λ _. StaysWithin (limit self.old) (limit self.new) (written self.old)
@@ -66,10 +68,11 @@ pub trait TextWrite {
         Ok(())
     }
 
-    /// How many bytes the writer could still take at most, if it knows. It has to keep to what it
-    /// tells: of a text of more bytes it refuses the end, or all.
+    /// The greatest number of bytes that the writer could still take, if it has a limit that it knows.
+    /// It has to keep to the limit that it returns: of a longer text it refuses the end, or all.
     ///
-    /// A list under a width is made in a buffer of so many bytes before it is written.
+    /// A list with a width is first made in a buffer that takes at most this many bytes, and then
+    /// written.
     fn room(&self) -> Option<usize>
         ensures { MatchOption result (Unit {0}) (λ most. limit self.now ≡ Some most) }
     {

@@ -19,11 +19,11 @@ pub enum Trait {
     UpperExp,
     /// Whole numbers in base sixteen, with `A` to `F`.
     UpperHex,
-    /// Item by item. No view but a plain or a failed one is written so.
+    /// Item by item. Of all views only a plain one has a text under this trait.
     Iter,
 }
 
-/// If a text is placed between the copies of the fill that bring it to its width.
+/// Where a text stands among the copies of the fill that bring it to its width.
 #[derive(Clone, Copy, Debug, Default, PartialEq, Eq)]
 pub enum Alignment {
     /// Numbers on the right, all else on the left.
@@ -92,19 +92,19 @@ pub struct Spec {
     /// render(&mut out, View::Unsigned(12), Trait::Display, &spec)     // appends "éé12"
     /// ```
     pub fill: Option<char>,
-    /// If the text is placed between the copies of its fill.
+    /// Where the text stands among the copies of its fill.
     pub alignment: Alignment,
     /// `+` or `-`.
     pub sign: Sign,
     /// `#`: a prefix before numbers in base two, eight and sixteen.
     pub alternate: bool,
-    /// `0`: numbers are padded with zeros after their sign and prefix, whatever fill and alignment
-    /// are.
+    /// `0`: numbers are padded with zeros after their sign and prefix, whatever the fill and the
+    /// alignment.
     pub zero: bool,
     /// The least number of characters.
     pub width: Option<usize>,
-    /// Of a text the greatest number of characters that are shown, before padding; of an exponent
-    /// form the number of digits after the point.
+    /// For a text, the greatest number of its characters that are shown, before padding; for an
+    /// exponent form, the number of digits after the point.
     pub precision: Option<usize>,
     /// How `Trait::Debug` writes whole numbers.
     pub hex_debug: HexDebug,
@@ -114,7 +114,7 @@ pub struct Spec {
 /// when their variants and fields are.
 #[derive(Clone, Copy, Debug, PartialEq)]
 pub enum View<'a> {
-    /// A number of a signed type of this width, in whose range it lies.
+    /// A number of a signed type of this width. It lies in the range of that type.
     Signed(i128, Bits),
     /// A number of an unsigned type.
     Unsigned(u128),
@@ -139,6 +139,6 @@ pub enum RenderFault {
     NotImplemented,
     /// The value failed. Nothing was written.
     Failed,
-    /// The writer refused. A beginning of the text was written, perhaps none of it.
+    /// The writer refused. A prefix of the text was written, perhaps none of it.
     Refused,
 }

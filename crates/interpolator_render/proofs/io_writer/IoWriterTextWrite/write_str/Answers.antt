@@ -1,6 +1,8 @@
-use Rattle.std.proofs.Common.{refl, rules, string_bytes}
+use Rattle.std.proofs.Common.{ap, refl, rules, string_bytes}
 use Rattle.std.proofs.lemmas.Str.{IsUtf8-string_bytes}
-use Rattle.interpolator_render.proofs.IoWriterLemmas.{hands_more, refuses_whole, writes_on}
+use Rattle.interpolator_render.specs.Written.{Written}
+use Rattle.interpolator_render.proofs.IoWriterLemmas.{hands_more, prefix_after, prefix_refused}
+use Rattle.interpolator_render.proofs.IoWriterLemmas.{refuses_whole, writes_on}
 use Rattle.interpolator_render.proofs.WrittenLemmas.{appends_nothing, buffer_writes, chars_nonempty}
 use Rattle.interpolator_render.proofs.io_writer.IoWriterTextWrite.write_str.Goals as goal
 
@@ -26,3 +28,16 @@ pub returns-in-Err-clause-written : goal.returns-in-Err-clause-written
 returns-in-Err-clause-written g c =
     refuses_whole _ _ _ _ (chars_nonempty c.args.text.now c.utf8.text (search rules))
     c.in-Err.ensures.err.0
+
+pub returns-in-Ok-clause-history : goal.returns-in-Ok-clause-history
+returns-in-Ok-clause-history g c =
+    let way = c.in-Ok.ensures in
+    prefix_after g.W.Write.contents c.args.self.now c.make_way.new.self _ c.args.text.now c.append.result
+    c.utf8.text way.open way.ok.0 way.ok.1 refl refl c.append.ensures.ok
+    c.append.ensures.err
+
+pub returns-in-Err-clause-history : goal.returns-in-Err-clause-history
+returns-in-Err-clause-history g c =
+    let kept = c.in-Err.ensures in
+    prefix_refused g.W.Write.contents c.args.self.now c.make_way.new.self c.args.self.now.refused refl
+    kept.quiet (ap (λ (w : Written). w.text) kept.err.0.1) kept.err.1
