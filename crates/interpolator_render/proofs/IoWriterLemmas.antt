@@ -1,5 +1,5 @@
 -- What a writer over a writer of bytes takes and hands on.
-use Rattle.std.proofs.Common.{◌≡◌, ℕ, ◌+◌, ◌-◌, ◌<◌, ◌≤◌, List, [], ◌++◌, Option, None, Some, length}
+use Rattle.std.proofs.Common.{◌≡◌, ℕ, ◌<◌, List, [], ◌++◌, Option, None, Some, length}
 use Rattle.std.proofs.Common.{take, drop, refl, sym, ◌∙◌, ap, subst, append_assoc, append-nil}
 use Rattle.std.proofs.Common.{Bool, true, false, Result, Ok, Err, OnOk, OnErr, MatchResult}
 use Rattle.std.proofs.Common.{string_bytes, encode_utf8_all, chars, IsUtf8}

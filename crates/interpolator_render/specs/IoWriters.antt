@@ -1,5 +1,5 @@
 -- What a writer over a writer of bytes has taken, what it has passed on to that one, and why it refuses.
-use Rattle.std.specs.Prelude.{◌≡◌, ◌⊎◌, ℕ, ◌+◌, ◌<◌, false, true, List, [], ◌++◌, length, take}
+use Rattle.std.specs.Prelude.{◌≡◌, ◌⊎◌, ℕ, ◌+◌, ◌<◌, false, true, List, ◌++◌, length, take}
 use Rattle.std.specs.Prelude.{string_bytes, string_capacity, encode_utf8_all, Option}
 use Rattle.std.specs.Io.KnownBytes.{Appends}
 use Rattle.std.specs.Str.{chars}

@@ -30,7 +30,8 @@ pub record Appends (old : Written) (text : List ℕ) (new : Written) : Type 0 wh
   pub same_flag : new.refused ≡ old.refused
   pub only_empty : old.refused ≡ true → text ≡ []
 
--- a limit of bytes, and the one after `count` more: these and what is then left are within the first
+-- a limit of bytes, and the one after `count` more: these and what is then left are within the
+-- first
 abbrev pub KeepsTo : Option ℕ → ℕ → Option ℕ → Type 0
 KeepsTo None count after = Unit {0}
 KeepsTo (Some most) count None = ⊥

@@ -63,15 +63,21 @@ fn refused_after(run: Run<'_>, count: usize, refusal: Refusal) -> Refusal
     Refusal { taken }
 }
 
-/// Writes `count` copies, run after run. The writer may make room for all of them first.
+/// Writes `count` copies, run after run. First the writer may make room for these, and for `later`
+/// more that come after them.
 #[cold]
 #[inline(never)]
-fn put_runs<W: TextWrite>(out: &mut W, run: Run<'_>, count: usize) -> Result<(), Refusal>
+fn put_runs<W: TextWrite>(
+    out: &mut W,
+    run: Run<'_>,
+    count: usize,
+    later: usize,
+) -> Result<(), Refusal>
     requires run { IsRun run }
     requires some { 0 < count }
     ensures { Puts (W.written out.old) (replicate count run.entry.c) result (W.written out.new) }
 {
-    out.reserve(run_len(run, count))?;
+    out.reserve(run_len(run, count.saturating_add(later)))?;
     let mut left = count;
     while left > RUN {
         if let Err(refusal) = put_few(out, run, RUN) {
@@ -85,8 +91,14 @@ fn put_runs<W: TextWrite>(out: &mut W, run: Run<'_>, count: usize) -> Result<(),
     Ok(())
 }
 
-/// Writes `count` copies by slices of a run, and makes no call if there are none.
-fn put_sliced<W: TextWrite>(out: &mut W, run: Run<'_>, count: usize) -> Result<(), Refusal>
+/// Writes `count` copies by slices of a run, and makes no call if there are none. If they are many,
+/// the writer may first make room also for `later` more.
+fn put_sliced<W: TextWrite>(
+    out: &mut W,
+    run: Run<'_>,
+    count: usize,
+    later: usize,
+) -> Result<(), Refusal>
     requires { IsRun run }
     ensures { Puts (W.written out.old) (replicate count run.entry.c) result (W.written out.new) }
 {
@@ -96,7 +108,7 @@ fn put_sliced<W: TextWrite>(out: &mut W, run: Run<'_>, count: usize) -> Result<(
     if count <= RUN {
         return put_few(out, run, count);
     }
-    put_runs(out, run, count)
+    put_runs(out, run, count, later)
 }
 
 /// Writes a text and `after` copies after it.
@@ -114,7 +126,7 @@ fn put_before<W: TextWrite>(
     if let Err(refusal) = put_text(out, text) {
         return Err(refusal);
     }
-    if let Err(refusal) = put_sliced(out, run, after) {
+    if let Err(refusal) = put_sliced(out, run, after, 0) {
         let taken = byte_len(text).saturating_add(refusal.taken);
         return Err(Refusal { taken });
     }
@@ -134,7 +146,7 @@ fn put_amid<W: TextWrite>(
     ensures { Puts (W.written out.old) (between_fill run.entry.c before after (chars text.now))
         result (W.written out.new) }
 {
-    if let Err(refusal) = put_sliced(out, run, before) {
+    if let Err(refusal) = put_sliced(out, run, before, after) {
         return Err(refusal);
     }
     if let Err(refusal) = put_before(out, text, run, after) {
@@ -241,8 +253,8 @@ pub(crate) fn put_copies<W: TextWrite>(out: &mut W, c: char, count: usize) -> Re
     ensures { Puts (W.written out.old) (replicate count c) result (W.written out.new) }
 {
     match c {
-        ' ' => put_sliced(out, spaces(), count),
-        '0' => put_sliced(out, zeros(), count),
+        ' ' => put_sliced(out, spaces(), count, 0),
+        '0' => put_sliced(out, zeros(), count, 0),
         _ => put_other_copies(out, c, count),
     }
 }

@@ -5,8 +5,8 @@ ghost use Rattle.std.specs.Str.{chars};
 
 use std::marker::{Model, PhantomData};
 
-/// The text that a writer has passed on. Only proofs read it: it takes no memory, and its methods do
-/// nothing at run time.
+/// The text that a writer has passed on. Only proofs read it: it takes no memory, and its methods
+/// do nothing at run time.
 #[derive(Drop)]
 pub(crate) struct Handed {
     of: PhantomData<()>,

@@ -16,8 +16,8 @@
 //! ```
 //!
 //! The contracts pin the texts. Read on at [`render`], in the laws of [`laws`], and in the
-//! definitions in `specs/`, starting with `Texts`. Only a `TextBuffer`, a `Bounded` and an `IoWriter`
-//! take memory here, each from the allocator that it was made with.
+//! definitions in `specs/`, starting with `Texts`. Only a `TextBuffer`, a `Bounded` and an
+//! `IoWriter` take memory here, each from the allocator that it was made with.
 #![tactic(auto)]
 
 mod bounded;

@@ -19,15 +19,15 @@ use crate::quoting::put_quoted;
 use crate::text_write::{Refusal, TextWrite};
 use crate::view::{RenderFault, Spec, Trait, View};
 
-/// Writes a text as display does: at most as many of its first characters as the precision says, and
-/// copies of the fill up to the width, after the text unless the alignment says otherwise. Sign, `#`
-/// and the zero flag have no effect. Width and precision count characters. The call itself takes no
-/// memory.
+/// Writes a text as display does: at most as many of its first characters as the precision says,
+/// and copies of the fill up to the width, after the text unless the alignment says otherwise.
+/// Sign, `#` and the zero flag have no effect. Width and precision count characters. The call
+/// itself takes no memory.
 ///
 /// # Errors
 ///
-/// A [`Refusal`] if the writer refused; the writer's flag is then set. `taken` is how many bytes this
-/// whole call appended, or the greatest `usize` if they are more.
+/// A [`Refusal`] if the writer refused; the writer's flag is then set. `taken` is how many bytes
+/// this whole call appended, or the greatest `usize` if they are more.
 ///
 /// # Examples
 ///
@@ -142,8 +142,8 @@ fn render_truth<W: TextWrite>(
 
 /// Writes the text of a view under a trait and a spec.
 ///
-/// After `Ok`, exactly this text was appended. A signed number has to lie in the range of its width.
-/// The call itself takes no memory.
+/// After `Ok`, exactly this text was appended. A signed number has to lie in the range of its
+/// width. The call itself takes no memory.
 ///
 /// # Errors
 ///

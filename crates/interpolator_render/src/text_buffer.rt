@@ -81,8 +81,8 @@ impl TextBuffer {
         text
     }
 
-    /// Empties the buffer, and clears the flag that a refusal has set. Its capacity stays, so that a
-    /// loop over records can make each text in the same buffer, and takes memory only for the longest.
+    /// Empties the buffer, and clears the flag that a refusal has set. Its capacity stays: a
+    /// loop over records that makes each text in one buffer takes memory for the longest alone.
     ///
     /// ```text
     /// for record in records {

@@ -52,13 +52,13 @@ pub trait TextWrite {
     fn refused(&self) -> bool
         ensures { result ≡ (written self.now).refused };
 
-    /// Makes room in memory for this many bytes of the text that comes next, or refuses that text
-    /// whole. A writer that cannot reserve memory returns `Ok`, and refuses the text itself if it has
-    /// to.
+    /// Makes room in memory for this many bytes of the text that comes next, or refuses that
+    /// text whole. A writer that cannot reserve memory returns `Ok`, and refuses the text itself
+    /// if it has to.
     ///
-    /// It is called before each run of more than 64 copies of a character, such as a wide padding,
-    /// with the bytes of the run. So a run for which there is no memory is refused before any of it is
-    /// written.
+    /// It is called before each run of more than 64 copies of a character, such as a wide
+    /// padding, with the bytes of the run. So a run for which there is no memory is refused
+    /// before any of it is written.
     fn reserve(&mut self, _bytes: usize) -> Result<(), Refusal>
         ensures { MatchResult result
             (λ _. StaysWithin (limit self.old) (limit self.new) (written self.old)
@@ -68,8 +68,8 @@ pub trait TextWrite {
         Ok(())
     }
 
-    /// The greatest number of bytes that the writer could still take, if it has a limit that it knows.
-    /// It has to keep to the limit that it returns: of a longer text it refuses the end, or all.
+    /// The greatest number of bytes that the writer could still take, if it has a limit that it
+    /// knows. It has to keep to the limit: of a longer text it refuses the end, or all.
     ///
     /// A list with a width is first made in a buffer that takes at most this many bytes, and then
     /// written.
