@@ -1,7 +1,6 @@
 -- A fault as a compiler shows it: where it is, what it is, and the line with its argument marked.
 use Rattle.std.specs.Prelude.{ℕ, ◌+◌, ◌-◌, ◌^◌, min, nat_lt, if◌then◌else◌, List, [], ◌++◌, length}
 use Rattle.std.specs.Prelude.{get_or, codes, Option, None, Some, unwrap_or}
-use Rattle.std.specs.Fmt.{decimal}
 use Rattle.std.specs.Str.{chars}
 use Rattle.std.specs.Str.Lines.{lines}
 use Rattle.interpolator_syntax.specs.At.{outermost}
@@ -9,7 +8,7 @@ use Rattle.interpolator_syntax.specs.Faults.{Answer, answer_place}
 use Rattle.interpolator_syntax.specs.FaultTexts.{answer_text}
 use Rattle.interpolator_syntax.specs.Nodes.{as_forest, nodes}
 use Rattle.interpolator.specs.Excerpts.{Excerpt, excerpt_of, picture}
-use Rattle.interpolator.specs.Positions.{line_at, column_at}
+use Rattle.interpolator.specs.Positions.{line_at, column_at, position_text}
 use Rattle.interpolator.specs.Template.NodePlaces.{argument_among}
 use Rattle.interpolator.specs.declared.explaining.Source.{Source}
 
@@ -44,8 +43,8 @@ excerpt_at s at marked =
 
 -- what comes before the line: name, line, column and what it is
 abbrev pub head : List ℕ → (number column : ℕ) → List ℕ → List ℕ
-head name number column what = name ++ (codes ":" ++ (decimal number ++ (codes ":"
-    ++ (decimal column ++ (codes ": " ++ what)))))
+head name number column what =
+    name ++ (codes ":" ++ (position_text number column ++ (codes ": " ++ what)))
 
 -- what is told of something at a byte of the text, which has a number and a column, and its line
 abbrev pub told_at : Source → (at : ℕ) → ℕ × ℕ → List ℕ → List ℕ

@@ -1,7 +1,8 @@
 -- The line and the column of a byte of a text, by the characters that begin before it.
 use Rattle.std.specs.Prelude.{ℕ, not, if◌then◌else◌, ◌+◌, ◌-◌, ◌==◌, List, [], ◌∷◌, length, reverse}
-use Rattle.std.specs.Prelude.{count_by}
+use Rattle.std.specs.Prelude.{◌++◌, codes, count_by}
 use Rattle.std.specs.Char.{len_utf8}
+use Rattle.std.specs.Fmt.{decimal}
 use Rattle.std.specs.List.{take_while}
 use Rattle.std.specs.Str.{chars}
 
@@ -30,3 +31,7 @@ line_at text place = lines_ended (begun_before place (chars text)) + 1
 -- its column, from 1 on: one more than the characters before it in its line
 abbrev pub column_at : List ℕ → ℕ → ℕ
 column_at text place = length (last_line (begun_before place (chars text))) + 1
+
+-- a line and a column in bytes, as `3:17`
+abbrev pub position_text : (line column : ℕ) → List ℕ
+position_text line column = decimal line ++ (codes ":" ++ decimal column)

@@ -152,16 +152,11 @@ fn before_in_line(text: &str, number: usize, count: usize, place: usize) -> usiz
 }
 
 /// What comes before the line that is shown.
-fn head(
-    alloc: Global,
-    name: &str,
-    number: usize,
-    column: usize,
-    what: &str,
-) -> Result<String, AllocError>
-    ensures { IfOk result (λ head. string_bytes head ≡ head_of name.now number column what.now) }
+fn head(alloc: Global, name: &str, position: Position, what: &str) -> Result<String, AllocError>
+    ensures { IfOk result (λ head.
+        string_bytes head ≡ head_of name.now position.line position.column what.now) }
 {
-    let head = format!(in alloc; "{name}:{number}:{column}: {what}")?;
+    let head = format!(in alloc; "{name}:{position}: {what}")?;
     Ok(head)
 }
 
@@ -186,7 +181,11 @@ fn told_at(
     let from = before_in_line(source.text, position.line, count, from);
     let to = before_in_line(source.text, position.line, count, to);
     let number = source.first_line.saturating_add(position.line - 1);
-    let head = head(alloc, source.name, number, position.column, what)?;
+    let shown = Position {
+        line: number,
+        column: position.column,
+    };
+    let head = head(alloc, source.name, shown, what)?;
     let picture = draw(alloc, number, line, position.column - 1, (from, to))?;
     let told = format!(in alloc; "{head}\n{picture}")?;
     Ok(told)

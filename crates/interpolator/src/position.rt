@@ -1,9 +1,14 @@
 //! The line and the column of a byte of a text.
-ghost use Rattle.std.specs.Prelude.{◌≡◌, ◌+◌, length};
+ghost use Rattle.std.specs.Prelude.{◌≡◌, ◌+◌, length, Some};
 ghost use Rattle.std.specs.Str.{chars};
 ghost use Rattle.interpolator.specs.Positions.{begun_before, lines_ended, last_line, line_at, column_at};
+ghost use Rattle.interpolator.specs.Positions.{position_text};
 
-/// A line and a column, each from 1 on. Columns count characters.
+use interpolator_syntax::write_unstyled;
+use std::fmt;
+
+/// A line and a column, each from 1 on. Columns count characters. `{}` writes both, with a colon
+/// between them, whatever the options: `3:17`.
 #[derive(Clone, Copy, Debug, PartialEq, Eq)]
 pub struct Position {
     /// The number of line ends before it, and one.
@@ -28,6 +33,17 @@ impl Position {
             line: line_at_end(before),
             column: column_at_end(before),
         }
+    }
+}
+
+impl fmt::Display for Position {
+    ghost output = { λ position. Some (position_text position.line position.column) };
+
+    ghost styled_output = { λ position _. Some (position_text position.line position.column) };
+
+    fn fmt<W: fmt::Write>(&self, f: &mut fmt::Formatter<W>) -> fmt::Result {
+        let Position { line, column } = *self;
+        write_unstyled(f, format_args!("{line}:{column}"))
     }
 }
 
