@@ -1,4 +1,4 @@
--- How a text ends, and which text may follow it and leave its last piece as it is.
+-- How a text ends, and which text may follow it: none that would double a lone brace at its end.
 use Rattle.std.specs.Prelude.{ℕ, Bool, true, false, not, ◌==◌, List, [], ◌∷◌}
 use Rattle.interpolator_syntax.specs.At.{At, outermost}
 use Rattle.interpolator_syntax.specs.Classes.{close_brace}
@@ -36,13 +36,14 @@ abbrev pub begins_close : List ℕ → Bool
 begins_close [] = false
 begins_close (c ∷ cs) = c == close_brace
 
--- whether a text that follows one that ends so leaves its last piece as it is
+-- whether a text may follow one that ends so: it may not double a lone brace, but it may go on with
+-- an argument that is open
 abbrev pub may_follow : Ending → List ℕ → Bool
 may_follow Settled more = true
 may_follow LoneClose more = not (begins_close more)
 may_follow Open more = true
 
--- whether the text b may follow the text a: not if a ends in a lone `}` and b begins with one
+-- whether the text b may follow the text a: not if a ends in a lone `}` and b begins with `}`
 abbrev pub seam_of : (a b : List ℕ) → Bool
 seam_of a b = may_follow (ending (outermost a)) b
 

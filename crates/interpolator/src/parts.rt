@@ -20,14 +20,14 @@ use interpolator_render::TextWrite;
 use interpolator_syntax::{Cursor, Error, Token, next_token, take_argument};
 use std::alloc::Global;
 
-/// How a text ends, as far as the text after it can change its last piece.
+/// How a text ends, as far as a text that follows it can change its last piece.
 #[derive(Clone, Copy)]
 pub(crate) enum Ending {
-    /// Whatever follows it, the last piece stays, or there is none.
+    /// Nothing that follows can change the last piece, or there is none.
     Settled,
     /// In a lone `}`, which a second one would double.
     LoneClose,
-    /// In an argument that is unclosed or broken, which takes all that is after it.
+    /// In an argument that is unclosed or broken, which takes in what follows it.
     Open,
 }
 
@@ -77,11 +77,13 @@ fn ending_of(text: Cursor<'_>) -> Ending
     ending
 }
 
-/// Tests whether one format may follow another, so that the pieces of `a` stay what they are by
-/// themselves.
+/// Tests whether no brace at the end of one format is doubled by a brace at the beginning of the
+/// next.
 ///
-/// It is false in one case: `a` ends in a lone `}` and `b` begins with one, so that the two would be
-/// read as a doubled brace. No memory is taken.
+/// It is false in one case: `a` ends in a lone `}` and `b` begins with `}`, so that the two would be
+/// read as a doubled brace. If it is true, the last piece of `a` stays what it is by itself, unless
+/// it is an argument that is unclosed or broken: such an argument takes in what follows it, as `{x`
+/// is closed by `}`. No memory is taken.
 ///
 /// # Example
 ///
@@ -89,6 +91,7 @@ fn ending_of(text: Cursor<'_>) -> Ending
 /// seam("{x}", "}")  // true
 /// seam("}", "}")    // false: `}}` is one brace
 /// seam("{x:}", "<") // true
+/// seam("{x", "}")   // true, but `{x}` is a closed argument
 /// ```
 pub fn seam(a: &str, b: &str) -> bool
     ensures { result ≡ seam_of (chars a.now) (chars b.now) }
