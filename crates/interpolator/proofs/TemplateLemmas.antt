@@ -10,6 +10,7 @@ pub mod DeepLemmas
 pub mod DepthLemmas
 pub mod ExtentLemmas
 pub mod FaultLemmas
+pub mod InnermostLemmas
 pub mod ItselfLemmas
 pub mod MissedLemmas
 pub mod ParseLemmas

@@ -1,11 +1,11 @@
 -- A line of a text, shown with marks under some of its characters.
-use Rattle.std.specs.Prelude.{ℕ, Bool, ◌-◌, ◌==◌, nat_lt, nat_le, max, if◌then◌else◌}
-use Rattle.std.specs.Prelude.{List, [], ◌++◌, length, take, drop, map, replicate, codes}
+use Rattle.std.specs.Prelude.{ℕ, suc, Bool, ◌-◌, ◌==◌, nat_lt, nat_le, max, if◌then◌else◌}
+use Rattle.std.specs.Prelude.{List, [], ◌∷◌, ◌++◌, length, take, drop, map, replicate, codes}
 use Rattle.std.specs.Prelude.{encode_utf8_all}
 use Rattle.std.specs.Fmt.{decimal}
 
--- a line, cut around a place if it is long: the characters before the marked ones, those that are
--- marked, and those after them; and whether more comes before these and after them
+-- a line, cut around a place if it is long: the characters before the marked ones, the marked ones,
+-- and those after them; and whether the line is cut before these and after them
 pub record Excerpt : Type 0 where
   pub cut_before : Bool
   pub before : List ℕ
@@ -13,15 +13,15 @@ pub record Excerpt : Type 0 where
   pub after : List ℕ
   pub cut_after : Bool
 
--- how many characters of a line are shown
+-- the most characters of a line that are shown
 abbrev pub most_shown : ℕ
 most_shown = 120
 
--- the first character that is shown of a line of so many, around one of them
+-- the index of the first character shown, of a line of `count` characters that is cut around one
 abbrev pub first_shown : ℕ → ℕ → ℕ
 first_shown count around = if nat_le count most_shown then 0 else around - 60
 
--- the excerpt of a line around one of its characters, of which those from `from` up to `to` are marked
+-- the excerpt of a line around one of its characters, with those from `from` up to `to` marked
 abbrev pub excerpt_of : List ℕ → (around from to : ℕ) → Excerpt
 excerpt_of line around from to =
     let left = first_shown (length line) around in
@@ -39,7 +39,12 @@ excerpt_of line around from to =
 abbrev pub dots : Bool → List ℕ
 dots cut = if cut then codes ".." else []
 
--- the line as it is shown
+-- the characters of the line as it is shown
+abbrev pub shown_characters : Excerpt → List ℕ
+shown_characters e =
+    dots e.cut_before ++ (e.before ++ (e.marked ++ (e.after ++ dots e.cut_after)))
+
+-- the line as it is shown, in bytes
 abbrev pub shown_line : Excerpt → List ℕ
 shown_line e = dots e.cut_before ++ (encode_utf8_all e.before ++ (encode_utf8_all e.marked
     ++ (encode_utf8_all e.after ++ dots e.cut_after)))
@@ -48,11 +53,24 @@ shown_line e = dots e.cut_before ++ (encode_utf8_all e.before ++ (encode_utf8_al
 abbrev pub blank : ℕ → ℕ
 blank c = if c == 9 then 9 else 32
 
+-- the mark `^`
+abbrev pub mark : ℕ
+mark = 94
+
 -- the marks: blanks under all that is before the marked characters, and a mark under each of these;
 -- one mark if none is marked
 abbrev pub marks_under : Excerpt → List ℕ
 marks_under e = map blank (dots e.cut_before) ++ (map blank e.before
-    ++ replicate (max 1 (length e.marked)) 94)
+    ++ replicate (max 1 (length e.marked)) mark)
+
+-- how many characters are before the first mark
+abbrev pub before_mark : List ℕ → ℕ
+before_mark [] = 0
+before_mark (c ∷ cs) = if c == mark then 0 else suc (before_mark cs)
+
+-- how many characters are before the first mark under an excerpt
+abbrev pub before_marks : Excerpt → ℕ
+before_marks e = before_mark (marks_under e)
 
 -- spaces as wide as a number
 abbrev pub gap : ℕ → List ℕ

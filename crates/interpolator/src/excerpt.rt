@@ -3,11 +3,11 @@ ghost use Rattle.std.specs.Prelude.{◌≡◌, ◌<◌, ◌+◌, ◌-◌, ◌++�
 ghost use Rattle.std.specs.Prelude.{IfOk, encode_utf8_all, string_bytes};
 ghost use Rattle.std.specs.Str.{chars};
 ghost use Rattle.interpolator.specs.Excerpts.{excerpt_of, first_shown, dots, blank};
-ghost use Rattle.interpolator.specs.Excerpts.{gap, picture};
+ghost use Rattle.interpolator.specs.Excerpts.{gap, mark, picture};
 
 use std::alloc::{AllocError, Global};
 
-/// How many characters of a line are shown.
+/// The most characters of a line that are shown.
 const MOST_SHOWN: usize = 120;
 
 /// How many of these come before the place around which a longer line is cut.
@@ -51,7 +51,7 @@ fn blanks(alloc: Global, text: &str) -> Result<String, AllocError>
     Ok(under)
 }
 
-/// So many copies of a character.
+/// A text of `count` copies of a character.
 fn copies(alloc: Global, c: char, count: usize) -> Result<String, AllocError>
     requires { c < 128 }
     ensures { IfOk result (λ text. string_bytes text ≡ replicate count c) }
@@ -63,21 +63,21 @@ fn copies(alloc: Global, c: char, count: usize) -> Result<String, AllocError>
     Ok(text)
 }
 
-/// What is written at a place where a line is cut.
+/// What is shown where a line is cut.
 fn dots(cut: bool) -> &'static str
     ensures { result.now ≡ dots cut }
 {
     if cut { ".." } else { "" }
 }
 
-/// What is written under that.
+/// What is written under it.
 fn dot_blanks(cut: bool) -> &'static str
     ensures { result.now ≡ map blank (dots cut) }
 {
     if cut { "  " } else { "" }
 }
 
-/// The parts of a line as they are shown.
+/// A line as it is shown, of its parts.
 fn shown_line(
     alloc: Global,
     cut: (bool, bool),
@@ -96,7 +96,7 @@ fn shown_line(
 /// The marks under a line that is shown.
 fn marks_under(alloc: Global, cut: bool, before: &str, marked: &str) -> Result<String, AllocError>
     ensures { IfOk result (λ marks. string_bytes marks ≡ map blank (dots cut)
-        ++ (map blank (chars before.now) ++ replicate (max 1 (length (chars marked.now))) 94)) }
+        ++ (map blank (chars before.now) ++ replicate (max 1 (length (chars marked.now))) mark)) }
 {
     let left = dot_blanks(cut);
     let under = blanks(alloc, before)?;
@@ -106,7 +106,7 @@ fn marks_under(alloc: Global, cut: bool, before: &str, marked: &str) -> Result<S
     Ok(marks)
 }
 
-/// The first character that is shown of a line of so many, around one of them.
+/// The index of the first character shown, of a line of `count` characters that is cut around one.
 fn first_shown(count: usize, around: usize) -> usize
     ensures { result ≡ first_shown count around }
 {
@@ -133,8 +133,8 @@ fn gap(alloc: Global, number: usize) -> Result<String, AllocError>
     Ok(gap)
 }
 
-/// The line of this number, cut around one of its characters, with marks under those from `from` up
-/// to `to`, which are counted from 0 on.
+/// The line of this number, cut around one of its characters, with marks under those of the indexes
+/// `marked.0` up to `marked.1`, counted from 0.
 pub(crate) fn draw(
     alloc: Global,
     number: usize,

@@ -1,6 +1,6 @@
 -- The tree of a text beside its pieces: neighbouring literals are one node, and every other piece is
 -- a node of its own.
-use Rattle.std.specs.Prelude.{◌≡◌, ℕ, ◌+◌, ◌<◌, ◌≤◌, Bool, true, false, ◌&&◌, IsFalse, ⊤, List, [], ◌∷◌, ◌++◌}
+use Rattle.std.specs.Prelude.{◌≡◌, ℕ, ◌+◌, ◌<◌, Bool, true, false, ◌&&◌, IsFalse, ⊤, List, [], ◌∷◌, ◌++◌}
 use Rattle.std.specs.Prelude.{map, flat_map, Some}
 use Rattle.std.specs.Char.{len_utf8}
 use Rattle.interpolator_syntax.specs.At.{At, size}
@@ -8,7 +8,9 @@ use Rattle.interpolator_syntax.specs.Pieces.{Piece, pieces}
 use Rattle.interpolator_syntax.specs.Nodes.{Node, node, text_content, text_node, piece_node, nodes}
 use Rattle.interpolator_syntax.specs.Nodes.{Branch, no_branch, branch}
 use Rattle.interpolator_syntax.specs.Nodes.{Forest, no_nodes, nodes_and}
-use Rattle.interpolator_syntax.specs.declared.piece_kind.PieceKind.TheVariants.{Literal}
+use Rattle.interpolator_syntax.specs.declared.piece_kind.PieceKind.{PieceKind}
+use Rattle.interpolator_syntax.specs.declared.piece_kind.PieceKind.TheVariants.{Literal, Closed}
+use Rattle.interpolator_syntax.specs.declared.piece_kind.PieceKind.TheVariants.{Unclosed}
 
 -- a piece as a node: that of an argument has the trees of its groups under it
 abbrev pub node_alone : Piece → Node
@@ -81,21 +83,30 @@ node_place (node p end kind held item join) = p
 abbrev pub node_end : Node → ℕ
 node_end (node p end kind held item join) = end
 
+-- an argument that was read, closed or not: no other node has groups
+abbrev pub HasGroups : PieceKind → Type 0
+HasGroups Closed = ⊤
+HasGroups Unclosed = ⊤
+HasGroups _ = ⊥
+
 abbrev mutual
-  -- nodes in order: the first begins at p, each other where the one before it ends, and the last
-  -- ends at `end`; and the nodes of each group are in order too, in its node
+  -- nodes in order, each of at least one byte: the first begins at p, each other where the one
+  -- before it ends, and the last ends at `end`; and the nodes of each group are in order too, in its
+  -- node
   pub Contiguous : (p : ℕ) → Forest → (end : ℕ) → Type 0
   Contiguous p no_nodes end = p ≡ end
   Contiguous p (nodes_and x xs) end =
-      (node_place x ≡ p) × GroupsInside x × Contiguous (node_end x) xs end
+      (node_place x ≡ p) × (p < node_end x) × GroupsInside x × Contiguous (node_end x) xs end
 
   -- the nodes of each group of a node lie in it
   pub GroupsInside : Node → Type 0
   GroupsInside (node p end kind held item join) =
-      GroupInside p end item × GroupInside p end join
+      GroupInside p end kind item × GroupInside p end kind join
 
-  -- the nodes of one group, if there is one, are in order, after the byte p and up to `end`
-  pub GroupInside : (p end : ℕ) → Branch → Type 0
-  GroupInside p end no_branch = ⊤
-  GroupInside p end (branch xs) =
-      (from : ℕ) × (to : ℕ) × (p < from) × (to ≤ end) × Contiguous from xs to
+  -- the nodes of one group, if there is one, are in order; it is a group of an argument that was
+  -- read, after its first byte and before its last
+  pub GroupInside : (p end : ℕ) → PieceKind → Branch → Type 0
+  GroupInside p end kind no_branch = ⊤
+  GroupInside p end kind (branch xs) =
+      HasGroups kind
+      × (from : ℕ) × (to : ℕ) × (p < from) × (to < end) × Contiguous from xs to

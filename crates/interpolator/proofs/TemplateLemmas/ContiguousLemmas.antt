@@ -1,5 +1,7 @@
 -- The nodes of a text follow one another, and those of a group are in their argument.
-use Rattle.std.proofs.Common.{◌≡◌, ℕ, ◌+◌, ◌<◌, ◌≤◌, length, arith, refl, ap, ◌∙◌, sym}
+use Rattle.std.proofs.Common.{◌≡◌, ℕ, ◌+◌, ◌<◌, ◌≤◌, List, [], ◌∷◌, length, length-append, arith}
+use Rattle.std.proofs.Common.{refl, ap, ◌∙◌, sym}
+use Rattle.std.proofs.lemmas.Str.{len_utf8_bounds}
 use Rattle.std.proofs.Common.{inl, inr, subst, Option, Some, None, Result, Ok, Err}
 use Rattle.std.specs.Prelude.{⊤, flat_map}
 use Rattle.interpolator_render.specs.declared.view.Trait.{Trait}
@@ -22,7 +24,9 @@ use Rattle.interpolator_syntax.specs.Groups.{inside}
 use Rattle.interpolator_syntax.specs.Nodes.{as_forest, group_branch, item_branch, join_branch}
 use Rattle.interpolator_syntax.specs.Nodes.{piece_node, token_node, nodes}
 use Rattle.interpolator_syntax.specs.Splits.{node_place, node_end, Contiguous, GroupsInside}
-use Rattle.interpolator_syntax.specs.Splits.{GroupInside}
+use Rattle.interpolator_syntax.specs.Splits.{GroupInside, HasGroups}
+use Rattle.interpolator_syntax.specs.declared.piece_kind.PieceKind as told
+use Rattle.interpolator_syntax.specs.declared.piece_kind.PieceKind.TheVariants.{Closed, Unclosed}
 use Rattle.interpolator_syntax.proofs.GrammarArgumentLemmas.{argument_is}
 use Rattle.interpolator_syntax.proofs.LocalityLemmas.{takes_reaches, size-append}
 use Rattle.interpolator_syntax.proofs.PieceLemmas.{strip_after}
@@ -37,10 +41,10 @@ use Rattle.interpolator_syntax.proofs.HandedLemmas.{handed_on, scan_taken}
 
 -- ---- groups end in front of what follows their argument
 
--- a group, if there is one, ends at n or in front of it
+-- a group, if there is one, ends in front of n
 abbrev GroupBefore : ℕ → Option Group → Type 0
 GroupBefore n None = ⊤
-GroupBefore n (Some g) = g.place + size g.text ≤ n
+GroupBefore n (Some g) = g.place + size g.text < n
 
 abbrev KindBefore : ℕ → Kind → Type 0
 KindBefore n (of_value t) = ⊤
@@ -51,7 +55,7 @@ group_later None m n h k = tt
 group_later (Some g) m n h k = omega (arith, h, k)
 
 group_ends : (a : At) (g : Group) (q : At) → IsGroup a g q
-    → (a.place ≤ q.place) × (g.place + size g.text ≤ q.place)
+    → (a.place ≤ q.place) × (g.place + size g.text < q.place)
 group_ends a g q h = (omega (arith, h.place, h.end_place), omega (arith, h.end_place, size-append))
 
 group_before : (start : ℕ) (a : At) (o : Option Group) (q : At) → (group_there start).is a o q
@@ -92,7 +96,7 @@ asks_before : (start : ℕ) (a : At) (x : Request) (q : At) → Asks start a x q
 asks_before start a x q (inl h) = rw h.1 tt
 asks_before start a x q (inr h) = spec_before start h.0 x q h.2
 
--- the groups of an argument end where it does, or in front of that
+-- the groups of an argument end in front of the byte after its spec
 argument_before : (a : At) (x : Argument) (q : At) → argument_at a ≡ Ok (x, q)
     → KindBefore q.place x.kind
 argument_before a x q e =
@@ -108,15 +112,17 @@ Reaches a = Contiguous a.place (as_forest (nodes a)) (a.place + size a.text)
 abbrev ShorterReach : At → Type 0
 ShorterReach a = (b : At) → length b.text < length a.text → Reaches b
 
-module _ (p end : ℕ) (b : At) (start : p < b.place) (more : ShorterReach b) where
+module _ (p end : ℕ) (kind : told.PieceKind) (has : HasGroups kind) (b : At) (start : p < b.place)
+    (more : ShorterReach b) where
   one_inside : (o : Option Group) → GroupIfIn o b → GroupBefore end o
-      → GroupInside p end (group_branch nodes o)
+      → GroupInside p end kind (group_branch nodes o)
   one_inside None h k = tt
   one_inside (Some g) h k =
-      (g.place, g.place + size g.text, omega (arith, start, h.place), k, more (inside g) h.shorter)
+      (has, g.place, g.place + size g.text, omega (arith, start, h.place), k, more (inside g) h.shorter)
 
   both_inside : (k : Kind) → KindIn k b → KindBefore end k
-      → GroupInside p end (item_branch nodes k) × GroupInside p end (join_branch nodes k)
+      → GroupInside p end kind (item_branch nodes k)
+      × GroupInside p end kind (join_branch nodes k)
   both_inside (of_value t) h k = (tt, tt)
   both_inside (of_list l) h k = (one_inside l.item h.item k.0, one_inside l.join h.join k.1)
 
@@ -125,10 +131,12 @@ kind_later (of_value t) m n h k = tt
 kind_later (of_list l) m n h k = (group_later l.item m n h k.0, group_later l.join m n h k.1)
 
 module _ (p : ℕ) (b : At) (start : p < b.place) (more : ShorterReach b) where
-  kind_inside : (end : ℕ) (x : Argument) (q : At) → argument_at b ≡ Ok (x, q) → q.place ≤ end
-      → GroupInside p end (item_branch nodes x.kind) × GroupInside p end (join_branch nodes x.kind)
-  kind_inside end x q e l =
-      both_inside p end b start more x.kind (argument_in b x q e)
+  kind_inside : (end : ℕ) (kind : told.PieceKind) → HasGroups kind → (x : Argument) (q : At)
+      → argument_at b ≡ Ok (x, q) → q.place ≤ end
+      → GroupInside p end kind (item_branch nodes x.kind)
+      × GroupInside p end kind (join_branch nodes x.kind)
+  kind_inside end kind has x q e l =
+      both_inside p end kind has b start more x.kind (argument_in b x q e)
       (kind_later x.kind q.place end l (argument_before b x q e))
 
   step_inside : (x : Argument) (q : At) (o : Option At) → argument_at b ≡ Ok (x, q)
@@ -136,10 +144,10 @@ module _ (p : ℕ) (b : At) (start : p < b.place) (more : ShorterReach b) where
       → (let s = argument_step b.place b x q o in
       GroupsInside (piece_node nodes p s.rest.place s.piece.kind))
   step_inside x q None e d =
-      kind_inside (b.place + size b.text) x q e
+      kind_inside (b.place + size b.text) Unclosed tt x q e
       (omega (arith, takes_reaches _ b q (argument_takes b x q e) refl))
   step_inside x q (Some rest) e d =
-      kind_inside rest.place x q e (omega (arith, (strip_after close_brace q.place q.text rest d).1))
+      kind_inside rest.place Closed tt x q e (omega (arith, (strip_after close_brace q.place q.text rest d).1))
 
   answer_inside : (r : Result (Argument × At) Fault) → argument_at b ≡ r
       → (let s = argument_or_broken b.place b r in
@@ -162,7 +170,7 @@ token_inside a t b e more = (tt, tt)
 
 -- ---- one after the other
 
--- the node of an argument, or of a broken one, is where it is said to
+-- the node of an argument, broken or not, has the place and the end that are given
 argument_stands : (p end : ℕ) (b : At)
     → (let x = piece_node nodes p end (argument_from b.place b).piece.kind in
     (node_place x ≡ p) × (node_end x ≡ end))
@@ -177,12 +185,31 @@ token_stands : (p : ℕ) (t : Token) (b : At)
 token_stands p argument b = argument_stands p (argument_from b.place b).rest.place b
 token_stands p t b = (refl, refl)
 
+-- a text has a byte at least for each character
+length_le_size : (cs : List ℕ) → length cs ≤ size cs
+length_le_size [] = omega arith
+length_le_size (c ∷ cs) = omega (arith, len_utf8_bounds c, length_le_size cs)
+
+-- so the first node of a text has one
+goes_on : (a : At) (w : Token × At) → first_token a ≡ Some w
+    → a.place < (past_token w.0 w.1).place
+goes_on a w e =
+    let t = scan_taken a w e in
+    omega (
+      arith,
+      t.place,
+      ap length t.split,
+      length-append t.front (past_token w.0 w.1).text,
+      length_le_size t.front,
+      scan_shorter a _ w e refl,
+    )
+
 nothing_left : (a : At) → first_token a ≡ None → a.place ≡ a.place + size a.text
 nothing_left a e =
     let none = sym (texts a) ∙ ap (flat_map (λ (x : Piece). x.text)) (hands_nothing a e) in
     omega (arith, ap size none)
 
--- the nodes of a text do so, where those of each shorter text do
+-- the nodes of a text do so, if those of each shorter text do
 first_reaches : (a : At) (w : Token × At) → first_token a ≡ Some w → ShorterReach a → Reaches a
 first_reaches a w e more =
     let rest = past_token w.0 w.1 in
@@ -193,6 +220,7 @@ first_reaches a w e more =
     let there = token_stands a.place w.0 w.1 in
     subst (λ xs. Contiguous a.place (as_forest xs) end) (sym (nodes_first a w.1 w.0 e)) (
       there.0,
+      rw there.1 (goes_on a w e),
       token_inside a w.0 w.1 e more,
       subst (λ p. Contiguous p (as_forest (nodes rest)) end) (sym there.1) after,
     )

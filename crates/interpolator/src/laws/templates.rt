@@ -1,5 +1,4 @@
-//! Laws of the tree of a text, which a format that was read once keeps, each the contract of a small
-//! function.
+//! Laws of the tree of a text, which a template keeps, each the contract of a small function.
 
 ghost use Rattle.std.specs.Prelude.{◌≡◌, ◌↔◌, ◌+◌, [], ◌∷◌, ◌++◌, drop, true};
 ghost use Rattle.std.specs.Prelude.{List, None, Some, Ok, IsTrue, codes};
@@ -33,10 +32,10 @@ use interpolator_render::{TextWrite, Value};
 use interpolator_syntax::{Error, PieceKind};
 use std::alloc::{AllocError, Global};
 
-/// The tree of a text is its pieces, of which neighbouring literals are one node. Split into its
-/// characters again, it is the pieces: each at its place and of its kind, of an argument the name,
-/// the spec, what it asks for and its end, and of a broken one the fault. Under an argument are the
-/// trees of the texts of its groups, so that all this holds at every depth.
+/// The nodes of a text are its pieces, but neighbouring literals are one node. If these are split
+/// into characters again, the nodes are the pieces: each has its place and its kind; an argument
+/// has its name, its spec, what it asks for and its end, and a broken one its fault. Under an
+/// argument are the trees of the texts of its groups, so that all this holds at every depth.
 ///
 /// So the four pieces of `ab{{{x}` are three nodes: the literals `ab`, a doubled brace and an
 /// argument; and `{l:i(c{d})}` is one node, under which are the literal `c` and an argument.
@@ -56,15 +55,15 @@ pub fn nodes_are_the_pieces()
 
 /// No two neighbours in the tree of a text are both literals.
 ///
-/// So `ab}c` is the literals `ab`, a lone brace and the literal `c`.
+/// So `ab}c` has three nodes: the literals `ab`, a lone brace and the literal `c`.
 pub fn no_two_literals_are_neighbours()
     ensures { (a : At) → NoTwoLiterals (nodes a) }
 {}
 
 /// The first node of a text begins where the text begins, each of the others where the one before
-/// it ends, and the last ends where the text ends. The nodes of a group do so in the text of the
-/// group, which is at its place in the format, in its argument: after the first byte of the
-/// argument, and up to its end at most. So it is at every depth.
+/// it ends, and the last ends where the text ends; each has at least one byte. The nodes of a group
+/// do so in the text of the group. Only a closed or an unclosed argument has groups, and the text
+/// of each lies between the first byte of the argument and its last. This holds at every depth.
 ///
 /// So in `ab{l:i(c{d})}` the nodes are from byte 0 to 2 and from there to 13, and those of the item
 /// format from 7 to 8 and from there to 11.
@@ -76,8 +75,8 @@ pub fn nodes_stand_one_after_the_other()
         × Contiguous g.place (as_forest (nodes (inside g))) (g.place + size g.text) }
 {}
 
-/// Any pieces that follow others fit the text as these do, so that writing may begin at each of
-/// them. All mean what the first ones mean, and then what the rest means, at its places.
+/// Writing may begin at any piece: if pieces fit their text, so do the last of them. Together they
+/// mean what the first ones mean, followed by what the rest means, at its places.
 ///
 /// So the pieces of `a{x}b` from the second on mean what the text `{x}b` means at byte 1.
 pub fn rest_of_the_pieces_follows<V: Value>()
@@ -102,12 +101,12 @@ fn pieces_after(pieces: &[Piece], skipped: usize) -> &[Piece]
     }
 }
 
-/// The pieces of a template after the first `skipped` are written in order, as they mean, up to the
-/// first fault; nothing is written if there are fewer. Places are those in the format.
+/// Writes what the pieces of a template after the first `skipped` mean, in order, up to the first
+/// fault; nothing if there are no more than `skipped`. Places are those in the format.
 ///
 /// # Errors
 ///
-/// Those of [`Template::write`], of these pieces alone.
+/// Those of [`Template::write`], for these pieces alone.
 ///
 /// # Example
 ///
@@ -145,7 +144,7 @@ pub fn rest_of_the_pieces_is_written<W: TextWrite, C: Context>(
     answer
 }
 
-/// Two kinds of pieces are equal exactly if they are the same variant.
+/// Two kinds of pieces are equal exactly when they are the same variant.
 pub fn equal_piece_kinds(left: PieceKind, right: PieceKind) -> bool
     ensures { IsTrue result ↔ (left ≡ right) }
 {
