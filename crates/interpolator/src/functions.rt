@@ -1,4 +1,4 @@
-//! Formats: text and values in, the formatted text or one located fault out.
+//! The functions that write a format, make its text, and check it.
 
 ghost use Rattle.std.specs.Prelude.{◌≡◌, ◌+◌, ◌<◌, ◌≤◌, ◌⊎◌, [], false, length, IfOk, Some};
 ghost use Rattle.std.specs.Prelude.{option_map};
@@ -36,25 +36,25 @@ use std::sync::ledger::{Blank, Ledger};
 /// `{`, `}}` as `}`, `{name}` as the text of the value under the name, and every other character as
 /// it is. `{name:i}` writes the items of a list one after the other: each displayed plainly or, if
 /// a group `(..)` follows, by the format in it, in which the empty name is the item. A second group
-/// is written between two items.
+/// is written between each two items.
 ///
-/// Under a width the text of a list is made whole in a buffer and then padded, and of a list in
-/// which a fault is found nothing is written. Memory is taken for such a buffer, before anything of
-/// its argument is written, and for the name in a `MissingValue`; and for nothing else. The buffer
-/// takes as many bytes as the writer's [`room`](TextWrite::room) tells when the list begins, if it
-/// tells it: a list with more bytes is refused before it is made, since the writer would refuse it.
+/// Under a width the text of a list is first made whole in a buffer and then padded; if there is a
+/// fault in it, nothing of the list is written. Memory is taken for such a buffer, before anything
+/// of its argument is written, and for the name in a `MissingValue`; and for nothing else. If the
+/// writer has a limit, its [`room`](TextWrite::room) when the list begins also limits the buffer: a
+/// longer list is not made whole, since the writer would refuse it.
 ///
 /// # Errors
 ///
-/// - `Parse`: an argument is broken, or asks of a list a precision, a sign, `#` or the zero flag.
-///   The text before it was written.
+/// - `Parse`: an argument is broken, or asks for a list with a precision, a sign, `#` or the zero
+///   flag. The text before it was written.
 /// - `MissingValue`: the context has nothing under the name.
 /// - `MissingTraitImpl`: the value has no slot for the trait, or no text under it.
 /// - `Fmt`: a value failed, or the writer refused. If the writer refused a literal character, the
-///   place is that of the first which was not appended; if it refused a value or a padded list, the
-///   byte after the argument's spec.
-/// - `NoMemory`: a missing name could not be copied, or a padded list's text found no memory, or has
-///   more bytes than the writer's room.
+///   place is that of the first one that was not appended; if it refused a value or a padded list,
+///   the place is the byte after the argument's spec.
+/// - `NoMemory`: there was no memory for the name of a missing value or for the text of a padded
+///   list, or that text has more bytes than the writer's room.
 ///
 /// Every place counts bytes from the beginning of the format, and is at most its length.
 ///
@@ -95,10 +95,11 @@ pub fn write<W: TextWrite, C: Context>(
     answer
 }
 
-/// The most bytes that a buffer has room for beyond its format, for what values take.
+/// The most bytes beyond the length of its format for which a buffer has room at the beginning, for
+/// the texts of values.
 const MOST_MORE: usize = 256;
 
-/// An empty buffer with room for the format and, up to a bound, as many bytes again.
+/// An empty buffer with room for the bytes of the format and, up to a bound, as many again.
 #[tactic(auto, using(interpolator_syntax::proofs::CharacterLemmas::no_text))]
 pub(crate) fn buffer_for(alloc: Global, format: &str) -> Result<TextBuffer, AllocError>
     ensures empty { IfOk result
@@ -110,8 +111,9 @@ pub(crate) fn buffer_for(alloc: Global, format: &str) -> Result<TextBuffer, Allo
     Ok(TextBuffer::from_string(text))
 }
 
-/// Writes what the stored pieces of a format mean in the context, and counts the pieces that it goes
-/// through: no more than the format means, and so no more than its cost within limits.
+/// Writes what the stored pieces of a format mean in the context, and counts the pieces that it
+/// goes through: no more than the format's work, and so, with values within limits, no more than
+/// its cost.
 pub(crate) fn write_counted<W: TextWrite, C: Context, L: Ledger>(
     alloc: Global,
     out: &mut W,
@@ -151,7 +153,7 @@ pub(crate) fn write_counted<W: TextWrite, C: Context, L: Ledger>(
     answer
 }
 
-/// The text of a format, for a function that opens a ledger: its signature may have no `&str`.
+/// The text of a format, for a function that opens a ledger, whose signature cannot have a `&str`.
 #[derive(Clone, Copy)]
 struct Wrapped<'a> {
     text: &'a str,
@@ -231,15 +233,14 @@ pub(crate) fn format_pieces<C: Context>(
 
 /// The format's text in a new `String`.
 ///
-/// The format is read into its pieces first, which then are written. A text that is written once
-/// into a buffer takes less by [`write`], and one that is written often by a
-/// [`Template`](crate::Template).
+/// The format is first read into its pieces, which are then written. To write a text once into a
+/// buffer of your own, [`write`] is faster; to write it often, use a [`Template`](crate::Template).
 ///
 /// # Errors
 ///
-/// Those of `write` over the same format and context, where `Fmt` means that a value failed; and
-/// `NoMemory` if the text, the room that is taken for it at the beginning, or the pieces of the
-/// format find no memory.
+/// Those of `write` with the same format and context, where `Fmt` means that a value failed; and
+/// `NoMemory` if there is no memory for the text, for the room that it has at the beginning, or for
+/// the pieces of the format.
 ///
 /// # Example
 ///
@@ -262,15 +263,16 @@ pub fn format<C: Context>(alloc: Global, format: &str, context: &C) -> Result<St
     format_pieces(alloc, format, &pieces, context)
 }
 
-/// Tells the first fault that a format has by itself, as
-/// [`Template::check`](crate::Template::check) does of a format that was read.
+/// Reports the first fault that a format has by itself, as
+/// [`Template::check`](crate::Template::check) does for a format that was read.
 ///
-/// If it answers `Ok`, no context makes the format answer `Parse` or `UnsupportedOption`.
+/// If it returns `Ok`, the format never fails with `Parse` or `UnsupportedOption`, whatever its
+/// context.
 ///
 /// # Errors
 ///
-/// `Parse` and `UnsupportedOption`, each at its place in the text; and `NoMemory` if the pieces of
-/// the format find no memory.
+/// `Parse` and `UnsupportedOption`, each at its place in the text; and `NoMemory` if there is no
+/// memory for the pieces of the format.
 ///
 /// # Example
 ///

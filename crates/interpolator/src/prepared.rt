@@ -33,11 +33,11 @@ use interpolator_syntax::Error;
 use std::alloc::Global;
 use std::marker::Model;
 
-/// A format that was prepared for rows of values: each of its names is a position, and the text
-/// between two arguments is one, in which a doubled brace is one character.
+/// A format that was prepared for rows of values: its names are positions, and the text between two
+/// arguments is one piece, in which a doubled brace is one character.
 ///
-/// It is written as its text is by [`write`](crate::write) over pairs of the names and the values, to
-/// the byte and to the fault: use it for a format that is written often over values of the same
+/// It is written as [`write`](crate::write) writes its text with pairs of the names and the values,
+/// to the byte and to the fault: use it for a format that is written often with values of the same
 /// names. [`Template::prepare`](crate::Template::prepare) makes it.
 ///
 /// # Example
@@ -73,7 +73,7 @@ impl Model for Prepared {
         (nodes (outermost (chars (string_bytes p.text))))) };
 }
 
-/// Writes the steps of a format over a row. A row that is too short is written by the text.
+/// Writes the steps of a format with a row; if the row is too short, writes the text instead.
 pub(crate) fn write_row<'a, W: TextWrite, V: Value>(
     alloc: Global,
     out: &mut W,
@@ -97,7 +97,7 @@ pub(crate) fn write_row<'a, W: TextWrite, V: Value>(
     Ok(())
 }
 
-/// The text of the steps of a format over a row, in a new `String`.
+/// The text of the steps of a format with a row, in a new `String`.
 fn format_row<'a, V: Value>(
     alloc: Global,
     text: &str,
@@ -139,15 +139,15 @@ impl Prepared {
         Ok(Prepared { text, names, steps })
     }
 
-    /// Writes what the format means over a row of values, as [`write`](crate::write) does over pairs
-    /// of the names and these values. Of two equal names the last has the value. A name whose position
-    /// the row does not reach is missing.
+    /// Writes what the format means with a row of values, as [`write`](crate::write) does with
+    /// pairs of the names and these values. Of two equal names the last one counts. A name whose
+    /// position the row does not reach has no value.
     ///
     /// Memory is taken where `write` takes it, and for nothing else.
     ///
     /// # Errors
     ///
-    /// Those of `write` over the text, each at its place in it.
+    /// Those of `write` for the text, each at its place in it.
     ///
     /// # Example
     ///
@@ -174,12 +174,12 @@ impl Prepared {
         Ok(())
     }
 
-    /// The text that it means over a row, in a new `String`.
+    /// The text that it means with a row, in a new `String`.
     ///
     /// # Errors
     ///
-    /// Those of `write`, where `Fmt` means that a value failed; and `NoMemory` if the text, or the
-    /// room that is taken for it at the beginning, finds no memory.
+    /// Those of `write`, where `Fmt` means that a value failed; and `NoMemory` if there is no
+    /// memory for the text, or for the room that it has at the beginning.
     ///
     /// # Example
     ///
@@ -205,7 +205,7 @@ impl Prepared {
     /// # Example
     ///
     /// ```text
-    /// prepared.names()    // those of the sample
+    /// prepared.names()    // the names of the sample
     /// ```
     pub fn names(&self) -> &[String]
         ensures names { name_bytes result.now ≡ self.now.names }

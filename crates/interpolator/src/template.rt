@@ -57,7 +57,7 @@ use std::marker::Model;
 
 /// A format that was read once: its text and its pieces.
 ///
-/// It is written as its text is by [`write`](crate::write), to the byte and to the fault, but
+/// It is written as [`write`](crate::write) writes its text, to the byte and to the fault, but
 /// nothing is read again: use it for a format that is written often, and `write` for one that is
 /// written once.
 ///
@@ -91,12 +91,12 @@ impl Model for Template {
 }
 
 impl Template {
-    /// Reads a format. A broken one is read too: its fault is answered when it is written, and that
-    /// of an item format when an item is.
+    /// Reads a format. A broken one is read too: its fault is returned when it is written, and that
+    /// of an item format when an item is written.
     ///
     /// # Errors
     ///
-    /// `NoMemory`: the text or its pieces find no memory.
+    /// `NoMemory`: there is no memory for the text or its pieces.
     ///
     /// # Example
     ///
@@ -118,12 +118,12 @@ impl Template {
 
     /// Writes what the format means in the context, as [`write`](crate::write) does with its text.
     ///
-    /// Memory is taken where `write` takes it, and for nothing else. No more pieces are gone through
-    /// than [`cost`](Template::cost) tells within limits that the values keep.
+    /// Memory is taken where `write` takes it, and for nothing else. If the values are within
+    /// limits, no more pieces are gone through than the [`cost`](Template::cost) for these limits.
     ///
     /// # Errors
     ///
-    /// Those of `write` over the text, each at its place in it.
+    /// Those of `write` for the text, each at its place in it.
     ///
     /// # Example
     ///
@@ -169,14 +169,15 @@ impl Template {
         walk_text(visitor, self.text.as_str(), &self.pieces)
     }
 
-    /// The format, prepared for rows of values in the order of these names, if it has no fault over
-    /// them: what is under each of them is an example of what a row will bring, as in
-    /// [`check_in`](Template::check_in).
+    /// The format, prepared for rows of values in the order of the sample's pairs, if it has no
+    /// fault against them: what a pair has is an example of what a row will have at its position,
+    /// as for [`check_in`](Template::check_in).
     ///
     /// # Errors
     ///
-    /// The first fault that the format has by itself or over the sample, at its place in the text;
-    /// `NoMemory`: the prepared format, or the name in a `MissingValue`, finds no memory.
+    /// The first fault that the format has by itself or against the sample, at its place in the
+    /// text; `NoMemory`: there is no memory for the prepared format, or for the name in a
+    /// `MissingValue`.
     ///
     /// # Example
     ///
@@ -198,18 +199,18 @@ impl Template {
         Prepared::of(alloc, self.text.as_str(), &self.pieces, names)
     }
 
-    /// The names that the format asks of its context, in order and with repeats: those of its
-    /// arguments, and after the name of a list those of its item format and of its join. The empty
+    /// The names that the format looks up in its context, in order and with repeats: those of its
+    /// arguments, and after the name of a list those in its item format and in its join. The empty
     /// name in an item format is the item, and is not among them.
     ///
     /// # Errors
     ///
-    /// `NoMemory`: the names find no memory.
+    /// `NoMemory`: there is no memory for the names.
     ///
     /// # Example
     ///
     /// ```text
-    /// template.names(alloc)?    // of `{a:i({}{b})({c})}{d`: a, b, c
+    /// template.names(alloc)?    // for `{a:i({}{b})({c})}{d`: a, b, c
     /// ```
     pub fn names(&self, alloc: Global) -> Result<Vec<String>, Error>
         ensures names { IfOk result (λ names. name_texts names.items
@@ -224,21 +225,22 @@ impl Template {
         Ok(names.names)
     }
 
-    /// The arguments of the format, each whole, as [`parse_argument`](crate::parse_argument)
-    /// answers one of the outermost text; one in a group ends, at the latest, with its group. They
-    /// come in order of the text and at every depth: after an argument those of its item format,
-    /// and then those of its join. One that is not closed is among them, a broken one is not.
+    /// The arguments of the format, each as [`parse_argument`](crate::parse_argument) returns it;
+    /// one in a group ends, at the latest, with its group. They come in the order of the text, at
+    /// every depth: after an argument those of its item format, and then those of its join. An
+    /// argument that is not closed is among them, a broken one is not.
     ///
-    /// Names and groups are slices of the format, and places count its bytes. It is read again.
+    /// Names and groups are slices of the format, and places count its bytes. The text is read
+    /// again.
     ///
     /// # Errors
     ///
-    /// `NoMemory`: the arguments find no memory.
+    /// `NoMemory`: there is no memory for the arguments.
     ///
     /// # Example
     ///
     /// ```text
-    /// for argument in &template.arguments(alloc)? {    // of `{a:i({}{b:>4})({c})}`
+    /// for argument in &template.arguments(alloc)? {    // for `{a:i({}{b:>4})({c})}`
     ///     argument.name                                // "a", "", "b", "c"
     ///     argument.spec.width                          // of "b": Some(4)
     /// }
@@ -257,13 +259,13 @@ impl Template {
         Ok(arguments)
     }
 
-    /// Tells the first fault that the format has by itself, in order of the text and at every depth
-    /// of groups: of an argument what is wrong with it, then the faults of its item format, then
-    /// those of its join, then that it is not closed. Not each is met in every context: `{a:i({z)}`
-    /// is written over an empty list. No memory is taken.
+    /// Reports the first fault that the format has by itself, in the order of the text and at every
+    /// depth of groups: for an argument what is wrong with it, then the faults of its item format,
+    /// then those of its join, then that it is not closed. Not every context meets each of them:
+    /// with an empty list, `{a:i({z)}` is written without a fault. No memory is taken.
     ///
-    /// If it answers `Ok`, no context makes the format answer `Parse` or `UnsupportedOption`. What
-    /// depends on values is told by [`check_in`](Template::check_in).
+    /// If it returns `Ok`, the format never fails with `Parse` or `UnsupportedOption`, whatever its
+    /// context. Faults that depend on values are reported by [`check_in`](Template::check_in).
     ///
     /// # Errors
     ///
@@ -282,26 +284,27 @@ impl Template {
         self.walk(&mut Check)
     }
 
-    /// Tells the first fault that the format has by itself or over a sample, an example of the
+    /// Reports the first fault that the format has by itself or against a sample, an example of the
     /// contexts that it will be written with: a row of example values, whose lists have an item of
-    /// each kind. In order of the text and at every depth of groups, of an argument
+    /// each kind. The faults come in the order of the text, at every depth of groups; those of an
+    /// argument are
     ///
-    /// 1. that nothing is under its name (`MissingValue`); that a slot is empty, has no text under
-    ///    this trait, or no list (`MissingTraitImpl`); that a value fails (`Fmt`);
+    /// 1. that nothing is under its name (`MissingValue`); that its slot is empty, has no text
+    ///    under this trait, or is no list (`MissingTraitImpl`); that the value fails (`Fmt`);
     /// 2. what is wrong with it by itself;
-    /// 3. the faults of its item format with each item of the sample's list, or that an item cannot
-    ///    be displayed if there is no item format, whatever the range; those of its join, however
-    ///    many items there are;
+    /// 3. the faults of its item format with each item of the sample's list, whatever the range,
+    ///    or, without an item format, that an item cannot be displayed; then those of its join,
+    ///    however many items there are;
     /// 4. that it is not closed.
     ///
-    /// If it answers `Ok`, the format has no fault in any context that resembles the sample: see
-    /// [`laws::samples`](crate::laws::samples). Each argument is looked at once for each value that
-    /// the sample has in its place.
+    /// If it returns `Ok`, the format has no fault in any context that resembles the sample: see
+    /// [`laws::samples`](crate::laws::samples). Each argument is checked once with each value that
+    /// the sample has for it.
     ///
     /// # Errors
     ///
-    /// The first fault, at its place in the text; `NoMemory` if it is that a name is missing, and
-    /// the name finds no memory. Else no memory is taken.
+    /// The first fault, at its place in the text; `NoMemory` if it is a missing value, and there is
+    /// no memory for its name. No memory is taken for anything else.
     ///
     /// # Example
     ///
@@ -321,12 +324,12 @@ impl Template {
         tell_pieces(&mut telling, &environment, self.text.as_str(), &self.pieces)
     }
 
-    /// All faults that the format has by itself or over a sample, in the order of
-    /// [`check_in`](Template::check_in), each once at its place.
+    /// All faults that the format has by itself or against a sample, in the order of
+    /// [`check_in`](Template::check_in), each once, at its place.
     ///
     /// # Errors
     ///
-    /// `NoMemory`: the faults find no memory.
+    /// `NoMemory`: there is no memory for the faults.
     ///
     /// # Example
     ///
@@ -346,13 +349,13 @@ impl Template {
         Ok(telling.into_kept())
     }
 
-    /// The greatest width or precision that the format asks, at any depth of groups; 0 if it asks
-    /// none. No memory is taken.
+    /// The greatest width or precision in the format, at any depth of groups; 0 if it has none. No
+    /// memory is taken.
     ///
     /// # Example
     ///
     /// ```text
-    /// template.widest()    // of `{x:>5}{y:.12e}{l:300i({:7})}`: 300
+    /// template.widest()    // for `{x:>5}{y:.12e}{l:300i({:7})}`: 300
     /// ```
     pub fn widest(&self) -> usize
         ensures widest { result ≡ forest_extent (as_forest (nodes (outermost (chars self.now)))) }
@@ -369,7 +372,7 @@ impl Template {
     /// # Example
     ///
     /// ```text
-    /// template.depth()    // of `{a:i#({b:i(x)})#}{c:i()}`: 2
+    /// template.depth()    // for `{a:i#({b:i(x)})#}{c:i()}`: 2
     /// ```
     pub fn depth(&self) -> usize
         ensures depth { result ≡ forest_depth (as_forest (nodes (outermost (chars self.now)))) }
@@ -381,15 +384,17 @@ impl Template {
         }
     }
 
-    /// The innermost argument that has a place of the format, if one does: its first byte, which is
-    /// its opening brace, and the byte after its last. An argument has the places after its opening
-    /// brace and up to its closing one; without a closing one up to its end, and that. No memory is
-    /// taken.
+    /// The innermost argument that has a place of the format, if there is one: its first byte,
+    /// which is its opening brace, and the byte after its last. An argument has the places after
+    /// its opening brace, up to its closing brace; without one, up to and including its end. No
+    /// memory is taken.
+    ///
+    /// That it is the innermost is a law, [`laws::places`](crate::laws::places).
     ///
     /// # Example
     ///
     /// ```text
-    /// template.argument_at(8)    // of `{a:i({:?})} {b}`, at the `}` of `{:?}`: Some((5, 9))
+    /// template.argument_at(8)    // for `{a:i({:?})} {b}`, at the `}` of `{:?}`: Some((5, 9))
     /// ```
     pub fn argument_at(&self, place: usize) -> Option<(usize, usize)>
         ensures argument { result
@@ -398,17 +403,17 @@ impl Template {
         argument_among(&self.pieces, place)
     }
 
-    /// What the format can cost at most, in any context whose values are within the limits: how many
-    /// characters it writes, how many pieces it goes through, and how many characters it holds in
-    /// buffers at one time. Of each count the greatest `usize` means as many or more. Every item
-    /// and join counts, and of an argument the longest text that its trait, width and precision
-    /// let any value show. No memory is taken.
+    /// What writing the format costs at most, in any context whose values are within the limits:
+    /// how many characters are written, how many pieces are gone through, and how many characters
+    /// are in buffers at one time. For each count, the greatest `usize` means that many or more.
+    /// Every item and every join counts, and for an argument the longest text that a value can have
+    /// under its trait, width and precision. No memory is taken.
     ///
     /// # Example
     ///
     /// ```text
     /// let limits = Limits { text: 10, items: 3 };
-    /// template.cost(&limits)    // of `{l:i({:?})(, )}`: 3 * 62 + 2 * 2 characters, and
+    /// template.cost(&limits)    // for `{l:i({:?})(, )}`: 3 * 62 + 2 * 2 characters, and
     ///                           // 1 + 3 * 1 + 2 * 1 pieces
     /// ```
     pub fn cost(&self, limits: &Limits) -> Cost
@@ -418,7 +423,7 @@ impl Template {
         cost_of(self.text.as_str(), &self.pieces, limits)
     }
 
-    /// The pieces of the format in order, each with those of its groups. No memory is taken.
+    /// The pieces of the format in order, each with the pieces of its groups. No memory is taken.
     ///
     /// # Example
     ///

@@ -1,4 +1,4 @@
-//! Makes the steps of a format's pieces, for names in order.
+//! Turns the pieces of a format into steps, for names in order.
 ghost use Rattle.std.specs.Prelude.{◌≡◌, ◌≢◌, ℕ, List, [], ◌∷◌, ◌++◌, IfOk};
 ghost use Rattle.std.specs.Prelude.{IsSome, Some, map, true};
 ghost use Rattle.std.specs.List.{All};
@@ -24,7 +24,7 @@ use interpolator_render::Trait;
 use interpolator_syntax::PieceKind;
 use std::alloc::{AllocError, Global};
 
-/// For how many steps there is room at the beginning, at most.
+/// The most steps for which room is made at the beginning.
 const MOST_ROOM: usize = 64;
 
 /// The steps of the pieces of a text.
@@ -137,7 +137,7 @@ fn push_argument(
     push_step(made, step)
 }
 
-/// The step of an argument: its value at the position of its name, or what its piece means.
+/// The step of an argument: the value at the position of its name, or a copy of its piece.
 fn argument_step(
     alloc: Global,
     text: &str,
@@ -174,7 +174,7 @@ fn under(alloc: Global, position: usize, t: Trait, piece: &Piece) -> Result<Step
     Ok(Step::Under(position, Box::new(alloc, asked)?))
 }
 
-/// What a piece means, of which a copy is kept.
+/// The step of a piece of which a copy is kept.
 fn whole(alloc: Global, text: &str, piece: &Piece) -> Result<Step, AllocError>
     requires whole { node_whole (node_of text.now piece.now) ≡ true }
     ensures step { IfOk result (λ step. step_of text.now step

@@ -10,7 +10,8 @@ use crate::tree::closed;
 use interpolator_eval::forbids_list;
 use interpolator_syntax::{Error, ParseError};
 
-/// What a piece has by itself: that it is broken, or what its spec asks of a list.
+/// The fault that a piece has by itself: that it is broken, or that the spec of a list has what it
+/// may not have.
 pub(crate) fn check_own(piece: &Piece) -> Result<(), Error>
     ensures own { result_answer result ≡ option_map fault (stored_own_fault piece.now) }
 {
@@ -23,7 +24,7 @@ pub(crate) fn check_own(piece: &Piece) -> Result<(), Error>
     }
 }
 
-/// That an argument which was read is not closed.
+/// The fault that an argument, which was read, is not closed.
 pub(crate) fn check_end(piece: &Piece) -> Result<(), Error>
     ensures end { result_answer result ≡ option_map fault (stored_end_fault piece.now) }
 {
@@ -34,7 +35,7 @@ pub(crate) fn check_end(piece: &Piece) -> Result<(), Error>
     }
 }
 
-/// Looks at pieces up to the first fault.
+/// A visitor that stops at the first fault.
 #[derive(Drop)]
 pub(crate) struct Check;
 

@@ -1,4 +1,4 @@
-//! What pieces can cost at most, within limits of the values that they are written with.
+//! What pieces can cost at most, if the values that they are written with are within limits.
 ghost use Rattle.std.specs.Prelude.{◌≡◌, ◌+◌, ◌*◌, ◌-◌, length, option_map, Some, true};
 ghost use Rattle.std.specs.Str.{chars};
 ghost use Rattle.interpolator_render.specs.Lengths.{usize_count};
@@ -19,7 +19,7 @@ use interpolator_eval::chosen;
 use interpolator_render::{Spec, Trait, most_written};
 use interpolator_syntax::Range;
 
-/// How much the values that a format is written with may hold, at any depth of their lists.
+/// How large the values that a format is written with may be, at any depth of their lists.
 ///
 /// ```text
 /// Limits { text: 100, items: 20 }
@@ -32,7 +32,7 @@ pub struct Limits {
     pub items: usize,
 }
 
-/// What a format can cost at most. Of each count the greatest `usize` means as many or more.
+/// What a format can cost at most. For each count, the greatest `usize` means that many or more.
 #[derive(Clone, Copy, Debug, PartialEq, Eq)]
 pub struct Cost {
     /// The most characters that are written.
@@ -45,7 +45,7 @@ pub struct Cost {
     pub buffered: usize,
 }
 
-/// Nothing.
+/// The cost of nothing.
 fn no_cost() -> Cost
     ensures { result ≡ no_cost }
 {
@@ -56,7 +56,7 @@ fn no_cost() -> Cost
     }
 }
 
-/// One piece, of so many characters.
+/// The cost of one piece of so many characters.
 fn piece_cost(characters: usize) -> Cost
     ensures { result ≡ piece_cost characters }
 {
@@ -67,7 +67,7 @@ fn piece_cost(characters: usize) -> Cost
     }
 }
 
-/// One after the other.
+/// The cost of one after the other.
 fn then_cost(first: Cost, next: Cost) -> Cost
     ensures { result ≡ usize_cost (then_cost first next) }
 {
@@ -78,7 +78,7 @@ fn then_cost(first: Cost, next: Cost) -> Cost
     }
 }
 
-/// An item by its format, which counts as one piece at least.
+/// The cost of an item by its format, which counts as at least one piece.
 fn item_cost(format: Cost) -> Cost
     ensures { result ≡ item_cost format }
 {
@@ -89,7 +89,7 @@ fn item_cost(format: Cost) -> Cost
     }
 }
 
-/// So many items, and the join between two of them.
+/// One count for so many items, with the join between each two.
 fn repeated(count: usize, item: usize, join: usize) -> usize
     ensures { result ≡ usize_count (count * item + (count - 1) * join) }
 {
@@ -97,7 +97,7 @@ fn repeated(count: usize, item: usize, join: usize) -> usize
     count.saturating_mul(item).saturating_add(joins)
 }
 
-/// The items of a list, and the join between two of them.
+/// The cost of the items of a list, with the join between each two.
 fn items_cost(count: usize, item: Cost, join: Cost) -> Cost
     ensures { result ≡ usize_cost (items_cost count item join) }
 {
@@ -108,7 +108,8 @@ fn items_cost(count: usize, item: Cost, join: Cost) -> Cost
     }
 }
 
-/// The items of a list under its spec: with a width they are held in a buffer, and padded.
+/// The cost of the items of a list under its spec: with a width they are collected in a buffer, and
+/// padded.
 fn padded_cost(width: Option<usize>, items: Cost) -> Cost
     ensures { result ≡ usize_cost (padded_cost width items) }
 {
@@ -122,7 +123,7 @@ fn padded_cost(width: Option<usize>, items: Cost) -> Cost
     }
 }
 
-/// The most items from one that is `first` items before a list's end up to a bound.
+/// The most items from the one that is `first` items before a list's end up to a bound.
 fn most_from_end(most: usize, first: usize, inclusive: bool, upper: Option<isize>) -> usize
     ensures { result ≡ most_from_end most first inclusive upper }
 {
@@ -139,7 +140,7 @@ fn most_from_end(most: usize, first: usize, inclusive: bool, upper: Option<isize
     }
 }
 
-/// The most items that a range chooses of a list of at most so many.
+/// The most items that a range chooses from a list of at most so many.
 fn most_chosen(most: usize, range: Option<Range>) -> usize
     ensures { result ≡ most_chosen most range }
 {
@@ -157,14 +158,14 @@ fn most_chosen(most: usize, range: Option<Range>) -> usize
     }
 }
 
-/// A value under a trait and a spec.
+/// The cost of a value under a trait and a spec.
 fn value_cost(limits: &Limits, t: Trait, spec: &Spec) -> Cost
     ensures { result ≡ usize_cost (value_cost limits.now t spec.now) }
 {
     piece_cost(most_written(t, spec, limits.text))
 }
 
-/// A list of which a range chooses the items: its argument, and its items.
+/// The cost of a list, whose items a range chooses: the argument itself, and the items.
 fn list_cost(limits: &Limits, range: Option<Range>, spec: &Spec, item: Cost, join: Cost) -> Cost
     ensures { result ≡ usize_cost (list_cost limits.now range spec.now item join) }
 {
@@ -180,7 +181,7 @@ fn char_count(text: &str) -> usize
     text.chars().count()
 }
 
-/// What a piece holds, by what an item and the join cost.
+/// The cost of what a piece holds, by the costs of an item and of the join.
 fn held_cost(text: &str, piece: &Piece, limits: &Limits, item: Cost, join: Cost) -> Cost
     requires whole { node_whole (node_of text.now piece.now) ≡ true }
     ensures { option_map (λ held. usize_cost (held_cost limits.now held item join))
@@ -195,7 +196,7 @@ fn held_cost(text: &str, piece: &Piece, limits: &Limits, item: Cost, join: Cost)
     }
 }
 
-/// What pieces of a text cost, in order.
+/// The cost of pieces of a text, in order.
 #[cycle(cost)]
 pub(crate) fn cost_of(text: &str, pieces: &[Piece], limits: &Limits) -> Cost
     requires whole { forest_whole (as_forest (nodes_of text.now pieces.now)) ≡ true }
@@ -209,7 +210,7 @@ pub(crate) fn cost_of(text: &str, pieces: &[Piece], limits: &Limits) -> Cost
     cost
 }
 
-/// What a piece costs, with its groups.
+/// The cost of a piece, with its groups.
 #[cycle(cost)]
 fn cost_of_piece(text: &str, piece: &Piece, limits: &Limits) -> Cost
     requires whole { node_whole (node_of text.now piece.now) ≡ true }
@@ -220,7 +221,7 @@ fn cost_of_piece(text: &str, piece: &Piece, limits: &Limits) -> Cost
     held_cost(text, piece, limits, item, join)
 }
 
-/// What an item of a piece costs, by its format or displayed plainly.
+/// The cost of an item of a piece, by its format or displayed plainly.
 #[cycle(cost)]
 fn cost_of_item(text: &str, piece: &Piece, limits: &Limits) -> Cost
     requires whole { node_whole (node_of text.now piece.now) ≡ true }
@@ -233,7 +234,7 @@ fn cost_of_item(text: &str, piece: &Piece, limits: &Limits) -> Cost
     }
 }
 
-/// What comes between two items of a piece costs.
+/// The cost of what comes between two items of a piece.
 #[cycle(cost)]
 fn cost_of_join(text: &str, piece: &Piece, limits: &Limits) -> Cost
     requires whole { node_whole (node_of text.now piece.now) ≡ true }

@@ -16,7 +16,7 @@ fn extent_of(spec: &Spec) -> usize
     spec.width.unwrap_or(0).max(spec.precision.unwrap_or(0))
 }
 
-/// What a piece asks by itself.
+/// The width or the precision of a piece, whichever is greater, without its groups.
 fn own_extent(piece: &Piece) -> usize
     ensures { result ≡ stored_extent piece.now }
 {
@@ -27,7 +27,7 @@ fn own_extent(piece: &Piece) -> usize
     }
 }
 
-/// The greatest width or precision that pieces ask.
+/// The greatest width or precision of pieces.
 #[derive(Drop)]
 pub(crate) struct Widest(pub(crate) usize);
 
@@ -47,7 +47,7 @@ impl Visitor for Widest {
     }
 }
 
-/// In how many groups the pieces of a group are whose argument is in `depth`; 0 without one.
+/// How many groups the pieces of a group are in, if its argument is in `depth`; 0 without a group.
 fn inner_depth(group: &Option<Vec<Piece>>, depth: usize) -> usize
     requires { IsSome group.now → depth + 1 < 2 ^ 64 }
     ensures { (bs : List ℕ) → result ≡ inner_depth depth (branch_of bs group.now) }
@@ -58,7 +58,7 @@ fn inner_depth(group: &Option<Vec<Piece>>, depth: usize) -> usize
     }
 }
 
-/// In how many groups the deepest group of pieces is, itself among them.
+/// How many groups the deepest pieces are in.
 #[derive(Drop)]
 pub(crate) struct Deepest(pub(crate) usize);
 

@@ -1,4 +1,4 @@
-//! The faults that pieces have over a sample.
+//! The faults that pieces have against a sample.
 ghost use Rattle.std.specs.Prelude.{◌≡◌, ◌+◌, ◌<◌, ◌≤◌, ◌^◌, true, Option};
 ghost use Rattle.interpolator_render.specs.declared.view.Trait.TheVariants.{Display};
 ghost use Rattle.interpolator_syntax.specs.SpecTexts.{plain_spec};
@@ -27,7 +27,7 @@ use interpolator_render::{Spec, Trait, Value};
 use interpolator_syntax::Error;
 use std::fmt;
 
-/// Tells the faults of pieces, in order.
+/// Reports the faults of pieces, in order.
 #[cycle(sample)]
 pub(crate) fn tell_pieces<'a, C: Context>(
     telling: &mut Telling,
@@ -47,7 +47,7 @@ pub(crate) fn tell_pieces<'a, C: Context>(
     Ok(())
 }
 
-/// Tells the faults of a piece.
+/// Reports the faults of a piece.
 #[cycle(sample)]
 fn tell_piece<'a, C: Context>(
     telling: &mut Telling,
@@ -67,7 +67,7 @@ fn tell_piece<'a, C: Context>(
     telling.tell_checked(check_end(piece))
 }
 
-/// Tells what is missing of what a piece asks.
+/// Reports what the sample lacks for a piece.
 fn tell_asked<'a, C: Context>(
     telling: &mut Telling,
     sample: &SampleEnvironment<'a, C, C::Object>,
@@ -98,8 +98,8 @@ fn tell_asked<'a, C: Context>(
     }
 }
 
-/// Tells what is missing under a name that is asked for a value, by an argument that starts at
-/// `start` and whose spec ends at `end`.
+/// Reports what is missing under the name of an argument that asks for a value, begins at `start`
+/// and has a spec that ends at `end`.
 fn tell_value<'a, C: Context>(
     telling: &mut Telling,
     sample: &SampleEnvironment<'a, C, C::Object>,
@@ -119,7 +119,7 @@ fn tell_value<'a, C: Context>(
     tell_values(telling, &found, t, spec, end)
 }
 
-/// Tells that a value has no text, or fails, of those that may be under a name.
+/// Reports that one of the values that may be under a name has no text, or fails.
 fn tell_values<'a, V: Value>(
     telling: &mut Telling,
     found: &Candidates<'a, V>,
@@ -136,7 +136,7 @@ fn tell_values<'a, V: Value>(
     telling.tell_if(failed, Error::Fmt(fmt::Error, end))
 }
 
-/// Tells what is missing under a name that is asked for a list.
+/// Reports what is missing under the name of an argument that asks for a list.
 fn tell_list<'a, C: Context>(
     telling: &mut Telling,
     sample: &SampleEnvironment<'a, C, C::Object>,
@@ -156,7 +156,7 @@ fn tell_list<'a, C: Context>(
     telling.tell_if(missing, Error::MissingTraitImpl(Trait::Iter, end))
 }
 
-/// The items that there may be of a piece, if it asks for a list.
+/// The items that a piece may have, if it asks for a list.
 fn items_of<'a, C: Context>(
     sample: &SampleEnvironment<'a, C, C::Object>,
     text: &str,
@@ -175,8 +175,8 @@ fn items_of<'a, C: Context>(
     sample.items(name)
 }
 
-/// Tells the faults of the item format of a piece with each item that there may be, or of the items
-/// if they have no format.
+/// Reports the faults of the item format of a piece with each item that it may have; or, without an
+/// item format, those of the items.
 #[cycle(sample)]
 fn tell_item<'a, C: Context>(
     telling: &mut Telling,
@@ -198,7 +198,7 @@ fn tell_item<'a, C: Context>(
     }
 }
 
-/// Tells that an item cannot be displayed plainly.
+/// Reports that an item cannot be displayed plainly.
 fn tell_plain<'a, V: Value>(
     telling: &mut Telling,
     items: Items<'a, V>,
@@ -212,7 +212,7 @@ fn tell_plain<'a, V: Value>(
     tell_values(telling, &each, Trait::Display, &spec, end)
 }
 
-/// Tells the faults of the join of a piece, if it has one.
+/// Reports the faults of the join of a piece, if it has one.
 #[cycle(sample)]
 fn tell_join<'a, C: Context>(
     telling: &mut Telling,

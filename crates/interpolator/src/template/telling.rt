@@ -1,4 +1,4 @@
-//! Where the faults of a format are told.
+//! Where the faults of a format are reported.
 ghost use Rattle.std.specs.Prelude.{◌≡◌, [], ◌∷◌, true, false, Some, Option, option_map};
 ghost use Rattle.interpolator_syntax.specs.Faults.{result_answer, answer_of, fault, no_memory, Fault};
 ghost use Rattle.interpolator.specs.Template.NodeChecks.{fault_list};
@@ -8,14 +8,14 @@ ghost use Rattle.interpolator.specs.Template.Telling.{Tells, kept_by, is_no_memo
 use interpolator_syntax::Error;
 use std::alloc::Global;
 
-/// Where faults are told: the first is answered at once, or all are kept.
+/// Where faults are reported: the first is returned at once, or all are kept.
 #[derive(Drop)]
 pub(crate) struct Telling {
     only_first: bool,
     kept: Vec<Error>,
 }
 
-/// The error is that memory was refused.
+/// Tests whether the error is that memory was refused.
 fn is_no_memory(error: &Error) -> bool
     ensures { result ≡ is_no_memory (answer_of error.now) }
 {
@@ -23,7 +23,7 @@ fn is_no_memory(error: &Error) -> bool
 }
 
 impl Telling {
-    /// The first fault is answered. No memory is taken.
+    /// One that returns the first fault at once. It takes no memory.
     pub(crate) fn first(alloc: Global) -> Self
         ensures { result.only_first ≡ true }
     {
@@ -33,7 +33,7 @@ impl Telling {
         }
     }
 
-    /// All faults are kept.
+    /// One that keeps all faults.
     pub(crate) fn all(alloc: Global) -> Self
         ensures all { result.only_first ≡ false }
         ensures none { kept_by result ≡ [] }
@@ -44,7 +44,7 @@ impl Telling {
         }
     }
 
-    /// Tells a fault. That there is no memory is always answered.
+    /// Reports a fault. `NoMemory` is always returned.
     pub(crate) fn tell(&mut self, error: Error) -> Result<(), Error>
         ensures tells { (f : Fault) → answer_of error ≡ fault f
             → Tells (f ∷ []) self.old self.new (result_answer result) }
@@ -60,7 +60,7 @@ impl Telling {
         Ok(())
     }
 
-    /// Tells a fault, if it is so.
+    /// Reports a fault, if the test holds.
     pub(crate) fn tell_if(&mut self, holds: bool, error: Error) -> Result<(), Error>
         ensures { (f : Fault) → answer_of error ≡ fault f
             → Tells (fault_if holds f) self.old self.new (result_answer result) }
@@ -71,7 +71,7 @@ impl Telling {
         Ok(())
     }
 
-    /// Tells what a check has answered, if it is a fault.
+    /// Reports what a check has returned, if it is a fault.
     pub(crate) fn tell_checked(&mut self, checked: Result<(), Error>) -> Result<(), Error>
         ensures { (o : Option Fault) → result_answer checked ≡ option_map fault o
             → Tells (fault_list o) self.old self.new (result_answer result) }
