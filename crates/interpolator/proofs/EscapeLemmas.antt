@@ -1,4 +1,4 @@
--- Doubled braces: as they are appended, and what a text with doubled braces means.
+-- Doubled braces: how they are appended, and what a text with doubled braces means.
 use Rattle.std.proofs.Common.{◌≡◌, ℕ, zero, suc, ◌+◌, ◌≤◌, Bool, true, false, List, [], ◌∷◌, ◌++◌}
 use Rattle.std.proofs.Common.{map, length, arith, refl, ap, ◌∙◌, sym, Option, Some, append_assoc}
 use Rattle.std.proofs.Common.{append-nil}
@@ -89,7 +89,7 @@ one_more_plain c cs more false h p =
     rw (h, pieces_next p c (braces_doubled cs), step)
     (ap (λ xs. Some c ∷ xs) (more (p + len_utf8 c)))
 
--- a text with doubled braces has plain pieces alone
+-- a text whose braces are doubled has only plain pieces
 doubled_plain : (cs : List ℕ) → IsDoubledPlain cs
 doubled_plain [] p = ap Characters (pieces_none p)
 doubled_plain (c ∷ cs) p = one_more_plain c cs (doubled_plain cs) (is_brace c) refl p
@@ -140,7 +140,7 @@ module _ {X : Type 0} (shows : X → Trait → Spec → Shown) (e : Environment 
       kind_says p c d cs text (piece_from p c (past p c cs)).piece.kind refl (head_same k)
       (plain_says most rest.place rest.text text (omega arith) (tail_same k))
 
-  -- if all pieces are plain, the text says their characters alone
+  -- if all pieces are plain, the text means their characters and nothing else
   pub plain_means : (a : At) (text : List ℕ) → ArePlain (pieces a) text
       → SaysAlone text (means shows e a)
   plain_means a text h = plain_says (length a.text) a.place a.text text (omega arith) h

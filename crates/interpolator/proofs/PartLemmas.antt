@@ -141,7 +141,7 @@ module _ {X : Type 0} (shows : X → Trait → Spec → Shown) (e : Environment 
         → Writes written (parts_mean shows e p (texts_of parts)) s s None
     no_parts_run s none = record { outcome = rw none (nothing_done _); same = same_end s }
 
--- the part at an index, as a loop takes it; there is none at an index past the last
+-- the part at an index, as the loop takes it; there is none past the last
 abbrev pub part_at : List (Bor (List ℕ)) → ℕ → Bor (List ℕ)
 part_at parts i = get_or parts i (record { ref_ptr = (0, 0); now = [] })
 

@@ -15,7 +15,7 @@ use Rattle.std.proofs.lemmas.Str.{cons_from_encodes, length-encode, length-le-en
 use Rattle.std.proofs.lemmas.Str.{len_utf8_bounds, IsUtf8-past_char, IsCharBoundary-at_seam}
 use Rattle.interpolator.specs.Positions.{begun_before, line_end, last_line}
 
--- the characters `front` were read, as far as the byte `end`, and the bytes `rest` are to come
+-- the characters `front` were read, as far as the byte `end`; the bytes `rest` are still to come
 pub record Reached (text : List ℕ) (place : ℕ) (rest : List ℕ) (end : ℕ) : Type 0 where
   pub front : List ℕ
   pub back : List ℕ
@@ -95,7 +95,7 @@ reached_more text place rest after end c size z h e r =
           (begun_before (place - (end + size)) cs))));
     }
 
--- how far the text goes
+-- the byte that is reached lies in the text
 pub reached_fits : (text : List ℕ) (place : ℕ) (rest after : List ℕ) (end c size : ℕ)
     → size ≡ len_utf8 c → rest ≡ encode_utf8 c ++ after → Reached text place rest end
     → end + size ≤ length text
@@ -119,7 +119,7 @@ reached_place text place rest cut end h e u r =
     ∙ (ap (λ (x : List ℕ). r.front ++ x) (begun_none (place - end) r.back none)
     ∙ append-nil r.front)))
 
--- where the text ended before the place, all of it begins before it
+-- if the text ended before the place, all of it begins before it
 pub reached_end : (text : List ℕ) (place : ℕ) (rest : List ℕ) (end : ℕ) → rest ≡ []
     → Reached text place rest end → chars text ≡ begun_before place (chars text)
 reached_end text place rest end h r =
@@ -127,7 +127,7 @@ reached_end text place rest end h r =
     ∙ ap (λ (x : List ℕ). r.front ++ x) (encodes_same r.back [] (r.left ∙ h)) in
     all ∙ sym (ap (λ (x : List ℕ). begun_before place x) all ∙ r.begun [])
 
--- the text may be cut where it was read
+-- the text may be cut at the byte that is reached
 pub reached_boundary : (text : List ℕ) (place : ℕ) (rest : List ℕ) (end : ℕ)
     → Reached text place rest end → IsCharBoundary text end
 reached_boundary text place rest end r =
@@ -145,12 +145,12 @@ pub last_line_ends : (cs : List ℕ) (c : ℕ) → c ≡ line_end
     → 1 ≡ length (last_line (cs ++ (c ∷ []))) + 1
 last_line_ends cs c h = rw (last_line_more cs c, h) refl
 
--- another character goes on in it
+-- any other character is one more in its line
 pub last_line_goes_on : (cs : List ℕ) (c column : ℕ) → c ≢ line_end
     → column ≡ length (last_line cs) + 1 → column + 1 ≡ length (last_line (cs ++ (c ∷ []))) + 1
 last_line_goes_on cs c column h e = rw (last_line_more cs c) (grind arith)
 
--- it is no longer than the text
+-- the last line is no longer than the text
 last_line_short : (cs : List ℕ) → length (last_line cs) ≤ length cs
 last_line_short cs = let r = length-reverse cs in
     let t = length-take (prefix_len (λ d. not (d == line_end)) (reverse cs)) (reverse cs) in
@@ -171,7 +171,7 @@ pub characters_short : (text : List ℕ) → IsUtf8 text → length (chars text)
 characters_short text u =
     let e = ap length (encodes-chars text u) in let n = length-le-encodes (chars text) in omega arith
 
--- none, or one before others
+-- no character, or one before others
 none_or_one : (b : Bool) (c : ℕ) (xs cs : List ℕ) → length xs ≤ length cs
     → length (cond b [] (c ∷ xs)) ≤ length (c ∷ cs)
 none_or_one true c xs cs h = omega arith

@@ -1,4 +1,4 @@
--- The pieces of a text that has another after it.
+-- The pieces of a text that another text follows.
 use Rattle.std.proofs.Common.{◌≡◌, ◌≢◌, ℕ, zero, suc, ◌+◌, ◌-◌, ◌≤◌, Bool, true, false, List, []}
 use Rattle.std.proofs.Common.{◌∷◌, ◌++◌, length, take, arith, refl, ap, ◌∙◌, sym, subst, Result, Ok}
 use Rattle.std.proofs.Common.{Err, Option, Some, None, inl, length-append}
@@ -22,7 +22,7 @@ use Rattle.interpolator_syntax.proofs.GrammarPieceLemmas.{step_reaches}
 use Rattle.interpolator_syntax.proofs.PieceLemmas.{piece_within, pieces_none, pieces_next}
 use Rattle.interpolator_syntax.proofs.PieceLemmas.{strip_after}
 
--- a text after one that ends so leaves its pieces as they are
+-- a text that follows one that ends so leaves the pieces of that one as they are
 abbrev pub Leaves : Ending → List ℕ → Type 0
 Leaves e more = (e ≢ Open) × (may_follow e more ≡ true)
 
@@ -58,7 +58,7 @@ closed_same a more x q rest e closes =
 
 -- ---- pieces
 
--- what a piece needs of the text after it, if it is the last
+-- what the last piece requires of the text after it
 abbrev Goes : Step → List ℕ → Type 0
 Goes s more = s.rest.text ≡ [] → Leaves (piece_ending s.piece) more
 
@@ -112,7 +112,7 @@ module _ (p : ℕ) (b : At) (more : List ℕ) where
   unfolding argument_from
   argument_from_more g = argument_more (argument_at b) refl g
 
--- after a brace that ends the text no argument is closed
+-- after a brace at the end of the text there is no closed argument
 brace_last : (p q : ℕ) (more : List ℕ) → Goes (argument_from p (stands q [])) more → ⊥
 unfolding argument_from argument_at
 brace_last p q more g = (g refl).0 refl

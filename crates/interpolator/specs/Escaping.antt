@@ -1,4 +1,4 @@
--- Texts whose braces are doubled, and meanings that are a text alone.
+-- Texts whose braces are doubled, and meanings that are text and nothing else.
 use Rattle.std.specs.Prelude.{◌≡◌, ℕ, if◌then◌else◌, List, [], ◌∷◌, map, Option, Some, None}
 use Rattle.interpolator_syntax.specs.At.{text_of}
 use Rattle.interpolator_syntax.specs.Classes.{is_brace}
@@ -17,11 +17,11 @@ plain_character (literal c) = Some c
 plain_character (doubled brace) = Some brace
 plain_character _ = None
 
--- literals and doubled braces alone, which are written as these characters
+-- pieces that are literals or doubled braces, and are written as these characters
 abbrev pub ArePlain : List Piece → List ℕ → Type 0
 ArePlain xs text = map (λ x. plain_character x.kind) xs ≡ map Some text
 
--- these characters, with no fault, and no memory is taken
+-- a meaning of these characters, without a fault, that takes no memory
 pub record SaysAlone (text : List ℕ) (m : Meaning) : Type 0 where
   pub says : text_of m.text ≡ text
   pub no_fault : m.fault ≡ None

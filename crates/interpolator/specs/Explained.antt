@@ -16,8 +16,8 @@ use Rattle.interpolator.specs.declared.explaining.Source.{Source}
 abbrev pub usize_sum : ℕ → ℕ → ℕ
 usize_sum a b = min (a + b) (2 ^ 64 - 1)
 
--- the bytes of a format that are marked: those of the innermost argument that has the place, or none
--- but the place
+-- the bytes of a format that are marked: those of the innermost argument that has the place, or the
+-- place alone
 abbrev pub marked_bytes : List ℕ → ℕ → ℕ × ℕ
 marked_bytes format place =
     unwrap_or (argument_among place (as_forest (nodes (outermost (chars format))))) (place, place)
@@ -26,13 +26,14 @@ marked_bytes format place =
 abbrev pub line_of : List ℕ → ℕ → List ℕ
 line_of text number = get_or (lines text) (number - 1) []
 
--- how many characters of a line of so many, that has this number, are before a byte of the text
+-- how many characters of the line of this number, which has `count` of them, are before a byte of
+-- the text
 abbrev pub before_in_line : List ℕ → (number count place : ℕ) → ℕ
 before_in_line text number count place =
     if nat_lt (line_at text place) number then 0
     else (if nat_lt number (line_at text place) then count else column_at text place - 1)
 
--- the line of a source that has a byte of its text, with the marked bytes of its format
+-- the line of a source that has a byte of its text, with these bytes of its format marked
 abbrev pub excerpt_at : Source → (at : ℕ) → ℕ × ℕ → Excerpt
 excerpt_at s at marked =
     let number = line_at s.text.now at in
@@ -41,24 +42,24 @@ excerpt_at s at marked =
     (before_in_line s.text.now number (length line) (usize_sum s.start marked.0))
     (before_in_line s.text.now number (length line) (usize_sum s.start marked.1))
 
--- what comes before the line: name, line, column and what it is
+-- what comes before the line that is shown: name, line, column and what is reported
 abbrev pub head : List ℕ → (number column : ℕ) → List ℕ → List ℕ
 head name number column what =
     name ++ (codes ":" ++ (position_text number column ++ (codes ": " ++ what)))
 
--- what is told of something at a byte of the text, which has a number and a column, and its line
+-- what is reported at a byte of the text, with the line that has it
 abbrev pub told_at : Source → (at : ℕ) → ℕ × ℕ → List ℕ → List ℕ
 told_at s at marked what =
     let number = usize_sum s.first_line (line_at s.text.now at - 1) in
     head s.name.now number (column_at s.text.now at) what
     ++ (codes "\n" ++ picture number (excerpt_at s at marked))
 
--- what is told of something at a byte of the format, or without a place
+-- what is reported at a byte of the format, or without a place
 abbrev pub explanation : Source → Option ℕ → List ℕ → List ℕ
 explanation s None what = s.name.now ++ (codes ": " ++ what)
 explanation s (Some place) what =
     told_at s (usize_sum s.start place) (marked_bytes s.format.now place) what
 
--- what is told of an answer
+-- the explanation of an error
 abbrev pub explanation_of : Source → Answer → List ℕ
 explanation_of s answer = explanation s (answer_place answer) (answer_text answer)

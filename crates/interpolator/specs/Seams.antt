@@ -22,7 +22,7 @@ kind_ending (broken f) = Open
 abbrev pub piece_ending : Piece → Ending
 piece_ending x = kind_ending x.kind
 
--- how the last of these pieces ends, or as given if there is none
+-- how the last of these pieces ends, or `e` if there is none
 abbrev pub last_ending : Ending → List Piece → Ending
 last_ending e [] = e
 last_ending e (x ∷ xs) = last_ending (piece_ending x) xs
@@ -31,7 +31,7 @@ last_ending e (x ∷ xs) = last_ending (piece_ending x) xs
 abbrev pub ending : At → Ending
 ending a = last_ending Settled (pieces a)
 
--- a text begins with a closing brace
+-- whether a text begins with a closing brace
 abbrev pub begins_close : List ℕ → Bool
 begins_close [] = false
 begins_close (c ∷ cs) = c == close_brace
@@ -47,7 +47,7 @@ may_follow Open more = true
 abbrev pub seam_of : (a b : List ℕ) → Bool
 seam_of a b = may_follow (ending (outermost a)) b
 
--- how what the scan hands on ends, with b after it
+-- how a token of the scan ends, with b after it
 abbrev pub token_ending : Token → (b : At) → Ending
 token_ending (literals cs) b = Settled
 token_ending (doubled_token c) b = Settled

@@ -1,5 +1,5 @@
--- A format that is read once: its arguments, what its tree tells before it is written, and how the
--- code stores it.
+-- A format that is read once: its arguments, what is known from its tree before it is written, and
+-- how the code stores it.
 pub mod AllArguments
 pub mod NodeChecks
 pub mod NodeCosts

@@ -10,7 +10,7 @@ use interpolator_render::{TextBuffer, TextWrite};
 use interpolator_syntax::{Class, Error, split_class, split_first};
 use std::alloc::Global;
 
-/// Appends a text, for which memory may be refused.
+/// Appends a text; there may be no memory for it.
 fn append(out: &mut TextBuffer, text: &str) -> Result<(), Error>
     ensures ok { IfOk result (λ _. out.new.text ≡ out.old.text ++ chars text.now) }
     ensures err { IfErr result (λ error. error ≡ NoMemory) }
@@ -21,7 +21,7 @@ fn append(out: &mut TextBuffer, text: &str) -> Result<(), Error>
     }
 }
 
-/// Appends a character twice, for which memory may be refused.
+/// Appends a character twice; there may be no memory for it.
 fn append_twice(out: &mut TextBuffer, c: char) -> Result<(), Error>
     ensures ok { IfOk result (λ _. out.new.text ≡ out.old.text ++ (c ∷ c ∷ [])) }
     ensures err { IfErr result (λ error. error ≡ NoMemory) }
@@ -32,8 +32,8 @@ fn append_twice(out: &mut TextBuffer, c: char) -> Result<(), Error>
     Ok(())
 }
 
-/// Appends the front of a text without a brace, and twice the brace after it. Returns what follows
-/// that.
+/// Appends the part of a text before its first brace, and that brace twice. Returns what follows
+/// it.
 fn append_front<'a>(out: &mut TextBuffer, text: &'a str) -> Result<&'a str, Error>
     requires not_empty { 0 < length text.now }
     ensures ok { IfOk result (λ rest. out.new.text ++ braces_doubled (chars rest.now)

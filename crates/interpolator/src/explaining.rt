@@ -10,7 +10,8 @@ use crate::template::Template;
 use interpolator_syntax::Error;
 use std::alloc::{AllocError, Global};
 
-/// Where a format is: a text, as a file or a line of one, and the part of it that is the format.
+/// Where a format is: a text, such as a file or a line of one, and the part of it that is the
+/// format.
 ///
 /// ```text
 /// // the format of line 3 of a file of messages, `greeting = Hello {name, you`
@@ -19,7 +20,7 @@ use std::alloc::{AllocError, Global};
 /// ```
 #[derive(Clone, Copy, Debug)]
 pub struct Source<'a> {
-    /// What the text is called, as the name of a file.
+    /// What the text is called, such as the name of a file.
     pub name: &'a str,
     /// The number of the text's first line: 1 for a whole file.
     pub first_line: usize,
@@ -31,10 +32,11 @@ pub struct Source<'a> {
     pub format: &'a str,
 }
 
-/// Shows a fault of a format as a compiler does: [`explain_in`] of a text that is the format.
+/// Shows a fault of a format as a compiler does: [`explain_in`] for a text that is the format
+/// itself.
 ///
 /// ```text
-/// // of a file `greeting.txt`, `Hello {name`, whose fault is `FormatSpecUnclosed(7)`
+/// // for `Hello {name` in a file `greeting.txt`, whose fault is `FormatSpecUnclosed(7)`
 /// greeting.txt:1:8: error while parsing input: Format spec at 7 is nether closed with a `}`
 ///   |
 /// 1 | Hello {name
@@ -64,13 +66,14 @@ pub fn explain(alloc: Global, name: &str, text: &str, error: &Error) -> Result<S
     explain_in(alloc, &source, error)
 }
 
-/// Shows a fault of a format as a compiler does: the name of the text, the line and the column of the
-/// fault's place, what it is, and the line with marks under the argument that has the place.
+/// Shows a fault of a format as a compiler does: the name of the text, the line and the column of
+/// the fault, what it is, and the line with marks under the argument that has the fault's place.
 ///
 /// The innermost argument that has the place is marked from its opening brace to its end, as far as
-/// it is in the line; at any other place there is one mark. Under a tab is a tab. A line of more
-/// than 120 characters is cut around the place, with `..` where it is cut. A fault without a place
-/// is shown with the name alone. The answer has no newline at its end.
+/// it is in the line; if no argument has it, there is one mark, at the place. Before the marks
+/// there is a tab under each tab and a space under any other character. A line of more than 120
+/// characters is cut around the place, with `..` where it is cut. A fault without a place is shown
+/// with the name alone. The text that is returned has no newline at its end.
 ///
 /// The format is read again, and memory is taken for that.
 ///
@@ -104,7 +107,7 @@ pub fn explain_in(alloc: Global, source: &Source<'_>, error: &Error) -> Result<S
     }
 }
 
-/// What is told of something without a place.
+/// What is reported without a place.
 fn without_place(alloc: Global, name: &str, what: &str) -> Result<String, AllocError>
     ensures { IfOk result (λ told.
         string_bytes told ≡ name.now ++ (codes ": " ++ what.now)) }
@@ -122,7 +125,7 @@ fn marked_bytes(alloc: Global, format: &str, place: usize) -> Result<(usize, usi
     Ok(template.argument_at(place).unwrap_or((place, place)))
 }
 
-/// The line of this number, from 1 on; empty if the text has none such.
+/// The line of this number, counted from 1; empty if the text has fewer lines.
 fn line_of(text: &str, number: usize) -> &str
     requires { 0 < number }
     ensures { result.now ≡ line_of text.now number }
@@ -137,7 +140,8 @@ fn line_of(text: &str, number: usize) -> &str
     ""
 }
 
-/// How many characters of a line of so many, that has this number, are before a byte of the text.
+/// How many characters of the line of this number, which has `count` of them, are before a byte of
+/// the text.
 fn before_in_line(text: &str, number: usize, count: usize, place: usize) -> usize
     ensures { result ≡ before_in_line text.now number count place }
 {
@@ -160,7 +164,7 @@ fn head(alloc: Global, name: &str, position: Position, what: &str) -> Result<Str
     Ok(head)
 }
 
-/// What is told of something at a byte of the text.
+/// What is reported at a byte of the text, with the line that has it.
 fn told_at(
     alloc: Global,
     source: &Source<'_>,

@@ -24,10 +24,10 @@ use interpolator_syntax::Error;
 use std::alloc::Global;
 use std::collections::HashMap;
 
-/// The functions `format`, `write` and `iwriteln` as methods of a context.
+/// `format`, `write` and the other calls that write, as methods of a context.
 ///
-/// A caller with a map of borrowed values writes `map.format(alloc, text)?` and proves nothing. A
-/// context of one's own that names at most one lifetime has them by an empty impl.
+/// A caller with a map of borrowed values writes `map.format(alloc, text)?` and proves nothing. For
+/// a context type of your own that names at most one lifetime, write an empty impl.
 pub trait Interpolate: Context {
     /// The format's text, as the function `format` makes it.
     ///
@@ -36,7 +36,7 @@ pub trait Interpolate: Context {
     /// The format's first fault, or `NoMemory`.
     ///
     /// ```text
-    /// context.format(alloc, "{n:>3}")?    // of 7 under `n`: "  7"
+    /// context.format(alloc, "{n:>3}")?    // with 7 under `n`: "  7"
     /// ```
     fn format(&self, alloc: Global, text: &str) -> Result<String, Error>
         ensures formats { Formats
@@ -58,7 +58,7 @@ pub trait Interpolate: Context {
     /// The format's first fault; `Fmt` if the writer refuses; `NoMemory`.
     ///
     /// ```text
-    /// context.write_to(alloc, &mut out, "{n};")?    // of 7 under `n`, appends "7;"
+    /// context.write_to(alloc, &mut out, "{n};")?    // with 7 under `n`, appends "7;"
     /// ```
     fn write_to<W: TextWrite>(&self, alloc: Global, out: &mut W, text: &str) -> Result<(), Error>
         ensures outcome { Outcome
@@ -80,7 +80,7 @@ pub trait Interpolate: Context {
     /// Those of `write_to`; `Fmt` at place 0 if the writer refuses the newline alone.
     ///
     /// ```text
-    /// context.write_line_to(alloc, &mut out, "{n}")?    // of 7 under `n`, appends "7\n"
+    /// context.write_line_to(alloc, &mut out, "{n}")?    // with 7 under `n`, appends "7\n"
     /// ```
     fn write_line_to<W: TextWrite>(
         &self,
@@ -109,7 +109,7 @@ pub trait Interpolate: Context {
     /// The first fault of the parts; `Fmt` if the writer refuses; `NoMemory`.
     ///
     /// ```text
-    /// context.write_parts_to(alloc, &mut out, &["{n}", "-{n}"])?    // of 7, appends "7-7"
+    /// context.write_parts_to(alloc, &mut out, &["{n}", "-{n}"])?    // with 7, appends "7-7"
     /// ```
     fn write_parts_to<W: TextWrite>(
         &self,
@@ -140,7 +140,7 @@ pub trait Interpolate: Context {
     ///
     /// ```text
     /// let template = Template::parse(alloc, "{n:>3}")?;
-    /// context.write_template_to(alloc, &mut out, &template)?;    // of 7, appends "  7"
+    /// context.write_template_to(alloc, &mut out, &template)?;    // with 7, appends "  7"
     /// ```
     fn write_template_to<W: TextWrite>(
         &self,
@@ -167,7 +167,7 @@ pub trait Interpolate: Context {
     /// The format's first fault, or `NoMemory`.
     ///
     /// ```text
-    /// context.format_template(alloc, &template)?    // of `{n:>3}` and 7: "  7"
+    /// context.format_template(alloc, &template)?    // for `{n:>3}` and 7: "  7"
     /// ```
     fn format_template(&self, alloc: Global, template: &Template) -> Result<String, Error>
         ensures formats { Formats
@@ -182,12 +182,13 @@ pub trait Interpolate: Context {
         template.format(alloc, self)
     }
 
-    /// Tells the first fault that the template has by itself or over this context as a sample, as
-    /// [`Template::check_in`] does.
+    /// Reports the first fault that the template has by itself or against this context as a sample,
+    /// as [`Template::check_in`] does.
     ///
     /// # Errors
     ///
-    /// The first fault, at its place in the text; `NoMemory` if it is a missing name's.
+    /// The first fault, at its place in the text; `NoMemory` if it is a missing value, and there is
+    /// no memory for its name.
     ///
     /// ```text
     /// sample.check_template(alloc, &template)?    // before the first row is written
@@ -201,12 +202,12 @@ pub trait Interpolate: Context {
         template.check_in(alloc, self)
     }
 
-    /// All faults that the template has by itself or over this context as a sample, as
-    /// [`Template::faults_in`] answers them.
+    /// All faults that the template has by itself or against this context as a sample, as
+    /// [`Template::faults_in`] returns them.
     ///
     /// # Errors
     ///
-    /// `NoMemory`: the faults find no memory.
+    /// `NoMemory`: there is no memory for the faults.
     ///
     /// ```text
     /// for fault in &sample.template_faults(alloc, &template)? {}
@@ -227,7 +228,7 @@ impl<'a, V: Value> Interpolate for NameMap<Formattable<'a, V>> {}
 
 impl<'a, V: Value> Interpolate for Pairs<'a, V> {}
 
-// This map's type names two lifetimes, and the calls take one that names one.
+// The type of this map names two lifetimes, and the methods take a type that names one.
 impl<'k, 'a, V: Value> Interpolate for HashMap<&'k str, Formattable<'a, V>> {
     fn format(&self, alloc: Global, text: &str) -> Result<String, Error> {
         format(alloc, text, &ByNames::new(self))

@@ -1,10 +1,10 @@
 //! Format strings at run time, proved.
 //!
-//! A format text and named values go in, and the formatted text or one located fault comes out. A
-//! [`Formattable`] is a value with a slot for each trait under which a format may ask it, or a list
-//! of such values. A [`Context`] says what is under a name: a [`ContextMap`], a `HashMap`, or
+//! Give it a format and named values, and you get the formatted text, or one fault with its place.
+//! A [`Formattable`] is a value with a slot for each trait under which a format may show it, or a
+//! list of such values. A [`Context`] says what is under a name: a [`ContextMap`], a `HashMap`, or
 //! [`Pairs`], which takes no memory. [`write`] appends to any [`TextWrite`], and [`format`] makes a
-//! new text; the methods of [`Interpolate`] do the same for a context.
+//! new `String`; the methods of [`Interpolate`] do the same for a context.
 //!
 //! ```text
 //! let values = [View::Text("Ann"), View::from(-7i32)];

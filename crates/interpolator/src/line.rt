@@ -15,7 +15,7 @@ use interpolator_render::TextWrite;
 use interpolator_syntax::Error;
 use std::alloc::Global;
 
-/// Writes a newline, which has place 0.
+/// Writes a newline, whose place is 0.
 fn write_newline<W: TextWrite>(out: &mut W) -> Result<(), Error>
     ensures outcome { Outcome newline_means
         (W.written out.old) (W.written out.new) (result_answer result) }
@@ -29,8 +29,8 @@ fn write_newline<W: TextWrite>(out: &mut W) -> Result<(), Error>
 ///
 /// # Errors
 ///
-/// Those of `write` over the same format and context. If the writer takes the format's text and
-/// refuses the newline, the answer is `Fmt` at place 0.
+/// Those of `write` with the same format and context; `Fmt` at place 0 if the writer takes the
+/// format's text and refuses the newline.
 ///
 /// # Example
 ///

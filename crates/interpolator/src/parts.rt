@@ -1,4 +1,4 @@
-//! Formats in parts: which may follow one another, and what they write.
+//! Formats in parts: which may follow which, and what they write.
 ghost use Rattle.std.specs.Prelude.{◌≡◌, ◌+◌, ◌^◌, ◌<◌, length, IfOk};
 ghost use Rattle.std.specs.Str.{chars};
 ghost use Rattle.interpolator_syntax.specs.At.{at, size, outermost};
@@ -31,7 +31,7 @@ pub(crate) enum Ending {
     Open,
 }
 
-/// How the argument ends that begins here, after its brace, and what follows it.
+/// How the argument that begins here, after its brace, ends, and what follows it.
 fn argument_ending(here: Cursor<'_>) -> (Ending, Cursor<'_>)
     ensures ending { result.0
         ≡ piece_ending (argument_from here.entry.place (at here.entry)).piece }
@@ -51,7 +51,7 @@ fn argument_ending(here: Cursor<'_>) -> (Ending, Cursor<'_>)
     }
 }
 
-/// How a token ends that `rest` follows, and what follows it and its argument.
+/// How a token that `rest` follows ends, with its argument if it begins one, and what follows that.
 fn past_token<'t>(token: Token<'t>, rest: Cursor<'t>) -> (Ending, Cursor<'t>)
     ensures ending { result.0 ≡ token_ending (token_of token.entry) (at rest.entry) }
     ensures rest { pieces (at result.1)
@@ -80,10 +80,10 @@ fn ending_of(text: Cursor<'_>) -> Ending
 /// Tests whether no brace at the end of one format is doubled by a brace at the beginning of the
 /// next.
 ///
-/// It is false in one case: `a` ends in a lone `}` and `b` begins with `}`, so that the two would be
-/// read as a doubled brace. If it is true, the last piece of `a` stays what it is by itself, unless
-/// it is an argument that is unclosed or broken: such an argument takes in what follows it, as `{x`
-/// is closed by `}`. No memory is taken.
+/// It is false in one case: `a` ends in a lone `}` and `b` begins with `}`, so that the two would
+/// be read as a doubled brace. If it is true, the last piece of `a` stays what it is by itself,
+/// unless it is an argument that is unclosed or broken: such an argument takes in what follows it,
+/// as `{x` is closed by `}`. No memory is taken.
 ///
 /// # Example
 ///
@@ -151,14 +151,14 @@ fn write_each<'a, W: TextWrite, C: Context>(
 
 /// Writes the parts one after the other, each as a format by itself, up to the first fault.
 ///
-/// A brace or an argument never goes over from one part into the next. A part after the first
-/// fault is not read. No part is copied, and memory is taken only as by `write`.
+/// No brace and no argument goes on from one part into the next. A part after the first fault is
+/// not read. No part is copied, and memory is taken only as `write` takes it.
 ///
-/// If no part but the last ends in an argument that is unclosed or broken, and at each border the
-/// [`seam`] between all parts before it, joined, and the next is true, the parts write what `write`
-/// writes of the joined text.
+/// The parts write what `write` writes for the joined text if no part but the last ends in an
+/// argument that is unclosed or broken, and if for each part the [`seam`] between the parts before
+/// it, joined, and the part is true.
 ///
-/// The joined text has fewer than 2^64 bytes.
+/// The joined text must have fewer than 2^64 bytes.
 ///
 /// # Errors
 ///

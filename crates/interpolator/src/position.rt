@@ -11,9 +11,9 @@ use std::fmt;
 /// between them, whatever the options: `3:17`.
 #[derive(Clone, Copy, Debug, PartialEq, Eq)]
 pub struct Position {
-    /// The number of line ends before it, and one.
+    /// One more than the number of line ends before it.
     pub line: usize,
-    /// The number of characters before it in its line, and one.
+    /// One more than the number of characters before it in its line.
     pub column: usize,
 }
 
@@ -47,7 +47,7 @@ impl fmt::Display for Position {
     }
 }
 
-/// The characters of a text that begin before a byte.
+/// The front of a text that has the characters that begin before a byte.
 fn text_before(text: &str, place: usize) -> &str
     ensures { chars result.now ≡ begun_before place (chars text.now) }
 {
@@ -61,14 +61,14 @@ fn text_before(text: &str, place: usize) -> &str
     text
 }
 
-/// How many lines have ended in a text, and one.
+/// One more than the number of line ends in a text.
 fn line_at_end(text: &str) -> usize
     ensures { result ≡ lines_ended (chars text.now) + 1 }
 {
     text.chars().filter(|c| *c == '\n').count() + 1
 }
 
-/// The number of characters after the last line end of a text, and one.
+/// One more than the number of characters after the last line end of a text.
 fn column_at_end(text: &str) -> usize
     ensures { result ≡ length (last_line (chars text.now)) + 1 }
 {

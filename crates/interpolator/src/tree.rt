@@ -1,4 +1,4 @@
-//! Pieces that were read before, as a source of a format: callers first.
+//! Stored pieces as the source of a format. Callers come before what they call.
 ghost use Rattle.std.specs.Prelude.{◌≡◌, ◌+◌, ◌^◌, ◌<◌, ◌≤◌, ⊤, IfOk, IsSome, MatchBool, Some};
 ghost use Rattle.std.specs.Prelude.{false, length, option_map, true};
 ghost use Rattle.std.specs.Str.{chars};
@@ -28,7 +28,7 @@ use interpolator_render::{Spec, TextWrite};
 use interpolator_syntax::{ArgumentFault, Error, ParseError, PieceKind, Range};
 use std::sync::ledger::Ledger;
 
-/// Pieces of a text that are still to be written: all of a text's, or any others that fit it.
+/// Pieces that are still to be written: all those of a text, or any others that fit it.
 #[derive(Clone, Copy)]
 pub(crate) struct Stored<'t> {
     pub(crate) text: &'t str,
@@ -37,7 +37,7 @@ pub(crate) struct Stored<'t> {
 }
 
 impl<'t> FormatSource for Stored<'t> {
-    /// The list, and what follows it.
+    /// The list that comes next, and what follows it.
     type List = Stored<'t>;
 
     ghost tree = { λ s. as_forest (nodes_of s.text.now s.pieces.now) };
@@ -138,7 +138,7 @@ impl<'t> FormatSource for Stored<'t> {
     }
 }
 
-/// Which items of a list; all, if nothing tells them.
+/// Which items of a list are written: all, unless the form of the piece has a range.
 #[inline(always)]
 fn range_asked(form: &Form) -> Option<Range>
     ensures { result ≡ range_asked form.now }
@@ -149,7 +149,7 @@ fn range_asked(form: &Form) -> Option<Range>
     }
 }
 
-/// Writes what pieces mean up to the first list, in order, and tells whether there is one.
+/// Writes what pieces mean up to the first list, in order, and returns whether there is one.
 #[inline(always)]
 fn run_pieces<'t, 'a, W: TextWrite, C: Context, L: Ledger>(
     sink: &mut Sink<'_, W>,
@@ -184,7 +184,7 @@ fn run_pieces<'t, 'a, W: TextWrite, C: Context, L: Ledger>(
     Ok(false)
 }
 
-/// Writes what a piece means, and tells whether it asks for a list; of which nothing is written.
+/// Writes what a piece means, unless it asks for a list; returns whether it does.
 #[inline(always)]
 fn run_piece<'a, W: TextWrite, C: Context>(
     sink: &mut Sink<'_, W>,
@@ -227,7 +227,8 @@ fn run_piece<'a, W: TextWrite, C: Context>(
     }
 }
 
-/// That a value was written and no list is asked for, or the fault of an argument that is not closed.
+/// Returns that no list is asked for, after a value was written; or the fault of an argument that
+/// is not closed.
 #[inline(always)]
 fn value_done(piece: &Piece) -> Result<bool, Error>
     ensures closed { result_answer result ≡ option_map fault (unclosed_fault piece.now) }
@@ -237,8 +238,8 @@ fn value_done(piece: &Piece) -> Result<bool, Error>
     Ok(false)
 }
 
-/// The fault of a broken argument. It is a function of its own, since a function zeroes its error slot
-/// on entry.
+/// The fault of a broken argument. This is a function of its own, since a function zeroes its error
+/// slot on entry.
 #[inline(always)]
 fn refused(broken: &ArgumentFault) -> Result<bool, Error>
     ensures { result_answer result ≡ Some (fault (argument_fault_of broken.now)) }
@@ -284,7 +285,7 @@ pub(crate) fn closed(piece: &Piece) -> Result<(), Error>
     }
 }
 
-/// Which items of a list.
+/// The range of a list, if it has one.
 #[inline(always)]
 pub(crate) fn unboxed(range: &Option<Box<Range>>) -> Option<Range>
     ensures { result ≡ range_of range.now }

@@ -1,4 +1,4 @@
--- A node after a program, as stored steps.
+-- What a node adds to a program, as stored steps.
 use Rattle.std.proofs.Common.{◌≡◌, ◌≢◌, ◌∙◌, refl, sym, ap, ℕ, suc, ◌<◌, ◌≤◌, List, [], ◌∷◌, ◌++◌, map}
 use Rattle.std.proofs.Common.{Option, None, Some, IsSome, option_map, true, false, Bool, length}
 use Rattle.std.proofs.Common.{drop, get_or}
@@ -40,7 +40,7 @@ use Rattle.interpolator.proofs.TemplateLemmas.RunLemmas.{value_fits}
 use Rattle.interpolator.proofs.TemplateLemmas.StoredLemmas.{node_of_out}
 use Rattle.interpolator.proofs.TemplateLemmas.WholePieceLemmas.{both, fits_text}
 
--- neither a name nor a value
+-- the forms that are neither a name nor a value
 abbrev pub IsOther : Form → Type 0
 IsOther forms.Text = ⊤
 IsOther forms.Name = ⊥
@@ -122,7 +122,7 @@ append_two (z ∷ xs) x y = ap (λ ys. z ∷ ys) (append_two xs x y)
 -- ---- text
 
 module _ (bs : List ℕ) (xs : Placed) where
-  -- no step, and then text
+  -- text with no step before it
   pub text_alone_after :
       (old new : List Step) (s : Step) → old ≡ [] → new ≡ old ++ (s ∷ [])
       → step_of bs s ≡ Some (text_step xs) → Becomes bs old new (λ p. with_text p xs)
@@ -180,7 +180,7 @@ whole_apart_by true n x xs h =
     let same : node_step n ≡ x = some_same (node_step n) x h in rw (← same) refl
 whole_apart_by false n x xs h = absurd (cc)
 
--- and so does a node
+-- and so does a node that is kept alone
 pub whole_apart : (ns : List Node) (x : Instruction) (xs : Placed) → whole_step ns ≡ Some x
     → text_after x xs ≡ x ∷ (text_step xs ∷ [])
 whole_apart [] x xs h = absurd (cc)
@@ -220,7 +220,7 @@ pub joined_text : (ps : List Part) (bytes : List ℕ) (x : Instruction) → join
 joined_text ps bytes x h =
     joined_text_by (parts_size ps == length bytes) (joined_placed ps bytes) x h
 
--- one step was pushed in place of the last, or one more
+-- one step was pushed in place of the last, or after it
 module _ {E : Type 0} (r : Result (Unit {0}) E) (bs : List ℕ) (from to : ℕ)
     (old front new : List Step) (last s : Step) (was : old ≡ front ++ (last ∷ [])) where
   abbrev Pushed : Type 0
@@ -431,7 +431,7 @@ module _ (names : List (List ℕ)) where
           (λ name is. value_held bs x ((out-Piece x).place + 1) name refl is t form)
           (stored_name bs x) refl (value_fits bs x t form (fits_text bs x whole).held)
 
-    -- of no other piece
+    -- no other piece has a position
     pub no_position_kind : (kind : PieceKind) → (out-Piece x).kind ≡ kind → kind ≢ kinds.Closed
         → None ≡ node_position names (node_of bs x)
     no_position_kind kind is other =
@@ -519,20 +519,20 @@ module _ (names : List (List ℕ)) where
           (λ name is. value_held bs x ((out-Piece x).place + 1) name refl is t form)
           (stored_name bs x) refl (value_fits bs x t form (fits_text bs x whole).held)
 
-    -- without a position a piece is as it is
+    -- without a position, the piece is kept as it is
     pub step_without : None ≡ node_position names (node_of bs x)
         → Some (node_step (node_of bs x))
         ≡ Some (argument_step names (node_position names (node_of bs x)) (node_of bs x))
     step_without position = ap (λ o. Some (argument_step names o (node_of bs x))) position
 
-    -- what it holds leaves it as it is
+    -- so is a piece that does not ask for a value
     abbrev Kept : ℕ → Option Content → Type 0
     Kept k held =
         let y = out-Piece x in
         let n = node y.place y.end y.kind held (branch_of bs y.item) (branch_of bs y.join) in
         step_at names k n ≡ node_step n
 
-    -- and so is one of another form
+    -- and a piece of any other form
     pub step_other : (form : Form) → (out-Piece x).form ≡ form → IsOther form → (k : ℕ)
         → Some k ≡ node_position names (node_of bs x)
         → Some (node_step (node_of bs x))
@@ -563,7 +563,7 @@ module _ (names : List (List ℕ)) where
   -- ---- all pieces, one by one
 
   module _ (bs : List ℕ) (all : List Node) where
-    -- what was made of the pieces before those that are left
+    -- the steps so far, and those of the pieces that are left
     pub record Compiled (made : List Step) (left : List Piece) : Type 0 where
       pub whole : forest_whole (as_forest (nodes_of bs left)) ≡ true
       pub done : List Instruction

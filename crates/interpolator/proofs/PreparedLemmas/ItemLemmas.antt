@@ -1,4 +1,4 @@
--- Lists whose items are one value each, and whose join is text.
+-- Lists whose items are one value each and whose join is text.
 use Rattle.std.proofs.Common.{◌≡◌, ◌∙◌, refl, sym, ap, arith, ℕ, ◌<◌, ◌≤◌, List, [], ◌∷◌, length, get_or}
 use Rattle.std.proofs.Common.{Bool, true, false, Option, Some, None, inl, inr}
 use Rattle.std.specs.Prelude.{⊤, ◌==◌, is_some, MatchOption}
@@ -34,7 +34,7 @@ use Rattle.interpolator.specs.declared.template.piece.Piece.TheViews.{out-Piece}
 use Rattle.interpolator.proofs.PreparedLemmas.JoinedLemmas.{equal_numbers}
 use Rattle.interpolator.proofs.TemplateLemmas.StoredLemmas.{node_of_out}
 
--- the group of one stored piece
+-- a group of one stored piece
 pub one_node : (bs : List ℕ) (group : Option (Vec Piece)) (v : Vec Piece) (xs : List Piece) (x : Piece)
     → group ≡ Some v → xs ≡ v.items → xs ≡ x ∷ []
     → branch_of bs group ≡ branch (nodes_and (node_of bs x) no_nodes)
@@ -68,7 +68,7 @@ no_bytes : (bs : List ℕ) → length bs ≡ 0 → bs ≡ []
 no_bytes [] h = refl
 no_bytes (b ∷ bs) h = absurd (omega (arith, h))
 
--- a name of no bytes is empty
+-- a name without bytes is empty
 pub empty_name : (bs : List ℕ) (b : Bool) → b ≡ (length bs == 0) → b ≡ true → chars bs ≡ []
 empty_name bs b is test = no_text bs (no_bytes bs (equal_numbers (length bs) 0 (sym is ∙ test)))
 

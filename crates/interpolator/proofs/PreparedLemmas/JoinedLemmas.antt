@@ -1,4 +1,4 @@
--- Text of several parts of a format: the place of each of its bytes, and a refusal of it.
+-- Text of several parts of a format: the place of each of its bytes, and what a refusal means.
 use Rattle.std.proofs.Common.{◌≡◌, ◌∙◌, refl, sym, ap, arith, ℕ, ◌+◌, ◌-◌, ◌<◌, ◌≤◌, Bool, true, false}
 use Rattle.std.proofs.Common.{nat_lt, List, [], ◌∷◌, ◌++◌, length, drop, get_or, None, Some, inl, inr}
 use Rattle.std.specs.Prelude.{◌==◌, if◌then◌else◌}
@@ -90,7 +90,7 @@ joined_is : (b : Bool) (xs ds : Placed)
 joined_is true xs ds h = (refl, cc)
 joined_is false xs ds h = absurd (cc)
 
--- numbers that are told equal
+-- numbers that a test finds equal
 pub equal_numbers : (a b : ℕ) → (a == b) ≡ true → a ≡ b
 equal_numbers a b h = grind arith
 
@@ -146,7 +146,7 @@ text_of-placed_by : (f : ℕ → ℕ) (xs : Placed) → text_of (placed_by f xs)
 text_of-placed_by f [] = refl
 text_of-placed_by f (x ∷ xs) = ap (λ cs. x.0 ∷ cs) (text_of-placed_by f xs)
 
--- what was written of a text was written of the same characters at other places
+-- what was written of a text was also written of the same characters at other places
 pub placed_written :
     (f : ℕ → ℕ) (xs : Placed) (old new : Written) → Outcome (text_alone xs) old new None
     → Outcome (text_alone (placed_by f xs)) old new None
@@ -155,7 +155,7 @@ placed_written f xs old new (inl o) =
 placed_written f xs old new (inr (inl o)) = absurd (let e = o.told in cc)
 placed_written f xs old new (inr (inr o)) = absurd (let e = o.told in cc)
 
--- and what refused them told the place of the first that was not appended
+-- and if they were refused, the place is that of the first that was not appended
 pub placed_refused :
     (f : ℕ → ℕ) (xs : Placed) (old new : Written) (w : WriteFault)
     → Outcome (text_alone xs) old new (Some (write_fault_answer w))

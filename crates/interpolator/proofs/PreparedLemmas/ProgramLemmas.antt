@@ -1,4 +1,4 @@
--- The program of nodes means what they mean, over a row that reaches each name.
+-- The program of nodes means what they mean, with a row that reaches each name.
 use Rattle.std.proofs.Common.{◌≡◌, ◌∙◌, refl, sym, ap, arith, ℕ, suc, ◌+◌, ◌<◌, Bool, true, false}
 use Rattle.std.proofs.Common.{List, [], ◌∷◌, ◌++◌, length, Option, None, Some, IsSome}
 use Rattle.std.specs.List.{fold}

@@ -15,7 +15,7 @@ first_alone : (b : Bool) → later_or_first None b ≡ (if b then Some 0 else No
 first_alone true = refl
 first_alone false = refl
 
--- one more name is the last
+-- the last position with one more name at the end
 pub position_more : (names : List (List ℕ)) (own name : List ℕ)
     → last_position (names ++ (own ∷ [])) name
     ≡ (if bytes_eq name own then Some (length names) else last_position names name)

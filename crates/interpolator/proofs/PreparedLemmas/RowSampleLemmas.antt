@@ -1,4 +1,4 @@
--- A row is what pairs of its names and values are, and resembles a sample as they do.
+-- A row means what pairs of its names and values mean, and resembles a sample if they do.
 use Rattle.std.proofs.Common.{◌≡◌, ◌≢◌, ◌∙◌, refl, sym, ap, subst, ℕ, Bool, true, false, cond}
 use Rattle.std.proofs.Common.{List, [], ◌∷◌, ◌≤◌, length, map, arith}
 use Rattle.std.proofs.Common.{Option, Some, None, option_map}
@@ -100,7 +100,7 @@ module _ {Y : Type 0} where
   rows_agree row names (name ∷ asked) h =
       (sym (found_in_pairs row names name h), rows_agree row names asked h)
 
-  -- so a format means over a row what it does over these pairs
+  -- so a format means with a row what it means with these pairs
   pub row_means : (shows : Y → Trait → Spec → Shown) (row : List (Formattable Y))
       (names : List (Bor (List ℕ))) (a : At) → length names ≤ length row
       → means shows (environment (found_by_row (map (λ own. own.now) names) (row_at row))) a
@@ -183,11 +183,11 @@ module _ {X Y : Type 0} (shows : X → Trait → Spec → Shown) (others : Y →
       no_fault_named : (means others (by_names names) a).fault ≡ None
       no_fault_named = ap (λ ns. (means others (by_names ns) a).fault) named ∙ row_fault
 
-      -- so all is written, unless the writer has refused or memory was wanted
+      -- so all is written, unless the writer has refused or there was no memory
       pub writes_all : OnlyRefused new answer
       writes_all = only_refused (means others (by_names names) a) old new answer no_fault_named o
 
-      -- which it was not, if no list is under a width
+      -- and none is taken, if no list is under a width
       pub wants_no_memory : pads_a_list a ≡ false → answer ≢ Some no_memory
       wants_no_memory pads =
           wants_none (means others (by_names names) a) old new answer no_fault_named

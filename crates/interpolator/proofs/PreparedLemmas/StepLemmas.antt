@@ -38,14 +38,14 @@ program_fits bs (s ∷ ss) (p ∷ ps) h (suc k) d l =
     program_fits bs ss ps
     (rest_same (step_of bs s) (Some p) (map (step_of bs) ss) (map Some ps) h) k d (omega (arith, l))
 
--- what holds of steps holds of the last
+-- what holds for all steps holds for the last
 pub all_last : {A : Type 0} (P : A → Type 0) (xs : List A) (x : A) → All P (xs ++ (x ∷ [])) → P x
 all_last P [] x h = h 0 x (omega arith)
 all_last P (y ∷ xs) x h = all_last P xs x (λ k d l. h (suc k) d (omega (arith, l)))
 
 module _ {X : Type 0} (shows : X → Trait → Spec → Shown) (e : Environment X)
     (value_at : ℕ → Option (Slots X)) (bs : List ℕ) where
-  -- and mean what the program means
+  -- and steps that stand for a program mean what the program means
   pub program_stored :
       (steps : List Step) (program : List Instruction)
       → map (step_of bs) steps ≡ map Some program

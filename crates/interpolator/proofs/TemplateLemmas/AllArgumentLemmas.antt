@@ -130,7 +130,7 @@ arguments_none : (a : At) → first_token a ≡ None → arguments_of a ≡ []
 arguments_none a h =
     arguments_pieces a ∙ ap (pieces_arguments arguments_of) (hands_nothing a h)
 
--- another token has none, and what follows it is what is read on
+-- any other token has none, and reading goes on after it
 pub no_argument : (x : code_token.Token) (b : At) → ¬ (x ≡ tokens.Argument)
     → (token_arguments (token_of x) b ≡ []) × (past_token (token_of x) b ≡ b)
 no_argument (tokens.Literals text) b n = (refl, refl)
@@ -217,7 +217,7 @@ module _ (b : At) (t : TakenArgument) (read : taken_read (Ok t) ≡ argument_at 
 names_append : (xs ys : List Argument) → names_of (xs ++ ys) ≡ names_of xs ++ names_of ys
 names_append xs ys = map-append (λ x. x.name) xs ys
 
--- the names of these arguments that are not empty are these
+-- the names of these arguments that are not empty are these names
 abbrev Name : List Argument → List (List ℕ) → Type 0
 Name xs names = without_empty (names_of xs) ≡ without_empty names
 
@@ -264,7 +264,7 @@ module _ (a : At) (shorter : (b : At) → length b.text < length a.text
       (node_asks false (node_alone x)) (pieces_ask xs) (piece_names x.place _ x.kind h.0)
       (pieces_names xs h.2)
 
--- but for empty names, those of the arguments of a text are those that it asks
+-- except for empty names, the names of the arguments of a text are those that it uses
 pub arguments_name : (a : At)
     → without_empty (names_of (arguments_of a)) ≡ without_empty (asked_names a)
 arguments_name =

@@ -1,4 +1,5 @@
--- The faults that a text has by itself: a meaning has no others of a text, and pieces have them.
+-- The faults that a text has by itself: a meaning has no other `Parse` or `UnsupportedOption`, and
+-- they are those of the pieces.
 use Rattle.std.proofs.Common.{◌≡◌, refl, ap, arith, ℕ, List, [], ◌∷◌, ◌++◌, inl, inr, Some}
 use Rattle.std.proofs.Common.{None}
 use Rattle.std.proofs.lemmas.List.Elements.{Contains-append_left, Contains-append_right}

@@ -1,4 +1,4 @@
--- The first fault of stored pieces, from what is told of their parts.
+-- The first fault of stored pieces, from those of their parts.
 use Rattle.std.proofs.Common.{◌≡◌, ◌∙◌, refl, sym, ap, ℕ, true, List, [], ◌∷◌, ◌++◌}
 use Rattle.std.proofs.Common.{Option, Some, None, IsSome, option_map, Result, Ok, Err, IsErr}
 use Rattle.interpolator_syntax.specs.At.{At}

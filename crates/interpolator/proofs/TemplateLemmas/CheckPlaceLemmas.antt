@@ -1,4 +1,4 @@
--- The faults that a text has by itself lie in it, and are of a text.
+-- The faults that a text has by itself lie in it, and are of the kinds that a text can have.
 use Rattle.std.proofs.Common.{◌≡◌, ℕ, zero, suc, ◌+◌, ◌<◌, ◌≤◌, Bool, true, false, List, [], ◌∷◌}
 use Rattle.std.proofs.Common.{◌++◌, length, arith, subst, Some, None, option_map}
 use Rattle.std.specs.Prelude.{⊤, Contains, slice_index_or, if◌then◌else◌}
@@ -20,7 +20,7 @@ use Rattle.interpolator_syntax.proofs.CharacterLemmas.{size-chars}
 use Rattle.interpolator_syntax.proofs.TreePlaceLemmas.{HeldLies, NodeLies, BranchLies, ForestLies}
 use Rattle.interpolator_syntax.proofs.TreePlaceLemmas.{places_lie}
 
--- each fault carries one of the first places, and is of a text
+-- the place of each fault is at most n, and the fault is of a kind that a text can have
 abbrev pub FaultsWithin : ℕ → List Fault → Type 0
 FaultsWithin n [] = ⊤
 FaultsWithin n (f ∷ fs) = (fault_place f ≤ n) × IsOfText f × FaultsWithin n fs
@@ -42,7 +42,7 @@ at_of_text n (x ∷ xs) zero f h l e = subst IsOfText e h.1
 at_of_text n (x ∷ xs) (suc k) f h l e = at_of_text n xs k f h.2 (omega (arith, l)) e
 
 module _ (n : ℕ) where
-  -- what the spec of a list may not ask
+  -- the fault of a list whose spec has what it may not have
   forbidden_within : (q : ℕ) (t : Bool) → q ≤ n
       → FaultsWithin n (fault_list (if t then Some (parse (iter q)) else None))
   forbidden_within q true h = (h, tt, tt)
@@ -66,7 +66,7 @@ module _ (n : ℕ) where
   end_within kind (argument_content start name spec bare q) h = unclosed_within kind q h.1
   end_within kind (fault_content f) h = tt
 
-  -- the faults of a tree carry its places
+  -- the faults of a tree lie in its places
   mutual
     node_within : (x : Node) → NodeLies n x → FaultsWithin n (node_faults x)
     node_within (node place end kind None item join) h = tt
@@ -93,7 +93,7 @@ first_lies bs utf8 =
     first_within (length bs) (text_faults (outermost (chars bs)))
     (faults_lie (outermost (chars bs)) (length bs) (omega (arith, size-chars bs utf8)))
 
--- each is of a text
+-- each is of such a kind
 pub faults_of_text : (a : At) (f : Fault) → Contains (text_faults a) f → IsOfText f
 faults_of_text a f h =
     let n = a.place + size a.text in

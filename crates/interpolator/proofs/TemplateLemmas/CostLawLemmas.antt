@@ -1,4 +1,4 @@
--- What pieces mean costs no more than what is said of them, within limits.
+-- Within limits, writing what pieces mean costs no more than their cost.
 use Rattle.std.proofs.Common.{◌≡◌, ◌∙◌, refl, sym, subst, arith, ℕ, suc, ◌+◌, ◌-◌, ◌*◌, ◌≤◌, max}
 use Rattle.std.proofs.Common.{Bool, true, false, List, [], ◌∷◌, ◌++◌, length, Option, None, Some}
 use Rattle.std.proofs.Common.{is_some, unwrap_or, length-append, inl, inr, ◌≢◌, ◌⊎◌, ◌^◌, codes}
@@ -58,7 +58,7 @@ use Rattle.interpolator.proofs.TemplateLemmas.RangeLemmas.{Each, each_chosen, ch
 
 -- ---- what costs no more
 
--- a meaning, and what writing it goes through, cost at most so much
+-- a meaning, and the work of writing it, cost at most so much
 pub record AtMost (m : Meaning) (w : Work) (c : Cost) : Type 0 where
   pub characters : length m.text ≤ c.characters
   pub pieces : w.pieces ≤ c.pieces
@@ -97,7 +97,7 @@ joined_at_most m k w v c d h j =
 
 -- ---- items
 
--- so many items, each with the join before it
+-- items, each with the join before it
 abbrev after_cost : ℕ → (item join : Cost) → Cost
 after_cost n item join = record {
   characters = n * item.characters + n * join.characters;
@@ -258,7 +258,7 @@ module _ {X : Type 0} (shows : X → Trait → Spec → Shown) (limits : Limits)
   within_bound e tree ((c ∷ cs) ∷ names) k h =
       (subst Found (sym (bound_same e tree c cs)) h.0, within_bound e tree names k h.1)
 
-  -- there the empty name is not among the asked ones
+  -- there the empty name is not among the names that are looked up
   abbrev Inner : (in_item : Bool) → Environment X → Type 0
   Inner true e = Found (slots_under e [])
   Inner false e = ⊤
@@ -434,7 +434,7 @@ module _ {X : Type 0} (shows : X → Trait → Spec → Shown) (limits : Limits)
   text_at_most e a h =
       forest_at_most (as_forest (nodes a)) false e tt h
 
--- what is told below the greatest `usize` is the count itself
+-- a count that is reported below the greatest `usize` is exact
 pub told_exactly : (n count : ℕ) → n ≤ count → usize_count count ≢ 2 ^ 64 - 1 → n ≤ usize_count count
 told_exactly n count h k = omega (arith, h, k)
 

@@ -1,4 +1,4 @@
--- What stored pieces cost, as the code counts it: each count stops at the greatest `usize`.
+-- The cost of stored pieces, as the code computes it: each count stops at the greatest `usize`.
 use Rattle.std.proofs.Common.{◌≡◌, ◌∙◌, refl, sym, ap, arith, ℕ, zero, suc, ◌+◌, ◌-◌, ◌*◌, ◌^◌, ◌<◌}
 use Rattle.std.proofs.Common.{◌≤◌, Bool, true, false, List, length, drop, get_or, inl, inr}
 use Rattle.std.proofs.Common.{Option, None, Some, IsSome, option_map}
@@ -42,11 +42,11 @@ nothing_first c = same_cost (omega arith) (omega arith) (omega arith)
 nothing_last : (c : Cost) → then_cost c no_cost ≡ c
 nothing_last c = same_cost (omega arith) (omega arith) (omega arith)
 
--- what was told and is told again
+-- counts that were limited once are not changed by limiting them again
 capped_twice : (c : Cost) → usize_cost (usize_cost c) ≡ usize_cost c
 capped_twice c = same_cost (omega arith) (omega arith) (omega arith)
 
--- so far, one more, and the rest
+-- the cost so far, of one more, and of the rest
 capped_then : (old own rest : Cost)
     → usize_cost (then_cost (usize_cost (then_cost old (usize_cost own))) rest)
     ≡ usize_cost (then_cost old (then_cost own rest))
@@ -63,7 +63,7 @@ capped_product (suc n) a = elim (cases_lt a (2 ^ 64)) [
       rw all (omega (arith, more))
 ]
 
--- so many of the one, and one less of the other
+-- n times one count, and n - 1 times another
 capped_repeated : (n a b : ℕ)
     → usize_count (n * usize_count a + (n - 1) * usize_count b) ≡ usize_count (n * a + (n - 1) * b)
 capped_repeated n a b =
@@ -81,7 +81,7 @@ capped_items n item join =
     same_cost (capped_repeated n item.characters join.characters)
     (capped_repeated n item.pieces join.pieces) (omega arith)
 
--- what is told of a list depends on what is told of its items
+-- the limited cost of a list depends on the limited cost of its items
 capped_padded : (width : Option ℕ) (a b : Cost) → usize_cost a ≡ usize_cost b
     → usize_cost (then_cost (piece_cost 0) (padded_cost width a))
     ≡ usize_cost (then_cost (piece_cost 0) (padded_cost width b))
@@ -152,7 +152,7 @@ module _ (limits : Limits) where
           rw form (named_told _ (part bs y.from y.to) _ _ y.spec (target_list (range_of range)) c
           (rw form at h) (λ name. is))
 
-  -- with what its groups cost
+  -- a piece, by the costs of its groups
   grouped_told : (place end : ℕ) (kind : PieceKind) (o : Option Content) (item join : Branch)
       (i j r : Cost) → i ≡ usize_cost (item_branch_cost limits item)
       → j ≡ usize_cost (join_branch_cost limits join)
@@ -211,6 +211,6 @@ module _ (limits : Limits) where
       ≡ usize_cost (forest_cost limits (as_forest (nodes_of bs xs)))
   cost_begins bs xs = ap usize_cost (nothing_first _)
 
--- what was told stays so
+-- a limited cost stays as it is
 pub told_again : (c new : Cost) → new ≡ usize_cost c → new ≡ usize_cost new
 told_again c new h = h ∙ sym (capped_twice c) ∙ ap usize_cost (sym h)

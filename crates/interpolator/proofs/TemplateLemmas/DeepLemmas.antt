@@ -1,4 +1,4 @@
--- A text with deeply nested groups is long: a group in another has fewer signs than that.
+-- A text with deeply nested groups is long: a group in another has fewer signs than the outer one.
 use Rattle.std.proofs.Common.{◌≡◌, ◌≢◌, ◌∙◌, refl, sym, ap, arith, subst, ℕ, zero, suc, ◌+◌, ◌*◌}
 use Rattle.std.proofs.Common.{◌<◌, ◌≤◌, List, [], ◌∷◌, ◌++◌, length, append_assoc, inl, inr}
 use Rattle.std.proofs.Common.{Option, Some, None, Result, Ok, Err, ◌-◌}
@@ -39,14 +39,14 @@ more_signs (suc k) n =
 abbrev pub NoClose : ℕ → List ℕ → Type 0
 NoClose k cs = (front rest : List ℕ) → cs ≢ front ++ (close_text k ++ rest)
 
--- it is so of what follows a front of such a text
+-- neither has what follows the front of such a text
 after_front : (k : ℕ) (a b : At) → Takes a b → NoClose k a.text → NoClose k b.text
 after_front k a b t none front rest e =
     none (t.front ++ front) rest
     (t.split ∙ ap (λ xs. t.front ++ xs) e
     ∙ sym (append_assoc t.front front (close_text k ++ rest)))
 
--- and of the text of a group with k signs
+-- nor the text of a group with k signs
 in_group : (k : ℕ) (inner after : List ℕ) → NoneCloses k inner after → NoClose k inner
 in_group k inner after none front rest e =
     none front (sign_text k ++ rest) (rest ++ after) e (append_assoc (sign_text k) rest after)
@@ -83,7 +83,7 @@ module _ (a : At) (g : Group) (q : At) (h : IsGroup a g q) where
   group_no_close : NoClose h.k g.text
   group_no_close = in_group h.k g.text (close_text h.k ++ q.text) h.first
 
-  -- it takes its signs twice and its brackets
+  -- a group takes its signs twice, and its brackets
   group_length : (h.k + 1) + (length g.text + (1 + h.k)) ≤ length a.text
   group_length =
       omega (
@@ -158,7 +158,7 @@ deeper P a none after each = by_first (first_token a) refl
         (each w.1 (token_shorter a w e) (handed_on a w e).takes) a.place w.0)
         (after rest (scan_shorter a _ w e refl) (scan_taken a w e)))
 
--- in a text in which no `)` has j signs right after it groups are nested at most j deep
+-- in a text in which no `)` has j signs right after it, groups are nested at most j deep
 abbrev Bounded : At → Type 0
 Bounded a = (j : ℕ) → NoClose j a.text → forest_depth (as_forest (nodes a)) ≤ j
 
@@ -176,12 +176,12 @@ signs_bound = by_length Bounded (λ a shorter j none.
     let most = shorter (inside g) less k (group_no_close h.opens g h.closed h.is) in
     omega (arith, fewer, most)))
 
--- and a text is as long as its depth times four more than that
+-- and a text of depth d has at least d * (d + 4) characters
 abbrev LongEnough : At → Type 0
 LongEnough a =
     forest_depth (as_forest (nodes a)) * (forest_depth (as_forest (nodes a)) + 4) ≤ length a.text
 
--- one group more, whose guard has as many signs as it is deep, and five characters beside
+-- one more group, guarded by as many signs as its text is deep, and five characters besides
 one_deeper : (d k inner whole : ℕ) → d * (d + 4) ≤ inner → d ≤ k
     → 2 + ((k + 1) + (inner + (1 + k))) < whole → suc d * (suc d + 4) ≤ whole
 one_deeper d k inner whole h l m = omega (arith, h, l, m)

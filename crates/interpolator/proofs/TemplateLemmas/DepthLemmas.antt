@@ -1,4 +1,4 @@
--- How deep the pieces of a text are: no deeper than it has characters.
+-- The pieces of a text are nested no deeper than it has characters.
 use Rattle.std.proofs.Common.{◌≡◌, refl, arith, ℕ, ◌<◌, ◌≤◌}
 use Rattle.std.proofs.Common.{length, Option, Some, None}
 use Rattle.std.proofs.Math.Nat.{max-le}
@@ -17,7 +17,7 @@ use Rattle.interpolator_syntax.proofs.TokenLemmas.{token_shorter, scan_shorter}
 use Rattle.interpolator_syntax.proofs.NodeLemmas.{by_length, argument_kind, nodes_first}
 use Rattle.interpolator_syntax.proofs.NodeLemmas.{nodes_none}
 
--- they are no deeper than it has characters
+-- the pieces of a text are nested no deeper than it has characters
 abbrev Shallow : At → Type 0
 Shallow a = forest_depth (as_forest (nodes a)) ≤ length a.text
 
@@ -55,6 +55,6 @@ module _ (a : At) (shorter : (b : At) → length b.text < length a.text → Shal
       (max-le (token_shallow a.place w.0 w.1 (token_shorter a w e))
       (let after = shorter rest less in omega (arith, after, less)))
 
--- no text is as deep as it has characters and one
+-- so it is with every text
 pub nodes_shallow : (a : At) → forest_depth (as_forest (nodes a)) ≤ length a.text
 nodes_shallow = by_length Shallow (λ a shorter. shallow_by a shorter (first_token a) refl)

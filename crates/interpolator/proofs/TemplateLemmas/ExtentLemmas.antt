@@ -1,4 +1,4 @@
--- How wide and how deep stored pieces are when they are entered, and those of a text.
+-- How wide and how deep stored pieces are, each when it is entered, and those of a text.
 use Rattle.std.proofs.Common.{◌≡◌, ◌∙◌, refl, sym, ap, arith, rules, ℕ, ◌+◌, ◌<◌, true}
 use Rattle.std.proofs.Common.{nat_cmp, List}
 use Rattle.std.proofs.Common.{Option, Some, None, IsSome, Result, Ok, ◌^◌}
@@ -28,7 +28,7 @@ greater m n = search rules
 
 -- ---- one piece
 
--- what is asked when it is entered
+-- the extent that is met when a piece is entered
 pub extent_entered : (spot : Spot) (bs : List ℕ) (x : Piece) → node_whole (node_of bs x) ≡ true
     → stored_extent x ≡ visit_extent (enter spot (node_of bs x))
 extent_entered spot bs x whole =
@@ -39,20 +39,20 @@ extent_entered spot bs x whole =
     ∙ by_form bs y.place y.from y.to y.spec_end y.spec Asks (λ cs. refl) (λ name e. refl)
     (λ t name e. refl) (λ range name e. refl) (λ fault. refl) y.form (fits_text bs x whole).held)
 
--- in how many groups those of a piece are
+-- how many groups the pieces of its groups are in
 pub depth_entered : (spot : Spot) (bs : List ℕ) (x : Piece)
     → max (inner_depth spot.depth (branch_of bs (out-Piece x).item))
     (inner_depth spot.depth (branch_of bs (out-Piece x).join))
     ≡ visit_depth (enter spot (node_of bs x))
 depth_entered spot bs x = sym (ap (λ n. visit_depth (enter spot n)) (node_of_out bs x))
 
--- if there is a group, there is room for one more
+-- if there is a group, its depth fits too
 pub group_fits : (depth : ℕ) (bs : List ℕ) (group : Option (Vec Piece))
     → depth + branch_depth (branch_of bs group) < 2 ^ 64 → IsSome group → depth + 1 < 2 ^ 64
 group_fits depth bs None h some = absurd (cc)
 group_fits depth bs (Some v) h some = omega (arith, h)
 
--- ---- the greatest that a text asks
+-- ---- the greatest in a text
 
 pub text_greatest : {V E : Type 0} (step : V → Visit → V → Result (Unit {0}) E → Type 0)
     (content : V → ℕ) (asks : Visit → ℕ)

@@ -1,4 +1,5 @@
--- What fault a meaning can have, from what its parts can have; and faults in lists of them.
+-- Which fault a meaning can have, from those that its parts can have; and faults in lists of
+-- faults.
 use Rattle.std.proofs.Common.{◌≡◌, refl, ap, subst, arith, ℕ, zero, suc, ◌<◌, Bool, true, false}
 use Rattle.std.proofs.Common.{List, [], ◌∷◌, ◌++◌, Option, Some, None, is_some}
 use Rattle.std.proofs.lemmas.List.Elements.{Contains-append_left, Contains-append_right}

@@ -27,7 +27,7 @@ module _ {X : Type 0} (shows : X → Trait → Spec → Shown) where
     itself (listed filled ts) =
         (λ t. slot_itself t (slot_at t filled), each_some ts ts (λ item h. h))
 
-    -- each of these trees resembles some of all
+    -- each of these trees resembles one of all
     each_some : (ts all : SlotsList X)
         → ((item : Slots X) → ResemblesSome shows shows item ts
         → ResemblesSome shows shows item all)
@@ -47,7 +47,7 @@ module _ {X : Type 0} (shows : X → Trait → Spec → Shown) where
   resembles_itself e [] = tt
   resembles_itself e (name ∷ names) = (found_itself (slots_under e name), resembles_itself e names)
 
-  -- so a format without a fault over values means none over them
+  -- so a format without a fault against some values means none with them
   pub no_fault_itself : (finds : List ℕ → Option (Slots X)) (a : At)
       → faults_over shows finds a ≡ [] → (means shows (environment finds) a).fault ≡ None
   no_fault_itself finds a sound =

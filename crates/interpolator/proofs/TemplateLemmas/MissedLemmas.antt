@@ -1,4 +1,4 @@
--- A missing value is a name that a text asks, and its environment gives nothing under it.
+-- The name of a missing value is one that a text uses, and its environment gives nothing under it.
 use Rattle.std.proofs.Common.{◌≡◌, ◌∙◌, refl, sym, subst, arith, ℕ, Bool, true, false}
 use Rattle.std.proofs.Common.{List, [], ◌∷◌, ◌++◌, Option, Some, None}
 use Rattle.std.proofs.lemmas.List.Elements.{Contains-append_left, Contains-append_right}
@@ -29,7 +29,7 @@ use Rattle.interpolator.proofs.TemplateLemmas.FaultLemmas.{in_third, in_fourth}
 
 -- ---- names that nothing is under
 
--- a missing value is one of these names, and the environment gives nothing under it
+-- the name of a missing value is one of these, and the environment gives nothing under it
 abbrev Missed : {X : Type 0} → Environment X → List (List ℕ) → Fault → Type 0
 Missed e names f =
     (name : List ℕ) (place : ℕ) → f ≡ missing_value name place
@@ -69,7 +69,7 @@ module _ {X : Type 0} where
   own_missed true e (c ∷ cs) b h = one_name (c ∷ cs)
   own_missed false e name b h = one_name name
 
-  -- in an item format it is missed as outside, since it is not empty
+  -- what is missing in an item format is missing outside it too, since its name is not empty
   unbound : (e : Environment X) (t : Slots X) (name : List ℕ) → slots_under (bind e t) name ≡ None
       → slots_under e name ≡ None
   unbound e t [] h = absurd (empty_given (bind e t) t refl h)
@@ -160,7 +160,7 @@ module _ {X : Type 0} (shows : X → Trait → Spec → Shown) where
         (forest_misses xs in_item e b
         (λ g k. t g (Contains-append_right (node_faults x) (forest_faults xs) g k)) f h))
 
-  -- a missing value is a name that the text asks, and the context has nothing under it
+  -- the name of a missing value is one that the text uses, and the context has nothing under it
   pub value_missed : (finds : List ℕ → Option (Slots X)) (a : At) (name : List ℕ) (place : ℕ)
       → (means shows (environment finds) a).fault ≡ Some (missing_value name place)
       → Contains (asked_names a) name × (finds name ≡ None)

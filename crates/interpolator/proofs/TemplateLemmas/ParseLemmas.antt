@@ -57,12 +57,12 @@ use Rattle.interpolator_syntax.proofs.HandedLemmas.{written_text, handed_on, sca
 
 -- ---- what follows all of a text
 
--- no byte is left after as many as the text has
+-- after as many bytes as the text has, none is left
 pub all_skipped : (p : ℕ) (bs rest : List ℕ) → IsUtf8 bs → length rest ≡ 0
     → stands (p + length bs) (chars rest) ≡ all_after (stands p (chars bs))
 all_skipped p bs rest u e = rw (chars_of_end rest e, size-chars bs u) refl
 
--- after a front of the text that is the same
+-- what follows all of a text also follows all of what is left of it
 ends_same : (a q : At) → Takes a q → all_after q ≡ all_after a
 ends_same a q t = at_same (takes_reaches _ a q t refl) refl
 
@@ -135,7 +135,7 @@ module _ (a : At) where
   unfolding argument_at
   name_stands x q e = by_asked x q (asked_at a.place (after (in_class Name) From)) e
 
--- the node of an argument, by what is held of it and by its groups
+-- the node of an argument, by what it holds and by its groups
 argument_stands :
     (place : ℕ) (b : At) (x : Argument) (q : At) (o : Option At) (held : Option Content)
     (item join : Branch) → held ≡ Some (argument_content b.place x.name x.spec (target_of x.kind) q.place)
@@ -247,7 +247,7 @@ module _ (place : ℕ) (b : At) (n : ArgumentName) (x : code_request.Request) (e
               (rw k (group_is bs u w _ join groups.join j));
         })
 
--- a name alone is asked for plain display
+-- a name alone asks for plain display
 abbrev pub plainly : code_request.Request
 plainly = record {
   slot = traits.Display;
@@ -289,13 +289,13 @@ pub list_within : (b : At) (n : ArgumentName) (x : code_request.Request) (end : 
 list_within b n x end read k =
     rw k at (groups_within b (named_argument n (request_of x)) end read)
 
--- the argument from its brace on, where it was read
+-- the argument from its brace on, if it was read
 pub taken_is : (b : At) (t : TakenArgument) → taken_read (Ok t) ≡ argument_at b
     → option_map at t.rest ≡ strip close_brace (at t.end) → argument_from b.place b ≡ taken_step b t
 unfolding argument_from
 taken_is b t e r = rw (← e, ← r) refl
 
--- and where it is broken
+-- and if it is broken
 pub broken_is : (b : At) (f : Fault) → Err f ≡ argument_at b
     → argument_from b.place b ≡ takes_all b.place b (broken f)
 unfolding argument_from
@@ -303,8 +303,8 @@ broken_is b f e = rw (← e) refl
 
 -- ---- all that was read
 
--- `here` is after a front of the text, and what was stored, and what is here, are the pieces of the
--- whole text
+-- `here` is after a front of the text, and the pieces that were stored and those from here on are
+-- the pieces of the whole text
 pub record Reading (text : At) (stored : List Piece) (here : At) : Type 0 where
   pub taken : Takes text here
   pub so_far :
@@ -316,7 +316,7 @@ module _ (text a : At) (stored : List Piece) (reading : Reading text stored a) w
   pub left_within : length a.text ≤ length text.text
   left_within = takes_shorter text a reading.taken
 
-  -- what the scan hands on is stored, whose text begins at c
+  -- a token of the scan, whose text begins at c, is stored
   pub reads_on :
       (b : At) (x : Token) (c rest : At) (new : List Piece) → first_token a ≡ Some (x, b)
       → Within a c → Pushed stored new (token_node nodes a.place x b) c → rest ≡ past_token x b

@@ -1,4 +1,4 @@
--- What is in a text at its place is what is cut out of the text there.
+-- The text that lies at a place of another is what is cut from the other there.
 use Rattle.std.proofs.Common.{◌≡◌, ℕ, ◌+◌, ◌-◌, ◌<◌, Bool, true, false, ◌&&◌, nat_lt, List, []}
 use Rattle.std.proofs.Common.{◌∷◌, ◌++◌, length, take, drop, arith, refl, ap, ◌∙◌, sym, subst, rules}
 use Rattle.std.proofs.Common.{Some, append_assoc}
@@ -34,7 +34,7 @@ cut_out :
 unfolding part
 cut_out from to bs a b c = rw (a, b, c) refl
 
--- at the place of a text its own characters are cut out
+-- at the place of a text, its own characters are cut
 pub part_lies :
     (bs : List ℕ) (p : ℕ) (cs : List ℕ) (to : ℕ) → IsUtf8 bs
     → Within (outermost (chars bs)) (stands p cs) → to ≡ p + size cs → part bs p to ≡ Some cs

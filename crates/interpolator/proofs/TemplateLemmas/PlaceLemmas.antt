@@ -1,4 +1,4 @@
--- Which argument of stored pieces has a place, one piece at a time.
+-- Which argument among stored pieces has a place, one piece at a time.
 use Rattle.std.proofs.Common.{◌≡◌, ◌∙◌, sym, ap, ℕ, ◌+◌, ◌<◌, ◌≤◌, Bool, true, false, List}
 use Rattle.std.proofs.Common.{length, drop, get_or, Option, Some, None}
 use Rattle.std.proofs.lemmas.List.{drop_more, drop_all}
@@ -12,7 +12,7 @@ use Rattle.interpolator.specs.declared.template.piece.Piece.{Piece}
 use Rattle.interpolator.specs.declared.template.piece.Piece.TheViews.{out-Piece}
 use Rattle.interpolator.proofs.TemplateLemmas.StoredLemmas.{node_of_out}
 
--- the innermost of a piece, by its groups
+-- the innermost argument in a piece, from those in its groups
 pub piece_innermost : (bs : List ℕ) (place : ℕ) (x : Piece) (item join either : Option (ℕ × ℕ))
     (found : ℕ × ℕ) → item ≡ argument_in place (branch_of bs (out-Piece x).item)
     → join ≡ argument_in place (branch_of bs (out-Piece x).join)
@@ -41,7 +41,7 @@ module _ (bs : List ℕ) (place : ℕ) (xs : List Piece) (i : ℕ) where
       → node_has place (node_of bs x) ≡ has
   has_it x has h = ap (node_has place) (node_of_out bs x) ∙ sym h
 
-  -- after a piece that has not
+  -- after a piece that does not have it
   pub place_goes_on : (x : Piece) (has : Bool) (whole : Option (ℕ × ℕ)) → i < length xs
       → x ≡ get_or xs i x
       → has ≡ has_place place (out-Piece x).place (out-Piece x).end (out-Piece x).kind
@@ -51,7 +51,7 @@ module _ (bs : List ℕ) (place : ℕ) (xs : List Piece) (i : ℕ) where
       ∙ ap (λ (b : Bool). if b then Some (innermost place (node_of bs x)) else left (i + 1))
       (has_it x has h ∙ lacks)) ∙ e
 
-  -- at one that has
+  -- at a piece that has it
   pub place_found : (x : Piece) (has : Bool) (found : ℕ × ℕ) (whole : Option (ℕ × ℕ))
       → i < length xs → x ≡ get_or xs i x
       → has ≡ has_place place (out-Piece x).place (out-Piece x).end (out-Piece x).kind

@@ -1,4 +1,4 @@
--- How many items a range chooses at most, and that it chooses among those of a list.
+-- How many items a range can choose at most, and that these are items of the list.
 use Rattle.std.proofs.Common.{arith, ℕ, zero, suc, ◌-◌, ◌≤◌, Bool}
 use Rattle.std.proofs.Common.{ℤ, pos, negsuc, List, [], ◌∷◌, length, take, drop, Option, None, Some}
 use Rattle.std.specs.Prelude.{⊤}
@@ -33,7 +33,7 @@ fewer : (n most : ℕ) → n ≤ most → (range : Option Range)
 fewer n most h None = omega (arith, h)
 fewer n most h (Some range) = fewer_by n most h range.inclusive range.lower range.upper
 
--- a range chooses no more
+-- a range chooses no more than that
 pub chosen_fewer : {A : Type 0} (most : ℕ) (range : Option Range) (xs : List A)
     → length xs ≤ most → length (chosen_items range xs) ≤ most_chosen most range
 chosen_fewer most range xs h =
@@ -41,7 +41,7 @@ chosen_fewer most range xs h =
     let few = fewer (length xs) most h range in
     let (front, back, split, first, last) = s in omega (arith, few, first, last)
 
--- what is so of each item of a list is so of those that are chosen
+-- what holds for each item of a list holds for those that are chosen
 abbrev pub Each : {A : Type 0} → (A → Type 0) → List A → Type 0
 Each P [] = ⊤
 Each P (x ∷ xs) = P x × Each P xs

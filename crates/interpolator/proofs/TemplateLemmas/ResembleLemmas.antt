@@ -1,4 +1,4 @@
--- A format that has no fault over a sample means none in what resembles it.
+-- A format that has no fault against a sample means none in a context that resembles it.
 use Rattle.std.proofs.Common.{◌≡◌, ◌∙◌, refl, sym, ap, subst, arith, ℕ, zero, suc, ◌<◌, Bool, true}
 use Rattle.std.proofs.Common.{false, ◌||◌, List, [], ◌∷◌, ◌++◌, length, take, drop, Option, Some, None}
 use Rattle.std.proofs.Common.{is_some, inl, inr, ◌⊎◌, option_map}
@@ -327,7 +327,8 @@ module _ (N : Type 0) where
       EmptyFits false s e names =
           (s.each ≡ None) × (Contains names [] → ResemblesFound shows others (slots_under e []) (s.gives []))
 
-      -- the environment resembles the sample under these names, and so does the item, if there is one
+      -- the environment resembles the sample under these names, and so does the item, if there is
+      -- one
       record Fits (in_item : Bool) (s : Sample X) (e : Environment Y) (names : List (List ℕ)) : Type 0 where
         outer :
             (c : ℕ) (cs : List ℕ) → Contains names (c ∷ cs)

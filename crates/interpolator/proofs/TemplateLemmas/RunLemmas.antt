@@ -1,5 +1,5 @@
--- What running stored pieces needs of them: where their text is cut out, what they hold, and the
--- outcome of pieces from that of the first and of the rest.
+-- What writing stored pieces needs to know of them: where their text is cut from, what they hold,
+-- and the outcome of pieces, from that of the first and that of the rest.
 use Rattle.std.proofs.Common.{◌≡◌, ◌∙◌, refl, sym, add-one, arith, ℕ, suc, ◌+◌, ◌-◌, ◌≤◌}
 use Rattle.std.proofs.Common.{Bool, true, false, not, ◌&&◌, nat_lt, List, [], ◌∷◌, take}
 use Rattle.std.proofs.Common.{ap, drop, get_or, Option, None, Some, IsSome, option_map}
@@ -64,7 +64,7 @@ all_three true true false x h = absurd (cc)
 all_three true false c x h = absurd (cc)
 all_three false b c x h = absurd (cc)
 
--- both ends of a part are places where its text may be cut, in that order
+-- the text may be cut at both ends of a part, and these are in order
 pub record Cut (bs : List ℕ) (from to : ℕ) : Type 0 where
   pub order : from ≤ to
   pub first : IsCharBoundary bs from
@@ -147,7 +147,7 @@ module _ (bs : List ℕ) (x : Piece) where
       → asks_list (node_of bs x) ≡ holds_list (Some h)
   asks_held h is = rw (node_of_out bs x, is) refl
 
-  -- a piece that fits its text asks for a list if it is written as one
+  -- a piece that fits its text asks for a list exactly if its form is a list
   pub asks_form : IsSome (held_of bs x)
       → asks_list (node_of bs x) ≡ is_list_form (out-Piece x).form
   asks_form some = rw (node_of_out bs x) (by_form (out-Piece x).form some)
@@ -193,7 +193,7 @@ module _ (bs : List ℕ) (x : Piece) where
       by_form (forms.List range) form = by_name range form (stored_name bs x) refl
       by_form (forms.Broken f) form = absurd (let h = rw form at listed in cc)
 
-  -- it counts as a piece at least
+  -- it counts as at least one piece
   pub piece_counts :
       {X : Type 0} (shows : X → Trait → Spec → Shown) (e : Environment X) → IsSome (held_of bs x)
       → 1 ≤ (node_work shows e (node_of bs x)).pieces
@@ -210,7 +210,7 @@ module _ (bs : List ℕ) (x : Piece) where
           omega arith
       by_held (Some (fault_content f)) some place end kind item join = omega arith
 
--- the first of pieces that begin with a list
+-- the first piece, if pieces begin with a list
 pub record FirstPiece (bs : List ℕ) (x : Piece) : Type 0 where
   pub whole : node_whole (node_of bs x) ≡ true
   pub name : IsSome (stored_name bs x)
@@ -237,7 +237,7 @@ first_piece bs (y ∷ ys) x listed is whole =
 -- ---- the outcome of one piece
 
 module _ {W : Type 0} (into : W → Written) (m : Meaning) (s t : Sink W) (end : ℕ) where
-  -- what is closed, or not, after a fault
+  -- after a fault it does not matter whether the argument is closed
   closed_fault : (kind : PieceKind) (q : Answer) → Writes into m s t (Some q)
       → Writes into (and_closed kind end m) s t (Some q)
   closed_fault kinds.Literal q o = o
@@ -248,7 +248,7 @@ module _ {W : Type 0} (into : W → Written) (m : Meaning) (s t : Sink W) (end :
       record { outcome = fault_first _ _ _ _ q o.outcome; same = o.same }
   closed_fault kinds.Broken q o = o
 
-  -- if all was written before, a closed argument adds nothing
+  -- if all was written, a closed argument adds nothing, and an unclosed one its fault
   closed_done : (kind : PieceKind) → Writes into m s t None
       → Writes into (and_closed kind end m) s t (option_map fault (unclosed_fault_of kind end))
   closed_done kinds.Literal o = o
@@ -277,7 +277,7 @@ module _ {X W : Type 0} (shows : X → Trait → Spec → Shown) (into : W → W
     unlisted r h is other o =
         record { outcome = rw (asks_held bs x h is ∙ other) o.outcome; same = o.same }
 
-    -- it asks for a list, of which nothing is written yet
+    -- it asks for a list, and nothing of it is written yet
     pub list_waits : asks_list (node_of bs x) ≡ true
         → Writes into (unlisted_means shows e (node_of bs x)) s s None
     list_waits listed = record { outcome = rw listed (nothing_done _); same = same_end s }
@@ -289,7 +289,7 @@ module _ {X W : Type 0} (shows : X → Trait → Spec → Shown) (into : W → W
     text_writes r from cs is o =
         record { outcome = rw (means_held (text_content from cs) is) o.outcome; same = o.same }
 
-    -- what could not be read
+    -- an argument that could not be read
     pub fault_writes : (f : Fault) → held_of bs x ≡ Some (fault_content f)
         → Writes into Means s s (Some (fault f))
     fault_writes f is =
@@ -305,14 +305,14 @@ module _ {X W : Type 0} (shows : X → Trait → Spec → Shown) (into : W → W
           (stored_item_means shows e bs x (out-Piece x).spec_end))
           (slots_under e name)
 
-      -- whose value ends the run
+      -- an argument whose value fails
       pub argument_fault : (q : Answer) → Writes into Value s t (Some q)
           → Writes into Means s t (Some q)
       argument_fault q o =
           let c = closed_fault into Value s t (out-Piece x).spec_end (out-Piece x).kind q o in
           record { outcome = rw (means_held _ is) c.outcome; same = c.same }
 
-      -- whose value was written
+      -- an argument whose value was written
       pub argument_writes : (r : Option Answer) → r ≡ option_map fault (unclosed_fault x)
           → Writes into Value s t None → Writes into Means s t r
       argument_writes r told o =
@@ -362,7 +362,7 @@ pub format_stands :
     → nodes_of bs xs ≡ nodes (outermost (chars bs))
 format_stands bs xs utf8 stand = stand bs utf8 (within_same (outermost (chars bs)))
 
--- as many are gone through as the text means
+-- writing them goes through as many pieces as writing the text
 pub text_goes :
     {X : Type 0} (shows : X → Trait → Spec → Shown) (e f : Environment X) (bs : List ℕ)
     (xs : List Piece) (a : At) → nodes_of bs xs ≡ nodes a → f ≡ e

@@ -101,7 +101,7 @@ text_shown (has_text text) h = (refl, refl)
 text_shown has_no_text h = absurd h
 text_shown has_failed h = absurd h
 
--- by what they show nothing under, and whether they failed
+-- two views that show nothing under the same traits and fail alike have a text alike
 pub kind_has_text : (x y : Shown) (t : Trait) (spec : Spec) → shows_nothing x t ≡ shows_nothing y t
     → is_failure x ≡ is_failure y → HasText (view_text x t spec) → HasText (view_text y t spec)
 kind_has_text x y t spec same fail h =

@@ -1,4 +1,4 @@
--- The faults that a text has over a sample lie in it.
+-- The faults that a text has against a sample lie in it.
 use Rattle.std.proofs.Common.{◌≡◌, ℕ, ◌≤◌, Bool, true, false, List, [], ◌∷◌, ◌++◌, length}
 use Rattle.std.proofs.Common.{arith, subst, Option, Some, None}
 use Rattle.std.specs.List.{list_any}
@@ -42,7 +42,7 @@ module _ (n : ℕ) where
   within_if true f h = (h, tt)
   within_if false f h = tt
 
-  -- the faults that a text has by itself carry such places
+  -- the faults that a text has by itself have such places
   by_itself : (fs : List Fault) → FaultsWithin n fs → AllWithin fs
   by_itself [] h = tt
   by_itself (f ∷ fs) h = (h.0, by_itself fs h.2)

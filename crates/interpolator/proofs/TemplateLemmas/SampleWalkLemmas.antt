@@ -1,4 +1,4 @@
--- The faults of a whole text over a sample, from those of its stored pieces.
+-- The faults of a whole text against a sample, from those of its stored pieces.
 use Rattle.std.proofs.Common.{◌≡◌, ◌∙◌, ap, subst, arith, ℕ, zero, suc, ◌+◌, ◌*◌, ◌^◌, ◌<◌, ◌≤◌}
 use Rattle.std.proofs.Common.{true, List, length}
 use Rattle.std.proofs.Common.{Option}
@@ -21,7 +21,7 @@ use Rattle.interpolator.specs.declared.template.telling.Telling.{Telling}
 use Rattle.interpolator.proofs.TemplateLemmas.DeepLemmas.{deep_is_long}
 use Rattle.interpolator.proofs.TemplateLemmas.WholeLemmas.{nodes_whole}
 
--- no text is nearly as deep as it has characters
+-- a text is much less deep than it has characters
 less_deep : (d n most : ℕ) → d * (d + 4) ≤ n → n < most → 4 < most → d + 1 < most
 less_deep zero n most h l few = omega (arith, few)
 less_deep (suc d) n most h l few = omega (arith, h, l, mul d d)
@@ -47,7 +47,7 @@ module _ (bs : List ℕ) (xs : List Piece) (text : List ℕ) (utf8 : IsUtf8 text
       (deep_is_long a) fits (omega arith) in
       omega (arith, none, depth, less)
 
-  -- what is told of the stored pieces is what is told of the text
+  -- what is reported for the stored pieces is what is reported for the text
   pub walk_tells : {X : Type 0} (shows : X → Trait → Spec → Shown)
       (finds : List ℕ → Option (Slots X)) (s : Sample X) (old new : Telling) (r : Option Answer)
       → s ≡ sample finds → Tells (forest_faults_in shows s (as_forest (nodes_of bs xs))) old new r

@@ -73,7 +73,7 @@ pub nodes_of_push :
 nodes_of_push bs [] x = refl
 nodes_of_push bs (y ∷ xs) x = ap (λ ys. node_of bs y ∷ ys) (nodes_of_push bs xs x)
 
--- what a stored piece holds that fits its text, by how it is written
+-- what a stored piece that fits its text holds, by its form
 module _ (bs : List ℕ) (place from to end : ℕ) (spec : Spec) (P : Form → Option Content → Type 0)
     (of_text : (cs : List ℕ) → P forms.Text (Some (text_content from cs)))
     (of_name : (name : List ℕ) → part bs from to ≡ Some name → P forms.Name

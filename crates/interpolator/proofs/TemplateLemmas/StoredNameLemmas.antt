@@ -1,4 +1,4 @@
--- The names that stored pieces ask, one name and one piece at a time.
+-- The names that stored pieces use, one name and one piece at a time.
 use Rattle.std.proofs.Common.{◌≡◌, ◌∙◌, refl, sym, ap, ℕ, Bool, true, false}
 use Rattle.std.proofs.Common.{List, [], ◌∷◌, ◌++◌, length}
 use Rattle.std.proofs.Common.{Option, Some, None, IsSome, option_map, Result, Ok}
@@ -34,7 +34,7 @@ pub asked_empty : (in_item : Bool) (bs : List ℕ) (r : Bool) → IsUtf8 bs → 
 asked_empty in_item bs r u e told h =
     let no_text : chars bs ≡ [] = ends_told bs true u (sym h ∙ told) in rw (e, no_text) refl
 
--- a name that is no item's
+-- a name outside item formats
 pub asked_outside : (in_item : Bool) (name : List ℕ) → in_item ≡ false
     → context_names in_item name ≡ name ∷ []
 asked_outside in_item name e = rw e refl
@@ -76,7 +76,7 @@ abbrev NamesOne : Form → Type 0
 NamesOne form =
     ¬ (form ≡ forms.Text) × ((fault : Box ArgumentFault) → ¬ (form ≡ forms.Broken fault))
 
--- its name is cut out of the text, and is asked
+-- its name is cut from the text, and is one that the piece uses
 abbrev Asks : Option (List ℕ) → Form → Option Content → Type 0
 Asks part form held =
     NamesOne form
@@ -102,16 +102,16 @@ module _ (bs : List ℕ) (x : Piece) (no_text : ¬ ((out-Piece x).form ≡ forms
       (λ range name e n. asks_name found name e) (λ fault n. absurd (n.1 fault refl)) y.form
       (fits_text bs x whole).held
 
-  -- the name of an argument is cut out of its text
+  -- the name of an argument is cut from its text
   pub asked_part : IsSome (stored_part bs x)
   asked_part = (asks (no_text, no_fault)).0
 
-  -- and it is the name that the piece asks
+  -- and it is the name that the piece uses
   pub asked_held : (in_item : Bool) (name : List ℕ) → Some name ≡ stored_part bs x
       → context_names in_item name ≡ held_asks in_item (held_of bs x)
   asked_held in_item name e = sym ((asks (no_text, no_fault)).1 in_item name e)
 
--- what it asks when it is entered
+-- the name that is met when a piece is entered
 pub asked_entered : (spot : Spot) (bs : List ℕ) (x : Piece)
     → held_asks spot.in_item (held_of bs x) ≡ visit_asks (enter spot (node_of bs x))
 asked_entered spot bs x = sym (ap (λ n. visit_asks (enter spot n)) (node_of_out bs x))

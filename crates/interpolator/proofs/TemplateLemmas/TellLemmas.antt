@@ -1,4 +1,4 @@
--- What a walk over the faults of a format has told, from what it told of their parts.
+-- What a walk over the faults of a format has reported, from what it reported of their parts.
 use Rattle.std.proofs.Common.{◌≡◌, ◌∙◌, refl, sym, ap, ℕ, ◌+◌, ◌<◌, ◌≤◌, true, false, List, []}
 use Rattle.std.proofs.Common.{◌∷◌, ◌++◌, length, drop, map, get_or, append_assoc, Option, Some, None}
 use Rattle.std.proofs.Common.{IsSome, option_map, arith, inl, inr, ◌⊎◌, subst}
@@ -166,7 +166,7 @@ module _ {X : Type 0} (shows : X → Trait → Spec → Shown) (s : Sample X) wh
         ∙ form_parts y.place y.end y.spec_end y.kind (branch_of bs y.item) (branch_of bs y.join) bs
         y.from y.to y.spec y.form (fits_text bs x whole).held)
 
-    -- a text, and what could not be read, ask nothing
+    -- a text, or an argument that could not be read, has no fault with the sample
     pub text_asks : (out-Piece x).form ≡ forms.Text → [] ≡ asked_of shows s (held_of bs x)
     text_asks form = rw form (by_part (part bs (out-Piece x).from (out-Piece x).to))
       where
@@ -217,7 +217,7 @@ module _ {X : Type 0} (shows : X → Trait → Spec → Shown) (s : Sample X) wh
   branch_item None xs h = absurd (cc)
   branch_item (Some held) xs h = refl
 
-  -- a format is looked at with each item that there may be
+  -- an item format is checked with each item that there may be
   pub item_told : (bs : List ℕ) (o : Option Content) (group : Option (Vec Piece)) (v : Vec Piece)
       (xs : List Piece) (inner : Sample X) (old new : Telling) (r : Option Answer) → IsSome o
       → group ≡ Some v → xs ≡ v.items → inner ≡ each_of s (items_of_held s o)
@@ -285,7 +285,7 @@ module _ {X : Type 0} (shows : X → Trait → Spec → Shown) (s : Sample X) wh
         → Tells (Asked ++ (Own ++ (Item ++ (Join ++ Last)))) old new r → Tells All old new r
     of_all old new r h = subst (λ fs. Tells fs old new r) (piece_parts bs x whole) h
 
-    -- what it asks ends the walk
+    -- its fault with the sample ends the walk
     pub asked_ends : (old new : Telling) (q : Answer) → Tells Asked old new (Some q)
         → Tells All old new (Some q)
     asked_ends old new q h = of_all old new (Some q) (tells_before Asked _ old new q h)
@@ -318,7 +318,7 @@ module _ {X : Type 0} (shows : X → Trait → Spec → Shown) (s : Sample X) wh
               (tells_after Item _ checked looked new (Some q) item
               (tells_before Join _ looked new q h))))
 
-          -- all is told
+          -- all its faults are reported
           pub last_told : (joined new : Telling) (r : Option Answer)
               → Tells Join looked joined None → Tells Last joined new r → Tells All old new r
           last_told joined new r join h =
@@ -353,7 +353,7 @@ group_deep bs group v xs level inner most is same l deep =
     let inside = rw is at deep in
     rw same (omega (arith, l, inside))
 
--- that of an argument's name
+-- the name of an argument
 pub missing_told : (f : Fault) (a : Answer) → NamesMissing (Some f) → (told : Telling)
     → (new : Telling) (r : Option Answer)
     → ((g : Fault) → a ≡ fault g → Tells (g ∷ []) told new r) → (a ≡ no_memory → r ≡ Some no_memory)
@@ -361,7 +361,7 @@ pub missing_told : (f : Fault) (a : Answer) → NamesMissing (Some f) → (told 
 missing_told f a names told new r one none (inl e) = one f e
 missing_told f a names told new r one none (inr e) = rw (none e) (λ only. names)
 
--- what a check answered
+-- what a check returned
 pub checked_told : (o : Option Fault) (a : Answer) (told new : Telling) (r : Option Answer)
     → Some a ≡ option_map fault o
     → ((g : Fault) → a ≡ fault g → Tells (g ∷ []) told new r) → Tells (fault_list o) told new r

@@ -1,4 +1,4 @@
--- What writing answers of a meaning without fault.
+-- What writing a meaning without a fault can return.
 use Rattle.std.proofs.Common.{◌≡◌, ◌∙◌, ap, arith, [], inl, inr, Option, Some, None}
 use Rattle.std.proofs.Common.{option_map, Result, Ok, Err}
 use Rattle.std.specs.Prelude.{IfErr}

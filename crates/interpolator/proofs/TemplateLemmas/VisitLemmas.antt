@@ -1,4 +1,4 @@
--- What visitors gather from the visits of a walk, and what that comes to for the pieces of a text.
+-- What visitors gather on a walk, and what that is for the pieces of a text.
 use Rattle.std.proofs.Common.{◌≡◌, ◌∙◌, refl, sym, ap, arith, ℕ, ◌+◌, List, [], ◌∷◌, ◌++◌}
 use Rattle.std.proofs.Common.{Option, Some, None, Result, Ok, Err, inl, inr, append_assoc, Bool, true}
 use Rattle.std.proofs.Common.{IsSome, IsErr}
@@ -40,7 +40,7 @@ module _ {V E : Type 0} (step : V → Visit → V → Result (Unit {0}) E → Ty
       ∙ ap (λ c. c ++ flat_map gives xs) (adds old mid x s)
       ∙ append_assoc (content old) (gives x) (flat_map gives xs)
 
-  -- each visit tells a number, of which the greatest is kept
+  -- each visit gives a number, and the greatest is kept
   pub gathers_greatest : (content : V → ℕ) (asks : Visit → ℕ)
       → ((old new : V) (x : Visit) (answer : Result (Unit {0}) E) → step old x new answer
       → (answer ≡ Ok tt) × (content new ≡ max (content old) (asks x)))
@@ -56,7 +56,7 @@ module _ {V E : Type 0} (step : V → Visit → V → Result (Unit {0}) E → Ty
       let rest = gathers_greatest content asks adds mid new xs answer h in
       (rest.0, omega (arith, first, rest.1))
 
-  -- it stops at the first of what visits give
+  -- the walk stops at the first of what visits give
   module _ {A B : Type 0} (gives : Visit → List B) (first : List B → Option A)
       (told : Result (Unit {0}) E → Option A) (keeps : V → Type 0)
       (nothing : told (Ok tt) ≡ first [])
@@ -83,7 +83,7 @@ module _ {V E : Type 0} (step : V → Visit → V → Result (Unit {0}) E → Ty
 -- ---- what visits give, of pieces
 
 module _ {B : Type 0} (gives : Visit → List B) where
-  -- of two groups, and of what follows them
+  -- what the visits of two groups give, and the one after them
   around : (xs ys : List Visit) (z : Visit)
       → flat_map gives (xs ++ (ys ++ (z ∷ [])))
       ≡ flat_map gives xs ++ (flat_map gives ys ++ gives z)
@@ -166,7 +166,7 @@ greatest_around asks xs ys z =
     let rest = greatest-append asks ys (z ∷ []) in
     omega (arith, all, rest)
 
--- how deep they are, and where they are
+-- how deep pieces are, by where they are
 mutual
   node_deep : (spot : Spot) (x : Node)
       → max spot.depth (greatest visit_depth (node_visits spot x)) ≡ spot.depth + node_depth x

@@ -25,7 +25,7 @@ module _ {V E : Type 0} (step : V → Visit → V → Result (Unit {0}) E → Ty
   walks_one old new x (Ok u) h = inr (new, (h, (refl, refl)))
   walks_one old new x (Err e) h = inl (h, refl)
 
-  -- it stops at one of the first
+  -- a walk that stops at one of the first visits
   pub walks_stop : (old new : V) (xs ys : List Visit) (e : E) → Walks step old xs new (Err e)
       → Walks step old (xs ++ ys) new (Err e)
   walks_stop old new [] ys e h = let wrong = h.1 in absurd (cc)
@@ -33,7 +33,7 @@ module _ {V E : Type 0} (step : V → Visit → V → Result (Unit {0}) E → Ty
   walks_stop old new (x ∷ xs) ys e (inr (mid, (s, h))) =
       inr (mid, (s, walks_stop mid new xs ys e h))
 
-  -- it makes the first, and walks on
+  -- a walk that makes the first visits, and goes on
   pub walks_on : (old mid new : V) (xs ys : List Visit) (answer : Result (Unit {0}) E)
       → Walks step old xs mid (Ok tt) → Walks step mid ys new answer
       → Walks step old (xs ++ ys) new answer
@@ -42,7 +42,7 @@ module _ {V E : Type 0} (step : V → Visit → V → Result (Unit {0}) E → Ty
   walks_on old mid new (x ∷ xs) ys answer (inr (next, (s, h))) k =
       inr (next, (s, walks_on next mid new xs ys answer h k))
 
-  -- who makes these visits from here has made all of those from there
+  -- a visitor that makes these visits from here has made all of those from there
   abbrev pub WalksOn : (here : V) → List Visit → (there : V) → List Visit → Type 0
   WalksOn here left there all =
       (new : V) (answer : Result (Unit {0}) E) → Walks step here left new answer

@@ -1,4 +1,4 @@
--- What is known of a stored piece that fits its text, of pieces in order, and of a piece's groups.
+-- What is known of a stored piece that fits its text, of pieces in order, and of the groups of one.
 use denote.Param.Weighed.{most}
 use Rattle.std.proofs.Common.{◌≡◌, refl, ap, arith, ℕ, zero, suc, ◌<◌, ◌≤◌, Bool, true, false, ◌&&◌}
 use Rattle.std.proofs.Common.{List, [], ◌∷◌, ◌++◌, length, drop, get_or, Option, None, Some, IsSome}
@@ -13,7 +13,7 @@ use Rattle.interpolator.specs.declared.template.piece.Piece.TheViews.{size_is-Pi
 use Rattle.interpolator_syntax.specs.declared.piece_kind.PieceKind.{PieceKind}
 use Rattle.interpolator.proofs.TemplateLemmas.StoredLemmas.{node_of_out}
 
--- what it holds is known, and so is that of its groups
+-- the piece holds something, and its groups fit its text too
 pub record FitsText (bs : List ℕ) (x : Piece) : Type 0 where
   pub held : IsSome (held_of bs x)
   pub item : branch_whole (branch_of bs (out-Piece x).item) ≡ true
@@ -38,7 +38,7 @@ fits_text bs x h =
     (branch_of bs y.join) (rw (node_of_out bs x) at h) in
     record { held = held; item = item; join = join }
 
--- pieces that follow others fit their text as all do
+-- if pieces fit their text, the last of them do
 pub rest_fits :
     (xs ys : List Node) → forest_whole (as_forest (xs ++ ys)) ≡ true
     → forest_whole (as_forest ys) ≡ true
@@ -46,7 +46,7 @@ rest_fits [] ys h = h
 rest_fits (x ∷ xs) ys h =
     rest_fits xs ys (both (node_whole x) (forest_whole (as_forest (xs ++ ys))) h).1
 
--- stored pieces after the first ones
+-- so it is with stored pieces after the first ones
 pub pieces_whole :
     (bs : List ℕ) (xs : List Piece) (n : ℕ) → forest_whole (as_forest (nodes_of bs xs)) ≡ true
     → forest_whole (as_forest (nodes_of bs (drop n xs))) ≡ true
@@ -55,7 +55,7 @@ pieces_whole bs [] (suc n) h = refl
 pieces_whole bs (x ∷ xs) (suc n) h =
     pieces_whole bs xs n (both (node_whole (node_of bs x)) (forest_whole (as_forest (nodes_of bs xs))) h).1
 
--- each of stored pieces
+-- and with each stored piece
 pub piece_whole :
     (bs : List ℕ) (xs : List Piece) (i : ℕ) (x : Piece)
     → forest_whole (as_forest (nodes_of bs xs)) ≡ true → i < length xs → x ≡ get_or xs i x
@@ -79,7 +79,7 @@ pub group_whole :
     → forest_whole (as_forest (nodes_of bs xs)) ≡ true
 group_whole bs group v xs h is same = rw same (rw is at h)
 
--- the greatest piece of a group
+-- the size of the greatest piece of a group
 abbrev pub group_most : Option (Vec Piece) → ℕ
 group_most None = 0
 group_most (Some v) = most size-Piece v.items
@@ -105,7 +105,7 @@ pub group_smaller : (group : Option (Vec Piece)) (v : Vec Piece) (xs : List Piec
     → group ≡ Some v → xs ≡ v.items → most size-Piece xs ≡ group_most group
 group_smaller group v xs is same = rw (same, is) refl
 
--- the pieces of a group, which are whole, and fewer than their piece has
+-- the pieces of a group of a piece: they fit the text, and are smaller than the piece
 pub record InGroup (bs : List ℕ) (x : Piece) (xs : List Piece) : Type 0 where
   pub whole : forest_whole (as_forest (nodes_of bs xs)) ≡ true
   pub smaller : most size-Piece xs < size-Piece x

@@ -1,4 +1,4 @@
--- What is where in a text that is in another at its place.
+-- Texts that lie in another text, each at its place.
 use Rattle.std.proofs.Common.{◌≡◌, List, [], ◌++◌, ℕ}
 use Rattle.std.proofs.Common.{arith, ap, ◌∙◌, sym, append_assoc}
 use Rattle.std.proofs.lemmas.List.{append-nil}
@@ -17,7 +17,7 @@ nested f g cs k b =
     ap (λ t. f ++ t) (append_assoc g (cs ++ k) b ∙ ap (λ t. g ++ t) (append_assoc cs k b))
     ∙ sym (append_assoc f g (cs ++ (k ++ b)))
 
--- one after the other
+-- what lies in a part of a text lies in the text
 pub within_then : (a b c : At) → Within a b → Within b c → Within a c
 within_then a b c h k = record {
   front = h.front ++ k.front;
@@ -28,7 +28,7 @@ within_then a b c h k = record {
   place = omega (arith, h.place, k.place, size-append h.front k.front);
 }
 
--- what follows a front
+-- what follows the front of a text
 pub after_front : (a b : At) → Takes a b → Within a b
 after_front a b t = record {
   front = t.front;
@@ -37,11 +37,11 @@ after_front a b t = record {
   place = t.place;
 }
 
--- all of it
+-- the whole text
 pub within_same : (a : At) → Within a a
 within_same a = after_front a a (takes_none a)
 
--- a front itself
+-- the front itself
 pub front_within : (a : At) (cs more : List ℕ) → a.text ≡ cs ++ more → Within a (stands a.place cs)
 front_within a cs more e =
     record { front = []; back = more; split = e; place = omega arith }
@@ -53,7 +53,7 @@ group_stands a g h =
 
 -- ---- a name
 
--- the name of an argument is after white space
+-- the name of an argument comes after white space
 pub name_within :
     (a : At) → (let from = after (in_class WhiteSpace) a in
     Within a (stands from.place (front_of (in_class Name) from.text)))

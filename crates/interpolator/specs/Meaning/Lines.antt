@@ -6,10 +6,10 @@ use Rattle.interpolator_eval.specs.Meaning.Meanings.{Meaning, text_alone, chain}
 abbrev pub newline : ℕ
 newline = 10
 
--- a newline, which has place 0
+-- what a newline means: itself, at place 0
 abbrev pub newline_means : Meaning
 newline_means = text_alone ((newline, 0) ∷ [])
 
--- a meaning, and after its text a newline if it has no fault
+-- a meaning with a newline after its text, if it has no fault
 abbrev pub line_means : Meaning → Meaning
 line_means m = chain m newline_means

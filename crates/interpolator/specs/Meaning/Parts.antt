@@ -1,4 +1,4 @@
--- What parts mean that are written one after the other, each as a format by itself.
+-- What parts mean when they are written one after the other, each as a format by itself.
 use Rattle.std.specs.Prelude.{◌≢◌, ℕ, ◌+◌, ⊤, IsTrue, List, [], ◌∷◌, ◌++◌, map, length}
 use Rattle.std.specs.Str.{chars}
 use Rattle.std.specs.Borrow.{Bor}
@@ -34,17 +34,18 @@ module _ {X : Type 0} (shows : X → Trait → Spec → Shown) (e : Environment 
   parts_mean p (part ∷ parts) =
       chain (means shows e (from_place p part)) (parts_mean (p + size part) parts)
 
--- after this text, the seam between all that is before a part and the part is true
+-- the seam is true between this text, followed by the parts before a part, and that part: for each
 abbrev pub CleanBehind : (before : List ℕ) → List (List ℕ) → Type 0
 CleanBehind before [] = ⊤
 CleanBehind before (part ∷ parts) =
     IsTrue (seam_of before part) × CleanBehind (before ++ part) parts
 
--- between all parts before and the next, joined, the seam is true
+-- for each part, the seam is true between the parts before it, joined, and the part
 abbrev pub Clean : List (List ℕ) → Type 0
 Clean parts = CleanBehind [] parts
 
--- of the parts from a place on none but the last ends in an argument that is unclosed or broken
+-- of the parts, the first at this place, none but the last ends in an argument that is unclosed or
+-- broken
 abbrev pub FrontsClose : ℕ → List (List ℕ) → Type 0
 FrontsClose p [] = ⊤
 FrontsClose p (part ∷ []) = ⊤

@@ -8,8 +8,8 @@ use Rattle.interpolator_eval.specs.Slots.{slots_of}
 use Rattle.interpolator_eval.specs.Meaning.Resembling.{Resembles}
 use Rattle.interpolator_eval.specs.declared.slots.Formattable.{Formattable}
 
--- equal names in order, and under each what resembles the sample's; `shows` is what the values of
--- the sample show
+-- the pairs have the names of the sample, in the same order, and under each what resembles what the
+-- sample has; `shows` says what the values of the sample show, and `others` those of the pairs
 abbrev pub PairsResemble : {X Y : Type 0} → (shows : X → Trait → Spec → Shown)
     → (others : Y → Trait → Spec → Shown) → List (Bor (List ℕ) × Formattable Y)
     → List (Bor (List ℕ) × Formattable X) → Type 0
@@ -19,7 +19,7 @@ PairsResemble shows others (p ∷ ps) (q ∷ qs) =
     × PairsResemble shows others ps qs
 PairsResemble shows others _ _ = ⊥
 
--- a row has at the position of each pair of the sample what resembles it
+-- the row has, at the position of each pair of the sample, what resembles it
 abbrev pub RowResembles : {X Y : Type 0} → (shows : X → Trait → Spec → Shown)
     → (others : Y → Trait → Spec → Shown) → List (Formattable Y)
     → List (Bor (List ℕ) × Formattable X) → Type 0

@@ -32,13 +32,15 @@ pub record IsNodeText (n : Node) (place : ℕ) (cs : List ℕ) : Type 0 where
   pub join : Branch
   pub is : n ≡ node first last kind (Some (text_content place cs)) item join
 
--- an item is written in this form: it is displayed plainly, at `end`, or its format is its value alone
+-- an item is written in this form: displayed plainly, at `end`, or by a format that is its value
+-- alone
 abbrev pub IsItemForm : Branch → (end : ℕ) → ItemForm → Type 0
 IsItemForm b end form =
     ((b ≡ no_branch) × (form ≡ record { slot = traits.Display; spec = plain_spec; end = end }))
     ⊎ ((n : Node) × (b ≡ branch (nodes_and n no_nodes)) × IsNodeValue n form)
 
--- between two items is this text from a place on: nothing without a join, or the join is text
+-- what comes between two items is this text from a place on: nothing without a join, or a join that
+-- is text
 abbrev pub IsJoinForm : Branch → (place : ℕ) → List ℕ → Type 0
 IsJoinForm b place cs = ((b ≡ no_branch) × (cs ≡ []))
     ⊎ ((n : Node) × (b ≡ branch (nodes_and n no_nodes)) × IsNodeText n place cs)

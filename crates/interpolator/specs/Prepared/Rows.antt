@@ -16,7 +16,8 @@ name_bytes names = map (λ name. string_bytes name) names
 abbrev pub pair_names : {Y : Type 0} → List (Bor (List ℕ) × Y) → List (List ℕ)
 pair_names pairs = map (λ pair. pair.0.now) pairs
 
--- a later position, one further, or that of the first
+-- the position of a name among names with one more in front: one more than that in the rest, or
+-- that of the first
 abbrev pub later_or_first : Option ℕ → (is_first : Bool) → Option ℕ
 later_or_first (Some k) is_first = Some (suc k)
 later_or_first None true = Some 0
@@ -32,7 +33,7 @@ last_position (own ∷ names) name =
 abbrev pub row_at : {X : Type 0} → List (Formattable X) → ℕ → Option (Slots X)
 row_at row k = option_map slots_of (slice_get row k)
 
--- the value at the last position of a name; `value_at` gives that at each position
+-- the value at the last position of a name; `value_at` gives the value at each position
 abbrev pub found_by_row : {X : Type 0} → List (List ℕ) → (value_at : ℕ → Option (Slots X))
     → List ℕ → Option (Slots X)
 found_by_row names value_at name =

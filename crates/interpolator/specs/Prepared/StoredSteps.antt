@@ -23,19 +23,19 @@ use Rattle.interpolator.specs.declared.prepared.step.Part.{Part}
 use Rattle.interpolator.specs.declared.prepared.step.Step.{Step}
 use Rattle.interpolator.specs.declared.prepared.step.Step.TheVariants.{Literal, Joined, Plain, Under, Whole}
 
--- how many bytes parts of a format have together
+-- how many bytes some parts of a format have together
 abbrev pub parts_size : List Part → ℕ
 parts_size [] = 0
 parts_size (x ∷ xs) = (x.to - x.from) + parts_size xs
 
--- the place in the format of a byte of parts that are joined
+-- the place in the format of a byte of joined parts
 abbrev pub joined_place : List Part → ℕ → ℕ
 joined_place [] offset = offset
 joined_place (x ∷ xs) offset =
     if nat_lt offset (x.to - x.from) then x.from + offset
     else joined_place xs (offset - (x.to - x.from))
 
--- characters at other places
+-- characters, each moved to another place
 abbrev pub placed_by : (ℕ → ℕ) → Placed → Placed
 placed_by place xs = map (λ x. (x.0, place x.1)) xs
 
@@ -43,12 +43,12 @@ placed_by place xs = map (λ x. (x.0, place x.1)) xs
 abbrev pub joined_placed : List Part → List ℕ → Placed
 joined_placed parts bytes = placed_by (joined_place parts) (placed_from 0 (chars bytes))
 
--- joined text, if its parts have as many bytes as it has
+-- the step of joined text, if its parts have as many bytes as it has
 abbrev pub joined_step : List Part → List ℕ → Option Instruction
 joined_step parts bytes =
     if parts_size parts == length bytes then Some (text_step (joined_placed parts bytes)) else None
 
--- a node that is kept alone, and whose stored pieces fit the format
+-- the step of a node that is kept alone, if its stored pieces fit the format
 abbrev pub whole_step : List Node → Option Instruction
 whole_step (x ∷ []) = if node_whole x then Some (node_step x) else None
 whole_step xs = None
@@ -67,20 +67,20 @@ abbrev pub keeps_piece : Step → Bool
 keeps_piece (Whole x) = true
 keeps_piece _ = false
 
--- steps that stand for a program become steps that stand for what is made of it
+-- if the old steps stand for a program, the new ones stand for what `made` makes of it
 abbrev pub Becomes : List ℕ → (old new : List Step) → (List Instruction → List Instruction) → Type 0
 Becomes bs old new made =
     (program : List Instruction) → map (step_of bs) old ≡ map Some program
     → map (step_of bs) new ≡ map Some (made program)
 
--- the answer of a refusal that tells a place, at another place
+-- the fault of a write that failed, with the place of a refused text moved
 abbrev pub moved_fault : (ℕ → ℕ) → WriteFault → Answer
 moved_fault place (MissingTraitImpl wanted end) = fault (missing_trait_impl wanted end)
 moved_fault place (Fmt offset) = fault (fmt (place offset))
 
 module _ {X : Type 0} (shows : X → Trait → Spec → Shown) (e : Environment X)
     (value_at : ℕ → Option (Slots X)) where
-  -- what a step means that fits its format
+  -- what a step means, if it fits its format
   abbrev pub fitting_means : Option Instruction → Meaning
   fitting_means None = nothing
   fitting_means (Some step) = step_means shows e value_at step

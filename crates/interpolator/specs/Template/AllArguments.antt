@@ -34,7 +34,7 @@ module _ (run : At → List Argument) where
   pieces_arguments [] = []
   pieces_arguments (x ∷ xs) = piece_arguments x.kind ++ pieces_arguments xs
 
--- the arguments of a text in which groups are nested less than so deep
+-- the arguments of a text whose groups are nested less than `depth` deep
 abbrev pub arguments_within : (depth : ℕ) → At → List Argument
 arguments_within zero a = []
 arguments_within (suc depth) a = pieces_arguments (arguments_within depth) (pieces a)

@@ -1,4 +1,4 @@
--- The faults of a format itself: those that it has in every context.
+-- The faults that a format has by itself, whatever its context.
 use Rattle.std.specs.Prelude.{◌≡◌, ◌⊎◌, ℕ, List, [], ◌∷◌, ◌++◌, Option, Some, None}
 use Rattle.std.specs.Prelude.{if◌then◌else◌}
 use Rattle.interpolator_syntax.specs.At.{At}
@@ -28,7 +28,8 @@ abbrev pub first_fault : List Fault → Option Fault
 first_fault [] = None
 first_fault (f ∷ fs) = Some f
 
--- what a piece has by itself: a broken argument's fault, or what the spec of a list may not ask
+-- the fault that a piece has by itself: that of a broken argument, or that the spec of a list has
+-- what it may not have
 abbrev pub own_fault : Content → Option Fault
 own_fault (text_content from cs) = None
 own_fault (argument_content start name spec (target_value t) end) = None
@@ -36,28 +37,28 @@ own_fault (argument_content start name spec (target_list range) end) =
     if forbids_list spec then Some (parse (iter end)) else None
 own_fault (fault_content f) = Some f
 
--- what a piece has by itself, by its form
+-- the fault that a piece has by itself, by its form
 abbrev pub form_fault : Spec → (end : ℕ) → Form → Option Fault
 form_fault spec end (forms.List range) = if forbids_list spec then Some (parse (iter end)) else None
 form_fault spec end (forms.Broken fault) = Some (argument_fault_of fault.value)
 form_fault spec end _ = None
 
--- what a stored piece has by itself
+-- the fault that a stored piece has by itself
 abbrev pub stored_own_fault : Piece → Option Fault
 stored_own_fault x = form_fault (out-Piece x).spec (out-Piece x).spec_end (out-Piece x).form
 
--- that it is not closed
+-- the fault that it is not closed
 abbrev pub end_fault : PieceKind → Content → Option Fault
 end_fault kind (argument_content start name spec bare end) = unclosed_fault_of kind end
 end_fault kind _ = None
 
--- that an argument is not closed, by its form
+-- the fault that an argument is not closed, by its form
 abbrev pub form_end_fault : PieceKind → (end : ℕ) → Form → Option Fault
 form_end_fault kind end forms.Text = None
 form_end_fault kind end (forms.Broken fault) = None
 form_end_fault kind end _ = unclosed_fault_of kind end
 
--- that a stored piece is not closed
+-- the fault that a stored piece is not closed
 abbrev pub stored_end_fault : Piece → Option Fault
 stored_end_fault x =
     form_end_fault (out-Piece x).kind (out-Piece x).spec_end (out-Piece x).form
@@ -81,25 +82,25 @@ abbrev mutual
   forest_faults no_nodes = []
   forest_faults (nodes_and x xs) = node_faults x ++ forest_faults xs
 
--- all faults of a text itself, at every depth of groups, in order
+-- all faults that a text has by itself, at every depth of groups, in order
 abbrev pub text_faults : At → List Fault
 text_faults a = forest_faults (as_forest (nodes a))
 
--- the fault of a piece when it is entered, or when it is left
+-- the fault that is met when a piece is entered, or when it is left
 abbrev pub visit_faults : Visit → List Fault
 visit_faults (enter spot (node place end kind (Some held) item join)) = fault_list (own_fault held)
 visit_faults (leave spot (node place end kind (Some held) item join)) =
     fault_list (end_fault kind held)
 visit_faults _ = []
 
--- a fault that a text has by itself, whatever its context
+-- a fault of the kinds that a text has by itself
 abbrev pub IsOfText : Fault → Type 0
 IsOfText f = IsArgumentFault f
 
 -- ---- in words of the pieces
 
 abbrev mutual
-  -- a piece has this fault: by itself, in a piece of a group, or as one that is not closed
+  -- a piece has this fault: by itself, in a piece of a group, or by not being closed
   pub NodeHas : Fault → Node → Type 0
   NodeHas f (node place end kind None item join) = ⊥
   NodeHas f (node place end kind (Some held) item join) =

@@ -1,4 +1,4 @@
--- What a format can cost at most, if its values are within limits.
+-- What a format can cost at most, if the values it is written with are within limits.
 use Rattle.std.specs.Prelude.{ℕ, ◌+◌, ◌-◌, ◌*◌, max, length}
 use Rattle.std.specs.Prelude.{Option, None, Some}
 use Rattle.interpolator_render.specs.declared.view.Spec.{Spec}
@@ -15,15 +15,15 @@ use Rattle.interpolator_eval.specs.Meaning.Limits.{most_chosen}
 use Rattle.interpolator.specs.declared.template.cost.Cost.{Cost}
 use Rattle.interpolator.specs.declared.template.cost.Limits.{Limits}
 
--- nothing
+-- the cost of nothing
 abbrev pub no_cost : Cost
 no_cost = record { characters = 0; pieces = 0; buffered = 0 }
 
--- one piece, of so many characters
+-- the cost of one piece of so many characters
 abbrev pub piece_cost : (characters : ℕ) → Cost
 piece_cost characters = record { characters = characters; pieces = 1; buffered = 0 }
 
--- one after the other: only one of them holds a buffer at one time
+-- the cost of one after the other: only one of them uses a buffer at a time
 abbrev pub then_cost : Cost → Cost → Cost
 then_cost a b = record {
   characters = a.characters + b.characters;
@@ -31,11 +31,11 @@ then_cost a b = record {
   buffered = max a.buffered b.buffered;
 }
 
--- an item by its format: if that has no pieces, the item counts as one
+-- the cost of an item by its format: if the format has no pieces, the item counts as one
 abbrev pub item_cost : Cost → Cost
 item_cost c = record c { pieces = max 1 c.pieces }
 
--- so many items, and the join between two of them
+-- the cost of so many items, with the join between each two
 abbrev pub items_cost : (count : ℕ) → (item join : Cost) → Cost
 items_cost count item join = record {
   characters = count * item.characters + (count - 1) * join.characters;
@@ -43,8 +43,8 @@ items_cost count item join = record {
   buffered = max item.buffered join.buffered;
 }
 
--- the items of a list, which are held in a buffer and padded under a width: at least one character
--- is told there, so that none is if there is no such list
+-- the cost of the items of a list, which under a width are collected in a buffer and padded: then
+-- at least one character counts as buffered, so that 0 means that there is no such list
 abbrev pub padded_cost : (width : Option ℕ) → Cost → Cost
 padded_cost None c = c
 padded_cost (Some width) c = record {
@@ -53,19 +53,19 @@ padded_cost (Some width) c = record {
   buffered = max 1 c.characters + c.buffered;
 }
 
--- within these limits
+-- within these limits, the cost of each of these:
 module _ (limits : Limits) where
   -- a value under a trait and a spec
   abbrev pub value_cost : Trait → Spec → Cost
   value_cost t spec = piece_cost (most_written t spec limits.text)
 
-  -- a list of which a range chooses the items: its argument, and its items
+  -- a list, whose items a range chooses: the argument itself, and the items
   abbrev pub list_cost : Option Range → Spec → (item join : Cost) → Cost
   list_cost range spec item join =
       then_cost (piece_cost 0)
       (padded_cost spec.width (items_cost (most_chosen limits.items range) item join))
 
-  -- what a piece holds, if this is what an item and the join cost
+  -- what a piece holds, by the costs of an item and of the join
   abbrev pub held_cost : Content → (item join : Cost) → Cost
   held_cost (text_content from cs) item join = piece_cost (length cs)
   held_cost (argument_content start name spec (target_value t) end) item join = value_cost t spec
@@ -99,7 +99,7 @@ module _ (limits : Limits) where
   abbrev pub text_cost : At → Cost
   text_cost a = forest_cost (as_forest (nodes a))
 
--- each count as a `usize` tells it
+-- each count as a `usize`, or the greatest `usize` if it is greater
 abbrev pub usize_cost : Cost → Cost
 usize_cost c = record {
   characters = usize_count c.characters;
@@ -107,6 +107,6 @@ usize_cost c = record {
   buffered = usize_count c.buffered;
 }
 
--- limits of worked costs: texts of ten characters, lists of three items
+-- the limits of the worked costs: texts of ten characters, lists of three items
 abbrev pub ten_and_three : Limits
 ten_and_three = record { text = 10; items = 3 }

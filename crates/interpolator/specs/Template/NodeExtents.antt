@@ -15,12 +15,12 @@ use Rattle.interpolator.specs.declared.template.piece.Piece.TheViews.{out-Piece}
 abbrev pub spec_extent : Spec → ℕ
 spec_extent spec = max (unwrap_or spec.width 0) (unwrap_or spec.precision 0)
 
--- what a piece holds asks
+-- the extent of what a piece holds
 abbrev pub held_extent : Option Content → ℕ
 held_extent (Some (argument_content start name spec bare end)) = spec_extent spec
 held_extent _ = 0
 
--- what a stored piece asks by itself
+-- the extent of a stored piece, without its groups
 abbrev pub form_extent : Spec → Form → ℕ
 form_extent spec (forms.Value t) = spec_extent spec
 form_extent spec (forms.List range) = spec_extent spec
@@ -29,12 +29,12 @@ form_extent spec _ = 0
 abbrev pub stored_extent : Piece → ℕ
 stored_extent x = form_extent (out-Piece x).spec (out-Piece x).form
 
--- what a piece asks by itself when it is entered
+-- the extent of a piece, without its groups, which is met when it is entered
 abbrev pub visit_extent : Visit → ℕ
 visit_extent (enter spot (node place end kind held item join)) = held_extent held
 visit_extent (leave spot x) = 0
 
--- the greatest width or precision of pieces and of those in their groups
+-- the greatest width or precision of pieces, and of those in their groups
 abbrev pub forest_extent : Forest → ℕ
 forest_extent xs = greatest visit_extent (forest_visits outermost_spot xs)
 
@@ -51,12 +51,12 @@ abbrev mutual
   forest_depth no_nodes = 0
   forest_depth (nodes_and x xs) = max (node_depth x) (forest_depth xs)
 
--- in how many groups the pieces of a group are, whose argument is in so many
+-- how many groups the pieces of a group are in, if its argument is in `depth`; 0 without a group
 abbrev pub inner_depth : (depth : ℕ) → Branch → ℕ
 inner_depth depth no_branch = 0
 inner_depth depth (branch xs) = suc depth
 
--- in how many groups those of a piece are, when it is entered
+-- how many groups the pieces of its groups are in, which is met when a piece is entered
 abbrev pub visit_depth : Visit → ℕ
 visit_depth (enter spot (node place end kind held item join)) =
     max (inner_depth spot.depth item) (inner_depth spot.depth join)

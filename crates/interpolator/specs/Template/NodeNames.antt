@@ -6,7 +6,7 @@ use Rattle.interpolator_syntax.specs.Nodes.{node}
 use Rattle.interpolator_eval.specs.Meaning.AskedNames.{held_asks}
 use Rattle.interpolator.specs.Template.Visits.{Visit, enter, leave}
 
--- the name that a piece asks when it is entered
+-- the name that a piece uses, which is met when it is entered
 abbrev pub visit_asks : Visit → List (List ℕ)
 visit_asks (enter spot (node place end kind held item join)) = held_asks spot.in_item held
 visit_asks (leave spot x) = []
@@ -16,6 +16,6 @@ abbrev pub name_list : Option (List ℕ) → List (List ℕ)
 name_list None = []
 name_list (Some name) = name ∷ []
 
--- the characters of names that the code has
+-- the names that the code has, in characters
 abbrev pub name_texts : {Z : Type 0} → List (String Z) → List (List ℕ)
 name_texts names = map (λ name. chars (string_bytes name)) names

@@ -1,4 +1,4 @@
--- The faults that a format has over a sample: an example of the contexts that it will be written with.
+-- The faults of a format against a sample: an example of the contexts that it will be written with.
 use Rattle.std.specs.Prelude.{ℕ, Bool, false, ◌||◌, is_some, if◌then◌else◌, Option, Some, None}
 use Rattle.std.specs.Prelude.{List, [], ◌∷◌, ◌++◌, unwrap_or}
 use Rattle.std.specs.List.{list_any}
@@ -19,36 +19,36 @@ use Rattle.interpolator_eval.specs.Meaning.Samples.{items_of_all, has_no_list, s
 use Rattle.interpolator_eval.specs.Meaning.Samples.{some_failed}
 use Rattle.interpolator.specs.Template.NodeChecks.{fault_list, own_fault, end_fault}
 
--- a fault, if it is so
+-- a fault as a list, if the test says that there is one
 abbrev pub fault_if : Bool → Fault → List Fault
 fault_if holds f = if holds then f ∷ [] else []
 
--- the items that there may be of an argument, if it asks for a list
+-- the items that an argument may have, if it asks for a list
 abbrev pub may_be_items : {X : Type 0} → Sample X → Content → List (Slots X)
 may_be_items s (argument_content start name spec (target_list range) end) =
     items_of_all (unwrap_or (may_stand s name) [])
 may_be_items s _ = []
 
 module _ {X : Type 0} (shows : X → Trait → Spec → Shown) where
-  -- the faults of what may be there, if a value is asked
+  -- the faults of the values that may be there, if the argument asks for a value
   abbrev pub value_faults : Trait → Spec → (end : ℕ) → List (Slots X) → List Fault
   value_faults t spec end ts =
       fault_if (some_missing shows t spec ts) (missing_trait_impl t end)
       ++ fault_if (some_failed shows t spec ts) (fmt end)
 
-  -- the faults by what is asked: of a list, that something has none
+  -- the faults by what the argument asks for: if it is a list, that one of these has no list
   abbrev pub bare_faults : Target → Spec → (end : ℕ) → List (Slots X) → List Fault
   bare_faults (target_value t) spec end ts = value_faults t spec end ts
   bare_faults (target_list range) spec end ts =
       fault_if (list_any has_no_list ts) (missing_trait_impl traits.Iter end)
 
-  -- the faults of what was found under a name, or that nothing was
+  -- the faults of what was found under a name, or that nothing was found
   abbrev pub found_faults : (start : ℕ) (name : List ℕ) → Target → Spec → (end : ℕ)
       → Option (List (Slots X)) → List Fault
   found_faults start name bare spec end None = missing_value name start ∷ []
   found_faults start name bare spec end (Some ts) = bare_faults bare spec end ts
 
-  -- the faults of what a piece asks of the sample
+  -- the faults that a piece has with the sample
   abbrev pub asked_faults : Sample X → Content → List Fault
   asked_faults s (text_content from cs) = []
   asked_faults s (argument_content start name spec bare end) =
@@ -63,8 +63,8 @@ module _ {X : Type 0} (shows : X → Trait → Spec → Shown) where
   -- ---- at every depth
 
   abbrev mutual
-    -- the faults of a piece: of what it asks of the sample, its own, those of its item format with
-    -- each item that there may be, those of its join, and that it is not closed
+    -- the faults of a piece: those with the sample, its own, those of its item format with each
+    -- item that it may have, those of its join, and that it is not closed
     pub node_faults_in : Sample X → Node → List Fault
     node_faults_in s (node place end kind None item join) = []
     node_faults_in s (node place end kind (Some held) item join) =
@@ -85,13 +85,13 @@ module _ {X : Type 0} (shows : X → Trait → Spec → Shown) where
     forest_faults_in s no_nodes = []
     forest_faults_in s (nodes_and x xs) = node_faults_in s x ++ forest_faults_in s xs
 
-  -- all faults that a text has over a sample, at every depth of groups, in order, each once
+  -- all faults of a text against a sample, at every depth of groups, in order, each once
   abbrev pub faults_over : (List ℕ → Option (Slots X)) → At → List Fault
   faults_over finds a = forest_faults_in (sample finds) (as_forest (nodes a))
 
   -- ---- of what is stored, if it fits its text
 
-  -- the faults of what a stored piece asks
+  -- the faults that a stored piece has with the sample
   abbrev pub asked_of : Sample X → Option Content → List Fault
   asked_of s None = []
   asked_of s (Some held) = asked_faults s held
@@ -101,20 +101,20 @@ module _ {X : Type 0} (shows : X → Trait → Spec → Shown) where
   item_of s None item = []
   item_of s (Some held) item = item_faults_in s held item
 
--- the items that there may be
+-- the items that a stored piece may have
 abbrev pub items_of_held : {X : Type 0} → Sample X → Option Content → List (Slots X)
 items_of_held s None = []
 items_of_held s (Some held) = may_be_items s held
 
 -- ---- lists that are made whole in memory
 
--- a piece asks for a list under a width
+-- whether what a piece holds is a list under a width
 abbrev pub held_pads : Option Content → Bool
 held_pads (Some (argument_content start name spec (target_list range) end)) = is_some spec.width
 held_pads _ = false
 
 abbrev mutual
-  -- a piece asks for a list under a width, or one in its groups does
+  -- whether a piece, or one in its groups, is a list under a width
   pub node_pads : Node → Bool
   node_pads (node place end kind held item join) =
       held_pads held || (branch_pads item || branch_pads join)
@@ -127,6 +127,6 @@ abbrev mutual
   forest_pads no_nodes = false
   forest_pads (nodes_and x xs) = node_pads x || forest_pads xs
 
--- some list in a text is under a width, at any depth of groups
+-- whether some list in a text is under a width, at any depth of groups
 abbrev pub pads_a_list : At → Bool
 pads_a_list a = forest_pads (as_forest (nodes a))

@@ -18,7 +18,7 @@ abbrev pub ending_kind : Option At → PieceKind
 ending_kind (Some rest) = Closed
 ending_kind None = Unclosed
 
--- what follows it, if its spec ends in front of a
+-- what follows the argument whose spec ends before a
 abbrev pub ending_rest : (a : At) → Option At → At
 ending_rest a (Some rest) = rest
 ending_rest a None = all_after a

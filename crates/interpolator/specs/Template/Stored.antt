@@ -1,5 +1,5 @@
--- How the code stores the pieces of a text: beside each what it is, and which bytes of the text it
--- is cut out of.
+-- How the code stores the pieces of a text: for each what it is, and which bytes of the text it is
+-- cut from.
 use Rattle.std.specs.Prelude.{◌≡◌, ℕ, suc, ◌+◌, ◌-◌, Bool, true, false, ◌&&◌, ◌||◌, not, nat_lt}
 use Rattle.std.specs.Prelude.{if◌then◌else◌, List, [], ◌∷◌, ◌++◌, length, take, drop, slice_index}
 use Rattle.std.specs.Prelude.{Option, Some, None, option_map, map}
@@ -24,13 +24,13 @@ use Rattle.interpolator.specs.declared.template.piece.Piece.TheOpen.{Piece-F}
 use Rattle.interpolator.specs.declared.template.piece.Piece.TheFolds.{fold-Piece}
 use Rattle.interpolator.specs.declared.template.piece.Piece.TheViews.{out-Piece}
 
--- a text may be cut in front of this byte: it is its end, or begins a character
+-- whether a text may be cut before this byte: it is the end of the text, or begins a character
 abbrev pub may_cut : List ℕ → ℕ → Bool
 may_cut bs i =
     not (nat_lt (length bs) i) && (not (nat_lt i (length bs))
     || (nat_lt (slice_index bs i) 128 || not (nat_lt (slice_index bs i) 192)))
 
--- the characters from one byte up to another, where a text may be cut there
+-- the characters from one byte up to another, if the text may be cut at both
 unfoldable pub part : List ℕ → (from to : ℕ) → Option (List ℕ)
 part bs from to =
     if not (nat_lt to from) && (may_cut bs from && may_cut bs to)
@@ -40,12 +40,12 @@ part bs from to =
 abbrev pub name_part : List ℕ → (place from to : ℕ) → Option (List ℕ)
 name_part bs place from to = if nat_lt place from then part bs from to else None
 
--- which items of a list, as the code has it
+-- the range of a list, as the code has it
 abbrev pub range_of : Option (Box Range) → Option Range
 range_of range = option_map (λ b. b.value) range
 
--- what a piece at `place` holds, of which the bytes from one up to another are stored, and the end
--- of its spec
+-- what a piece at `place` holds, by its form, the bytes that are stored of it, and the end of its
+-- spec
 abbrev pub stored_held : List ℕ → (place from to end : ℕ) → Spec → Form → Option Content
 stored_held bs place from to end spec forms.Text =
     option_map (λ cs. text_content from cs) (part bs from to)
@@ -60,7 +60,7 @@ stored_held bs place from to end spec (forms.List range) =
 stored_held bs place from to end spec (forms.Broken fault) =
     Some (fault_content (argument_fault_of fault.value))
 
--- a piece whose groups are nodes already
+-- the node of a piece whose groups have become nodes
 abbrev pub node_step : List ℕ → Piece-F Node → Node
 node_step bs x =
     node x.place x.end x.kind
@@ -85,7 +85,7 @@ nodes_of bs xs = map (node_of bs) xs
 abbrev pub branch_of : List ℕ → Option (Vec Piece) → Branch
 branch_of bs xs = as_branch (option_map (λ xs. nodes_of bs xs.items) xs)
 
--- all that is stored of a node, and of those below it, fits its text
+-- whether all that is stored of a node, and of the nodes below it, fits its text
 abbrev mutual
   pub node_whole : Node → Bool
   node_whole (node place end kind None item join) = false
@@ -99,20 +99,20 @@ abbrev mutual
   forest_whole no_nodes = true
   forest_whole (nodes_and x xs) = node_whole x && forest_whole xs
 
--- a text that is in another at its place
+-- one text lies in another, at its place
 pub record Within (whole a : At) : Type 0 where
   pub front : List ℕ
   pub back : List ℕ
   pub split : whole.text ≡ front ++ (a.text ++ back)
   pub place : a.place ≡ whole.place + size front
 
--- in every format that has this text at its place, the stored pieces are those of the text
+-- in every format that has this text at its place, the stored pieces are the pieces of the text
 abbrev pub StandFor : List Piece → At → Type 0
 StandFor xs a =
     (bs : List ℕ) → IsUtf8 bs → Within (outermost (chars bs)) a → nodes_of bs xs ≡ nodes a
 
--- one stored piece was added after others, and in every format that has this text at its place, it
--- is that node
+-- one stored piece was added after others, and it is that node in every format that has this text
+-- at its place
 pub record Pushed (old new : List Piece) (n : Node) (a : At) : Type 0 where
   pub piece : Piece
   pub added : new ≡ old ++ (piece ∷ [])

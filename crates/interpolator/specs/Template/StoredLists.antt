@@ -1,4 +1,4 @@
--- What stored pieces tell of a list with which they begin.
+-- The list with which stored pieces begin, if they begin with one.
 use Rattle.std.specs.Prelude.{ℕ, suc, List, [], ◌∷◌, Bool, true, false, Option, None, Some}
 use Rattle.std.specs.Prelude.{if◌then◌else◌}
 use Rattle.interpolator_syntax.specs.Nodes.{Forest, as_forest, no_branch}
@@ -12,27 +12,27 @@ use Rattle.interpolator.specs.declared.template.piece.Form.TheVariants as forms
 use Rattle.interpolator.specs.declared.template.piece.Piece.{Piece}
 use Rattle.interpolator.specs.declared.template.piece.Piece.TheViews.{out-Piece}
 
--- a piece is written as a list
+-- whether a piece is written as a list
 abbrev pub is_list_form : Form → Bool
 is_list_form (forms.List range) = true
 is_list_form _ = false
 
--- the first of some pieces is
+-- whether the first of some pieces is
 abbrev pub begins_list : List Piece → Bool
 begins_list [] = false
 begins_list (x ∷ xs) = is_list_form (out-Piece x).form
 
--- which items of a list; all, if nothing tells them
+-- which items of a list are written: all, unless the form of the piece has a range
 abbrev pub range_asked : Form → Option Range
 range_asked (forms.List range) = range_of range
 range_asked _ = None
 
--- a name that fits its text
+-- the name if it fits its text, or the empty name
 abbrev pub name_or_none : Option (List ℕ) → List ℕ
 name_or_none (Some name) = name
 name_or_none None = []
 
--- the list for which the first piece asks
+-- the list that the first piece asks for
 abbrev pub stored_list : List ℕ → List Piece → ListArgument
 stored_list bs [] = record {
   start = 0;
@@ -53,7 +53,7 @@ stored_list bs (x ∷ xs) = record {
   join = branch_of bs (out-Piece x).join;
 }
 
--- the pieces after it, if it is closed
+-- the pieces after it if it is closed, or none
 abbrev pub stored_rest : List ℕ → List Piece → Option Forest
 stored_rest bs [] = None
 stored_rest bs (x ∷ xs) =

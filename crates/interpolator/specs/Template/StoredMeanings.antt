@@ -1,4 +1,4 @@
--- What stored pieces mean, as the functions that run them say it.
+-- What stored pieces mean, in the words of the functions that write them.
 use Rattle.std.specs.Prelude.{ℕ, List, Option, Some, None, codes}
 use Rattle.interpolator_render.specs.declared.view.Trait.{Trait}
 use Rattle.interpolator_render.specs.declared.view.Spec.{Spec}
@@ -17,7 +17,8 @@ use Rattle.interpolator_syntax.specs.declared.piece_kind.PieceKind.TheVariants.{
 use Rattle.interpolator.specs.declared.template.piece.Piece.{Piece}
 use Rattle.interpolator.specs.declared.template.piece.Piece.TheViews.{out-Piece}
 
--- the text that is written for a stored piece, or its name, if it fits its text
+-- the text that is written for a stored piece, or the name of a stored argument, if it fits its
+-- text
 abbrev pub stored_part : List ℕ → Piece → Option (List ℕ)
 stored_part bs x = part bs (out-Piece x).from (out-Piece x).to
 
@@ -25,12 +26,12 @@ stored_part bs x = part bs (out-Piece x).from (out-Piece x).to
 abbrev pub stored_name : List ℕ → Piece → Option (List ℕ)
 stored_name bs x = name_part bs (out-Piece x).place (out-Piece x).from (out-Piece x).to
 
--- the fault of the missing brace, of an argument that is not closed
+-- the fault of an argument that is not closed: its brace is missing
 abbrev pub unclosed_fault_of : PieceKind → (end : ℕ) → Option Fault
 unclosed_fault_of Unclosed end = Some (parse (expected (codes "}") end))
 unclosed_fault_of _ end = None
 
--- the fault of the missing brace of a stored piece
+-- that fault of a stored piece
 abbrev pub unclosed_fault : Piece → Option Fault
 unclosed_fault x = unclosed_fault_of (out-Piece x).kind (out-Piece x).spec_end
 

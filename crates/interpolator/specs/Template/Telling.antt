@@ -1,32 +1,32 @@
--- What a walk over the faults of a format has told: the first of them, or all.
+-- What a walk over the faults of a format has reported: the first of them, or all.
 use Rattle.std.specs.Prelude.{◌≡◌, ⊤, Bool, true, false, List, [], ◌++◌, map, Option, Some, None}
 use Rattle.interpolator_syntax.specs.Faults.{Fault, Answer, fault, no_memory, answer_of}
 use Rattle.interpolator_syntax.specs.Faults.{missing_value}
 use Rattle.interpolator.specs.Template.NodeChecks.{first_fault}
 use Rattle.interpolator.specs.declared.template.telling.Telling.{Telling}
 
--- the fault is that a name is missing, which is copied
+-- the fault is that a value is missing; its name is copied
 abbrev pub NamesMissing : Option Fault → Type 0
 NamesMissing (Some (missing_value name place)) = ⊤
 NamesMissing _ = ⊥
 
--- the first of these faults is answered, if there is one; or that the name in it finds no memory
+-- the first of these faults is returned, if there is one; or there is no memory for the name in it
 abbrev pub AnswersFirst : List Fault → Option Answer → Type 0
 AnswersFirst fs None = first_fault fs ≡ None
 AnswersFirst fs (Some (fault f)) = first_fault fs ≡ Some f
 AnswersFirst fs (Some no_memory) = NamesMissing (first_fault fs)
 
--- what is kept
+-- the faults that are kept
 abbrev pub kept_by : Telling → List Answer
 kept_by telling = map answer_of telling.kept.items
 
--- it refused memory
+-- the error is that memory was refused
 abbrev pub is_no_memory : Answer → Bool
 is_no_memory no_memory = true
 is_no_memory (fault f) = false
 
--- after a walk over these faults: all are kept, or there is none; or the first is answered, if only
--- that is told; or memory was refused
+-- after a walk over these faults: all are kept, or there are none; or the first is returned, if
+-- only the first is reported; or memory was refused
 abbrev pub Tells : List Fault → (old new : Telling) → Option Answer → Type 0
 Tells fs old new None =
     (new.only_first ≡ old.only_first) × (old.only_first ≡ true → fs ≡ [])

@@ -11,7 +11,7 @@ pub data Visit : Type 0 where
   enter : Spot → Node → Visit
   leave : Spot → Node → Visit
 
--- where the pieces of a group are, whose argument is here
+-- where the pieces of a group are, if its argument is at `spot`
 abbrev pub inner : (in_item : Bool) → Spot → Spot
 inner in_item spot = record { depth = spot.depth + 1; in_item = in_item }
 
@@ -23,7 +23,7 @@ abbrev mutual
       ∷ (branch_visits (inner true spot) item ++ (branch_visits (inner spot.in_item spot) join
       ++ (leave spot (node place end kind held item join) ∷ [])))
 
-  -- the visits of a group, whose pieces are here
+  -- the visits of a group whose pieces are at `spot`
   pub branch_visits : Spot → Branch → List Visit
   branch_visits spot no_branch = []
   branch_visits spot (branch xs) = forest_visits spot xs
@@ -33,7 +33,7 @@ abbrev mutual
   forest_visits spot no_nodes = []
   forest_visits spot (nodes_and x xs) = node_visits spot x ++ forest_visits spot xs
 
--- where the pieces of a text are that are in no group
+-- where the pieces are that are in no group
 abbrev pub outermost_spot : Spot
 outermost_spot = record { depth = 0; in_item = false }
 
@@ -43,14 +43,14 @@ text_visits a = forest_visits outermost_spot (as_forest (nodes a))
 
 -- `step` is what a visitor does at a visit: how it changes, and whether it stops there
 module _ {V E : Type 0} (step : V → Visit → V → Result (Unit {0}) E → Type 0) where
-  -- it makes visits in turn, up to the first at which it stops
+  -- a visitor makes these visits in turn, up to the first at which it stops
   abbrev pub Walks : (old : V) → List Visit → (new : V) → Result (Unit {0}) E → Type 0
   Walks old [] new answer = (new ≡ old) × (answer ≡ Ok tt)
   Walks old (x ∷ xs) new answer =
       (step old x new answer × IsErr answer)
       ⊎ ((mid : V) × (step old x mid (Ok tt) × Walks mid xs new answer))
 
--- the greatest of what visits ask
+-- the greatest number that a visit gives; 0 without visits
 abbrev pub greatest : (Visit → ℕ) → List Visit → ℕ
 greatest asks [] = 0
 greatest asks (x ∷ xs) = max (asks x) (greatest asks xs)

@@ -7,12 +7,13 @@ ghost use Rattle.interpolator_eval.specs.Meaning.AskedNames.{asked_names, withou
 ghost use Rattle.interpolator.specs.Template.AllArguments.{arguments_of, names_of};
 ghost use Rattle.interpolator.specs.Template.AllArguments.{pieces_arguments};
 
-/// The arguments of a text are those of its pieces, in order: of a closed or an unclosed argument
-/// itself, then those of its item format, and then those of its join; of another piece, and so of a
-/// broken argument, none. Those of a group are those of its text, so that this holds at every depth.
+/// The arguments of a text are those of its pieces, in order: for a closed or an unclosed argument
+/// the argument itself, then those of its item format, and then those of its join; for any other
+/// piece, and so for a broken argument, none. Those of a group are those of its text, so that this
+/// holds at every depth.
 ///
-/// So those of `{a:i({}{b})({c})}{d:x` are `a`, the item, `b`, `c` and `d`, whose names begin at the
-/// bytes 1, 6, 8, 13 and 18; and `{a}{b` has `a` alone, since what comes after is broken.
+/// So those of `{a:i({}{b})({c})}{d:x` are `a`, the item, `b`, `c` and `d`, whose names begin at
+/// the bytes 1, 6, 8, 13 and 18; and `{a}{b` has `a` alone, since what comes after it is broken.
 pub fn arguments_are_those_of_the_pieces()
     ensures pieces { (a : At) → arguments_of a ≡ pieces_arguments arguments_of (pieces a) }
     ensures value { names_of (arguments_of (outermost (codes "{a:i({}{b})({c})}{d:x")))
@@ -22,12 +23,12 @@ pub fn arguments_are_those_of_the_pieces()
     ensures broken { names_of (arguments_of (outermost (codes "{a}{b"))) ≡ codes "a" ∷ [] }
 {}
 
-/// The names of the arguments of a text are those that it asks, in order and with repeats, but for
-/// empty names: in an item format the empty name is the item. It is no asked name, but the name of
-/// an argument.
+/// The names of the arguments of a text are the names that it uses, in order and with repeats,
+/// except for empty ones: in an item format the empty name is the item, which an argument has as
+/// its name, but which is not looked up in the context.
 ///
-/// So `{}{a:i({}{b})({c})}` has as arguments the empty name, `a`, the item, `b` and `c`, and asks the
-/// empty name, `a`, `b` and `c`.
+/// So the arguments of `{}{a:i({}{b})({c})}` have the names: empty, `a`, empty (the item), `b` and
+/// `c`; and the names that it uses are: empty, `a`, `b` and `c`.
 pub fn arguments_have_the_asked_names()
     ensures names { (a : At)
         → without_empty (names_of (arguments_of a)) ≡ without_empty (asked_names a) }

@@ -14,12 +14,12 @@ ghost use Rattle.interpolator_syntax.specs.Nodes.{as_forest, nodes};
 
 use interpolator_render::Value;
 
-/// A fault of the text, `Parse` or `UnsupportedOption`, that a format has in some environment is
-/// one of those that it has by itself. So a format in which a check finds none answers neither of
-/// the two, whatever its context is.
+/// A `Parse` or an `UnsupportedOption` that a format means in some environment is one of the faults
+/// that it has by itself. So if a check finds none, the format fails with neither of the two,
+/// whatever its context is.
 ///
-/// So `{a:i({z)}` is checked to have an unclosed argument at byte 6, and in a context with an empty
-/// list under `a` it is written all the same.
+/// The reverse does not hold: a check of `{a:i({z)}` finds an unclosed argument at byte 6, but with
+/// an empty list under `a` the format is written without a fault.
 pub fn a_format_that_checks_has_no_fault_of_its_own<V: Value>()
     ensures among { (e : Environment V) (a : At) (f : Fault) → (means V.shows e a).fault ≡ Some f
         → IsOfText f → Contains (text_faults a) f }
@@ -27,12 +27,12 @@ pub fn a_format_that_checks_has_no_fault_of_its_own<V: Value>()
         → (f : Fault) → (means V.shows e a).fault ≡ Some f → ¬ (IsOfText f) }
 {}
 
-/// The faults that a format has by itself are those of its pieces, at any depth of groups: what is
-/// wrong with an argument, what the spec of a list asks and may not, and that an argument is not
-/// closed. The first is the first of some piece, and no piece before it has any. Each is a fault of
-/// a text.
+/// The faults that a format has by itself are those of its pieces, at any depth of groups: that an
+/// argument is broken, that the spec of a list has what it may not have, and that an argument is
+/// not closed. The first fault is the first of some piece, and no piece before that one has any.
+/// Each is a `Parse` or an `UnsupportedOption`.
 ///
-/// So of `{a:i({z)}{b` the first is that `{z` is not closed.
+/// So the first of `{a:i({z)}{b` is that `{z` is not closed.
 pub fn a_fault_of_its_own_is_that_of_some_piece()
     ensures listed { (a : At) (f : Fault) → Contains (text_faults a) f
         ↔ ForestHas f (as_forest (nodes a)) }
@@ -45,11 +45,11 @@ pub fn a_fault_of_its_own_is_that_of_some_piece()
         ≡ Some (parse (unclosed 6)) }
 {}
 
-/// If a value is missing, its name is one that the format asks, and the context has nothing under
-/// it. So a context that has something under each of the names, as `Template::names` tells them,
-/// misses no value.
+/// If a value is missing, its name is one that the format uses, and the context has nothing under
+/// it. So no value is missing from a context that has something under each name that
+/// `Template::names` returns.
 ///
-/// So over `{a}{b}`, in a context that has `a` alone, the missing value is `b`.
+/// So for `{a}{b}`, in a context that has `a` alone, the missing value is `b`.
 pub fn a_missing_value_is_an_asked_name<V: Value>()
     ensures { (finds : List ℕ → Option (Slots V)) (a : At) (name : List ℕ) (place : ℕ)
         → (means V.shows (environment finds) a).fault ≡ Some (missing_value name place)

@@ -16,12 +16,13 @@ ghost use Rattle.interpolator.specs.declared.template.cost.Limits.{Limits};
 
 use interpolator_render::Value;
 
-/// Within the limits a format costs no more than it is said to: the text that it means is no
-/// longer, writing it goes through no more pieces, and lists under a width hold no more characters
-/// at one time. A count that is told as the greatest `usize` may be more.
+/// With values within the limits, a format costs no more than its cost: the text that it means has
+/// no more characters, writing it goes through no more pieces, and lists under a width have no more
+/// characters in buffers at one time. A count that is reported as the greatest `usize` may be
+/// greater.
 ///
-/// So `{l:i({:?})(, )}` of at most three texts of at most ten characters writes at most 190
-/// characters: 62 for each text in quotes, and two joins.
+/// So `{l:i({:?})(, )}` with at most three texts of at most ten characters writes at most 190
+/// characters: 62 for each quoted text, and two joins.
 pub fn a_format_costs_no_more_than_it_is_said_to<V: Value>()
     ensures characters { (limits : Limits) (e : Environment V) (a : At)
         → IsWithin V.shows limits.text limits.items e (asked_names a)
@@ -38,7 +39,8 @@ pub fn a_format_costs_no_more_than_it_is_said_to<V: Value>()
         → length (means V.shows e a).text ≤ (usize_cost (text_cost limits a)).characters }
 {}
 
-/// A format whose cost is to hold nothing takes memory for nothing but the name of a missing value.
+/// A format whose cost has nothing buffered takes memory for nothing but the name of a missing
+/// value.
 ///
 /// So `{a:>5}{l:i({})(, )}` takes no memory in a context that has `a` and `l`.
 pub fn a_format_that_holds_nothing_takes_no_memory<V: Value>()
@@ -60,10 +62,9 @@ pub fn a_cost_grows_with_the_limits()
         → few.items ≤ many.items → (text_cost few a).buffered ≤ (text_cost many a).buffered }
 {}
 
-/// What some formats cost, if a text has at most 10 characters and a list at most 3 items.
+/// The cost of some formats, if a text has at most 10 characters and a list at most 3 items.
 ///
-/// A number has at most 40 characters under display, 46 under `#` and `o` with a sign, and 10 in an
-/// exponent form with a precision of 4.
+/// A number has at most 40 characters under display, 46 under `+#o`, and 10 under `.4e`.
 pub fn worked_costs()
     ensures pieces { text_cost ten_and_three (outermost (codes "ab{{{x}}"))
         ≡ record { characters = 44; pieces = 4; buffered = 0 } }
@@ -79,7 +80,7 @@ pub fn worked_costs()
         ≡ record { characters = 0; pieces = 13; buffered = 0 } }
 {}
 
-/// Of a list of at most so many items a range chooses no more than is said of it.
+/// From a list of at most `most` items, a range chooses no more than the bound that a cost uses.
 ///
 /// So `-3..-1` chooses at most two items of any list.
 pub fn a_range_chooses_no_more_than_is_said_of_it<T>()

@@ -5,10 +5,9 @@ ghost use Rattle.interpolator_syntax.specs.At.{At, outermost};
 ghost use Rattle.interpolator.specs.Template.NodeExtents.{forest_depth};
 ghost use Rattle.interpolator_syntax.specs.Nodes.{as_forest, nodes};
 
-/// A format with deeply nested groups is long: if it is `d` deep, it has `d` times `d + 4`
-/// characters or more. A group that is in another has fewer signs `#` on each side than that one,
-/// so each further group takes two signs more than the one before it, beside its brackets and the
-/// `{:i` in front of it.
+/// A format with deeply nested groups is long: if it is `d` deep, it has at least `d * (d + 4)`
+/// characters. A group inside another has fewer signs `#` on each side than the outer one, so each
+/// further group takes two more signs than the last, and its brackets and the `{:i` before it.
 ///
 /// So no format of 1,000 characters is deeper than 29, and none of 11 is deeper than 1;
 /// `{:i#({:i())#` has 12, and is 2 deep.

@@ -1,4 +1,4 @@
-//! Laws of formats that say a text alone, each the contract of a small function.
+//! Laws of formats that mean a text and nothing else, each the contract of a small function.
 
 ghost use Rattle.std.specs.Prelude.{List, ℕ};
 ghost use Rattle.interpolator_syntax.specs.At.{At, outermost};
@@ -9,7 +9,7 @@ ghost use Rattle.interpolator.specs.Escaping.{braces_doubled, ArePlain, SaysAlon
 
 use interpolator_render::Value;
 
-/// A format whose pieces are literals and doubled braces alone means their characters in every
+/// A format whose pieces are only literals and doubled braces means their characters in every
 /// environment: it has no fault, and takes no memory.
 ///
 /// So `a{{b` means `a{b`, whatever the context has.
@@ -21,7 +21,7 @@ pub fn plain_pieces_say_their_characters<V: Value>()
 /// A text whose braces are doubled is a format that means the text in every environment: it has no
 /// fault, and takes no memory.
 ///
-/// So what `escape` gives of a text means that text.
+/// So what `escape` returns for a text means that text.
 pub fn doubled_braces_say_the_text<V: Value>()
     ensures { (e : Environment V) (text : List ℕ)
         → SaysAlone text (means V.shows e (outermost (braces_doubled text))) }

@@ -30,7 +30,7 @@ pub fn pieces_compose()
 
 /// A closed argument is the same whatever follows its `}`.
 ///
-/// So in `{x:}` the argument is `x:`, and it is so in `{x:}<` too.
+/// So the argument of `{x:}` is that of `{x:}<` too.
 pub fn closed_argument_stays()
     ensures stays { (a q : At) (x : Argument) (rest more : List ℕ) → argument_at a ≡ Ok (x, q)
         → q.text ≡ close_brace ∷ rest
@@ -54,8 +54,8 @@ pub fn parts_compose<V: Value>()
 /// the first and then that; and their joined text means the same, if the first does not end in an
 /// argument that is unclosed or broken and the seam between the two is true.
 ///
-/// So the parts `ab` and `{q}`, with nothing under `q`, write `ab`, and `q` is missed at byte 3: by
-/// itself it is missed at byte 1.
+/// So the parts `ab` and `{q}`, with nothing under `q`, write `ab`, and `q` is missing at byte 3;
+/// in `{q}` by itself it is missing at byte 1.
 pub fn second_text_is_moved<V: Value>()
     ensures joined { (e : Environment V) (a b : List ℕ) → ending (outermost a) ≢ Open
         → IsTrue (seam_of a b)
@@ -70,14 +70,14 @@ pub fn second_text_is_moved<V: Value>()
 
 /// A text that means no fault in some environment ends in no argument that is unclosed or broken.
 ///
-/// So fronts without fault compose with every text after them, but for the one seam.
+/// So a text without a fault composes with every text after it, except at the one seam.
 pub fn faultless_text_closes<V: Value>()
     ensures closes { (e : Environment V) (a : At) → (means V.shows e a).fault ≡ None
         → ending a ≢ Open }
 {}
 
-/// If the seam is false the pieces are others: `}` and `}`, one after the other, are one doubled
-/// brace.
+/// If the seam is false, the joined text has other pieces: `}` and `}`, one after the other, are
+/// one doubled brace.
 pub fn seams_are_real()
     ensures braces_seam { IsFalse (seam_of (codes "}") (codes "}")) }
     ensures braces { pieces (outermost (codes "}}"))

@@ -29,11 +29,11 @@ use interpolator_render::{TextWrite, Value};
 use interpolator_syntax::Error;
 use std::alloc::Global;
 
-/// The program of nodes and names means over a row what the nodes mean if each name means the value
-/// at its last position, to the place of each character. The row has to reach each name.
+/// With a row that reaches each name, the program of nodes and names means what the nodes mean if
+/// each name means the value at its last position: text, places and fault are the same.
 ///
-/// So `a{{b{x}` and the names `x`, `y` and `x` are two steps: the text `a{b`, whose characters are
-/// at 0, 1 and 3, and the value at position 2.
+/// So the program of `a{{b{x}` and the names `x`, `y` and `x` has two steps: the text `a{b`, whose
+/// characters are at 0, 1 and 3, and the value at position 2.
 pub fn programs_mean_what_their_nodes_mean<V: Value>()
     ensures program { (names : List (List ℕ)) → (value_at : ℕ → Option (Slots V))
         → ((k : ℕ) → k < length names → IsSome (value_at k)) → (xs : List Node)
@@ -45,8 +45,8 @@ pub fn programs_mean_what_their_nodes_mean<V: Value>()
         ∷ [] }
 {}
 
-/// Over a row that reaches each of some names, a format means what it does over pairs of these names
-/// and the row's values. Of two equal names the last counts in both.
+/// With a row that reaches each of some names, a format means what it means with pairs of these
+/// names and the row's values. Of two equal names the last counts in both.
 pub fn a_row_means_what_its_pairs_do<V: Value>()
     ensures { (names : List (Bor (List ℕ))) (row : List (Formattable V)) (a : At)
         → length names ≤ length row
@@ -54,9 +54,9 @@ pub fn a_row_means_what_its_pairs_do<V: Value>()
         ≡ means V.shows (environment (found_by_pairs (zip names row))) a }
 {}
 
-/// A format that has no fault over a sample of pairs means none over a row that has, at the position of
-/// each pair, what resembles it: whatever values the row has, no name is missing, no trait, and no
-/// value fails.
+/// A format that has no fault against a sample of pairs means none with a row that has, at the
+/// position of each pair, what resembles it: whatever values the row has, no value and no trait is
+/// missing, and no value fails.
 pub fn a_checked_format_means_no_fault_over_rows<S: Value, V: Value>()
     ensures { (sample : List (Bor (List ℕ) × Formattable S)) (row : List (Formattable V)) (a : At)
         → faults_over S.shows (found_by_pairs sample) a ≡ []
@@ -65,13 +65,13 @@ pub fn a_checked_format_means_no_fault_over_rows<S: Value, V: Value>()
         ≡ None }
 {}
 
-/// Writes a prepared format over a row that resembles the sample, over which the format has no fault:
-/// all is written, unless the writer refuses or a list under a width finds no memory. Without such a
-/// list no memory is wanted.
+/// Writes a prepared format with a row that resembles the sample, against which the format has no
+/// fault: all is written, unless the writer refuses or there is no memory for a list under a width.
+/// Without such a list no memory is taken.
 ///
 /// # Errors
 ///
-/// `Fmt`, if the writer has refused; `NoMemory`.
+/// `Fmt` if the writer has refused; `NoMemory`.
 ///
 /// # Example
 ///

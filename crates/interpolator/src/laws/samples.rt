@@ -34,14 +34,14 @@ use interpolator_render::{TextWrite, Value};
 use interpolator_syntax::Error;
 use std::alloc::Global;
 
-/// A format that has no fault over a sample means no fault in any context that resembles the sample
-/// under the names that the format asks: not one of its own, no missing value, no missing trait,
-/// and no value that fails. If no list in it is under a width, it wants no memory there.
+/// A format that has no fault against a sample means no fault in any context that resembles the
+/// sample under the names that the format uses: it is not broken, no value and no trait is missing,
+/// and no value fails. If no list in it is under a width, it takes no memory there.
 ///
-/// A context resembles a sample if it gives something wherever the sample does; if each slot that
-/// is filled there is filled here, by a value that has a text under each spec under which the
-/// sample's has one; and if it has a list wherever the sample has one, each of whose items
-/// resembles some item of the sample's.
+/// A context resembles a sample if it has something under each name under which the sample has
+/// something; if each slot that the sample fills is filled, by a value that has a text under each
+/// spec under which the sample's value has one; and if it has a list wherever the sample has one,
+/// each of whose items resembles some item of the sample's list.
 ///
 /// So `Dear {name:>8}, {guests:i({})(, )}` is checked once, against one name and one guest; it then
 /// has a text for every name and every list of guests.
@@ -56,13 +56,13 @@ pub fn a_checked_format_means_no_fault<S: Value, V: Value>()
         → pads_a_list a ≡ false → (means V.shows e a).memory_points ≡ [] }
 {}
 
-/// Writes a template that has no fault over a sample, in a context that resembles it: all is
-/// written, unless the writer refuses or a list under a width finds no memory. Without such a list
-/// no memory is wanted.
+/// Writes a template that has no fault against a sample, in a context that resembles it: all is
+/// written, unless the writer refuses or there is no memory for a list under a width. Without such
+/// a list no memory is taken.
 ///
 /// # Errors
 ///
-/// `Fmt`: the writer has refused; `NoMemory`.
+/// `Fmt` if the writer has refused; `NoMemory`.
 ///
 /// # Example
 ///
@@ -94,7 +94,8 @@ pub fn a_checked_template_is_written<W: TextWrite, S: Context, C: Context>(
     template.write(alloc, out, context)
 }
 
-/// Makes the text of a template that has no fault over a sample, in a context that resembles it.
+/// Returns the text of a template that has no fault against a sample, in a context that resembles
+/// it.
 ///
 /// # Errors
 ///
@@ -124,9 +125,9 @@ pub fn a_checked_template_is_formatted<S: Context, C: Context>(
     template.format(alloc, context)
 }
 
-/// Pairs of the same names in order resemble each other, if under each name is what resembles the
-/// sample's: so pairs that one function makes of a row resemble those that it makes of an example
-/// row.
+/// Pairs resemble a sample of pairs that has the same names in the same order, if under each name
+/// is what resembles what the sample has there: so the pairs that a function makes of a row
+/// resemble those that it makes of an example row.
 pub fn pairs_of_the_same_names_resemble<S: Value, V: Value>()
     ensures { (pairs : List (Bor (List ℕ) × Formattable V))
         (sample : List (Bor (List ℕ) × Formattable S)) (names : List (List ℕ))
@@ -136,7 +137,7 @@ pub fn pairs_of_the_same_names_resemble<S: Value, V: Value>()
 {}
 
 /// Each context resembles itself, under whatever names. So the values that a format is to be
-/// written with may be its sample: if it has no fault over them, it means none over them.
+/// written with may be its sample: if it has no fault against them, it means none with them.
 pub fn a_context_resembles_itself<V: Value>()
     ensures resembles { (e : Environment V) (names : List (List ℕ))
         → ResemblesOn V.shows V.shows e e names }
@@ -145,9 +146,9 @@ pub fn a_context_resembles_itself<V: Value>()
         → (means V.shows (environment finds) a).fault ≡ None }
 {}
 
-/// Whether a view has a text depends on its kind and on the trait, and not on what it holds. So
-/// each number has a text if any number of its type has one, each text if any text has one, and so
-/// with truth values and characters: a sample of one of them is a sample of all.
+/// Whether a view has a text depends on its kind and on the trait, not on what it contains. So each
+/// number has a text if any number of its type has one, each text if any text has one, and so on
+/// for truth values and characters: one of them is a sample of all.
 pub fn a_view_has_a_text_by_its_kind()
     ensures kind { (x y : Shown) (t : Trait) (spec : Spec) → shows_nothing x t ≡ shows_nothing y t
         → is_failure x ≡ is_failure y → HasText (view_text x t spec)
@@ -168,10 +169,10 @@ pub fn a_view_has_a_text_by_its_kind()
         → HasText (view_text (one_character d) t spec) }
 {}
 
-/// What a format has over a sample, on examples whose values show what they hold. In the first
-/// every name means a list of the text `a` and the number 7: the item format is looked at with
-/// both, though the range chooses none. In the second every name means the text `a`, which is no
-/// list; in the third nothing; in the fourth a list of a value that fails.
+/// The faults of some formats against samples, whose values show what they contain. In the first
+/// sample each name has a list of the text `a` and the number 7: the item format is checked with
+/// both, though the range chooses neither. In the second each name has the text `a`, which is not a
+/// list; in the third no name has anything; in the fourth each has a list of a value that fails.
 pub fn faults_over_examples()
     ensures range { faults_over (λ shown t spec. shown) (λ name. Some (with_iter empty_slots
         (with_debug_display empty_slots (some_text (codes "a"))

@@ -9,9 +9,9 @@ ghost use Rattle.interpolator.specs.Template.NodeExtents.{forest_depth, visit_de
 ghost use Rattle.interpolator.specs.Template.NodeNames.{visit_asks};
 ghost use Rattle.interpolator.specs.Template.Visits.{greatest, text_visits};
 
-/// The names that a format asks, its faults, and how deep it is are what one walk over its pieces
-/// gathers: each piece is entered, then the pieces of its item format and of its join are walked,
-/// and then it is left.
+/// One walk over the pieces of a format gathers the names that it uses, its faults, and its depth:
+/// the walk enters each piece, then walks the pieces of its item format and of its join, and then
+/// leaves it.
 pub fn one_walk_gathers_all()
     ensures names { (a : At) → flat_map visit_asks (text_visits a) ≡ asked_names a }
     ensures faults { (a : At) → flat_map visit_faults (text_visits a) ≡ text_faults a }

@@ -54,7 +54,7 @@ fn copy_group(alloc: Global, group: &Option<Vec<Piece>>) -> Result<Option<Vec<Pi
     }
 }
 
-/// A copy of how a piece is written.
+/// A copy of the form of a piece.
 fn copy_form(alloc: Global, form: &Form) -> Result<Form, AllocError>
     ensures same { IfOk result (λ copy. (bs : List ℕ) (place from to end : ℕ) (spec : Spec)
         → stored_held bs place from to end spec copy

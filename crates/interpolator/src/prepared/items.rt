@@ -1,4 +1,4 @@
-//! Lists of a prepared format whose items are one value each, and whose join is text.
+//! Lists of a prepared format whose items are one value each and whose join is text.
 ghost use Rattle.std.specs.Prelude.{◌≡◌, ◌+◌, ◌^◌, ◌<◌, ⊤, ℕ, List, MatchOption, Some};
 ghost use Rattle.std.specs.Prelude.{IsSome, false, is_some, length, map, true};
 ghost use Rattle.std.specs.Str.{chars};
@@ -26,7 +26,7 @@ use interpolator_eval::{
 use interpolator_render::{Spec, TextWrite, Trait, Value};
 use interpolator_syntax::{Error, PieceKind, Range};
 
-/// How each item is written: what is in this slot, under a spec that ends at `end`.
+/// How each item is written: as what is in this slot, under this spec, which ends at `end`.
 #[derive(Clone, Copy)]
 pub(crate) struct ItemForm {
     pub(crate) slot: Trait,
@@ -34,8 +34,8 @@ pub(crate) struct ItemForm {
     pub(crate) end: usize,
 }
 
-/// Writes what kept pieces of a text mean: a single list by a loop of its own if its items and its join
-/// are simple, and it is under no width.
+/// Writes what kept pieces of a text mean: by a loop of its own if they are one list under no
+/// width, whose items and join are simple.
 #[inline(never)]
 pub(crate) fn run_whole<'a, W: TextWrite, C: Context>(
     sink: &mut Sink<'_, W>,
@@ -66,7 +66,7 @@ pub(crate) fn run_whole<'a, W: TextWrite, C: Context>(
     run_simple_list(sink, environment, text, piece, range, form, place, join)
 }
 
-/// Writes a list under no width, each item in this form, with this text between two items.
+/// Writes a list under no width, each item in this form, with this text between each two.
 fn run_simple_list<'a, W: TextWrite, C: Context>(
     sink: &mut Sink<'_, W>,
     environment: &Environment<'a, C, C::Object>,
@@ -103,7 +103,7 @@ fn run_simple_list<'a, W: TextWrite, C: Context>(
     closed(piece)
 }
 
-/// Writes items, each in this form, with this text between two of them, which is at a place.
+/// Writes items, each in this form, with this text, which is at a place, between each two.
 fn put_items<'a, W: TextWrite, V: Value>(
     sink: &mut Sink<'_, W>,
     items: &'a [Formattable<'a, V>],
@@ -128,7 +128,7 @@ fn put_items<'a, W: TextWrite, V: Value>(
     Ok(())
 }
 
-/// How the items of a list are written, if it is by one value each.
+/// How the items of a list are written, if each is one value.
 fn item_form(text: &str, piece: &Piece) -> Option<ItemForm>
     requires whole { node_whole (node_of text.now piece.now) ≡ true }
     ensures form { MatchOption result ⊤ (IsItemForm
@@ -171,7 +171,7 @@ fn closed_form(text: &str, piece: &Piece) -> Option<ItemForm>
     }
 }
 
-/// How a closed piece is written that asks for a value like this, if its name is empty.
+/// How a closed piece that asks for this value is written, if its name is empty.
 fn nameless_form(text: &str, piece: &Piece, slot: Trait, spec: Spec) -> Option<ItemForm>
     requires fits { IsSome (stored_name text.now piece.now) }
     requires closed { (out-Piece piece.now).kind ≡ Closed }

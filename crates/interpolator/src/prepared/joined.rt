@@ -80,7 +80,7 @@ pub(crate) fn join_more(
     Ok(joined)
 }
 
-/// The place in the format of a byte of parts, worked out once it is refused.
+/// The place in the format of a byte of joined parts, which is needed only once a byte is refused.
 #[cold]
 #[inline(never)]
 fn place_of(parts: &[Part], offset: usize) -> usize

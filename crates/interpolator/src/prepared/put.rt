@@ -1,4 +1,4 @@
-//! Writes steps of a prepared format that are text, or the value at a position.
+//! Writes the steps of a prepared format that are text or the value at a position.
 ghost use Rattle.std.specs.Prelude.{◌≡◌, ℕ, List, IsSome, Some, false};
 ghost use Rattle.interpolator_render.specs.declared.view.Trait.TheVariants.{Display};
 ghost use Rattle.interpolator_syntax.specs.At.{placed_from};
@@ -18,7 +18,7 @@ use crate::tree::cut;
 use interpolator_eval::{Formattable, WriteFault, slot_of, write_plain, write_run, write_shown};
 use interpolator_render::{Spec, TextWrite, Trait, Value};
 
-/// Writes what a step means that keeps no piece. It tells a fault in few bytes: an
+/// Writes what a step that keeps no piece means. It returns a fault in few bytes, since an
 /// [`Error`](crate::Error) would be zeroed at each step.
 #[inline(always)]
 pub(crate) fn put_step<'a, W: TextWrite, V: Value>(

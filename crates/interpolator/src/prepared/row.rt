@@ -30,7 +30,7 @@ impl<'a, V> Clone for Row<'a, V> {
 
 impl<'a, V> Copy for Row<'a, V> {}
 
-/// Whether a text is this name.
+/// Tests whether a text is this name.
 fn is_name(own: &String, name: &str) -> bool
     ensures { result ≡ bytes_eq name.now (string_bytes own.now) }
 {

@@ -41,7 +41,7 @@ pub(crate) fn run_steps<'a, W: TextWrite, C: Context>(
     Ok(())
 }
 
-/// Writes what a piece means that is kept alone.
+/// Writes what a piece that is kept alone means.
 #[inline(never)]
 fn run_kept<'a, W: TextWrite, C: Context>(
     out: &mut W,

@@ -17,7 +17,7 @@ pub(crate) struct JoinedText {
     pub(crate) parts: Vec<Part>,
 }
 
-/// What is asked of a value: a trait and a spec, which ends at `end`.
+/// How a value is shown: a trait and a spec, which ends at `end`.
 #[derive(Drop)]
 pub(crate) struct Asked {
     pub(crate) slot: Trait,
@@ -34,8 +34,8 @@ pub(crate) enum Step {
     Joined(Box<JoinedText>),
     /// The value at a position, displayed plainly, for an argument whose name ends at this byte.
     Plain(usize, usize),
-    /// The value at a position, as it is asked.
+    /// The value at a position, under a trait and a spec.
     Under(usize, Box<Asked>),
-    /// What a piece means that is kept alone: a list, or an argument without a position.
+    /// A piece that is kept alone: a list, or an argument whose name has no position.
     Whole(Box<Vec<Piece>>),
 }

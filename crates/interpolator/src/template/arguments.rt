@@ -58,7 +58,7 @@ fn push_argument<'t>(
     }
 }
 
-/// Adds the arguments of an item format and of a join, if what is asked for has them.
+/// Adds the arguments of the item format and of the join, if the argument has these groups.
 #[cycle(arguments)]
 fn push_groups<'t>(
     alloc: Global,

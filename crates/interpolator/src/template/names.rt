@@ -1,4 +1,4 @@
-//! The names that pieces ask.
+//! The names that pieces use.
 ghost use Rattle.std.specs.Prelude.{◌≡◌, ◌++◌, IfOk, Some, true, option_map};
 ghost use Rattle.std.specs.Str.{chars};
 ghost use Rattle.interpolator_eval.specs.Meaning.AskedNames.{context_names, held_asks};
@@ -10,7 +10,7 @@ use crate::template::walk::{Spot, Visitor};
 use crate::tree::text_of;
 use std::alloc::{AllocError, Global};
 
-/// A name, but for the empty one in an item format, which is the item.
+/// The name, unless it is the empty name in an item format, which is the item.
 fn context_name(name: &str, in_item: bool) -> Option<&str>
     ensures { name_list (option_map (λ name. chars name.now) result)
         ≡ context_names in_item (chars name.now) }
@@ -21,7 +21,7 @@ fn context_name(name: &str, in_item: bool) -> Option<&str>
     Some(name)
 }
 
-/// The name that a piece asks, if it is an argument.
+/// The name that a piece uses, if it is an argument.
 fn asked_name<'t>(text: &'t str, piece: &Piece, in_item: bool) -> Option<&'t str>
     requires { node_whole (node_of text.now piece.now) ≡ true }
     ensures { name_list (option_map (λ name. chars name.now) result)
@@ -34,7 +34,7 @@ fn asked_name<'t>(text: &'t str, piece: &Piece, in_item: bool) -> Option<&'t str
     }
 }
 
-/// Copies of the names that pieces ask, in order.
+/// Copies of the names that pieces use, in order.
 #[derive(Drop)]
 pub(crate) struct Names {
     pub(crate) alloc: Global,

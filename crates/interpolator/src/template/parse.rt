@@ -87,7 +87,7 @@ fn push_piece(pieces: &mut Vec<Piece>, piece: Piece) -> Result<(), AllocError>
     Ok(())
 }
 
-/// What follows all of the text.
+/// What follows the whole text: nothing.
 pub(crate) fn skip_all(here: Cursor<'_>) -> Cursor<'_>
     ensures { at result ≡ all_after (at here.entry) }
 {
@@ -98,7 +98,7 @@ pub(crate) fn skip_all(here: Cursor<'_>) -> Cursor<'_>
     }
 }
 
-/// How an argument ends whose spec ends here, and what follows it.
+/// How an argument whose spec ends here ends itself, and what follows it.
 pub(crate) fn ending(end: Cursor<'_>) -> (PieceKind, Cursor<'_>)
     ensures kind { result.0 ≡ ending_kind (strip close_brace (at end.entry)) }
     ensures rest { at result.1 ≡ ending_rest (at end.entry) (strip close_brace (at end.entry)) }
@@ -109,13 +109,13 @@ pub(crate) fn ending(end: Cursor<'_>) -> (PieceKind, Cursor<'_>)
     }
 }
 
-/// For how many pieces of a format there is room at the beginning, at most.
+/// The most pieces of a format for which room is made at the beginning.
 const MOST_ROOM: usize = 32;
 
-/// For how many pieces of a group there is room: most have few.
+/// The number of pieces of a group for which room is made: most groups have few.
 const MOST_GROUP_ROOM: usize = 4;
 
-/// For how many pieces of a text there is room at the beginning: most have two bytes and more.
+/// The number of pieces for which room is made at the beginning: most have at least two bytes.
 fn room_for(text: Cursor<'_>) -> usize
     ensures most { result ≤ 32 }
     ensures group { ¬ (text.entry.place ≡ 0) → result ≤ 4 }
@@ -192,7 +192,7 @@ fn push_argument<'t>(
     }
 }
 
-/// Adds the argument that begins here and has that name, with more after it, or its fault.
+/// Adds the argument that begins here and has this name, with a spec after it, or its fault.
 #[cycle(parse)]
 fn push_asked<'t>(
     alloc: Global,
@@ -218,7 +218,7 @@ fn push_asked<'t>(
     }
 }
 
-/// Adds the argument that begins here and has that name, of which this is asked, up to `end`.
+/// Adds the argument that begins here, has this name and asks for this, up to `end`.
 #[cycle(parse)]
 fn push_taken<'t>(
     alloc: Global,

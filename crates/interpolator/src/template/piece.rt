@@ -14,7 +14,7 @@ pub(crate) enum Form {
     Value(Trait),
     /// The list under its name, or some of its items.
     List(Option<Box<Range>>),
-    /// Not at all: it is a fault.
+    /// Not at all: it has a fault.
     Broken(Box<ArgumentFault>),
 }
 

@@ -9,7 +9,8 @@ ghost use Rattle.interpolator_syntax.specs.Nodes.{as_forest};
 use crate::template::piece::Piece;
 use interpolator_syntax::PieceKind;
 
-/// The innermost argument of pieces that has a place: its first byte, and the byte after its last.
+/// The innermost argument among pieces that has a place: its first byte, and the byte after its
+/// last.
 #[cycle(place)]
 pub(crate) fn argument_among(pieces: &[Piece], place: usize) -> Option<(usize, usize)>
     ensures { (bs : List ℕ) → result ≡ argument_among place (as_forest (nodes_of bs pieces.now)) }
@@ -22,7 +23,7 @@ pub(crate) fn argument_among(pieces: &[Piece], place: usize) -> Option<(usize, u
     None
 }
 
-/// Whether a piece is an argument that has a place.
+/// Tests whether a piece is an argument that has a place.
 fn has_place(piece: &Piece, place: usize) -> bool
     ensures { let x = out-Piece piece.now in result ≡ has_place place x.place x.end x.kind }
 {
@@ -34,7 +35,7 @@ fn has_place(piece: &Piece, place: usize) -> bool
     }
 }
 
-/// The innermost argument of a piece that has a place: one of its groups, or itself.
+/// The innermost argument that has a place, in a piece that has it: one in its groups, or itself.
 #[cycle(place)]
 fn innermost(piece: &Piece, place: usize) -> (usize, usize)
     ensures { (bs : List ℕ) → result ≡ innermost place (node_of bs piece.now) }
@@ -45,7 +46,7 @@ fn innermost(piece: &Piece, place: usize) -> (usize, usize)
         .unwrap_or(whole)
 }
 
-/// The innermost argument of an item format that has a place.
+/// The innermost argument in an item format that has a place.
 #[cycle(place)]
 fn argument_in_item(piece: &Piece, place: usize) -> Option<(usize, usize)>
     ensures { (bs : List ℕ)
@@ -57,7 +58,7 @@ fn argument_in_item(piece: &Piece, place: usize) -> Option<(usize, usize)>
     }
 }
 
-/// The innermost argument of a join that has a place.
+/// The innermost argument in a join that has a place.
 #[cycle(place)]
 fn argument_in_join(piece: &Piece, place: usize) -> Option<(usize, usize)>
     ensures { (bs : List ℕ)

@@ -15,28 +15,28 @@ use crate::template::piece::Piece;
 /// Where a piece is.
 #[derive(Clone, Copy)]
 pub(crate) struct Spot {
-    /// In how many groups.
+    /// In how many groups it is.
     pub(crate) depth: usize,
-    /// Whether in an item format: in it, or in a join in it.
+    /// Whether it is in an item format: in the format itself, or in a join in it.
     pub(crate) in_item: bool,
 }
 
-/// Who is shown the pieces of a format, in order and at every depth of groups.
+/// A visitor, which is shown the pieces of a format, in order and at every depth of groups.
 pub(crate) trait Visitor {
-    /// What it answers if it wants to see no more.
+    /// What it returns to stop the walk.
     type Stop;
 
     // what it does at a visit, in a text: how it changes, and whether it stops there
     ghost step: { List ℕ → Self → Visit → Self → Result (Unit {0}) Self.Stop → Type 0 };
 
-    /// It comes to a piece.
+    /// Enters a piece, before its groups.
     fn enter(&mut self, text: &str, piece: &Piece, spot: Spot) -> Result<(), Self::Stop>
         requires whole { node_whole (node_of text.now piece.now) ≡ true }
         requires fits { spot.depth + node_depth (node_of text.now piece.now) < 2 ^ 64 }
         ensures { step text.now self.old (enter spot (node_of text.now piece.now)) self.new
             result };
 
-    /// It leaves a piece, after its groups.
+    /// Leaves a piece, after its groups.
     fn leave(&mut self, text: &str, piece: &Piece, spot: Spot) -> Result<(), Self::Stop>
         requires { node_whole (node_of text.now piece.now) ≡ true }
         ensures { step text.now self.old (leave spot (node_of text.now piece.now)) self.new
@@ -81,7 +81,7 @@ fn walk_piece<V: Visitor>(
     visitor.leave(text, piece, spot)
 }
 
-/// Shows the visitor the pieces of a group, if there is one, whose argument is here.
+/// Shows the visitor the pieces of the group, if there is one, of an argument that is here.
 #[cycle(walk)]
 fn walk_group<V: Visitor>(
     visitor: &mut V,

@@ -7,7 +7,7 @@ use Rattle.interpolator_render.specs.Written.{Written}
 use Rattle.interpolator_eval.specs.Meaning.Sinks.{SameEnd, taken_by}
 use Rattle.interpolator.proofs.parts.write_each.Given as goal
 
--- what the parts that are left come to, after what was written, is what all parts come to
+-- what was written, and then what the parts that are left mean, is what all parts mean
 abbrev pub invariant-loop-part : goal.invariant-loop-part
 invariant-loop-part g l =
     let meaning = parts_mean g.C.Object.Value.shows (environment_of g.C.Context.finds l.environment) in

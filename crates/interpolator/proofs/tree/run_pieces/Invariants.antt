@@ -11,8 +11,9 @@ use Rattle.interpolator_eval.specs.Meaning.Work.{forest_work}
 use Rattle.interpolator.specs.Template.Stored.{forest_whole, nodes_of}
 use Rattle.interpolator.proofs.tree.run_pieces.Given as goal
 
--- what the pieces left come to up to the first list, after what was written, is what all of them come
--- to; the first list is the same; and with those gone through so far they are no more than all
+-- what was written, and then what the pieces that are left mean up to the first list, is what all
+-- of them mean; the first list is the same; and the pieces gone through so far and those that are
+-- left are no more than all
 abbrev pub invariant-loop-piece : goal.invariant-loop-piece
 invariant-loop-piece g l =
     let shows = g.C.Object.Value.shows in

@@ -5,7 +5,7 @@ use Rattle.interpolator.specs.declared.template.piece.Piece.TheViews.{size-Piece
 use Rattle.interpolator.proofs.TemplateLemmas.WholePieceLemmas.{group_most}
 use Rattle.interpolator.proofs.prepared.copy.+copy.Given as goal
 
--- what was copied is the nodes so far
+-- the copies so far have the nodes of the pieces so far
 abbrev pub invariant-copy_pieces-loop-piece : goal.invariant-copy_pieces-loop-piece
 invariant-copy_pieces-loop-piece l =
     (bs : List ℕ) → nodes_of bs l.copy.items ≡ nodes_of bs (take l.piece-index l.pieces)

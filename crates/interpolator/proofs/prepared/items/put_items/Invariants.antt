@@ -10,7 +10,7 @@ use Rattle.interpolator_eval.specs.Meaning.Sinks.{SameEnd, taken_by}
 use Rattle.interpolator.specs.Prepared.Items.{value_under}
 use Rattle.interpolator.proofs.prepared.items.put_items.Given as goal
 
--- what the items left come to, after what was written, is what all of them come to
+-- what was written, and then what the items that are left mean, is what all of them mean
 abbrev pub invariant-loop-item : goal.invariant-loop-item
 invariant-loop-item g l =
     let join = text_alone (placed_from l.place (chars l.join)) in

@@ -2,7 +2,7 @@ use Rattle.std.proofs.Common.{◌≡◌, length}
 use Rattle.interpolator.specs.Prepared.Rows.{last_position, name_bytes}
 use Rattle.interpolator.proofs.prepared.row.last_position.Given as goal
 
--- the last position among the names that are left is that among all
+-- the last position so far, or a later one among the names that are left, is the last among all
 abbrev pub invariant-loop-own : goal.invariant-loop-own
 invariant-loop-own l =
     last_position (name_bytes l.left) l.name ≡ last_position (name_bytes l.names) l.name

@@ -7,7 +7,7 @@ use Rattle.interpolator.specs.Prepared.Rows.{row_at}
 use Rattle.interpolator.specs.Prepared.StoredSteps.{stored_steps_mean}
 use Rattle.interpolator.proofs.prepared.run.run_steps.Given as goal
 
--- what the steps left come to, after what was written, is what all of them come to
+-- what was written, and then what the steps that are left mean, is what all of them mean
 abbrev pub invariant-loop-step : goal.invariant-loop-step
 invariant-loop-step g l =
     let meaning = stored_steps_mean g.C.Object.Value.shows
