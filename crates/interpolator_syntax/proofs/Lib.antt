@@ -2,6 +2,7 @@
 pub mod ArgumentFaultLemmas
 pub mod ByteLemmas
 pub mod CharacterLemmas
+pub mod EqualityLemmas
 pub mod ErrorLemmas
 pub mod FirstByteLemmas
 pub mod FrontLemmas

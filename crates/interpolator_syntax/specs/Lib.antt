@@ -25,3 +25,4 @@ pub mod Moved
 pub mod Faults
 pub mod ArgumentFaults
 pub mod FaultTexts
+pub mod InBytes

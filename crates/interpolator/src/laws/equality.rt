@@ -5,7 +5,9 @@ ghost use Rattle.std.specs.Prelude.{◌≡◌, ◌↔◌, IsTrue};
 
 use crate::position::Position;
 use crate::template::cost::{Cost, Limits};
-pub use interpolator_syntax::laws::equality::{is_same_group, is_same_range};
+pub use interpolator_syntax::laws::equality::{
+    is_same_argument, is_same_group, is_same_kind, is_same_range,
+};
 
 /// Tests whether two positions are equal: exactly when their lines and their columns are.
 pub fn is_same_position(position: Position, other: Position) -> bool

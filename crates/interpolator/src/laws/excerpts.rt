@@ -22,7 +22,7 @@ pub fn a_short_line_is_shown_whole()
 /// The marks stand under the first character that is marked and under those after it: from the
 /// place of the first mark on, the line that is shown is what is marked and what follows it, and
 /// below it there are as many marks as characters that are marked, at least one. If the character
-/// `from` of the line is shown, it is the first that is marked.
+/// `from` of the line is shown, the first mark is under it.
 pub fn marks_begin_under_what_is_marked()
     ensures text { (e : Excerpt) → shown_line e ≡ encode_utf8_all (shown_characters e) }
     ensures under { (e : Excerpt) → drop (before_marks e) (shown_characters e)

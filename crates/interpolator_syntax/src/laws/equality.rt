@@ -1,7 +1,10 @@
-//! Laws of the equality of ranges and groups, each the contract of a small function.
+//! Laws of the equality of ranges, groups, kinds and arguments, each the contract of a small
+//! function.
 
 ghost use Rattle.std.specs.Prelude.{◌≡◌, ◌↔◌, IsTrue};
+ghost use Rattle.interpolator_syntax.specs.InBytes.{argument_in_bytes, kind_in_bytes};
 
+use crate::argument::{Argument, Kind};
 use crate::group::Group;
 use crate::range::Range;
 
@@ -18,4 +21,20 @@ pub fn is_same_group(group: &Group<'_>, other: &Group<'_>) -> bool
         ↔ ((group.now.text.now ≡ other.now.text.now) × (group.now.place ≡ other.now.place)) }
 {
     *group == *other
+}
+
+/// Tests whether two kinds are equal: exactly when both are values under the same trait, or lists
+/// with equal ranges, item formats and joins.
+pub fn is_same_kind(kind: &Kind<'_>, other: &Kind<'_>) -> bool
+    ensures { IsTrue result ↔ (kind_in_bytes kind.now ≡ kind_in_bytes other.now) }
+{
+    *kind == *other
+}
+
+/// Tests whether two arguments are equal: exactly when their names, the places of these, their
+/// specs and their kinds are.
+pub fn is_same_argument(argument: &Argument<'_>, other: &Argument<'_>) -> bool
+    ensures { IsTrue result ↔ (argument_in_bytes argument.now ≡ argument_in_bytes other.now) }
+{
+    *argument == *other
 }
