@@ -12,7 +12,7 @@ use Rattle.interpolator_syntax.specs.declared.group.Group as code_group
 abbrev pub group_in_bytes : code_group.Group → Group
 group_in_bytes g = record { text = g.text.now; place = g.place }
 
--- what an argument asks for
+-- how the value of an argument is written
 abbrev pub kind_in_bytes : code_kind.Kind → Kind
 kind_in_bytes (Value t) = of_value t
 kind_in_bytes (List range item join) = of_list (record {
