@@ -23,9 +23,9 @@ use Rattle.interpolator_syntax.proofs.PieceLemmas.{pieces_none, pieces_next}
 use Rattle.interpolator_syntax.proofs.PieceLemmas.{literal_step}
 use Rattle.std.proofs.lemmas.Bool.{cond_both}
 
--- ---- what the scan hands on, in pieces
+-- ---- the tokens of the scan, in pieces
 
--- the pieces of a text are some, of which the last ends as told, and those of what follows
+-- the pieces of a text are some pieces, of which the last ends so, and then those of the rest
 pub record Scanned (a : At) (e : Ending) (rest : At) : Type 0 where
   pub front : List Piece
   pub last : Piece
@@ -40,7 +40,7 @@ any_place : (q p : ℕ) (b : At) → AnyPlace (argument_from q b) (argument_from
 unfolding argument_from
 any_place q p b = grind arith
 
--- what the scan hands on first, by what follows it
+-- the first token of the scan, by what follows it
 abbrev ScansTo : At → Option (Token × At) → Type 0
 ScansTo a None = pieces a ≡ []
 ScansTo a (Some x) = Scanned a (token_ending x.0 x.1) (past_token x.0 x.1)
@@ -143,7 +143,7 @@ scanned a x h = subst (ScansTo a) h (scans_at a.place a.text)
 pub scanned_end : (a : At) → first_token a ≡ None → pieces a ≡ []
 scanned_end a h = subst (ScansTo a) h (scans_at a.place a.text)
 
--- how the last piece ends is decided after any front
+-- how the last piece ends does not depend on the pieces before it
 pub last_after : (e : Ending) (front : List Piece) (x : Piece) (xs : List Piece)
     → last_ending e (front ++ (x ∷ xs)) ≡ last_ending (piece_ending x) xs
 last_after e [] x xs = refl

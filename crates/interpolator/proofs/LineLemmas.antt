@@ -9,7 +9,7 @@ use Rattle.interpolator_eval.proofs.MeaningLemmas.OutcomeLemmas.{finished_if_non
 use Rattle.interpolator_eval.proofs.MeaningLemmas.OutcomeLemmas.{before_fault}
 use Rattle.interpolator_eval.proofs.MeaningLemmas.PlaceLemmas.{outcome_within}
 
--- after a format without fault
+-- a newline after a format without a fault
 pub line_done :
     (m : Meaning) (old mid new : Written) (answer : Option Answer) → Outcome m old mid None
     → Outcome newline_means mid new answer
@@ -17,13 +17,13 @@ pub line_done :
 line_done m old mid new answer h k =
     after_finished _ _ old mid new answer (finished_if_none m old mid h) k
 
--- after a fault
+-- no newline after a fault
 pub line_fault :
     (m : Meaning) (old new : Written) (q : Answer) → Outcome m old new (Some q)
     → Outcome (line_means m) old new (Some q)
 line_fault m old new q h = before_fault m _ old new q m.fault refl h
 
--- if it is refused its place is 0
+-- if the newline is refused, the place is 0
 pub newline_place :
     (n : ℕ) (old new : Written) (answer : Option Answer)
     → Outcome newline_means old new answer → PlaceWithin n answer

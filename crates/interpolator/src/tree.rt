@@ -227,8 +227,8 @@ fn run_piece<'a, W: TextWrite, C: Context>(
     }
 }
 
-/// Returns that no list is asked for, after a value was written; or the fault of an argument that
-/// is not closed.
+/// `false`, for a value that was written, since it is no list; or the fault of an argument that is
+/// not closed.
 #[inline(always)]
 fn value_done(piece: &Piece) -> Result<bool, Error>
     ensures closed { result_answer result ≡ option_map fault (unclosed_fault piece.now) }

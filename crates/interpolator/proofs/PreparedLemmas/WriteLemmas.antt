@@ -1,4 +1,4 @@
--- What is written for stored steps over a row is what their format means.
+-- What is written for stored steps with a row is what their format means.
 use Rattle.std.proofs.Common.{◌≡◌, ◌∙◌, refl, sym, ap, arith, ℕ, zero, suc, ◌<◌, ◌≤◌, List, [], ◌∷◌, length, map}
 use Rattle.std.proofs.Common.{Option, None, Some, IsSome, get_or, option_map}
 use Rattle.std.proofs.lemmas.Option.{slice_get_past}

@@ -41,8 +41,8 @@ use Rattle.interpolator_eval.proofs.MeaningLemmas.GroupSizeLemmas.{kind_size, gr
 use Rattle.interpolator_syntax.proofs.TokenLemmas.{scan_shorter}
 use Rattle.interpolator.proofs.TemplateLemmas.ParseLemmas.{taken_is}
 
--- ---- what is gathered from a text by a step that runs over its groups as over texts: any depth
--- that is deep enough gives the same
+-- ---- what a step gathers from a text, if it treats its groups as texts: any sufficient limit of
+-- depth gives the same
 
 module _ {Y : Type 0} (step : (At → Y) → At → Y) (within : ℕ → At → Y)
     (deeper : (n : ℕ) (a : At) → within (suc n) a ≡ step (within n) a)
@@ -58,7 +58,7 @@ module _ {Y : Type 0} (step : (At → Y) → At → Y) (within : ℕ → At → 
       (λ b l. deep_same n m b (omega (arith, h, l)) (omega (arith, k, l)))
       ∙ sym (deeper m a)
 
-  -- it is the step over what is gathered from the groups
+  -- it is what the step makes of what is gathered from the groups
   pub by_groups : (a : At)
       → within (suc (length a.text)) a ≡ step (λ b. within (suc (length b.text)) b) a
   by_groups a =

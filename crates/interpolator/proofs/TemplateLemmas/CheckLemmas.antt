@@ -20,7 +20,7 @@ use Rattle.interpolator.specs.declared.template.piece.Piece.TheViews.{out-Piece}
 use Rattle.interpolator.proofs.TemplateLemmas.StoredLemmas.{node_of_out, by_form}
 use Rattle.interpolator.proofs.TemplateLemmas.WholePieceLemmas.{fits_text}
 
--- ---- what is told of faults: the first
+-- ---- the first of some faults
 
 abbrev pub told : List Fault → Option Answer
 told xs = option_map fault (first_fault xs)

@@ -58,7 +58,7 @@ use Rattle.interpolator.proofs.TemplateLemmas.RangeLemmas.{Each, each_chosen, ch
 
 -- ---- what costs no more
 
--- a meaning, and the work of writing it, cost at most so much
+-- a meaning, and the work of writing it, cost at most this
 pub record AtMost (m : Meaning) (w : Work) (c : Cost) : Type 0 where
   pub characters : length m.text ≤ c.characters
   pub pieces : w.pieces ≤ c.pieces

@@ -164,7 +164,7 @@ module _ (bs : List ℕ) (x : Piece) where
       by_form (forms.List range) some = mapped_holds _ _ _ some (λ name. refl)
       by_form (forms.Broken f) some = refl
 
-  -- the list for which it asks, and what follows it
+  -- the list that it asks for, and what follows it
   pub first_list : (xs : List Piece) → is_list_form (out-Piece x).form ≡ true → IsSome (held_of bs x)
       → FirstAsks (stored_list bs (x ∷ xs)) (stored_rest bs (x ∷ xs))
       (as_forest (nodes_of bs (x ∷ xs)))

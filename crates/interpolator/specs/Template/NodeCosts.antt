@@ -19,7 +19,7 @@ use Rattle.interpolator.specs.declared.template.cost.Limits.{Limits}
 abbrev pub no_cost : Cost
 no_cost = record { characters = 0; pieces = 0; buffered = 0 }
 
--- the cost of one piece of so many characters
+-- the cost of one piece that has these characters
 abbrev pub piece_cost : (characters : ℕ) → Cost
 piece_cost characters = record { characters = characters; pieces = 1; buffered = 0 }
 
@@ -35,7 +35,7 @@ then_cost a b = record {
 abbrev pub item_cost : Cost → Cost
 item_cost c = record c { pieces = max 1 c.pieces }
 
--- the cost of so many items, with the join between each two
+-- the cost of `count` items, with the join between each two
 abbrev pub items_cost : (count : ℕ) → (item join : Cost) → Cost
 items_cost count item join = record {
   characters = count * item.characters + (count - 1) * join.characters;

@@ -1,4 +1,4 @@
-//! Writes the steps of a prepared format over a row.
+//! Writes the steps of a prepared format with a row.
 ghost use Rattle.std.specs.Prelude.{ℕ, IsSome, Option};
 ghost use Rattle.std.specs.List.{All};
 ghost use Rattle.interpolator_syntax.specs.Faults.{result_answer};

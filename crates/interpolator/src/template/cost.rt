@@ -56,7 +56,7 @@ fn no_cost() -> Cost
     }
 }
 
-/// The cost of one piece of so many characters.
+/// The cost of one piece that has these characters.
 fn piece_cost(characters: usize) -> Cost
     ensures { result ≡ piece_cost characters }
 {
@@ -89,7 +89,7 @@ fn item_cost(format: Cost) -> Cost
     }
 }
 
-/// One count for so many items, with the join between each two.
+/// A count for `count` items, with the join between each two.
 fn repeated(count: usize, item: usize, join: usize) -> usize
     ensures { result ≡ usize_count (count * item + (count - 1) * join) }
 {
@@ -140,7 +140,7 @@ fn most_from_end(most: usize, first: usize, inclusive: bool, upper: Option<isize
     }
 }
 
-/// The most items that a range chooses from a list of at most so many.
+/// The most items that a range chooses from a list of at most `most` items.
 fn most_chosen(most: usize, range: Option<Range>) -> usize
     ensures { result ≡ most_chosen most range }
 {

@@ -5,7 +5,8 @@ use Rattle.std.specs.Str.{chars}
 use Rattle.interpolator.specs.Escaping.{braces_doubled}
 use Rattle.interpolator.proofs.escaping.escape.Given as goal
 
--- what is left would, with its braces doubled, make the text with its braces doubled
+-- what was appended, and then what is left with its braces doubled, is the text with its braces
+-- doubled
 abbrev pub invariant-loop-rest : goal.invariant-loop-rest
 invariant-loop-rest l =
     shadow (Utf8 l.rest)

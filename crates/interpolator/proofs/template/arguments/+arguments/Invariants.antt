@@ -7,8 +7,8 @@ use Rattle.interpolator_eval.proofs.MeaningLemmas.GroupSizeLemmas.{group_size, k
 use Rattle.interpolator.proofs.TemplateLemmas.AllArgumentLemmas.{Gathering}
 use Rattle.interpolator.proofs.template.arguments.+arguments.Given as goal
 
--- a text: four times its characters; a group of it has fewer characters than follow the brace of
--- its argument
+-- for a text, four times the number of its characters; a group has fewer characters than follow the
+-- brace of its argument
 abbrev pub decreases-push_arguments : goal.decreases-push_arguments
 decreases-push_arguments l = 4 * length (chars l.text.rest.now)
 

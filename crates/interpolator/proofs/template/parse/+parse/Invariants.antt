@@ -6,8 +6,8 @@ use Rattle.interpolator_eval.proofs.MeaningLemmas.GroupSizeLemmas.{group_size}
 use Rattle.interpolator.proofs.TemplateLemmas.ParseLemmas.{Reading}
 use Rattle.interpolator.proofs.template.parse.+parse.Given as goal
 
--- a text: sixteen times its characters; a group of it has fewer characters than follow the brace of
--- its argument
+-- for a text, sixteen times the number of its characters; a group has fewer characters than follow
+-- the brace of its argument
 abbrev pub decreases-parse_pieces : goal.decreases-parse_pieces
 decreases-parse_pieces l = 16 * length (chars l.text.rest.now)
 

@@ -8,7 +8,8 @@ use Rattle.interpolator.specs.Template.Telling.{Tells}
 use Rattle.interpolator.specs.declared.template.telling.Telling.{Telling}
 use Rattle.interpolator.proofs.template.sample.+sample.Given as goal
 
--- what is told of the pieces that are left, after what was told, is what is told of all
+-- what was reported, and then what is reported for the pieces that are left, is what is reported
+-- for all
 abbrev pub invariant-tell_pieces-loop-piece : goal.invariant-tell_pieces-loop-piece
 invariant-tell_pieces-loop-piece g l =
     let faults = forest_faults_in g.C.Object.Value.shows (sample_of g.C.Context.finds l.sample) in
