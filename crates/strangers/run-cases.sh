@@ -7,7 +7,7 @@ set -u
 
 here=$(cd "$(dirname "$0")" && pwd)
 name=strangers
-wanted=60
+wanted=67
 . "$here/../../.ci/cases.sh"
 
 usage='usage: strangers [FLAG NUMBER..] FORMAT [NAME=TEXT | NAME:=NUMBER | NAME[]=ITEM,ITEM..]'
@@ -16,21 +16,21 @@ usage='usage: strangers [FLAG NUMBER..] FORMAT [NAME=TEXT | NAME:=NUMBER | NAME[
 most=18446744073709551615
 least=-170141183460469231731687303715884105728
 
-# prints TEXT WORD..: a command line that is answered with a text.
+# prints TEXT WORD..: a command line that prints a text.
 prints() {
     local text=$1
     shift
     case_of file file 0 "$text"$'\n' '' "$@"
 }
 
-# refuses WHY WORD..: one that is refused, with status 1; nothing is printed.
+# refuses WHY WORD..: one that is rejected, with status 1; nothing is printed to standard output.
 refuses() {
     local why=$1
     shift
     case_of file file 1 '' "$why"$'\n' "$@"
 }
 
-# misused WHY WORD..: one that asks nothing, with status 2.
+# misused WHY WORD..: one that is no use of the program, with status 2.
 misused() {
     local why=$1
     shift
@@ -134,6 +134,20 @@ faults() {
     prints "$(times 80 é)" '{a}' "a=$(times 80 é)"
 }
 
+# What is rejected first: of words the first, of a list its items and then its longest text; then a
+# fault; then characters, pieces and buffered characters.
+orders() {
+    local past=(--characters 79 --pieces 0 --buffered 0)
+    refuses 'characters of a text: 5, where 3 are allowed' --text 3 "${past[@]}" '{q}' a=abcde b=abcd
+    refuses 'items of a list: 2, where 1 are allowed' --text 3 --items 1 '{q}' 'l[]=abcd,b'
+    refuses 'characters of a text: 6, where 3 are allowed' --text 3 '{q}' 'l[]=abcd,abcdef'
+    refuses 'specified value not in context `q` at 1' "${past[@]}" '{q}'
+    refuses 'characters: 80, where 79 are allowed' "${past[@]}" --items 1 '{l:2i}' 'l[]=a'
+    refuses 'pieces: 2, where 0 are allowed' "${past[@]}" --characters 80 --items 1 '{l:2i}' 'l[]=a'
+    refuses 'buffered characters: 80, where 0 are allowed' "${past[@]}" --characters 80 --pieces 2 \
+        --items 1 '{l:2i}' 'l[]=a'
+}
+
 uses() {
     misused "$usage"
     misused "$usage" --items
@@ -156,6 +170,7 @@ all_cases() {
     told_costs
     hostile
     faults
+    orders
     uses
 }
 

@@ -1,17 +1,20 @@
 -- The values of words are within their limits, so what a format means over them is within its cost.
 use Rattle.std.proofs.Common.{◌≡◌, ◌∙◌, sym, ap, subst, refl, ℕ, ◌-◌, ◌^◌, ◌<◌, ◌≤◌, Bool, true}
-use Rattle.std.proofs.Common.{false, cond, List, [], ◌∷◌, ◌++◌, length, map, Option, Some}
+use Rattle.std.proofs.Common.{false, cond, List, [], ◌∷◌, ◌++◌, length, map, None, Option, Some}
 use Rattle.std.proofs.Common.{option_map, arith, All, suc, min, Result, Ok, Err, string_bytes}
-use Rattle.std.proofs.lemmas.List.{length-map, reverse-append}
+use mathlib.Core.Path.{fun_ext}
+use Rattle.std.proofs.lemmas.List.{length-map, map-append, reverse-append}
 use Rattle.std.proofs.lemmas.List.Elements.{All-head, All-tail}
 use Rattle.std.specs.Borrow.{Bor}
 use Rattle.std.specs.List.{find}
-use Rattle.std.specs.Prelude.{reverse, ⊤, IfOk, OnOk}
+use Rattle.std.specs.Prelude.{reverse, ⊤, IfErr, IfOk, OnOk}
 use Rattle.std.specs.Str.{bytes_eq, chars, encode_utf8_all}
 use Rattle.std.specs.declared.string.String.{String}
 use Rattle.interpolator.proofs.TemplateLemmas.CostLawLemmas.{text_at_most}
 use Rattle.interpolator.specs.At.{outermost}
+use Rattle.interpolator.specs.Contexts.{found_by_pairs}
 use Rattle.interpolator.specs.Meaning.AskedNames.{asked_names}
+use Rattle.interpolator.specs.Meaning.Environments.{environment}
 use Rattle.interpolator.specs.Meaning.Limits.{FoundWithin, IsWithin, ItemsWithin, SlotsWithin}
 use Rattle.interpolator.specs.Meaning.Limits.{SlotWithin}
 use Rattle.interpolator.specs.Slots.{Slots, empty_slots, listed_slots, slot_at, slots_listed}
@@ -22,9 +25,11 @@ use Rattle.interpolator.specs.declared.Trait.{Trait}
 use Rattle.interpolator.specs.declared.Trait.TheVariants.{Binary, Debug, Display, Iter}
 use Rattle.interpolator.specs.declared.Trait.TheVariants.{LowerExp, LowerHex, Octal}
 use Rattle.interpolator.specs.declared.Trait.TheVariants.{UpperExp, UpperHex}
-use Rattle.strangers.specs.Serving.{Affords, GiveWords, IsServed, IsWhole, meaning_over, names_over}
-use Rattle.strangers.specs.Serving.{shows, told_cost}
-use Rattle.strangers.specs.Values.{DatumWithin, GivenWithin, Named, Row, WordsWithin, given_tree}
+use Rattle.strangers.specs.Serving.{IsServed, IsWhole, Names, Rejects, Why, faults_with, first_why}
+use Rattle.strangers.specs.Serving.{format_why, meaning_over, shows, told_cost, why_of, words_why}
+use Rattle.strangers.specs.Values.{DatumWithin, GivenWithin, Named, Row, WordsWithin, found_by_words}
+use Rattle.strangers.specs.Values.{given_tree, pair_named, word_named}
+use Rattle.strangers.proofs.ServingLemmas.{afforded, neither}
 use Rattle.strangers.specs.declared.serving.Allowed.{Allowed}
 use Rattle.strangers.specs.declared.serving.Refused.{Refused}
 use Rattle.strangers.specs.declared.values.Datum.{Datum}
@@ -32,6 +37,10 @@ use Rattle.strangers.specs.declared.values.Datum.TheVariants.{Text, Number}
 use Rattle.strangers.specs.declared.values.Given.{Given}
 use Rattle.strangers.specs.declared.values.Given.TheVariants.{One, Many}
 use Rattle.strangers.specs.declared.values.Word.{Word}
+
+-- pairs give what the words give, under the same names
+abbrev pub GiveWords : List Word → Row → Type 0
+GiveWords words pairs = map pair_named pairs ≡ map word_named words
 
 module _ (limits : Limits) where
   abbrev TreeWithin : Slots Datum → Type 0
@@ -152,49 +161,104 @@ module _ (limits : Limits) where
       by_test (bytes_eq name pair.0.now) pair _ h.0 (first_within pairs name h.1)
 
   names_within : (pairs : Row) (names : List (List ℕ)) → PairsWithin pairs
-      → IsWithin shows limits.text limits.items (names_over pairs) names
+      → IsWithin shows limits.text limits.items (environment (found_by_pairs pairs)) names
   names_within pairs [] h = tt
   names_within pairs (name ∷ names) h = (
     first_within (reverse pairs) (encode_utf8_all name) (reversed_within pairs h),
     names_within pairs names h,
   )
 
--- a count that is told below the greatest `usize` is the count itself
+-- ---- what is found by words is found by pairs that give what they give
+
+reversed_map : {A B : Type 0} (f : A → B) (xs : List A) → reverse (map f xs) ≡ map f (reverse xs)
+reversed_map f [] = refl
+reversed_map f (x ∷ xs) =
+    rw (
+      reverse-append (f x ∷ []) (map f xs),
+      reverse-append (x ∷ []) xs,
+      map-append f (reverse xs) (x ∷ []),
+      reversed_map f xs,
+    ) refl
+
+found_first : (pairs : Row) (bytes : List ℕ)
+    → option_map slots_of (option_map (λ pair. pair.1)
+    (find (λ pair. bytes_eq bytes pair.0.now) pairs))
+    ≡ option_map (λ one. one.1) (find (λ one. bytes_eq bytes one.0) (map pair_named pairs))
+found_first [] bytes = refl
+found_first (pair ∷ pairs) bytes = by_name (bytes_eq bytes pair.0.now) pair _ _
+    (found_first pairs bytes)
+  where
+    by_name : (same : Bool) (pair : Bor (List ℕ) × Formattable Datum)
+        (other : Option (Bor (List ℕ) × Formattable Datum)) (rest : Option Named)
+        → option_map slots_of (option_map (λ p. p.1) other) ≡ option_map (λ one. one.1) rest
+        → option_map slots_of (option_map (λ p. p.1) (cond same (Some pair) other))
+        ≡ option_map (λ one. one.1) (cond same (Some (pair_named pair)) rest)
+    by_name true pair other rest e = refl
+    by_name false pair other rest e = e
+
+found_same : (words : List Word) (pairs : Row) → map pair_named pairs ≡ map word_named words
+    → found_by_pairs pairs ≡ found_by_words words
+found_same words pairs given = fun_ext (λ name.
+    found_first (reverse pairs) (encode_utf8_all name)
+    ∙ ap (λ named. option_map (λ one. one.1)
+    (find (λ one. bytes_eq (encode_utf8_all name) one.0) named))
+    (sym (reversed_map pair_named pairs) ∙ ap (λ named. reverse named) given))
+
+-- a count that is reported below the greatest `usize` is the count itself
 as_told : (n count : ℕ) → n ≤ count → min count (2 ^ 64 - 1) < 2 ^ 64 - 1
     → n ≤ min count (2 ^ 64 - 1)
 as_told n count h k = omega (arith, h, k)
 
--- a format that is afforded over values within their limits is served
-pub served_whole : (allowed : Allowed) (format : List ℕ) (words : List Word) (pairs : Row)
-    (text : List ℕ) → WordsWithin allowed.values words → GiveWords words pairs
-    → IsWhole format pairs text → Affords allowed.most (told_cost allowed.values format)
-    → IsServed allowed format words text
-served_whole allowed format words pairs text kept given done affords =
-    let a = outermost (chars format) in
-    let most = text_at_most shows allowed.values (names_over pairs) a
-    (names_within allowed.values pairs (asked_names a)
-    (pairs_within allowed.values words pairs given kept)) in
-    let as_long : length text ≡ length (meaning_over format pairs).text =
-    ap (λ (cs : List ℕ). length cs) done.whole ∙ length-map (meaning_over format pairs).text _ in
-    record {
-      pairs = pairs;
-      given = given;
-      written = done;
-      characters =
-          subst (λ n. n ≤ (told_cost allowed.values format).characters) (sym as_long)
-          (as_told _ _ most.characters affords.characters.1);
-      pieces = as_told _ _ most.pieces affords.pieces.1;
-      buffered = as_told _ _ most.buffered affords.buffered.1;
-      afforded = affords;
-    }
+module _ (allowed : Allowed) (format : List ℕ) (words : List Word) (pairs : Row)
+    (given : map pair_named pairs ≡ map word_named words) where
+  -- a format that nothing rejects, with values within their limits, is served
+  served_whole : (text : List ℕ) → WordsWithin allowed.values words
+      → words_why allowed.values words ≡ None
+      → IsWhole format (found_by_pairs pairs) text
+      → format_why allowed format (found_by_pairs pairs) ≡ None
+      → IsServed allowed format words text
+  served_whole text kept good done accepted =
+      let a = outermost (chars format) in
+      let same = found_same words pairs given in
+      let within = subst (λ (finds : Names).
+      IsWithin shows allowed.values.text allowed.values.items (environment finds) (asked_names a))
+      same (names_within allowed.values pairs (asked_names a)
+      (pairs_within allowed.values words pairs given kept)) in
+      let most = text_at_most shows allowed.values (environment (found_by_words words)) a within in
+      let whole = subst (λ (finds : Names). IsWhole format finds text) same done in
+      let affords = afforded allowed.most _ (neither _ _ accepted).1 in
+      let as_long : length text ≡ length (meaning_over format (found_by_words words)).text =
+      ap (λ (cs : List ℕ). length cs) whole.whole
+      ∙ length-map (meaning_over format (found_by_words words)).text _ in
+      record {
+        accepted = rw good
+            (subst (λ (finds : Names). format_why allowed format finds ≡ None) same accepted);
+        written = whole;
+        characters =
+            subst (λ n. n ≤ (told_cost allowed.values format).characters) (sym as_long)
+            (as_told _ _ most.characters affords.characters.1);
+        pieces = as_told _ _ most.pieces affords.pieces.1;
+        buffered = as_told _ _ most.buffered affords.buffered.1;
+        afforded = affords;
+      }
 
--- so is what was answered, if that is a text
-pub served_if_ok : {Z : Type 0} (allowed : Allowed) (format : List ℕ) (words : List Word)
-    (pairs : Row) (result : Result (String Z) Refused) → WordsWithin allowed.values words
-    → GiveWords words pairs
-    → IfOk result (λ text. IsWhole format pairs (chars (string_bytes text)))
-    → OnOk result (Affords allowed.most (told_cost allowed.values format))
-    → IfOk result (λ text. IsServed allowed format words (chars (string_bytes text)))
-served_if_ok allowed format words pairs (Ok text) kept given done affords =
-    served_whole allowed format words pairs (chars (string_bytes text)) kept given done affords
-served_if_ok allowed format words pairs (Err refused) kept given done affords = tt
+  -- so is what was answered, if that is a text
+  pub served_if_ok : {Z : Type 0} (result : Result (String Z) Refused)
+      → WordsWithin allowed.values words → words_why allowed.values words ≡ None
+      → IfOk result (λ text. IsWhole format (found_by_pairs pairs) (chars (string_bytes text)))
+      → OnOk result (format_why allowed format (found_by_pairs pairs) ≡ None)
+      → IfOk result (λ text. IsServed allowed format words (chars (string_bytes text)))
+  served_if_ok (Ok text) kept good done accepted =
+      served_whole (chars (string_bytes text)) kept good done accepted
+  served_if_ok (Err refused) kept good done accepted = tt
+
+  -- and what rejected it, if it is none
+  pub rejected_if_err : {Z : Type 0} (result : Result (String Z) Refused)
+      → words_why allowed.values words ≡ None
+      → IfErr result (λ refused.
+      Rejects (format_why allowed format (found_by_pairs pairs)) refused)
+      → IfErr result (λ refused. Rejects (first_why allowed format words) refused)
+  rejected_if_err (Ok text) good h = tt
+  rejected_if_err (Err refused) good h = rw good
+      (subst (λ (finds : Names). Rejects (format_why allowed format finds) refused)
+      (found_same words pairs given) h)

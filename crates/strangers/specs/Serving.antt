@@ -1,13 +1,14 @@
--- When a format of a stranger is written, and why another is not. A format is bytes, and the text
--- that it is written as is characters.
-use Rattle.std.specs.Prelude.{◌≡◌, ◌⊎◌, ◌≤◌, ◌<◌, ◌-◌, ◌^◌, ℕ, List, [], length, map}
-use Rattle.std.specs.Prelude.{None, Some, option_map}
+-- When a format that is not trusted is written, and why another is not. A format is bytes, and the
+-- text that it is written as is characters.
+use Rattle.std.specs.Prelude.{◌≡◌, ◌⊎◌, ◌≤◌, ◌-◌, ◌^◌, ◌==◌, ◌||◌, ◌<◌, nat_lt, ℕ, Bool, List, []}
+use Rattle.std.specs.Prelude.{◌∷◌, length, if◌then◌else◌, Option, None, Some, Result, Ok, Err}
+use Rattle.std.specs.Option.{option_map, option_or}
 use Rattle.std.specs.Str.{chars}
 use Rattle.interpolator.specs.At.{outermost, text_of}
-use Rattle.interpolator.specs.Contexts.{found_by_pairs}
-use Rattle.interpolator.specs.Faults.{answer_of, fault, no_memory}
-use Rattle.interpolator.specs.Meaning.Environments.{Environment, environment}
+use Rattle.interpolator.specs.Faults.{Answer, Fault, answer_of, fault, no_memory}
+use Rattle.interpolator.specs.Meaning.Environments.{environment}
 use Rattle.interpolator.specs.Meaning.Meanings.{Meaning, means}
+use Rattle.interpolator.specs.Slots.{Slots}
 use Rattle.interpolator.specs.Template.NodeChecks.{first_fault}
 use Rattle.interpolator.specs.Template.NodeCosts.{usize_cost, text_cost}
 use Rattle.interpolator.specs.Template.NodeSamples.{faults_over}
@@ -15,43 +16,125 @@ use Rattle.interpolator_eval.specs.Meaning.Work.{Work, text_work}
 use Rattle.interpolator.specs.Views.{Shown}
 use Rattle.interpolator.specs.declared.Cost.{Cost}
 use Rattle.interpolator.specs.declared.Error.{Error}
-use Rattle.interpolator.specs.declared.Error.TheVariants.{NoMemory}
 use Rattle.interpolator.specs.declared.Limits.{Limits}
 use Rattle.interpolator.specs.declared.Spec.{Spec}
 use Rattle.interpolator.specs.declared.Trait.{Trait}
-use Rattle.strangers.specs.Values.{Row, WordsWithin, datum_shows, pair_named, word_named}
+use Rattle.strangers.specs.Values.{characters_of, datum_shows, found_by_words, longest_of}
 use Rattle.strangers.specs.declared.serving.Allowed.{Allowed}
+use Rattle.strangers.specs.declared.serving.Count.{Count}
 use Rattle.strangers.specs.declared.serving.Count.TheVariants as counts
 use Rattle.strangers.specs.declared.serving.Refused.{Refused}
 use Rattle.strangers.specs.declared.serving.Refused.TheVariants.{Format, Past}
 use Rattle.strangers.specs.declared.values.Datum.{Datum}
+use Rattle.strangers.specs.declared.values.Given.{Given}
+use Rattle.strangers.specs.declared.values.Given.TheVariants.{One, Many}
 use Rattle.strangers.specs.declared.values.Word.{Word}
+
+-- ---- what a format means, and what it costs
 
 -- what values show
 abbrev pub shows : Datum → Trait → Spec → Shown
 shows value _ _ = datum_shows value
 
--- what names mean over pairs
-abbrev pub names_over : Row → Environment Datum
-names_over pairs = environment (found_by_pairs pairs)
+-- what is found under names
+abbrev pub Names : Type 0
+Names = List ℕ → Option (Slots Datum)
 
--- what a format means over pairs
-abbrev pub meaning_over : List ℕ → Row → Meaning
-meaning_over format pairs = means shows (names_over pairs) (outermost (chars format))
+-- what a format means, by what is found under names
+abbrev pub meaning_over : List ℕ → Names → Meaning
+meaning_over format finds = means shows (environment finds) (outermost (chars format))
 
 -- what writing it goes through and holds
-abbrev pub work_over : List ℕ → Row → Work
-work_over format pairs = text_work shows (names_over pairs) (outermost (chars format))
+abbrev pub work_over : List ℕ → Names → Work
+work_over format finds = text_work shows (environment finds) (outermost (chars format))
 
--- what it costs at most, as it is told
+-- the faults that it has, by itself or with what is found as its sample
+abbrev pub faults_with : List ℕ → Names → List Fault
+faults_with format finds = faults_over shows finds (outermost (chars format))
+
+-- what it costs at most, as it is reported
 abbrev pub told_cost : Limits → List ℕ → Cost
 told_cost limits format = usize_cost (text_cost limits (outermost (chars format)))
 
--- a count that is told is past its limit; the greatest `usize` means as many or more
-abbrev pub IsPast : (told limit : ℕ) → Type 0
-IsPast told limit = (limit < told) ⊎ (told ≡ 2 ^ 64 - 1)
+-- ---- why a format is rejected
 
--- a count is told exactly, and is within its limit
+-- why: an error of the format, or a count that is past its limit
+pub data Why : Type 0 where
+  failed : Answer → Why
+  past : Count → (told limit : ℕ) → Why
+
+-- why, as it is reported
+abbrev pub why_of : Refused → Why
+why_of (Format error) = failed (answer_of error)
+why_of (Past count told limit) = past count told limit
+
+-- what a test reported, if it rejects
+abbrev pub why_in : Result (Unit {0}) Refused → Option Why
+why_in (Ok _) = None
+why_in (Err refused) = Some (why_of refused)
+
+-- a count is past its limit; the greatest `usize` means as many or more, and is past every limit
+abbrev pub is_past : (told limit : ℕ) → Bool
+is_past told limit = nat_lt limit told || told == 2 ^ 64 - 1
+
+-- a count of a cost is rejected
+abbrev pub count_why : Count → (told limit : ℕ) → Option Why
+count_why count told limit = if is_past told limit then Some (past count told limit) else None
+
+-- a count of values is rejected
+abbrev pub value_why : Count → (told limit : ℕ) → Option Why
+value_why count told limit = if nat_lt limit told then Some (past count told limit) else None
+
+-- what a word gives is rejected: a text that is too long; a list with too many items, or else for
+-- the longest text among them
+abbrev pub given_why : Limits → Given → Option Why
+given_why limits (One value) = value_why counts.Text (characters_of value) limits.text
+given_why limits (Many values) =
+    option_or (value_why counts.Items (length values.items) limits.items)
+    (value_why counts.Text (longest_of values.items) limits.text)
+
+-- words are rejected for the first that is
+abbrev pub words_why : Limits → List Word → Option Why
+words_why limits [] = None
+words_why limits (word ∷ words) = option_or (given_why limits word.given) (words_why limits words)
+
+-- a format is rejected for the first of its faults
+abbrev pub fault_why : List Fault → Option Why
+fault_why fs = option_map (λ f. failed (fault f)) (first_fault fs)
+
+-- a cost is rejected for the first of its counts that is past its limit: characters, then pieces,
+-- then buffered characters
+abbrev pub cost_why : (most cost : Cost) → Option Why
+cost_why most cost = option_or (count_why counts.Characters cost.characters most.characters)
+    (option_or (count_why counts.Pieces cost.pieces most.pieces)
+    (count_why counts.Buffered cost.buffered most.buffered))
+
+-- a format is rejected for a fault, or else for its cost
+abbrev pub format_why : Allowed → List ℕ → Names → Option Why
+format_why allowed format finds = option_or (fault_why (faults_with format finds))
+    (cost_why allowed.most (told_cost allowed.values format))
+
+-- a format over words is rejected for these words, or else by itself
+abbrev pub first_why : Allowed → List ℕ → List Word → Option Why
+first_why allowed format words = option_or (words_why allowed.values words)
+    (format_why allowed format (found_by_words words))
+
+-- what is reported is why, or that memory was refused
+abbrev pub Rejects : Option Why → Refused → Type 0
+Rejects why refused = (why_of refused ≡ failed no_memory) ⊎ (why ≡ Some (why_of refused))
+
+-- if a format has no fault, an error is that memory was refused
+abbrev pub FailsOfMemory : List ℕ → Names → Error → Type 0
+FailsOfMemory format finds error = faults_with format finds ≡ [] → answer_of error ≡ no_memory
+
+-- ---- when it is written
+
+-- the whole text of a format, without fault
+pub record IsWhole (format : List ℕ) (finds : Names) (text : List ℕ) : Type 0 where
+  pub faultless : (meaning_over format finds).fault ≡ None
+  pub whole : text ≡ text_of (meaning_over format finds).text
+
+-- a count is reported exactly, and is within its limit
 abbrev pub IsWithin : (told limit : ℕ) → Type 0
 IsWithin told limit = (told ≤ limit) × (told < 2 ^ 64 - 1)
 
@@ -61,67 +144,15 @@ pub record Affords (most cost : Cost) : Type 0 where
   pub pieces : IsWithin cost.pieces most.pieces
   pub buffered : IsWithin cost.buffered most.buffered
 
--- the whole text of a format over pairs, without fault
-pub record IsWhole (format : List ℕ) (pairs : Row) (text : List ℕ) : Type 0 where
-  pub faultless : (meaning_over format pairs).fault ≡ None
-  pub whole : text ≡ text_of (meaning_over format pairs).text
-
--- pairs give what the words give, under the same names
-abbrev pub GiveWords : List Word → Row → Type 0
-GiveWords words pairs = map pair_named pairs ≡ map word_named words
-
--- a format is served: its text is written whole, within the cost that was told of it, which is
--- within the limits
+-- a format is served: nothing rejects it, and its text is written whole, within the cost that is
+-- reported of it, which is within the limits
 pub record IsServed (allowed : Allowed) (format : List ℕ) (words : List Word) (text : List ℕ)
     : Type 0 where
-  pub pairs : Row
-  pub given : GiveWords words pairs
-  pub written : IsWhole format pairs text
+  pub accepted : first_why allowed format words ≡ None
+  pub written : IsWhole format (found_by_words words) text
   pub characters : length text ≤ (told_cost allowed.values format).characters
-  pub pieces : (work_over format pairs).pieces ≤ (told_cost allowed.values format).pieces
-  pub buffered : (work_over format pairs).held ≤ (told_cost allowed.values format).buffered
+  pub pieces : (work_over format (found_by_words words)).pieces
+      ≤ (told_cost allowed.values format).pieces
+  pub buffered : (work_over format (found_by_words words)).held
+      ≤ (told_cost allowed.values format).buffered
   pub afforded : Affords allowed.most (told_cost allowed.values format)
-
--- values are refused: a text, or a list, that is past its limit
-abbrev pub RefusesValues : Limits → Refused → Type 0
-RefusesValues limits (Past counts.Text told limit) = (limit ≡ limits.text) × (limit < told)
-RefusesValues limits (Past counts.Items told limit) = (limit ≡ limits.items) × (limit < told)
-RefusesValues limits _ = ⊥
-
--- a cost is refused: a count of it that is past its limit
-abbrev pub RefusesCost : (most cost : Cost) → Refused → Type 0
-RefusesCost most cost (Past counts.Characters told limit) =
-    (told ≡ cost.characters) × (limit ≡ most.characters) × IsPast told limit
-RefusesCost most cost (Past counts.Pieces told limit) =
-    (told ≡ cost.pieces) × (limit ≡ most.pieces) × IsPast told limit
-RefusesCost most cost (Past counts.Buffered told limit) =
-    (told ≡ cost.buffered) × (limit ≡ most.buffered) × IsPast told limit
-RefusesCost most cost _ = ⊥
-
--- a format has no fault over pairs as its sample
-abbrev pub IsSound : List ℕ → Row → Type 0
-IsSound format pairs =
-    faults_over shows (found_by_pairs pairs) (outermost (chars format)) ≡ []
-
--- if it has none, an error is that memory was refused
-abbrev pub FailsOfMemory : List ℕ → Row → Error → Type 0
-FailsOfMemory format pairs error = IsSound format pairs → answer_of error ≡ no_memory
-
--- an error is that memory was refused, or the first fault of the format over pairs as its sample
-abbrev pub IsWrong : List ℕ → Row → Error → Type 0
-IsWrong format pairs error = (answer_of error ≡ no_memory)
-    ⊎ (Some (answer_of error) ≡ option_map fault (first_fault
-    (faults_over shows (found_by_pairs pairs) (outermost (chars format)))))
-
--- a format is refused over pairs: it is wrong, or costs too much
-abbrev pub RefusesOver : Allowed → List ℕ → Row → Refused → Type 0
-RefusesOver allowed format pairs (Format error) = IsWrong format pairs error
-RefusesOver allowed format pairs (Past count told limit) =
-    RefusesCost allowed.most (told_cost allowed.values format) (Past count told limit)
-
--- why a format is not served: memory was refused; the values are past their limits; or it is
--- refused over pairs that give what the words give
-abbrev pub Refuses : Allowed → List ℕ → List Word → Refused → Type 0
-Refuses allowed format words refused = (refused ≡ Format NoMemory)
-    ⊎ ((¬ (WordsWithin allowed.values words) × RefusesValues allowed.values refused)
-    ⊎ ((pairs : Row) × GiveWords words pairs × RefusesOver allowed format pairs refused))

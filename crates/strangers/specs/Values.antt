@@ -1,8 +1,11 @@
 -- The values that a format is given: what they show, and what limits they keep.
-use Rattle.std.specs.Prelude.{ℕ, ◌≤◌, FitsSigned, List, All, length, map}
+use Rattle.std.specs.Prelude.{ℕ, ◌≤◌, FitsSigned, List, [], ◌∷◌, All, length, map, max, reverse}
+use Rattle.std.specs.Prelude.{Option}
 use Rattle.std.specs.Borrow.{Bor}
 use Rattle.std.specs.Int.{w128}
-use Rattle.std.specs.Str.{chars}
+use Rattle.std.specs.List.{find}
+use Rattle.std.specs.Option.{option_map}
+use Rattle.std.specs.Str.{bytes_eq, chars, encode_utf8_all}
 use Rattle.interpolator.specs.Slots.{Slots, slots_of, empty_slots, with_integer, with_iter}
 use Rattle.interpolator.specs.Views.{Shown, some_text, signed_number}
 use Rattle.interpolator.specs.declared.Bits.TheVariants.{B128}
@@ -51,6 +54,25 @@ pair_named pair = (pair.0.now, slots_of pair.1)
 -- the pairs of a context
 abbrev pub Row : Type 0
 Row = List (Bor (List ℕ) × Formattable Datum)
+
+-- what is found under a name, by its characters: what the last of some pairs of the name has
+abbrev pub found_among : List Named → List ℕ → Option (Slots Datum)
+found_among named name =
+    option_map (λ one. one.1) (find (λ one. bytes_eq (encode_utf8_all name) one.0) (reverse named))
+
+-- what is found under a name: what the last word of that name gives
+abbrev pub found_by_words : List Word → List ℕ → Option (Slots Datum)
+found_by_words words = found_among (map word_named words)
+
+-- how many characters a value's text has; a number has no text
+abbrev pub characters_of : Datum → ℕ
+characters_of (Text text) = length (chars text.now)
+characters_of (Number number) = 0
+
+-- how many characters the longest text among some values has
+abbrev pub longest_of : List Datum → ℕ
+longest_of [] = 0
+longest_of (value ∷ values) = max (characters_of value) (longest_of values)
 
 -- a text has at most so many characters; a number is one of 128 bits
 abbrev pub DatumWithin : ℕ → Datum → Type 0

@@ -1,4 +1,4 @@
-//! The values of words, lent to the pairs of a context.
+//! The values of words, borrowed by the pairs of a context.
 ghost use Rattle.std.specs.Prelude.{◌≡◌, IfErr, IfOk, map};
 ghost use Rattle.interpolator.specs.Slots.{slots_of};
 ghost use Rattle.interpolator.specs.declared.Error.TheVariants.{NoMemory};
@@ -9,7 +9,7 @@ use crate::values::{Datum, Given, Word};
 use interpolator::{Error, Formattable, items_of};
 use std::alloc::Global;
 
-/// What a word gives, lent.
+/// The value of a word, borrowed.
 #[derive(Drop)]
 pub enum Lent<'a> {
     /// One value.
@@ -18,14 +18,14 @@ pub enum Lent<'a> {
     Many(Vec<Formattable<'a, Datum<'a>>>),
 }
 
-/// A name, and what is given under it, lent.
+/// A name, and the value under it, borrowed.
 #[derive(Drop)]
 pub struct Entry<'a> {
     name: &'a str,
     lent: Lent<'a>,
 }
 
-/// Lends what a word gives.
+/// Borrows the value of a word.
 fn lent_of<'e, 'a>(alloc: Global, given: &'e Given<'a>) -> Result<Lent<'e>, Error>
     ensures ok { IfOk result (λ lent. lent_tree lent ≡ given_tree given.now) }
     ensures err { IfErr result (λ error. error ≡ NoMemory) }
@@ -36,7 +36,7 @@ fn lent_of<'e, 'a>(alloc: Global, given: &'e Given<'a>) -> Result<Lent<'e>, Erro
     }
 }
 
-/// Lends what the words give.
+/// Borrows the values of the words.
 ///
 /// # Errors
 ///
@@ -65,7 +65,7 @@ fn formattable_of<'e, 'a>(lent: &'e Lent<'a>) -> Formattable<'e, Datum<'e>>
     }
 }
 
-/// What is lent, as pairs of a context.
+/// The borrowed values as pairs of a context.
 ///
 /// # Errors
 ///

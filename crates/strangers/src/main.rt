@@ -1,11 +1,9 @@
-//! `strangers [FLAG NUMBER..] FORMAT [NAME=TEXT | NAME:=NUMBER | NAME[]=ITEM,ITEM..]`: a format
-//! that a stranger wrote, printed only if it has no fault over the values and cannot cost more than
-//! is allowed.
+//! `strangers [FLAG NUMBER..] FORMAT [NAME=TEXT | NAME:=NUMBER | NAME[]=ITEM,ITEM..]`: formats with
+//! an untrusted format, if it has no fault with the values and cannot cost more than is allowed.
 //!
 //! `--text` and `--items` limit the characters of a text and the items of a list among the values:
-//! 80 and 20 if they are not given. `--characters`, `--pieces` and `--buffered` limit what the
-//! format costs within these: 10000, 1000 and 10000. A format that begins with `--` follows a
-//! word `--`.
+//! 80 and 20 by default. `--characters`, `--pieces` and `--buffered` limit the cost of the format
+//! with such values: 10000, 1000 and 10000. Put `--` before a format that begins with `--`.
 #![tactic(auto)]
 
 mod lending;
@@ -29,7 +27,7 @@ const BAD_USE: u8 = 2;
 
 const NOT_WRITTEN: u8 = 3;
 
-/// What is printed: to the output, with status 0, or to the errors, with another.
+/// What is printed: a text to standard output, with status 0; anything else to standard error.
 #[derive(Drop)]
 enum Answer {
     Text(String),
@@ -38,7 +36,7 @@ enum Answer {
     BadUse,
 }
 
-/// What is counted, as it is told.
+/// The name of a count, as it is reported.
 fn name_of(count: Count) -> &'static str {
     match count {
         Count::Characters => "characters",
@@ -49,7 +47,7 @@ fn name_of(count: Count) -> &'static str {
     }
 }
 
-/// What a command line is answered with.
+/// Runs a command line.
 fn answered(alloc: Global, line: &[String]) -> Result<Answer, Error> {
     let Some(asked) = asked_by(line) else {
         return Ok(Answer::BadUse);
@@ -65,7 +63,7 @@ fn answered(alloc: Global, line: &[String]) -> Result<Answer, Error> {
     }
 }
 
-/// Tells why a format was refused.
+/// Reports why a format was rejected.
 fn tell_refused(rt: &HostRuntime, refused: &Refused) -> io::Result<()> {
     match refused {
         Refused::Format(error) => eprintln!(rt; "{error}"),
@@ -80,7 +78,7 @@ fn tell_refused(rt: &HostRuntime, refused: &Refused) -> io::Result<()> {
     }
 }
 
-/// Tells an answer, and gives the status.
+/// Prints an answer, and returns the status.
 fn tell(rt: &HostRuntime, answer: &Answer) -> io::Result<u8> {
     match answer {
         Answer::Text(text) => {
@@ -111,7 +109,7 @@ fn main(rt: HostRuntime) -> ExitCode {
     let answer = match words(&rt) {
         Ok(line) => answered(rt.alloc(), line.as_slice()),
         Err(error) if error.kind() == io::ErrorKind::OutOfMemory => Err(Error::NoMemory),
-        // An argument that is no text.
+        // An argument is not UTF-8.
         Err(_) => Ok(Answer::BadUse),
     };
     let answer = match answer {

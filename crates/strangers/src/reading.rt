@@ -1,11 +1,11 @@
-//! What the words of the command line ask.
+//! The arguments of the command line: limits, a format, and words.
 
 use crate::serving::Allowed;
 use crate::values::{Datum, Given, Word};
 use interpolator::{Cost, Limits};
 use std::alloc::{AllocError, Global};
 
-/// What is allowed if no flag says otherwise.
+/// The limits by default.
 const USUAL: Allowed = Allowed {
     values: Limits {
         text: 80,
@@ -18,7 +18,7 @@ const USUAL: Allowed = Allowed {
     },
 };
 
-/// What is asked: what is allowed, the format, and the words after it.
+/// A command line: the limits, the format, and the words after it.
 #[derive(Clone, Copy)]
 pub struct Request<'a> {
     pub allowed: Allowed,
@@ -26,7 +26,7 @@ pub struct Request<'a> {
     pub words: &'a [String],
 }
 
-/// These limits with the one that a flag names set to a number, if there is such a flag.
+/// These limits with a new number for the one that a flag names, if there is such a flag.
 fn with_limit(allowed: Allowed, flag: &str, limit: usize) -> Option<Allowed> {
     let mut now = allowed;
     match flag {
@@ -40,8 +40,8 @@ fn with_limit(allowed: Allowed, flag: &str, limit: usize) -> Option<Allowed> {
     Some(now)
 }
 
-/// What a command line asks: flags with their numbers, a format, and words. A format that begins
-/// with `--` follows a word `--`.
+/// Reads a command line: flags with their numbers, a format, and words. `--` ends the flags, so a
+/// format that begins with `--` comes after it.
 pub fn asked_by(line: &[String]) -> Option<Request<'_>> {
     let mut allowed = USUAL;
     let mut rest = line;
@@ -73,7 +73,7 @@ pub fn asked_by(line: &[String]) -> Option<Request<'_>> {
     }
 }
 
-/// The number that a text spells: an optional `-` and digits, within 128 bits.
+/// The number that a text spells, if any: an optional `-` and digits, within `i128`.
 fn number_of(text: &str) -> Option<i128> {
     if text.starts_with('+') {
         return None;
@@ -81,7 +81,7 @@ fn number_of(text: &str) -> Option<i128> {
     text.parse::<i128>().ok()
 }
 
-/// The items of a list: the parts of a text between its commas, and none of the empty text.
+/// The items of a list: the parts of its text between commas. The empty text has none.
 fn items_of(alloc: Global, text: &str) -> Result<Vec<Datum<'_>>, AllocError> {
     if text.is_empty() {
         return Ok(Vec::new(alloc));
@@ -89,7 +89,8 @@ fn items_of(alloc: Global, text: &str) -> Result<Vec<Datum<'_>>, AllocError> {
     text.split(',').map(Datum::Text).collect(alloc)
 }
 
-/// What a word gives: `NAME=TEXT`, `NAME:=NUMBER` or `NAME[]=ITEM,ITEM..`; `None` for any other.
+/// Reads a word by the rule of `ifmt`: `NAME=TEXT`, `NAME:=NUMBER` or `NAME[]=ITEM,ITEM..`; `None`
+/// for any other.
 fn word_of(alloc: Global, word: &str) -> Result<Option<Word<'_>>, AllocError> {
     let Some((left, right)) = word.split_once('=') else {
         return Ok(None);
@@ -116,7 +117,7 @@ fn word_of(alloc: Global, word: &str) -> Result<Option<Word<'_>>, AllocError> {
     }))
 }
 
-/// What the words give, or the first that gives nothing.
+/// Reads the words, or returns the first that is none of these.
 pub fn words_of(
     alloc: Global,
     words: &[String],

@@ -1,14 +1,13 @@
-//! A format of a stranger, checked, weighed and written.
-ghost use Rattle.std.specs.Prelude.{◌≡◌, ◌<◌, ◌≤◌, Decides, IfErr, IfOk, MatchResult, OnOk};
-ghost use Rattle.std.specs.Prelude.{string_bytes};
+//! A format that is not trusted: checked, weighed and written.
+ghost use Rattle.std.specs.Prelude.{◌≡◌, IfErr, IfOk, None, OnOk, string_bytes};
 ghost use Rattle.std.specs.Str.{chars};
-ghost use Rattle.interpolator.specs.Faults.{answer_of, no_memory};
+ghost use Rattle.interpolator.specs.Contexts.{found_by_pairs};
 ghost use Rattle.interpolator.specs.declared.Error.TheVariants.{NoMemory};
 ghost use Rattle.strangers.specs.Values.{GivenWithin, WordsWithin};
-ghost use Rattle.strangers.specs.Serving.{Affords, IsPast, IsServed, IsWhole, IsWithin};
-ghost use Rattle.strangers.specs.Serving.{Refuses, RefusesOver, RefusesCost, told_cost};
-ghost use Rattle.strangers.specs.Serving.{FailsOfMemory, RefusesValues};
-ghost use Rattle.strangers.specs.declared.serving.Refused.TheVariants.{Format, Past};
+ghost use Rattle.strangers.specs.Serving.{FailsOfMemory, IsServed, IsWhole, Rejects, cost_why};
+ghost use Rattle.strangers.specs.Serving.{count_why, first_why, format_why, given_why};
+ghost use Rattle.strangers.specs.Serving.{is_past, told_cost, value_why, why_in, words_why};
+ghost use Rattle.strangers.specs.declared.serving.Refused.TheVariants.{Format};
 
 use crate::lending::{entries_of, pairs_of};
 use crate::values::{Datum, Given, Word, characters_of, longest_of};
@@ -23,20 +22,20 @@ const CHARACTER: usize = 4;
 /// What is allowed.
 #[derive(Clone, Copy)]
 pub struct Allowed {
-    /// How much the values may hold.
+    /// The limits of the values.
     pub values: Limits,
-    /// How much a format may cost.
+    /// The greatest cost of a format.
     pub most: Cost,
 }
 
 /// What is counted.
 #[derive(Clone, Copy)]
 pub enum Count {
-    /// The characters that a format writes at most.
+    /// The most characters that a format can write.
     Characters,
-    /// The pieces that it goes through at most.
+    /// The most pieces that it can go through.
     Pieces,
-    /// The characters that it holds in buffers at most.
+    /// The most characters that it can hold in buffers.
     Buffered,
     /// The characters of a text among the values.
     Text,
@@ -47,10 +46,10 @@ pub enum Count {
 /// Why a format is not written.
 #[derive(Drop)]
 pub enum Refused {
-    /// The first fault that it has over the values as its sample, or `NoMemory`.
+    /// The first fault that it has with the values as its sample, or `NoMemory`.
     Format(Error),
-    /// A count that is past its limit. The greatest `usize` means as many or more, and is past
-    /// every limit.
+    /// A count that is past its limit. Of a cost, the greatest `usize` means as many or more, and is
+    /// past every limit.
     Past {
         count: Count,
         told: usize,
@@ -68,15 +67,14 @@ impl From<Error> for Refused {
 
 /// Whether a count is past its limit.
 fn is_past(told: usize, limit: usize) -> bool
-    ensures { Decides result (IsPast told limit) }
+    ensures { result ≡ is_past told limit }
 {
     told > limit || told == usize::MAX
 }
 
-/// Refuses a count that is past its limit.
+/// Rejects a count of a cost that is past its limit.
 fn check(count: Count, told: usize, limit: usize) -> Result<(), Refused>
-    ensures { MatchResult result (λ _. IsWithin told limit)
-        (λ refused. (refused ≡ Past count told limit) × IsPast told limit) }
+    ensures { why_in result ≡ count_why count told limit }
 {
     if is_past(told, limit) {
         return Err(Refused::Past { count, told, limit });
@@ -84,10 +82,9 @@ fn check(count: Count, told: usize, limit: usize) -> Result<(), Refused>
     Ok(())
 }
 
-/// Refuses a count of values that is more than its limit.
+/// Rejects a count of values that is more than its limit.
 fn check_value(count: Count, told: usize, limit: usize) -> Result<(), Refused>
-    ensures { MatchResult result (λ _. told ≤ limit)
-        (λ refused. (refused ≡ Past count told limit) × (limit < told)) }
+    ensures { why_in result ≡ value_why count told limit }
 {
     if told > limit {
         return Err(Refused::Past { count, told, limit });
@@ -95,10 +92,10 @@ fn check_value(count: Count, told: usize, limit: usize) -> Result<(), Refused>
     Ok(())
 }
 
-/// Refuses what a word gives, if it is past the limits.
+/// Rejects what a word gives, if it is past the limits.
 fn check_given(limits: &Limits, given: &Given<'_>) -> Result<(), Refused>
-    ensures { MatchResult result (λ _. GivenWithin limits.now given.now)
-        (λ refused. ¬ (GivenWithin limits.now given.now) × RefusesValues limits.now refused) }
+    ensures why { why_in result ≡ given_why limits.now given.now }
+    ensures within { OnOk result (GivenWithin limits.now given.now) }
 {
     match given {
         Given::One(value) => check_value(Count::Text, characters_of(value), limits.text),
@@ -109,10 +106,10 @@ fn check_given(limits: &Limits, given: &Given<'_>) -> Result<(), Refused>
     }
 }
 
-/// Refuses words of which one is past the limits.
+/// Rejects words of which one is past the limits.
 fn check_words(limits: &Limits, words: &[Word<'_>]) -> Result<(), Refused>
-    ensures { MatchResult result (λ _. WordsWithin limits.now words.now)
-        (λ refused. ¬ (WordsWithin limits.now words.now) × RefusesValues limits.now refused) }
+    ensures why { why_in result ≡ words_why limits.now words.now }
+    ensures within { OnOk result (WordsWithin limits.now words.now) }
 {
     for word in words {
         check_given(limits, &word.given)?;
@@ -120,17 +117,16 @@ fn check_words(limits: &Limits, words: &[Word<'_>]) -> Result<(), Refused>
     Ok(())
 }
 
-/// Refuses a cost of which one count is past its limit.
+/// Rejects a cost of which one count is past its limit.
 fn check_cost(cost: &Cost, most: &Cost) -> Result<(), Refused>
-    ensures { MatchResult result (λ _. Affords most.now cost.now)
-        (λ refused. RefusesCost most.now cost.now refused) }
+    ensures { why_in result ≡ cost_why most.now cost.now }
 {
     check(Count::Characters, cost.characters, most.characters)?;
     check(Count::Pieces, cost.pieces, most.pieces)?;
     check(Count::Buffered, cost.buffered, most.buffered)
 }
 
-/// Writes a template over pairs to a writer of so many characters.
+/// Writes a template with pairs to a writer of so many characters.
 fn written<'a>(
     alloc: Global,
     characters: usize,
@@ -138,8 +134,9 @@ fn written<'a>(
     pairs: &'a [(&'a str, Formattable<'a, Datum<'a>>)],
 ) -> Result<String, Error>
     ensures ok { IfOk result (λ text.
-        IsWhole template.now pairs.now (chars (string_bytes text))) }
-    ensures err { IfErr result (λ error. FailsOfMemory template.now pairs.now error) }
+        IsWhole template.now (found_by_pairs pairs.now) (chars (string_bytes text))) }
+    ensures err { IfErr result (λ error.
+        FailsOfMemory template.now (found_by_pairs pairs.now) error) }
 {
     let mut out = Bounded::new(alloc, characters.saturating_mul(CHARACTER));
     let answer = Pairs(pairs).write_template_to(alloc, &mut out, template);
@@ -152,7 +149,7 @@ fn written<'a>(
     }
 }
 
-/// Checks a template over pairs, weighs it, and writes it.
+/// Checks a template with pairs, weighs it, and writes it.
 fn decided<'a>(
     alloc: Global,
     allowed: &Allowed,
@@ -160,11 +157,11 @@ fn decided<'a>(
     pairs: &'a [(&'a str, Formattable<'a, Datum<'a>>)],
 ) -> Result<String, Refused>
     ensures ok { IfOk result (λ text.
-        IsWhole template.now pairs.now (chars (string_bytes text))) }
-    ensures cost { OnOk result
-        (Affords allowed.now.most (told_cost allowed.now.values template.now)) }
+        IsWhole template.now (found_by_pairs pairs.now) (chars (string_bytes text))) }
+    ensures accepted { OnOk result
+        (format_why allowed.now template.now (found_by_pairs pairs.now) ≡ None) }
     ensures err { IfErr result (λ refused.
-        RefusesOver allowed.now template.now pairs.now refused) }
+        Rejects (format_why allowed.now template.now (found_by_pairs pairs.now)) refused) }
 {
     Pairs(pairs).check_template(alloc, template)?;
     let cost = template.cost(&allowed.values);
@@ -175,15 +172,21 @@ fn decided<'a>(
     }
 }
 
-/// The text of a format over what words give, if all that it can cost within the limits of the
-/// values is allowed: then it is whole, and within that cost. The values are the format's sample.
+/// The text of a format with the values of words, if it has no fault with them and costs no more
+/// than is allowed: then it is whole, and within that cost. The values are the format's sample. Of
+/// two words of one name the last counts.
 ///
-/// Words past the limits of the values are refused first, then a format with a fault, and then one
-/// that costs too much. Of two words of a name the last counts.
+/// Format, words and limits determine the answer, unless memory runs out. What is rejected comes in
+/// this order, before anything is written:
+///
+/// 1. the first word with a value past the limits: a text by its characters, a list by its items,
+///    or else by the characters of its longest text;
+/// 2. the format's first fault, by itself or with the values;
+/// 3. its cost: characters, then pieces, then buffered characters.
 ///
 /// # Errors
 ///
-/// What is wrong with the format, or the count that is past its limit; or `NoMemory`.
+/// That fault, or that count with its limit; `NoMemory`.
 ///
 /// ```text
 /// served(alloc, &allowed, "{l:i({})(, )}", &words)    // of `a` and `b` under `l`: "a, b"
@@ -196,7 +199,8 @@ pub fn served(
 ) -> Result<String, Refused>
     ensures ok { IfOk result (λ text.
         IsServed allowed.now format.now words.now (chars (string_bytes text))) }
-    ensures err { IfErr result (λ refused. Refuses allowed.now format.now words.now refused) }
+    ensures err { IfErr result (λ refused.
+        Rejects (first_why allowed.now format.now words.now) refused) }
 {
     check_words(&allowed.values, words)?;
     let template = Template::parse(alloc, format)?;

@@ -1,8 +1,8 @@
-//! The values that a format is given.
+//! The values of words.
 ghost use Rattle.std.specs.Prelude.{◌≡◌, ◌↔◌, ◌≤◌, ℕ, All, FitsSigned, length};
 ghost use Rattle.std.specs.Int.{w128};
 ghost use Rattle.std.specs.Str.{chars};
-ghost use Rattle.strangers.specs.Values.{DatumWithin};
+ghost use Rattle.strangers.specs.Values.{DatumWithin, characters_of, longest_of};
 
 use interpolator::{Bits, Spec, Trait, Value, View};
 
@@ -28,7 +28,7 @@ impl<'a> Value for Datum<'a> {
     }
 }
 
-/// What a word gives.
+/// The value of a word.
 #[derive(Drop)]
 pub enum Given<'a> {
     /// One value.
@@ -37,16 +37,17 @@ pub enum Given<'a> {
     Many(Vec<Datum<'a>>),
 }
 
-/// A word: a name, and what is given under it.
+/// A word: a name, and the value under it.
 #[derive(Drop)]
 pub struct Word<'a> {
     pub name: &'a str,
     pub given: Given<'a>,
 }
 
-/// How many characters a value's text has. A number is no text.
+/// How many characters a value's text has. A number has no text.
 pub fn characters_of(value: &Datum<'_>) -> usize
-    ensures { (most : ℕ) → (result ≤ most) ↔ DatumWithin most value.now }
+    ensures count { result ≡ characters_of value.now }
+    ensures within { (most : ℕ) → (result ≤ most) ↔ DatumWithin most value.now }
 {
     match value {
         Datum::Text(text) => char_count(text),
@@ -62,7 +63,7 @@ fn char_count(text: &str) -> usize
     text.chars().count()
 }
 
-/// No text, and a number of 128 bits.
+/// None: a number of 128 bits is no text.
 fn characters_of_number(number: i128) -> usize
     ensures none { result ≡ 0 }
     ensures fits { FitsSigned w128 number }
@@ -73,7 +74,8 @@ fn characters_of_number(number: i128) -> usize
 
 /// How many characters the longest text has.
 pub fn longest_of(values: &[Datum<'_>]) -> usize
-    ensures { (most : ℕ) → (result ≤ most) ↔ All (DatumWithin most) values.now }
+    ensures count { result ≡ longest_of values.now }
+    ensures within { (most : ℕ) → (result ≤ most) ↔ All (DatumWithin most) values.now }
 {
     let mut longest = 0usize;
     for value in values {

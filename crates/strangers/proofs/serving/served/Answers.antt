@@ -1,13 +1,24 @@
-use Rattle.std.proofs.Common.{◌∙◌, ap, map}
+use Rattle.std.proofs.Common.{◌∙◌, ap, map, sym}
 use Rattle.strangers.specs.Values.{entry_named}
-use Rattle.strangers.proofs.WithinLemmas.{served_if_ok}
+use Rattle.strangers.proofs.WithinLemmas.{GiveWords, rejected_if_err, served_if_ok}
 use Rattle.strangers.proofs.serving.served.Goals as goal
 
 pub returns-clause-ok : goal.returns-clause-ok
 returns-clause-ok c =
+    let given : GiveWords c.args.words.now c.in_ok-pairs.pairs.items =
+    c.in_ok-pairs.ensures.ok ∙ ap (λ entries. map entry_named entries) c.as_slice.ensures.value
+    ∙ c.in_ok-entries.ensures.ok in
     served_if_ok c.args.allowed.now c.args.format.now c.args.words.now c.in_ok-pairs.pairs.items
-    c.decided.result c.in_ok-check_words.ensures
-    (c.in_ok-pairs.ensures.ok ∙ ap (λ entries. map entry_named entries) c.as_slice.ensures.value
-    ∙ c.in_ok-entries.ensures.ok)
+    given c.decided.result c.in_ok-check_words.ensures.within (sym c.in_ok-check_words.ensures.why)
     (rw (c.in_ok-template.ensures.template, c.as_slice-2.ensures.value) at c.decided.ensures.ok)
-    (rw (c.in_ok-template.ensures.template) at c.decided.ensures.cost)
+    (rw (c.in_ok-template.ensures.template, c.as_slice-2.ensures.value)
+    at c.decided.ensures.accepted)
+
+pub returns-clause-err : goal.returns-clause-err
+returns-clause-err c =
+    let given : GiveWords c.args.words.now c.in_ok-pairs.pairs.items =
+    c.in_ok-pairs.ensures.ok ∙ ap (λ entries. map entry_named entries) c.as_slice.ensures.value
+    ∙ c.in_ok-entries.ensures.ok in
+    rejected_if_err c.args.allowed.now c.args.format.now c.args.words.now
+    c.in_ok-pairs.pairs.items given c.decided.result (sym c.in_ok-check_words.ensures.why)
+    (rw (c.in_ok-template.ensures.template, c.as_slice-2.ensures.value) at c.decided.ensures.err)
