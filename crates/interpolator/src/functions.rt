@@ -132,6 +132,8 @@ pub(crate) fn write_counted<W: TextWrite, C: Context, L: Ledger>(
     ensures place { PlaceWithin (length format.now) (result_answer result) }
     ensures gone { tally.new ≤ tally.old + (text_work C.Object.shows
         (environment (C.finds context.now)) (outermost (chars format.now))).pieces }
+    ensures exact { IfOk result (λ _. tally.new ≡ tally.old + (text_work C.Object.shows
+        (environment (C.finds context.now)) (outermost (chars format.now))).pieces) }
     ensures within { (limits : Limits)
         → IsWithin C.Object.shows limits.text limits.items (environment (C.finds context.now))
         (asked_names (outermost (chars format.now)))

@@ -1,5 +1,6 @@
 //! Formats as methods of a context.
-ghost use Rattle.std.specs.Prelude.{◌≡◌, length, ◌<◌, ◌^◌, map, IfErr, IfOk};
+ghost use Rattle.std.specs.Prelude.{◌≡◌, length, ◌<◌, ◌^◌, map, IfErr, IfOk, Some};
+ghost use Rattle.std.specs.List.{All};
 ghost use Rattle.std.specs.Str.{chars};
 ghost use Rattle.interpolator_syntax.specs.At.{outermost};
 ghost use Rattle.interpolator_eval.specs.Meaning.AskedNames.{asked_names};
@@ -216,6 +217,8 @@ pub trait Interpolate: Context {
         ensures all { IfOk result (λ errors. map answer_of errors.items ≡ map fault
             (faults_over Self.Object.shows (Self.finds self.now)
             (outermost (chars template.now)))) }
+        ensures places { IfOk result (λ errors. All
+            (λ answer. PlaceWithin (length template.now) (Some answer)) (map answer_of errors.items)) }
         ensures refused { IfErr result (λ error. answer_of error ≡ no_memory) }
     {
         template.faults_in(alloc, self)

@@ -38,7 +38,7 @@ pub use explaining::{Source, explain, explain_in};
 pub use functions::{check, format, write};
 pub use interpolate::Interpolate;
 pub use interpolator_eval::{
-    Context, ContextMap, Formattable, NameMap, Pairs, chosen, is_name, items_of, rows_of,
+    Context, ContextMap, Formattable, NameMap, Pairs, Tally, chosen, is_name, items_of, rows_of,
 };
 pub use interpolator_render::{
     Alignment, Bits, Bounded, HexDebug, IoWriter, Refusal, RenderFault, Sign, Spec, TextBuffer,

@@ -1,5 +1,7 @@
 //! Formats that are read once and written many times.
-ghost use Rattle.std.specs.Prelude.{◌≡◌, ◌⊎◌, None, Some, length, map, option_map, IfErr, IfOk};
+ghost use Rattle.std.specs.Prelude.{◌≡◌, ◌+◌, ◌≤◌, ◌⊎◌, None, Some, length, map, option_map};
+ghost use Rattle.std.specs.Prelude.{IfErr, IfOk};
+ghost use Rattle.std.specs.List.{All};
 ghost use Rattle.std.specs.Str.{chars, IsUtf8};
 ghost use Rattle.interpolator_syntax.specs.Arguments.{argument_of};
 ghost use Rattle.interpolator_syntax.specs.At.{outermost};
@@ -7,14 +9,17 @@ ghost use Rattle.interpolator_syntax.specs.Faults.{answer_of, result_answer, fau
 ghost use Rattle.interpolator_syntax.specs.Faults.{PlaceWithin};
 ghost use Rattle.interpolator_eval.specs.Meaning.AskedNames.{asked_names};
 ghost use Rattle.interpolator_eval.specs.Meaning.Environments.{environment, cut};
+ghost use Rattle.interpolator_eval.specs.Meaning.Limits.{IsWithin};
 ghost use Rattle.interpolator_eval.specs.Meaning.Meanings.{means};
 ghost use Rattle.interpolator_eval.specs.Meaning.Outcomes.{Outcome, Formats};
+ghost use Rattle.interpolator_eval.specs.Meaning.Work.{text_work};
 ghost use Rattle.interpolator_eval.specs.Contexts.{found_by_pairs};
 ghost use Rattle.interpolator.specs.Prepared.Rows.{pair_names};
 ghost use Rattle.interpolator.specs.Template.AllArguments.{arguments_of};
 ghost use Rattle.interpolator.specs.Template.NodeChecks.{first_fault, text_faults};
 ghost use Rattle.interpolator.specs.Template.NodeCosts.{usize_cost, text_cost};
 ghost use Rattle.interpolator.specs.Template.NodeExtents.{forest_depth, forest_extent};
+ghost use Rattle.interpolator.specs.declared.template.cost.Limits.{Limits};
 ghost use Rattle.interpolator.specs.Template.NodeNames.{name_texts};
 ghost use Rattle.interpolator.specs.Template.NodePlaces.{argument_among};
 ghost use Rattle.interpolator.specs.Template.NodeSamples.{faults_over};
@@ -35,7 +40,7 @@ pub(crate) mod sample;
 pub(crate) mod telling;
 pub(crate) mod walk;
 
-use crate::functions::{format_pieces, write_pieces};
+use crate::functions::{format_pieces, write_counted, write_pieces};
 use crate::prepared::Prepared;
 use crate::prepared::row::names_of;
 use crate::template::arguments::push_arguments;
@@ -49,11 +54,12 @@ use crate::template::place::argument_among;
 use crate::template::sample::tell_pieces;
 use crate::template::telling::Telling;
 use crate::template::walk::{Visitor, walk_text};
-use interpolator_eval::{Context, Pairs, SampleEnvironment};
+use interpolator_eval::{Context, Pairs, SampleEnvironment, Tally};
 use interpolator_render::{TextWrite, Value};
 use interpolator_syntax::{Argument, Cursor, Error};
 use std::alloc::Global;
 use std::marker::Model;
+use std::sync::ledger::Ledger;
 
 /// A format that was read once: its text and its pieces.
 ///
@@ -118,8 +124,8 @@ impl Template {
 
     /// Writes what the format means in the context, as [`write`](crate::write) does with its text.
     ///
-    /// Memory is taken where `write` takes it, and for nothing else. If the values are within
-    /// limits, no more pieces are gone through than the [`cost`](Template::cost) for these limits.
+    /// Memory is taken where `write` takes it, and for nothing else. How many pieces are gone through
+    /// is what [`write_counted`](Template::write_counted) counts, by the same code.
     ///
     /// # Errors
     ///
@@ -145,6 +151,52 @@ impl Template {
         ensures place { PlaceWithin (length self.now) (result_answer result) }
     {
         write_pieces(alloc, out, self.text.as_str(), &self.pieces, context)
+    }
+
+    /// Writes what the format means in the context, as [`write`](Template::write) does, and counts
+    /// the pieces that it goes through. The count is for proofs: it has no code and takes no bytes.
+    ///
+    /// If `Ok` is returned, just the pieces that the format means in the context were counted:
+    /// literals in a row as one, braces and arguments, each as often as it is written, and one for
+    /// an item that is displayed plainly or whose format is empty. If an error is returned, no more
+    /// were. If the values are within limits, that is at most the `pieces` of
+    /// [`cost`](Template::cost) within these.
+    ///
+    /// # Errors
+    ///
+    /// Those of `write`.
+    ///
+    /// # Example
+    ///
+    /// ```text
+    /// let mut tally = Tally::<L>::open(blank);    // 0
+    /// template.write_counted(alloc, &mut out, &context, &mut tally)?;
+    /// // of `{l:i({})(, )}` and three items: 1 + 3 * 1 + 2 * 1
+    /// ```
+    pub fn write_counted<W: TextWrite, C: Context, L: Ledger>(
+        &self,
+        alloc: Global,
+        out: &mut W,
+        context: &C,
+        tally: &mut Tally<L>,
+    ) -> Result<(), Error>
+        ensures outcome { Outcome
+            (means C.Object.shows (environment (C.finds context.now)) (outermost (chars self.now)))
+            (W.written out.old) (W.written out.new) (result_answer result) }
+        ensures asked { let a = outermost (chars self.now) in Outcome
+            (means C.Object.shows (cut (environment (C.finds context.now)) (asked_names a)) a)
+            (W.written out.old) (W.written out.new) (result_answer result) }
+        ensures place { PlaceWithin (length self.now) (result_answer result) }
+        ensures exact { IfOk result (λ _. tally.new ≡ tally.old + (text_work C.Object.shows
+            (environment (C.finds context.now)) (outermost (chars self.now))).pieces) }
+        ensures gone { tally.new ≤ tally.old + (text_work C.Object.shows
+            (environment (C.finds context.now)) (outermost (chars self.now))).pieces }
+        ensures within { (limits : Limits)
+            → IsWithin C.Object.shows limits.text limits.items (environment (C.finds context.now))
+            (asked_names (outermost (chars self.now)))
+            → tally.new ≤ tally.old + (text_cost limits (outermost (chars self.now))).pieces }
+    {
+        write_counted(alloc, out, self.text.as_str(), &self.pieces, context, tally)
     }
 
     /// The text that it means, in a new `String`.
@@ -193,6 +245,7 @@ impl Template {
         ensures refused { IfErr result (λ error. (answer_of error ≡ no_memory)
             ⊎ AnswersFirst (faults_over V.shows (found_by_pairs sample.now.0.now)
             (outermost (chars self.now))) (Some (answer_of error))) }
+        ensures place { PlaceWithin (length self.now) (result_answer result) }
     {
         self.check_in(alloc, sample)?;
         let names = names_of(alloc, sample.0)?;
@@ -341,6 +394,8 @@ impl Template {
     pub fn faults_in<C: Context>(&self, alloc: Global, sample: &C) -> Result<Vec<Error>, Error>
         ensures all { IfOk result (λ errors. map answer_of errors.items ≡ map fault
             (faults_over C.Object.shows (C.finds sample.now) (outermost (chars self.now)))) }
+        ensures places { IfOk result (λ errors.
+            All (λ answer. PlaceWithin (length self.now) (Some answer)) (map answer_of errors.items)) }
         ensures refused { IfErr result (λ error. answer_of error ≡ no_memory) }
     {
         let mut telling = Telling::all(alloc);

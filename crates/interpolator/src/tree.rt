@@ -170,6 +170,10 @@ fn run_pieces<'t, 'a, W: TextWrite, C: Context, L: Ledger>(
         (environment_of C.finds environment.now)
         (before_list (as_forest (nodes_of source.entry.text.now source.entry.pieces.now)))).pieces
         + met_pieces result) }
+    ensures exact { IfOk result (λ _. tally.new ≡ tally.old + ((forest_work C.Object.shows
+        (environment_of C.finds environment.now)
+        (before_list (as_forest (nodes_of source.entry.text.now source.entry.pieces.now)))).pieces
+        + met_pieces result)) }
 {
     let text = source.text;
     let mut rest = source.pieces;

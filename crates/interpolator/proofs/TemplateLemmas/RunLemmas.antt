@@ -1,11 +1,11 @@
 -- What writing stored pieces needs to know of them: where their text is cut from, what they hold,
 -- and the outcome of pieces, from that of the first and that of the rest.
-use Rattle.std.proofs.Common.{◌≡◌, ◌∙◌, refl, sym, add-one, arith, ℕ, suc, ◌+◌, ◌-◌, ◌≤◌}
+use Rattle.std.proofs.Common.{◌≡◌, ◌≢◌, ◌∙◌, refl, sym, add-one, arith, ℕ, suc, ◌+◌, ◌-◌, ◌≤◌}
 use Rattle.std.proofs.Common.{Bool, true, false, not, ◌&&◌, nat_lt, List, [], ◌∷◌, take}
 use Rattle.std.proofs.Common.{ap, drop, get_or, Option, None, Some, IsSome, option_map}
 use Rattle.std.proofs.lemmas.List.{drop-map}
 use Rattle.std.specs.Global.{Box}
-use Rattle.std.specs.Prelude.{if◌then◌else◌}
+use Rattle.std.specs.Prelude.{if◌then◌else◌, is_some}
 use Rattle.std.specs.Str.{chars, IsUtf8, IsCharBoundary}
 use Rattle.interpolator_render.specs.declared.view.Trait.{Trait}
 use Rattle.interpolator_render.specs.declared.view.Trait.TheVariants as traits
@@ -28,7 +28,8 @@ use Rattle.interpolator_syntax.specs.Nodes.{Content, text_content, argument_cont
 use Rattle.interpolator_syntax.specs.Nodes.{target_value, target_list, as_forest, nodes}
 use Rattle.interpolator_eval.specs.Meaning.Meanings.{and_closed, bare_means, held_means}
 use Rattle.interpolator_eval.specs.Meaning.Meanings.{forest_means}
-use Rattle.interpolator_eval.specs.Meaning.Sources.{FirstAsks, asks_list, holds_list, unlisted_means}
+use Rattle.interpolator_eval.specs.Meaning.Sources.{FirstAsks, asks_list, first_holds, holds_list}
+use Rattle.interpolator_eval.specs.Meaning.Sources.{unlisted_means}
 use Rattle.interpolator.specs.Template.Stored.{may_cut, part, range_of, held_of, stored_held}
 use Rattle.interpolator.specs.Template.Stored.{branch_of, node_of, nodes_of, StandFor}
 use Rattle.interpolator.specs.Template.Stored.{forest_whole, node_whole}
@@ -209,6 +210,18 @@ module _ (bs : List ℕ) (x : Piece) where
       by_held (Some (argument_content start name spec bare q)) some place end kind item join =
           omega arith
       by_held (Some (fault_content f)) some place end kind item join = omega arith
+
+-- the first of pieces that fit their text holds something
+pub pieces_hold : (bs : List ℕ) (xs : List Piece) → forest_whole (as_forest (nodes_of bs xs)) ≡ true
+    → xs ≢ [] → first_holds (as_forest (nodes_of bs xs)) ≡ true
+pieces_hold bs [] whole some = absurd (some refl)
+pieces_hold bs (x ∷ xs) whole some =
+    let fits = (both (node_whole (node_of bs x)) (forest_whole (as_forest (nodes_of bs xs))) whole).0 in
+    rw (node_of_out bs x) (by_held (held_of bs x) (fits_text bs x fits).held)
+  where
+    by_held : (o : Option Content) → IsSome o → is_some o ≡ true
+    by_held None some = absurd (cc)
+    by_held (Some held) some = refl
 
 -- the first piece, if pieces begin with a list
 pub record FirstPiece (bs : List ℕ) (x : Piece) : Type 0 where

@@ -1,7 +1,8 @@
 -- The faults that a text has against a sample lie in it.
-use Rattle.std.proofs.Common.{◌≡◌, ℕ, ◌≤◌, Bool, true, false, List, [], ◌∷◌, ◌++◌, length}
-use Rattle.std.proofs.Common.{arith, subst, Option, Some, None}
-use Rattle.std.specs.List.{list_any}
+use Rattle.std.proofs.Common.{◌≡◌, ℕ, zero, ◌≤◌, Bool, true, false, List, [], ◌∷◌, ◌++◌, length}
+use Rattle.std.proofs.Common.{arith, subst, sym, map, suc, Option, Some, None}
+use Rattle.std.proofs.lemmas.List.Elements.{All-map}
+use Rattle.std.specs.List.{list_any, All}
 use Rattle.std.specs.Prelude.{⊤}
 use Rattle.std.specs.Str.{chars, IsUtf8}
 use Rattle.interpolator_render.specs.Views.{Shown}
@@ -122,12 +123,38 @@ module _ (n : ℕ) where
       let same : x ≡ f = cc in subst (λ g. fault_place g ≤ n) same w.0
   first_within fs (Some no_memory) w h = tt
 
+-- so each of them
+each_within : (n : ℕ) (fs : List Fault) → AllWithin n fs → All (λ f. fault_place f ≤ n) fs
+each_within n [] h k f l = absurd (omega (arith, l))
+each_within n (x ∷ fs) h zero f l = h.0
+each_within n (x ∷ fs) h (suc k) f l = each_within n fs h.1 k f (omega (arith, l))
+
+-- they lie in the text
+module _ {X : Type 0} (shows : X → Trait → Spec → Shown) (finds : List ℕ → Option (Slots X))
+    (bs : List ℕ) (utf8 : IsUtf8 bs) where
+  abbrev Faults : List Fault
+  Faults = faults_over shows finds (outermost (chars bs))
+
+  all_within : AllWithin (length bs) Faults
+  all_within =
+      let a = outermost (chars bs) in
+      forest_within (length bs) shows (as_forest (nodes a)) (sample finds)
+      (places_lie a (length bs) (omega (arith, size-chars bs utf8)))
+
+  pub all_lie_over : All (λ f. fault_place f ≤ length bs) Faults
+  all_lie_over = each_within (length bs) Faults all_within
+
+  -- and are told so
+  pub told_lie_over : (answers : List Answer) → answers ≡ map fault Faults
+      → All (λ answer. PlaceWithin (length bs) (Some answer)) answers
+  told_lie_over answers is =
+      subst (All (λ answer. PlaceWithin (length bs) (Some answer))) (sym is)
+      (All-map (λ answer. PlaceWithin (length bs) (Some answer)) fault Faults all_lie_over)
+
 -- the first of them lies in the text
 pub first_lies_over : {X : Type 0} (shows : X → Trait → Spec → Shown)
     (finds : List ℕ → Option (Slots X)) (bs : List ℕ) (r : Option Answer) → IsUtf8 bs
     → AnswersFirst (faults_over shows finds (outermost (chars bs))) r → PlaceWithin (length bs) r
 first_lies_over shows finds bs r utf8 told =
-    let a = outermost (chars bs) in
-    first_within (length bs) (faults_over shows finds a) r
-    (forest_within (length bs) shows (as_forest (nodes a)) (sample finds)
-    (places_lie a (length bs) (omega (arith, size-chars bs utf8)))) told
+    first_within (length bs) (faults_over shows finds (outermost (chars bs))) r
+    (all_within shows finds bs utf8) told

@@ -15,7 +15,8 @@ use Rattle.interpolator.specs.Template.NodeChecks.{node_faults, branch_faults, f
 use Rattle.interpolator.specs.Template.NodeChecks.{text_faults}
 use Rattle.interpolator.specs.Template.NodeChecks.{visit_faults, fault_list, own_fault}
 use Rattle.interpolator.specs.Template.NodeExtents.{node_depth, branch_depth, forest_depth}
-use Rattle.interpolator.specs.Template.NodeExtents.{visit_depth, inner_depth}
+use Rattle.interpolator.specs.Template.NodeExtents.{node_extent, branch_extent, forest_extent}
+use Rattle.interpolator.specs.Template.NodeExtents.{visit_depth, inner_depth, visit_extent}
 use Rattle.interpolator.specs.Template.NodeNames.{visit_asks}
 use Rattle.interpolator.specs.Template.Visits.{Visit, leave, Walks, inner, greatest}
 use Rattle.interpolator.specs.Template.Visits.{node_visits, branch_visits, forest_visits}
@@ -166,6 +167,35 @@ greatest_around asks xs ys z =
     let rest = greatest-append asks ys (z ∷ []) in
     omega (arith, all, rest)
 
+-- the greatest width or precision of pieces, by the walk
+mutual
+  node_wide : (spot : Spot) (x : Node)
+      → greatest visit_extent (node_visits spot x) ≡ node_extent x
+  node_wide spot (node place end kind held item join) =
+      omega (
+        arith,
+        greatest_around visit_extent (item_of spot item) (join_of spot join)
+            (leave spot (node place end kind held item join)),
+        branch_wide (inner true spot) item,
+        branch_wide (inner spot.in_item spot) join,
+      )
+
+  branch_wide : (spot : Spot) (x : Branch)
+      → greatest visit_extent (branch_visits spot x) ≡ branch_extent x
+  branch_wide spot no_branch = refl
+  branch_wide spot (branch xs) = forest_wide spot xs
+
+  forest_wide : (spot : Spot) (xs : Forest)
+      → greatest visit_extent (forest_visits spot xs) ≡ forest_extent xs
+  forest_wide spot no_nodes = refl
+  forest_wide spot (nodes_and x xs) =
+      omega (
+        arith,
+        greatest-append visit_extent (node_visits spot x) (forest_visits spot xs),
+        node_wide spot x,
+        forest_wide spot xs,
+      )
+
 -- how deep pieces are, by where they are
 mutual
   node_deep : (spot : Spot) (x : Node)
@@ -203,6 +233,10 @@ text_asks a = forest_names outermost_spot (as_forest (nodes a))
 
 pub text_tells : (a : At) → flat_map visit_faults (text_visits a) ≡ text_faults a
 text_tells a = forest_told outermost_spot (as_forest (nodes a)) (nodes_whole a)
+
+pub text_extent : (a : At)
+    → greatest visit_extent (text_visits a) ≡ forest_extent (as_forest (nodes a))
+text_extent a = forest_wide outermost_spot (as_forest (nodes a))
 
 pub text_depth : (a : At)
     → greatest visit_depth (text_visits a) ≡ forest_depth (as_forest (nodes a))

@@ -4,8 +4,7 @@ use Rattle.interpolator_render.specs.declared.view.Spec.{Spec}
 use Rattle.interpolator_syntax.specs.Nodes.{Node, node, Branch, no_branch, branch}
 use Rattle.interpolator_syntax.specs.Nodes.{Forest, no_nodes, nodes_and}
 use Rattle.interpolator_syntax.specs.Nodes.{Content, argument_content}
-use Rattle.interpolator.specs.Template.Visits.{Visit, enter, leave, greatest}
-use Rattle.interpolator.specs.Template.Visits.{forest_visits, outermost_spot}
+use Rattle.interpolator.specs.Template.Visits.{Visit, enter, leave}
 use Rattle.interpolator.specs.declared.template.piece.Form.{Form}
 use Rattle.interpolator.specs.declared.template.piece.Form.TheVariants as forms
 use Rattle.interpolator.specs.declared.template.piece.Piece.{Piece}
@@ -34,9 +33,21 @@ abbrev pub visit_extent : Visit → ℕ
 visit_extent (enter spot (node place end kind held item join)) = held_extent held
 visit_extent (leave spot x) = 0
 
--- the greatest width or precision of pieces, and of those in their groups
-abbrev pub forest_extent : Forest → ℕ
-forest_extent xs = greatest visit_extent (forest_visits outermost_spot xs)
+abbrev mutual
+  -- the greatest width or precision of a piece, and of those in its groups
+  pub node_extent : Node → ℕ
+  node_extent (node place end kind held item join) =
+      max (held_extent held) (max (branch_extent item) (branch_extent join))
+
+  -- that of the pieces of a group, 0 without it
+  pub branch_extent : Branch → ℕ
+  branch_extent no_branch = 0
+  branch_extent (branch xs) = forest_extent xs
+
+  -- that of pieces, and of those in their groups
+  pub forest_extent : Forest → ℕ
+  forest_extent no_nodes = 0
+  forest_extent (nodes_and x xs) = max (node_extent x) (forest_extent xs)
 
 abbrev mutual
   -- how deep groups are nested

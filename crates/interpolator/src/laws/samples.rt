@@ -1,6 +1,7 @@
 //! Laws of formats that were checked against a sample, each the contract of a small function.
 
-ghost use Rattle.std.specs.Prelude.{◌≡◌, ◌≢◌, IfErr, ℕ, ℤ, Bool, false, codes};
+ghost use Rattle.std.specs.Prelude.{◌≡◌, ◌≢◌, ◌≤◌, IfErr, ℕ, ℤ, Bool, false, codes, length};
+ghost use Rattle.std.specs.List.{All};
 ghost use Rattle.std.specs.Prelude.{List, [], ◌∷◌, Option, None, Some};
 ghost use Rattle.std.specs.Str.{chars};
 ghost use Rattle.std.specs.Borrow.{Bor};
@@ -12,7 +13,8 @@ ghost use Rattle.interpolator_render.specs.declared.view.Spec.{Spec};
 ghost use Rattle.interpolator_render.specs.declared.view.Trait.{Trait};
 ghost use Rattle.interpolator_render.specs.declared.view.Trait.TheVariants as traits;
 ghost use Rattle.interpolator_syntax.specs.At.{At, outermost};
-ghost use Rattle.interpolator_syntax.specs.Faults.{fmt, missing_trait_impl, missing_value, parse};
+ghost use Rattle.interpolator_syntax.specs.Faults.{fault_place, fmt, missing_trait_impl};
+ghost use Rattle.interpolator_syntax.specs.Faults.{missing_value, parse};
 ghost use Rattle.interpolator_syntax.specs.Faults.{unclosed, iter, answer_of, result_answer, no_memory};
 ghost use Rattle.interpolator_eval.specs.Meaning.AskedNames.{asked_names};
 ghost use Rattle.interpolator_eval.specs.Meaning.Environments.{Environment, environment};
@@ -54,6 +56,13 @@ pub fn a_checked_format_means_no_fault<S: Value, V: Value>()
         → faults_over S.shows finds a ≡ []
         → ResemblesOn S.shows V.shows e (environment finds) (asked_names a)
         → pads_a_list a ≡ false → (means V.shows e a).memory_points ≡ [] }
+{}
+
+/// Each fault that a format has by itself or with a sample has a place in its text, or just after
+/// it: at most as many bytes from the beginning as the text has.
+pub fn every_fault_lies_in_the_text<V: Value>(_text: &str)
+    ensures { (finds : List ℕ → Option (Slots V)) → All (λ f. fault_place f ≤ length _text.now)
+        (faults_over V.shows finds (outermost (chars _text.now))) }
 {}
 
 /// Writes a template that has no fault against a sample, in a context that resembles it: all is

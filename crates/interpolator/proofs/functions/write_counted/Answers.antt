@@ -61,3 +61,12 @@ returns-clause-within g c limits within =
     c.outermost-environment.ensures in
     let cost = text_at_most shows limits e a within in
     omega (arith, c.write_source-answer.ensures.gone, goes, cost.pieces)
+
+pub returns-clause-exact : goal.returns-clause-exact
+returns-clause-exact g c =
+    let e = environment (g.C.Context.finds c.args.context.now) in
+    let a = outermost (chars c.args.format.now) in
+    let shows = g.C.Object.Value.shows in
+    let goes = text_goes shows e _ c.args.format.now c.args.pieces.now a c.requires.pieces
+    c.outermost-environment.ensures in
+    rw (← goes) c.write_source-answer.ensures.exact

@@ -5,7 +5,7 @@ use Rattle.interpolator_eval.specs.Meaning.CodeEnvironments.{environment_of}
 use Rattle.interpolator_eval.specs.Meaning.Sources.{asks_list, from_list}
 use Rattle.interpolator_eval.proofs.MeaningLemmas.FirstPieceLemmas.{left_after, left_here, list_at}
 use Rattle.interpolator_eval.proofs.MeaningLemmas.FirstPieceLemmas.{piece_fault, piece_goes, piece_runs}
-use Rattle.interpolator_eval.proofs.MeaningLemmas.FirstPieceLemmas.{piece_stops}
+use Rattle.interpolator_eval.proofs.MeaningLemmas.FirstPieceLemmas.{none_gone, piece_stops}
 use Rattle.interpolator_eval.proofs.MeaningLemmas.SinkLemmas.{goes_on, same_then}
 use Rattle.interpolator.specs.Template.Stored.{forest_whole, node_of, node_whole, nodes_of}
 use Rattle.interpolator.proofs.TemplateLemmas.RunLemmas.{asks_form, first_list, piece_counts}
@@ -81,6 +81,23 @@ returns-then-branch-clause-met g c =
     let left = c.loop-piece.invariant.left
     ∙ ap (λ xs. from_list (as_forest (nodes_of bs xs))) split ∙ left_here first rest listed in
     (rw split form, rw (left, split) (first_list bs x after form fits.held))
+
+pub returns-then-branch-clause-exact : goal.returns-then-branch-clause-exact
+returns-then-branch-clause-exact g c =
+    let shows = g.C.Object.Value.shows in
+    let e = environment_of g.C.Context.finds c.args.environment.now in
+    let bs = c.args.source.text.now in
+    let x = c.in-Some.piece.now in
+    let after = c.in-Some.after.now in
+    let split : c.loop-piece.rest.now ≡ x ∷ after = search rules in
+    let first = node_of bs x in
+    let rest = as_forest (nodes_of bs after) in
+    let whole = both (node_whole first) (forest_whole rest) (rw split at c.loop-piece.invariant.whole) in
+    let fits = fits_text bs x whole.0 in
+    let listed : asks_list first ≡ true =
+    asks_form bs x fits.held ∙ c.in_ok-run_piece.ensures.list ∙ c.if-branch.true in
+    let none = none_gone first rest shows e listed in
+    omega (arith, rw split at c.loop-piece.invariant.gone, c.tick.ensures.one, none)
 
 pub loop-piece-preserved : goal.loop-piece-preserved
 loop-piece-preserved g c =

@@ -1,4 +1,4 @@
-use Rattle.std.proofs.Common.{◌≡◌, ◌+◌, ◌≤◌, length, Option, true}
+use Rattle.std.proofs.Common.{◌≡◌, ◌+◌, length, Option, true}
 use Rattle.interpolator_render.specs.Written.{Written}
 use Rattle.interpolator_syntax.specs.Faults.{Answer}
 use Rattle.interpolator_syntax.specs.Nodes.{as_forest, Forest}
@@ -13,7 +13,7 @@ use Rattle.interpolator.proofs.tree.run_pieces.Given as goal
 
 -- what was written, and then what the pieces that are left mean up to the first list, is what all
 -- of them mean; the first list is the same; and the pieces gone through so far and those that are
--- left are no more than all
+-- left are all of them
 abbrev pub invariant-loop-piece : goal.invariant-loop-piece
 invariant-loop-piece g l =
     let shows = g.C.Object.Value.shows in
@@ -30,7 +30,7 @@ invariant-loop-piece g l =
       same : SameEnd l.fn.sink l.sink;
       left : from_list all ≡ from_list rest;
       gone : l.tally + (forest_work shows e (before_list rest)).pieces
-          ≤ l.fn.tally + (forest_work shows e (before_list all)).pieces;
+          ≡ l.fn.tally + (forest_work shows e (before_list all)).pieces;
     }
 
 abbrev pub decreases-loop-piece : goal.decreases-loop-piece

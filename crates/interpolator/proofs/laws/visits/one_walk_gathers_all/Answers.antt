@@ -1,4 +1,5 @@
 use Rattle.interpolator.proofs.TemplateLemmas.VisitLemmas.{text_asks, text_tells, text_depth}
+use Rattle.interpolator.proofs.TemplateLemmas.VisitLemmas.{text_extent}
 use Rattle.interpolator.proofs.laws.visits.one_walk_gathers_all.Goals as goal
 
 pub returns-clause-names : goal.returns-clause-names
@@ -6,6 +7,9 @@ returns-clause-names c = text_asks
 
 pub returns-clause-faults : goal.returns-clause-faults
 returns-clause-faults c = text_tells
+
+pub returns-clause-extent : goal.returns-clause-extent
+returns-clause-extent c = text_extent
 
 pub returns-clause-depth : goal.returns-clause-depth
 returns-clause-depth c = text_depth

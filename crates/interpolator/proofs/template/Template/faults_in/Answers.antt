@@ -10,6 +10,7 @@ use Rattle.interpolator_eval.specs.Meaning.Samples.{sample_of, level_in}
 use Rattle.interpolator.specs.Template.NodeSamples.{faults_over}
 use Rattle.interpolator.specs.Template.Stored.{nodes_of}
 use Rattle.interpolator.proofs.TemplateLemmas.SampleWalkLemmas.{walk_whole, walk_deep, walk_tells}
+use Rattle.interpolator.proofs.TemplateLemmas.SamplePlaceLemmas.{told_lie_over}
 use Rattle.interpolator.proofs.TemplateLemmas.TellLemmas.{all_kept, only_memory}
 use Rattle.interpolator.proofs.template.Template.faults_in.Goals as goal
 
@@ -47,3 +48,9 @@ returns-in_err-tell_pieces-clause-refused g c =
     rw (err.1, err.2)
     (only_memory _ c.all-telling.result c.tell_pieces.new.telling a c.all-telling.ensures.all
     c.in_err-tell_pieces.ensures.tells)
+
+pub returns-clause-places : goal.returns-clause-places
+returns-clause-places g c =
+    let utf8 = subst IsUtf8 c.self.view_is (IsUtf8-string_bytes c.self.inside.text) in
+    told_lie_over g.C.Object.Value.shows (g.C.Context.finds c.args.sample.now) c.args.self.now utf8 _
+    (returns-clause-all g c)

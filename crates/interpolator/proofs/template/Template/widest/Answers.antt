@@ -1,9 +1,10 @@
-use Rattle.std.proofs.Common.{refl}
+use Rattle.std.proofs.Common.{refl, ◌∙◌}
 use Rattle.std.specs.Str.{chars}
 use Rattle.interpolator_syntax.specs.At.{outermost}
 use Rattle.interpolator.specs.Template.NodeExtents.{visit_extent}
 use Rattle.interpolator.specs.declared.template.extent.Widest.{Widest}
 use Rattle.interpolator.proofs.TemplateLemmas.ExtentLemmas.{text_greatest}
+use Rattle.interpolator.proofs.TemplateLemmas.VisitLemmas.{text_extent}
 use Rattle.interpolator.proofs.template.Template.widest.Goals as goal
 
 pub returns : goal.returns
@@ -11,4 +12,4 @@ returns c =
     let a = outermost (chars c.args.self.now) in
     let all = text_greatest {V = Widest} _ (λ v. v.0) visit_extent (λ old new x answer adds. adds)
     a _ _ _ refl c.in-Ok.ensures.walks in
-    record { widest = all.1 }
+    record { widest = all.1 ∙ text_extent a }

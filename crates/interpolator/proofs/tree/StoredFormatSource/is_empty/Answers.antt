@@ -1,0 +1,18 @@
+use Rattle.std.proofs.Common.{◌≡◌, true, List, [], ◌∷◌, length, refl}
+use Rattle.std.specs.Bool.{MatchBool, ◌==◌}
+use Rattle.interpolator_syntax.specs.Nodes.{as_forest, no_nodes}
+use Rattle.interpolator_eval.specs.Meaning.Sources.{first_holds}
+use Rattle.interpolator.specs.Template.Stored.{forest_whole, nodes_of}
+use Rattle.interpolator.specs.declared.template.piece.Piece.{Piece}
+use Rattle.interpolator.proofs.TemplateLemmas.RunLemmas.{pieces_hold}
+use Rattle.interpolator.proofs.tree.StoredFormatSource.is_empty.Goals as goal
+
+pub returns : goal.returns
+returns c = rw c.is_empty.ensures (by_pieces c.args.self.now.pieces.now c.args.self.now.fits)
+  where
+    by_pieces : (xs : List Piece)
+        → forest_whole (as_forest (nodes_of c.args.self.now.text.now xs)) ≡ true
+        → MatchBool (length xs == 0) (as_forest (nodes_of c.args.self.now.text.now xs) ≡ no_nodes)
+        (first_holds (as_forest (nodes_of c.args.self.now.text.now xs)) ≡ true)
+    by_pieces [] whole = refl
+    by_pieces (x ∷ xs) whole = pieces_hold _ (x ∷ xs) whole (λ e. cc)
