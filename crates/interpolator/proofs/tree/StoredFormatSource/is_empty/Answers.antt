@@ -1,4 +1,5 @@
-use Rattle.std.proofs.Common.{◌≡◌, true, List, [], ◌∷◌, length, refl}
+use Rattle.std.proofs.Common.{◌≡◌, arith, true, false, List, [], ◌∷◌, length, refl}
+use Rattle.std.proofs.lemmas.Bool.Decides.{nat_tests}
 use Rattle.std.specs.Bool.{MatchBool, ◌==◌}
 use Rattle.interpolator_syntax.specs.Nodes.{as_forest, no_nodes}
 use Rattle.interpolator_eval.specs.Meaning.Sources.{first_holds}
@@ -15,4 +16,6 @@ returns c = rw c.is_empty.ensures (by_pieces c.args.self.now.pieces.now c.args.s
         → MatchBool (length xs == 0) (as_forest (nodes_of c.args.self.now.text.now xs) ≡ no_nodes)
         (first_holds (as_forest (nodes_of c.args.self.now.text.now xs)) ≡ true)
     by_pieces [] whole = refl
-    by_pieces (x ∷ xs) whole = pieces_hold _ (x ∷ xs) whole (λ e. cc)
+    by_pieces (x ∷ xs) whole =
+        let some : (length (x ∷ xs) == 0) ≡ false = grind (arith, nat_tests) in
+        rw some (pieces_hold _ (x ∷ xs) whole (λ e. cc))
