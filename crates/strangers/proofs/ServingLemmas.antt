@@ -19,7 +19,6 @@ use Rattle.strangers.specs.Serving.{Affords, IsWithin, Rejects, Why, cost_why, c
 use Rattle.strangers.specs.Serving.{failed, fault_why, faults_with, meaning_over, shows}
 use Rattle.strangers.specs.Values.{Row}
 use Rattle.strangers.specs.declared.serving.Count.{Count}
-use Rattle.strangers.specs.declared.serving.Refused.{Refused}
 use Rattle.strangers.specs.declared.serving.Refused.TheVariants.{Format}
 
 none_some : {A : Type 0} (x : A) → None ≡ Some x → ⊥

@@ -25,8 +25,8 @@ use Rattle.interpolator.specs.declared.Trait.{Trait}
 use Rattle.interpolator.specs.declared.Trait.TheVariants.{Binary, Debug, Display, Iter}
 use Rattle.interpolator.specs.declared.Trait.TheVariants.{LowerExp, LowerHex, Octal}
 use Rattle.interpolator.specs.declared.Trait.TheVariants.{UpperExp, UpperHex}
-use Rattle.strangers.specs.Serving.{IsServed, IsWhole, Names, Rejects, Why, faults_with, first_why}
-use Rattle.strangers.specs.Serving.{format_why, meaning_over, shows, told_cost, why_of, words_why}
+use Rattle.strangers.specs.Serving.{IsServed, IsWhole, Names, Rejects, first_why}
+use Rattle.strangers.specs.Serving.{format_why, meaning_over, shows, told_cost, words_why}
 use Rattle.strangers.specs.Values.{DatumWithin, GivenWithin, Named, Row, WordsWithin, found_by_words}
 use Rattle.strangers.specs.Values.{given_tree, pair_named, word_named}
 use Rattle.strangers.proofs.ServingLemmas.{afforded, neither}

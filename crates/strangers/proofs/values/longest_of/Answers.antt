@@ -1,4 +1,4 @@
-use Rattle.std.proofs.Common.{arith, ◌+◌, ◌∙◌, ap, sym, subst}
+use Rattle.std.proofs.Common.{arith, ◌+◌, ◌∙◌, ap, subst}
 use Rattle.std.proofs.lemmas.List.{get_or_default, take_all}
 use Rattle.std.proofs.lemmas.List.Elements.{AllWithin-more, AllWithin-upto}
 use Rattle.strangers.proofs.ValueLemmas.{longest_more}
