@@ -1,4 +1,4 @@
--- What a command line is answered with.
+-- What the program does with a command line.
 use Rattle.std.specs.Prelude.{◌≡◌, ℕ, List, [], ◌∷◌, ◌++◌, All, Option, string_bytes}
 use Rattle.std.specs.Str.{chars}
 use Rattle.std.specs.Io.KnownBytes.{Keeps}
@@ -29,8 +29,8 @@ module _ {Z : Type 0} where
     pub spelled : string_bytes word ≡ bad
     pub none : ¬ (IsGood bad)
 
-  -- what a wrong command line is told: with no format, how the program is called, and with a bad
-  -- word, the first of them
+  -- what is written of a wrong command line: without a format, how the program is called; else the
+  -- first bad word
   pub data IsTold : List (String Z) → List ℕ → Type 0 where
     no_format : IsTold [] usage_line
     bad_word : {format : String Z} {words : List (String Z)} {bad : List ℕ} →
@@ -45,8 +45,8 @@ module _ {Z : Type 0} (out_old out_new err_old err_new : Option (List ℕ)) (sta
     pub runs : Runs out_old out_new err_old err_new status
         (means (λ view _ _. shown_as_value view) (environment finds) (outermost (chars format)))
 
-  -- a wrong command line was told what is wrong, at `err` and with status 2; a sound one was run,
-  -- or memory was wanted before that; a write that was refused makes the status 3
+  -- what is wrong with a wrong command line was written to `err`, with status 2; a sound one was
+  -- run, or memory ran out before that; after a failed write the status is 3
   pub data Answers : List (String Z) → Type 0 where
     wrong : {line : List (String Z)} {text : List ℕ} → IsTold line text →
         Keeps out_old out_new → Puts 2 err_old err_new text status → Answers line

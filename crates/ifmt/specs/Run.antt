@@ -11,7 +11,7 @@ use Rattle.interpolator.specs.Meaning.Meanings.{Meaning}
 abbrev pub line : List ℕ → List ℕ
 line text = text ++ (10 ∷ [])
 
--- what a bad word is answered with
+-- the complaint of a bad word
 abbrev pub complaint : List ℕ → List ℕ
 complaint word = line (codes "bad word: " ++ word)
 
@@ -19,23 +19,23 @@ complaint word = line (codes "bad word: " ++ word)
 abbrev pub usage_line : List ℕ
 usage_line = line (codes "usage: ifmt FORMAT [NAME=TEXT | NAME:=NUMBER | NAME[]=ITEM,ITEM..]")
 
--- a text was put down and the status is the wanted one, or it was refused, and the status is 3
+-- a text was written and the status is the wanted one, or the write failed, and the status is 3
 abbrev pub Puts : (wanted : ℕ) → (old new : Option (List ℕ)) → List ℕ → (status : ℕ) → Type 0
 Puts wanted old new text status = ((status ≡ wanted) × Appends old new text) ⊎ (status ≡ 3)
 
 -- the bytes that `out` and `err` are known to hold before and after a run, and its status
 module _ (out_old out_new err_old err_new : Option (List ℕ)) (status : ℕ) where
-  -- a text was put down at `out`, as a line, with status 0, and nothing at `err`
+  -- a text was written to `out`, as a line, with status 0, and nothing to `err`
   pub record Prints (text : List ℕ) : Type 0 where
     pub out : Puts 0 out_old out_new (line text) status
     pub err : Keeps err_old err_new
 
-  -- why there is no text was put down at `err`, as a line, with status 1, and nothing at `out`
+  -- why there is no text was written to `err`, as a line, with status 1, and nothing to `out`
   pub record Tells (why : Answer) : Type 0 where
     pub err : Puts 1 err_old err_new (line (answer_text why)) status
     pub out : Keeps out_old out_new
 
-  -- a meaning without fault was printed, or its fault was told, or that memory was wanted
+  -- a meaning without fault was printed, or its fault was reported, or that memory ran out
   pub data Runs (m : Meaning) : Type 0 where
     printed : m.fault ≡ None → Prints (encode_utf8_all (text_of m.text)) → Runs m
     told : {why : Fault} → m.fault ≡ Some why → Tells (fault why) → Runs m

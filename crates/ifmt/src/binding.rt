@@ -1,4 +1,4 @@
-//! What the words of a command line put under their names.
+//! The values that the words of a command line put under their names.
 
 ghost use Rattle.std.specs.Prelude.{◌≡◌, IfErr, IfOk, OnOk, List, map, string_bytes};
 ghost use Rattle.std.specs.List.{AllZip};
@@ -14,29 +14,29 @@ use crate::words::{Word, classify, items};
 use interpolator::{Bits, ContextMap, Error, Formattable, View};
 use std::alloc::Global;
 
-/// A word, and what its value shows.
+/// A word, and the views of its value.
 #[derive(Drop)]
 pub struct Object<'a> {
     /// The word, classified.
     pub word: Word<'a>,
-    /// Shows a text or a number.
+    /// The view of a text or a number.
     pub value: View<'a>,
-    /// Show the items of a list.
+    /// The views of the items of a list.
     pub items: Vec<View<'a>>,
 }
 
-/// A word with its object, lent, and the items of a list with their slots filled.
+/// A word with its value borrowed, and the items of a list with their slots filled.
 #[derive(Drop)]
 pub struct Entry<'a> {
     /// The word, classified.
     pub word: Word<'a>,
-    /// Shows a text or a number.
+    /// The view of a text or a number.
     pub value: &'a View<'a>,
     /// The items of a list.
     pub items: Vec<Formattable<'a, View<'a>>>,
 }
 
-/// Each word, classified, with its objects.
+/// Each word, classified, with the views of its value.
 ///
 /// # Errors
 ///
@@ -53,7 +53,7 @@ pub fn objects_of(alloc: Global, words: &[String]) -> Result<Vec<Object<'_>>, Er
     Ok(objects)
 }
 
-// A word with its objects.
+// A word with the views of its value.
 fn object_of<'a>(alloc: Global, word: Word<'a>) -> Result<Object<'a>, Error>
     ensures word { IfOk result (λ object. object.word ≡ word.entry) }
     ensures value { IfOk result (λ object. shown_as_value object.value ≡ object_shows word.entry) }
@@ -69,7 +69,7 @@ fn object_of<'a>(alloc: Global, word: Word<'a>) -> Result<Object<'a>, Error>
     })
 }
 
-// What a word's text or number shows; a word with neither shows nothing.
+// The view of a word's text or number; a word with neither has one that shows nothing.
 fn value_of<'a>(word: Word<'a>) -> View<'a>
     ensures { shown_as_value result ≡ object_shows word.entry }
 {
@@ -81,7 +81,7 @@ fn value_of<'a>(word: Word<'a>) -> View<'a>
     }
 }
 
-// What the items of a list word show; another word has none.
+// The views of the items of a list; another word has none.
 fn item_objects<'a>(alloc: Global, word: Word<'a>) -> Result<Vec<View<'a>>, Error>
     ensures ok { IfOk result (λ objects.
         map shown_as_value objects.items ≡ items_show word.entry) }
@@ -101,7 +101,7 @@ fn item_objects<'a>(alloc: Global, word: Word<'a>) -> Result<Vec<View<'a>>, Erro
     }
 }
 
-// Each text, as an object.
+// Each text as a view.
 fn views_of<'a>(alloc: Global, texts: &[&'a str]) -> Result<Vec<View<'a>>, Error>
     ensures ok { IfOk result (λ objects.
         map shown_as_value objects.items ≡ texts_show (texts_of texts.now)) }
@@ -114,7 +114,7 @@ fn views_of<'a>(alloc: Global, texts: &[&'a str]) -> Result<Vec<View<'a>>, Error
     Ok(objects)
 }
 
-/// Each object, lent, with its items.
+/// Each word with its value borrowed, and its items.
 ///
 /// # Errors
 ///
@@ -134,7 +134,7 @@ pub fn entries_of<'e, 'a>(alloc: Global, objects: &'e [Object<'a>]) -> Result<Ve
     Ok(entries)
 }
 
-// Each object as an item: its slots of debug and display are filled.
+// Each view as an item of a list, which fills the slots of debug and display.
 fn as_items<'a, V>(alloc: Global, objects: &'a [V]) -> Result<Vec<Formattable<'a, V>>, Error>
     ensures ok { IfOk result (λ items. map slots_of items.items ≡ item_slots objects.now) }
     ensures err { IfErr result (λ error. error ≡ NoMemory) }
@@ -146,8 +146,8 @@ fn as_items<'a, V>(alloc: Global, objects: &'a [V]) -> Result<Vec<Formattable<'a
     Ok(items)
 }
 
-/// Fills the slots of a word's name: a text those of debug and display, a number all of an integer,
-/// a list that of its items. The other slots stay as they were.
+/// Fills slots under a word's name: a text those of debug and display, a number all those of an
+/// integer, a list that of its items. The other slots stay as they were.
 ///
 /// # Errors
 ///

@@ -1,4 +1,4 @@
-//! A command line, answered.
+//! What the program does with a command line.
 
 ghost use Rattle.std.specs.Prelude.{◌≡◌, IfErr, IfOk, MatchBool, MatchOption, OnErr};
 ghost use Rattle.interpolator.specs.declared.Error.TheVariants.{NoMemory};
@@ -12,10 +12,10 @@ use interpolator::{ContextMap, Error};
 use std::alloc::Global;
 use std::io::Write;
 
-/// Answers a command line: a format and the words after it.
+/// Runs a command line: a format and the words after it.
 ///
-/// Without a format it writes the usage line, and at the first bad word a complaint, before any
-/// object is made. Gives the status of the program.
+/// Without a format it writes the usage line. If a word is bad, it complains of the first such
+/// word, and does not read the format. Returns the status of the program.
 pub fn answer<O: Write, E: Write>(alloc: Global, line: &[String], out: &mut O, err: &mut E) -> u8
     ensures { Answers (O.contents out.old) (O.contents out.new)
         (E.contents err.old) (E.contents err.new) result line.now }
@@ -32,7 +32,7 @@ pub fn answer<O: Write, E: Write>(alloc: Global, line: &[String], out: &mut O, e
     }
 }
 
-// The first word that means nothing.
+// The first bad word.
 fn first_bad(words: &[String]) -> Option<&str>
     ensures { MatchOption result (AllGood words.now) (λ bad. IsFirstBad words.now bad.now) }
 {
@@ -54,7 +54,7 @@ fn is_bad(word: &str) -> bool
     }
 }
 
-// Makes the objects of all words, then the context, and runs the format.
+// Makes a context of the values of all words, and runs the format.
 fn run_words<O: Write, E: Write>(
     alloc: Global,
     format: &str,

@@ -1,4 +1,4 @@
-//! `ifmt`: formats on the command line.
+//! `ifmt FORMAT [NAME=TEXT | NAME:=NUMBER | NAME[]=ITEM,ITEM..]`: formats on the command line.
 #![tactic(auto)]
 
 mod binding;
@@ -18,7 +18,7 @@ fn main(rt: HostRuntime) -> ExitCode {
         Err(error) if error.kind() == io::ErrorKind::OutOfMemory => {
             run::report(Err(Error::NoMemory), &mut out, &mut err)
         }
-        // An argument is no text, so there is no word to complain of.
+        // An argument is not UTF-8, so there is no word that a complaint could show.
         Err(_) => run::usage(&mut err),
     };
     ExitCode::from(status)

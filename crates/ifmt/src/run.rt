@@ -1,4 +1,4 @@
-//! The run of a format, and the lines that the program writes.
+//! Runs a format, and writes the lines of the program.
 
 ghost use Rattle.std.specs.Prelude.{◌≡◌, MatchResult, OnOk, string_bytes};
 ghost use Rattle.std.specs.Str.{chars};
@@ -23,10 +23,11 @@ const BAD_USE: u8 = 2;
 
 const REFUSED: u8 = 3;
 
-/// Formats, and then writes the text to `out`, or the fault's text to `err`, as a line.
+/// Formats, and then writes the text to `out`, or the text of the fault to `err`, as a line.
 ///
-/// Gives 0 if the text was written, 1 if there was a fault, and 3 if `out` or `err` refuses; how
-/// much went out is then open. What was written to is flushed, and the other is never touched.
+/// Returns 0 if the text was written, 1 if there was a fault or memory ran out, and 3 if the write
+/// failed; how much was written is then unknown. The writer that was used is flushed, and the other
+/// is not touched.
 pub fn run<C: Context, O: Write, E: Write>(
     alloc: Global,
     format: &str,
@@ -41,27 +42,27 @@ pub fn run<C: Context, O: Write, E: Write>(
     report(interpolator::format(alloc, format, context), out, err)
 }
 
-/// Writes how the program is called to `err`, as a line, and flushes.
+/// Writes the usage line to `err`, and flushes.
 ///
-/// Gives 2, or 3 if `err` refuses; how much went out is then open.
+/// Returns 2, or 3 if the write failed; how much was written is then unknown.
 pub fn usage<E: Write>(err: &mut E) -> u8
     ensures { Puts 2 (E.contents err.old) (E.contents err.new) usage_line result }
 {
     status_of(put_usage(err), BAD_USE)
 }
 
-/// Writes that a word is bad to `err`, as a line, and flushes.
+/// Writes a line to `err` which says that a word is bad, and flushes.
 ///
-/// Gives 2, or 3 if `err` refuses; how much went out is then open.
+/// Returns 2, or 3 if the write failed; how much was written is then unknown.
 pub fn complain<E: Write>(word: &str, err: &mut E) -> u8
     ensures { Puts 2 (E.contents err.old) (E.contents err.new) (complaint word.now) result }
 {
     status_of(put_complaint(word, err), BAD_USE)
 }
 
-/// Writes what a format gave: a text to `out`, or a fault to `err`, as a line, and flushes.
+/// Writes the result of formatting: a text to `out`, or an error to `err`, as a line, and flushes.
 ///
-/// Gives 0 for a text, 1 for a fault, and 3 if the write is refused.
+/// Returns 0 for a text, 1 for an error, and 3 if the write failed.
 pub fn report<O: Write, E: Write>(outcome: Result<String, Error>, out: &mut O, err: &mut E) -> u8
     ensures { MatchResult outcome
         (λ text. Prints (O.contents out.old) (O.contents out.new)
@@ -108,7 +109,7 @@ fn put_usage<E: Write>(err: &mut E) -> io::Result<()>
     err.flush()
 }
 
-// This status, or that of a refused write.
+// This status, or that of a failed write.
 fn status_of(written: io::Result<()>, status: u8) -> u8
     ensures { MatchResult written (λ _. result ≡ status) (λ _. result ≡ 3) }
 {

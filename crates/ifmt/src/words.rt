@@ -18,7 +18,7 @@ const PLUS: char = '+';
 
 const COMMA: char = ',';
 
-/// What a word of the command line gives to the format.
+/// The value that a word of the command line gives.
 #[derive(Clone, Copy, Debug, PartialEq, Eq)]
 pub enum Word<'a> {
     /// `NAME=TEXT`: a text under a name.
@@ -31,12 +31,12 @@ pub enum Word<'a> {
     Bad,
 }
 
-/// Tells what a word means.
+/// Classifies a word.
 ///
-/// It is cut at its first `=`. If the part before ends in `:`, the part after is a number: an
+/// It is split at its first `=`. If the part before ends in `:`, the part after is a number: an
 /// optional `-` and one or more ASCII digits within `i128`. If it ends in `[]`, the part after
 /// has the [`items`] of a list. Else the part after is a text. The name is what comes before the
-/// ending, and may be empty. Any other word is `Bad`.
+/// ending, and may be empty. A word without an `=`, or with no such number, is `Bad`.
 ///
 /// `a=b=c` is the text `b=c` under `a`, `n:=-12` the number -12 under `n`, and `l[]=a,b` the list
 /// of `a` and `b` under `l`.
@@ -49,7 +49,7 @@ pub fn classify(word: &str) -> Word<'_>
     }
 }
 
-// The word whose first `=` is between these parts.
+// The word whose first `=` is between these parts, classified.
 fn classify_parts<'a>(left: &'a str, right: &'a str) -> Word<'a>
     ensures { (assignment : Assignment) → PartsMean left.now right.now assignment
         ↔ (assignment_of result ≡ Some assignment) }
@@ -69,7 +69,7 @@ fn classify_parts<'a>(left: &'a str, right: &'a str) -> Word<'a>
     }
 }
 
-// The number that a text spells, if it spells one: what std parses, less a leading `+`.
+// The number that a text spells, if any: one that std parses, without a leading `+`.
 fn number_of(text: &str) -> Option<i128>
     ensures { (value : ℤ) → Spells text.now value ↔ (result ≡ Some value) }
 {
@@ -79,7 +79,7 @@ fn number_of(text: &str) -> Option<i128>
     text.parse::<i128>().ok()
 }
 
-/// The items of a list: the parts of its text between the commas, and none for the empty text.
+/// The items of a list: the parts of its text between commas. The empty text has none.
 ///
 /// `a,,b` has three: `a`, the empty text and `b`.
 ///
