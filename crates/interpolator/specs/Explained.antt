@@ -26,6 +26,13 @@ marked_bytes format place =
 abbrev pub line_of : List ℕ → ℕ → List ℕ
 line_of text number = get_or (lines text) (number - 1) []
 
+-- the line that has a byte of a text, as it is shown: if the byte is the newline after a carriage
+-- return, which `lines` cuts off, with a space in place of that
+abbrev pub line_with : List ℕ → (at : ℕ) → List ℕ
+line_with text at =
+    let line = line_of text (line_at text at) in
+    if nat_lt (length (chars line)) (column_at text at - 1) then line ++ codes " " else line
+
 -- how many characters of the line of this number, which has `count` of them, are before a byte of
 -- the text
 abbrev pub before_in_line : List ℕ → (number count place : ℕ) → ℕ
@@ -33,11 +40,10 @@ before_in_line text number count place =
     if nat_lt (line_at text place) number then 0
     else (if nat_lt number (line_at text place) then count else column_at text place - 1)
 
--- the line of a source that has a byte of its text, with these bytes of its format marked
-abbrev pub excerpt_at : Source → (at : ℕ) → ℕ × ℕ → Excerpt
-excerpt_at s at marked =
+-- a line of a source, which has a byte of its text, with these bytes of its format marked
+abbrev pub excerpt_in : Source → (line : List ℕ) → (at : ℕ) → ℕ × ℕ → Excerpt
+excerpt_in s line at marked =
     let number = line_at s.text.now at in
-    let line = chars (line_of s.text.now number) in
     excerpt_of line (column_at s.text.now at - 1)
     (before_in_line s.text.now number (length line) (usize_sum s.start marked.0))
     (before_in_line s.text.now number (length line) (usize_sum s.start marked.1))
@@ -47,12 +53,16 @@ abbrev pub head : List ℕ → (number column : ℕ) → List ℕ → List ℕ
 head name number column what =
     name ++ (codes ":" ++ (position_text number column ++ (codes ": " ++ what)))
 
--- what is reported at a byte of the text, with the line that has it
-abbrev pub told_at : Source → (at : ℕ) → ℕ × ℕ → List ℕ → List ℕ
-told_at s at marked what =
+-- what is reported at a byte of the text, with this line
+abbrev pub told_in : Source → (line : List ℕ) → (at : ℕ) → ℕ × ℕ → List ℕ → List ℕ
+told_in s line at marked what =
     let number = usize_sum s.first_line (line_at s.text.now at - 1) in
     head s.name.now number (column_at s.text.now at) what
-    ++ (codes "\n" ++ picture number (excerpt_at s at marked))
+    ++ (codes "\n" ++ picture number (excerpt_in s (chars line) at marked))
+
+-- what is reported at a byte of the text, with the line that has it
+abbrev pub told_at : Source → (at : ℕ) → ℕ × ℕ → List ℕ → List ℕ
+told_at s at marked what = told_in s (line_with s.text.now at) at marked what
 
 -- what is reported at a byte of the format, or without a place
 abbrev pub explanation : Source → Option ℕ → List ℕ → List ℕ

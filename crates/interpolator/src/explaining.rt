@@ -1,7 +1,7 @@
 //! Faults as a compiler shows them.
 ghost use Rattle.std.specs.Prelude.{◌≡◌, ◌<◌, ◌++◌, codes, IfErr, IfOk, string_bytes};
 ghost use Rattle.interpolator.specs.Explained.{before_in_line, explanation_of, head as head_of};
-ghost use Rattle.interpolator.specs.Explained.{line_of, marked_bytes, told_at};
+ghost use Rattle.interpolator.specs.Explained.{line_of, marked_bytes, told_at, told_in};
 ghost use Rattle.interpolator_syntax.specs.Faults.{answer_of, no_memory};
 
 use crate::excerpt::{count_of, draw};
@@ -164,7 +164,8 @@ fn head(alloc: Global, name: &str, position: Position, what: &str) -> Result<Str
     Ok(head)
 }
 
-/// What is reported at a byte of the text, with the line that has it.
+/// What is reported at a byte of the text, with the line that has it. If the byte is the newline
+/// after a carriage return, a space stands for that, so that the mark is in the column reported.
 fn told_at(
     alloc: Global,
     source: &Source<'_>,
@@ -177,6 +178,28 @@ fn told_at(
 {
     let position = Position::of(source.text, at);
     let line = line_of(source.text, position.line);
+    if count_of(line) < position.column - 1 {
+        let line = format!(in alloc; "{line} ")?;
+        let told = told_in(alloc, source, line.as_str(), at, marked, what)?;
+        return Ok(told);
+    }
+    let told = told_in(alloc, source, line, at, marked, what)?;
+    Ok(told)
+}
+
+/// What is reported at a byte of the text, with this line.
+fn told_in(
+    alloc: Global,
+    source: &Source<'_>,
+    line: &str,
+    at: usize,
+    marked: (usize, usize),
+    what: &str,
+) -> Result<String, AllocError>
+    ensures { IfOk result (λ told.
+        string_bytes told ≡ told_in source.now line.now at marked what.now) }
+{
+    let position = Position::of(source.text, at);
     let count = count_of(line);
     let (from, to) = (
         source.start.saturating_add(marked.0),

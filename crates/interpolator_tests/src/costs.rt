@@ -1,9 +1,15 @@
-//! What formats cost at most: what is written of the greatest values is just that, and formats of
-//! strangers are told at once.
+//! What formats cost at most: the greatest values take just that, and it is known at once of formats
+//! whose output would be huge.
+
+ghost use Rattle.std.specs.Prelude.{◌≡◌, ◌<◌};
 
 use crate::report::Report;
-use interpolator::{Cost, Error, Formattable, Interpolate, Limits, Pairs, Template, View};
+use interpolator::{
+    Cost, Error, Formattable, Interpolate, Limits, Pairs, Tally, Template, TextBuffer, View,
+};
 use std::alloc::{AllocError, Global};
+use std::marker::Brand;
+use std::sync::ledger::{Blank, Ledger};
 
 /// A format, the limits, and what it costs.
 #[derive(Drop)]
@@ -172,6 +178,32 @@ fn long_joins(report: &mut Report) -> Result<(), Error> {
     Ok(())
 }
 
+/// The count of pieces has no code: what is written is what `write` writes.
+fn written_counted<L: Ledger>(report: &mut Report, blank: Blank) -> Result<(), Error>
+    requires name { blank.name ≡ L.name }
+    requires parts { blank.parts ≡ L.parts }
+    requires some { 0 < blank.parts }
+{
+    let alloc = report.alloc;
+    let views = [1i32, 2i32];
+    let items = [
+        Formattable::display(&views[0]),
+        Formattable::display(&views[1]),
+    ];
+    let context = [("l", Formattable::iter(&items))];
+    let template = Template::parse(alloc, "{l:i({})(, )}|")?;
+    let mut out = TextBuffer::new(alloc);
+    let mut tally = Tally::<L>::open(blank);
+    template.write_counted(alloc, &mut out, &Pairs(&context), &mut tally)?;
+    report.text("counted", "1, 2|", out.as_str());
+    Ok(())
+}
+
+/// The same, from a blank count.
+fn counted(report: &mut Report) -> Result<(), Error> {
+    written_counted::<Brand>(report, Blank::new(1))
+}
+
 pub fn run(report: &mut Report) {
     report.begin("costs");
     let answer = worked_costs(report);
@@ -182,4 +214,6 @@ pub fn run(report: &mut Report) {
     report.done("lists that double", answer);
     let answer = long_joins(report);
     report.done("long joins", answer);
+    let answer = counted(report);
+    report.done("a counted template", answer);
 }

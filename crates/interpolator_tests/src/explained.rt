@@ -64,6 +64,13 @@ fn faults_are_shown(report: &mut Report) {
         "f:1:3: error while formatting at 2: an error occurred when formatting an argument\n  |\n\
          1 | a\tb\n  |  \t^",
     );
+    check_shown(
+        report,
+        "ab\r\nc",
+        &Error::Fmt(fmt::Error, 3),
+        "f:1:4: error while formatting at 3: an error occurred when formatting an argument\n  |\n\
+         1 | ab \n  |    ^",
+    );
     check_shown(report, "x", &Error::NoMemory, "f: out of memory");
 }
 
