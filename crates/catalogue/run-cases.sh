@@ -8,15 +8,15 @@ set -u
 
 here=$(cd "$(dirname "$0")" && pwd)
 name=catalogue
-wanted=30
+wanted=34
 . "$here/../../.ci/cases.sh"
 
-# message WANTED WORD..: a message, which goes to the output, with status 0.
+# message WANTED WORD..: a message, which goes to standard output, with status 0.
 message() {
     case_of file file 0 "$1"$'\n' '' "${@:2}"
 }
 
-# told WANTED WORD..: what is wrong, which goes to the errors, with status 1.
+# told WANTED WORD..: what is wrong, which goes to standard error, with status 1.
 told() {
     case_of file file 1 '' "$1"$'\n' "${@:2}"
 }
@@ -36,6 +36,8 @@ all_cases() {
     told 'm.txt: no message `# greetings`' m.txt '# greetings'
     told 'a value is `NAME=TEXT`, `NAME:=NUMBER` or `NAME[]=ITEM,ITEM`' m.txt hello name
     told 'a value is `NAME=TEXT`, `NAME:=NUMBER` or `NAME[]=ITEM,ITEM`' m.txt hello name:=x
+    told 'a value is `NAME=TEXT`, `NAME:=NUMBER` or `NAME[]=ITEM,ITEM`' m.txt bye name=Ann 'a[b:=x'
+    message 'Bye,   Ann.' m.txt bye a:b=1 'a[b=1' 'a[][]=1' =1 'a[b:=1' name=Ann
     message 'Hello i!' m.txt hello a=1 b=2 c=3 d=4 e=5 f=6 g=7 h=8 name=i
     case_of closed file 3 '' '' m.txt hello name=Zoë
     case_of file full 3 '' '' m.txt gone
@@ -53,6 +55,28 @@ all_cases() {
         'broken.txt:6:4: error while parsing input: Format spec at 1 is nether closed with a `}`' \
         '  |' '6 | e={x:+#' '  |   ^^^^^')" \
         broken.txt a x=1
+
+    printf '%s\n' 'a = {q:+i}, {r:+i}{z' 'b(n:) = {m}{n:i}{n}' 'c = {x}' >faults.txt
+    told "$(printf '%s\n' \
+        'faults.txt:1:10: error while parsing input: Width, precision, `-`, `+` and `#` are not supported for `i` at 5' \
+        '  |' '1 | a = {q:+i}, {r:+i}{z' '  |     ^^^^^^' \
+        'faults.txt:1:18: error while parsing input: Width, precision, `-`, `+` and `#` are not supported for `i` at 13' \
+        '  |' '1 | a = {q:+i}, {r:+i}{z' '  |             ^^^^^^' \
+        'faults.txt:1:20: error while parsing input: Format spec at 15 is nether closed with a `}`' \
+        '  |' '1 | a = {q:+i}, {r:+i}{z' '  |                   ^^' \
+        'faults.txt:2:10: specified value not in context `m` at 1' \
+        '  |' '2 | b(n:) = {m}{n:i}{n}' '  |         ^^^' \
+        'faults.txt:2:16: trait `Iter` not implemented, used by format argument at 7' \
+        '  |' '2 | b(n:) = {m}{n:i}{n}' '  |            ^^^^^')" \
+        faults.txt c x=1
+
+    printf '%s\n' 'a(x[y:) = 1' 'b(x]) = 1' 'c(x)y = 1' 'd(x)(y) = 1' 'e(x, [] , :) = 1' \
+        'f( x ) = 1' >heads.txt
+    told "$(printf '%s\n' \
+        'heads.txt:3:2: declarations are `(NAME, NAME:, NAME[])`, each name once' \
+        'heads.txt:4:2: declarations are `(NAME, NAME:, NAME[])`, each name once' \
+        'heads.txt:5:6: declarations are `(NAME, NAME:, NAME[])`, each name once')" \
+        heads.txt f x=1
 
     printf '%s\n' 'é = {x' 'ok = {x}' 'ü = é{x}{y' >accents.txt
     told "$(printf '%s\n' \
@@ -88,7 +112,8 @@ all_cases() {
         '  |' '3 | c(l[]) = {l:i({:x})}' '  |               ^^^^' \
         'kinds.txt:4:11: declarations are `(NAME, NAME:, NAME[])`, each name once' \
         'kinds.txt:5:2: declarations are `(NAME, NAME:, NAME[])`, each name once' \
-        'kinds.txt:6:3: declarations are `(NAME, NAME:, NAME[])`, each name once' \
+        'kinds.txt:6:11: specified value not in context `n` at 1' \
+        '  |' '6 | f(n:x) = {n}' '  |          ^^^' \
         'kinds.txt:7:9: declarations are `(NAME, NAME:, NAME[])`, each name once')" \
         kinds.txt a name=Ann
     case_of file file 2 '' ''

@@ -10,15 +10,8 @@ use Rattle.std.specs.Str.{bytes_eq, chars, encode_utf8_all}
 use Rattle.interpolator.specs.Contexts.{found_by_pairs}
 use Rattle.interpolator.specs.Slots.{Slots, slots_of}
 use Rattle.interpolator.specs.declared.View.{View}
-use Rattle.interpolator.specs.At.{outermost}
-use Rattle.interpolator.specs.Faults.{Answer, Fault, fault, no_memory}
-use Rattle.interpolator.specs.Template.NodeChecks.{first_fault}
-use Rattle.interpolator.specs.Template.NodeSamples.{faults_over}
-use Rattle.interpolator.specs.Template.Telling.{AnswersFirst}
-use Rattle.catalogue.specs.Declarations.{these}
 use Rattle.catalogue.specs.Entries.{Holds, Pair}
-use Rattle.catalogue.specs.Examples.{IsExample, TellsFirst, example_slots, example_under, faults_of}
-use Rattle.catalogue.specs.Examples.{view_shows}
+use Rattle.catalogue.specs.Examples.{IsExample, example_slots, example_under}
 use Rattle.catalogue.specs.declared.entries.Object.{Object}
 use Rattle.catalogue.specs.declared.declarations.Kind.{Kind}
 
@@ -103,23 +96,3 @@ examples_give ds objects pairs h k = fun_ext (λ name. example_held _ _
     (λ pair. bytes_eq (encode_utf8_all name) pair.0.now)
     (λ d p is. ap (bytes_eq (encode_utf8_all name)) (sym is.0)) ds pairs
     (shown ds objects pairs h k)))
-
--- what a check of a format over pairs has told, that hold examples
-pub checked_over : (ds : List (List ℕ × Kind)) (objects : List Object) (pairs : List Pair)
-    (format : List ℕ) (told : Option Answer) → AllZip Holds objects pairs
-    → AnswersFirst (faults_over view_shows (found_by_pairs pairs) (outermost (chars format))) told
-    → AllZip IsExample ds objects → TellsFirst (faults_of (these ds) format) told
-checked_over ds objects pairs format None k h is =
-    rw (examples_give ds objects pairs is k) h
-checked_over ds objects pairs format (Some (fault f)) k h is =
-    rw (examples_give ds objects pairs is k) h
-checked_over ds objects pairs format (Some no_memory) k h is = tt
-
--- what a check of a format by itself has told
-pub checked_alone : (fs : List Fault) (told : Option Answer)
-    → told ≡ option_map fault (first_fault fs) → TellsFirst fs told
-checked_alone [] None e = refl
-checked_alone (f ∷ fs) None e = cc
-checked_alone [] (Some (fault g)) e = cc
-checked_alone (f ∷ fs) (Some (fault g)) e = cc
-checked_alone fs (Some no_memory) e = tt

@@ -10,14 +10,12 @@ use Rattle.interpolator.proofs.TemplateLemmas.ResembleLemmas.{no_fault}
 use Rattle.interpolator.proofs.TemplateLemmas.SamplePairLemmas.{kind_has_text}
 use Rattle.interpolator.specs.At.{outermost}
 use Rattle.interpolator.specs.Contexts.{found_by_pairs}
-use Rattle.interpolator.specs.Faults.{Fault}
 use Rattle.interpolator.specs.Meaning.AskedNames.{asked_names}
 use Rattle.interpolator.specs.Meaning.Environments.{environment}
 use Rattle.interpolator.specs.Meaning.Resembling.{HasText, Resembles, ResemblesFound, ResemblesOn}
 use Rattle.interpolator.specs.Meaning.Resembling.{ResemblesSlot, ResemblesSome}
 use Rattle.interpolator.specs.Slots.{empty_slots, listed_slots, slot_at, slots_listed, slots_of}
 use Rattle.interpolator.specs.Slots.{values_of, with_debug_display, with_integer}
-use Rattle.interpolator.specs.Template.NodeChecks.{first_fault}
 use Rattle.interpolator.specs.Texts.{view_text}
 use Rattle.interpolator.specs.Views.{Shown, one_character, shown_as_value, signed_number, some_text}
 use Rattle.interpolator.specs.declared.Bits.TheVariants.{B128}
@@ -183,11 +181,6 @@ names_alike ds pairs (name ∷ names) h = (
   names_alike ds pairs names h,
 )
 
--- no first fault is no fault
-no_first : (fs : List Fault) → first_fault fs ≡ None → fs ≡ []
-no_first [] e = refl
-no_first (f ∷ fs) e = cc
-
 -- what words give is given
 pub all_given : {W : Type 0} (bytes : W → List ℕ) (words : List W) (objects : List Object)
     → AllZip (λ word object. Gives (bytes word) object) words objects → All IsGiven objects
@@ -198,11 +191,11 @@ all_given bytes (w ∷ ws) (o ∷ os) h =
 
 -- a format that has no fault over examples has none over what is picked of given values
 pub none_fails : (format : List ℕ) (ds : List (List ℕ × Kind)) (objects picked : List Object)
-    (pairs : List Pair) → first_fault (faults_of (these ds) format) ≡ None → All IsGiven objects
+    (pairs : List Pair) → faults_of (these ds) format ≡ [] → All IsGiven objects
     → AllZip (IsPicked objects) ds picked → AllZip Holds picked pairs
     → (message_means format pairs).fault ≡ None
 none_fails format ds objects picked pairs sound g h k =
     no_fault view_shows view_shows (example_under ds) (environment (found_by_pairs pairs))
-    (outermost (chars format)) (no_first _ sound)
+    (outermost (chars format)) sound
     (names_alike ds pairs (asked_names (outermost (chars format)))
     (all_alike objects ds picked pairs g h k))

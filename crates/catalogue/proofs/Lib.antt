@@ -3,8 +3,11 @@ pub mod MessageLemmas
 pub mod PartLemmas
 pub mod ExampleLemmas
 pub mod EntryLemmas
-pub mod PlaceLemmas
+pub mod OwnLemmas
+pub mod EndingLemmas
 pub mod WordLemmas
 pub mod KindLemmas
 pub mod SoundLemmas
 pub mod PickLemmas
+pub mod ToldLemmas
+pub mod ReplyLemmas

@@ -12,7 +12,7 @@ use Rattle.std.proofs.lemmas.List.Elements.{All-append, All-cons}
 use Rattle.std.proofs.lemmas.Slice.Zip.{all_zipped_more}
 use Rattle.catalogue.specs.Declarations.{Declared, nothing, these, broken}
 use Rattle.catalogue.specs.Messages.{IsSound, IsSoundOver, is_under, last_under, told_of_line}
-use Rattle.catalogue.specs.Messages.{declared_of, format_of, told_of_format}
+use Rattle.catalogue.specs.Messages.{declared_of, format_of, told_of_fault, told_of_faults}
 use Rattle.catalogue.specs.Messages.{told_of_message}
 use Rattle.catalogue.specs.Words.{HasEquals}
 use Rattle.catalogue.specs.Messages.{told_of_lines, numbered, source_of, what_is_declared}
@@ -65,7 +65,7 @@ numbers_more n (y ∷ ys) x = let e : n + 1 + length ys ≡ n + length (y ∷ ys
     ∙ ap {B = List (ℕ × List ℕ)} (λ k. enumerate_from (n + 1) ys ++ ((k, x) ∷ [])) e)
 
 module _ (file key : List ℕ) (xs : List (List ℕ)) (x : List ℕ) where
-  -- what is told of lines and one more
+  -- what is reported of lines and one more
   pub told_more : told_of_lines file (xs ++ (x ∷ []))
       ≡ told_of_lines file xs ++ told_of_line file (1 + length xs) x
   told_more =
@@ -125,13 +125,13 @@ module _ (file key : List ℕ) (seen : List (Bor (List ℕ))) (line : Bor (List 
   its_number : 1 + length texts ≡ number + 1
   its_number = let n = length-map seen (λ (x : Bor (List ℕ)). x.now) in omega arith
 
-  -- what is told of them
+  -- what is reported of them
   pub told_next : told ≡ told_of_lines file texts → more ≡ told_of_line file (number + 1) line.now
       → new ≡ told_of_lines file (map (λ x. x.now) (seen ++ (line ∷ [])))
   told_next so_far one =
       rw (one_text, told_more file key texts line.now, its_number, pushed, so_far, one) refl
 
-  -- nothing is told of them
+  -- nothing is reported of them
   pub before_clean : length new ≡ 0 → length told ≡ 0
   before_clean h = let n = ap length pushed in let m = length-append told more in omega arith
 
@@ -160,25 +160,27 @@ module _ (file key : List ℕ) (seen : List (Bor (List ℕ))) (line : Bor (List 
       (with_format_of (is_under key line.now) (number + 1) line.now (last_under key texts)))
 
 module _ (file : List ℕ) (number : ℕ) (line format : List ℕ) where
-  -- nothing is told only if there is no fault
-  clean_format : (o : Option Fault) → length (told_of_format file number line format o) ≡ 0
-      → o ≡ None
-  clean_format None e = refl
-  clean_format (Some f) e =
+  -- nothing is reported only if there is no fault
+  clean_faults : (fs : List Fault) → length (told_of_faults file number line format fs) ≡ 0
+      → fs ≡ []
+  clean_faults [] e = refl
+  clean_faults (f ∷ fs) e =
       let some = ends_in_some (explanation_of (source_of file number line format) (fault f)) [] 10 in
-      absurd (omega (arith, e, some))
+      let all = length-append (told_of_fault file number line format (fault f))
+      (told_of_faults file number line format fs) in
+      absurd (omega (arith, e, some, all))
 
   -- nor is anything broken
   pub clean_message : (declared : Declared)
       → length (told_of_message file number line declared format) ≡ 0 → IsSoundOver declared format
-  clean_message nothing e = clean_format _ e
-  clean_message (these declared) e = clean_format _ e
+  clean_message nothing e = clean_faults _ e
+  clean_message (these declared) e = clean_faults _ e
   clean_message (broken place) e =
       let what = decimal number ++ (codes ":" ++ (decimal (column_at line place) ++ (codes ": "
       ++ (what_is_declared ++ codes "\n")))) in
       let some = ends_in_some file what 58 in absurd (omega (arith, e, some))
 
--- a line of which nothing is told is sound
+-- a line of which nothing is reported is sound
 pub sound_line : (file : List ℕ) (number : ℕ) (line format : List ℕ) (declared : Declared)
     (told : List ℕ) → HasEquals line → declared ≡ declared_of line → format ≡ format_of line
     → told ≡ told_of_message file number line declared format → length told ≡ 0 → IsSound line

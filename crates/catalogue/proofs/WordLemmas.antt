@@ -16,15 +16,11 @@ some_items (c ∷ cs) some = refl
 pub uncut : (word : List ℕ) → ¬ IsCut word → ¬ IsGood word
 uncut word none good = none (good.0, good.1, good.2)
 
--- what is there is the same
-same_value : {A : Type 0} (x y : A) → Some x ≡ Some y → x ≡ y
-same_value x y e = cc
-
 -- a word whose text is not of its kind gives nothing
 pub unfit : (word : List ℕ) (declared : List ℕ × Kind) (text : List ℕ) → Cuts word declared text
     → ¬ Fits declared.1 text → ¬ IsGood word
 unfit word declared text cuts none good =
-    let same = same_value good.0 declared (sym good.2.named ∙ cuts.named) in
+    let same = sym good.2.named ∙ cuts.named in
     let texts = good.2.text_after ∙ sym cuts.text_after in
     none (subst (λ d. Fits d.1 text) same (subst (λ t. Fits good.0.1 t) texts good.3))
 

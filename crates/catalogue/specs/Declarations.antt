@@ -1,5 +1,6 @@
 -- What the head of a line declares: names, each with a kind of value. Texts are bytes.
-use Rattle.std.specs.Prelude.{ℕ, Bool, not, ◌==◌, ◌-◌, nat_lt, List, [], ◌∷◌, ◌++◌, map, length}
+use Rattle.std.specs.Prelude.{ℕ, Bool, not, ◌==◌, ◌-◌, nat_lt, List, [], ◌∷◌, ◌++◌}
+use Rattle.std.specs.Prelude.{drop, length, map, take}
 use Rattle.std.specs.Prelude.{codes, if◌then◌else◌, Option, None, Some}
 use Rattle.std.specs.Option.{option_or}
 use Rattle.std.specs.List.{before_first, after_first, list_any, position_or_len, slice_split}
@@ -11,7 +12,7 @@ use Rattle.catalogue.specs.declared.declarations.Heading.TheVariants as headings
 use Rattle.catalogue.specs.declared.declarations.Kind.{Kind}
 use Rattle.catalogue.specs.declared.declarations.Kind.TheVariants as kinds
 
--- the signs `(`, `)`, `,`, `:` and `[`
+-- the characters `(`, `)` and `,`
 abbrev pub is_open : ℕ → Bool
 is_open b = b == 40
 
@@ -21,15 +22,9 @@ is_close b = b == 41
 abbrev pub is_comma : ℕ → Bool
 is_comma b = b == 44
 
-abbrev pub is_colon : ℕ → Bool
-is_colon b = b == 58
-
-abbrev pub is_bracket : ℕ → Bool
-is_bracket b = b == 91
-
--- such a sign is in the text
+-- such a character is in the text
 abbrev pub has : (ℕ → Bool) → List ℕ → Bool
-has is_sign text = nat_lt (position_or_len is_sign text) (length text)
+has is_such text = nat_lt (position_or_len is_such text) (length text)
 
 -- a name and the kind of value under it, borrows aside
 abbrev pub as_declaration : Declaration → List ℕ × Kind
@@ -39,31 +34,36 @@ as_declaration declared = (declared.name.now, declared.kind)
 abbrev pub if_whole : Bool → List ℕ × Kind → Option (List ℕ × Kind)
 if_whole whole declared = if whole then Some declared else None
 
--- the declaration that a text is: `name:` of a number, `name[]` of a list, else `name` of a text
-abbrev pub declaration_of : List ℕ → Option (List ℕ × Kind)
-declaration_of text =
-    if has is_colon text
-    then if_whole (length (after_first is_colon text) == 0)
-    (before_first is_colon text, kinds.Number)
-    else (if has is_bracket text
-    then if_whole (bytes_eq (after_first is_bracket text) (codes "]"))
-    (before_first is_bracket text, kinds.List)
-    else Some (text, kinds.Text))
+-- a text without an ending, if it ends so
+abbrev pub without : (ending text : List ℕ) → Option (List ℕ)
+without ending text =
+    if bytes_eq (drop (length text - length ending) text) ending
+    then Some (take (length text - length ending) text) else None
+
+-- the name and the kind by what is before `:`, and before `[]`, at the end of a text
+abbrev pub by_ending : List ℕ → (number list : Option (List ℕ)) → List ℕ × Kind
+by_ending text (Some name) list = (name, kinds.Number)
+by_ending text None (Some name) = (name, kinds.List)
+by_ending text None None = (text, kinds.Text)
+
+-- the name and the kind that a text gives: `name:` of a number, `name[]` of a list, else `name` of a
+-- text
+abbrev pub declaration_of : List ℕ → List ℕ × Kind
+declaration_of text = by_ending text (without (codes ":") text) (without (codes "[]") text)
 
 -- a declaration whose name is not empty
-abbrev pub named : Option (List ℕ × Kind) → Option (List ℕ × Kind)
-named None = None
-named (Some declared) = if_whole (not (length declared.0 == 0)) declared
+abbrev pub named : List ℕ × Kind → Option (List ℕ × Kind)
+named declared = if_whole (not (length declared.0 == 0)) declared
 
 -- the declaration between two commas
 abbrev pub part_of : List ℕ → Option (List ℕ × Kind)
 part_of part = named (declaration_of (trim part))
 
--- if the part at a byte begins, after the white space in front of it
+-- where the part at a byte begins, after the white space in front of it
 abbrev pub begin_of : ℕ → List ℕ → ℕ
 begin_of place part = usize_sum place (length part - length (trim_start part))
 
--- if the part after it is, with a comma between
+-- where the part after it is, with a comma between
 abbrev pub after_part : ℕ → List ℕ → ℕ
 after_part place part = usize_sum (usize_sum place (length part)) 1
 
@@ -71,22 +71,21 @@ after_part place part = usize_sum (usize_sum place (length part)) 1
 abbrev pub is_among : List (List ℕ × Kind) → List ℕ → Bool
 is_among seen name = list_any (λ one. bytes_eq name one.0) seen
 
--- if a part that begins at a byte is broken: it is no declaration, or its name is one of those seen
--- before it
+-- where a part begins, if it is broken: it is no declaration, or its name is one of those seen before
 abbrev pub broken_by : ℕ → List (List ℕ × Kind) → Option (List ℕ × Kind) → Option ℕ
 broken_by begin seen (Some declared) = if is_among seen declared.0 then Some begin else None
 broken_by begin seen None = Some begin
 
--- if the part at a byte is broken, if it is
+-- where the part at a byte begins, if it is broken
 abbrev pub broken_at : ℕ → List (List ℕ × Kind) → List ℕ → Option ℕ
 broken_at place seen part = broken_by (begin_of place part) seen (part_of part)
 
--- what there may be, as a list
+-- a declaration, if there is one, as a list
 abbrev pub as_list : Option (List ℕ × Kind) → List (List ℕ × Kind)
 as_list None = []
 as_list (Some declared) = declared ∷ []
 
--- if the first of some parts that is broken begins
+-- where the first broken part begins, if one is
 abbrev pub broken_from : ℕ → List (List ℕ × Kind) → List (List ℕ) → Option ℕ
 broken_from place seen [] = None
 broken_from place seen (part ∷ parts) = option_or (broken_at place seen part)
@@ -97,8 +96,8 @@ abbrev pub declarations : List (List ℕ) → List (List ℕ × Kind)
 declarations [] = []
 declarations (part ∷ parts) = as_list (part_of part) ++ declarations parts
 
--- what is declared: nothing, these names with their kinds, each once, or what is broken at a byte
--- of the line
+-- what is declared: nothing; these names with their kinds, each once; or that something is broken at
+-- a byte of the line
 pub data Declared : Type 0 where
   nothing : Declared
   these : List (List ℕ × Kind) → Declared
@@ -109,7 +108,7 @@ abbrev pub unless_broken : Option ℕ → List (List ℕ × Kind) → Declared
 unless_broken None declared = these declared
 unless_broken (Some place) declared = broken place
 
--- what is declared between brackets, of which the first part comes at a byte
+-- what is declared between brackets, of which the first part is at a byte
 abbrev pub declared_between : ℕ → List ℕ → Declared
 declared_between place inner =
     if length (trim inner) == 0 then these []

@@ -1,13 +1,13 @@
--- An example of what a line declares, and the first fault that its format has over that.
-use Rattle.std.specs.Prelude.{◌≡◌, ⊤, ℕ, pos, List, [], ◌∷◌, reverse, Option, None, Some}
+-- An example of what a line declares, and the faults that its format has with that.
+use Rattle.std.specs.Prelude.{◌≡◌, ℕ, Bool, true, false, pos, List, [], ◌∷◌, reverse, Option}
 use Rattle.std.specs.List.{find}
 use Rattle.std.specs.Option.{option_map}
 use Rattle.std.specs.Str.{bytes_eq, chars, encode_utf8_all}
 use Rattle.interpolator.specs.At.{outermost}
-use Rattle.interpolator.specs.Faults.{Answer, Fault, fault, no_memory}
+use Rattle.interpolator.specs.Faults.{Answer, Fault, fault, no_memory, parse, unsupported_option}
 use Rattle.interpolator.specs.Slots.{Slots, empty_slots, with_debug_display, with_integer}
 use Rattle.interpolator.specs.Slots.{with_iter}
-use Rattle.interpolator.specs.Template.NodeChecks.{first_fault, text_faults}
+use Rattle.interpolator.specs.Template.NodeChecks.{text_faults}
 use Rattle.interpolator.specs.Template.NodeSamples.{faults_over}
 use Rattle.interpolator.specs.Views.{Shown, shown_as_value}
 use Rattle.interpolator.specs.declared.Bits.TheVariants.{B128}
@@ -54,15 +54,37 @@ example_under declared name =
     option_map (λ one. example_slots one.1)
     (find (λ one. bytes_eq (encode_utf8_all name) one.0) (reverse declared))
 
--- the faults of a format: by itself, if nothing is declared, or over examples of what is declared
+-- the faults that a format has with examples of some declarations
+abbrev pub example_faults : List (List ℕ × Kind) → List ℕ → List Fault
+example_faults declared format =
+    faults_over view_shows (example_under declared) (outermost (chars format))
+
+-- the faults of a format: by itself, if nothing is declared, or with examples of what is declared
 abbrev pub faults_of : Declared → List ℕ → List Fault
 faults_of nothing format = text_faults (outermost (chars format))
-faults_of (these declared) format =
-    faults_over view_shows (example_under declared) (outermost (chars format))
+faults_of (these declared) format = example_faults declared format
 faults_of (broken place) format = []
 
--- the first of some faults was told, if there is one; or memory was refused
-abbrev pub TellsFirst : List Fault → Option Answer → Type 0
-TellsFirst fs None = first_fault fs ≡ None
-TellsFirst fs (Some (fault f)) = first_fault fs ≡ Some f
-TellsFirst fs (Some no_memory) = ⊤
+-- ---- how those are found
+
+-- a format has a fault by itself
+abbrev pub is_own : Fault → Bool
+is_own (parse f) = true
+is_own (unsupported_option option feature place) = true
+is_own _ = false
+
+abbrev pub is_own_reply : Answer → Bool
+is_own_reply (fault f) = is_own f
+is_own_reply no_memory = false
+
+-- the faults with examples; with none, if nothing is declared
+abbrev pub found_faults : Declared → List ℕ → List Fault
+found_faults nothing format = example_faults [] format
+found_faults (these declared) format = example_faults declared format
+found_faults (broken place) format = []
+
+-- a fault that was found is one of the line
+abbrev pub reply_counts : Declared → Answer → Bool
+reply_counts nothing reply = is_own_reply reply
+reply_counts (these declared) reply = true
+reply_counts (broken place) reply = true

@@ -1,4 +1,4 @@
--- What a file of messages says: its lines, their keys and formats, and a message. Texts are bytes.
+-- What a file of messages means: its lines, their keys and formats, and a message. Texts are bytes.
 use Rattle.std.specs.Prelude.{◌≡◌, ◌⊎◌, ℕ, Bool, true, not, ◌==◌, ◌&&◌, ◌||◌, ◌<◌, ◌-◌}
 use Rattle.std.specs.Prelude.{List, [], ◌++◌, map, length, reverse, codes, string_bytes}
 use Rattle.std.specs.Prelude.{if◌then◌else◌, Option, None, Some, IsSome, Ok}
@@ -18,10 +18,9 @@ use Rattle.interpolator.specs.Meaning.Environments.{environment}
 use Rattle.interpolator.specs.Meaning.Meanings.{Meaning, means}
 use Rattle.interpolator.specs.Meaning.Outcomes.{Formats}
 use Rattle.interpolator.specs.Positions.{column_at}
-use Rattle.interpolator.specs.Template.NodeChecks.{first_fault}
 use Rattle.catalogue.specs.Declarations.{Declared, nothing, these, broken, declared_in, has, key_in}
 use Rattle.catalogue.specs.Entries.{Holds, Pair}
-use Rattle.catalogue.specs.Examples.{faults_of, view_shows}
+use Rattle.catalogue.specs.Examples.{faults_of, reply_counts, view_shows}
 use Rattle.catalogue.specs.Picks.{ArePicked, IsLacking, told_of_lacking}
 use Rattle.catalogue.specs.Words.{Gives, HasEquals, IsGood, is_equals}
 use Rattle.catalogue.specs.declared.declarations.Kind.{Kind}
@@ -33,7 +32,7 @@ use Rattle.catalogue.specs.declared.messages.Answer.TheVariants.{Message, Faults
 abbrev pub hash : ℕ
 hash = 35
 
--- whether a line says nothing: it is blank, or begins with `#`
+-- whether a line is skipped: it is blank, or begins with `#`
 abbrev pub is_passed_over : List ℕ → Bool
 is_passed_over line = length (trim line) == 0 || slice_index line 0 == hash
 
@@ -45,7 +44,7 @@ head_of line = before_first is_equals line
 abbrev pub key_of : List ℕ → List ℕ
 key_of line = key_in (head_of line)
 
--- what a line declares that its format is given
+-- what a line declares
 abbrev pub declared_of : List ℕ → Declared
 declared_of line = declared_in (head_of line)
 
@@ -53,13 +52,13 @@ declared_of line = declared_in (head_of line)
 abbrev pub format_of : List ℕ → List ℕ
 format_of line = trim_start (after_first is_equals line)
 
--- a format has no fault: by itself, if nothing is declared, or over examples of what is declared
+-- a format has no fault: by itself, if nothing is declared, or with examples of what is declared
 abbrev pub IsSoundOver : Declared → List ℕ → Type 0
-IsSoundOver nothing format = first_fault (faults_of nothing format) ≡ None
-IsSoundOver (these declared) format = first_fault (faults_of (these declared) format) ≡ None
+IsSoundOver nothing format = faults_of nothing format ≡ []
+IsSoundOver (these declared) format = faults_of (these declared) format ≡ []
 IsSoundOver (broken place) format = ⊥
 
--- a line is sound: it says nothing, or nothing is broken in its head and its format has no fault
+-- a line is sound: it is skipped, or nothing in its head is broken and its format has no fault
 abbrev pub IsSound : List ℕ → Type 0
 IsSound line = (is_passed_over line ≡ true)
     ⊎ (HasEquals line × IsSoundOver (declared_of line) (format_of line))
@@ -80,16 +79,16 @@ last_under key some_lines = find (λ one. is_under key one.1) (reverse (numbered
 abbrev pub with_format : ℕ × List ℕ → ℕ × List ℕ × List ℕ × Declared
 with_format one = (one.0, one.1, format_of one.1, declared_of one.1)
 
--- what is told of something in a file: the file, the line's number, the column, and what it is
+-- what is reported of something in a file: the file, the line's number, the column, and what it is
 abbrev pub told_at : List ℕ → ℕ → ℕ → List ℕ → List ℕ
 told_at file number column what = file ++ (codes ":" ++ (decimal number ++ (codes ":"
     ++ (decimal column ++ (codes ": " ++ (what ++ codes "\n"))))))
 
--- a text that is lent, from wherever
+-- a borrowed text, at any address
 abbrev pub lent : List ℕ → Bor (List ℕ)
 lent text = record { ref_ptr = (0, 0); now = text }
 
--- a line of a file, which its format ends
+-- a line of a file that ends with its format
 abbrev pub source_of : List ℕ → ℕ → (line format : List ℕ) → Source
 source_of file number line format = record {
   name = lent file;
@@ -99,31 +98,40 @@ source_of file number line format = record {
   format = lent format;
 }
 
--- what is told of a fault of a line's format: the fault as it is shown in its line
+-- what is reported of a fault of a line's format: the fault as it is shown in its line
 abbrev pub told_of_fault : List ℕ → ℕ → (line format : List ℕ) → Reply → List ℕ
 told_of_fault file number line format why =
     explanation_of (source_of file number line format) why ++ codes "\n"
 
--- what is told if a line's format has a fault, or none
-abbrev pub told_of_format : List ℕ → ℕ → (line format : List ℕ) → Option Fault → List ℕ
-told_of_format file number line format None = []
-told_of_format file number line format (Some f) = told_of_fault file number line format (fault f)
+-- what is reported of the faults of a line's format: each of them, in their order
+abbrev pub told_of_faults : List ℕ → ℕ → (line format : List ℕ) → List Fault → List ℕ
+told_of_faults file number line format fs =
+    concat (map (λ f. told_of_fault file number line format (fault f)) fs)
 
--- what is told of a broken declaration
+-- what is reported of a fault that was found, if it is one of the line; and of several
+abbrev pub told_of_reply : List ℕ → ℕ → (line format : List ℕ) → Declared → Reply → List ℕ
+told_of_reply file number line format declared why =
+    if reply_counts declared why then told_of_fault file number line format why else []
+
+abbrev pub told_of_replies : List ℕ → ℕ → (line format : List ℕ) → Declared → List Reply → List ℕ
+told_of_replies file number line format declared whys =
+    concat (map (told_of_reply file number line format declared) whys)
+
+-- what is reported of a broken declaration
 abbrev pub what_is_declared : List ℕ
 what_is_declared = codes "declarations are `(NAME, NAME:, NAME[])`, each name once"
 
--- what is told of a line's message: a broken declaration, or its format's first fault
+-- what is reported of a line's message: a broken declaration, or its format's faults
 abbrev pub told_of_message : List ℕ → ℕ → (line : List ℕ) → Declared → (format : List ℕ) → List ℕ
 told_of_message file number line nothing format =
-    told_of_format file number line format (first_fault (faults_of nothing format))
+    told_of_faults file number line format (faults_of nothing format)
 told_of_message file number line (these declared) format =
-    told_of_format file number line format (first_fault (faults_of (these declared) format))
+    told_of_faults file number line format (faults_of (these declared) format)
 told_of_message file number line (broken place) format =
     told_at file number (column_at line place) what_is_declared
 
--- what is told of a line: nothing of one that is sound; else that it has no `=`, or the fault of
--- its message
+-- what is reported of a line: nothing, if it is sound; else that it has no `=`, or what is wrong
+-- with its message
 abbrev pub told_of_line : List ℕ → ℕ → List ℕ → List ℕ
 told_of_line file number line =
     if is_passed_over line then []
@@ -131,7 +139,7 @@ told_of_line file number line =
     then told_of_message file number line (declared_of line) (format_of line)
     else told_at file number 1 (codes "no `=`"))
 
--- what is told of the lines of a file, in their order
+-- what is reported of the lines of a file, in their order
 abbrev pub told_of_lines : List ℕ → List (List ℕ) → List ℕ
 told_of_lines file some_lines =
     concat (map (λ one. told_of_line file one.0 one.1) (numbered some_lines))
@@ -140,52 +148,52 @@ told_of_lines file some_lines =
 abbrev pub HoldAll : List Object → List Pair → Type 0
 HoldAll objects pairs = AllZip Holds objects pairs
 
--- what a format means over pairs
+-- what a format means with pairs
 abbrev pub message_means : List ℕ → List Pair → Meaning
 message_means format pairs =
     means view_shows (environment (found_by_pairs pairs)) (outermost (chars format))
 
--- a message is what its format means over pairs that hold some objects: it has no fault there
+-- a message is what its format means with pairs that hold some objects, without fault
 pub record IsMade {Z : Type 0} (format : List ℕ) (objects : List Object) (message : String Z)
     : Type 0 where
   pub pairs : List Pair
   pub shown : HoldAll objects pairs
   pub said : Formats (message_means format pairs) (Ok message)
 
--- a format has a fault over pairs that hold some objects
+-- a format has a fault with pairs that hold some objects
 pub record HasFault (format : List ℕ) (objects : List Object) (f : Fault) : Type 0 where
   pub pairs : List Pair
   pub shown : HoldAll objects pairs
   pub told : (message_means format pairs).fault ≡ Some f
 
--- what is told of a format's fault: the fault as it is shown in its line
+-- what is reported of a format's fault: the fault as it is shown in its line
 pub record IsToldOf (file : List ℕ) (number : ℕ) (line format : List ℕ) (objects : List Object)
     (told : List ℕ) : Type 0 where
   pub f : Fault
   pub faulty : HasFault format objects f
   pub says : told ≡ told_of_fault file number line format (fault f)
 
--- a message, or what is told of its fault
+-- a message, or what is reported of its fault
 abbrev pub IsMadeOrTold : List ℕ → ℕ → (line format : List ℕ) → List Object → Answer → Type 0
 IsMadeOrTold file number line format objects (Message message) = IsMade format objects message
 IsMadeOrTold file number line format objects (Faults told) =
     IsToldOf file number line format objects (string_bytes told)
 
--- a message, or what is told, over what is picked of objects for what the line declares
+-- a message, or what is reported, with what is picked of objects for what the line declares
 pub record IsMadeOver (file : List ℕ) (number : ℕ) (line format : List ℕ) (declared : Declared)
     (objects : List Object) (answer : Answer) : Type 0 where
   pub picked : List Object
   pub are : ArePicked declared objects picked
   pub made : IsMadeOrTold file number line format picked answer
 
--- what is told of a declaration for which nothing is picked
+-- what is reported of a declaration for which nothing is picked
 pub record IsToldLacking (file : List ℕ) (number : ℕ) (key : List ℕ) (declared : Declared)
     (objects : List Object) (told : List ℕ) : Type 0 where
   pub lacking : List ℕ × Kind
   pub first : IsLacking declared objects lacking
   pub says : told ≡ told_of_lacking file number key lacking
 
--- what is answered of a line's message: the message, what value it lacks, or its fault
+-- what a line's message comes to: the message, the value that it lacks, or its fault
 abbrev pub Replies : List ℕ → ℕ → (line key format : List ℕ) → Declared → List Object → Answer
     → Type 0
 Replies file number line key format declared objects (Message message) =
@@ -199,13 +207,13 @@ abbrev pub GiveValues : {Y : Type 0} → List (String Y) → List Object → Typ
 GiveValues words objects =
     AllZip (λ word object. Gives (string_bytes word) object) words objects
 
--- what is told of a word that gives nothing
+-- what is reported of a word that gives nothing
 abbrev pub what_is_a_word : List ℕ
 what_is_a_word = codes "a value is `NAME=TEXT`, `NAME:=NUMBER` or `NAME[]=ITEM,ITEM`\n"
 
 module _ {Y : Type 0} (file text key : List ℕ) (words : List (String Y)) where
-  -- the message under a key of a file, over words: every line is sound, and the format of the last
-  -- line of the key was made over what is picked of what the words give
+  -- the message under a key of a file, with words: every line is sound, and the format of the last
+  -- line of the key was made with what is picked of what the words give
   pub record IsMessage {Z : Type 0} (message : String Z) : Type 0 where
     pub sound : All IsSound (lines text)
     pub number : ℕ
@@ -217,7 +225,7 @@ module _ {Y : Type 0} (file text key : List ℕ) (words : List (String Y)) where
     pub are : ArePicked (declared_of line) values picked
     pub made : IsMade (format_of line) picked message
 
-  -- lines are not sound: all of their faults are told
+  -- some line is not sound: all faults of all lines are reported
   pub record OfLines (told : List ℕ) : Type 0 where
     pub some : 0 < length told
     pub all : told ≡ told_of_lines file (lines text)
@@ -247,7 +255,7 @@ module _ {Y : Type 0} (file text key : List ℕ) (words : List (String Y)) where
     pub lacks : IsToldLacking file number key (declared_of line) values told
 
   -- every line is sound, and the format of the last line of the key, which declares nothing, has a
-  -- fault over what the words give
+  -- fault with what the words give
   pub record OfMessage (told : List ℕ) : Type 0 where
     pub sound : All IsSound (lines text)
     pub number : ℕ
@@ -258,8 +266,8 @@ module _ {Y : Type 0} (file text key : List ℕ) (words : List (String Y)) where
     pub given : GiveValues words values
     pub faulty : IsToldOf file number line (format_of line) values told
 
-  -- what is answered: the message; or what is wrong with the lines, else the key, a word, a value
-  -- that is lacking, or the message, if its line declares nothing
+  -- the answer: the message; or what is wrong with the lines, else the key, a word, a value that is
+  -- missing, or the message, if its line declares nothing
   abbrev pub Answers : Answer → Type 0
   Answers (Message message) = IsMessage message
   Answers (Faults told) = OfLines (string_bytes told) ⊎ OfKey (string_bytes told)

@@ -1,4 +1,4 @@
--- What a format is given of the values of words: for each name that its line declares, the last.
+-- The values that a format gets: for each name that its line declares, that of the last word.
 use Rattle.std.specs.Prelude.{◌≡◌, ℕ, List, ◌∷◌, ◌++◌, codes, Option, Some, reverse}
 use Rattle.std.specs.Fmt.{decimal}
 use Rattle.std.specs.List.{All, AllZip, find}
@@ -68,14 +68,14 @@ IsPickedOrLacks declared objects (Values entries) = LendsPicked declared objects
 IsPickedOrLacks declared objects (Lacks lacking) =
     IsLacking declared objects (as_declaration lacking)
 
--- how a word goes on after its name
+-- what follows the name in a word
 abbrev pub shape_of : Kind → List ℕ
 shape_of kinds.Text = codes "=TEXT"
 shape_of kinds.Number = codes ":=NUMBER"
 shape_of kinds.List = codes "[]=ITEM,ITEM"
 
--- what is told of a line's message that lacks a value: the file, the line's number, the key, and
--- what word is wanted
+-- what is reported of a line's message that lacks a value: the file, the line's number, the key,
+-- and which word is missing
 abbrev pub told_of_lacking : List ℕ → ℕ → List ℕ → List ℕ × Kind → List ℕ
 told_of_lacking file number key lacking =
     file ++ (codes ":" ++ (decimal number ++ (codes ": `" ++ (key ++ (codes "` wants `"

@@ -1,6 +1,6 @@
--- What the words give: a declaration of a name, `=`, and a text, a number or the items of a list.
+-- What the words give: a name with a kind, `=`, and a text, a number or the items of a list.
 use Rattle.std.specs.Prelude.{◌≡◌, ◌⊎◌, ⊤, ℕ, ℤ, pos, neg_ℤ, Bool, ◌==◌, ◌<◌, List, [], ◌∷◌, ◌++◌}
-use Rattle.std.specs.Prelude.{map, codes, FitsSigned, length, Some}
+use Rattle.std.specs.Prelude.{map, codes, FitsSigned, length}
 use Rattle.std.specs.Borrow.{Bor}
 use Rattle.std.specs.Int.{w128}
 use Rattle.std.specs.List.{after_first, before_first, position_or_len, slice_split}
@@ -62,13 +62,13 @@ items_in kinds.Text text = []
 items_in kinds.Number text = []
 items_in kinds.List text = texts_show (items_of text)
 
--- a word declares a name and a kind before its first `=`, and a text is after that
+-- a name and a kind are before the first `=` of a word, and a text is after it
 pub record Cuts (word : List ℕ) (declared : List ℕ × Kind) (text : List ℕ) : Type 0 where
   pub cut : HasEquals word
-  pub named : declaration_of (before_first is_equals word) ≡ Some declared
+  pub named : declaration_of (before_first is_equals word) ≡ declared
   pub text_after : text ≡ after_first is_equals word
 
--- a word declares something
+-- a word has an `=`
 abbrev pub IsCut : List ℕ → Type 0
 IsCut word = (declared : List ℕ × Kind) × (text : List ℕ) × Cuts word declared text
 

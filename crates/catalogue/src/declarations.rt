@@ -4,7 +4,8 @@ ghost use Rattle.std.specs.Prelude.{◌≡◌, ◌++◌, IfOk, OnOk, map};
 ghost use Rattle.std.specs.Option.{option_map};
 ghost use Rattle.std.specs.List.{list_any};
 ghost use Rattle.std.specs.Str.{bytes_eq, trim};
-ghost use Rattle.catalogue.specs.Declarations.{as_declaration, as_list, if_whole, declaration_of};
+ghost use Rattle.catalogue.specs.Declarations.{as_declaration, as_list};
+ghost use Rattle.catalogue.specs.Declarations.{declaration_of, if_whole, without};
 ghost use Rattle.catalogue.specs.Declarations.{part_of, begin_of, after_part, broken_at};
 ghost use Rattle.catalogue.specs.Declarations.{declared_by, declared_between, declared_after};
 ghost use Rattle.catalogue.specs.Declarations.{declared_in, key_in};
@@ -36,7 +37,7 @@ pub enum Heading<'a> {
     Plain,
     /// These, in their order.
     Declares(Vec<Declaration<'a>>),
-    /// At this byte of the line is what is no declaration, or declares a name again.
+    /// At this byte of the line something begins that is no declaration, or declares a name again.
     Broken(usize),
 }
 
@@ -51,37 +52,53 @@ fn if_whole(name: &str, kind: Kind, whole: bool) -> Option<Declaration<'_>>
     }
 }
 
-/// The declaration that a text is: `NAME:` of a number, `NAME[]` of a list of texts, else `NAME` of
-/// a text. A name has no `:` and no `[`.
-pub fn declaration_of(text: &str) -> Option<Declaration<'_>>
-    ensures { option_map as_declaration result ≡ declaration_of text.now }
+/// A text without an ending, if it ends so.
+fn without<'a>(ending: &str, text: &'a str) -> Option<&'a str>
+    ensures { option_map (λ x. x.now) result ≡ without ending.now text.now }
 {
-    if let Some((name, rest)) = text.split_once(':') {
-        return if_whole(name, Kind::Number, rest.is_empty());
-    }
-    if let Some((name, rest)) = text.split_once('[') {
-        return if_whole(name, Kind::List, rest == "]");
-    }
-    if_whole(text, Kind::Text, true)
+    text.strip_suffix(ending)
 }
 
-/// The declaration between two commas: white space around it is passed over, and its name is not
-/// empty.
+/// The name and the kind that a text gives: `NAME:` is a number, `NAME[]` a list of texts, and any
+/// other text is the name of a text. A word has such a text before its first `=`, and the head of a
+/// line such texts between its brackets.
+pub fn declaration_of(text: &str) -> Declaration<'_>
+    ensures { as_declaration result ≡ declaration_of text.now }
+{
+    if let Some(name) = without(":", text) {
+        return Declaration {
+            name,
+            kind: Kind::Number,
+        };
+    }
+    if let Some(name) = without("[]", text) {
+        return Declaration {
+            name,
+            kind: Kind::List,
+        };
+    }
+    Declaration {
+        name: text,
+        kind: Kind::Text,
+    }
+}
+
+/// The declaration between two commas, without the white space around it. Its name is not empty.
 fn part_of(part: &str) -> Option<Declaration<'_>>
     ensures { option_map as_declaration result ≡ part_of part.now }
 {
-    let declared = declaration_of(part.trim())?;
+    let declared = declaration_of(part.trim());
     if_whole(declared.name, declared.kind, !declared.name.is_empty())
 }
 
-/// If the part at a byte begins, after the white space in front of it.
+/// Where the part at a byte begins, after the white space in front of it.
 fn begin_of(place: usize, part: &str) -> usize
     ensures { result ≡ begin_of place part.now }
 {
     place.saturating_add(part.len().saturating_sub(part.trim_start().len()))
 }
 
-/// If the part after this one is.
+/// Where the part after this one is, with a comma between.
 fn after_part(place: usize, part: &str) -> usize
     ensures { result ≡ after_part place part.now }
 {
@@ -95,8 +112,8 @@ fn is_among(found: &[Declaration<'_>], name: &str) -> bool
     found.iter().any(|one| name == one.name)
 }
 
-/// If the part at a byte is broken, if it is: it is no declaration, or its name is declared before
-/// it.
+/// Where the part at a byte begins, if it is broken: it is no declaration, or its name is declared
+/// before it.
 fn broken_at(place: usize, found: &[Declaration<'_>], part: &str) -> Option<usize>
     ensures { result ≡ broken_at place (map as_declaration found.now) part.now }
 {
@@ -120,7 +137,7 @@ fn add<'a>(found: &mut Vec<Declaration<'a>>, one: Option<Declaration<'a>>) -> Re
     Ok(())
 }
 
-/// The declarations between brackets, of which the first comes at a byte of the line.
+/// The declarations between brackets, of which the first is at this byte of the line.
 fn declared_between<'a>(
     alloc: Global,
     place: usize,
@@ -145,7 +162,8 @@ fn declared_between<'a>(
     }
 }
 
-/// What is declared after a `(` at this byte of the line.
+/// What is declared after a `(` at this byte of the line: it ends at the next `)`, after which there
+/// is only white space.
 fn declared_after<'a>(
     alloc: Global,
     opened: usize,
@@ -165,7 +183,7 @@ fn declared_after<'a>(
 /// The key of a line's head, and what it declares.
 ///
 /// `greeting(name, count:, items[])` declares a text `name`, a number `count` and a list of texts
-/// `items`. Each name is declared once.
+/// `items`. Each name is declared once. After the `)` there is nothing but white space.
 pub fn heading_of<'a>(alloc: Global, head: &'a str) -> Result<(&'a str, Heading<'a>), AllocError>
     ensures key { IfOk result (λ found. found.0.now ≡ key_in head.now) }
     ensures declared { IfOk result (λ found. declared_by found.1 ≡ declared_in head.now) }

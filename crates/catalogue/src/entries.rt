@@ -10,18 +10,18 @@ use crate::declarations::Kind;
 use interpolator::{Error, Formattable, View};
 use std::alloc::Global;
 
-/// A name, and what the value under it shows.
+/// A name, and the views of the value under it.
 #[derive(Drop)]
 pub struct Object<'a> {
     pub name: &'a str,
     pub kind: Kind,
-    /// Shows a text or a number.
+    /// The view of a text or a number.
     pub value: View<'a>,
-    /// Show the items of a list.
+    /// The views of the items of a list.
     pub items: Vec<View<'a>>,
 }
 
-/// A name, and its value lent, with the slots of a list's items filled.
+/// A name with its value borrowed, and the items of a list with their slots filled.
 #[derive(Drop)]
 pub struct Entry<'a> {
     pub name: &'a str,
@@ -30,7 +30,7 @@ pub struct Entry<'a> {
     pub items: Vec<Formattable<'a, View<'a>>>,
 }
 
-/// Each view as an item of a list: its slots of debug and display are filled.
+/// Each view as an item of a list, which fills the slots of debug and display.
 fn as_items<'a>(
     alloc: Global,
     views: &'a [View<'a>],
@@ -45,7 +45,7 @@ fn as_items<'a>(
     Ok(items)
 }
 
-/// An object, lent.
+/// An object, borrowed.
 pub fn entry_of<'e, 'a>(alloc: Global, object: &'e Object<'a>) -> Result<Entry<'e>, Error>
     ensures entry { IfOk result (λ entry. Lends object.now entry) }
     ensures refused { IfErr result (λ error. answer_of error ≡ no_memory) }
@@ -58,7 +58,7 @@ pub fn entry_of<'e, 'a>(alloc: Global, object: &'e Object<'a>) -> Result<Entry<'
     })
 }
 
-/// Each object, lent.
+/// Each object, borrowed.
 pub fn entries_of<'e, 'a>(alloc: Global, objects: &'e [Object<'a>]) -> Result<Vec<Entry<'e>>, Error>
     ensures entries { IfOk result (λ entries. AllZip Lends objects.now entries.items) }
     ensures refused { IfErr result (λ error. answer_of error ≡ no_memory) }
@@ -70,8 +70,8 @@ pub fn entries_of<'e, 'a>(alloc: Global, objects: &'e [Object<'a>]) -> Result<Ve
     Ok(entries)
 }
 
-/// The slots that a value fills, by its kind: a text those of debug and display, a number those of
-/// an integer, a list that of its items.
+/// The slots that a value fills, by its kind: a text those of debug and display, a number all those
+/// of an integer, a list that of its items.
 fn slots_by<'p, 'e>(entry: &'p Entry<'e>) -> Formattable<'p, View<'e>>
     ensures { slots_of result ≡ entry_slots entry.now }
 {

@@ -1,19 +1,18 @@
-//! The faults that a format has over an example of what is declared.
+//! The faults that a format has by itself, and with an example of what is declared.
 
 ghost use Rattle.std.specs.Prelude.{◌≡◌, IfOk, IfErr, map};
 ghost use Rattle.std.specs.List.{AllZip};
-ghost use Rattle.std.specs.Option.{option_map};
-ghost use Rattle.interpolator.specs.Faults.{answer_of, result_answer, fault, no_memory};
-ghost use Rattle.catalogue.specs.Declarations.{as_declaration, declared_by, these};
-ghost use Rattle.interpolator.specs.Template.NodeChecks.{first_fault};
-ghost use Rattle.catalogue.specs.Examples.{IsExample, TellsFirst, faults_of};
+ghost use Rattle.interpolator.specs.Faults.{answer_of, fault, no_memory};
+ghost use Rattle.catalogue.specs.Declarations.{as_declaration, declared_by};
+ghost use Rattle.catalogue.specs.Examples.{IsExample, example_faults, found_faults};
+ghost use Rattle.catalogue.specs.Examples.{is_own_reply, reply_counts};
 
 use crate::declarations::{Declaration, Heading, Kind};
 use crate::entries::{Object, entries_of, pairs_of};
 use interpolator::{Bits, Error, Interpolate, Pairs, Template, View};
 use std::alloc::Global;
 
-/// An example of a text: a character, which has a text under the same traits as any text.
+/// An example of a text: a character, which can be formatted under the same traits as any text.
 const TEXT: View<'static> = View::Character('a');
 
 /// An example of a number.
@@ -52,49 +51,59 @@ fn examples_of<'a>(alloc: Global, declared: &[Declaration<'a>]) -> Result<Vec<Ob
     Ok(objects)
 }
 
-/// Checks a format over an example of each declaration.
-fn check_over(alloc: Global, template: &Template, declared: &[Declaration<'_>]) -> Result<(), Error>
-    ensures { TellsFirst (faults_of (these (map as_declaration declared.now)) template.now)
-        (result_answer result) }
+/// All faults that a format has, by itself or with an example of each declaration.
+fn faults_with(
+    alloc: Global,
+    template: &Template,
+    declared: &[Declaration<'_>],
+) -> Result<Vec<Error>, Error>
+    ensures all { IfOk result (λ errors. map answer_of errors.items
+        ≡ map fault (example_faults (map as_declaration declared.now) template.now)) }
+    ensures refused { IfErr result (λ error. answer_of error ≡ no_memory) }
 {
     let examples = examples_of(alloc, declared)?;
     let entries = entries_of(alloc, examples.as_slice())?;
     let pairs = pairs_of(alloc, entries.as_slice())?;
-    Pairs(&pairs).check_template(alloc, template)
+    Pairs(&pairs).template_faults(alloc, template)
 }
 
-/// Tells the first fault of a format: by itself, or over an example of what is declared.
-#[tactic(auto, using(crate::proofs::ExampleLemmas::checked_alone))]
-fn check(alloc: Global, template: &Template, heading: &Heading<'_>) -> Result<(), Error>
-    ensures { TellsFirst (faults_of (declared_by heading.now) template.now) (result_answer result) }
-{
-    match heading {
-        Heading::Plain => template.check(),
-        Heading::Declares(declared) => check_over(alloc, template, declared.as_slice()),
-        Heading::Broken(_) => Ok(()),
-    }
-}
-
-/// The first fault of a format, by itself or over an example of what is declared.
-///
-/// # Errors
-///
-/// `NoMemory`.
-#[tactic(auto, using(crate::proofs::PlaceLemmas::unplaced, crate::proofs::PlaceLemmas::placed))]
-pub fn fault_of(
+/// All faults that a format has, by itself or with examples of what its line declares. If the line
+/// declares nothing, every name that the format uses is missing.
+pub fn faults_of(
     alloc: Global,
     template: &Template,
     heading: &Heading<'_>,
-) -> Result<Option<Error>, Error>
-    ensures fault { IfOk result (λ found. option_map answer_of found
-        ≡ option_map fault (first_fault (faults_of (declared_by heading.now) template.now))) }
+) -> Result<Vec<Error>, Error>
+    ensures all { IfOk result (λ errors. map answer_of errors.items
+        ≡ map fault (found_faults (declared_by heading.now) template.now)) }
     ensures refused { IfErr result (λ error. answer_of error ≡ no_memory) }
 {
-    match check(alloc, template, heading) {
-        Ok(()) => Ok(None),
-        Err(error) => match error.place() {
-            None => Err(error),
-            Some(_) => Ok(Some(error)),
-        },
+    match heading {
+        Heading::Plain => faults_with(alloc, template, &[]),
+        Heading::Declares(declared) => faults_with(alloc, template, declared.as_slice()),
+        Heading::Broken(_) => Ok(Vec::new(alloc)),
+    }
+}
+
+/// Whether a format has a fault by itself, whatever it is given.
+fn is_own(error: &Error) -> bool
+    ensures { result ≡ is_own_reply (answer_of error.now) }
+{
+    match error {
+        Error::Parse(_) => true,
+        Error::UnsupportedOption(_, _, _) => true,
+        _ => false,
+    }
+}
+
+/// Whether a fault that was found counts for its line: if the line declares nothing, only one that
+/// the format has by itself does.
+pub fn counts(heading: &Heading<'_>, error: &Error) -> bool
+    ensures { result ≡ reply_counts (declared_by heading.now) (answer_of error.now) }
+{
+    match heading {
+        Heading::Plain => is_own(error),
+        Heading::Declares(_) => true,
+        Heading::Broken(_) => true,
     }
 }

@@ -1,11 +1,11 @@
-//! `catalogue FILE KEY [NAME=TEXT | NAME:=NUMBER | NAME[]=ITEM,ITEM..]`: the message under a key,
-//! of a file whose messages are all checked first.
+//! `catalogue FILE KEY [NAME=TEXT | NAME:=NUMBER | NAME[]=ITEM,ITEM..]`: the message under a key in
+//! a file whose messages are all checked first.
 //!
 //! A line of the file is `key = format`, or `key(name, count:, items[]) = format`, which declares
-//! that the format is given a text `name`, a number `count` and a list of texts `items`; it is then
-//! checked over an example of these, and the words have to give them, in any order. Blank lines,
-//! and those that begin with `#`, are passed over. Each fault is shown in its line, with the file,
-//! the line and the column, and then no message is written.
+//! a text `name`, a number `count` and a list of texts `items`. The format is then checked with
+//! examples of these, and the words have to give them, in any order. Blank lines, and lines that
+//! begin with `#`, are skipped. Each fault is shown in its line, with the file, the line and the
+//! column; if there is any, no message is written.
 #![tactic(auto)]
 
 mod declarations;

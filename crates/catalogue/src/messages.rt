@@ -1,7 +1,7 @@
-//! The messages of a file, checked, and the one that is asked for.
+//! The messages of a file, which are all checked, and the one under a key.
 
 ghost use Rattle.std.specs.Prelude.{◌≡◌, ◌<◌, ℕ, List, IfOk, IfErr, IfSome, MatchOption, All};
-ghost use Rattle.std.specs.Prelude.{length, None, Some, if◌then◌else◌, string_bytes};
+ghost use Rattle.std.specs.Prelude.{length, map, None, Some, if◌then◌else◌, string_bytes};
 ghost use Rattle.std.specs.List.{AllZip};
 ghost use Rattle.std.specs.Option.{option_map};
 ghost use Rattle.std.specs.Str.{bytes_eq};
@@ -12,14 +12,16 @@ ghost use Rattle.catalogue.specs.Messages.{IsSound};
 ghost use Rattle.catalogue.specs.Words.{HasEquals};
 ghost use Rattle.catalogue.specs.Messages.{is_passed_over, is_under, head_of, format_of};
 ghost use Rattle.catalogue.specs.Messages.{last_under, told_at, told_of_fault, told_of_message};
-ghost use Rattle.catalogue.specs.Messages.{told_of_line, told_of_lines};
+ghost use Rattle.catalogue.specs.Messages.{told_of_line, told_of_lines, told_of_replies};
+ghost use Rattle.catalogue.specs.Messages.{told_of_faults, told_of_reply};
+ghost use Rattle.catalogue.specs.Examples.{faults_of};
 ghost use Rattle.catalogue.specs.Messages.{with_format, IsMadeOrTold, Replies, Answers};
 ghost use Rattle.catalogue.specs.Entries.{Lends};
 ghost use Rattle.catalogue.specs.declared.entries.Object.{Object};
 
 use crate::declarations::{Heading, heading_of};
 use crate::entries::{Entry, Object, pairs_of};
-use crate::examples::fault_of;
+use crate::examples::{counts, faults_of};
 use crate::picks::{Picked, picks_of, told_of_lacking};
 use crate::words::objects_of;
 use interpolator::{
@@ -27,39 +29,39 @@ use interpolator::{
 };
 use std::alloc::{AllocError, Global};
 
-/// What is told of a broken declaration.
+/// What is reported of a broken declaration.
 const WHAT_IS_DECLARED: &str = "declarations are `(NAME, NAME:, NAME[])`, each name once";
 
-/// What is told of a word that gives nothing.
+/// What is reported of a word that gives no value.
 const WHAT_IS_A_WORD: &str = "a value is `NAME=TEXT`, `NAME:=NUMBER` or `NAME[]=ITEM,ITEM`\n";
 
-/// What the program answers.
+/// What the program prints.
 #[derive(Drop)]
 pub enum Answer {
     /// The message.
     Message(String),
-    /// What is wrong, a line for each fault.
+    /// Everything that is wrong, fault by fault.
     Faults(String),
 }
 
-/// A line of the file that is sound and has the key.
+/// A line of the file that has the key.
 #[derive(Drop)]
 struct Found<'a> {
-    /// From 1 on.
+    /// Counted from 1.
     number: usize,
     text: &'a str,
     template: Template,
     heading: Heading<'a>,
 }
 
-/// What is wrong with some lines, and the last of them under the key.
+/// What is wrong with some lines, and the last of them that has the key.
 #[derive(Drop)]
 struct Verdict<'a> {
     told: String,
     found: Option<Found<'a>>,
 }
 
-/// Something of a line of the file, at a column, as it is told.
+/// Reports something at a column of a line of the file.
 fn told_at(
     alloc: Global,
     file: &str,
@@ -75,7 +77,7 @@ fn told_at(
     Ok(told)
 }
 
-/// The fault of a line's format, shown in its line.
+/// Reports a fault of a line's format, shown in its line.
 fn told_of_fault(
     alloc: Global,
     file: &str,
@@ -100,7 +102,76 @@ fn told_of_fault(
     Ok(told)
 }
 
-/// What is told of a line's message: a broken declaration, or the first fault of its format.
+/// Reports a fault that was found in a line's format, if it counts for the line.
+fn told_of_reply(
+    alloc: Global,
+    file: &str,
+    number: usize,
+    line: &str,
+    format: &str,
+    heading: &Heading<'_>,
+    error: &Error,
+) -> Result<String, Error>
+    ensures told { IfOk result (λ told. string_bytes told ≡ told_of_reply file.now number line.now
+        format.now (declared_by heading.now) (answer_of error.now)) }
+    ensures refused { IfErr result (λ error. answer_of error ≡ no_memory) }
+{
+    if counts(heading, error) {
+        return told_of_fault(alloc, file, number, line, format, error);
+    }
+    Ok(String::new(alloc))
+}
+
+/// Reports those of the faults found in a line's format that count for the line, in their order.
+fn told_of_replies(
+    alloc: Global,
+    file: &str,
+    number: usize,
+    line: &str,
+    format: &str,
+    heading: &Heading<'_>,
+    errors: &[Error],
+) -> Result<String, Error>
+    ensures told { IfOk result (λ told. string_bytes told ≡ told_of_replies file.now number line.now
+        format.now (declared_by heading.now) (map answer_of errors.now)) }
+    ensures refused { IfErr result (λ error. answer_of error ≡ no_memory) }
+{
+    let mut told = String::new(alloc);
+    for error in errors {
+        let more = told_of_reply(alloc, file, number, line, format, heading, error)?;
+        told.push_str(more.as_str())?;
+    }
+    Ok(told)
+}
+
+/// Reports the faults of a line's format: all that it has by itself, or with examples of what the
+/// line declares.
+fn told_of_format(
+    alloc: Global,
+    file: &str,
+    number: usize,
+    line: &str,
+    template: &Template,
+    heading: &Heading<'_>,
+) -> Result<String, Error>
+    ensures told { IfOk result (λ told. string_bytes told ≡ told_of_faults file.now number line.now
+        template.now (faults_of (declared_by heading.now) template.now)) }
+    ensures refused { IfErr result (λ error. answer_of error ≡ no_memory) }
+{
+    let errors = faults_of(alloc, template, heading)?;
+    let format = template.text();
+    told_of_replies(
+        alloc,
+        file,
+        number,
+        line,
+        format,
+        heading,
+        errors.as_slice(),
+    )
+}
+
+/// Reports what is wrong with a line's message: a broken declaration, or the faults of its format.
 fn told_of_message(
     alloc: Global,
     file: &str,
@@ -118,10 +189,7 @@ fn told_of_message(
         let told = told_at(alloc, file, number, column, WHAT_IS_DECLARED)?;
         return Ok(told);
     }
-    match fault_of(alloc, template, heading)? {
-        None => Ok(String::new(alloc)),
-        Some(error) => told_of_fault(alloc, file, number, line, template.text(), &error),
-    }
+    told_of_format(alloc, file, number, line, template, heading)
 }
 
 /// The head and the format of a line, if it has an `=`.
@@ -134,22 +202,21 @@ fn line_of(text: &str) -> Option<(&str, &str)>
     Some((head, format.trim_start()))
 }
 
-/// Whether a line's key is the one that is asked for.
+/// Whether a line's key is the one that is looked up.
 fn is_key(its_key: &str, key: &str) -> bool
     ensures { result ≡ bytes_eq its_key.now key.now }
 {
     its_key == key
 }
 
-/// Whether a line has no message.
+/// Whether a line is blank or a comment.
 fn is_passed_over(line: &str) -> bool
     ensures { result ≡ is_passed_over line.now }
 {
     line.trim().is_empty() || line.starts_with('#')
 }
 
-/// Checks a line, and gives it if it has the key and is sound. If something is wrong with it, this
-/// is told.
+/// Checks a line, and returns what is wrong with it, and the line itself if it has the key.
 fn checked_line<'a>(
     alloc: Global,
     file: &str,
@@ -191,7 +258,7 @@ fn checked_line<'a>(
     }
 }
 
-/// Checks each line, and finds the last one under the key.
+/// Checks each line, and finds the last one that has the key.
 fn checked<'a>(alloc: Global, file: &str, text: &'a str, key: &str) -> Result<Verdict<'a>, Error>
     ensures told { IfOk result (λ verdict.
         string_bytes verdict.told ≡ told_of_lines file.now (lines text.now)) }
@@ -244,7 +311,8 @@ fn said(
     }
 }
 
-/// The message of a line over what is picked of some objects; or what value it lacks, or its fault.
+/// The message of a line with the values that are picked for it; or which value is missing, or its
+/// fault.
 fn message(
     alloc: Global,
     file: &str,
@@ -265,17 +333,18 @@ fn message(
     }
 }
 
-/// The message under a key, over words `NAME=TEXT`, `NAME:=NUMBER` and `NAME[]=ITEM,ITEM`; or all
-/// that is wrong with the file, or else with the key, the words or the message.
+/// The message under a key, with the values of words `NAME=TEXT`, `NAME:=NUMBER` and
+/// `NAME[]=ITEM,ITEM..`; or all that is wrong with the file, or else with the key, the words or the
+/// message.
 ///
-/// A message is answered only if every line that has to have one has one that checks: by itself,
-/// or over an example of what the line declares. It is what the last line of the key means over the
-/// words: of two messages under one key the last counts, and so does the last of two words of one
-/// name.
+/// There is a message only if every line but blank ones and comments is sound: it has an `=`, its
+/// declarations are whole, and its format has no fault, by itself or with examples of what the line
+/// declares. Else all faults of each line are reported. Of two lines with one key the last counts,
+/// and so does the last of two words with one name.
 ///
-/// A line that declares something is given the words of the names that it declares, in any order,
-/// and no others. If one of them is lacking or of another kind, this is told. Else the message has
-/// no fault.
+/// The format of a line that declares names gets the words of these names, in any order, and no
+/// others. If one of them is missing, or of another kind, that is reported; else the message has no
+/// fault.
 ///
 /// # Errors
 ///

@@ -1,4 +1,4 @@
-//! What a format is given of the values of words: for each name that its line declares, the last.
+//! The values that a format gets: for each name that its line declares, that of the last word.
 
 ghost use Rattle.std.specs.Prelude.{◌≡◌, ◌↔◌, IfOk, IfErr, IsTrue, MatchOption, map};
 ghost use Rattle.std.specs.Prelude.{string_bytes};
@@ -13,16 +13,16 @@ use crate::entries::{Entry, Object, entries_of, entry_of};
 use interpolator::Error;
 use std::alloc::{AllocError, Global};
 
-/// What a format is given.
+/// The values that a format gets.
 #[derive(Drop)]
 pub enum Picked<'a> {
     /// These values, in the order of the declarations.
     Values(Vec<Entry<'a>>),
-    /// No value of the kind of this declaration is under its name.
+    /// Under the name of this declaration there is no value, or one of another kind.
     Lacks(Declaration<'a>),
 }
 
-/// The last object of a name.
+/// The last object with a name.
 fn last_named<'o, 'a>(objects: &'o [Object<'a>], name: &str) -> Option<&'o Object<'a>>
     ensures { option_copied result ≡ last_named objects.now name.now }
 {
@@ -36,7 +36,7 @@ fn is_kind(kind: Kind, wanted: Kind) -> bool
     kind == wanted
 }
 
-/// What is picked for a declaration: the last object of its name, if it is of its kind.
+/// The object for a declaration: the last one with its name, if it has its kind.
 fn pick_for<'o, 'a>(objects: &'o [Object<'a>], declared: &Declaration<'_>) -> Option<&'o Object<'a>>
     ensures { MatchOption result (¬ HasPick objects.now (as_declaration declared.now))
         (λ object. IsPicked objects.now (as_declaration declared.now) object.now) }
@@ -49,7 +49,7 @@ fn pick_for<'o, 'a>(objects: &'o [Object<'a>], declared: &Declaration<'_>) -> Op
     }
 }
 
-/// What is picked for each declaration.
+/// The object for each declaration, or the first declaration without one.
 fn picks_for<'o>(
     alloc: Global,
     objects: &'o [Object<'o>],
@@ -69,8 +69,8 @@ fn picks_for<'o>(
     Ok(Picked::Values(entries))
 }
 
-/// What a format is given: for each declaration of its line the last object of its name, which has
-/// to be of its kind; all objects, if the line declares nothing.
+/// The values that a format gets: for each declaration of its line the last object with its name,
+/// which has to be of its kind; or all objects, if the line declares nothing.
 pub fn picks_of<'o>(
     alloc: Global,
     objects: &'o [Object<'o>],
@@ -87,7 +87,7 @@ pub fn picks_of<'o>(
     }
 }
 
-/// How a word of a kind goes on after its name.
+/// What follows the name in a word of a kind.
 fn shape_of(kind: Kind) -> &'static str
     ensures { result.now ≡ shape_of kind }
 {
@@ -98,7 +98,7 @@ fn shape_of(kind: Kind) -> &'static str
     }
 }
 
-/// What word is wanted for a declaration of a line.
+/// Reports which word is missing for a declaration of a line.
 pub fn told_of_lacking(
     alloc: Global,
     file: &str,

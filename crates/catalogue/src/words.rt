@@ -14,7 +14,7 @@ use crate::entries::Object;
 use interpolator::{Bits, Error, View};
 use std::alloc::Global;
 
-/// The number that a text spells, if it spells one: what std parses, less a leading `+`.
+/// The number that a text spells, if any: one that std parses, without a leading `+`.
 fn number_of(text: &str) -> Option<i128>
     ensures { (value : ℤ) → Spells text.now value ↔ (result ≡ Some value) }
 {
@@ -24,7 +24,7 @@ fn number_of(text: &str) -> Option<i128>
     text.parse::<i128>().ok()
 }
 
-/// What a text shows of a kind, if it is one of that kind; a list shows its items alone.
+/// The view of a text as a value of a kind, if it is one; a list has views of its items alone.
 fn value_of(kind: Kind, text: &str) -> Option<View<'_>>
     ensures { MatchOption result (¬ Fits kind text.now) (λ view. ShowsAs kind text.now view) }
 {
@@ -38,7 +38,7 @@ fn value_of(kind: Kind, text: &str) -> Option<View<'_>>
     }
 }
 
-/// The items of a list: the parts of its text between the commas, and none for the empty text.
+/// The items of a list: the parts of its text between commas. The empty text has none.
 fn items_of(alloc: Global, text: &str) -> Result<Vec<&str>, Error>
     ensures items { IfOk result (λ items. texts_of items.items ≡ items_of text.now) }
     ensures refused { IfErr result (λ error. answer_of error ≡ no_memory) }
@@ -63,7 +63,7 @@ fn views_of<'a>(alloc: Global, texts: &[&'a str]) -> Result<Vec<View<'a>>, Error
     Ok(views)
 }
 
-/// What the items of a list show; a value of another kind has none.
+/// The views of the items of a list; a value of another kind has none.
 fn items_in<'a>(alloc: Global, kind: Kind, text: &'a str) -> Result<Vec<View<'a>>, Error>
     ensures items { IfOk result (λ views. map shown_as_value views.items ≡ items_in kind text.now) }
     ensures refused { IfErr result (λ error. answer_of error ≡ no_memory) }
@@ -78,17 +78,17 @@ fn items_in<'a>(alloc: Global, kind: Kind, text: &'a str) -> Result<Vec<View<'a>
     }
 }
 
-/// What a word declares before its first `=`, and the text after that.
+/// The name and the kind before the first `=` of a word, and the text after it.
 fn parts_of(word: &str) -> Option<(Declaration<'_>, &str)>
     ensures { MatchOption result (¬ IsCut word.now)
         (λ parts. Cuts word.now (as_declaration parts.0) parts.1.now) }
 {
     let (left, right) = word.split_once('=')?;
-    let declared = declaration_of(left)?;
-    Some((declared, right))
+    Some((declaration_of(left), right))
 }
 
-/// What a word gives: `NAME=TEXT`, `NAME:=NUMBER` or `NAME[]=ITEM,ITEM`.
+/// What a word gives: `NAME=TEXT`, `NAME:=NUMBER` or `NAME[]=ITEM,ITEM..`, by its first `=`, as
+/// for `ifmt`. The name may be empty.
 fn object_of<'a>(alloc: Global, word: &'a str) -> Result<Option<Object<'a>>, Error>
     ensures given { IfOk result (λ found. MatchOption found (¬ IsGood word.now)
         (λ object. Gives word.now object)) }
@@ -109,7 +109,7 @@ fn object_of<'a>(alloc: Global, word: &'a str) -> Result<Option<Object<'a>>, Err
     }))
 }
 
-/// What each of some words gives; `None` if one of them gives nothing.
+/// The value that each word gives; `None` if one of them gives none.
 pub fn objects_of(alloc: Global, words: &[String]) -> Result<Option<Vec<Object<'_>>>, Error>
     ensures given { IfOk result (λ found. MatchOption found
         (¬ All (λ word. IsGood (string_bytes word)) words.now)
