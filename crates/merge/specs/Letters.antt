@@ -53,12 +53,12 @@ abbrev pub ShowFields : List (List ℕ) → List (List ℕ) → Row → Type 0
 ShowFields names fields pairs =
     AllZip (λ field pair. Shows field.0 field.1 pair) (zip names fields) pairs
 
--- what a template means over pairs
+-- what a template means with pairs
 abbrev pub letter_means : List ℕ → Row → Meaning
 letter_means template pairs = means (λ text _ _. some_text (chars text.now))
     (environment (found_by_pairs pairs)) (outermost (chars template))
 
--- a text is the letter of some fields: what the template means over them, and that has no fault
+-- a text is the letter of some fields: what the template means with them, without fault
 pub record IsLetterOf (template : List ℕ) (names fields : List (List ℕ)) (letter : List ℕ)
     : Type 0 where
   pub pairs : Row
@@ -78,19 +78,19 @@ pub record AreLetters (template : List ℕ) (names some_lines : List (List ℕ))
   pub each : AllZip (IsLetter template names) some_lines letters
   pub all : text ≡ concat letters
 
--- what is wrong with a template over pairs: the first fault, whatever they show
+-- what is wrong with a template with pairs as its sample: its first fault
 abbrev pub first_wrong : List ℕ → Row → Option Answer
 first_wrong template pairs = option_map fault (first_fault
     (faults_over (λ text _ _. some_text (chars text.now)) (found_by_pairs pairs)
     (outermost (chars template))))
 
--- a template has no fault over the names, each as an example of what is under it
+-- a template has no fault with the names, each of which is its own example value
 pub record IsSound (template : List ℕ) (names : List (List ℕ)) : Type 0 where
   pub sample : Row
   pub shown : ShowFields names names sample
   pub none : first_wrong template sample ≡ None
 
--- an error is the first fault that a template has over the names
+-- an error is the first fault that a template has with the names
 pub record IsFault (template : List ℕ) (names : List (List ℕ)) (error : Error) : Type 0 where
   pub sample : Row
   pub shown : ShowFields names names sample
@@ -100,7 +100,7 @@ pub record IsFault (template : List ℕ) (names : List (List ℕ)) (error : Erro
 abbrev pub IsWrong : List ℕ → List (List ℕ) → Error → Type 0
 IsWrong template names error = (answer_of error ≡ no_memory) ⊎ IsFault template names error
 
--- an error is the fault of what the template means over some fields, or memory was refused
+-- an error is the fault of what the template means with some fields, or memory was refused
 abbrev pub FailsWith : List ℕ → (names fields : List (List ℕ)) → Error → Type 0
 FailsWith template names fields error = (answer_of error ≡ no_memory)
     ⊎ ((pairs : Row) × ShowFields names fields pairs
@@ -113,7 +113,7 @@ PutsLetter template names fields old new result = MatchResult result
     (λ _. (letter : List ℕ) × IsLetterOf template names fields letter × (new ≡ old ++ letter))
     (FailsWith template names fields)
 
--- a line has no letter: memory was refused, or it has another number of fields than there are names
+-- a line has no letter: memory was refused, or it has more or fewer fields than there are names
 abbrev pub HasNone : List (List ℕ) → ℕ → (line : List ℕ) → Fault → Type 0
 HasNone names row line (why.Template error) = answer_of error ≡ no_memory
 HasNone names row line (why.Fields told) =
@@ -126,8 +126,8 @@ PutsRow template names row line old new result = MatchResult result
     (λ _. (letter : List ℕ) × IsLetter template names line letter × (new ≡ old ++ letter))
     (HasNone names row line)
 
--- a line after the first, which are counted from 1, is the first that has another number of fields
--- than there are names; the template is sound, and each line between has its letter
+-- a line after the first, counted from 1, is the first that has more or fewer fields than there are
+-- names; the template is sound, and each line between has its letter
 pub record IsOther (template table : List ℕ) (row : ℕ) : Type 0 where
   pub sound : IsSound template (names_of table)
   pub line : List ℕ

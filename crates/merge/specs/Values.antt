@@ -1,4 +1,4 @@
--- What the values of a row show, and a template that was prepared for rows of them.
+-- What the values of a row show, and a template that was prepared for such rows.
 use Rattle.std.specs.Prelude.{◌≡◌, ℕ, List, Result, MatchResult}
 use Rattle.std.specs.Borrow.{Bor}
 use Rattle.interpolator.specs.Prepared.Rows.{PreparedFormat}

@@ -15,9 +15,9 @@ use std::alloc::{AllocError, Global};
 /// Why there are no letters.
 #[derive(Drop)]
 pub enum Fault {
-    /// The first fault that the template has over the names of the table, or `NoMemory`.
+    /// The first fault that the template has with the names of the table, or `NoMemory`.
     Template(Error),
-    /// The line of the table, from 1 on, that has another number of fields than the first.
+    /// The number, from 1, of a line of the table that has more or fewer fields than the first.
     Fields(usize),
 }
 
@@ -44,7 +44,7 @@ fn fields_of(alloc: Global, line: &str) -> Result<Vec<&str>, AllocError>
     line.split(',').collect::<Vec<&str>>(alloc)
 }
 
-/// The names of the fields, which are in the first line.
+/// The names of the fields: those in the first line.
 fn names_of(alloc: Global, table: &str) -> Result<Vec<&str>, AllocError>
     ensures { IfOk result (λ names. map (λ x. x.now) names.items ≡ names_of table.now) }
 {
@@ -67,7 +67,7 @@ fn pairs_of<'a>(
     Ok(pairs)
 }
 
-/// The fields as values of a row, one for each name.
+/// The fields as the values of a row, one for each name.
 fn values_of<'a>(
     alloc: Global,
     names: &[&'a str],
@@ -84,7 +84,7 @@ fn values_of<'a>(
     Ok(values)
 }
 
-/// Prepares the template for rows of the names, each of which is an example of what is under it.
+/// Prepares the template for rows with these names. Each name is its own example value.
 fn prepared_letter<'a>(
     alloc: Global,
     template: &Template,
@@ -96,8 +96,8 @@ fn prepared_letter<'a>(
     template.prepare(alloc, &Pairs(&sample))
 }
 
-/// Writes the letter of a line with these fields, one for each name. If the buffer refuses a text,
-/// memory was refused.
+/// Writes the letter of a line with these fields, one for each name. The buffer refuses a text only
+/// if memory runs out.
 fn write_letter<'a>(
     alloc: Global,
     out: &mut TextBuffer,
@@ -150,12 +150,12 @@ fn write_row<'a>(
     }
 }
 
-/// A letter for each line of the table after the first, which names the fields. The template is read,
-/// checked and prepared once, before the first letter: after that no letter can have a fault.
+/// A letter for each line of the table after the first, which names the fields. The template is
+/// read, checked and prepared once, before the first letter: after that no letter can have a fault.
 ///
 /// # Errors
 ///
-/// The first fault that the template has over the names; the first line with another number of fields
+/// The first fault that the template has with the names; the first line with more or fewer fields
 /// than there are names; `NoMemory`.
 pub fn merged(alloc: Global, template: &str, table: &str) -> Result<String, Fault>
     ensures sound { IfOk result (λ _. IsSound template.now (names_of table.now)) }

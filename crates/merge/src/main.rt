@@ -1,8 +1,8 @@
 //! `merge TEMPLATE TABLE`: a letter for each row of the table.
 //!
-//! The template is checked before the first letter, over the names of the table. A fault is shown
-//! in its line, as a compiler shows it, and a row of another number of fields with its line. Then
-//! no letter is written.
+//! The template is checked with the names of the table before the first letter. A fault is shown in
+//! its line, as a compiler does. A row with more or fewer fields than there are names is reported
+//! with its line. In both cases no letter is written.
 #![tactic(auto)]
 
 mod letters;
@@ -21,8 +21,7 @@ struct Request {
     table: String,
 }
 
-/// Why there are no letters: a fault of the template as a picture of its line, or the line of the
-/// table.
+/// Why there are no letters: a fault of the template, shown in its line, or a line of the table.
 fn told(alloc: Global, asked: &Request, fault: &Fault) -> Result<String, Error> {
     let [template, table] = asked.words.as_slice() else {
         return Ok(String::new(alloc));
