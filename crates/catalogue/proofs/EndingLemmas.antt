@@ -1,5 +1,5 @@
 -- A text without an ending, as `strip_suffix` returns it.
-use Rattle.std.proofs.Common.{◌≡◌, ◌∙◌, sym, ap, subst, ℕ, ◌-◌, Bool, true, false, List, ◌++◌, cond}
+use Rattle.std.proofs.Common.{◌≡◌, ◌∙◌, sym, ap, ℕ, ◌-◌, Bool, true, false, List, ◌++◌, cond}
 use Rattle.std.proofs.Common.{take, drop, length, Option, None, Some, MatchOption, refl}
 use Rattle.std.proofs.lemmas.List.{append_cancel_left, take-append-drop}
 use Rattle.std.proofs.lemmas.Slice.Eq.{bytes_eq-Decides}

@@ -6,7 +6,7 @@ use Rattle.std.proofs.lemmas.List.{reverse-append}
 use Rattle.std.proofs.lemmas.Slice.Zip.{all_zipped_more}
 use Rattle.std.specs.List.{AllZip, find}
 use Rattle.std.specs.Prelude.{reverse, ⊤}
-use Rattle.std.specs.Str.{bytes_eq, chars, encode_utf8_all}
+use Rattle.std.specs.Str.{bytes_eq, encode_utf8_all}
 use Rattle.interpolator.specs.Contexts.{found_by_pairs}
 use Rattle.interpolator.specs.Slots.{Slots, slots_of}
 use Rattle.interpolator.specs.declared.View.{View}

@@ -1,13 +1,13 @@
 -- The faults that a format has by itself are among those that it has with a sample.
-use Rattle.std.proofs.Common.{◌≡◌, ◌∙◌, refl, sym, ap, ℕ, zero, suc, ◌<◌, Bool, true, false, List, []}
-use Rattle.std.proofs.Common.{◌∷◌, ◌++◌, map, Option, None, Some, arith, length, cond}
+use Rattle.std.proofs.Common.{◌≡◌, ◌∙◌, refl, ap, ℕ, suc, Bool, true, false, List, []}
+use Rattle.std.proofs.Common.{◌∷◌, ◌++◌, Option, None, Some, arith}
 use Rattle.std.proofs.lemmas.List.Elements.{filter-append}
 use Rattle.std.specs.List.{filter, list_any}
 use Rattle.std.specs.Prelude.{Contains}
 use Rattle.std.specs.Str.{chars}
 use Rattle.interpolator.proofs.TemplateLemmas.CheckPlaceLemmas.{faults_of_text}
 use Rattle.interpolator.specs.At.{outermost}
-use Rattle.interpolator.specs.Faults.{Answer, Fault, fault, fmt, missing_trait_impl, missing_value}
+use Rattle.interpolator.specs.Faults.{Fault, fmt, missing_trait_impl, missing_value}
 use Rattle.interpolator.specs.Faults.{parse, unsupported_option}
 use Rattle.interpolator.specs.Slots.{Slots}
 use Rattle.interpolator.specs.Template.NodeChecks.{IsOfText, branch_faults, end_fault, fault_list}

@@ -1,6 +1,6 @@
 -- What is reported of faults that were found one after the other.
 use Rattle.std.proofs.Common.{◌≡◌, ◌∙◌, ap, ℕ, ◌+◌, ◌<◌, List, [], ◌∷◌, ◌++◌, append-nil, get_or}
-use Rattle.std.proofs.Common.{length, map, refl, sym, take}
+use Rattle.std.proofs.Common.{length, map, sym, take}
 use Rattle.std.proofs.lemmas.List.{map-append, take_more}
 use Rattle.std.proofs.lemmas.List.Folds.{concat-append}
 use Rattle.std.specs.List.{concat}

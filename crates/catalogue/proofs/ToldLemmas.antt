@@ -1,7 +1,7 @@
 -- What is reported of the faults that were found is what is reported of the faults of the line.
-use Rattle.std.proofs.Common.{◌≡◌, ◌∙◌, refl, sym, ap, ℕ, Bool, true, false, cond, List, [], ◌∷◌}
+use Rattle.std.proofs.Common.{◌≡◌, ◌∙◌, refl, ap, ℕ, Bool, true, false, cond, List, [], ◌∷◌}
 use Rattle.std.proofs.Common.{◌++◌, map, Result, Ok, Err, IfOk, string_bytes}
-use Rattle.std.specs.List.{concat, filter}
+use Rattle.std.specs.List.{filter}
 use Rattle.std.specs.declared.string.String.{String}
 use Rattle.interpolator.specs.Faults.{Answer as Reply, Fault, fault}
 use Rattle.interpolator.specs.declared.Error.{Error}

@@ -1,4 +1,3 @@
-use Rattle.std.proofs.Common.{◌≡◌, ◌++◌, string_bytes}
 use Rattle.catalogue.specs.Declarations.{declared_by}
 use Rattle.catalogue.proofs.ReplyLemmas.{told_next_reply}
 use Rattle.catalogue.proofs.messages.told_of_replies.Goals as goal
