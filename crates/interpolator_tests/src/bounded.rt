@@ -8,7 +8,7 @@ fn is_refused(answer: Result<(), Refusal>) -> bool {
     matches!(answer, Err(Refusal { taken: 0 }))
 }
 
-/// After a refusal a text that would fit is refused too: `ï` has 2 bytes.
+/// After a refusal, a text that would fit is refused too: `ï` has 2 bytes.
 pub fn run(report: &mut Report) {
     report.begin("bounded");
     let mut out = Bounded::new(report.alloc, 5);

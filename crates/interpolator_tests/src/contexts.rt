@@ -7,14 +7,15 @@ use interpolator::{
     iwriteln, write,
 };
 
-/// A format, what is written of it, and the fault that is answered, for debugging.
+/// A format, its output, and the fault that is returned, as `Debug` shows it.
 struct Row<'a> {
     format: &'a str,
     text: &'a str,
     fault: &'a str,
 }
 
-/// The row is given over the context: written and made.
+/// Checks the row against the context: both what is written to a writer and the text that is
+/// returned.
 fn gives<C: Interpolate>(report: &mut Report, context: &C, row: &Row<'_>) {
     let mut out = TextBuffer::new(report.alloc);
     let answer = context.write_to(report.alloc, &mut out, row.format);
@@ -23,7 +24,7 @@ fn gives<C: Interpolate>(report: &mut Report, context: &C, row: &Row<'_>) {
     report.made(row.format, (row.text, row.fault), made);
 }
 
-/// The row is given over the context by its template: written and made.
+/// Checks the row against the context by the row's template, in both ways.
 fn gives_by<C: Interpolate>(report: &mut Report, context: &C, row: &Row<'_>, template: &Template) {
     let mut out = TextBuffer::new(report.alloc);
     let answer = context.write_template_to(report.alloc, &mut out, template);
@@ -32,7 +33,7 @@ fn gives_by<C: Interpolate>(report: &mut Report, context: &C, row: &Row<'_>, tem
     report.made(row.format, (row.text, row.fault), made);
 }
 
-/// The row is given over the context by its format and by its template.
+/// Checks the row against the context by its format and by its template.
 fn give_row<C: Interpolate>(report: &mut Report, context: &C, row: &Row<'_>) {
     gives(report, context, row);
     match Template::parse(report.alloc, row.format) {
@@ -41,7 +42,7 @@ fn give_row<C: Interpolate>(report: &mut Report, context: &C, row: &Row<'_>) {
     }
 }
 
-/// The rows are given over one value under every name.
+/// Checks the rows against a context that has one value under every name.
 fn give<V: Value>(report: &mut Report, value: &V, rows: &[Row<'_>]) {
     let context = Everywhere {
         value: Formattable::display(value),
@@ -51,20 +52,20 @@ fn give<V: Value>(report: &mut Report, value: &V, rows: &[Row<'_>]) {
     }
 }
 
-/// Over the text `Ann` under every name: by hand, as all rows here, from the rules of arguments and
-/// outcomes in docs/DEFINITIONS.md.
+/// With the text `Ann` under every name. All rows here are worked by hand, from the rules of
+/// arguments and outcomes in docs/DEFINITIONS.md.
 #[rattlefmt::skip]
 const AS_ANN: [Row<'static>; 1] = [
     Row { format: "{a}, {b} and {}", text: "Ann, Ann and Ann", fault: "" },
 ];
 
-/// Over a value that has a text only if the width is 5.
+/// With a value that has a text only if the width is 5.
 #[rattlefmt::skip]
 const AS_FIVE: [Row<'static>; 1] = [
     Row { format: "{v:5}{v}", text: "w5   ", fault: "MissingTraitImpl(Display, 7)" },
 ];
 
-/// Over the plain text, which no option changes and which is not read again.
+/// With the plain text, which no option changes and which is not read as a format again.
 #[rattlefmt::skip]
 const AS_PLAIN: [Row<'static>; 3] = [
     Row { format: "{v}", text: "{x}", fault: "" },
@@ -72,21 +73,21 @@ const AS_PLAIN: [Row<'static>; 3] = [
     Row { format: "{v:>9}{v:.1}{", text: "{x}{x}", fault: "Parse(FormatSpecUnclosed(13))" },
 ];
 
-/// Over the failure.
+/// With the failure.
 #[rattlefmt::skip]
 const AS_FAILED: [Row<'static>; 2] = [
     Row { format: "a{v}b", text: "a", fault: "Fmt(Error, 3)" },
     Row { format: "a{v:>9}b", text: "a", fault: "Fmt(Error, 6)" },
 ];
 
-/// Over nothing under any name.
+/// With nothing under any name.
 #[rattlefmt::skip]
 const OF_NOTHING: [Row<'static>; 2] = [
     Row { format: "a{b}", text: "a", fault: "MissingValue(\"b\", 2)" },
     Row { format: "{{}}", text: "{}", fault: "" },
 ];
 
-/// The rows are given over contexts that hold nothing.
+/// Checks the rows against contexts that contain nothing.
 fn give_nothing(report: &mut Report) {
     let none: [(&str, Formattable<'_, u64>); 0] = [];
     for row in &OF_NOTHING {
@@ -96,7 +97,7 @@ fn give_nothing(report: &mut Report) {
     report.holds("no pairs", Context::get(&Pairs(&none), "").is_none());
 }
 
-/// The functions, of which the methods of contexts are the same.
+/// The functions, which do the same as the methods of contexts.
 fn functions(report: &mut Report) -> Result<(), Error> {
     let alloc = report.alloc;
     let one = Pairs(&[("a", Formattable::display(&1u64))]);
@@ -113,7 +114,7 @@ fn functions(report: &mut Report) -> Result<(), Error> {
     Ok(())
 }
 
-/// A newline that is refused is told at place 0.
+/// A newline that the writer refuses is reported at place 0.
 fn a_refused_newline(report: &mut Report) {
     let one = Pairs(&[("a", Formattable::display(&1u64))]);
     let mut out = Bounded::new(report.alloc, 1);

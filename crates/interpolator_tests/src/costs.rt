@@ -1,5 +1,5 @@
-//! What formats cost at most: the greatest values take just that, and it is known at once of formats
-//! whose output would be huge.
+//! What formats cost at most: with the greatest values the output is exactly as long as the cost
+//! says, and the cost of a format whose output would be huge is known without writing it.
 
 ghost use Rattle.std.specs.Prelude.{◌≡◌, ◌<◌};
 
@@ -11,7 +11,7 @@ use std::alloc::{AllocError, Global};
 use std::marker::Brand;
 use std::sync::ledger::{Blank, Ledger};
 
-/// A format, the limits, and what it costs.
+/// A format, the limits, and what the format costs under them.
 #[derive(Drop)]
 struct Priced<'a> {
     format: &'a str,
@@ -20,9 +20,9 @@ struct Priced<'a> {
     cost: (usize, usize, usize),
 }
 
-/// Worked by hand from the rules of costs in docs/DEFINITIONS.md: characters, pieces, and characters
-/// in buffers. A number of 128 bits has 39 digits, 128 in base two, 43 in base eight, 32 in base
-/// sixteen.
+/// Worked by hand from the rules of costs in docs/DEFINITIONS.md: characters, pieces, and
+/// characters in buffers. A number of 128 bits has 39 digits in base ten, 128 in base two, 43 in
+/// base eight and 32 in base sixteen.
 #[rattlefmt::skip]
 const COSTS: [Priced<'static>; 22] = [
     Priced { format: "", text: 10, items: 3, cost: (0, 0, 0) },
@@ -45,7 +45,7 @@ const COSTS: [Priced<'static>; 22] = [
     Priced { format: "{l:50i()}", text: 100, items: 9, cost: (50, 1 + 9, 1) },
     Priced { format: "{l:5i#({:7i(ab)}{:8i(abc)})#}", text: 100, items: 2, cost: (2 * 15, 1 + 2 * 6, 30 + 6) },
     Priced { format: "{a:i({z)}{b", text: 100, items: 2, cost: (0, 1 + 2 * 1 + 1, 0) },
-    // eight lists in one another, whose items are empty: of ten items each 10^8 are gone through
+    // eight nested lists whose items are empty: with ten items each, 10^8 items are gone through
     Priced {
         format: "{a:i#######({a:i######({a:i#####({a:i####({a:i###({a:i##({a:i#({a:i()})#})##})###})####})#####})######})#######}",
         text: 10,
@@ -60,7 +60,7 @@ const COSTS: [Priced<'static>; 22] = [
     },
 ];
 
-/// The cost is this one, of characters, pieces and buffers.
+/// Checks that the cost is this many characters, pieces and buffered characters.
 fn check_cost(report: &mut Report, what: &str, wanted: (usize, usize, usize), cost: Cost) {
     let (characters, pieces, buffered) = wanted;
     report.number(what, characters, cost.characters);
@@ -78,9 +78,9 @@ fn worked_costs(report: &mut Report) -> Result<(), Error> {
     Ok(())
 }
 
-/// Formats of the greatest values: with texts of 40 characters and lists of three of them, numbers of
-/// 128 bits, and a text whose characters are all escaped, each of them is written in just so many
-/// characters as it costs.
+/// Formats whose output is exactly as long as their cost, with the greatest values: texts of 40
+/// characters, lists of three of them, numbers of 128 bits, and a text whose characters are all
+/// escaped.
 #[rattlefmt::skip]
 const EXACT: [&str; 16] = [
     "", "aé{{}}b", "{least}", "{text}", "{least:90}|{text:^90}", "{most:+b}", "{least:#b}", "{most:+#o}",
@@ -120,7 +120,7 @@ fn greatest_values(report: &mut Report) -> Result<(), Error> {
     Ok(())
 }
 
-/// Lists under a width in one another, the innermost of them displayed plainly.
+/// Nested lists with a width each, the innermost of them displayed plainly.
 fn padded_lists(alloc: Global, depth: usize) -> Result<String, AllocError> {
     let mut format = String::new(alloc);
     for passed in 0..depth {
@@ -137,7 +137,7 @@ fn padded_lists(alloc: Global, depth: usize) -> Result<String, AllocError> {
     Ok(format)
 }
 
-/// Appends so many signs.
+/// Appends `count` signs.
 fn put_signs(format: &mut String, count: usize) -> Result<(), AllocError> {
     for _ in 0..count {
         format.push('#')?;
@@ -145,9 +145,9 @@ fn put_signs(format: &mut String, count: usize) -> Result<(), AllocError> {
     Ok(())
 }
 
-/// By hand: of two items at each of ten depths, 40 characters each, the text doubles ten times, to
-/// 40 * 2^10; the texts in one another are 40 * (2 + 4 + .. + 2^10), and the pieces 2^11 - 1. With
-/// the greatest limits all but no count is told.
+/// By hand: with two items at each of ten depths, 40 characters each, the text doubles ten times,
+/// to 40 * 2^10; the texts at all depths together have 40 * (2 + 4 + .. + 2^10) characters, and
+/// there are 2^11 - 1 pieces. With the greatest limits each count is the greatest number.
 fn lists_that_double(report: &mut Report) -> Result<(), Error> {
     let format = padded_lists(report.alloc, 9)?;
     let template = Template::parse(report.alloc, format.as_str())?;
@@ -178,7 +178,7 @@ fn long_joins(report: &mut Report) -> Result<(), Error> {
     Ok(())
 }
 
-/// The count of pieces has no code: what is written is what `write` writes.
+/// The count of pieces has no code: the output is the same as that of `write`.
 fn written_counted<L: Ledger>(report: &mut Report, blank: Blank) -> Result<(), Error>
     requires name { blank.name ≡ L.name }
     requires parts { blank.parts ≡ L.parts }
@@ -199,7 +199,7 @@ fn written_counted<L: Ledger>(report: &mut Report, blank: Blank) -> Result<(), E
     Ok(())
 }
 
-/// The same, from a blank count.
+/// The same, starting from a blank count.
 fn counted(report: &mut Report) -> Result<(), Error> {
     written_counted::<Brand>(report, Blank::new(1))
 }

@@ -1,12 +1,12 @@
-//! Lists in lists, to a depth of 200.
+//! Nested lists, to a depth of 200.
 
 use crate::given::{Given, are_names, write_given};
 use crate::report::Report;
 use interpolator::{Error, Formattable, Pairs, Piece, Template, TextBuffer};
 use std::alloc::{AllocError, Global};
 
-/// How deep lists are nested; what comes before a list's signs, and innermost; the names that are
-/// asked; what is written; and the fault that is answered.
+/// How deep the lists are nested; the text in front of each list's signs, and the innermost text;
+/// the names that the format uses; its output; and the fault that is returned.
 struct Deep<'a> {
     depth: usize,
     open: &'a str,
@@ -17,9 +17,9 @@ struct Deep<'a> {
 }
 
 /// Worked by hand from the rules of lists and places in docs/DEFINITIONS.md. The group at depth n,
-/// from 0 innermost up to 31, has n signs. So what comes before the innermost text is of 32 * 4 +
-/// 31 * 16 = 624 characters, or with a width of 32 * 5 + 31 * 16 = 656. At a depth of 200 it is of
-/// 200 * 4 + 199 * 100 = 20,700, or of 200 * 5 + 199 * 100 = 20,900.
+/// from 0 for the innermost up to 31, has n signs. So the text in front of the innermost one has
+/// 32 * 4 + 31 * 16 = 624 characters, or with a width 32 * 5 + 31 * 16 = 656. At a depth of 200 it
+/// has 200 * 4 + 199 * 100 = 20,700, or 200 * 5 + 199 * 100 = 20,900.
 #[rattlefmt::skip]
 const ROWS: [Deep<'static>; 10] = [
     Deep { depth: 32, open: "{:i", innermost: "{}", names: &[""], text: "7", fault: "" },
@@ -34,7 +34,7 @@ const ROWS: [Deep<'static>; 10] = [
     Deep { depth: 200, open: "{:3i", innermost: "a{}b{z}", names: &["", "z"], text: "", fault: "MissingValue(\"z\", 20905)" },
 ];
 
-/// Appends so many signs.
+/// Appends `count` signs.
 fn put_signs(format: &mut String, count: usize) -> Result<(), AllocError> {
     for _ in 0..count {
         format.push('#')?;
@@ -42,7 +42,7 @@ fn put_signs(format: &mut String, count: usize) -> Result<(), AllocError> {
     Ok(())
 }
 
-/// The row's innermost text in its groups, one in the other.
+/// The row's innermost text inside its groups, each group inside the next.
 fn nested_format(alloc: Global, row: &Deep<'_>) -> Result<String, AllocError> {
     let mut format = String::new(alloc);
     for passed in 0..row.depth {
@@ -59,7 +59,7 @@ fn nested_format(alloc: Global, row: &Deep<'_>) -> Result<String, AllocError> {
     Ok(format)
 }
 
-/// Writes under the empty name a value, in a list of one item, in a list of one item, and so on.
+/// Writes with a value under the empty name, wrapped in `depth` lists of one item each.
 fn write_nested(
     alloc: Global,
     out: &mut TextBuffer,
@@ -74,7 +74,7 @@ fn write_nested(
     write_nested(alloc, out, Formattable::iter(&items), depth - 1, given)
 }
 
-/// How many levels of lists are nested, up to so many.
+/// How many levels of lists are nested, at most `most`.
 fn levels(pieces: &[Piece], most: usize) -> usize {
     let mut here = pieces;
     for passed in 0..most {
@@ -89,7 +89,7 @@ fn levels(pieces: &[Piece], most: usize) -> usize {
     most
 }
 
-/// The row is given by its format and by the template of that.
+/// Checks the row by its format and by the template of that format.
 fn gives(report: &mut Report, row: &Deep<'_>) -> Result<(), Error> {
     let alloc = report.alloc;
     let format = nested_format(alloc, row)?;
@@ -109,7 +109,7 @@ fn gives(report: &mut Report, row: &Deep<'_>) -> Result<(), Error> {
     Ok(())
 }
 
-/// Each row is given.
+/// Checks each row.
 fn give_rows(report: &mut Report) -> Result<(), Error> {
     for row in &ROWS {
         gives(report, row)?;

@@ -1,4 +1,4 @@
-//! Faults as a compiler shows them, lines and columns, and which argument has a place.
+//! Faults as a compiler shows them, lines and columns, and which argument a place belongs to.
 
 use crate::report::Report;
 use interpolator::{Error, ParseError, Position, Source, Template, Trait, explain, explain_in};
@@ -20,7 +20,7 @@ fn lines_and_columns(report: &mut Report) {
     }
 }
 
-/// A place and the argument that has it in the text `{a:i({:?})} {b} {c:y`, by hand.
+/// A place and the argument that it belongs to in the text `{a:i({:?})} {b} {c:y`, by hand.
 #[rattlefmt::skip]
 const ARGUMENTS: [(usize, Option<(usize, usize)>); 9] = [
     (0, None), (1, Some((0, 11))), (5, Some((0, 11))), (6, Some((5, 9))), (8, Some((5, 9))),
@@ -35,13 +35,13 @@ fn arguments_at_places(report: &mut Report) -> Result<(), Error> {
     Ok(())
 }
 
-/// The fault of a format is shown so.
+/// Checks that the fault of a format is shown in this way.
 fn check_shown(report: &mut Report, text: &str, error: &Error, wanted: &str) {
     let told = explain(report.alloc, "f", text, error);
     report.made(text, (wanted, ""), told);
 }
 
-/// By hand.
+/// Worked by hand.
 fn faults_are_shown(report: &mut Report) {
     check_shown(
         report,
@@ -86,7 +86,7 @@ fn missing_name_is_shown(report: &mut Report) -> Result<(), Error> {
     Ok(())
 }
 
-/// By hand.
+/// Worked by hand.
 fn line_of_a_file(report: &mut Report) {
     let source = Source {
         name: "messages.txt",
@@ -102,7 +102,7 @@ fn line_of_a_file(report: &mut Report) {
     report.made("a line of a file", (wanted, ""), told);
 }
 
-/// A text with so many copies of another in it.
+/// A text with another text in it `count` times.
 fn with_copies(
     alloc: Global,
     front: &str,

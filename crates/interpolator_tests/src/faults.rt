@@ -1,5 +1,5 @@
-//! Faults as values: their derived texts, when they are equal, their copies, where they come from, and
-//! their texts under the options of the braces that ask them; and so the names of filled slots.
+//! Faults as values: their derived texts, when they are equal, their copies, where they come from,
+//! and their texts under the options of a format; and likewise the names of filled slots.
 
 use crate::report::Report;
 use interpolator::{Error, Formattable, NumberError, ParseError, Trait};
@@ -47,18 +47,18 @@ fn others(alloc: Global) -> Result<[(Error, &'static str); 7], AllocError> {
     ])
 }
 
-/// The text, if there was memory for it, is this one.
+/// Checks that the text, if there was memory for it, is this one.
 fn is_text(report: &mut Report, what: &str, wanted: &str, came: Result<String, AllocError>) {
     report.made(what, (wanted, ""), came.map_err(Error::from));
 }
 
-/// The value is debugged as this text.
+/// Checks that `Debug` shows the value as this text.
 fn debugs<D: fmt::Debug>(report: &mut Report, value: &D, text: &str) {
     let came = format!(in report.alloc; "{value:?}");
     is_text(report, "debugged", text, came);
 }
 
-/// The value is debugged as this text, whatever is asked of it.
+/// Checks that `Debug` shows the value as this text under every option.
 fn debugs_under_options<D: fmt::Debug>(report: &mut Report, value: &D, text: &str) {
     debugs(report, value, text);
     let came = format!(in report.alloc; "{value:#?}");
@@ -88,7 +88,7 @@ fn parses(report: &mut Report) {
     }
 }
 
-/// A copy is equal to the fault.
+/// Checks that a copy is equal to the fault.
 fn is_copied(report: &mut Report, fault: &Error, what: &str) {
     match fault.try_clone(report.alloc) {
         Ok(copy) => report.holds(what, copy == *fault),
@@ -118,7 +118,7 @@ fn differing(alloc: Global) -> Result<[Error; 8], AllocError> {
     ])
 }
 
-/// Equal are faults of one variant with equal fields.
+/// Faults are equal if they have the same variant and equal fields.
 fn equal(report: &mut Report) -> Result<(), AllocError> {
     let alloc = report.alloc;
     let wanted = missing(alloc, "q", 1)?;
@@ -141,7 +141,7 @@ fn refusals(report: &mut Report) {
     report.holds("AllocFailed", failed == Error::NoMemory);
 }
 
-/// The fault is displayed as this text, whatever is asked of it.
+/// Checks that the fault is displayed as this text under every option.
 fn prints<E: fmt::Display>(report: &mut Report, fault: &E, text: &str) {
     let came = format!(in report.alloc; "{fault}");
     is_text(report, "under nothing", text, came);

@@ -1,4 +1,5 @@
-//! A format or its template: tables whose rows are written in both ways; and the names that it asks.
+//! A format or its template, for tables whose rows are written in both ways; and the names that a
+//! format uses.
 
 use interpolator::{Error, Interpolate, Pairs, Template, TextWrite};
 use std::alloc::Global;
@@ -10,7 +11,7 @@ pub enum Given<'a> {
     Template(&'a Template),
 }
 
-/// Writes it over pairs of numbers.
+/// Writes it with pairs of numbers.
 pub fn write_given<W: TextWrite>(
     alloc: Global,
     out: &mut W,
@@ -23,7 +24,7 @@ pub fn write_given<W: TextWrite>(
     }
 }
 
-/// Its text over pairs of numbers.
+/// Its text with pairs of numbers.
 pub fn format_given(
     alloc: Global,
     given: Given<'_>,
@@ -35,7 +36,7 @@ pub fn format_given(
     }
 }
 
-/// The template of a format. If memory is refused, it is asked once more.
+/// The template of a format. If memory is refused, this tries once more.
 pub fn parsed(alloc: Global, format: &str) -> Result<Template, Error> {
     match Template::parse(alloc, format) {
         Err(Error::NoMemory) => Template::parse(alloc, format),

@@ -1,4 +1,4 @@
-//! A writer over a writer of bytes: what it passes on, and when it refuses.
+//! A writer on top of a writer of bytes: what it passes on, and when it refuses.
 
 use crate::report::Report;
 use interpolator::{IoWriter, TextWrite};
@@ -9,7 +9,7 @@ use std::io;
 #[derive(Drop)]
 struct Spy {
     got: Vec<u8>,
-    /// How many bytes it takes in a call before it fails. Later it takes all.
+    /// How many bytes it takes in each call up to the one that fails. Later it takes all.
     most: usize,
     /// The write that fails, counted from one, and the flush that fails. With 0 none does.
     failing: usize,
@@ -79,12 +79,12 @@ fn letters(alloc: Global, letter: char, count: usize) -> Result<String, AllocErr
     Ok(text)
 }
 
-/// Writes a text, and adds it to those taken if it is taken.
+/// Writes a text, and appends it to `taken` if it was taken.
 fn write(out: &mut IoWriter<Spy>, taken: &mut String, text: &str) -> bool {
     out.write_str(text).is_ok() && taken.push_str(text).is_ok()
 }
 
-/// The writer below has got so many bytes, a prefix of the text taken.
+/// Checks that the writer below has got `count` bytes, a prefix of the text taken.
 fn holds_prefix(report: &mut Report, what: &str, below: &Spy, taken: &str, count: usize) {
     report.number(what, count, below.got.len());
     report.holds(what, taken.as_bytes().starts_with(below.got.as_slice()));
@@ -146,7 +146,7 @@ fn failed_flush(report: &mut Report) {
     holds_prefix(report, "failed flush", &below, "text", 4);
 }
 
-/// A write that fails gives the kind of its error, and is not tried again.
+/// A write that fails returns the kind of its error, and is not tried again.
 fn failed_write(report: &mut Report) {
     let mut out = IoWriter::new(report.alloc, Spy::failing(report.alloc, 9, 1));
     report.holds("a text is gathered", out.write_str("text").is_ok());
@@ -222,8 +222,8 @@ fn write_ten(out: &mut IoWriter<Spy>, taken: &mut String, names: &str) -> Result
     Ok(out.flush().is_ok())
 }
 
-/// Two times ten records, which make twenty writes below, of which the nth fails: those before it
-/// are passed on, and nothing is after it.
+/// Two times ten records, which make twenty writes below, of which the nth fails: the writes before
+/// it are passed on, and nothing is passed on after it.
 fn failure_at(report: &mut Report, nth: usize) {
     let mut out = IoWriter::new(report.alloc, Spy::failing(report.alloc, 1_000, nth));
     let mut taken = String::new(report.alloc);

@@ -1,5 +1,5 @@
-//! Long values, and many arguments and items, by hand: each answer is exact, and none gives up past a
-//! size.
+//! Long values, and many arguments and items, by hand: each result is exact, and no size is too
+//! great.
 
 mod lists;
 
@@ -27,7 +27,7 @@ fn a_long_value(report: &mut Report) -> Result<(), Error> {
 /// How many arguments, items or rows there are.
 const MANY: usize = 5_000;
 
-/// Texts `0`, `1` and so on, so many.
+/// The texts `0`, `1` and so on, `count` of them.
 fn counted(alloc: Global, count: usize) -> Result<Vec<String>, AllocError> {
     let mut texts = Vec::new(alloc);
     for number in 0..count {
@@ -47,7 +47,8 @@ fn in_braces(alloc: Global, texts: &[String]) -> Result<String, AllocError> {
     Ok(format)
 }
 
-/// The names of the arguments are these, and so are the slices of the format at their places.
+/// Checks that the names of the arguments are these, and so are the slices of the format at their
+/// places.
 fn asks(report: &mut Report, template: &Template, texts: &[String]) -> Result<(), Error> {
     let alloc = report.alloc;
     let mut wanted = Vec::new(alloc);
@@ -66,7 +67,7 @@ fn asks(report: &mut Report, template: &Template, texts: &[String]) -> Result<()
     Ok(())
 }
 
-/// The format and its template have this fault of their own.
+/// Checks that the format and its template have this fault, found without any values.
 fn checks(report: &mut Report, format: &str, texts: &[String], fault: &str) -> Result<(), Error> {
     report.fault("the check of many", fault, check(report.alloc, format));
     let template = Template::parse(report.alloc, format)?;
@@ -74,7 +75,7 @@ fn checks(report: &mut Report, format: &str, texts: &[String], fault: &str) -> R
     asks(report, &template, texts)
 }
 
-/// Thousands of arguments: by hand, the fault begins one byte after the last brace.
+/// Thousands of arguments: by hand, the fault is one byte after the last brace.
 fn many_arguments(report: &mut Report) -> Result<(), Error> {
     let alloc = report.alloc;
     let texts = counted(alloc, MANY)?;
@@ -86,7 +87,7 @@ fn many_arguments(report: &mut Report) -> Result<(), Error> {
     checks(report, broken.as_str(), &texts, fault.as_str())
 }
 
-/// The texts, with a text between two.
+/// The texts, with `join` between each two.
 fn joined(alloc: Global, texts: &[String], join: &str) -> Result<String, AllocError> {
     let mut all = String::new(alloc);
     for text in texts {
@@ -98,7 +99,7 @@ fn joined(alloc: Global, texts: &[String], join: &str) -> Result<String, AllocEr
     Ok(all)
 }
 
-/// The texts as the items of a list.
+/// The output with the texts as the items of a list.
 fn of_items(alloc: Global, texts: &[String]) -> Result<String, Error> {
     let items = items_of(alloc, texts)?;
     let mut map = ContextMap::new(alloc);
@@ -106,7 +107,7 @@ fn of_items(alloc: Global, texts: &[String]) -> Result<String, Error> {
     map.format(alloc, "{l:i({})(,)}")
 }
 
-/// The texts as rows of one item each.
+/// The output with the texts as rows of one item each.
 fn of_rows(alloc: Global, texts: &[String]) -> Result<String, Error> {
     let mut ends = Vec::new(alloc);
     for place in 1..=texts.len() {
@@ -130,7 +131,7 @@ fn many_items(report: &mut Report) -> Result<(), Error> {
     Ok(())
 }
 
-/// A buffer grows as often as is wanted, by characters and by texts, also from a given text.
+/// A buffer grows as often as is needed, by characters and by texts, even if it began with a text.
 fn a_buffer(report: &mut Report) -> Result<(), Error> {
     let alloc = report.alloc;
     let mut out = TextBuffer::from_string(String::from_str(alloc, "<")?);

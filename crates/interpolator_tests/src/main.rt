@@ -1,9 +1,10 @@
-//! `interpolator_tests`: checks, by hand, of what no row of `interpolator_vectors` can say.
+//! `interpolator_tests`: checks, worked by hand, of what no row of `interpolator_vectors` can say.
 //!
-//! These are writers, contexts and values of one's own, calls of a writer, refused memory, long
-//! formats, depth. Each group tells how many checks it has, and those that fail. The word `memory`
-//! asks the group of that name alone. The status says only whether all were run: 3, if memory was
-//! refused to the program itself, or the writing of what it tells.
+//! These are writers, contexts and values of one's own, the calls that a writer gets, refused
+//! memory, long formats and depth. Each group reports how many checks it has, and those that fail.
+//! With the argument `memory` only the group of that name is run. The exit status says only whether
+//! everything was run: it is 3 if the program itself was refused memory, or if its report could not
+//! be written.
 #![tactic(auto)]
 
 mod bounded;
@@ -50,7 +51,7 @@ fn run_others(report: &mut Report) {
     writers::run(report);
 }
 
-/// The groups that are asked.
+/// Runs the group of refused memory, and the others too if `is_all`.
 fn run_asked(report: &mut Report, is_all: bool) {
     memory::run(report);
     if is_all {
@@ -59,7 +60,7 @@ fn run_asked(report: &mut Report, is_all: bool) {
     report.end();
 }
 
-/// Whether all was run, and what is told of it printed.
+/// Whether everything was run; prints the report.
 fn told(rt: &HostRuntime) -> io::Result<bool> {
     let is_all = env::args(rt)?.len() < 2;
     let Ok(mut report) = Report::new(rt.alloc()) else {

@@ -1,4 +1,4 @@
-//! What maps and pairs keep and find: names of their own, many names, long ones and the empty one.
+//! What maps and pairs keep and find: owned names, many names, long names and the empty name.
 ghost use Rattle.std.specs.Prelude.{◌≡◌, Some, OnOk};
 ghost use Rattle.std.specs.Str.{chars};
 ghost use Rattle.std.specs.Option.{unwrap_or};
@@ -13,7 +13,7 @@ use std::collections::HashMap;
 /// The name that is there, and two that are not.
 const NAMES: [(&str, bool); 3] = [("n", true), ("", false), ("nn", false)];
 
-/// A map of std by lent names.
+/// A map of std whose names are borrowed.
 fn lent_names(report: &mut Report) -> Result<(), Error> {
     let value = 7u64;
     let mut map = HashMap::new(report.alloc);
@@ -24,7 +24,7 @@ fn lent_names(report: &mut Report) -> Result<(), Error> {
     Ok(())
 }
 
-/// A map of std by owned names.
+/// A map of std whose names are owned.
 fn owned_names(report: &mut Report) -> Result<(), Error> {
     let value = 7u64;
     let name = String::from_str(report.alloc, "n")?;
@@ -52,13 +52,13 @@ fn merge<'a>(
     Ok(())
 }
 
-/// The text of what is found under a name, for debugging.
+/// The value found under a name, as `Debug` shows it.
 fn debug_of(alloc: Global, map: &ContextMap<'_, u64>, name: &str) -> Result<String, AllocError> {
     let found = map.get(name);
     format!(in alloc; "{found:?}")
 }
 
-/// Names, and what is found under them, for debugging.
+/// Names, and the values found under them, as `Debug` shows them.
 const KEPT: [(&str, &str); 4] = [
     ("a", "Some(Formattable(debug, display))"),
     ("b", "Some(Formattable(octal))"),
@@ -83,7 +83,7 @@ fn puts(report: &mut Report) -> Result<(), Error> {
     Ok(())
 }
 
-/// Formats over the pairs `n` 1, `nn` 2, the empty name 3, `é` 4 and `n` 5, and what they print.
+/// Formats with the pairs `n` 1, `nn` 2, the empty name 3, `é` 4 and `n` 5, and their output.
 /// Worked by hand from the rules of contexts and of arguments in docs/DEFINITIONS.md.
 #[rattlefmt::skip]
 const FOUND: [(&str, &str); 7] = [
@@ -96,8 +96,9 @@ const FOUND: [(&str, &str); 7] = [
     ("none", "none"),
 ];
 
-/// Formats over the same pairs, and the fault of the name that is missing. Worked by hand, as the rows
-/// above; the argument starts after its brace, at 1. std escapes the accent when it debugs a text.
+/// Formats with the same pairs, and the fault of the missing name. Worked by hand, like the rows
+/// above; the argument starts after its brace, at 1. std escapes the accent when it shows a text by
+/// `Debug`.
 #[rattlefmt::skip]
 const ABSENT: [(&str, &str); 6] = [
     ("{nnn}", "MissingValue(\"nnn\", 1)"),
@@ -108,19 +109,19 @@ const ABSENT: [(&str, &str); 6] = [
     ("{\u{301}}", "MissingValue(\"\\u{301}\", 1)"),
 ];
 
-/// The text of the format's template over the pairs.
+/// The output of the format's template with the pairs.
 fn by_a_template(alloc: Global, pairs: Pairs<'_, u64>, format: &str) -> Result<String, Error> {
     let template = Template::parse(alloc, format)?;
     pairs.format_template(alloc, &template)
 }
 
-/// The format and its template give this over the pairs.
+/// Checks that the format and its template return this with the pairs.
 fn gives_over(report: &mut Report, pairs: Pairs<'_, u64>, format: &str, wanted: (&str, &str)) {
     report.made(format, wanted, pairs.format(report.alloc, format));
     report.made(format, wanted, by_a_template(report.alloc, pairs, format));
 }
 
-/// The last pair of a name counts.
+/// If a name has several pairs, the last one counts.
 fn last_pairs(report: &mut Report) {
     let values = [1u64, 2, 3, 4, 5];
     let pairs = [
@@ -141,7 +142,7 @@ fn last_pairs(report: &mut Report) {
 /// How many names the maps have.
 const COUNT: usize = 5_000;
 
-/// The format gives the text over the map, and so does its template.
+/// Checks that the format returns the text with the map, and so does its template.
 fn gives(report: &mut Report, map: &ContextMap<'_, usize>, format: &str, text: &str) {
     report.made(format, (text, ""), map.format(report.alloc, format));
     report.made(format, (text, ""), by_template(report.alloc, map, format));
@@ -168,7 +169,7 @@ fn finds_each(
     Ok(())
 }
 
-/// The number is put, or entered slot by slot, under its name in decimal.
+/// Adds the number under its name in decimal: by `put`, or by `entry`, slot by slot.
 fn add<'a>(
     alloc: Global,
     map: &mut ContextMap<'a, usize>,
@@ -185,7 +186,7 @@ fn add<'a>(
     Ok(())
 }
 
-/// Many names, put or entered.
+/// Many names, added by `put` or by `entry`.
 fn many_names(report: &mut Report, is_put: bool) -> Result<(), Error> {
     let numbers = (0..COUNT).collect::<Vec<usize>>(report.alloc)?;
     let mut map = ContextMap::new(report.alloc);
@@ -195,7 +196,7 @@ fn many_names(report: &mut Report, is_put: bool) -> Result<(), Error> {
     finds_each(report, &map, numbers.as_slice())
 }
 
-/// The empty name is put as any other.
+/// The empty name is put like any other.
 fn the_empty_name(report: &mut Report) -> Result<(), Error> {
     let values = [7, 8];
     let mut map = ContextMap::new(report.alloc);
@@ -208,7 +209,7 @@ fn the_empty_name(report: &mut Report) -> Result<(), Error> {
     Ok(())
 }
 
-/// The empty name is entered as any other.
+/// The empty name has an entry like any other.
 fn the_empty_entry(report: &mut Report) -> Result<(), Error> {
     let values = [7, 8];
     let mut map = ContextMap::new(report.alloc);

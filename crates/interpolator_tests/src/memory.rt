@@ -1,6 +1,7 @@
-//! Memory that is refused. Each group holds whether memory is given or one allocation is refused, as
-//! `rt try --fail-alloc` does: then a call answers `NoMemory`, leaves what there is as it is, and
-//! gives its row when it is asked again.
+//! Memory that is refused. The group passes whether memory is given or one allocation is refused.
+//! In the gate, `run-refused.sh` of this crate refuses each allocation in turn: it loads
+//! `.ci/refuse.c` before the C library. A call whose allocation is refused returns `NoMemory` and
+//! leaves everything as it was; called again, it returns what its row says.
 
 mod lists;
 mod loaded;

@@ -41,7 +41,7 @@ impl Context for Nowhere {
 
 impl Interpolate for Nowhere {}
 
-/// The text `w5` if the width is 5, and else nothing.
+/// The text `w5` if the width is 5, and nothing otherwise.
 #[derive(Clone, Copy)]
 pub struct OnlyFive;
 
@@ -58,7 +58,7 @@ impl Value for OnlyFive {
     }
 }
 
-/// The text `{x}` as it is, whatever is asked.
+/// The text `{x}` as it is, under every trait and spec.
 #[derive(Clone, Copy)]
 pub struct AlwaysPlain;
 
@@ -70,7 +70,7 @@ impl Value for AlwaysPlain {
     }
 }
 
-/// A failure, whatever is asked.
+/// A failure, under every trait and spec.
 #[derive(Clone, Copy)]
 pub struct AlwaysFailed;
 

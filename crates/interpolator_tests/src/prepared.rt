@@ -4,9 +4,9 @@ use crate::counting::Counting;
 use crate::report::Report;
 use interpolator::{Bounded, Error, Formattable, Pairs, Row, Template, View};
 
-/// A format, how many values the row has, how many bytes the writer takes, what it then holds, and
-/// the fault that is answered: by hand. The names are `x`, `y`, `x` and `l`, of which the last `x` has
-/// the value; the row is 1, 7, `Ann`, and a list of 1 and 5.
+/// A format, how many values the row has, how many bytes the writer takes, what it contains in the
+/// end, and the fault that is returned: by hand. The names are `x`, `y`, `x` and `l`, and it is the
+/// last `x` that has the value; the row is 1, 7, `Ann`, and a list of 1 and 5.
 #[rattlefmt::skip]
 const ROWS: [(&str, usize, usize, &str, &str); 20] = [
     ("a{{b{x}}}c", 4, 99, "a{bAnn}c", ""),
@@ -62,7 +62,7 @@ fn rows_are_written(report: &mut Report) -> Result<(), Error> {
     Ok(())
 }
 
-/// By hand: a prepared format is the same after a refusal, and over another row.
+/// By hand: a prepared format is the same after a refusal, and with another row.
 fn used_again(report: &mut Report) -> Result<(), Error> {
     let alloc = report.alloc;
     let row = [Formattable::display(&1u32), Formattable::display(&2u32)];
@@ -85,8 +85,8 @@ fn used_again(report: &mut Report) -> Result<(), Error> {
     Ok(())
 }
 
-/// By hand: text between two arguments is one call of the writer, though a format's text is written
-/// brace by brace. So it is the steps that are run.
+/// By hand: text between two arguments is one call of the writer, although a format that is not
+/// prepared is written brace by brace. So it is the prepared steps that are run.
 fn joined_text_is_one_call(report: &mut Report) -> Result<(), Error> {
     let alloc = report.alloc;
     let row = [Formattable::display(&7u64)];

@@ -1,4 +1,4 @@
-//! The renderer by itself: a writer that has refused, and calls of a writer.
+//! The renderer by itself: a writer that has refused, and the calls that a writer gets.
 
 use crate::counting::Counting;
 use crate::report::Report;
@@ -7,8 +7,8 @@ use interpolator::{
     Alignment, Bounded, Error, Refusal, Spec, TextWrite, Trait, Value, View, pad, render,
 };
 
-/// A view and how it is written; its text, as the front, a part and how often that is repeated, and
-/// the end; and the most calls that write it.
+/// A view and how it is written; its text, as a front, a part, how often the part is repeated, and
+/// an end; and the most calls by which it may be written.
 struct Row<'a> {
     view: View<'a>,
     t: Trait,
@@ -20,7 +20,7 @@ struct Row<'a> {
     most: usize,
 }
 
-/// A flagged writer takes the empty text alone.
+/// A writer that has refused takes nothing but the empty text.
 fn flagged(report: &mut Report) {
     let mut out = Bounded::new(report.alloc, 0);
     let answer = pad(&mut out, "a", &PLAIN);
@@ -30,8 +30,8 @@ fn flagged(report: &mut Report) {
     report.text("nothing is written", "", out.as_str());
 }
 
-/// The text by the rules of rendering in docs/DEFINITIONS.md; the calls, one for a part, and for
-/// padding one for each 64 characters or fewer.
+/// The text follows the rules of rendering in docs/DEFINITIONS.md; the calls are one for each part,
+/// and for padding one for each 64 characters or fewer.
 #[rattlefmt::skip]
 const CALLS: [Row<'static>; 9] = [
     Row { view: View::Unsigned(7), t: Trait::Display, spec: Spec { width: Some(1001), ..PLAIN }, front: "", part: " ", count: 1000, end: "7", most: 17 },
@@ -45,8 +45,8 @@ const CALLS: [Row<'static>; 9] = [
     Row { view: View::Text("letters ten"), t: Trait::Display, spec: PLAIN, front: "letters ten", part: "", count: 0, end: "", most: 1 },
 ];
 
-/// The view is written by at most so many calls, and none of an empty text: digits, padding and the
-/// runs of a quoted text are handed over as slices.
+/// Checks that the view is written by at most `most` calls, none of them with an empty text:
+/// digits, padding and the runs of a quoted text are handed over as slices.
 fn is_written_by_few(report: &mut Report, row: &Row<'_>) -> Result<(), Error> {
     let alloc = report.alloc;
     let middle = row.part.repeat(alloc, row.count)?;

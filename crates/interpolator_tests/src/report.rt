@@ -1,23 +1,23 @@
-//! What is checked, and what of it fails.
+//! The report of what is checked and which checks fail.
 
 use interpolator::Error;
 use std::alloc::{AllocError, Global};
 
-/// The room for what is told, so that telling takes no memory: more bytes than all groups want.
+/// The room for the report, so that reporting takes no memory: more bytes than all groups need.
 const ROOM: usize = 4_000;
 
-/// The most characters of a text that are told.
+/// The most characters of a text that are reported.
 const MOST: usize = 200;
 
-/// What is told of the checks.
+/// The report of the checks.
 #[derive(Drop)]
 pub struct Report {
     pub alloc: Global,
     /// How many checks each group has, and those that fail.
     pub told: String,
-    /// Whether memory for what is told was refused.
+    /// Whether memory for the report was refused.
     pub wants_memory: bool,
-    /// The present group, of which so many are checked, and fail.
+    /// The present group, and how many of its checks were made and failed.
     group: &'static str,
     checks: usize,
     failed: usize,
@@ -44,14 +44,14 @@ impl Report {
         })
     }
 
-    /// Tells a text.
+    /// Reports a text.
     fn say(&mut self, text: &str) {
         if self.told.push_str(text).is_err() {
             self.wants_memory = true;
         }
     }
 
-    /// Tells the first characters of a text, if there was memory for it.
+    /// Reports the first characters of a text, if there is memory for them.
     fn say_front(&mut self, text: &str) {
         match front(self.alloc, text) {
             Ok(front) => self.say(front.as_str()),
@@ -59,7 +59,7 @@ impl Report {
         }
     }
 
-    /// Tells a number.
+    /// Reports a number.
     fn say_number(&mut self, number: usize) {
         match format!(in self.alloc; "{number}") {
             Ok(text) => self.say(text.as_str()),
@@ -67,7 +67,7 @@ impl Report {
         }
     }
 
-    /// The checks that follow are of this group.
+    /// Begins a group: the next checks belong to it.
     pub fn begin(&mut self, group: &'static str) {
         self.end();
         self.group = group;
@@ -75,7 +75,7 @@ impl Report {
         self.failed = 0;
     }
 
-    /// Tells how many checks the group has.
+    /// Reports how many checks the group has, and ends it.
     pub fn end(&mut self) {
         if self.checks > 0 {
             self.say(self.group);
@@ -87,7 +87,7 @@ impl Report {
         }
     }
 
-    /// Counts a check that holds, or does not.
+    /// Counts a check, which holds or fails.
     fn count(&mut self, holds: bool) {
         self.checks = self.checks.saturating_add(1);
         if !holds {
@@ -95,14 +95,14 @@ impl Report {
         }
     }
 
-    /// Tells of which check something is told.
+    /// Names the check that the next words are about.
     fn say_check(&mut self, what: &str) {
         self.say(self.group);
         self.say(": ");
         self.say_front(what);
     }
 
-    /// This holds.
+    /// Checks that this holds.
     pub fn holds(&mut self, what: &str, holds: bool) {
         self.count(holds);
         if !holds {
@@ -111,7 +111,7 @@ impl Report {
         }
     }
 
-    /// What was checked came to its end.
+    /// Checks that this part of the group came to its end.
     pub fn done(&mut self, what: &str, answer: Result<(), Error>) {
         match answer {
             Ok(()) => {}
@@ -120,15 +120,15 @@ impl Report {
         }
     }
 
-    /// This holds after memory was refused. It is counted if it fails, so that what is told is the
-    /// same whichever allocation is refused.
+    /// Checks that this holds after memory was refused. It is counted only if it fails, so that the
+    /// report is the same whichever allocation is refused.
     pub fn refused(&mut self, what: &str, holds: bool) {
         if !holds {
             self.holds(what, false);
         }
     }
 
-    /// The number is this one.
+    /// Checks that the number is the wanted one.
     pub fn number(&mut self, what: &str, wanted: usize, came: usize) {
         self.count(wanted == came);
         if wanted != came {
@@ -141,7 +141,7 @@ impl Report {
         }
     }
 
-    /// The text is this one.
+    /// Checks that the text is the wanted one.
     pub fn text(&mut self, what: &str, wanted: &str, came: &str) {
         self.count(wanted == came);
         if wanted != came {
@@ -154,7 +154,7 @@ impl Report {
         }
     }
 
-    /// The answer has this fault, as debugging shows it; none if that is empty.
+    /// Checks that the result has this fault, as `Debug` shows it; none if that is empty.
     pub fn fault<T: Drop>(&mut self, what: &str, wanted: &str, answer: Result<T, Error>) {
         match answer {
             Ok(_) => self.text(what, wanted, ""),
@@ -162,7 +162,7 @@ impl Report {
         }
     }
 
-    /// The fault is this one.
+    /// Checks that the fault is the wanted one.
     fn error(&mut self, what: &str, wanted: &str, error: &Error) {
         match format!(in self.alloc; "{error:?}") {
             Ok(came) => self.text(what, wanted, came.as_str()),
@@ -170,7 +170,7 @@ impl Report {
         }
     }
 
-    /// This text was written, and this fault answered.
+    /// Checks that this text was written, and this fault returned.
     pub fn written(
         &mut self,
         what: &str,
@@ -183,7 +183,7 @@ impl Report {
         self.fault(what, fault, answer);
     }
 
-    /// This text was made, or else this fault answered.
+    /// Checks that this text was returned, or else this fault.
     pub fn made(&mut self, what: &str, wanted: (&str, &str), made: Result<String, Error>) {
         let (wanted, fault) = wanted;
         match made {

@@ -1,5 +1,5 @@
-//! A map as a sample; and a format that was checked, over contexts that resemble its sample. Rows
-//! of formats over samples are in the files of `interpolator_vectors`.
+//! A map as a sample; and a format that was checked, with contexts that resemble its sample. Rows
+//! of formats and samples are in the files of `interpolator_vectors`.
 
 use crate::report::Report;
 use interpolator::{
@@ -21,10 +21,10 @@ fn map_as_a_sample(report: &mut Report) -> Result<(), Error> {
     Ok(())
 }
 
-/// A format that is checked over one context, and used over others.
+/// A format that is checked against one context, and used with others.
 const FORMAT: &str = "{m:>8}|{n:#06x}|{l:i({:>3})(, )}";
 
-/// The text of the format, as std has it.
+/// The output of the format, as std writes it.
 fn expected(alloc: Global, m: u64, n: u64, count: usize) -> Result<String, AllocError> {
     let mut text = format!(in alloc; "{m:>8}|{n:#06x}|")?;
     for index in 0..count {
@@ -37,7 +37,7 @@ fn expected(alloc: Global, m: u64, n: u64, count: usize) -> Result<String, Alloc
     Ok(text)
 }
 
-/// A list of so many of a number.
+/// A list with the same number `count` times.
 fn items_of(alloc: Global, n: &u64, count: usize) -> Result<Vec<Formattable<'_, u64>>, AllocError> {
     let mut items = Vec::new(alloc);
     for _ in 0..count {
@@ -84,7 +84,7 @@ fn pairs_of<'a>(
     Ok(pairs)
 }
 
-/// The text of a context is made by each way.
+/// Checks that each way returns the text of a context.
 fn is_made(
     report: &mut Report,
     template: &Template,
@@ -102,7 +102,7 @@ fn is_made(
     report.made("a resembling context, prepared", (wanted, ""), made);
 }
 
-/// The text of a context is written by each way.
+/// Checks that each way writes the text of a context.
 fn is_written(
     report: &mut Report,
     template: &Template,
@@ -123,7 +123,7 @@ fn is_written(
     report.written("written by steps", (wanted, ""), out.as_str(), answer);
 }
 
-/// The format is checked over these pairs, and prepared.
+/// Checks the format against these pairs, and prepares it.
 fn loaded_over(
     report: &mut Report,
     template: &Template,
@@ -134,7 +134,7 @@ fn loaded_over(
     template.prepare(report.alloc, &Pairs(pairs))
 }
 
-/// The format is checked over two numbers and a list of one, and prepared.
+/// Checks the format against two numbers and a list of one, and prepares it.
 fn loaded(report: &mut Report, template: &Template, m: u64, n: u64) -> Result<Prepared, Error> {
     let alloc = report.alloc;
     let items = items_of(alloc, &n, 1)?;
@@ -143,7 +143,7 @@ fn loaded(report: &mut Report, template: &Template, m: u64, n: u64) -> Result<Pr
     loaded_over(report, template, &pairs)
 }
 
-/// A context of these numbers, and a list of so many of the second.
+/// Checks a context of these numbers and a list with the second of them `count` times.
 fn resembling_context(
     report: &mut Report,
     template: &Template,
@@ -162,7 +162,7 @@ fn resembling_context(
     Ok(())
 }
 
-/// A format that was checked makes its text over a hundred contexts.
+/// A format that was checked returns its text with each of a hundred contexts.
 fn resembling_contexts(report: &mut Report) -> Result<(), Error> {
     let template = Template::parse(report.alloc, FORMAT)?;
     let prepared = loaded(report, &template, 5, 7)?;

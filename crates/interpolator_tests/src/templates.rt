@@ -1,10 +1,11 @@
-//! What templates tell of their arguments, and the law of which a body is to be seen at work.
+//! What templates report of their arguments, and a law whose body is worth running.
 
 use crate::report::Report;
 use interpolator::laws::templates::rest_of_the_pieces_is_written;
 use interpolator::{Argument, Error, Formattable, Kind, Pairs, Range, Template, TextBuffer, Trait};
 
-/// Worked by hand: of the three pieces `a`, `{x}` and `b` those after so many, with 1 under `x`.
+/// Worked by hand: of the three pieces `a`, `{x}` and `b`, the output of those after the first 0,
+/// 1, 2 and so on, with 1 under `x`.
 #[rattlefmt::skip]
 const TAILS: [(usize, &str); 5] = [(0, "a1b"), (1, "1b"), (2, "b"), (3, ""), (usize::MAX, "")];
 
@@ -21,8 +22,8 @@ fn tails(report: &mut Report) -> Result<(), Error> {
     Ok(())
 }
 
-/// Whether the argument is the list `l` of the range `1..2`, of which each item is written by `{}`
-/// at byte 17.
+/// Whether the argument is the list `l` with the range `1..2`, whose items are each written by the
+/// format `{}` at byte 17.
 fn is_the_list(argument: &Argument<'_>) -> bool {
     match argument.kind {
         Kind::List {
@@ -40,7 +41,7 @@ fn is_one_to_two(range: Range) -> bool {
     range.lower == Some(1) && !range.inclusive && range.upper == Some(2)
 }
 
-/// Whether the argument of this name asks a value under this trait.
+/// Whether the argument has this name and uses a value under this trait.
 fn is_a_value(argument: &Argument<'_>, name: &str, t: Trait) -> bool {
     match argument.kind {
         Kind::Value(asked) => argument.name == name && asked == t,

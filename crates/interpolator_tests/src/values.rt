@@ -1,5 +1,6 @@
-//! The view of each type that has one, and the buffer that texts go to. The greatest and the least
-//! numbers are those of std's documentation, and the bits of -1 are all set in two's complement.
+//! The view of each type that has one, and the buffer to which texts are written. The greatest and
+//! the least numbers are those of std's documentation, and the bits of -1 are all set in two's
+//! complement.
 
 use crate::report::Report;
 use interpolator::{
@@ -8,7 +9,7 @@ use interpolator::{
 };
 use std::alloc::AllocError;
 
-/// A value is written as this text under the trait.
+/// Checks that a value is written as this text under the trait.
 fn shows<V: Value>(report: &mut Report, value: &V, t: Trait, spec: &Spec, text: &str) {
     let mut out = TextBuffer::new(report.alloc);
     let answer = render(&mut out, value.view(t, spec), t, spec);
@@ -16,12 +17,12 @@ fn shows<V: Value>(report: &mut Report, value: &V, t: Trait, spec: &Spec, text: 
     report.text("a value", text, out.as_str());
 }
 
-/// A value is displayed as this text.
+/// Checks that a value is displayed as this text.
 fn displays<V: Value>(report: &mut Report, value: &V, text: &str) {
     shows(report, value, Trait::Display, &Spec::default(), text);
 }
 
-/// A signed number's bits have its type's width.
+/// Checks that a signed number has as many bits as its type.
 fn shows_bits<V: Value>(report: &mut Report, value: &V, hex: &str) {
     shows(report, value, Trait::LowerHex, &Spec::default(), hex);
 }
@@ -95,7 +96,7 @@ fn views(report: &mut Report) -> Result<(), AllocError> {
     Ok(())
 }
 
-/// Numbers outside of their bits, which a view may hold, and which no row can say.
+/// Numbers that do not fit their bits, which a view may hold and no row can say.
 const OUTSIDE: [(i128, Bits); 5] = [
     (128, Bits::B8),
     (-129, Bits::B8),
@@ -124,7 +125,7 @@ pub const PLAIN: Spec = Spec {
     hex_debug: HexDebug::No,
 };
 
-/// The calls of a buffer, each on its happy path.
+/// Each call of a buffer, where it succeeds.
 fn buffer(report: &mut Report) -> Result<(), AllocError> {
     let mut out = TextBuffer::from_string(String::from_str(report.alloc, "a")?);
     report.holds("a text", out.write_str("bé").is_ok());

@@ -1,5 +1,5 @@
-//! Writers of the tests' own: how often they are called, and what they are asked to make room for;
-//! and a width that no memory holds.
+//! Writers of the tests' own: how often they are called and how often they are asked to reserve
+//! room; and a width that no memory holds.
 
 ghost use Rattle.std.specs.Prelude.{Some};
 ghost use Rattle.interpolator_render.specs.Bounds.{bounded_writer, bytes_left};
@@ -13,8 +13,8 @@ use interpolator::{
 };
 use std::alloc::Global;
 
-/// A writer that takes so many bytes in all, tells what is left, and counts how often it is asked to
-/// make room.
+/// A writer that takes a limited number of bytes, reports how many are left, and counts how often
+/// it is asked to reserve room.
 #[derive(Drop)]
 struct Telling {
     inner: Bounded,
@@ -57,7 +57,7 @@ impl TextWrite for Telling {
     }
 }
 
-/// No memory holds so many spaces, whatever the system says of its memory.
+/// No memory holds this many spaces, whatever the system says of its memory.
 fn great_widths(report: &mut Report) {
     let alloc = report.alloc;
     let great = "ab{x:1000000000000000000}";
@@ -69,7 +69,7 @@ fn great_widths(report: &mut Report) {
     report.holds("it has refused", out.refused());
 }
 
-/// A format over the number 7, and how often the writer is asked to make room.
+/// A format with the number 7 under `v`, and how often the writer is asked to reserve room.
 const ASKED: [(&str, usize); 4] = [
     ("{v}", 0),
     ("{v:1001}", 1),
@@ -77,7 +77,7 @@ const ASKED: [(&str, usize); 4] = [
     ("{v:01001}", 1),
 ];
 
-/// Room is asked for before a long padding.
+/// Room is reserved before a long padding.
 fn asked_room(report: &mut Report) {
     let pairs = Pairs(&[("v", Formattable::display(&7u64))]);
     for (text, asked) in &ASKED {
@@ -88,9 +88,9 @@ fn asked_room(report: &mut Report) {
     }
 }
 
-/// A format over 7 under `v`; what is written, as the front, a part and how often that is repeated,
-/// and the end; and the most calls that a writer gets: one for a part, and for padding one for each
-/// 64 characters or fewer.
+/// A format with 7 under `v`; its output, as a front, a part, how often the part is repeated, and
+/// an end; and the most calls that the writer may get: one for each part, and for padding one for
+/// each 64 characters or fewer.
 struct Counted<'a> {
     format: &'a str,
     front: &'a str,
@@ -113,7 +113,7 @@ const BY_CALLS: [Counted<'static>; 8] = [
     Counted { format: "<{v:-<1001}>", front: "<7", part: "-", count: 1000, end: ">", most: 19 },
 ];
 
-/// The text is written by at most so many calls, none of an empty text: over 7 under `v`.
+/// With 7 under `v`, the text is written by at most `most` calls, none of them with an empty text.
 fn is_written_by(report: &mut Report, format: &str, text: &str, most: usize) -> Result<(), Error> {
     let alloc = report.alloc;
     let template = Template::parse(alloc, format)?;

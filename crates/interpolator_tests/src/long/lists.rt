@@ -9,7 +9,7 @@ const TIMES: usize = 10_000;
 
 const DIGITS: [&str; 10] = ["0", "1", "2", "3", "4", "5", "6", "7", "8", "9"];
 
-/// A hundred thousand items are written as this text.
+/// Checks that a hundred thousand items are written as this text.
 fn gives(report: &mut Report, items: &[Formattable<'_, &str>], format: &str, text: &str) {
     let alloc = report.alloc;
     let pairs = Pairs(&[("l", Formattable::iter(&*items))]);
@@ -20,7 +20,7 @@ fn gives(report: &mut Report, items: &[Formattable<'_, &str>], format: &str, tex
     report.made(format, (text, ""), by_template(alloc, pairs, format));
 }
 
-/// The text of the format's template.
+/// The output of the format's template.
 fn by_template(alloc: Global, pairs: Pairs<'_, &str>, format: &str) -> Result<String, Error> {
     let template = Template::parse(alloc, format)?;
     pairs.format_template(alloc, &template)

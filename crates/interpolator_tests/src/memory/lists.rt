@@ -1,11 +1,11 @@
-//! Memory that a padded list or the name of a missing value takes.
+//! Memory that a padded list or the name of a missing value needs.
 
 use crate::given::{Given, format_given, parsed, write_given};
 use crate::report::Report;
 use interpolator::{Error, Formattable, Pairs, TextBuffer};
 
-/// A format, the texts before which it wants memory, what is written if memory is given, and
-/// the fault that is then answered.
+/// A format, the texts after which it needs memory, its output if memory is given, and the fault
+/// that is then returned.
 struct Wanting<'a> {
     format: &'a str,
     before: &'a [&'a str],
@@ -13,8 +13,8 @@ struct Wanting<'a> {
     fault: &'a str,
 }
 
-/// Worked by hand from the rules of lists and outcomes in docs/DEFINITIONS.md, over lists `h` of 1
-/// and 5, and `o` of one item, which has the list `h`.
+/// Worked by hand from the rules of lists and outcomes in docs/DEFINITIONS.md, with the list `h` of
+/// 1 and 5, and the list `o` of one item, which is the list `h`.
 #[rattlefmt::skip]
 const WANTING: [Wanting<'static>; 13] = [
     Wanting { format: "ab{h:>6i({})(,)}", before: &["ab"], text: "ab   1,5", fault: "" },
@@ -45,8 +45,8 @@ fn is_one_of(text: &str, texts: &[&str]) -> bool {
 /// More bytes than any row writes.
 const ROOM: usize = 300;
 
-/// Whether the row is given by a writer, which has its room before. Else memory was refused, and
-/// nothing of the argument that wants it was written.
+/// Checks the row with a writer that has its room already, and returns whether there was memory. If
+/// there was not, nothing of the argument that needs memory was written.
 fn is_written(
     report: &mut Report,
     pairs: Pairs<'_, u64>,
@@ -66,7 +66,7 @@ fn is_written(
     true
 }
 
-/// Whether the row is given as a text of its own. Else memory was refused.
+/// Checks the row as a new text, and returns whether there was memory for it.
 fn is_made(
     report: &mut Report,
     pairs: Pairs<'_, u64>,
@@ -81,7 +81,7 @@ fn is_made(
     true
 }
 
-/// The row is given: at once or, if memory was refused, when it is asked again.
+/// Checks the row: the first call succeeds or, if memory was refused, the second.
 fn gives(report: &mut Report, pairs: Pairs<'_, u64>, row: &Wanting<'_>, given: Given<'_>) {
     let written = is_written(report, pairs, row, given) || is_written(report, pairs, row, given);
     report.holds(row.format, written);
@@ -89,8 +89,8 @@ fn gives(report: &mut Report, pairs: Pairs<'_, u64>, row: &Wanting<'_>, given: G
     report.holds(row.format, made);
 }
 
-/// The rows are given over a list, and over a list of one item which has that list: by their
-/// formats and by the templates of these.
+/// Checks the rows with a list, and with a list of one item which is that list: by their formats
+/// and by the templates of these.
 fn give(report: &mut Report, numbers: Formattable<'_, u64>) -> Result<(), Error> {
     let outer = [numbers];
     for row in &WANTING {

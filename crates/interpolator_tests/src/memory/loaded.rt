@@ -1,4 +1,4 @@
-//! Memory that is taken when a format is loaded: checked over a sample, and prepared for rows.
+//! Memory that loading a format needs: it is checked against a sample, and prepared for rows.
 
 use crate::given::parsed;
 use crate::report::Report;
@@ -12,8 +12,8 @@ struct Loading<'a> {
     text: &'a str,
 }
 
-/// Worked by hand from the rules of samples in docs/DEFINITIONS.md, over the list `h` of 1 and 5, and
-/// 7 under `x`.
+/// Worked by hand from the rules of samples in docs/DEFINITIONS.md, with the list `h` of 1 and 5,
+/// and 7 under `x`.
 #[rattlefmt::skip]
 const LOADED: [Loading<'static>; 5] = [
     Loading { format: "", first: "", count: 0, text: "" },
@@ -23,7 +23,7 @@ const LOADED: [Loading<'static>; 5] = [
     Loading { format: "{h:i({y})({z})}{", first: "MissingValue(\"y\", 6)", count: 3, text: "" },
 ];
 
-/// Whether the first fault is told. Else memory was refused.
+/// Checks the first fault, and returns whether there was memory for it.
 fn is_checked(
     report: &mut Report,
     template: &Template,
@@ -38,7 +38,7 @@ fn is_checked(
     true
 }
 
-/// Whether all faults are told. Else memory was refused.
+/// Checks all faults, and returns whether there was memory for them.
 fn are_told(
     report: &mut Report,
     template: &Template,
@@ -57,8 +57,8 @@ fn are_told(
     }
 }
 
-/// Whether the format is prepared and makes its text, or is refused for its fault. Else memory was
-/// refused.
+/// Checks that the format is prepared and returns its text, or is rejected for its fault; returns
+/// whether there was memory.
 fn is_prepared(
     report: &mut Report,
     template: &Template,
@@ -77,7 +77,7 @@ fn is_prepared(
     true
 }
 
-/// The row is given over a list: at once or, if memory was refused, when it is asked again.
+/// Checks the row with a list: the first call succeeds or, if memory was refused, the second.
 fn gives(
     report: &mut Report,
     row: &Loading<'_>,

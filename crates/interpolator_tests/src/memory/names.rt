@@ -1,12 +1,12 @@
-//! Memory that is refused for a name of a map, for a name that is missing, for a copy of a fault, and
-//! for a text whose braces are doubled. Asked again, each call gives its row.
+//! Memory that is refused for a name of a map, for a name that is missing, for a copy of a fault,
+//! and for a text whose braces are doubled. If it is called again, each call succeeds.
 
 use crate::own::Nowhere;
 use crate::report::Report;
 use interpolator::{Context, ContextMap, Error, Formattable, TextBuffer, escape, write};
 use std::alloc::{AllocError, Global};
 
-/// Whether the name is lent. Else memory was refused.
+/// Whether there was memory for the entry of the name.
 fn is_lent(report: &mut Report, map: &mut ContextMap<'_, u64>, name: &str) -> bool {
     match map.entry(name) {
         Ok(_) => true,
@@ -17,17 +17,17 @@ fn is_lent(report: &mut Report, map: &mut ContextMap<'_, u64>, name: &str) -> bo
     }
 }
 
-/// Whether the name is put. Else memory was refused.
+/// Whether there was memory to put the name.
 fn is_put<'a>(map: &mut ContextMap<'a, u64>, name: &str, value: Formattable<'a, u64>) -> bool {
     map.put(name, value).is_ok()
 }
 
-/// Whether the map has these names, and so many.
+/// Whether the map has these names, and `count` names in all.
 fn has(map: &ContextMap<'_, u64>, a: bool, b: bool, count: usize) -> bool {
     map.get("a").is_some() == a && map.get("b").is_some() == b && map.len() == count
 }
 
-/// What is refused leaves the map as it was.
+/// A call that is refused memory leaves the map as it was.
 fn maps(report: &mut Report) {
     let value = 7u64;
     let shown = Formattable::display(&value);
@@ -45,7 +45,7 @@ fn maps(report: &mut Report) {
     report.holds("a name that is entered", has(&map, true, true, 2));
 }
 
-/// A copy of a text. If memory is refused, it is asked once more.
+/// A copy of a text. If memory is refused, this tries once more.
 fn copied(alloc: Global, text: &str) -> Result<String, AllocError> {
     match String::from_str(alloc, text) {
         Ok(copy) => Ok(copy),
@@ -53,7 +53,7 @@ fn copied(alloc: Global, text: &str) -> Result<String, AllocError> {
     }
 }
 
-/// Whether the fault is copied. Else memory was refused.
+/// Checks a copy of the fault, and returns whether there was memory for it.
 fn is_cloned(report: &mut Report, fault: &Error) -> bool {
     match fault.try_clone(report.alloc) {
         Ok(copy) => {
@@ -67,7 +67,7 @@ fn is_cloned(report: &mut Report, fault: &Error) -> bool {
     }
 }
 
-/// Whether the fault is that no value is under `q`, at this place.
+/// Whether the fault is that there is no value under `q`, at this place.
 fn is_missing(fault: &Error, wanted: usize) -> bool {
     match fault {
         Error::MissingValue(name, place) => name.as_str() == "q" && *place == wanted,
@@ -83,7 +83,7 @@ fn faults(report: &mut Report) -> Result<(), AllocError> {
     Ok(())
 }
 
-/// Texts, and the same with their braces doubled: by hand, each brace twice.
+/// Texts, and the same texts with their braces doubled: by hand, each brace twice.
 #[rattlefmt::skip]
 const ESCAPED: [(&str, &str); 4] = [
     ("", ""),
@@ -92,7 +92,7 @@ const ESCAPED: [(&str, &str); 4] = [
     ("more than sixteen bytes{ and a brace }", "more than sixteen bytes{{ and a brace }}"),
 ];
 
-/// Whether a text is doubled to this one. Else memory was refused.
+/// Checks the text with its braces doubled, and returns whether there was memory for it.
 fn is_doubled(report: &mut Report, text: &str, doubled: &str) -> bool {
     match escape(report.alloc, text) {
         Ok(format) => {
@@ -113,8 +113,9 @@ fn escapes(report: &mut Report) {
     }
 }
 
-/// Whether the name is told that is missing. If its copy is refused, the answer is `NoMemory`, and
-/// the text before it stays. The writer has its room before.
+/// Checks that the missing name is reported, and returns whether there was memory for it. If its
+/// copy is refused, the call returns `NoMemory`, and the text before it stays. The writer has its
+/// room already.
 fn is_told(report: &mut Report) -> bool {
     let alloc = report.alloc;
     let Ok(room) = String::with_capacity(alloc, 8) else {

@@ -1,10 +1,10 @@
-//! Memory that a template takes.
+//! Memory that a template needs.
 
 use crate::given::{Given, are_names, format_given, parsed};
 use crate::report::Report;
 use interpolator::{Error, Formattable, Pairs, Template};
 
-/// A format, the names that it asks, its text, and the fault that is answered.
+/// A format, the names that it uses, its text, and the fault that is returned.
 struct Wanting<'a> {
     format: &'a str,
     names: &'a [&'a str],
@@ -12,8 +12,8 @@ struct Wanting<'a> {
     fault: &'a str,
 }
 
-/// Worked by hand from the rules of asked names, lists and places in docs/DEFINITIONS.md, over the
-/// list `h` of 1 and 5, and 7 under `x`.
+/// Worked by hand from the rules of names, lists and places in docs/DEFINITIONS.md, with the list
+/// `h` of 1 and 5, and 7 under `x`.
 #[rattlefmt::skip]
 const WANTING: [Wanting<'static>; 8] = [
     Wanting { format: "", names: &[], text: "", fault: "" },
@@ -26,7 +26,7 @@ const WANTING: [Wanting<'static>; 8] = [
     Wanting { format: "{x}{q}", names: &["x", "q"], text: "", fault: "MissingValue(\"q\", 4)" },
 ];
 
-/// Whether the names are told. Else memory was refused.
+/// Checks the names, and returns whether there was memory for them.
 fn are_told(report: &mut Report, template: &Template, row: &Wanting<'_>) -> bool {
     match template.names(report.alloc) {
         Ok(names) => {
@@ -40,7 +40,7 @@ fn are_told(report: &mut Report, template: &Template, row: &Wanting<'_>) -> bool
     }
 }
 
-/// Whether the text is made. Else memory was refused.
+/// Checks the text, and returns whether there was memory for it.
 fn is_made(
     report: &mut Report,
     template: &Template,
@@ -55,7 +55,7 @@ fn is_made(
     true
 }
 
-/// The row is given over a list: at once or, if memory was refused, when it is asked again.
+/// Checks the row with a list: the first call succeeds or, if memory was refused, the second.
 fn gives(
     report: &mut Report,
     row: &Wanting<'_>,
