@@ -10,7 +10,7 @@ use Rattle.interpolator_render.proofs.CharacterLemmas.{scalar_first}
 use Rattle.interpolator_render.proofs.WrittenLemmas.{chars-encode}
 use Rattle.interpolator_render.proofs.LayoutLemmas.{byte_count-chars}
 
--- the writer took so many bytes of the text, and `rest` is to come
+-- the writer took `taken` bytes of the text, and `rest` is to come
 pub record Taken (old : Written) (text rest : List ℕ) (taken : ℕ) (now : Written) : Type 0 where
   pub after : List ℕ
   pub parts : text ≡ after ++ rest
@@ -58,7 +58,7 @@ taken_more old now new text rest after taken c size z e k a =
       only_empty = λ h. let n = ap length (a.only_empty (k.same_flag ∙ h)) in absurd (omega arith);
     }
 
--- how far the text goes after what was taken
+-- how far the text goes after the part that was taken
 pub taken_fits : (old now : Written) (text rest after : List ℕ) (taken c : ℕ)
     → rest ≡ encode_utf8 c ++ after → Taken old text rest taken now
     → taken + (length (encode_utf8 c) + length after) ≡ length text
@@ -85,7 +85,7 @@ none_of_one c [] rest e h = refl
 none_of_one c (b ∷ bs) rest e h =
     let n = ap length e in let m = length-append bs rest in absurd (omega arith)
 
--- a character was refused, so all from it on was
+-- a character was refused, so everything from it on was refused
 pub taken_part : (old now new : Written) (text rest after : List ℕ) (taken c k : ℕ)
     → rest ≡ encode_utf8 c ++ after → Taken old text rest taken now → Refuses now (c ∷ []) k new
     → Refuses old (chars text) taken new

@@ -8,7 +8,7 @@ use Rattle.interpolator_render.specs.declared.view.Bits.TheVariants.{B8, B16, B3
 use Rattle.interpolator_vectors.specs.declared.cells.Cell.{Cell}
 use Rattle.interpolator_vectors.specs.declared.cells.Cell.TheVariants as cell
 
--- what it holds, a number at its width
+-- what it contains, a number at its width
 abbrev pub cell_shows : Cell → Shown
 cell_shows (cell.I8 n) = signed_number n B8
 cell_shows (cell.I16 n) = signed_number n B16

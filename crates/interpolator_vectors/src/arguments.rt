@@ -1,4 +1,4 @@
-//! Rows of the argument that starts at a place.
+//! Rows about the argument that starts at a place.
 
 use crate::files::Facts;
 use crate::names::trait_name;
@@ -16,7 +16,7 @@ pub struct Start {
     pub place: usize,
 }
 
-/// The start of a row, if it is of an argument.
+/// The start of a row, if the row is about an argument.
 pub fn start_of(facts: &mut Facts<'_>) -> Read<Option<Start>> {
     let Some(mut words) = facts.next("argument")? else {
         return Ok(None);
@@ -40,7 +40,7 @@ fn placed_text(alloc: Global, key: &str, text: &str, place: usize) -> Result<Str
     format!(in alloc; "{key} {text} {place}")
 }
 
-/// Appends a group, if it is there.
+/// Appends a group, if there is one.
 fn push_group(
     out: &mut String,
     alloc: Global,
@@ -53,7 +53,7 @@ fn push_group(
     }
 }
 
-/// Appends a range, if it is there.
+/// Appends a range, if there is one.
 fn push_range(out: &mut String, alloc: Global, range: Option<Range>) -> Result<(), AllocError> {
     let Some(range) = range else {
         return Ok(());
@@ -62,7 +62,7 @@ fn push_range(out: &mut String, alloc: Global, range: Option<Range>) -> Result<(
     push_line(out, format!(in alloc; "range {range}"))
 }
 
-/// Appends what is asked for.
+/// Appends the kind of an argument.
 fn push_kind(out: &mut String, alloc: Global, kind: &Kind<'_>) -> Result<(), AllocError> {
     match kind {
         Kind::Value(t) => {
@@ -107,7 +107,7 @@ fn fault_text(alloc: Global, error: Error) -> Result<String, AllocError> {
     format!(in alloc; "fault {fault}")
 }
 
-/// Appends what is read, as lines of a file.
+/// Appends what is read at the place, as lines of a file.
 fn push_read(out: &mut String, alloc: Global, text: &str, place: usize) -> Result<(), AllocError> {
     if !text.is_char_boundary(place) {
         return push_line(
@@ -121,14 +121,14 @@ fn push_read(out: &mut String, alloc: Global, text: &str, place: usize) -> Resul
     }
 }
 
-/// What is read.
+/// What is read at the start, as lines of a file.
 fn read_text(alloc: Global, start: &Start) -> Result<String, AllocError> {
     let mut out = String::new(alloc);
     push_read(&mut out, alloc, start.text.as_str(), start.place)?;
     Ok(out)
 }
 
-/// The keys of a row, in the order in which what is read is put into lines.
+/// The keys of a row, in the order in which the lines are written.
 const KEYS: [&str; 8] = [
     "name", "spec", "trait", "range", "item", "join", "end", "fault",
 ];
@@ -144,7 +144,7 @@ fn push_fact(out: &mut String, facts: &mut Facts<'_>, key: &str) -> Read<()> {
     Ok(())
 }
 
-/// What a row says is read.
+/// What a row says is read, as lines of a file.
 fn wanted_text(alloc: Global, facts: &mut Facts<'_>) -> Read<String> {
     let mut out = String::new(alloc);
     for key in KEYS {
@@ -153,7 +153,7 @@ fn wanted_text(alloc: Global, facts: &mut Facts<'_>) -> Read<String> {
     Ok(out)
 }
 
-/// The argument of a row is read as the row says.
+/// Checks that the argument of a row is read as the row says.
 pub fn run_argument(report: &mut Report<'_>, facts: &mut Facts<'_>, start: &Start) -> Read<()> {
     let wanted = wanted_text(report.alloc, facts)?;
     let came = read_text(report.alloc, start);

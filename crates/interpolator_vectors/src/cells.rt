@@ -14,7 +14,7 @@ pub enum Cell {
     Truth(bool),
     Character(char),
     Text(String),
-    /// A text that stands for itself.
+    /// A text that no option changes.
     Plain(String),
     NotImplemented,
     Failed,

@@ -1,4 +1,4 @@
-//! The contexts of files: what is given under their names.
+//! The contexts of files: what they have under their names.
 
 use crate::cells::Cell;
 use crate::lexing::Word;
@@ -8,7 +8,7 @@ use crate::words::Words;
 use interpolator::{ContextMap, Formattable, Limits};
 use std::alloc::{AllocError, Global};
 
-/// How deep lists are nested at most.
+/// How deep lists may be nested.
 const LEVELS: usize = 4;
 
 /// A value, and the slots that it fills.
@@ -18,26 +18,26 @@ struct Fill {
     cell: Cell,
 }
 
-/// Where the items of a list are among those of their level.
+/// Where the items of a list are among the items of their level.
 #[derive(Clone, Copy)]
 struct Items {
     from: usize,
     to: usize,
 }
 
-/// What is given under a name, or an item of a list.
+/// What a context has under a name, or an item of a list.
 #[derive(Drop)]
 struct Held {
     /// The name; empty if it is an item.
     name: String,
-    /// In how many lists it is.
+    /// How many lists it is inside.
     level: usize,
     fills: Vec<Fill>,
-    /// Its lists, of which the last is the one that counts.
+    /// Its lists, of which the last one counts.
     lists: Vec<Items>,
 }
 
-/// All that is given under the names of a context, and in their lists.
+/// Everything that a context has under its names, and in the lists there.
 #[derive(Drop)]
 pub struct Holding {
     alloc: Global,
@@ -116,7 +116,7 @@ impl Held {
     }
 }
 
-/// The most characters of a text among values.
+/// The number of characters of the longest text among the values.
 fn longest_of(fills: &[Fill]) -> usize {
     let mut longest = 0usize;
     for fill in fills {
@@ -129,7 +129,7 @@ fn longest_of(fills: &[Fill]) -> usize {
     longest
 }
 
-/// The most items among lists.
+/// The number of items of the longest list.
 fn most_items_of(lists: &[Items]) -> usize {
     let mut most = 0usize;
     for list in lists {
@@ -157,7 +157,7 @@ impl Holding {
         count
     }
 
-    /// Where the name is, if it is there.
+    /// The index of the name, if it is there.
     fn find(&self, name: &str) -> Option<usize> {
         for index in 0..self.all.len() {
             if let Some(held) = self.all.get(index) {
@@ -169,14 +169,14 @@ impl Holding {
         None
     }
 
-    /// Adds one, and tells where it is.
+    /// Adds one, and returns its index.
     fn add(&mut self, name: String, level: usize) -> Read<usize> {
         let held = Held::new(self.alloc, name, level);
         self.all.push(held)?;
         Ok(self.all.len().saturating_sub(1))
     }
 
-    /// Where the name is, which is added if it is not there.
+    /// The index of the name, which is added if it is not there.
     fn find_or_add(&mut self, name: String) -> Read<usize> {
         match self.find(name.as_str()) {
             Some(index) => Ok(index),
@@ -184,7 +184,7 @@ impl Holding {
         }
     }
 
-    /// What no value and no list of it goes past.
+    /// Limits that none of its values and lists exceeds.
     pub fn limits(&self) -> Limits {
         let mut text = 0usize;
         let mut items = 0usize;
@@ -209,7 +209,7 @@ impl Holding {
         Ok(())
     }
 
-    /// Begins the list of one.
+    /// Begins a list of the one at the index.
     fn begin_list(&mut self, index: usize) -> Read<()> {
         let from = self.count(self.level_of(index).saturating_add(1));
         if let Some(held) = self.all.get_mut(index) {
@@ -218,7 +218,7 @@ impl Holding {
         Ok(())
     }
 
-    /// The list of one has the items up to here.
+    /// Ends the list of the one at the index: its items are those up to here.
     fn end_list(&mut self, index: usize) -> Read<()> {
         let to = self.count(self.level_of(index).saturating_add(1));
         if let Some(held) = self.all.get_mut(index) {
@@ -237,7 +237,7 @@ impl Holding {
         }
     }
 
-    /// Adds an item to the list of one, and tells where it is.
+    /// Adds an item to the list of the one at the index, and returns the item's index.
     fn add_item(&mut self, words: &Words<'_>, index: usize) -> Read<usize> {
         if !self.has_list(index) {
             return Err(words.trouble("`list` is wanted before items"));
@@ -251,7 +251,7 @@ impl Holding {
         Ok(item)
     }
 
-    /// A fact of the one that is open innermost.
+    /// Reads a fact of the innermost one that is open.
     fn take_fact(&mut self, words: &mut Words<'_>, open: &mut Vec<usize>) -> Read<()> {
         let index = open.last().copied().unwrap_or(0);
         if words.takes("list") {
@@ -290,7 +290,7 @@ impl Holding {
         }
     }
 
-    /// A line of the context: a name, and what is given under it.
+    /// Reads a line of the context: a name, and what is under it.
     pub fn take_line(&mut self, words: &mut Words<'_>) -> Read<()> {
         let name = self.take_name(words)?;
         let mut open = Vec::new(self.alloc);
@@ -347,7 +347,7 @@ fn fill_all<'a>(held: &mut Formattable<'a, Cell>, all: &'a Fill) {
     }
 }
 
-/// What is held, as a value over the items of the level below.
+/// The slots of a name or an item, with the items of the level below.
 fn value_of<'a>(held: &'a Held, below: &'a [Formattable<'a, Cell>]) -> Formattable<'a, Cell> {
     let mut value = Formattable::default();
     for list in &held.lists {
@@ -411,7 +411,7 @@ pub fn pairs_of<'a>(
     Ok(pairs)
 }
 
-/// The last first.
+/// The same, with the last first.
 pub fn turned<T: Copy>(alloc: Global, all: &[T]) -> Result<Vec<T>, AllocError> {
     let mut turned = Vec::new(alloc);
     for one in all.iter().rev() {

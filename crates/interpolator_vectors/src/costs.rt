@@ -1,15 +1,16 @@
-//! What the formats of rows cost: within the limits of a row's own context its text is no longer
-//! than its format is said to cost.
+//! What the formats of rows cost: with the limits of a row's own context, the text is no longer
+//! than the format's cost says.
 
 use crate::cells::Cell;
 use crate::report::{Outcome, Part, Report};
 use crate::told::Told;
 use interpolator::{ContextMap, Interpolate, Limits, Template};
 
-/// What costs more characters is not written here.
+/// Formats that cost more characters than this are not written here.
 const MOST: usize = 1_000_000;
 
-/// The text of a format that has one is no longer than it costs. What holds is no run of its own.
+/// Checks that the text of a format, if it has one, is no longer than the cost. Only a failure
+/// counts as a run of its own.
 pub fn run_cost(
     report: &mut Report<'_>,
     context: &ContextMap<'_, Cell>,

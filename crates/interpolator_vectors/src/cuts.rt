@@ -7,10 +7,11 @@ use crate::told::{Told, told_by};
 use crate::ways::{Room, WAYS, Way, came_by};
 use interpolator::{ContextMap, parse_argument};
 
-/// More characters than any beginning writes.
+/// More characters than any beginning of a format writes.
 const PLENTY: usize = 1_000;
 
-/// No place that is told lies past the end of the beginning, and memory is not wanted.
+/// Checks that the place that is reported is not past the end of the beginning, and that no memory
+/// is lacking.
 fn run_place(report: &mut Report<'_>, beginning: &str, outcome: Outcome<'_>) {
     let holds = outcome.told != Told::NoMemory && outcome.told.place() <= beginning.len();
     report.compare_said(
@@ -22,7 +23,7 @@ fn run_place(report: &mut Report<'_>, beginning: &str, outcome: Outcome<'_>) {
     );
 }
 
-/// With nothing under any name the beginning writes nothing, and answers this.
+/// Checks that with nothing under any name the beginning writes nothing, and returns this.
 fn run_without_names(report: &mut Report<'_>, beginning: &str, told: Told<'_>) {
     let nothing = ContextMap::new(report.alloc);
     run_ways(
@@ -36,8 +37,9 @@ fn run_without_names(report: &mut Report<'_>, beginning: &str, told: Told<'_>) {
     );
 }
 
-/// The argument with which the beginning begins is read as it is written: if it is broken, its
-/// fault is all that comes; else its name is the first that is looked up.
+/// Checks that an argument at the start of the beginning is read in the same way when it is
+/// written: if it is broken, its fault is the only outcome; if not, its name is the first that is
+/// looked up.
 fn run_argument(report: &mut Report<'_>, beginning: &str, outcome: Outcome<'_>) {
     if !beginning.starts_with('{') || beginning.starts_with("{{") {
         return;
@@ -67,7 +69,7 @@ fn room_of(room: Room) -> Room {
     }
 }
 
-/// A beginning is written alike by every way.
+/// Checks that a beginning is written alike by every way.
 fn run_beginning(
     report: &mut Report<'_>,
     context: &ContextMap<'_, Cell>,
@@ -87,7 +89,7 @@ fn run_beginning(
     run_argument(report, beginning, outcome);
 }
 
-/// Each beginning of a format.
+/// Runs each beginning of a format.
 pub fn run_cuts(report: &mut Report<'_>, context: &ContextMap<'_, Cell>, format: &str, room: Room) {
     for byte in 0..=format.len() {
         if format.is_char_boundary(byte) {

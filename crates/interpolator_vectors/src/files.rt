@@ -6,7 +6,7 @@ use crate::words::Words;
 use std::alloc::Global;
 use std::mem;
 
-/// A line that says something.
+/// A line that is neither empty nor a comment.
 #[derive(Drop)]
 pub struct Line {
     pub number: usize,
@@ -57,11 +57,11 @@ impl Block {
 #[derive(Drop)]
 struct Reader {
     alloc: Global,
-    /// What ends before the line.
+    /// The contexts that ended before this line.
     blocks: Vec<Block>,
-    /// The context of the line.
+    /// The context that the line belongs to.
     block: Block,
-    /// The row of the line, if `in_row`.
+    /// The row that the line belongs to, if `in_row`.
     row: Row,
     in_row: bool,
 }
@@ -93,7 +93,7 @@ impl Reader {
         Ok(())
     }
 
-    /// What follows `context`.
+    /// Begins a context, with the words after `context`.
     fn begin_block(&mut self, mut words: Words<'_>) -> Read<()> {
         self.end_block()?;
         self.block.cut = words.takes("cut");
@@ -101,7 +101,7 @@ impl Reader {
         words.done()
     }
 
-    /// What follows `row`.
+    /// Begins a row, with the words after `row`.
     fn begin_row(&mut self, number: usize, mut words: Words<'_>) -> Read<()> {
         self.end_row()?;
         self.in_row = true;
@@ -112,7 +112,7 @@ impl Reader {
         words.done()
     }
 
-    /// A line at the margin.
+    /// Reads a line that is not indented.
     fn take_head(&mut self, line: &Line) -> Read<()> {
         let mut words = Words::new(self.alloc, line.number, &line.words);
         if words.takes("context") {
@@ -124,7 +124,7 @@ impl Reader {
         Err(words.trouble("a line at the margin begins with `context` or `row`"))
     }
 
-    /// A line of this number.
+    /// Reads the line of this number.
     fn take(&mut self, number: usize, text: &str) -> Read<()> {
         if text.starts_with('#') || text.trim_start().starts_with('#') {
             return Ok(());
@@ -160,7 +160,7 @@ pub fn blocks_of(alloc: Global, text: &str) -> Read<Vec<Block>> {
     Ok(reader.blocks)
 }
 
-/// The facts of a row, of which each is read once.
+/// The facts of a row, each of which is read once.
 #[derive(Drop)]
 pub struct Facts<'a> {
     alloc: Global,
@@ -186,7 +186,7 @@ impl<'a> Facts<'a> {
         }
     }
 
-    /// Where the fact of this key is, if it is there.
+    /// The index of the first fact of this key that is not read, if there is one.
     fn find(&self, key: &str) -> Option<usize> {
         for index in 0..self.row.facts.len() {
             if let Some(line) = self.row.facts.get(index) {
@@ -198,7 +198,7 @@ impl<'a> Facts<'a> {
         None
     }
 
-    /// The words after the key of the next fact that has it, which then is read.
+    /// The words after the key of the next fact that has it; the fact counts as read.
     pub fn next(&mut self, key: &str) -> Read<Option<Words<'a>>> {
         let Some(index) = self.find(key) else {
             return Ok(None);
@@ -220,7 +220,7 @@ impl<'a> Facts<'a> {
         self.row.facts.len()
     }
 
-    /// What is wrong with the row.
+    /// The trouble with the row.
     pub fn trouble(&self, what: &'static str) -> Trouble {
         Trouble::Line(self.row.number, what)
     }
@@ -235,7 +235,7 @@ impl<'a> Facts<'a> {
         Vec::new(self.alloc)
     }
 
-    /// The facts that were not read are not asked.
+    /// Leaves out the facts that were not read: they count as read.
     pub fn leave(&mut self) -> Read<()> {
         for index in 0..self.len() {
             self.read.push(index)?;
@@ -243,7 +243,7 @@ impl<'a> Facts<'a> {
         Ok(())
     }
 
-    /// Each fact was read.
+    /// Checks that each fact was read.
     pub fn done(&self) -> Read<()> {
         for index in 0..self.row.facts.len() {
             if let Some(line) = self.row.facts.get(index) {
@@ -278,7 +278,7 @@ impl<'a> Facts<'a> {
         Ok(Some(number))
     }
 
-    /// Whether the fact of this key, which says nothing else, is there.
+    /// Whether there is a fact of this key, which says nothing else.
     pub fn mark(&mut self, key: &str) -> Read<bool> {
         let Some(words) = self.next(key)? else {
             return Ok(false);

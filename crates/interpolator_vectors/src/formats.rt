@@ -1,4 +1,4 @@
-//! Rows of formats and of parts: what is written and answered, by every way.
+//! Rows of formats and of parts: what is written and returned, by every way.
 
 use crate::cells::Cell;
 use crate::files::{Facts, Row};
@@ -17,11 +17,11 @@ pub struct FormatRow<'a> {
     pub formats: Vec<String>,
     pub kind: Kind,
     pub room: Room,
-    /// What is written and answered, if the row says so.
+    /// What is written and returned, if the row says so.
     pub wanted: Option<Wanted>,
 }
 
-/// What a row is of.
+/// What a row has.
 #[derive(Clone, Copy, PartialEq)]
 pub enum Kind {
     Format,
@@ -29,7 +29,7 @@ pub enum Kind {
     Line,
 }
 
-/// What is written, and what is answered.
+/// What is written, and what is returned.
 #[derive(Drop)]
 pub struct Wanted {
     pub text: String,
@@ -55,7 +55,7 @@ pub fn answer_of(facts: &mut Facts<'_>) -> Read<Result<(), Error>> {
     Ok(Err(fault))
 }
 
-/// What a row wants.
+/// The outcome that a row states.
 fn wanted_of(facts: &mut Facts<'_>) -> Read<Option<Wanted>> {
     let text = facts.text("text")?;
     let answer = answer_of(facts)?;
@@ -86,7 +86,7 @@ fn append(all: &mut Vec<String>, texts: &[String]) -> Read<()> {
     Ok(())
 }
 
-/// The parts of a row, as often as it says; none if it is no such row.
+/// The parts of a row, as many times as it says; none if the row has no parts.
 fn parts_of(facts: &mut Facts<'_>) -> Read<Option<Vec<String>>> {
     let Some(mut words) = facts.next("parts")? else {
         return Ok(None);
@@ -99,7 +99,7 @@ fn parts_of(facts: &mut Facts<'_>) -> Read<Option<Vec<String>>> {
     Ok(Some(parts))
 }
 
-/// The format of a row, or its parts; none if it is no such row.
+/// The format of a row, or its parts; none if the row has neither.
 fn formats_of(facts: &mut Facts<'_>) -> Read<Option<(Vec<String>, Kind)>> {
     if let Some(mut words) = facts.next("format")? {
         let texts = words.texts()?;
@@ -120,7 +120,7 @@ fn formats_of(facts: &mut Facts<'_>) -> Read<Option<(Vec<String>, Kind)>> {
 }
 
 impl<'a> FormatRow<'a> {
-    /// The row, if it is of a format, of parts or of a line.
+    /// The row, if it has a format, parts or a line.
     pub fn read(row: &'a Row, facts: &mut Facts<'_>) -> Read<Option<FormatRow<'a>>> {
         let Some((formats, kind)) = formats_of(facts)? else {
             return Ok(None);
@@ -143,7 +143,7 @@ impl<'a> FormatRow<'a> {
     }
 }
 
-/// The texts, lent.
+/// The texts, borrowed.
 pub fn lent<'a>(alloc: Global, texts: &'a [String]) -> Result<Vec<&'a str>, AllocError> {
     let mut all = Vec::new(alloc);
     for text in texts {
@@ -160,7 +160,7 @@ pub fn first(text: &str, count: usize) -> &str {
     }
 }
 
-/// What is told of the part of a run.
+/// The part of a row that a run with this writer is reported as.
 fn part_of(room: Room) -> Part<'static> {
     match room {
         Room::All => Part::Whole,
@@ -169,7 +169,7 @@ fn part_of(room: Room) -> Part<'static> {
     }
 }
 
-/// The parts are run by these ways, to a writer that takes this.
+/// Runs the parts by these ways, with a writer that takes this.
 pub fn run_ways(
     report: &mut Report<'_>,
     context: &ContextMap<'_, Cell>,
@@ -185,7 +185,7 @@ pub fn run_ways(
     }
 }
 
-/// What was made is compared: a text if there is no fault.
+/// Compares what was returned: a text if there is no fault.
 pub fn compare_text(
     report: &mut Report<'_>,
     way: &str,
@@ -203,7 +203,7 @@ pub fn compare_text(
     }
 }
 
-/// The format is run by each way to make a text.
+/// Runs the format by each way to make a text.
 pub fn run_makings(
     report: &mut Report<'_>,
     context: &ContextMap<'_, Cell>,
@@ -226,7 +226,7 @@ fn bytes_of(parts: &[&str]) -> usize {
     bytes
 }
 
-/// The parts are run to a writer that takes so many characters, fewer than the text has.
+/// Runs the parts with a writer that takes `count` characters, fewer than the text has.
 fn run_refused(
     report: &mut Report<'_>,
     context: &ContextMap<'_, Cell>,
@@ -247,18 +247,18 @@ fn run_refused(
     );
 }
 
-/// Up to so many characters of a text every size of a little writer is tried.
+/// Up to this many characters of a text, every size of a smaller writer is tried.
 const SHORT: usize = 200;
 
-/// How many sizes are tried of a longer text, from both ends.
+/// How many sizes are tried for a longer text, at both ends.
 const ENDS: usize = 4;
 
-/// Whether a writer of so many characters is tried, of all that a text has.
+/// Whether a writer of `count` characters is tried, for a text of `all` characters.
 pub fn is_tried(count: usize, all: usize) -> bool {
     all <= SHORT || count < ENDS || all.saturating_sub(count) <= ENDS
 }
 
-/// The parts are run to a writer that takes so many characters, fewer than the text has.
+/// Runs the parts by each way with a writer that takes `count` characters, fewer than the text has.
 fn run_each_refused(
     report: &mut Report<'_>,
     context: &ContextMap<'_, Cell>,
@@ -272,7 +272,7 @@ fn run_each_refused(
     }
 }
 
-/// The parts are run to writers that take 0, 1, 2 and so on characters, up to those of the text.
+/// Runs the parts with writers that take 0, 1, 2 and so on characters, up to those of the text.
 fn run_little(
     report: &mut Report<'_>,
     context: &ContextMap<'_, Cell>,
@@ -290,7 +290,8 @@ fn run_little(
     run_ways(report, context, parts, ways, room, part_of(room), wanted);
 }
 
-/// The parts are run by these ways: to the row's writer, and if that takes all, to little ones.
+/// Runs the parts by these ways: with the row's writer and, if that takes everything, with smaller
+/// ones.
 fn run_by(
     report: &mut Report<'_>,
     context: &ContextMap<'_, Cell>,
@@ -305,7 +306,7 @@ fn run_by(
     }
 }
 
-/// The check of a format that has a fault of its own tells one.
+/// Checks that the check of a format with a fault of its own reports one.
 fn run_check(report: &mut Report<'_>, template: &Template, wanted: Told<'_>) {
     if !matches!(wanted, Told::Parse(_) | Told::UnsupportedOption(_, _, _)) {
         return;
@@ -320,7 +321,7 @@ fn run_check(report: &mut Report<'_>, template: &Template, wanted: Told<'_>) {
     );
 }
 
-/// The template of a format gives it back.
+/// Checks that the template of a format returns the format's text.
 fn run_template(report: &mut Report<'_>, format: &str, wanted: Told<'_>) {
     let way = "`Template::parse`";
     match Template::parse(report.alloc, format) {
@@ -332,7 +333,7 @@ fn run_template(report: &mut Report<'_>, format: &str, wanted: Told<'_>) {
     }
 }
 
-/// What a row of a format says is written and answered comes by every way.
+/// Checks that what a row of a format says is written and returned comes by every way.
 fn run_whole(
     report: &mut Report<'_>,
     context: &ContextMap<'_, Cell>,
@@ -347,7 +348,7 @@ fn run_whole(
     run_template(report, row.format(), wanted.told);
 }
 
-/// What a row says is written and answered comes by every way.
+/// Checks that what a row says is written and returned comes by every way.
 pub fn run_format(
     report: &mut Report<'_>,
     context: &ContextMap<'_, Cell>,

@@ -8,7 +8,7 @@ use crate::ways::{PART_WAYS, Room, WAYS};
 use interpolator::{ContextMap, seam};
 use std::alloc::{AllocError, Global};
 
-/// What a row says is written and answered, if it can be joined.
+/// What a row says is written and returned, if it can be joined.
 fn wanted_of<'a>(row: &'a FormatRow<'_>) -> Option<&'a Wanted> {
     if row.kind != Kind::Format {
         return None;
@@ -19,7 +19,7 @@ fn wanted_of<'a>(row: &'a FormatRow<'_>) -> Option<&'a Wanted> {
     }
 }
 
-/// What a writer takes of both: all of the first, and what the second's takes.
+/// What a writer of both takes: all of the first, and of the second what that row's writer takes.
 fn room_of(text: &str, second: Room) -> Room {
     match second {
         Room::Characters(count) => Room::Characters(text.chars().count().saturating_add(count)),
@@ -34,7 +34,7 @@ fn joined(alloc: Global, first: &str, second: &str) -> Result<String, AllocError
     Ok(text)
 }
 
-/// Two formats are run as one, and as two parts.
+/// Runs two formats as one, and as two parts.
 fn run_both(
     report: &mut Report<'_>,
     context: &ContextMap<'_, Cell>,
@@ -51,7 +51,7 @@ fn run_both(
     run_ways(report, context, parts, &PART_WAYS, room, part, wanted);
 }
 
-/// A row that says this is joined with another, if it can be.
+/// Joins a row, which says this, with another, if they can be joined.
 fn join(
     report: &mut Report<'_>,
     context: &ContextMap<'_, Cell>,
@@ -80,7 +80,7 @@ fn join(
     Ok(())
 }
 
-/// A row without fault is joined with each of those of its context.
+/// Joins a row without a fault with each row of its context.
 pub fn run_joins(
     report: &mut Report<'_>,
     context: &ContextMap<'_, Cell>,

@@ -9,7 +9,7 @@ use std::mem;
 pub enum Word {
     /// Characters without quotes.
     Bare(String),
-    /// What is between quotes.
+    /// The text between quotes.
     Text(String),
     Open,
     Close,
@@ -46,7 +46,7 @@ struct Lexer {
     state: State,
 }
 
-/// The character that another stands for after a backslash.
+/// The character that this one stands for after a backslash.
 fn escaped(c: char) -> Option<char> {
     match c {
         '"' => Some('"'),

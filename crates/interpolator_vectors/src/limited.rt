@@ -4,9 +4,10 @@ use interpolator::{Refusal, TextWrite};
 use std::alloc::{AllocError, Global};
 use std::marker::Model;
 
-/// A writer that takes so many characters in all, into room that it takes when it is made.
+/// A writer that takes a limited number of characters in all, into room that is reserved when it is
+/// made.
 ///
-/// Of a text that does not fit it appends the longest beginning that does, and then refuses.
+/// If a text does not fit, it appends the longest beginning that does, and then refuses.
 #[derive(Drop)]
 pub struct Limited {
     text: String,
@@ -28,7 +29,7 @@ impl Model for Limited {
 }
 
 impl Limited {
-    /// A writer that takes so many characters.
+    /// A writer that takes `room` characters.
     pub fn new(alloc: Global, room: usize) -> Result<Limited, AllocError> {
         Ok(Limited {
             text: String::with_capacity(alloc, room.saturating_mul(4))?,

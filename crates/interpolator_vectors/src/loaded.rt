@@ -1,5 +1,5 @@
-//! What is known of a row's format when it is loaded: checked over the row's context as a sample,
-//! and prepared for the values of this context.
+//! What is known of a row's format when it is loaded: it is checked with the row's context as a
+//! sample, and prepared for the values of this context.
 
 use crate::cells::Cell;
 use crate::formats::{FormatRow, Kind, Wanted, compare_text, first, is_tried};
@@ -13,7 +13,8 @@ use std::alloc::AllocError;
 /// A name of a context, and its value.
 pub type Named<'a> = (&'a str, Formattable<'a, Cell>);
 
-/// A fault that a row has over its own context is told of a sample of that context, or one before.
+/// Checks that the fault that a row has with its own context, or an earlier one, is reported with
+/// that context as a sample.
 fn run_check(
     report: &mut Report<'_>,
     context: &ContextMap<'_, Cell>,
@@ -34,7 +35,7 @@ fn run_check(
     );
 }
 
-/// What comes of a prepared format, with a writer of so many characters.
+/// The outcome of a prepared format with a writer of `count` characters.
 fn came_in_room(
     report: &Report<'_>,
     prepared: &Prepared,
@@ -53,7 +54,7 @@ fn came_in_room(
     }
 }
 
-/// A prepared format is written to a writer of so many characters, fewer than the text has.
+/// Writes a prepared format to a writer of `count` characters, fewer than the text has.
 fn run_refused(
     report: &mut Report<'_>,
     prepared: &Prepared,
@@ -74,7 +75,7 @@ fn run_refused(
     );
 }
 
-/// A prepared format is written to writers of 0, 1, 2 and so on characters, up to those of the text.
+/// Writes a prepared format to writers of 0, 1, 2 and so on characters, up to those of the text.
 fn run_little(
     report: &mut Report<'_>,
     prepared: &Prepared,
@@ -89,7 +90,8 @@ fn run_little(
     }
 }
 
-/// A format that can be prepared writes the row's text. Else what is told is what the check tells.
+/// Checks that a format that can be prepared writes the row's text, and that any other is rejected
+/// with the fault that the check reports.
 fn run_prepared(
     report: &mut Report<'_>,
     template: &Template,
@@ -113,7 +115,7 @@ fn run_prepared(
     }
 }
 
-/// What is known of a row's format when it is loaded, if the row's writer takes all.
+/// Checks what is known of a row's format when it is loaded, if the row's writer takes everything.
 pub fn run_loaded(
     report: &mut Report<'_>,
     context: &ContextMap<'_, Cell>,

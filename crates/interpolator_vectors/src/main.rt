@@ -1,8 +1,8 @@
-//! `interpolator_vectors FILE..`: files of rows, of which each is run by every way that there is.
+//! `interpolator_vectors FILE..`: files of rows, each of which is run by every way there is.
 //!
-//! docs/CONFORMANCE.md says what is in a file, and what is run. A row that fails is told with
-//! the file and the line, with what was wanted of it and what came. After the rows of a file come
-//! how many there were, and how many runs. The status is 1 if a row fails, or if a file cannot be
+//! docs/CONFORMANCE.md says what is in a file, and what is run. A row that fails is reported with
+//! its file and line, what was wanted of it and what came. After the rows of a file come the number
+//! of rows and the number of runs. The exit status is 1 if a row fails, or if a file cannot be
 //! read.
 #![tactic(auto)]
 
@@ -37,14 +37,14 @@ use std::process::ExitCode;
 use std::{env, fs, io};
 use trouble::Trouble;
 
-/// What is told of a file, and whether each row holds.
+/// The report on a file, and whether all of its rows hold.
 #[derive(Drop)]
 struct Answered {
     text: String,
     holds: bool,
 }
 
-/// What is told of a file with this text.
+/// The report on a file with this text.
 fn told_of(alloc: Global, file: &str, text: &str) -> Result<Answered, AllocError> {
     let mut report = Report::new(alloc, file);
     let is_read = match run_text(&mut report, text) {
@@ -70,7 +70,7 @@ fn told_of(alloc: Global, file: &str, text: &str) -> Result<Answered, AllocError
     })
 }
 
-/// The rows of a file are run, and what is told of them is printed.
+/// Runs the rows of a file, and prints the report on them.
 fn run_file(rt: &HostRuntime, file: &str) -> io::Result<bool> {
     let Ok(text) = fs::read_to_string(rt, file) else {
         println!(rt; "{file}: this file cannot be read")?;
@@ -88,7 +88,7 @@ fn run_file(rt: &HostRuntime, file: &str) -> io::Result<bool> {
     }
 }
 
-/// Whether the rows of all files hold.
+/// Runs all files, and returns whether all of their rows hold.
 fn run_files(rt: &HostRuntime) -> io::Result<bool> {
     let files = env::args(rt)?.skip(1).collect::<Vec<String>>(rt.alloc())?;
     let mut holds = !files.is_empty();

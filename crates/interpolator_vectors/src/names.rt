@@ -1,4 +1,4 @@
-//! The words of files for what has a name.
+//! The words that files use for things with a name.
 
 use interpolator::{Bits, NumberError, PieceKind, Trait};
 
@@ -15,7 +15,7 @@ const TRAITS: [(&str, Trait); 9] = [
     ("iter", Trait::Iter),
 ];
 
-/// The trait of a word.
+/// The trait that a word names.
 pub fn named_trait(word: &str) -> Option<Trait> {
     for (name, t) in &TRAITS {
         if *name == word {
@@ -25,7 +25,7 @@ pub fn named_trait(word: &str) -> Option<Trait> {
     None
 }
 
-/// The word of a trait.
+/// The word for a trait.
 pub fn trait_name(t: Trait) -> &'static str {
     match t {
         Trait::Debug => "debug",
@@ -71,7 +71,7 @@ const SLOTS: [(&str, Slots); 11] = [
     ("upper_hex", Slots::UpperHex),
 ];
 
-/// The slots of a word.
+/// The slots that a word names.
 pub fn named_slots(word: &str) -> Option<Slots> {
     for (name, slots) in &SLOTS {
         if *name == word {
@@ -92,7 +92,7 @@ pub fn named_number(word: &str) -> Option<NumberError> {
     }
 }
 
-/// The word of a number's fault.
+/// The word for a number's fault.
 pub fn number_name(fault: NumberError) -> &'static str {
     match fault {
         NumberError::Empty => "Empty",
@@ -102,7 +102,7 @@ pub fn number_name(fault: NumberError) -> &'static str {
     }
 }
 
-/// The word of a piece's kind.
+/// The word for a piece's kind.
 pub fn kind_name(kind: PieceKind) -> &'static str {
     match kind {
         PieceKind::Literal => "literal",
@@ -114,7 +114,7 @@ pub fn kind_name(kind: PieceKind) -> &'static str {
     }
 }
 
-/// The one of the texts that is this.
+/// The one of the texts that equals this one.
 pub fn named(texts: &[&'static str], text: &str) -> Option<&'static str> {
     for one in texts {
         if *one == text {

@@ -1,4 +1,4 @@
-//! Values as the words of files.
+//! Values in the words of files.
 
 use crate::names::{number_name, trait_name};
 use crate::told::Told;
@@ -73,7 +73,7 @@ pub fn parse_fault_text(alloc: Global, fault: ParseError) -> Result<String, Allo
     }
 }
 
-/// What was answered.
+/// What was returned.
 pub fn told_text(alloc: Global, told: Told<'_>) -> Result<String, AllocError> {
     match told {
         Told::Done => String::from_str(alloc, "ok"),

@@ -18,7 +18,7 @@ enum Subject {
     Text(String),
 }
 
-/// What is answered.
+/// What is returned.
 #[derive(Clone, Copy, PartialEq)]
 enum Answer {
     Done,
@@ -26,11 +26,11 @@ enum Answer {
     Failed,
     /// The writer refused.
     Refused,
-    /// The writer refused, and is said to have taken so many bytes.
+    /// The writer refused, and is reported to have taken this many bytes.
     RefusedAfter(usize),
 }
 
-/// A row of a view or of a padded text.
+/// A row about a view or a padded text.
 #[derive(Drop)]
 pub struct Rendering {
     subject: Subject,
@@ -50,7 +50,7 @@ fn answer_name(answer: Answer) -> &'static str {
     }
 }
 
-/// What is written, if the row is of a view or of a padded text.
+/// What is written, if the row is about a view or a padded text.
 fn subject_of(facts: &mut Facts<'_>) -> Read<Option<Subject>> {
     if let Some(mut words) = facts.next("view")? {
         let cell = view_of(&mut words)?;
@@ -67,7 +67,7 @@ fn subject_of(facts: &mut Facts<'_>) -> Read<Option<Subject>> {
     }
 }
 
-/// The spec of a row; nothing is set without one.
+/// The spec of a row; without one, nothing is set.
 fn spec_of(facts: &mut Facts<'_>) -> Read<Spec> {
     match facts.next("spec")? {
         Some(mut words) => words.spec(),
@@ -75,7 +75,7 @@ fn spec_of(facts: &mut Facts<'_>) -> Read<Spec> {
     }
 }
 
-/// What a row says is answered.
+/// What a row says is returned.
 fn answer_of(facts: &mut Facts<'_>) -> Read<Answer> {
     let Some(mut words) = facts.next("fault")? else {
         return Ok(Answer::Done);
@@ -104,7 +104,7 @@ fn write_view<W: TextWrite>(out: &mut W, cell: &Cell, t: Trait, spec: &Spec) -> 
 }
 
 impl Rendering {
-    /// The row, if it is of a view or of a padded text.
+    /// The row, if it is about a view or a padded text.
     pub fn read(facts: &mut Facts<'_>) -> Read<Option<Rendering>> {
         let Some(subject) = subject_of(facts)? else {
             return Ok(None);
@@ -147,15 +147,15 @@ impl Rendering {
     }
 }
 
-/// What is written and answered, as words.
+/// What is written and returned, as words.
 fn outcome_text(alloc: Global, text: &str, answer: Answer) -> Result<String, AllocError> {
     let quoted = quoted(alloc, text)?;
     let name = answer_name(answer);
     format!(in alloc; "text {quoted}, fault {name}")
 }
 
-/// What is answered. If the bytes that are said to be taken are those of the text, these are not
-/// told.
+/// What is returned. The bytes that are reported as taken are left out if they are those of the
+/// text.
 fn settled(text: &str, answer: Answer) -> Answer {
     match answer {
         Answer::RefusedAfter(taken) if taken == text.len() => Answer::Refused,
@@ -163,7 +163,7 @@ fn settled(text: &str, answer: Answer) -> Answer {
     }
 }
 
-/// What comes is compared with what is wanted.
+/// Compares what came with what was wanted.
 fn compare(
     report: &mut Report<'_>,
     way: &str,
@@ -178,7 +178,7 @@ fn compare(
     }
 }
 
-/// What comes with a writer that takes so many characters is compared.
+/// Compares what comes with a writer that takes `room` characters.
 fn run_in_room(
     report: &mut Report<'_>,
     rendering: &Rendering,
@@ -192,7 +192,7 @@ fn run_in_room(
     Ok(())
 }
 
-/// What comes with writers that take 0, 1, 2 and so on characters is compared.
+/// Compares what comes with writers that take 0, 1, 2 and so on characters.
 fn run_little(report: &mut Report<'_>, rendering: &Rendering) -> Result<(), AllocError> {
     let text = rendering.text.as_str();
     let count = text.chars().count();
@@ -207,7 +207,7 @@ fn run_little(report: &mut Report<'_>, rendering: &Rendering) -> Result<(), Allo
     run_in_room(report, rendering, count, (text, rendering.answer))
 }
 
-/// The row gives its text to a writer that takes all.
+/// Checks that a writer that takes everything gets the row's text.
 fn run_whole(report: &mut Report<'_>, rendering: &Rendering) {
     let mut out = TextBuffer::new(report.alloc);
     let answer = rendering.write(&mut out);
@@ -216,7 +216,8 @@ fn run_whole(report: &mut Report<'_>, rendering: &Rendering) {
     compare(report, rendering.way(), Part::Whole, wanted, came);
 }
 
-/// The row gives its text, and to little writers the beginnings of it.
+/// Checks that a writer that takes everything gets the row's text, and smaller writers get its
+/// beginnings.
 pub fn run_rendering(report: &mut Report<'_>, rendering: &Rendering) -> Result<(), AllocError> {
     if let Some(room) = rendering.room {
         let wanted = (rendering.text.as_str(), rendering.answer);

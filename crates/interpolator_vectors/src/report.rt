@@ -1,11 +1,11 @@
-//! What is told of the rows: how many there were, and which of them fail.
+//! The report on the rows: how many there were, and which of them fail.
 
 use crate::files::Row;
 use crate::printing::{quoted, told_text};
 use crate::told::Told;
 use std::alloc::{AllocError, Global};
 
-/// What is written, and what is answered.
+/// What is written, and what is returned.
 #[derive(Clone, Copy)]
 pub struct Outcome<'a> {
     pub text: &'a str,
@@ -18,30 +18,30 @@ impl<'a> Outcome<'a> {
     }
 }
 
-/// What of a row was run.
+/// Which part of a row was run.
 #[derive(Clone, Copy)]
 pub enum Part<'a> {
     /// The row as it is.
     Whole,
-    /// To a writer of so many characters.
+    /// The row, to a writer of this many characters.
     Room(usize),
-    /// To a writer of so many bytes.
+    /// The row, to a writer of this many bytes.
     Bytes(usize),
     /// A beginning of its format.
     Beginning(&'a str),
-    /// Its format, joined with that of the row of this line.
+    /// Its format, joined with that of the row at this line.
     Joined(usize),
 }
 
-/// What is told of the rows of a file.
+/// The report on the rows of a file.
 #[derive(Drop)]
 pub struct Report<'a> {
     pub alloc: Global,
     /// The name of the file.
     file: &'a str,
-    /// What is told of those that fail.
+    /// The report on those that fail.
     pub told: String,
-    /// Whether memory was refused for what is told.
+    /// Whether memory for the report was refused.
     pub wants_memory: bool,
     pub rows: usize,
     pub runs: usize,
@@ -49,16 +49,16 @@ pub struct Report<'a> {
     pub failed: usize,
     /// The first line of the present row.
     line: usize,
-    /// What it shows.
+    /// What the present row shows.
     name: String,
     /// How many of its runs fail.
     fails: usize,
 }
 
-/// The most characters of a text that are told.
+/// The most characters of a text that are reported.
 const MOST: usize = 2_000;
 
-/// A text that is told. Of a long one the rest is left out.
+/// The text as it is reported: the rest of a long one is left out.
 fn cut_off(alloc: Global, text: &str) -> Result<String, AllocError> {
     let mut front = String::new(alloc);
     for c in text.chars().take(MOST) {
@@ -83,14 +83,14 @@ impl<'a> Report<'a> {
         }
     }
 
-    /// Tells a text.
+    /// Reports a text.
     fn say(&mut self, text: &str) {
         if self.told.push_str(text).is_err() {
             self.wants_memory = true;
         }
     }
 
-    /// Tells a text, if there was memory for it.
+    /// Reports a text, if there was memory for it.
     fn say_made(&mut self, text: Result<String, AllocError>) {
         match text {
             Ok(text) => self.say(text.as_str()),
@@ -98,19 +98,19 @@ impl<'a> Report<'a> {
         }
     }
 
-    /// Tells something of a line.
+    /// Reports something about a line.
     pub fn tell(&mut self, line: usize, what: &str) {
         let file = self.file;
         let told = format!(in self.alloc; "{file}:{line}: {what}\n");
         self.say_made(told);
     }
 
-    /// One more row.
+    /// Counts one more row.
     pub fn count_row(&mut self) {
         self.rows = self.rows.saturating_add(1);
     }
 
-    /// What comes is of this row.
+    /// Begins a row: the next runs belong to it.
     pub fn begin(&mut self, row: &Row) {
         self.line = row.number;
         self.fails = 0;
@@ -120,7 +120,7 @@ impl<'a> Report<'a> {
         }
     }
 
-    /// No more comes of the row.
+    /// Ends the row.
     pub fn end(&mut self) {
         if self.fails > 1 {
             let file = self.file;
@@ -131,7 +131,8 @@ impl<'a> Report<'a> {
         }
     }
 
-    /// Counts a run, and answers whether it is to be told: one that fails as the first of its row.
+    /// Counts a run, and returns whether it is to be reported: it is if it is the first of its row
+    /// to fail.
     pub fn count(&mut self, holds: bool) -> bool {
         self.runs = self.runs.saturating_add(1);
         if holds {
@@ -145,7 +146,7 @@ impl<'a> Report<'a> {
         false
     }
 
-    /// Tells the place and the name of the row, and how it was run.
+    /// Reports the place and the name of the row, and how it was run.
     fn tell_row(&mut self, way: &str, part: Part<'_>) {
         let file = self.file;
         let line = self.line;
@@ -157,7 +158,7 @@ impl<'a> Report<'a> {
         self.say_made(by);
     }
 
-    /// Tells what was wanted of the row, and what came.
+    /// Reports what was wanted of the row, and what came.
     pub fn tell_both(&mut self, way: &str, part: Part<'_>, wanted: &str, came: &str) {
         self.tell_row(way, part);
         self.say("\n  wanted ");
@@ -167,7 +168,7 @@ impl<'a> Report<'a> {
         self.say("\n");
     }
 
-    /// Tells what was wanted of the row, and what came, if there was memory for the words.
+    /// Reports what was wanted of the row, and what came, if there was memory for the words.
     pub fn tell_made(
         &mut self,
         way: &str,
@@ -183,14 +184,14 @@ impl<'a> Report<'a> {
         self.say("\n");
     }
 
-    /// A run of the row by a call, as words: those that are wanted, and those that came.
+    /// Counts a run of the row by a call, as words: those that are wanted, and those that came.
     pub fn compare_words(&mut self, way: &str, part: Part<'_>, wanted: &str, came: &str) {
         if self.count(wanted == came) {
             self.tell_both(way, part, wanted, came);
         }
     }
 
-    /// A run of the row by a call, as words, if there was memory for those that came.
+    /// Counts a run of the row by a call, as words, if there was memory for those that came.
     pub fn compare_made(&mut self, way: &str, wanted: &str, came: Result<String, AllocError>) {
         match came {
             Ok(came) => self.compare_words(way, Part::Whole, wanted, came.as_str()),
@@ -198,7 +199,7 @@ impl<'a> Report<'a> {
         }
     }
 
-    /// A run of the row by a way.
+    /// Counts a run of the row by a way.
     pub fn compare(&mut self, way: &str, part: Part<'_>, wanted: Outcome<'_>, came: Outcome<'_>) {
         if self.count(wanted.told == came.told && wanted.text == came.text) {
             match outcome_text(self.alloc, wanted) {
@@ -208,7 +209,7 @@ impl<'a> Report<'a> {
         }
     }
 
-    /// A run of the row, of which something is wanted that is said in words.
+    /// Counts a run of the row whose wanted outcome is described in words.
     pub fn compare_said(
         &mut self,
         way: &str,
@@ -222,7 +223,7 @@ impl<'a> Report<'a> {
         }
     }
 
-    /// Tells what was wanted, and what was written and answered.
+    /// Reports what was wanted, and what was written and returned.
     fn tell_came(&mut self, way: &str, part: Part<'_>, wanted: &str, came: Outcome<'_>) {
         match outcome_text(self.alloc, came) {
             Ok(came) => self.tell_both(way, part, wanted, came.as_str()),
@@ -231,14 +232,14 @@ impl<'a> Report<'a> {
     }
 }
 
-/// What is written and answered, as it is in a file.
+/// What is written and returned, in the words of a file.
 fn outcome_text(alloc: Global, outcome: Outcome<'_>) -> Result<String, AllocError> {
     let text = quoted(alloc, outcome.text)?;
     let told = told_text(alloc, outcome.told)?;
     format!(in alloc; "text {text}, fault {told}")
 }
 
-/// How a row was run: by which way, and what of it.
+/// How a row was run: by which way, and which part of it.
 fn part_text(alloc: Global, way: &str, part: Part<'_>) -> Result<String, AllocError> {
     match part {
         Part::Whole => format!(in alloc; ", by {way}"),

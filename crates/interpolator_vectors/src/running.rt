@@ -1,4 +1,4 @@
-//! The rows of a file, run.
+//! Runs the rows of a file.
 
 use crate::arguments::{run_argument, start_of};
 use crate::cells::Cell;
@@ -19,7 +19,7 @@ use crate::words::Words;
 use interpolator::{ContextMap, Formattable, Limits};
 use std::alloc::{AllocError, Global};
 
-/// What is given under the names of a context.
+/// What a context has under its names.
 fn holding_of(alloc: Global, block: &Block) -> Read<Holding> {
     let mut holding = Holding::new(alloc);
     for line in &block.names {
@@ -41,7 +41,7 @@ fn formats_of(alloc: Global, rows: &[Row]) -> Read<Vec<FormatRow<'_>>> {
     Ok(formats)
 }
 
-/// A row of a format, of parts or of a line. Without anything that it wants it is none.
+/// Runs a row of a format, of parts or of a line. A row that states no outcome is an error.
 fn run_format_row(
     report: &mut Report<'_>,
     context: &ContextMap<'_, Cell>,
@@ -59,7 +59,7 @@ fn run_format_row(
     Ok(())
 }
 
-/// A row of an argument, if it is one.
+/// Runs the row if it is about an argument; returns whether it is.
 fn run_argument_row(report: &mut Report<'_>, facts: &mut Facts<'_>) -> Read<bool> {
     let Some(start) = start_of(facts)? else {
         return Ok(false);
@@ -68,7 +68,7 @@ fn run_argument_row(report: &mut Report<'_>, facts: &mut Facts<'_>) -> Read<bool
     Ok(true)
 }
 
-/// A row of a view or of a padded text, if it is one.
+/// Runs the row if it is about a view or a padded text; returns whether it is.
 fn run_rendering_row(report: &mut Report<'_>, facts: &mut Facts<'_>) -> Read<bool> {
     match Rendering::read(facts)? {
         Some(rendering) => {
@@ -79,7 +79,7 @@ fn run_rendering_row(report: &mut Report<'_>, facts: &mut Facts<'_>) -> Read<boo
     }
 }
 
-/// A row of a small call, if it is one.
+/// Runs the row if it is about a small call; returns whether it is.
 fn run_small(report: &mut Report<'_>, facts: &mut Facts<'_>) -> Read<bool> {
     Ok(
         run_chosen(report, facts)?
@@ -89,7 +89,7 @@ fn run_small(report: &mut Report<'_>, facts: &mut Facts<'_>) -> Read<bool> {
     )
 }
 
-/// A row, whatever it is of.
+/// Runs a row, whatever it is about.
 fn run_any(
     report: &mut Report<'_>,
     context: &ContextMap<'_, Cell>,
@@ -108,7 +108,7 @@ fn run_any(
     Err(facts.trouble("a row of nothing that is known"))
 }
 
-/// A row, of which each fact is read.
+/// Runs a row, and checks that each of its facts was read.
 fn run_row(report: &mut Report<'_>, context: &ContextMap<'_, Cell>, row: &Row) -> Read<()> {
     let mut facts = Facts::new(report.alloc, row);
     report.count_row();
@@ -119,7 +119,7 @@ fn run_row(report: &mut Report<'_>, context: &ContextMap<'_, Cell>, row: &Row) -
     Ok(())
 }
 
-/// The rows of a context, each by itself.
+/// Runs the rows of a context, each by itself.
 fn run_each(report: &mut Report<'_>, block: &Block, context: &ContextMap<'_, Cell>) -> Read<()> {
     for row in &block.rows {
         run_row(report, context, row)?;
@@ -127,7 +127,7 @@ fn run_each(report: &mut Report<'_>, block: &Block, context: &ContextMap<'_, Cel
     Ok(())
 }
 
-/// The cuts and joins of a format.
+/// Runs the cuts and joins of a format.
 fn run_more(
     report: &mut Report<'_>,
     block: &Block,
@@ -146,7 +146,7 @@ fn run_more(
     Ok(())
 }
 
-/// The cuts and joins of the formats of a context.
+/// Runs the cuts and joins of the formats of a context.
 fn run_formats(report: &mut Report<'_>, block: &Block, context: &ContextMap<'_, Cell>) -> Read<()> {
     let formats = formats_of(report.alloc, &block.rows)?;
     for row in &formats {
@@ -155,7 +155,7 @@ fn run_formats(report: &mut Report<'_>, block: &Block, context: &ContextMap<'_, 
     Ok(())
 }
 
-/// The cuts of the text of an argument, if the row is of one.
+/// Runs the cuts of the text of an argument, if the row is about one.
 fn cut_argument(report: &mut Report<'_>, context: &ContextMap<'_, Cell>, row: &Row) -> Read<()> {
     let mut facts = Facts::new(report.alloc, row);
     if let Some(start) = start_of(&mut facts)? {
@@ -166,7 +166,7 @@ fn cut_argument(report: &mut Report<'_>, context: &ContextMap<'_, Cell>, row: &R
     Ok(())
 }
 
-/// The cuts of the texts of arguments of a context.
+/// Runs the cuts of the texts of the arguments of a context.
 fn cut_arguments(
     report: &mut Report<'_>,
     block: &Block,
@@ -178,7 +178,7 @@ fn cut_arguments(
     Ok(())
 }
 
-/// What the formats of a context cost.
+/// Checks what the formats of a context cost.
 fn run_costs(
     report: &mut Report<'_>,
     block: &Block,
@@ -195,7 +195,7 @@ fn run_costs(
     Ok(())
 }
 
-/// The rows of a context: each by itself and, if all of them hold, cut and joined.
+/// Runs the rows of a context: each by itself and, if all of them hold, cut and joined.
 fn run_rows(report: &mut Report<'_>, block: &Block, context: &ContextMap<'_, Cell>) -> Read<()> {
     let failed = report.failed;
     run_each(report, block, context)?;
@@ -209,7 +209,7 @@ fn run_rows(report: &mut Report<'_>, block: &Block, context: &ContextMap<'_, Cel
     Ok(())
 }
 
-/// What is known of the formats of a context when they are loaded.
+/// Checks what is known of the formats of a context when they are loaded.
 fn run_each_loaded(
     report: &mut Report<'_>,
     block: &Block,
@@ -225,7 +225,7 @@ fn run_each_loaded(
     Ok(())
 }
 
-/// A context with its rows. Lists in its lists are made from the innermost on.
+/// Runs a context with its rows. Nested lists are made from the innermost out.
 fn run_block(report: &mut Report<'_>, block: &Block) -> Read<()> {
     let alloc = report.alloc;
     let holding = holding_of(alloc, block)?;
@@ -244,7 +244,7 @@ fn run_block(report: &mut Report<'_>, block: &Block) -> Read<()> {
     run_rows(report, block, &context)
 }
 
-/// The rows of a file's text.
+/// Runs the rows of a file's text.
 pub fn run_text(report: &mut Report<'_>, text: &str) -> Read<()> {
     for block in &blocks_of(report.alloc, text)? {
         run_block(report, block)?;

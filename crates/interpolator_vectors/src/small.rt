@@ -1,4 +1,4 @@
-//! Rows of small calls: what a range chooses, seams, escapes, and texts of faults.
+//! Rows about small calls: what a range chooses, seams, escapes, and the texts of faults.
 
 use crate::files::Facts;
 use crate::formats::compare_text;
@@ -21,7 +21,7 @@ fn range_of(facts: &mut Facts<'_>) -> Read<Option<Range>> {
     }
 }
 
-/// `chosen`: the places that a range chooses.
+/// `chosen`: the items that a range chooses, by their indices.
 pub fn run_chosen(report: &mut Report<'_>, facts: &mut Facts<'_>) -> Read<bool> {
     let Some(mut words) = facts.next("chosen")? else {
         return Ok(false);
@@ -36,7 +36,7 @@ pub fn run_chosen(report: &mut Report<'_>, facts: &mut Facts<'_>) -> Read<bool> 
     Ok(true)
 }
 
-/// Places of items are compared.
+/// Compares the indices of items.
 fn compare_places(report: &mut Report<'_>, wanted: (usize, usize), came: (usize, usize)) {
     if report.count(wanted == came) {
         let wanted = places_text(report.alloc, wanted);
@@ -50,12 +50,12 @@ fn places_text(alloc: Global, places: (usize, usize)) -> Result<String, AllocErr
     format!(in alloc; "{from} {to}")
 }
 
-/// The word of a truth value.
+/// The word for a truth value.
 fn truth_name(truth: bool) -> &'static str {
     if truth { "true" } else { "false" }
 }
 
-/// `seam`: whether a text may follow another.
+/// `seam`: whether a text may come after another.
 pub fn run_seam(report: &mut Report<'_>, facts: &mut Facts<'_>) -> Read<bool> {
     let Some(mut words) = facts.next("seam")? else {
         return Ok(false);
@@ -77,13 +77,13 @@ fn text_of(facts: &mut Facts<'_>) -> Read<String> {
     }
 }
 
-/// What a call made is compared.
+/// Compares the text that a call returned.
 fn compare_made(report: &mut Report<'_>, way: &str, wanted: &str, made: Result<String, Error>) {
     let wanted = Outcome::new(wanted, Told::Done);
     compare_text(report, way, Part::Whole, wanted, &made);
 }
 
-/// `escape`: a text with its braces doubled, which is a format that means the text.
+/// `escape`: a text with its braces doubled, which is a format whose output is the text.
 pub fn run_escape(report: &mut Report<'_>, facts: &mut Facts<'_>) -> Read<bool> {
     let Some(text) = facts.text("escape")? else {
         return Ok(false);
@@ -93,7 +93,8 @@ pub fn run_escape(report: &mut Report<'_>, facts: &mut Facts<'_>) -> Read<bool> 
     Ok(true)
 }
 
-/// The text is escaped so, and back.
+/// Checks that the text is escaped in this way, and that the result, as a format, is written as the
+/// text.
 fn escapes(report: &mut Report<'_>, text: &str, wanted: &str) {
     let alloc = report.alloc;
     compare_made(report, "`escape`", wanted, escape(alloc, text));
@@ -102,7 +103,7 @@ fn escapes(report: &mut Report<'_>, text: &str, wanted: &str) {
     compare_made(report, "`format` of the escaped text", text, back);
 }
 
-/// The text of the fault here: of a number, of parsing, or any other.
+/// The text of the fault here: a fault of a number, of parsing, or any other.
 fn printed_text(alloc: Global, words: &mut Words<'_>) -> Read<String> {
     if let Some(fault) = words.fault_of_number() {
         return Ok(format!(in alloc; "{fault}")?);

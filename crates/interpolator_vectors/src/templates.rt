@@ -1,6 +1,6 @@
-//! Rows of what is known of a format before it is written.
+//! Rows about what is known of a format before it is written.
 //!
-//! A key more is a variant more of `Asked`, with its key, its call and its answer, and a place in
+//! To add a key, add a variant of `Asked` with its key, its call and its result, and an entry in
 //! the list.
 
 use crate::cells::Cell;
@@ -13,7 +13,7 @@ use crate::trouble::Read;
 use interpolator::{Argument, ContextMap, Error, Interpolate, Piece, Template, check};
 use std::alloc::{AllocError, Global};
 
-/// What a row asks of a format, in words that follow its key.
+/// What a row says about a format, in the words after its key.
 #[derive(Clone, Copy, PartialEq)]
 enum Asked {
     Check,
@@ -48,7 +48,7 @@ impl Asked {
         }
     }
 
-    /// The call that answers it.
+    /// The call that returns it.
     fn way(self) -> &'static str {
         match self {
             Asked::Check => "`Template::check`",
@@ -61,7 +61,7 @@ impl Asked {
         }
     }
 
-    /// What the call answers, in such words.
+    /// What the call returns, in the words of a row.
     fn answer(
         self,
         alloc: Global,
@@ -90,7 +90,7 @@ fn failed_text(alloc: Global, error: Error) -> Result<String, AllocError> {
     told_text(alloc, told_by(&answer))
 }
 
-/// The first fault over the context as a sample.
+/// The first fault with the context as a sample.
 fn sample_text(
     alloc: Global,
     template: &Template,
@@ -100,7 +100,7 @@ fn sample_text(
     told_text(alloc, told_by(&answer))
 }
 
-/// How many faults there are over the context as a sample.
+/// How many faults there are with the context as a sample.
 fn faults_text(
     alloc: Global,
     template: &Template,
@@ -112,7 +112,7 @@ fn faults_text(
     }
 }
 
-/// The names that are asked.
+/// The names that the format uses.
 fn names_text(alloc: Global, template: &Template) -> Result<String, AllocError> {
     match template.names(alloc) {
         Ok(names) => quoted_all(alloc, &names),
@@ -137,7 +137,7 @@ fn places_text(alloc: Global, arguments: &[Argument<'_>]) -> Result<String, Allo
     Ok(out)
 }
 
-/// The arguments.
+/// The arguments of a format.
 fn arguments_text(alloc: Global, template: &Template) -> Result<String, AllocError> {
     match template.arguments(alloc) {
         Ok(arguments) => places_text(alloc, &arguments),
@@ -145,7 +145,7 @@ fn arguments_text(alloc: Global, template: &Template) -> Result<String, AllocErr
     }
 }
 
-/// What a row asks is answered as it says.
+/// Checks that the call returns what the row says.
 fn run_asked(
     report: &mut Report<'_>,
     context: &ContextMap<'_, Cell>,
@@ -170,7 +170,7 @@ fn run_asked(
 /// How many levels of pieces are listed.
 const LEVELS: usize = 8;
 
-/// How many pieces a group has, if it is there.
+/// How many pieces a group has, if there is a group.
 fn count_text(
     alloc: Global,
     word: &str,
@@ -195,7 +195,7 @@ fn piece_text(alloc: Global, depth: usize, piece: &Piece) -> Result<String, Allo
     format!(in alloc; "\n    piece {depth} {kind} {place} {end}{item}{join}")
 }
 
-/// Appends pieces of a level, each before those of its item format and of its join.
+/// Appends the pieces of a level, each before those of its item format and of its join.
 fn push_pieces(
     out: &mut String,
     alloc: Global,
@@ -218,14 +218,14 @@ fn push_pieces(
     Ok(())
 }
 
-/// All pieces.
+/// All pieces of a format.
 fn pieces_text(alloc: Global, template: &Template) -> Result<String, AllocError> {
     let mut out = String::new(alloc);
     push_pieces(&mut out, alloc, template.pieces(), 0)?;
     Ok(out)
 }
 
-/// Appends the next line of a piece; whether there is one.
+/// Appends the next line of a piece; returns whether there is one.
 fn takes_piece(out: &mut String, facts: &mut Facts<'_>) -> Read<bool> {
     let Some(words) = facts.next("piece")? else {
         return Ok(false);
@@ -248,7 +248,7 @@ fn has_none(facts: &mut Facts<'_>) -> Read<bool> {
     Ok(true)
 }
 
-/// `piece`: the nodes of its tree; `pieces none` if there are none.
+/// `piece`: the nodes of the format's tree; `pieces none` if there are none.
 fn run_pieces(report: &mut Report<'_>, template: &Template, facts: &mut Facts<'_>) -> Read<()> {
     let is_empty = has_none(facts)?;
     let mut wanted = String::new(report.alloc);
@@ -264,7 +264,7 @@ fn run_pieces(report: &mut Report<'_>, template: &Template, facts: &mut Facts<'_
     Ok(())
 }
 
-/// All that a row asks of a format before it is written.
+/// Checks everything that a row says of a format before it is written.
 fn run_template(
     report: &mut Report<'_>,
     context: &ContextMap<'_, Cell>,
@@ -277,7 +277,8 @@ fn run_template(
     run_pieces(report, template, facts)
 }
 
-/// All that a row asks before it is written of a format that has to be one that can be read.
+/// Checks everything that a row says of its format before it is written. If the format cannot be
+/// parsed, the row fails.
 pub fn run_known(
     report: &mut Report<'_>,
     context: &ContextMap<'_, Cell>,

@@ -1,8 +1,8 @@
-//! What a call answered, as a value that rows can hold.
+//! What a call returned, as a value that rows can state.
 
 use interpolator::{Error, ParseError, Trait};
 
-/// What a call answered.
+/// What a call returned.
 #[derive(Clone, Copy, PartialEq)]
 pub enum Told<'a> {
     Done,
@@ -41,7 +41,7 @@ pub fn put_at(fault: ParseError, place: usize) -> ParseError {
 }
 
 impl<'a> Told<'a> {
-    /// The place that is told, or 0 if none is.
+    /// The place that is reported, or 0 if none is.
     pub fn place(self) -> usize {
         match self {
             Told::Done => 0,
@@ -54,7 +54,7 @@ impl<'a> Told<'a> {
         }
     }
 
-    /// This answer, so many bytes further on.
+    /// The same, but with its place this many bytes further on.
     pub fn moved(self, bytes: usize) -> Told<'a> {
         let place = self.place().saturating_add(bytes);
         match self {
@@ -71,7 +71,7 @@ impl<'a> Told<'a> {
     }
 }
 
-/// What the answer says.
+/// What a result says.
 pub fn told_by<T>(answer: &Result<T, Error>) -> Told<'_> {
     match answer {
         Ok(_) => Told::Done,

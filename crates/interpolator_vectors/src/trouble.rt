@@ -11,7 +11,7 @@ pub enum Trouble {
     Line(usize, &'static str),
 }
 
-/// What is read of a file.
+/// What is read from a file.
 pub type Read<T> = Result<T, Trouble>;
 
 impl From<AllocError> for Trouble {

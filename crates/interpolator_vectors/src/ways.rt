@@ -1,6 +1,6 @@
-//! The ways to write a format and to make its text, by each of which every row is run.
+//! The ways to write a format and to make its text. Every row is run by each of them.
 //!
-//! A way more is a variant more of `Way` or `Making`, with its name, its call and its place in a
+//! To add a way, add a variant of `Way` or `Making` with its name and its call, and an entry in a
 //! list.
 
 use crate::cells::Cell;
@@ -43,7 +43,7 @@ pub const PART_WAYS: [Way; 2] = [Way::WriteParts, Way::WritePartsTo];
 /// The ways to write a line.
 pub const LINE_WAYS: [Way; 2] = [Way::Line, Way::WriteLineTo];
 
-/// The format of which these are the only part.
+/// The first part, which is the format if it is the only one.
 pub fn format_of<'a>(parts: &[&'a str]) -> &'a str {
     match parts.first() {
         Some(format) => *format,
@@ -52,7 +52,7 @@ pub fn format_of<'a>(parts: &[&'a str]) -> &'a str {
 }
 
 impl Way {
-    /// How it is called.
+    /// The name of the call.
     pub fn name(self) -> &'static str {
         match self {
             Way::Write => "`write`",
@@ -104,7 +104,7 @@ pub enum Making {
 pub const MAKINGS: [Making; 3] = [Making::Format, Making::FormatMethod, Making::FormatTemplate];
 
 impl Making {
-    /// How it is called.
+    /// The name of the call.
     pub fn name(self) -> &'static str {
         match self {
             Making::Format => "`format`",
@@ -134,15 +134,15 @@ impl Making {
 /// What a writer takes.
 #[derive(Clone, Copy)]
 pub enum Room {
-    /// All that comes.
+    /// Everything.
     All,
-    /// So many characters.
+    /// This many characters.
     Characters(usize),
-    /// So many bytes, of which it tells how many are left.
+    /// This many bytes; it reports how many are left.
     Bytes(usize),
 }
 
-/// What was written, and what was answered.
+/// What was written, and what was returned.
 #[derive(Drop)]
 pub struct Came {
     pub text: String,
@@ -150,12 +150,12 @@ pub struct Came {
 }
 
 impl Came {
-    /// The text, and what is told of the answer.
+    /// The text, and what the result says.
     pub fn outcome(&self) -> Outcome<'_> {
         Outcome::new(self.text.as_str(), told_by(&self.answer))
     }
 
-    /// Memory for the writer was refused.
+    /// The outcome if memory for the writer was refused.
     pub fn nothing(alloc: Global) -> Came {
         Came {
             text: String::new(alloc),
@@ -164,7 +164,7 @@ impl Came {
     }
 }
 
-/// What comes of a way with a writer of so many characters.
+/// The outcome of a way with a writer of `count` characters.
 fn came_in_room(
     alloc: Global,
     way: Way,
@@ -184,7 +184,7 @@ fn came_in_room(
     }
 }
 
-/// What comes of a way with a writer of so many bytes.
+/// The outcome of a way with a writer of `count` bytes.
 fn came_in_bytes(
     alloc: Global,
     way: Way,
@@ -200,7 +200,7 @@ fn came_in_bytes(
     }
 }
 
-/// What comes of a way with a writer that takes all.
+/// The outcome of a way with a writer that takes everything.
 fn came_whole(alloc: Global, way: Way, parts: &[&str], context: &ContextMap<'_, Cell>) -> Came {
     let mut out = TextBuffer::new(alloc);
     let answer = way.write(alloc, &mut out, parts, context);
@@ -210,7 +210,7 @@ fn came_whole(alloc: Global, way: Way, parts: &[&str], context: &ContextMap<'_, 
     }
 }
 
-/// What comes of a way with a writer.
+/// The outcome of a way with a writer.
 pub fn came_by(
     alloc: Global,
     way: Way,

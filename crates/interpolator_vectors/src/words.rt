@@ -1,4 +1,4 @@
-//! What the words of a line say.
+//! What the words of a line mean.
 
 use crate::lexing::Word;
 use crate::names::{named, named_number, named_trait};
@@ -34,7 +34,7 @@ impl<'a> Words<'a> {
         self.words.len()
     }
 
-    /// What is wrong with this line.
+    /// The trouble with this line.
     pub fn trouble(&self, what: &'static str) -> Trouble {
         Trouble::Line(self.number, what)
     }
@@ -54,14 +54,14 @@ impl<'a> Words<'a> {
         self.at >= self.words.len()
     }
 
-    /// The words of the whole line, a space between two.
+    /// The words of the whole line, with a space between each two.
     pub fn whole(&self) -> Read<String> {
         let mut words = *self;
         words.at = 0;
         words.rest()
     }
 
-    /// The words from here on, a space between two; texts with their repeats and joined.
+    /// The words from here on, with a space between each two; texts are repeated and joined first.
     pub fn rest(&self) -> Read<String> {
         let mut words = *self;
         let mut out = String::new(self.alloc);
@@ -75,7 +75,7 @@ impl<'a> Words<'a> {
         Ok(out)
     }
 
-    /// The word here, or the text with its repeats and what is joined to it.
+    /// The word here, or the text here with its repeats and all that is joined to it.
     fn next(&mut self) -> Read<String> {
         if self.is_text() {
             let text = self.text()?;
@@ -87,7 +87,7 @@ impl<'a> Words<'a> {
         }
     }
 
-    /// There is no word here.
+    /// Checks that there is no word here.
     pub fn done(&self) -> Read<()> {
         if self.is_done() {
             Ok(())
@@ -107,7 +107,7 @@ impl<'a> Words<'a> {
         }
     }
 
-    /// Whether this word is here, which then is read.
+    /// Whether this word is here; if it is, it counts as read.
     pub fn takes(&mut self, wanted: &str) -> bool {
         match self.peek() {
             Some(Word::Bare(word)) if word.as_str() == wanted => {
@@ -134,7 +134,7 @@ impl<'a> Words<'a> {
         }
     }
 
-    /// Appends the text here, as often as a `*` after it says.
+    /// Appends the text here, as many times as a `*` after it says.
     fn append(&mut self, text: &mut String) -> Read<()> {
         let Some(part) = self.quoted() else {
             return Err(self.trouble("a text in quotes is wanted"));
@@ -143,7 +143,7 @@ impl<'a> Words<'a> {
         append_times(text, part, count)
     }
 
-    /// Whether `+` and a text are here; the `+` then is read.
+    /// Whether `+` and a text are here; if they are, the `+` counts as read.
     fn takes_join(&mut self) -> bool {
         let mut after = *self;
         if after.takes("+") && after.is_text() {
@@ -153,7 +153,7 @@ impl<'a> Words<'a> {
         false
     }
 
-    /// The text here, with its repeats and what is joined to it.
+    /// The text here, with its repeats and all that is joined to it.
     pub fn text(&mut self) -> Read<String> {
         let mut text = String::new(self.alloc);
         self.append(&mut text)?;
@@ -399,7 +399,7 @@ impl<'a> Words<'a> {
     }
 }
 
-/// Appends a text, so often.
+/// Appends a text `count` times.
 fn append_times(text: &mut String, part: &str, count: usize) -> Read<()> {
     for _ in 0..count {
         text.push_str(part)?;
@@ -407,7 +407,7 @@ fn append_times(text: &mut String, part: &str, count: usize) -> Read<()> {
     Ok(())
 }
 
-/// The character of a text that has one.
+/// The character of a text that has exactly one.
 fn only_character(text: &str) -> Option<char> {
     let mut characters = text.chars();
     match (characters.next(), characters.next()) {
@@ -421,7 +421,7 @@ pub fn number_of(word: &str) -> Option<usize> {
     word.parse::<usize>().ok()
 }
 
-/// The bound that a word spells; none if it is empty.
+/// The bound that a word spells; there is none if the word is empty.
 fn bound_of(word: &str) -> Option<Option<isize>> {
     if word.is_empty() {
         return Some(None);
