@@ -1,4 +1,4 @@
--- What a cell of a table shows: the enum of a user's own that the tests take as a value.
+-- What a cell of a table shows: a user's own enum, which the examples use as a value.
 use Rattle.std.specs.Prelude.{string_bytes}
 use Rattle.std.specs.Str.{chars}
 use Rattle.interpolator_render.specs.Views.{Shown, signed_number, some_text, nothing_implemented}

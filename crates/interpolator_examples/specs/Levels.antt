@@ -1,4 +1,4 @@
--- What a level of a log shows: the enum of a user's own whose debug text is not its display text.
+-- What a level of a log shows: a user's own enum whose debug text is not its display text.
 use Rattle.std.specs.Prelude.{ℕ, List, codes}
 use Rattle.std.specs.Str.{chars}
 use Rattle.interpolator_render.specs.Views.{Shown, some_text, plain_text, nothing_implemented}
@@ -7,7 +7,7 @@ use Rattle.interpolator_render.specs.declared.view.Trait.TheVariants.{Debug, Dis
 use Rattle.interpolator_examples.specs.declared.levels.Level.{Level}
 use Rattle.interpolator_examples.specs.declared.levels.Level.TheVariants as level
 
--- a word under display, and another, without quotes, under debug
+-- one word for display and another, without quotes, for debug; nothing for any other trait
 abbrev pub word_shows : List ℕ → List ℕ → Trait → Shown
 word_shows shown told Display = some_text (chars shown)
 word_shows shown told Debug = plain_text (chars told)

@@ -1,3 +1,3 @@
--- What the values of the tests show.
+-- What the values of the examples show.
 pub mod Cells
 pub mod Levels

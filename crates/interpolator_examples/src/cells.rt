@@ -1,8 +1,8 @@
-//! A value of a user's own: an enum, whose `shows` is a definition of `specs/`.
+//! A user's own value: an enum, whose `shows` is a definition in `specs/`.
 
 use interpolator::{Bits, Spec, Trait, Value, View};
 
-/// What a cell holds.
+/// The content of a cell.
 #[derive(Drop)]
 pub enum Cell {
     /// A text.

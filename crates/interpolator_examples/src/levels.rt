@@ -1,13 +1,13 @@
-//! A value of a user's own: an enum whose debug text is not its display text.
+//! A user's own value: an enum whose debug text is not its display text.
 
 use interpolator::{Spec, Trait, Value, View};
 
 /// How much a message matters.
 #[derive(Clone, Copy)]
 pub enum Level {
-    /// For who wants to know.
+    /// Good to know.
     Info,
-    /// For who should know.
+    /// Should not be missed.
     Warn,
 }
 

@@ -1,10 +1,10 @@
-//! What a user writes with lists, with no proof of his own.
+//! What a user writes with lists, without any proof.
 
 use crate::page::Page;
 use interpolator::{Error, Formattable, Interpolate, Pairs};
 use std::alloc::Global;
 
-/// A list: how each item is written, and what is between two.
+/// A list: how each item is written, and what goes between each two.
 fn guests(alloc: Global, names: &[&str]) -> Result<String, Error> {
     let mut items = Vec::new(alloc);
     for name in names {
@@ -16,7 +16,8 @@ fn guests(alloc: Global, names: &[&str]) -> Result<String, Error> {
     )
 }
 
-/// A list of lists: the outer group has a sign, so that it goes on after the `)` of the inner one.
+/// A list of lists: the outer group has a sign `#`, so that it does not end at the `)` of the inner
+/// one.
 fn table<'a>(alloc: Global, rows: &'a [Formattable<'a, u64>]) -> Result<String, Error> {
     Pairs(&[("rows", Formattable::iter(rows))]).format(alloc, "{rows:i#({:i({:>4})})#(\n)}")
 }

@@ -1,5 +1,5 @@
-//! `interpolator_examples`: the forms that users write, as docs/USING.md and the examples of doc
-//! comments have them. Prints what each of them gives.
+//! `interpolator_examples`: the forms that users write, as in docs/USING.md and the examples of doc
+//! comments. Prints the output of each.
 #![tactic(auto)]
 
 mod cells;
@@ -14,7 +14,7 @@ use std::alloc::Global;
 use std::io;
 use std::process::ExitCode;
 
-/// What all examples give.
+/// The output of all examples.
 fn all(alloc: Global) -> Result<String, Error> {
     let mut page = Page::new(alloc);
     lists_of_users::show(&mut page);
@@ -25,7 +25,7 @@ fn all(alloc: Global) -> Result<String, Error> {
     Ok(page.text)
 }
 
-/// Whether all was printed.
+/// Prints the examples, and returns whether all of them were printed.
 fn print(rt: &HostRuntime) -> io::Result<bool> {
     match all(rt.alloc()) {
         Ok(text) => {

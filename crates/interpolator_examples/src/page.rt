@@ -1,14 +1,14 @@
-//! What the examples give, to be printed.
+//! The output of the examples, to be printed.
 
 use interpolator::Error;
 use std::alloc::Global;
 
-/// What the examples give, one after the other.
+/// The output of the examples, one after the other.
 #[derive(Drop)]
 pub struct Page {
     pub alloc: Global,
     pub text: String,
-    /// Whether memory was refused for it.
+    /// Whether memory for it was refused.
     pub wants_memory: bool,
 }
 
@@ -27,7 +27,7 @@ impl Page {
         }
     }
 
-    /// What an example of this name gives.
+    /// Appends the output of the example of this name.
     pub fn put(&mut self, name: &str, text: &str) {
         self.say(name);
         self.say(": ");
@@ -35,7 +35,7 @@ impl Page {
         self.say("\n");
     }
 
-    /// What an example of this name makes, or its fault, for debugging.
+    /// Appends the text that the example of this name returned, or its fault, as `Debug` shows it.
     pub fn put_made(&mut self, name: &str, made: Result<String, Error>) {
         match made {
             Ok(text) => self.put(name, text.as_str()),
@@ -43,7 +43,7 @@ impl Page {
         }
     }
 
-    /// The fault of an example of this name, for debugging.
+    /// Appends the fault of the example of this name, as `Debug` shows it.
     fn put_fault(&mut self, name: &str, error: &Error) {
         match format!(in self.alloc; "{error:?}") {
             Ok(text) => self.put(name, text.as_str()),

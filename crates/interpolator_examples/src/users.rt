@@ -1,4 +1,4 @@
-//! What a user writes: contexts and formats, with no proof of his own.
+//! What a user writes: contexts and formats, without any proof.
 
 mod amounts;
 mod calls;
@@ -24,14 +24,15 @@ use interpolator::{
 use std::alloc::Global;
 use std::collections::HashMap;
 
-/// A row of a table.
+/// A guest, as a row of a table.
 #[derive(Clone, Copy)]
 struct Guest<'a> {
     name: &'a str,
     city: &'a str,
 }
 
-/// A letter for each row, by pairs and a template that was read once: with no map and no memory.
+/// A letter for each guest, with pairs and a template that was parsed once: this needs no map, and
+/// no memory beside that of the text.
 fn letters(
     alloc: Global,
     out: &mut TextBuffer,
@@ -48,7 +49,7 @@ fn letters(
     Ok(())
 }
 
-/// Pairs of several kinds, in one local.
+/// Pairs with values of several kinds, which are in one local array.
 fn apples(alloc: Global, name: &str, apples: i32) -> Result<String, Error> {
     let values = [View::Text(name), View::from(apples)];
     Pairs(&[
@@ -58,7 +59,7 @@ fn apples(alloc: Global, name: &str, apples: i32) -> Result<String, Error> {
     .format(alloc, "{name} has {{{n}}} apples")
 }
 
-/// Pairs that are known when the program runs.
+/// Pairs that are known only when the program runs.
 fn listed_names(alloc: Global, header: &str, row: &str, text: &str) -> Result<String, Error> {
     let fields = row.split(',').collect::<Vec<&str>>(alloc)?;
     let mut pairs = Vec::new(alloc);
@@ -68,7 +69,7 @@ fn listed_names(alloc: Global, header: &str, row: &str, text: &str) -> Result<St
     Pairs(&pairs).format(alloc, text)
 }
 
-/// Rows of views, in a loop.
+/// A line for each record, with views as values.
 fn lines(alloc: Global, layout: &str, records: &[(&str, u32)]) -> Result<String, Error> {
     let mut out = TextBuffer::new(alloc);
     for (level, line) in records {
@@ -82,7 +83,7 @@ fn lines(alloc: Global, layout: &str, records: &[(&str, u32)]) -> Result<String,
     Ok(out.into_string())
 }
 
-/// A report in columns: specs say their width and alignment, and the base of numbers.
+/// A report in columns: the specs give their width and alignment, and the base of the numbers.
 fn stock(alloc: Global, rows: &[(&str, u32)]) -> Result<String, Error> {
     let mut out = TextBuffer::new(alloc);
     for (item, count) in rows {
@@ -101,7 +102,7 @@ fn badge(alloc: Global, name: &str) -> Result<String, Error> {
     Pairs(&[("name", Formattable::debug_display(&name))]).format(alloc, "[{name:^9}] {name:?}")
 }
 
-/// One kind of values, by `&str` names.
+/// Values of one kind, under `&str` names.
 fn greeting(alloc: Global, name: &str, city: &str) -> Result<String, Error> {
     let mut context = HashMap::new(alloc);
     context.insert("name", Formattable::display(&name))?;
@@ -109,7 +110,7 @@ fn greeting(alloc: Global, name: &str, city: &str) -> Result<String, Error> {
     context.format(alloc, "Hello {name}, how is {city}?")
 }
 
-/// Values of two kinds go by views.
+/// Values of two kinds, as views.
 fn count(alloc: Global, name: &str, apples: i32) -> Result<String, Error> {
     let name = View::Text(name);
     let apples = View::Signed(i128::from(apples), Bits::B32);
@@ -135,7 +136,7 @@ fn quoted(alloc: Global, line: &String) -> Result<String, Error> {
     context.format(alloc, "> {line}")
 }
 
-/// A map that is built name by name; a list's items borrow from one local.
+/// A map that is built name by name; the items of the list borrow from one local array.
 fn listed(alloc: Global, title: &str, low: i64, high: i64) -> Result<String, Error> {
     let values = [
         View::Text(title),
@@ -182,7 +183,7 @@ fn line(alloc: Global, out: &mut TextBuffer, low: i32, high: Option<i32>) -> Res
     context.write_to(alloc, out, "{low} to {high}\n")
 }
 
-/// Degrees in two locals: values of several locals are pushed.
+/// Degrees in two locals: values from several locals are pushed to a vector.
 fn range(alloc: Global, low: i32, high: Option<i32>) -> Result<String, Error> {
     let low = Degrees { celsius: low };
     let high = high.map(|celsius| Degrees { celsius });
@@ -207,7 +208,7 @@ const GUESTS: [Guest<'static>; 2] = [
     },
 ];
 
-/// The guests, as a format says that is read once.
+/// A letter for each guest, by a format that is parsed once.
 fn all_letters(alloc: Global, format: &str) -> Result<String, Error> {
     let template = Template::parse(alloc, format)?;
     let mut out = TextBuffer::new(alloc);

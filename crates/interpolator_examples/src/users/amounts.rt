@@ -1,4 +1,4 @@
-//! Decimals, which are passed as texts; and records in columns that a format names by position.
+//! Decimals, which are passed as texts; and records in columns, which a format names by position.
 
 use crate::page::Page;
 use interpolator::{
@@ -6,7 +6,7 @@ use interpolator::{
 };
 use std::alloc::Global;
 
-/// Appends a line of a bill. The amount is a text, and `>` puts it to the right of its column.
+/// Appends a line of a bill. The amount is a text, and `>` aligns it to the right of its column.
 fn write_line<'a>(
     alloc: Global,
     out: &mut TextBuffer,
@@ -21,7 +21,7 @@ fn write_line<'a>(
     .write_line_to(alloc, out, "{item:<6}{amount:>10}")
 }
 
-/// A bill of things and of their prices in cents.
+/// A bill of things and their prices in cents.
 fn bill(alloc: Global, prices: &[(&str, u64)]) -> Result<String, Error> {
     let mut out = TextBuffer::new(alloc);
     for (item, cents) in prices {
@@ -31,7 +31,7 @@ fn bill(alloc: Global, prices: &[(&str, u64)]) -> Result<String, Error> {
     Ok(out.into_string())
 }
 
-/// Records as rows of cells: a format has the first of each as `{:i0({})}`, the second as
+/// Records as rows of cells: a format writes the first cell of each as `{:i0({})}`, the second as
 /// `{:i1({})}`.
 fn records(alloc: Global, prices: &[(&str, u64)]) -> Result<String, Error> {
     let mut cells = Vec::new(alloc);

@@ -1,4 +1,4 @@
-//! Calls as README and the doc comments have them.
+//! Calls as README and the doc comments show them.
 
 use crate::page::Page;
 use interpolator::{
@@ -8,7 +8,7 @@ use interpolator::{
 use std::alloc::Global;
 use std::collections::HashMap;
 
-/// A map, and pairs: who comes from the Rust crate writes these.
+/// A map, and pairs: what someone who knows the Rust crate writes.
 fn from_the_crate(alloc: Global, n: u32) -> Result<String, Error> {
     let mut map = HashMap::new(alloc);
     map.insert("n", Formattable::integer(&n))?;
@@ -29,7 +29,7 @@ fn of_several_types(alloc: Global, name: &str, words: u32) -> Result<String, Err
     map.format(alloc, "{name:?}: {words} words")
 }
 
-/// An owned text goes as it is, or as a view of its `&str`.
+/// An owned text is a value as it is, or as a view.
 fn of_an_owned_text(alloc: Global, text: &String) -> Result<String, Error> {
     let view = View::from(text);
     let first = Pairs(&[("t", Formattable::display(text))]).format(alloc, "{t}")?;
@@ -49,7 +49,7 @@ fn of_a_list(alloc: Global, names: &[&str]) -> Result<String, Error> {
     map.format(alloc, "{l:i({})(, )}")
 }
 
-/// A fault's text.
+/// The text of a fault.
 fn fault_of(alloc: Global, format: &str) -> Result<String, Error> {
     let n = 7u64;
     match Pairs(&[("n", Formattable::display(&n))]).format(alloc, format) {
@@ -83,7 +83,7 @@ fn write_all(
     context.write_template_to(alloc, out, template)
 }
 
-/// What is written by each method of a context.
+/// What each method of a context writes.
 fn by_methods(alloc: Global) -> Result<String, Error> {
     let context = Pairs(&[("n", Formattable::display(&7u64))]);
     let template = Template::parse(alloc, "{n:>3}")?;
@@ -92,12 +92,12 @@ fn by_methods(alloc: Global) -> Result<String, Error> {
     Ok(out.into_string())
 }
 
-/// What is made by a method of a context.
+/// The text that a method of a context returns.
 fn made(alloc: Global, format: &str) -> Result<String, Error> {
     Pairs(&[("n", Formattable::display(&7u64))]).format(alloc, format)
 }
 
-/// What is made by a template.
+/// The text that a template returns.
 fn made_by_template(alloc: Global, format: &str) -> Result<String, Error> {
     let template = Template::parse(alloc, format)?;
     Pairs(&[("n", Formattable::display(&7u64))]).format_template(alloc, &template)
@@ -119,7 +119,7 @@ fn of_two_slots(alloc: Global) -> Result<String, Error> {
     map.format(alloc, "{n} {n:b}")
 }
 
-/// Writes to a writer, and asks it for room.
+/// Writes to a writer, and has it reserve room.
 fn written(out: &mut TextBuffer) -> Result<(), Refusal> {
     out.write_str("né")?;
     out.write_char('!')?;

@@ -5,7 +5,7 @@ use interpolator::{ContextMap, Error, Formattable, Interpolate, Template, View};
 use std::alloc::{AllocError, Global};
 use std::collections::HashMap;
 
-/// Templates under keys: each format is read once.
+/// Templates under keys: each format is parsed once.
 #[derive(Drop)]
 struct Catalogue {
     templates: HashMap<String, Template>,
@@ -46,8 +46,8 @@ impl Catalogue {
         Ok(())
     }
 
-    /// The message under a key. The values are views, so that one type takes them all, and the
-    /// lifetimes are left out.
+    /// The message under a key. The values are views, so that one type serves for all of them, and
+    /// no lifetimes need to be written.
     fn message(
         &self,
         key: &str,
@@ -61,7 +61,7 @@ impl Catalogue {
     }
 }
 
-/// What a program tells when it is done: its values are its own.
+/// What a program prints when it is done, with values of its own.
 fn done(catalogue: &Catalogue, name: &str, words: u32) -> Result<String, MessageError> {
     let name = View::from(name);
     let words = View::from(words);
@@ -82,7 +82,7 @@ fn message_text(
     }
 }
 
-/// A message under no key, one that is there, and one whose name is missing.
+/// A message under a key that is not there, one that is there, and one whose name is missing.
 pub fn show(page: &mut Page) -> Result<(), Error> {
     let alloc = page.alloc;
     let mut catalogue = Catalogue::new(alloc);

@@ -6,7 +6,7 @@ use interpolator::{Error, Formattable, Interpolate};
 use std::alloc::Global;
 use std::collections::HashMap;
 
-/// A row of cells by the names of its columns.
+/// A row of cells, written by a format that uses the names of the columns.
 fn row(alloc: Global, names: &[&str], cells: &[Cell], format: &str) -> Result<String, Error> {
     let mut context = HashMap::new(alloc);
     for (name, cell) in names.iter().zip(cells) {
@@ -18,7 +18,7 @@ fn row(alloc: Global, names: &[&str], cells: &[Cell], format: &str) -> Result<St
 /// The names of the columns.
 const NAMES: [&str; 3] = ["item", "count", "note"];
 
-/// A row, and two that ask what its cells do not have.
+/// A row, and two formats that use what its cells do not have.
 pub fn show(page: &mut Page) -> Result<(), Error> {
     let alloc = page.alloc;
     let cells = [

@@ -1,4 +1,4 @@
-//! Faults as a compiler shows them: of a format alone, and of one in a line of a file.
+//! Faults as a compiler shows them: in a format alone, and in a format on a line of a file.
 
 use crate::page::Page;
 use interpolator::{
@@ -6,7 +6,7 @@ use interpolator::{
 };
 use std::alloc::Global;
 
-/// What is wrong with a letter over the names `name` and `city`, or nothing.
+/// What is wrong with a letter that may use the names `name` and `city`; empty if nothing is.
 fn letter_fault(alloc: Global, letter: &str) -> Result<String, Error> {
     let template = Template::parse(alloc, letter)?;
     let sample = Pairs(&[
@@ -46,7 +46,7 @@ fn file_faults(alloc: Global, file: &str) -> Result<String, Error> {
     Ok(told)
 }
 
-/// A file of three lines, of which the first and the last have faults.
+/// A file of three lines: the first and the last have faults.
 const FILE: &str = "hello = Hello {name\nask = How is {city}?\nbye = Bye {name:5s}\n";
 
 pub fn show(page: &mut Page) {

@@ -1,11 +1,11 @@
-//! Text that goes to a writer of bytes, as a file or the standard output.
+//! Text that goes to a writer of bytes, such as a file or the standard output.
 
 use crate::page::Page;
 use interpolator::{Error, Formattable, Interpolate, IoWriter, Pairs};
 use std::alloc::Global;
 use std::io;
 
-/// Why not all was written.
+/// Why not everything was written.
 #[derive(Drop)]
 enum WriteError {
     Format(Error),
@@ -24,8 +24,8 @@ impl From<io::Error> for WriteError {
     }
 }
 
-/// Writes a line for each name to `to`, and gives `to` back. What is gathered is handed on by
-/// `flush`, never by a drop.
+/// Writes a line for each name to `to`, and returns `to`. Gathered text is passed on by `flush`,
+/// never by a drop.
 fn write_lines<W: io::Write + Drop>(
     alloc: Global,
     to: W,

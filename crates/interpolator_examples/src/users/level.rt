@@ -5,7 +5,7 @@ use crate::page::Page;
 use interpolator::{Error, Formattable, Interpolate, Pairs};
 use std::alloc::Global;
 
-/// A level, as a format says.
+/// A level, written by a format.
 fn told(alloc: Global, level: Level, format: &str) -> Result<String, Error> {
     Pairs(&[("level", Formattable::integer(&level))]).format(alloc, format)
 }

@@ -4,7 +4,7 @@ use crate::page::Page;
 use interpolator::{Error, Formattable, Pairs, Prepared, Row, Template, TextBuffer, View};
 use std::alloc::Global;
 
-/// What is logged.
+/// A record to be logged.
 #[derive(Clone, Copy)]
 struct Record<'a> {
     level: &'a str,
@@ -12,14 +12,14 @@ struct Record<'a> {
     message: &'a str,
 }
 
-/// How a record is laid out, by a format that is prepared once.
+/// How a record is laid out: a format that is prepared once.
 #[derive(Drop)]
 struct Layout {
     line: Prepared,
 }
 
 impl Layout {
-    /// Reads a layout, and checks it over an example of a record.
+    /// Parses a layout, and checks it against an example of a record.
     fn new(alloc: Global, line: &str) -> Result<Layout, Error> {
         let template = Template::parse(alloc, line)?;
         let values = [View::from("INFO"), View::from(1u32), View::from("ready")];
@@ -34,7 +34,7 @@ impl Layout {
         Ok(Layout { line })
     }
 
-    /// Writes a record. No memory is taken but that of the text.
+    /// Writes a record. The only memory that this needs is that of the text.
     fn write(&self, alloc: Global, out: &mut TextBuffer, record: &Record<'_>) -> Result<(), Error> {
         let values = [
             View::from(record.level),
@@ -50,7 +50,7 @@ impl Layout {
     }
 }
 
-/// All records, each as the layout says.
+/// All records, each written by the layout.
 fn laid_out(alloc: Global, layout: &str, records: &[Record<'_>]) -> Result<String, Error> {
     let layout = Layout::new(alloc, layout)?;
     let mut out = TextBuffer::new(alloc);

@@ -1,4 +1,4 @@
-//! A struct that is a context and holds a list.
+//! A struct that is a context and contains a list.
 ghost use Rattle.std.specs.Prelude.{Some, None, if◌then◌else◌, codes, map};
 ghost use Rattle.std.specs.Str.{bytes_eq, encode_utf8_all};
 ghost use Rattle.interpolator.specs.Slots.{empty_slots, slots_of, with_debug_display, with_iter};
@@ -37,7 +37,7 @@ impl<'a> Context for Order<'a> {
 
 impl<'a> Interpolate for Order<'a> {}
 
-/// An order, as a format says.
+/// An order, written by a format.
 fn ordered<'a>(
     alloc: Global,
     payer: &'a str,
@@ -49,7 +49,7 @@ fn ordered<'a>(
     order.format(alloc, format)
 }
 
-/// An order of these things.
+/// The order of a payer and these things, written by a format.
 fn told(alloc: Global, payer: &str, things: &[View<'_>], format: &str) -> Result<String, Error> {
     let items = items_of(alloc, things)?;
     ordered(alloc, payer, &items, format)
@@ -58,7 +58,7 @@ fn told(alloc: Global, payer: &str, things: &[View<'_>], format: &str) -> Result
 /// What is ordered.
 const THINGS: [View<'static>; 2] = [View::Text("bread"), View::Text("crème")];
 
-/// An order, and one of whose names no field has.
+/// An order, and one whose format uses a name that no field has.
 pub fn show(page: &mut Page) {
     let alloc = page.alloc;
     for format in ["{payer} pays {items:i({:?})( and )}", "{items:i}{payee}"] {

@@ -1,4 +1,4 @@
-//! An error of a program's own, into which `?` turns refused memory and faults of formats.
+//! An error type of a program's own, to which `?` converts refused memory and faults of formats.
 
 use crate::page::Page;
 use interpolator::{Error, Formattable, Interpolate, Pairs, items_of};
@@ -9,7 +9,7 @@ use std::alloc::{AllocError, AllocFailed, Global};
 enum ListError {
     /// Memory was refused.
     NoMemory,
-    /// This word, from 0 on, is no number.
+    /// The word at this position, from 0 on, is not a number.
     NoNumber(usize),
     /// The format has a fault.
     Format(Error),
@@ -24,14 +24,15 @@ impl From<Error> for ListError {
     }
 }
 
-/// What `push` and `insert` answer where memory is refused, with what they did not take.
+/// The error that `push` and `insert` return if memory is refused; it contains what they did not
+/// take.
 impl<T: Drop> From<AllocFailed<T>> for ListError {
     fn from(_refused: AllocFailed<T>) -> ListError {
         ListError::NoMemory
     }
 }
 
-/// The numbers of a text, as a format says.
+/// The numbers in a text, written by a format.
 fn listed(alloc: Global, text: &str, format: &str) -> Result<String, ListError> {
     let mut numbers = Vec::new(alloc);
     for word in text.split(' ') {
@@ -53,7 +54,7 @@ fn told(alloc: Global, text: &str, format: &str) -> Result<String, AllocError> {
     }
 }
 
-/// A list, a word that is no number, and a format whose name is missing.
+/// A list, a word that is not a number, and a format that uses a missing name.
 pub fn show(page: &mut Page) -> Result<(), Error> {
     let alloc = page.alloc;
     for (text, format) in [

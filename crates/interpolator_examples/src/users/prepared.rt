@@ -1,10 +1,11 @@
-//! A format that is prepared for rows of the same names.
+//! A format that is prepared for rows with the same names.
 
 use crate::page::Page;
 use interpolator::{Error, Formattable, Pairs, Prepared, Row, Template, TextBuffer, View};
 use std::alloc::Global;
 
-/// A format of the names `item` and `count`, in this order: a text and a number.
+/// A format that uses the names `item` and `count`, prepared for rows of a text and a number, in
+/// this order.
 fn prepared(alloc: Global, format: &str) -> Result<Prepared, Error> {
     let template = Template::parse(alloc, format)?;
     let sample = [View::Text("bread"), View::from(7u32)];
@@ -17,7 +18,7 @@ fn prepared(alloc: Global, format: &str) -> Result<Prepared, Error> {
     )
 }
 
-/// A line for each row, all by one buffer, which is cleared between them.
+/// A line for each row, all in one buffer, which is cleared between them.
 fn put_lines(page: &mut Page, line: &Prepared, rows: &[(&str, u32)]) -> Result<(), Error> {
     let alloc = page.alloc;
     let mut out = TextBuffer::new(alloc);
@@ -34,7 +35,7 @@ fn put_lines(page: &mut Page, line: &Prepared, rows: &[(&str, u32)]) -> Result<(
     Ok(())
 }
 
-/// The lines, and a format whose name the rows do not have.
+/// The lines, and a format that uses a name which the rows do not have.
 pub fn show(page: &mut Page) -> Result<(), Error> {
     let alloc = page.alloc;
     let line = prepared(alloc, "{count:>5} {item}")?;

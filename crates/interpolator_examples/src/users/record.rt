@@ -7,7 +7,7 @@ use crate::page::Page;
 use interpolator::{Context, Error, Formattable, Interpolate, Template, View, is_name};
 use std::alloc::Global;
 
-/// What is logged.
+/// A record to be logged.
 #[derive(Clone, Copy)]
 struct Entry<'a> {
     level: View<'a>,
@@ -37,7 +37,7 @@ impl<'a> Context for Entry<'a> {
 
 impl<'a> Interpolate for Entry<'a> {}
 
-/// A record as a layout says that was read once.
+/// A record, written by a layout that was parsed once.
 fn logged_by(alloc: Global, level: &str, line: u32, layout: &Template) -> Result<String, Error> {
     let entry = Entry {
         level: View::from(level),
@@ -46,7 +46,7 @@ fn logged_by(alloc: Global, level: &str, line: u32, layout: &Template) -> Result
     entry.format_template(alloc, layout)
 }
 
-/// A record as a layout says.
+/// A record, written by a layout.
 fn logged(alloc: Global, level: &str, line: u32, layout: &str) -> Result<String, Error> {
     let entry = Entry {
         level: View::from(level),
@@ -55,7 +55,8 @@ fn logged(alloc: Global, level: &str, line: u32, layout: &str) -> Result<String,
     entry.format(alloc, layout)
 }
 
-/// Records, at once and by a layout that is read once; and names that no field has.
+/// Records, with the layout as a text and with one that is parsed once; and names that no field
+/// has.
 pub fn show(page: &mut Page) -> Result<(), Error> {
     let alloc = page.alloc;
     let layout = "[{level}] {line:>3}";

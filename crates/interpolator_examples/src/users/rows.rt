@@ -1,4 +1,4 @@
-//! Lists of lists whose rows come when the program runs.
+//! Lists of lists whose rows are known only when the program runs.
 
 use crate::page::Page;
 use interpolator::{ContextMap, Error, Formattable, Interpolate, View, items_of, rows_of};
@@ -30,7 +30,7 @@ fn table(alloc: Global, text: &str) -> Result<String, Error> {
     context.format(alloc, "{rows:i#({:i0({:<6})}{:i1..({:>4})})#(\n)}")
 }
 
-/// The number of items up to each row's end.
+/// For each example, the number of items up to the end of each row.
 const ENDS: [&[usize]; 5] = [&[2, 3], &[], &[0, 1, 1], &[2, 1, 9], &[7, 8]];
 
 /// The rows that these ends make.
@@ -42,7 +42,7 @@ fn by_ends(alloc: Global, cells: &[u64], ends: &[usize]) -> Result<String, Error
     map.format(alloc, "{rows:i#({:i({})(,)})#(;)}")
 }
 
-/// A list, a table, and rows by their ends.
+/// A list, a table, and rows given by their ends.
 pub fn show(page: &mut Page) -> Result<(), Error> {
     let alloc = page.alloc;
     page.put_made("listed", listed(alloc, "a\nbc\n"));

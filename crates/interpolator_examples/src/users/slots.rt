@@ -1,10 +1,10 @@
-//! The calls of `Formattable`: the slots that each fills, by a format that asks them.
+//! The calls of `Formattable`: the slots that each call fills, shown by a format that uses them.
 
 use crate::page::Page;
 use interpolator::{Error, Formattable, Interpolate, Pairs};
 use std::alloc::Global;
 
-/// What a format says of these slots under the name `n`.
+/// The output of a format that has these slots under the name `n`.
 fn told(alloc: Global, slots: Formattable<'_, u64>, format: &str) -> Result<String, Error> {
     Pairs(&[("n", slots)]).format(alloc, format)
 }
@@ -59,7 +59,7 @@ fn chains(page: &mut Page) {
     }
 }
 
-/// Each slot is filled after the others.
+/// Fills each slot after the others.
 fn setters(page: &mut Page) {
     let alloc = page.alloc;
     let n = 255u64;
@@ -95,7 +95,7 @@ fn listed<'a>(items: &'a [Formattable<'a, u64>]) -> Formattable<'a, u64> {
     slots
 }
 
-/// The slot of a list is filled.
+/// Fills the slot of a list.
 fn set_list(page: &mut Page) {
     let n = 255u64;
     let items = [Formattable::display(&n), Formattable::display(&n)];

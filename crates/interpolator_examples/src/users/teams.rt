@@ -1,4 +1,5 @@
-//! Lists of lists of lists: teams, each with people, each with days.
+//! Lists of lists of lists: teams, each with its people, and each of these with the hours of each
+//! day.
 
 use crate::page::Page;
 use interpolator::{ContextMap, Error, Formattable, Interpolate, View, items_of, rows_of};
@@ -25,7 +26,8 @@ fn push_team<'a>(
     Ok(())
 }
 
-/// Teams, as a format says. Each has its people: rows of these rows.
+/// Teams, written by a format. The people of each team are rows of cells, and the teams are rows of
+/// these rows.
 fn told<'a>(
     alloc: Global,
     people: &'a [Formattable<'a, View<'a>>],
