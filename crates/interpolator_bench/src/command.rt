@@ -2,7 +2,7 @@
 
 use crate::workloads::{Workload, workload_of};
 
-/// The word that asks for every workload.
+/// The word that stands for every workload.
 const EVERY: &str = "all";
 
 /// What is run, and how often.
@@ -13,7 +13,7 @@ pub struct Command {
     pub repeats: u32,
 }
 
-/// What the words ask: a workload's name, or `all`, and a number of repeats.
+/// The command that the words give: a workload's name, or `all`, and a number of repeats.
 pub fn command_of(words: &[String]) -> Option<Command> {
     let [name, repeats] = words else {
         return None;

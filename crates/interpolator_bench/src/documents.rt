@@ -1,4 +1,4 @@
-//! Formats of the shapes that programs have: an order in JSON, a letter in HTML, a row of a table.
+//! Formats as programs have them: an order in JSON, a letter in HTML, a row of a table.
 
 use crate::failure::Failure;
 use crate::uses::{How, repeat_format};
@@ -47,7 +47,7 @@ const JSON: [&str; 37] = [
     "}}",
 ];
 
-/// A letter in HTML: 15 names, and 4,096 bytes that stand for themselves, line ends among them.
+/// A letter in HTML: 15 names, and 4,096 bytes of literal text, line ends among them.
 #[rattlefmt::skip]
 const LETTER: [&str; 61] = [
     "<!DOCTYPE html>",
@@ -174,7 +174,7 @@ pub fn table_row(alloc: Global, how: How, repeats: u32) -> Result<String, Failur
     repeat_lines(alloc, how, &ROW, &values, repeats)
 }
 
-// Uses the format of these lines over these values, so often. Gives the last text.
+// Uses the format of these lines with these values, `repeats` times. Returns the last text.
 fn repeat_lines(
     alloc: Global,
     how: How,

@@ -7,15 +7,15 @@ use std::io;
 /// Why the program ends early.
 #[derive(Drop)]
 pub enum Failure {
-    /// The command line asks for nothing that there is.
+    /// The command line does not name a workload and a number of repeats.
     Usage,
-    /// A format was refused.
+    /// A format was rejected.
     Format(Error),
-    /// A value was not rendered.
+    /// A value could not be rendered.
     Render(RenderFault),
     /// There was no memory for a workload's own texts.
     NoMemory,
-    /// The arguments were not read, or the answer was not written.
+    /// The arguments could not be read, or the output could not be written.
     Io(io::Error),
 }
 

@@ -18,7 +18,7 @@ pub const NUMBERS: [u32; 32] = [
     20, 22, 24, 25, 26, 27, 28,
 ];
 
-/// These numbers in a type that has a sign.
+/// The same numbers, in a signed type.
 pub const SIGNED_NUMBERS: [i64; 32] = [
     0, 1, 2, 3, 5, 8, 13, 21, 34, 55, 89, 144, 233, 377, 610, 987, 4, 6, 9, 10, 12, 14, 15, 16, 18,
     20, 22, 24, 25, 26, 27, 28,
@@ -56,7 +56,7 @@ const TEXTS: [&str; 18] = [
     "onwards",
 ];
 
-/// A layout of log lines, over texts and a number.
+/// A layout of log lines, with texts and a number.
 pub fn log_line(alloc: Global, how: How, repeats: u32) -> Result<String, Failure> {
     let values = [
         View::Text("2024-05-17T12:34:56Z"),
@@ -75,7 +75,7 @@ pub fn log_line(alloc: Global, how: How, repeats: u32) -> Result<String, Failure
     repeat_format(alloc, how, LAYOUT, &Pairs(&pairs), repeats)
 }
 
-/// Thirty-two short names, of these numbers.
+/// A format that uses thirty-two short names, with these numbers.
 pub fn number_names<V: Value>(
     alloc: Global,
     how: How,
@@ -90,7 +90,7 @@ pub fn number_names<V: Value>(
     repeat_format(alloc, how, format.as_str(), &Pairs(&pairs), repeats)
 }
 
-/// Eighteen names, of texts.
+/// A format that uses eighteen names, with texts.
 pub fn text_names(alloc: Global, how: How, repeats: u32) -> Result<String, Failure> {
     let format = names_format(alloc, &TEXT_NAMES)?;
     let mut pairs = Vec::new(alloc);
@@ -100,7 +100,7 @@ pub fn text_names(alloc: Global, how: How, repeats: u32) -> Result<String, Failu
     repeat_format(alloc, how, format.as_str(), &Pairs(&pairs), repeats)
 }
 
-/// So many copies of a text, as a format that asks no name.
+/// Copies of a text, as a format that uses no names.
 pub fn copies(
     alloc: Global,
     how: How,
@@ -116,7 +116,7 @@ pub fn copies(
     repeat_format(alloc, how, format.as_str(), &none, repeats)
 }
 
-// A format that asks each name, and has a space after it.
+// A format that uses each name, with a space after each.
 fn names_format(alloc: Global, names: &[&str]) -> Result<String, AllocError> {
     let mut format = String::new(alloc);
     for name in names {

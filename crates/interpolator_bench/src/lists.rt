@@ -1,4 +1,4 @@
-//! Lists: numbers with an item format and a join, many items, and lists in lists.
+//! Lists: numbers with an item format and a join, many items, and nested lists.
 
 use crate::failure::Failure;
 use crate::uses::{How, repeat_format};
@@ -8,7 +8,7 @@ use std::alloc::{AllocError, Global};
 /// How deep lists are nested.
 const DEPTH: usize = 32;
 
-/// A list of the numbers below a bound, asked by this format under the name `n`.
+/// A list of the numbers below a bound, which this format uses under the name `n`.
 pub fn numbers(
     alloc: Global,
     how: How,
@@ -36,7 +36,7 @@ fn repeat_list(
     repeat_format(alloc, how, format, &Pairs(&pairs), repeats)
 }
 
-/// A number in a list of one item, in a list of one item, and so on.
+/// A number inside nested lists of one item each.
 pub fn nested(alloc: Global, how: How, repeats: u32) -> Result<String, Failure> {
     let format = nested_format(alloc)?;
     repeat_nested(
@@ -49,7 +49,7 @@ pub fn nested(alloc: Global, how: How, repeats: u32) -> Result<String, Failure> 
     )
 }
 
-// The format of lists in lists, each with a sign less than the one around it.
+// The format of nested lists: each has one sign fewer than the list around it.
 fn nested_format(alloc: Global) -> Result<String, AllocError> {
     let mut format = String::new(alloc);
     for passed in 0..DEPTH {
@@ -66,7 +66,7 @@ fn nested_format(alloc: Global) -> Result<String, AllocError> {
     Ok(format)
 }
 
-// Appends so many signs.
+// Appends `count` signs.
 fn put_signs(format: &mut String, count: usize) -> Result<(), AllocError> {
     for _ in 0..count {
         format.push('#')?;
@@ -74,7 +74,7 @@ fn put_signs(format: &mut String, count: usize) -> Result<(), AllocError> {
     Ok(())
 }
 
-// Formats under the empty name the value, so deep in lists of one item.
+// Formats the value under the empty name, wrapped in `depth` lists of one item each.
 fn repeat_nested(
     alloc: Global,
     how: How,

@@ -35,7 +35,7 @@ fn main(rt: HostRuntime) -> ExitCode {
     ExitCode::from(status)
 }
 
-// Runs what the command line asks, and complains if that fails.
+// Runs what the command line says, and prints an error if that fails.
 fn answer(rt: &(impl Env + Print + Eprint + AllocGlobal)) -> Result<(), Failure> {
     let answer = match asked(rt) {
         Ok(command) => run(rt, command),
@@ -47,7 +47,7 @@ fn answer(rt: &(impl Env + Print + Eprint + AllocGlobal)) -> Result<(), Failure>
     answer
 }
 
-// What the words after the program's name ask.
+// The command that the words after the program's name give.
 fn asked(rt: &(impl Env + AllocGlobal)) -> Result<Command, Failure> {
     let words = env::args(rt)?.skip(1).collect::<Vec<String>>(rt.alloc())?;
     command_of(words.as_slice()).ok_or(Failure::Usage)
@@ -78,7 +78,7 @@ fn report_prepared(rt: &(impl Print + AllocGlobal), repeats: u32) -> Result<(), 
     Ok(())
 }
 
-// Runs a workload, and prints how long its text is, and its checksum.
+// Runs a workload, and prints the length of its text and its checksum.
 fn report(
     rt: &(impl Print + AllocGlobal),
     workload: Workload,

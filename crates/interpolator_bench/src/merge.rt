@@ -1,6 +1,6 @@
-//! A letter for each of many records, whose context is made anew.
+//! A letter for each of many records, with a new context for each.
 //!
-//! A merge by another kind of context is a variant of `Kind`, over the same records.
+//! To add a merge by another kind of context, add a variant of `Kind`; the records are the same.
 
 use crate::failure::Failure;
 use interpolator::{
@@ -19,7 +19,7 @@ const CITIES: [&str; 3] = ["Oslo", "Lima", "Kyoto"];
 
 const GOODS: [&str; 4] = ["loaves", "rolls", "cakes", "pies"];
 
-/// What one letter tells.
+/// What one letter is about.
 #[derive(Clone, Copy)]
 struct Record {
     name: &'static str,
@@ -47,8 +47,8 @@ pub fn by_template(alloc: Global, kind: Kind, repeats: u32) -> Result<String, Fa
     repeat_letters(alloc, kind, Some(&letter), repeats)
 }
 
-// Writes all letters, so often anew in the same buffer, by the template if there is one. Gives the
-// last text.
+// Writes all letters anew in the same buffer, `repeats` times, by the template if there is one.
+// Returns the last text.
 fn repeat_letters(
     alloc: Global,
     kind: Kind,
@@ -187,7 +187,7 @@ fn put_by_pairs(
     }
 }
 
-// The record of an order: each field goes round its values.
+// The record of an order: each field cycles through its values.
 fn record_of(order: u32) -> Record {
     let place = order as usize;
     Record {

@@ -1,4 +1,4 @@
-//! The renderer alone: values under forms, into one buffer.
+//! The renderer alone: values under forms, written to one buffer.
 
 use crate::failure::Failure;
 use crate::rows::{Form, repeat_rows};
@@ -59,7 +59,7 @@ pub fn padded_texts(alloc: Global, repeats: u32) -> Result<String, Failure> {
     repeat_rows(alloc, &texts, &forms, repeats)
 }
 
-/// These texts and widths, filled with a character.
+/// The same texts and widths, filled with a character.
 pub fn filled_texts(alloc: Global, fill: char, repeats: u32) -> Result<String, Failure> {
     let filled = Form::of(Trait::Display).filled(fill);
     let forms = [

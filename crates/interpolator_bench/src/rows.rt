@@ -1,10 +1,10 @@
-//! Values written under forms, into one buffer.
+//! Values under forms, written to one buffer.
 
 use crate::failure::Failure;
 use interpolator::{Alignment, Sign, Spec, TextBuffer, Trait, Value, render};
 use std::alloc::Global;
 
-/// How a value is written. Each method sets one thing more.
+/// How a value is written. Each method sets one more thing.
 #[derive(Clone, Copy)]
 pub struct Form {
     wanted: Trait,
@@ -35,7 +35,7 @@ impl Form {
         })
     }
 
-    /// With a sign before numbers that are not negative, too.
+    /// With a sign, even for numbers that are not negative.
     pub fn plus(self) -> Form {
         self.under(Spec {
             sign: Sign::Plus,
@@ -78,7 +78,8 @@ impl Form {
     }
 }
 
-/// Writes each value under each form, so often anew in the same buffer. Gives the last text.
+/// Writes each value under each form anew in the same buffer, `repeats` times. Returns the last
+/// text.
 pub fn repeat_rows<V: Value>(
     alloc: Global,
     values: &[V],

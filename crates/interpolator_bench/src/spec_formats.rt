@@ -1,4 +1,4 @@
-//! Formats with specs: the values and the specs of the renderer's workloads, by name.
+//! Formats with specs: the values and the specs of the renderer's workloads, as formats with names.
 
 use crate::failure::Failure;
 use crate::uses::{How, repeat_format};
@@ -37,13 +37,13 @@ pub fn padded_texts(alloc: Global, how: How, repeats: u32) -> Result<String, Fai
     repeat_specs(alloc, how, &texts, &[":12", ":>16", ":^10.4"], repeats)
 }
 
-/// These texts and widths, filled with stars.
+/// The same texts and widths, filled with stars.
 pub fn starred_texts(alloc: Global, how: How, repeats: u32) -> Result<String, Failure> {
     let texts = ["é", "naïve", "smörgåsbord", "日本語", "Привет", "plain"];
     repeat_specs(alloc, how, &texts, &[":*<12", ":*>16", ":*^10.4"], repeats)
 }
 
-/// These texts and widths, filled with a character of two bytes.
+/// The same texts and widths, filled with a character of two bytes.
 pub fn accented_texts(alloc: Global, how: How, repeats: u32) -> Result<String, Failure> {
     let texts = ["é", "naïve", "smörgåsbord", "日本語", "Привет", "plain"];
     repeat_specs(alloc, how, &texts, &[":é<12", ":é>16", ":é^10.4"], repeats)
@@ -63,7 +63,7 @@ pub fn wide(alloc: Global, how: How, repeats: u32) -> Result<String, Failure> {
     repeat_specs(alloc, how, &values, &specs, repeats)
 }
 
-// Formats each value, at most six of them, under each spec, so often. Gives the last text.
+// Formats each value, at most six of them, under each spec, `repeats` times. Returns the last text.
 fn repeat_specs<V: Value>(
     alloc: Global,
     how: How,
@@ -80,7 +80,7 @@ fn repeat_specs<V: Value>(
     repeat_format(alloc, how, format.as_str(), &Pairs(&pairs), repeats)
 }
 
-// Appends what asks a name under each spec, with a space after each.
+// Appends an argument of this name for each spec, with a space after each.
 fn put_specs(format: &mut String, name: &str, specs: &[&str]) -> Result<(), AllocError> {
     for spec in specs {
         format.push('{')?;

@@ -10,7 +10,7 @@ use std::collections::HashMap;
 /// How a format is used.
 #[derive(Clone, Copy)]
 pub enum How {
-    /// By `format`, each time into a new text.
+    /// By `format`, each time as a new text.
     Format,
     /// By `write_to`, into a buffer that keeps its room.
     Write,
@@ -18,13 +18,13 @@ pub enum How {
     Template,
     /// Prepared once for rows of the context's values, into a buffer that keeps its room.
     Prepared,
-    /// It is parsed into a template, and not written.
+    /// Parsed into a template each time, and not written.
     Parse,
-    /// A template that was parsed once is prepared, and not written.
+    /// Prepared each time from a template that was parsed once, and not written.
     Prepare,
 }
 
-/// Uses a format so often. Gives the last text: that of the format itself if it is not written.
+/// Uses a format `repeats` times. Returns the last text, or the format itself if it is not written.
 pub fn repeat_format<V: Value>(
     alloc: Global,
     how: How,
@@ -77,7 +77,7 @@ fn repeat_new<V: Value>(
     Ok(text)
 }
 
-// Writes anew in the same buffer: the template, or the format if there is none.
+// Writes the template, or the format if there is none, anew in the same buffer.
 fn repeat_write<V: Value>(
     alloc: Global,
     format: &str,
@@ -93,7 +93,7 @@ fn repeat_write<V: Value>(
     Ok(text)
 }
 
-// Appends what the template means, or the format if there is none.
+// Appends the output of the template, or of the format if there is none.
 fn put<V: Value>(
     alloc: Global,
     text: String,
@@ -109,7 +109,7 @@ fn put<V: Value>(
     Ok(out.into_string())
 }
 
-// Parses each time into a new template.
+// Parses the format into a new template each time.
 fn repeat_parse(alloc: Global, format: &str, repeats: u32) -> Result<String, Failure> {
     let mut last = None;
     for _ in 0..repeats {
@@ -121,7 +121,7 @@ fn repeat_parse(alloc: Global, format: &str, repeats: u32) -> Result<String, Fai
     }
 }
 
-// Prepares a template of the format, each time anew.
+// Prepares a template of the format anew each time.
 fn repeat_prepare<V: Value>(
     alloc: Global,
     format: &str,
@@ -139,7 +139,7 @@ fn repeat_prepare<V: Value>(
     }
 }
 
-// Prepares the format, and writes the row of the values anew in the same buffer.
+// Prepares the format, and writes it anew in the same buffer with the row of the values.
 fn repeat_prepared<V: Value>(
     alloc: Global,
     format: &str,
@@ -169,7 +169,7 @@ fn repeat_row<V: Value>(
     Ok(text)
 }
 
-// Appends what the prepared format means over a row.
+// Appends the output of the prepared format with a row.
 fn put_row<V: Value>(
     alloc: Global,
     text: String,

@@ -6,19 +6,19 @@ use crate::uses::How;
 use crate::{documents, formats, lists, renders, spec_formats};
 use std::alloc::Global;
 
-/// Sixty-four bytes that stand for themselves.
+/// Sixty-four bytes of literal text.
 const LITERAL: &str = "A line of plain text, sixty-four bytes long with its line end..\n";
 
-/// Doubled braces, sixty-four bytes of them.
+/// Sixty-four bytes of doubled braces.
 const BRACES: &str = "{{}}{{}}{{}}{{}}{{}}{{}}{{}}{{}}{{}}{{}}{{}}{{}}{{}}{{}}{{}}{{}}";
 
-/// How many times sixty-four bytes are 64 KiB.
+/// How many times sixty-four bytes make 64 KiB.
 const COPIES_64K: u32 = 1024;
 
-/// How many times sixty-four bytes are 1 MiB.
+/// How many times sixty-four bytes make 1 MiB.
 const COPIES_1M: u32 = 16 * COPIES_64K;
 
-/// What is made again and again. A new one is a line of `FORMATS`.
+/// A text that is made again and again. A new workload is a line of `FORMATS` or of `PREPARED`.
 #[derive(Clone, Copy)]
 pub struct Workload(&'static str, Task);
 
@@ -173,7 +173,7 @@ pub const FORMATS: [Workload; 85] = [
     Workload("template-names-32-negative", Task::Use(How::Template, Shape::NegativeNames)),
 ];
 
-/// Those of prepared formats, which `all` runs after these.
+/// The workloads of prepared formats, which `all` runs after those of `FORMATS`.
 #[rattlefmt::skip]
 pub const PREPARED: [Workload; 28] = [
     Workload("prepared-log-line", Task::Use(How::Prepared, Shape::LogLine)),
@@ -212,7 +212,7 @@ impl Workload {
         self.0
     }
 
-    /// Makes its text so often, and gives the last one; of no repeats the empty text.
+    /// Makes its text `repeats` times, and returns the last one: the empty text if `repeats` is 0.
     pub fn run(self, alloc: Global, repeats: u32) -> Result<String, Failure> {
         match self.1 {
             Task::Use(how, shape) => shape.repeat(alloc, how, repeats),
@@ -225,7 +225,7 @@ impl Workload {
 }
 
 impl Shape {
-    // Uses the format so often.
+    // Uses the format `repeats` times.
     fn repeat(self, alloc: Global, how: How, repeats: u32) -> Result<String, Failure> {
         match self {
             Shape::LogLine => formats::log_line(alloc, how, repeats),
@@ -264,7 +264,7 @@ impl Shape {
 }
 
 impl Rows {
-    // Renders the values so often.
+    // Renders the values `repeats` times.
     fn repeat(self, alloc: Global, repeats: u32) -> Result<String, Failure> {
         match self {
             Rows::Specs => renders::specs(alloc, repeats),
@@ -282,7 +282,7 @@ impl Rows {
     }
 }
 
-/// The workload of a name.
+/// The workload with this name.
 pub fn workload_of(name: &str) -> Option<Workload> {
     match format_of(name) {
         Some(workload) => Some(workload),
@@ -290,7 +290,7 @@ pub fn workload_of(name: &str) -> Option<Workload> {
     }
 }
 
-// The workload of a name, among those of formats and templates.
+// The workload with this name, among those of formats and templates.
 fn format_of(name: &str) -> Option<Workload> {
     for workload in FORMATS {
         if workload.name() == name {
@@ -300,7 +300,7 @@ fn format_of(name: &str) -> Option<Workload> {
     None
 }
 
-// The workload of a name, among those of prepared formats.
+// The workload with this name, among those of prepared formats.
 fn prepared_of(name: &str) -> Option<Workload> {
     for workload in PREPARED {
         if workload.name() == name {
