@@ -1,7 +1,8 @@
-//! `report FILE`: a file whose lines have fields between commas, as a table.
+//! `report FILE`: prints a file of comma-separated fields as a table.
 //!
-//! The first line names the columns. A column is as wide as its widest field, in characters. One of
-//! whole numbers alone is aligned to the right, and the last line has its sum.
+//! The first line names the columns. A column is as wide, in characters, as its widest field, its
+//! name and its sum included. A column in which all fields are whole numbers is aligned to the
+//! right, and the last line has its sum.
 #![tactic(auto)]
 
 use interpolator::{
@@ -16,7 +17,7 @@ use std::{env, fs, io};
 struct Column {
     /// How many characters its widest field has.
     width: usize,
-    /// The sum of its fields, as long as all are numbers.
+    /// The sum of its fields, if all of them so far are numbers.
     sum: Option<i128>,
 }
 
@@ -26,7 +27,7 @@ fn number_of(field: &str) -> Option<i64> {
 }
 
 impl Column {
-    /// A column with a name and no field.
+    /// A column with a name and no fields.
     fn new(name: &str) -> Column {
         Column {
             width: name.chars().count(),
@@ -46,7 +47,7 @@ impl Column {
         }
     }
 
-    /// What is under the column: its sum, or in the first one what the line is.
+    /// The text at the foot of the column: its sum, or in the first column the label of the line.
     fn total(self, alloc: Global, is_first: bool) -> Result<String, Error> {
         match self.sum {
             Some(sum) => Ok(format!(in alloc; "{sum}")?),
@@ -65,7 +66,7 @@ fn named_columns(alloc: Global, header: &str) -> Result<Vec<Column>, Error> {
     Ok(columns)
 }
 
-/// The columns with the fields of one more line. A field past the last column is left out.
+/// The columns with the fields of one more line. Fields past the last column are left out.
 fn with_line(alloc: Global, columns: &[Column], line: &str) -> Result<Vec<Column>, Error> {
     let mut fields = line.split(',');
     let mut more = Vec::new(alloc);
@@ -85,7 +86,7 @@ fn columns_of(alloc: Global, table: &str) -> Result<Vec<Column>, Error> {
     Ok(columns)
 }
 
-/// The last line.
+/// The last line: the text at the foot of each column.
 fn totals_of(alloc: Global, columns: &[Column]) -> Result<Vec<String>, Error> {
     let mut totals = Vec::new(alloc);
     for column in columns {
@@ -94,7 +95,7 @@ fn totals_of(alloc: Global, columns: &[Column]) -> Result<Vec<String>, Error> {
     Ok(totals)
 }
 
-/// How a row is written: its items by their indexes, each in the width of its column.
+/// The format of a row: its items by their indices, each in the width of its column.
 fn row_format(alloc: Global, columns: &[Column], totals: &[String]) -> Result<String, Error> {
     let mut format = String::new(alloc);
     let mut index = 0usize;
