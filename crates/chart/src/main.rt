@@ -1,9 +1,9 @@
-//! `chart FORMAT FILE`: the numbers of a file as bars, drawn by a format of one's own.
+//! `chart FORMAT FILE`: draws the numbers of a file as bars, by a format of one's own.
 //!
-//! A line of the file is a name and numbers, with a space between two of them. The second number is
-//! what all of them are measured by: its bar is 100 long. The format gets `{height}`, that of the
-//! picture, and `{rows}`: of each line a list of its place from above, its name, and each number after
-//! the length of its bar.
+//! A line of the file is a name and numbers, with a space between each two. The second number is
+//! the measure of its line: its bar is 100 long, and the other bars of the line are in proportion.
+//! The format gets `{height}`, the height of the picture, and `{rows}`, a list for each line: its
+//! place from the top, its name, and each number after the length of its bar.
 #![tactic(auto)]
 
 use interpolator::{ContextMap, Error, Formattable, Interpolate, View, items_of, rows_of};
@@ -11,13 +11,13 @@ use std::alloc::Global;
 use std::process::ExitCode;
 use std::{env, fs, io};
 
-/// How long the bar is of the number that all are measured by.
+/// The length of the bar of the number that measures its line.
 const UNIT: u128 = 100;
 
-/// How high a line's bars are together, with the gap after them.
+/// The height of a line's bars together, with the gap after them.
 const ROW: u128 = 64;
 
-/// The height of what is above all bars.
+/// The height of the space above all bars.
 const HEAD: u128 = 64;
 
 /// The words of a line after its name.
@@ -33,12 +33,12 @@ fn number_of(word: &str) -> u128 {
     word.parse::<u128>().unwrap_or(0)
 }
 
-/// How long the bar of a number is, beside one of the measure.
+/// The length of a number's bar, if that of the measure is `UNIT`.
 fn length_of(number: u128, measure: u128) -> u128 {
     number.saturating_mul(UNIT) / measure.max(1)
 }
 
-/// Appends the cells of a line that is so far from the top.
+/// Appends the cells of a line, which is this far from the top.
 fn push_cells<'a>(cells: &mut Vec<View<'a>>, place: u128, line: &'a str) -> Result<(), Error> {
     cells.push(View::Unsigned(place))?;
     cells.push(View::Text(line.split(' ').next().unwrap_or("")))?;
@@ -63,12 +63,12 @@ fn cells_of(alloc: Global, table: &str) -> Result<(Vec<View<'_>>, Vec<usize>), E
     Ok((cells, ends))
 }
 
-/// How far from the top a line is, after so many others.
+/// How far from the top a line is, with `before` other lines above it.
 fn place_of(before: usize) -> u128 {
     HEAD.saturating_add(ROW.saturating_mul(before as u128))
 }
 
-/// The picture of a table, by a format.
+/// The picture of a table, drawn by a format.
 fn chart(alloc: Global, format: &str, table: &str) -> Result<String, Error> {
     let (cells, ends) = cells_of(alloc, table)?;
     let height = View::Unsigned(place_of(ends.len()));
