@@ -1,4 +1,4 @@
-//! Contexts and values of one's own, by every way to write a format.
+//! User-defined contexts and values, by every way to write a format.
 
 use crate::own::{AlwaysFailed, AlwaysPlain, Everywhere, Nowhere, OnlyFive};
 use crate::report::Report;

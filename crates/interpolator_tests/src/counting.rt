@@ -5,7 +5,7 @@ ghost use Rattle.interpolator_render.specs.Written.{as_writer};
 use interpolator_render::{Refusal, TextBuffer, TextWrite};
 use std::alloc::Global;
 
-/// A writer that counts its calls, and those of an empty text.
+/// A writer that counts its calls, and those with an empty text.
 #[derive(Drop)]
 pub struct Counting {
     inner: TextBuffer,

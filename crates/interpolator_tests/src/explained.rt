@@ -118,7 +118,7 @@ fn with_copies(
     Ok(text)
 }
 
-/// Of 132 characters those from the 71st on are shown, 60 before the one at the place.
+/// Of 132 characters the first 71 are left out: 60 are shown before the one at the place.
 fn long_line(report: &mut Report) -> Result<(), Error> {
     let alloc = report.alloc;
     let text = with_copies(alloc, "", "a", 130, "{x")?;

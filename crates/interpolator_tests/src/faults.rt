@@ -58,7 +58,7 @@ fn debugs<D: fmt::Debug>(report: &mut Report, value: &D, text: &str) {
     is_text(report, "debugged", text, came);
 }
 
-/// Checks that `Debug` shows the value as this text under every option.
+/// Checks that `Debug` shows the value as this text, whatever the options.
 fn debugs_under_options<D: fmt::Debug>(report: &mut Report, value: &D, text: &str) {
     debugs(report, value, text);
     let came = format!(in report.alloc; "{value:#?}");
@@ -141,7 +141,7 @@ fn refusals(report: &mut Report) {
     report.holds("AllocFailed", failed == Error::NoMemory);
 }
 
-/// Checks that the fault is displayed as this text under every option.
+/// Checks that the fault is displayed as this text, whatever the options.
 fn prints<E: fmt::Display>(report: &mut Report, fault: &E, text: &str) {
     let came = format!(in report.alloc; "{fault}");
     is_text(report, "under nothing", text, came);

@@ -9,9 +9,9 @@ use std::io;
 #[derive(Drop)]
 struct Spy {
     got: Vec<u8>,
-    /// How many bytes it takes in each call up to the one that fails. Later it takes all.
+    /// How many bytes it takes in each call up to the one that fails. Later it takes everything.
     most: usize,
-    /// The write that fails, counted from one, and the flush that fails. With 0 none does.
+    /// The write that fails, counted from one, and the flush that fails; 0 if none does.
     failing: usize,
     failing_flush: usize,
     kind: io::ErrorKind,
@@ -129,7 +129,7 @@ fn flushed_twice(report: &mut Report) {
     holds_prefix(report, "flushed", &below, "text", 4);
 }
 
-/// All is passed on, and only the flush below fails.
+/// Everything is passed on, and only the flush below fails.
 fn failed_flush(report: &mut Report) {
     let mut spy = Spy::new(report.alloc, 9);
     spy.failing_flush = 1;

@@ -75,7 +75,7 @@ fn checks(report: &mut Report, format: &str, texts: &[String], fault: &str) -> R
     asks(report, &template, texts)
 }
 
-/// Thousands of arguments: by hand, the fault is one byte after the last brace.
+/// Thousands of arguments: by hand, the fault is at the `y` of the last one, 3 bytes after its `{`.
 fn many_arguments(report: &mut Report) -> Result<(), Error> {
     let alloc = report.alloc;
     let texts = counted(alloc, MANY)?;

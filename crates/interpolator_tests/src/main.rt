@@ -1,10 +1,10 @@
 //! `interpolator_tests`: checks, worked by hand, of what no row of `interpolator_vectors` can say.
 //!
-//! These are writers, contexts and values of one's own, the calls that a writer gets, refused
+//! These are user-defined writers, contexts and values, the calls that a writer gets, refused
 //! memory, long formats and depth. Each group reports how many checks it has, and those that fail.
-//! With the argument `memory` only the group of that name is run. The exit status says only whether
-//! everything was run: it is 3 if the program itself was refused memory, or if its report could not
-//! be written.
+//! With any argument, such as `memory`, only the group `memory` is run. The exit status says only
+//! whether everything was run: it is 3 if the program itself was refused memory, or if its report
+//! could not be written.
 #![tactic(auto)]
 
 mod bounded;

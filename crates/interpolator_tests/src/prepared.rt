@@ -85,8 +85,8 @@ fn used_again(report: &mut Report) -> Result<(), Error> {
     Ok(())
 }
 
-/// By hand: text between two arguments is one call of the writer, although a format that is not
-/// prepared is written brace by brace. So it is the prepared steps that are run.
+/// By hand: text between two arguments is written by one call, although a format that is not
+/// prepared is written brace by brace. So this shows that the prepared steps are run.
 fn joined_text_is_one_call(report: &mut Report) -> Result<(), Error> {
     let alloc = report.alloc;
     let row = [Formattable::display(&7u64)];

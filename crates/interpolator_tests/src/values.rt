@@ -96,7 +96,7 @@ fn views(report: &mut Report) -> Result<(), AllocError> {
     Ok(())
 }
 
-/// Numbers that do not fit their bits, which a view may hold and no row can say.
+/// Numbers that do not fit their bits: a view may have one, but no row can say so.
 const OUTSIDE: [(i128, Bits); 5] = [
     (128, Bits::B8),
     (-129, Bits::B8),
@@ -113,7 +113,7 @@ fn outside(report: &mut Report) {
     }
 }
 
-/// Nothing is set.
+/// A spec in which nothing is set.
 pub const PLAIN: Spec = Spec {
     fill: None,
     alignment: Alignment::Unset,

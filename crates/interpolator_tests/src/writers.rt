@@ -57,7 +57,7 @@ impl TextWrite for Telling {
     }
 }
 
-/// No memory holds this many spaces, whatever the system says of its memory.
+/// There is no memory for this many spaces, whatever the system says of its memory.
 fn great_widths(report: &mut Report) {
     let alloc = report.alloc;
     let great = "ab{x:1000000000000000000}";

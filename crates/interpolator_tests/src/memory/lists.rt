@@ -4,8 +4,8 @@ use crate::given::{Given, format_given, parsed, write_given};
 use crate::report::Report;
 use interpolator::{Error, Formattable, Pairs, TextBuffer};
 
-/// A format, the texts after which it needs memory, its output if memory is given, and the fault
-/// that is then returned.
+/// A format, what may already be written when memory is needed, the output if memory is given, and
+/// the fault that is then returned.
 struct Wanting<'a> {
     format: &'a str,
     before: &'a [&'a str],
