@@ -28,7 +28,7 @@ struct Items {
 /// What a context has under a name, or an item of a list.
 #[derive(Drop)]
 struct Held {
-    /// The name; empty if it is an item.
+    /// The name, which is empty for an item.
     name: String,
     /// How many lists it is inside.
     level: usize,
@@ -146,7 +146,7 @@ impl Holding {
         }
     }
 
-    /// How many there are at a level.
+    /// How many names or items there are at a level.
     fn count(&self, level: usize) -> usize {
         let mut count = 0usize;
         for held in &self.all {
@@ -169,7 +169,7 @@ impl Holding {
         None
     }
 
-    /// Adds one, and returns its index.
+    /// Adds a name or an item, and returns its index.
     fn add(&mut self, name: String, level: usize) -> Read<usize> {
         let held = Held::new(self.alloc, name, level);
         self.all.push(held)?;
@@ -184,7 +184,7 @@ impl Holding {
         }
     }
 
-    /// Limits that none of its values and lists exceeds.
+    /// Limits that none of the values and lists exceeds.
     pub fn limits(&self) -> Limits {
         let mut text = 0usize;
         let mut items = 0usize;
@@ -209,7 +209,7 @@ impl Holding {
         Ok(())
     }
 
-    /// Begins a list of the one at the index.
+    /// Begins a list under the name or the item at the index.
     fn begin_list(&mut self, index: usize) -> Read<()> {
         let from = self.count(self.level_of(index).saturating_add(1));
         if let Some(held) = self.all.get_mut(index) {
@@ -218,7 +218,7 @@ impl Holding {
         Ok(())
     }
 
-    /// Ends the list of the one at the index: its items are those up to here.
+    /// Ends the last list of the name or the item at the index: its items are those up to here.
     fn end_list(&mut self, index: usize) -> Read<()> {
         let to = self.count(self.level_of(index).saturating_add(1));
         if let Some(held) = self.all.get_mut(index) {
@@ -237,7 +237,7 @@ impl Holding {
         }
     }
 
-    /// Adds an item to the list of the one at the index, and returns the item's index.
+    /// Adds an item to the last list of the name or the item at the index; returns its own index.
     fn add_item(&mut self, words: &Words<'_>, index: usize) -> Read<usize> {
         if !self.has_list(index) {
             return Err(words.trouble("`list` is wanted before items"));
@@ -251,7 +251,7 @@ impl Holding {
         Ok(item)
     }
 
-    /// Reads a fact of the innermost one that is open.
+    /// Reads a fact of the innermost name or item that is open.
     fn take_fact(&mut self, words: &mut Words<'_>, open: &mut Vec<usize>) -> Read<()> {
         let index = open.last().copied().unwrap_or(0);
         if words.takes("list") {

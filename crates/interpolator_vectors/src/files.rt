@@ -220,7 +220,7 @@ impl<'a> Facts<'a> {
         self.row.facts.len()
     }
 
-    /// The trouble with the row.
+    /// The error that this is wrong with the row.
     pub fn trouble(&self, what: &'static str) -> Trouble {
         Trouble::Line(self.row.number, what)
     }

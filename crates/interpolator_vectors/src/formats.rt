@@ -1,4 +1,4 @@
-//! Rows of formats and of parts: what is written and returned, by every way.
+//! Rows of formats, of parts and of lines: every way has to write and return what the row says.
 
 use crate::cells::Cell;
 use crate::files::{Facts, Row};
@@ -21,7 +21,7 @@ pub struct FormatRow<'a> {
     pub wanted: Option<Wanted>,
 }
 
-/// What a row has.
+/// What a row writes.
 #[derive(Clone, Copy, PartialEq)]
 pub enum Kind {
     Format,
@@ -160,7 +160,7 @@ pub fn first(text: &str, count: usize) -> &str {
     }
 }
 
-/// The part of a row that a run with this writer is reported as.
+/// How a run with this writer is named in the report.
 fn part_of(room: Room) -> Part<'static> {
     match room {
         Room::All => Part::Whole,
@@ -333,7 +333,7 @@ fn run_template(report: &mut Report<'_>, format: &str, wanted: Told<'_>) {
     }
 }
 
-/// Checks that what a row of a format says is written and returned comes by every way.
+/// Checks that every way writes and returns what the row of a format says.
 fn run_whole(
     report: &mut Report<'_>,
     context: &ContextMap<'_, Cell>,
@@ -348,7 +348,7 @@ fn run_whole(
     run_template(report, row.format(), wanted.told);
 }
 
-/// Checks that what a row says is written and returned comes by every way.
+/// Checks that every way writes and returns what the row says.
 pub fn run_format(
     report: &mut Report<'_>,
     context: &ContextMap<'_, Cell>,

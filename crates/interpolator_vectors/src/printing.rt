@@ -51,7 +51,7 @@ pub fn push_word(out: &mut String, word: &str) -> Result<(), AllocError> {
     out.push_str(word)
 }
 
-/// A fault of parsing.
+/// A parse fault.
 pub fn parse_fault_text(alloc: Global, fault: ParseError) -> Result<String, AllocError> {
     match fault {
         ParseError::FormatSpecUnclosed(place) => { format!(in alloc; "FormatSpecUnclosed {place}") }

@@ -103,7 +103,7 @@ fn escapes(report: &mut Report<'_>, text: &str, wanted: &str) {
     compare_made(report, "`format` of the escaped text", text, back);
 }
 
-/// The text of the fault here: a fault of a number, of parsing, or any other.
+/// The text of the fault here: of a number, of parsing, or any other.
 fn printed_text(alloc: Global, words: &mut Words<'_>) -> Read<String> {
     if let Some(fault) = words.fault_of_number() {
         return Ok(format!(in alloc; "{fault}")?);

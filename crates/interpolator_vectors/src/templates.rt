@@ -48,7 +48,7 @@ impl Asked {
         }
     }
 
-    /// The call that returns it.
+    /// The name of the call that returns it.
     fn way(self) -> &'static str {
         match self {
             Asked::Check => "`Template::check`",

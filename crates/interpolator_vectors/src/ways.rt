@@ -1,4 +1,4 @@
-//! The ways to write a format and to make its text. Every row is run by each of them.
+//! The ways to write a format and to make its text. Every row is run by each way that fits it.
 //!
 //! To add a way, add a variant of `Way` or `Making` with its name and its call, and an entry in a
 //! list.

@@ -34,7 +34,7 @@ impl<'a> Words<'a> {
         self.words.len()
     }
 
-    /// The trouble with this line.
+    /// The error that this is wrong with the line.
     pub fn trouble(&self, what: &'static str) -> Trouble {
         Trouble::Line(self.number, what)
     }
@@ -213,7 +213,7 @@ impl<'a> Words<'a> {
         }
     }
 
-    /// What a format should have at a place.
+    /// What is expected in a format at a place.
     fn expected(&mut self) -> Read<&'static str> {
         let text = self.text()?;
         match named(&["}", "("], text.as_str()) {
@@ -222,7 +222,7 @@ impl<'a> Words<'a> {
         }
     }
 
-    /// The fault of parsing of this name, at place 0, if there is one.
+    /// The parse fault of this name, at place 0, if there is one.
     fn fault_of_name(&mut self, name: &str) -> Read<Option<ParseError>> {
         Ok(match name {
             "FormatSpecUnclosed" => Some(ParseError::FormatSpecUnclosed(0)),
@@ -236,7 +236,7 @@ impl<'a> Words<'a> {
         })
     }
 
-    /// The fault of parsing of this name, with its place, if there is one.
+    /// The parse fault of this name, with its place, if there is one.
     fn parse_fault(&mut self, name: &str) -> Read<Option<ParseError>> {
         match self.fault_of_name(name)? {
             Some(fault) => Ok(Some(put_at(fault, self.number()?))),
@@ -286,7 +286,7 @@ impl<'a> Words<'a> {
         }
     }
 
-    /// The fault of parsing here, if there is one.
+    /// The parse fault here, if there is one.
     pub fn fault_of_parsing(&mut self) -> Read<Option<ParseError>> {
         let mut ahead = *self;
         let fault = ahead.parse_fault_here()?;
