@@ -32,7 +32,7 @@ struct Guest<'a> {
 }
 
 /// A letter for each guest, with pairs and a template that was parsed once: this needs no map, and
-/// no memory beside that of the text.
+/// no memory besides that of the text.
 fn letters(
     alloc: Global,
     out: &mut TextBuffer,

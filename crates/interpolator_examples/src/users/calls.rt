@@ -58,7 +58,7 @@ fn fault_of(alloc: Global, format: &str) -> Result<String, Error> {
     }
 }
 
-/// The calls of README.
+/// The calls in README.
 fn show_readme(page: &mut Page) -> Result<(), Error> {
     let alloc = page.alloc;
     page.put_made("from_the_crate", from_the_crate(alloc, 255));
@@ -110,7 +110,7 @@ fn found(name: &str) -> bool {
     context.get(name).is_some()
 }
 
-/// Fills two slots of one name, one after the other.
+/// Fills two slots under one name, one after the other.
 fn of_two_slots(alloc: Global) -> Result<String, Error> {
     let n = 7u64;
     let mut map = ContextMap::new(alloc);
