@@ -13,7 +13,7 @@ pub struct Command {
     pub repeats: u32,
 }
 
-/// The command that the words give: a workload's name, or `all`, and a number of repeats.
+/// The command that the words spell: a workload's name, or `all`, and a number of repeats.
 pub fn command_of(words: &[String]) -> Option<Command> {
     let [name, repeats] = words else {
         return None;

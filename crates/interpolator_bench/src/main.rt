@@ -47,7 +47,7 @@ fn answer(rt: &(impl Env + Print + Eprint + AllocGlobal)) -> Result<(), Failure>
     answer
 }
 
-// The command that the words after the program's name give.
+// The command that the words after the program's name spell.
 fn asked(rt: &(impl Env + AllocGlobal)) -> Result<Command, Failure> {
     let words = env::args(rt)?.skip(1).collect::<Vec<String>>(rt.alloc())?;
     command_of(words.as_slice()).ok_or(Failure::Usage)
