@@ -1,4 +1,4 @@
-//! `chart FORMAT FILE`: draws the numbers of a file as bars, by a format of one's own.
+//! `chart FORMAT FILE`: draws the numbers of a file as bars, by a format that is a file too.
 //!
 //! A line of the file is a name and numbers, with a space between each two. The second number is
 //! the measure of its line: its bar is 100 long, and the other bars of the line are in proportion.
