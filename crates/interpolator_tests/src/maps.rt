@@ -10,7 +10,7 @@ use interpolator::{Context, ContextMap, Error, Formattable, Interpolate, Pairs, 
 use std::alloc::{AllocError, Global};
 use std::collections::HashMap;
 
-/// The name that is there, and two that are not.
+/// A name that is there, and two that are not.
 const NAMES: [(&str, bool); 3] = [("n", true), ("", false), ("nn", false)];
 
 /// A map of std whose names are borrowed.
@@ -36,7 +36,7 @@ fn owned_names(report: &mut Report) -> Result<(), Error> {
     Ok(())
 }
 
-// Fills two slots of one name, in two calls.
+// Fills two slots under one name, in two calls.
 fn merge<'a>(
     map: &mut ContextMap<'a, u64>,
     name: &str,

@@ -1,7 +1,7 @@
 //! Memory that is refused. The group passes whether memory is given or one allocation is refused.
-//! In the gate, `run-refused.sh` of this crate refuses each allocation in turn: it loads
-//! `.ci/refuse.c` before the C library. A call whose allocation is refused returns `NoMemory` and
-//! leaves everything as it was; called again, it returns what its row says.
+//! In the gate, `run-refused.sh` of this crate has each allocation refused in turn: it loads the
+//! allocator `.ci/refuse.c` before the C library. A call whose allocation is refused returns
+//! `NoMemory` and leaves everything as it was; called again, it returns what its row says.
 
 mod lists;
 mod loaded;

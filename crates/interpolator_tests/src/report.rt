@@ -75,7 +75,7 @@ impl Report {
         self.failed = 0;
     }
 
-    /// Reports how many checks the group has, and ends it.
+    /// Ends the group: reports how many checks it has, and how many fail.
     pub fn end(&mut self) {
         if self.checks > 0 {
             self.say(self.group);
