@@ -1,4 +1,4 @@
-//! Formats that are joined, each with those of its context.
+//! Formats that are joined, each with those of the same context.
 
 use crate::cells::Cell;
 use crate::formats::{FormatRow, Kind, Wanted, run_makings, run_ways};
@@ -51,7 +51,7 @@ fn run_both(
     run_ways(report, context, parts, &PART_WAYS, room, part, wanted);
 }
 
-/// Joins a row, which says this, with another, if they can be joined.
+/// Joins a row, whose outcome is `first`, with the next, if they can be joined.
 fn join(
     report: &mut Report<'_>,
     context: &ContextMap<'_, Cell>,

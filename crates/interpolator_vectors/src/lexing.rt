@@ -41,7 +41,7 @@ struct Lexer {
     /// The line's number.
     number: usize,
     words: Vec<Word>,
-    /// The word that is read.
+    /// The word that is being read.
     word: String,
     state: State,
 }

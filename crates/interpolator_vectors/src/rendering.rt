@@ -154,7 +154,7 @@ fn outcome_text(alloc: Global, text: &str, answer: Answer) -> Result<String, All
     format!(in alloc; "text {quoted}, fault {name}")
 }
 
-/// What is returned. The bytes that are reported as taken are left out if they are those of the
+/// What is returned. The number of bytes reported as taken is left out if it is the length of the
 /// text.
 fn settled(text: &str, answer: Answer) -> Answer {
     match answer {
