@@ -119,7 +119,7 @@ fn of_two_slots(alloc: Global) -> Result<String, Error> {
     map.format(alloc, "{n} {n:b}")
 }
 
-/// Writes to a writer, and has it reserve room.
+/// Writes to a writer, and makes it reserve room.
 fn written(out: &mut TextBuffer) -> Result<(), Refusal> {
     out.write_str("né")?;
     out.write_char('!')?;

@@ -40,7 +40,7 @@ fn write_lines<W: io::Write + Drop>(
     Ok(out.into_inner())
 }
 
-/// The lines as bytes, or why there are none.
+/// How many bytes the lines have, or why there are none.
 fn lines(alloc: Global, format: &str, names: &[&str]) -> Result<String, Error> {
     match write_lines(alloc, Vec::new(alloc), format, names) {
         Ok(bytes) => Ok(format!(in alloc; "{} bytes", bytes.len())?),
