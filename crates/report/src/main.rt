@@ -1,8 +1,8 @@
 //! `report FILE`: prints a file of comma-separated fields as a table.
 //!
-//! The first line names the columns. A column is as wide, in characters, as its widest field, its
-//! name and its sum included. A column in which all fields are whole numbers is aligned to the
-//! right, and the last line has its sum.
+//! The first line names the columns. A column is as wide, in characters, as the widest of its name,
+//! its fields and the text at its foot. A column in which all fields are whole numbers is aligned
+//! to the right, and the last line has its sum.
 #![tactic(auto)]
 
 use interpolator::{
@@ -15,7 +15,7 @@ use std::{env, fs, io};
 /// A column.
 #[derive(Clone, Copy)]
 struct Column {
-    /// How many characters its widest field has.
+    /// How many characters the widest of its name and its fields has.
     width: usize,
     /// The sum of its fields, if all of them so far are numbers.
     sum: Option<i128>,
