@@ -1,0 +1,390 @@
+/* interpolator.h: format strings at run time, proved. For C99 and C++17.
+ *
+ * A format and named values go in; the text, or one fault at its byte, comes out. What the format
+ * language is, and what each call is proved to do, stands in docs/DEFINITIONS.md and
+ * docs/BINDINGS.md.
+ *
+ * Of every call:
+ * - All lengths, places and ends count bytes. Texts are UTF-8 and are not terminated by a zero byte.
+ * - The caller owns all memory that it passes. The library only reads what is behind a `const`, and
+ *   keeps no pointer after a call returns.
+ * - A room (what is not behind a `const`) may not overlap anything that the call reads, nor another
+ *   room. A pointer may be null if its length is 0.
+ * - Each call frees all the memory that it took. It takes it by rattle_alloc, rattle_realloc and
+ *   rattle_dealloc (at the end of this header): those of the program if it defines them, else those
+ *   of this library, which call malloc, realloc and free.
+ * - The library has no state of its own: any number of threads may call it at the same time.
+ */
+#ifndef INTERPOLATOR_H
+#define INTERPOLATOR_H
+#include <stddef.h>
+#include <stdint.h>
+#include <string.h>
+#ifdef __cplusplus
+extern "C" {
+#endif
+
+/* The version of the structs and calls of this header. It is that of the library if
+ * interpolator_version() returns it, and interpolator_layout() says how the library lays out the
+ * structs. */
+#define INTERPOLATOR_VERSION 1
+
+/* Bytes that the caller owns. */
+typedef struct {
+  const char *at;
+  size_t length;
+} interpolator_bytes;
+
+/* The traits under which a format writes a value; LIST stands for `{name:i}`. */
+enum {
+  INTERPOLATOR_DISPLAY,   /* {x}   */
+  INTERPOLATOR_DEBUG,     /* {x:?} */
+  INTERPOLATOR_BINARY,    /* {x:b} */
+  INTERPOLATOR_OCTAL,     /* {x:o} */
+  INTERPOLATOR_LOWER_HEX, /* {x:x} */
+  INTERPOLATOR_UPPER_HEX, /* {x:X} */
+  INTERPOLATOR_LOWER_EXP, /* {x:e} */
+  INTERPOLATOR_UPPER_EXP, /* {x:E} */
+  INTERPOLATOR_ITER       /* {x:i} */
+};
+
+/* `fill` of a request that has none: a space. */
+#define INTERPOLATOR_NO_FILL UINT32_MAX
+
+/* How an argument wants its value written. Zeroed but for `fill`, it is that of `{x}`. */
+typedef struct {
+  uint32_t slot;      /* the trait, of the enum above */
+  uint32_t fill;      /* the code of the fill character, or INTERPOLATOR_NO_FILL */
+  uint32_t alignment; /* 0 none, 1 `<`, 2 `^`, 3 `>` */
+  uint32_t sign;      /* 0 none, 1 `+`, 2 `-` */
+  uint32_t alternate; /* 1 after `#`, else 0 */
+  uint32_t zero;      /* 1 after the flag `0`, else 0 */
+  uint32_t hex_debug; /* 0 none, 1 `x?`, 2 `X?` */
+  uint32_t given;     /* INTERPOLATOR_WIDTH | INTERPOLATOR_PRECISION, if they are given */
+  size_t width;       /* 0 if not given */
+  size_t precision;   /* 0 if not given */
+} interpolator_request;
+
+enum { INTERPOLATOR_WIDTH = 1, INTERPOLATOR_PRECISION = 2 };
+
+/* A text that the caller made of a value, for one request. */
+typedef struct {
+  interpolator_request request;
+  interpolator_bytes text; /* UTF-8; it is written as it is */
+} interpolator_lent;
+
+/* What a field or an item is. A kind that is none of these has no text under any trait. */
+enum {
+  INTERPOLATOR_TEXT,        /* `text`; if it is not UTF-8, writing it is the fault FMT */
+  INTERPOLATOR_PLAIN,       /* the same, written as it is under every request: no padding, no quotes */
+  INTERPOLATOR_TRUTH,       /* `natural`: 0 is false, all else true */
+  INTERPOLATOR_CHARACTER,   /* `natural`: its code; if it is none, writing it is the fault FMT */
+  INTERPOLATOR_UNSIGNED,    /* `natural`: an unsigned number of 8 to 64 bits */
+  INTERPOLATOR_UNSIGNED128, /* `upper` * 2^64 + `natural` */
+  INTERPOLATOR_SIGNED8,     /* `number`; out of range, writing it is the fault FMT */
+  INTERPOLATOR_SIGNED16,
+  INTERPOLATOR_SIGNED32,
+  INTERPOLATOR_SIGNED64,
+  INTERPOLATOR_SIGNED128,   /* `number` * 2^64 + `natural`: the halves of an __int128 */
+  INTERPOLATOR_LIST,        /* the items from `first` up to, and without, `end` */
+  INTERPOLATOR_LENT         /* the text of `lent` that has the request; without one, MISSING_TRAIT */
+};
+
+/* The slots of a value: under which traits a format may write it, as a mask. */
+enum {
+  INTERPOLATOR_SLOT_DISPLAY = 1,
+  INTERPOLATOR_SLOT_DEBUG = 2,
+  INTERPOLATOR_SLOT_BINARY = 4,
+  INTERPOLATOR_SLOT_OCTAL = 8,
+  INTERPOLATOR_SLOT_LOWER_HEX = 16,
+  INTERPOLATOR_SLOT_UPPER_HEX = 32,
+  INTERPOLATOR_SLOT_LOWER_EXP = 64,
+  INTERPOLATOR_SLOT_UPPER_EXP = 128
+};
+
+/* A value under a name, or an item of a list. Zero what is not used. */
+typedef struct {
+  interpolator_bytes name;       /* UTF-8, else no format finds it; of an item it is not read */
+  interpolator_bytes text;       /* TEXT and PLAIN */
+  const interpolator_lent *lent; /* LENT: texts, each for a request of its own; the first counts */
+  size_t lent_count;
+  uint32_t kind;                 /* INTERPOLATOR_TEXT .. INTERPOLATOR_LENT */
+  uint32_t slots;                /* a mask of its slots; 0 for those of its kind: DISPLAY and DEBUG of
+                                    TEXT, PLAIN, TRUTH and CHARACTER, all eight of any other. A LIST
+                                    has none but its items, whatever the mask is. */
+  int64_t number;
+  uint64_t natural;
+  uint64_t upper;
+  size_t first, end;             /* LIST */
+  uint64_t spare[2];             /* not read; zero them */
+} interpolator_field;
+
+/* What a call returns as its code. */
+enum {
+  INTERPOLATOR_OK,
+  INTERPOLATOR_MISSING_TRAIT, /* the value has no such slot, or no text under this trait */
+  INTERPOLATOR_FMT,           /* the value failed, as a text that is not UTF-8 */
+  INTERPOLATOR_PARSE,         /* the format is broken */
+  INTERPOLATOR_MISSING_VALUE, /* no field has the name */
+  INTERPOLATOR_UNSUPPORTED,   /* the format has the option `p` */
+  INTERPOLATOR_NO_MEMORY,     /* memory was refused; by interpolator_write also that a list under a
+                                 width has more bytes than the room */
+  INTERPOLATOR_NOT_UTF8,      /* the format, a column's name or a source's name is not UTF-8 */
+  INTERPOLATOR_LISTS,         /* a list does not lie as it should: see "Lists" */
+  INTERPOLATOR_FULL,          /* the room is too small for what the format means */
+  INTERPOLATOR_TABLE          /* there are not as many cells as columns times rows */
+};
+
+/* What a call returns. */
+typedef struct {
+  uint32_t code;   /* of the enum above */
+  uint32_t detail; /* of MISSING_TRAIT the trait; else 0 */
+  size_t place;    /* of the codes 1 to 5, and of FULL: the byte of the format at which it is */
+  size_t length;   /* bytes of the text; arguments; see each call */
+  size_t message;  /* bytes of the sentence that says what is wrong; 0 if there is none */
+  size_t row;      /* interpolator_rows: how many rows were written before a fault */
+} interpolator_answer;
+
+/* ---- Lists
+ *
+ * A list has the items from `first` up to `end` of the array `items`, which all lists of a call
+ * share; an item may be a list of other items. The items of a list in `items` lie after the list
+ * itself, so none holds itself. Lay them level by level: first the items of the fields, then the
+ * items of the lists among those, and so on, at most 64 levels. A list that lies otherwise, or past
+ * the end of the array, is the code INTERPOLATOR_LISTS, and then nothing is written. (A list may lie
+ * out of this order as long as there are no more than 64 levels; each level costs one pass over the
+ * items, and memory for them.) Several lists may share items.
+ */
+
+/* ---- Calls */
+
+/* The text of a format over a row of fields: the whole text, or none. Of two equal names the last
+ * counts.
+ *
+ * OK: `length` is that of the text. If it fits, it lies at the front of the room; else the room is as
+ * it was, and a room of `length` bytes would do. (So a first call without a room measures it.)
+ * 1 to 5: the format's fault, at `place`. The room holds its sentence of `message` bytes if it fits,
+ * else it is as it was; `length` is 0.
+ * NO_MEMORY, NOT_UTF8, LISTS: likewise, with `place` 0. */
+interpolator_answer interpolator_format(
+    const char *format, size_t format_length,
+    const interpolator_field *fields, size_t field_count,
+    const interpolator_field *items, size_t item_count,
+    char *room, size_t room_length);
+
+/* Writes the text of a format over a row of fields into a room, up to its first fault.
+ *
+ * OK: the room begins with the whole text, of `length` bytes.
+ * 1 to 5: the format's fault, at `place`. The room begins with all of the text before the fault, of
+ * `length` bytes.
+ * FULL: the room begins with as many whole characters of the text as were written, of `length`
+ * bytes; `place` is that of the first which was not.
+ * NO_MEMORY: the room begins with the text before what found no memory.
+ * NOT_UTF8, LISTS: nothing is written.
+ * Nothing else in the room is changed. The second room holds the sentence of `message` bytes if it
+ * fits, else it is as it was. */
+interpolator_answer interpolator_write(
+    const char *format, size_t format_length,
+    const interpolator_field *fields, size_t field_count,
+    const interpolator_field *items, size_t item_count,
+    char *room, size_t room_length,
+    char *sentence, size_t sentence_length);
+
+/* The first fault that a format has by itself or over a row of examples, at every depth of groups:
+ * fields with an example value each, and lists with an item of each kind.
+ *
+ * OK: no row that resembles the examples makes a fault: one that has, under each name that the
+ * format uses, values of the kinds that the example has there.
+ * 1 to 5: the first fault, at `place`; the room holds its sentence as by interpolator_format. */
+interpolator_answer interpolator_check(
+    const char *format, size_t format_length,
+    const interpolator_field *fields, size_t field_count,
+    const interpolator_field *items, size_t item_count,
+    char *room, size_t room_length);
+
+/* The fault that interpolator_check finds, as a compiler shows it: `name`:line:column, what it is,
+ * and the line of the format with its argument marked. `first_line` is the line of the file `name`
+ * that the format begins at.
+ *
+ * OK: there is no fault, and nothing is written.
+ * 1 to 5: the fault, at `place`. The room holds the picture of `message` bytes, without a newline at
+ * its end, if it fits. */
+interpolator_answer interpolator_explain(
+    const char *name, size_t name_length, size_t first_line,
+    const char *format, size_t format_length,
+    const interpolator_field *fields, size_t field_count,
+    const interpolator_field *items, size_t item_count,
+    char *room, size_t room_length);
+
+/* A table: the format is read and prepared once over the columns, of which each has a name and an
+ * example (as by interpolator_check), and written over each row of cells, whose names are not read.
+ * There are `row_count` times `column_count` cells, row by row. A list among them has no items.
+ *
+ * OK: the rows' texts one after the other are `length` bytes, and ends[i] is where row i ends. They
+ * lie at the front of the room if they fit; else the room is as it was.
+ * 1 to 5: the first fault, which is that of the format over the columns, or else of the first row
+ * that has one; `row` rows come before it. The room holds its sentence, as by interpolator_format.
+ * TABLE: `cell_count` is not `column_count` times `row_count`. */
+interpolator_answer interpolator_rows(
+    const char *format, size_t format_length,
+    const interpolator_field *columns, size_t column_count,
+    const interpolator_field *cells, size_t cell_count,
+    size_t *ends, size_t row_count,
+    char *room, size_t room_length);
+
+/* How much a format can write, over values whose texts have at most `text` characters and whose lists
+ * have at most `items` items. Of each count SIZE_MAX stands for as many or more. */
+typedef struct {
+  uint32_t code;     /* OK, NO_MEMORY or NOT_UTF8 */
+  uint32_t detail;   /* 0 */
+  size_t characters; /* the most characters of the text */
+  size_t pieces;     /* the most pieces that are gone through */
+  size_t buffered;   /* the most characters that lists under a width hold in memory at a time */
+} interpolator_cost_answer;
+
+interpolator_cost_answer interpolator_cost(
+    const char *format, size_t format_length, size_t text, size_t items);
+
+/* An argument of a format: what is in braces. Places count bytes of the format. */
+typedef struct {
+  size_t name_first, name_end;   /* where its name lies; in an item format that of the item is empty */
+  interpolator_request request;  /* its trait, ITER for a list, and its spec */
+  size_t item_first, item_end;   /* of a list, where the format of an item lies; 0, 0 if there is none */
+  size_t join_first, join_end;   /* of a list, where the format of what is between two items lies */
+} interpolator_argument;
+
+/* The arguments of a format in order, and after a list those of its item format and of its join: how
+ * a caller learns which texts it has to lend. A broken argument is not among them.
+ *
+ * OK: `length` is how many there are. The array begins with as many of them as it has places for. */
+interpolator_answer interpolator_arguments(
+    const char *format, size_t format_length,
+    interpolator_argument *arguments, size_t argument_count);
+
+/* The version that the library was built with. */
+uint32_t interpolator_version(void);
+
+/* The sizes of the structs, and the offsets of some members, that the library was built with. */
+typedef struct {
+  size_t request, lent, field, answer, argument, cost_answer;
+  size_t request_width, lent_text, field_kind, field_number, field_first;
+  size_t answer_place, argument_request, argument_item;
+} interpolator_sizes;
+
+interpolator_sizes interpolator_layout(void);
+
+/* Whether the library has the version and the structs of this header: ask it once at the start if the
+ * two may come from different builds. */
+static inline int interpolator_agrees(void) {
+  interpolator_sizes of = interpolator_layout();
+  return interpolator_version() == INTERPOLATOR_VERSION
+      && of.request == sizeof(interpolator_request) && of.lent == sizeof(interpolator_lent)
+      && of.field == sizeof(interpolator_field) && of.answer == sizeof(interpolator_answer)
+      && of.argument == sizeof(interpolator_argument)
+      && of.cost_answer == sizeof(interpolator_cost_answer)
+      && of.request_width == offsetof(interpolator_request, width)
+      && of.lent_text == offsetof(interpolator_lent, text)
+      && of.field_kind == offsetof(interpolator_field, kind)
+      && of.field_number == offsetof(interpolator_field, number)
+      && of.field_first == offsetof(interpolator_field, first)
+      && of.answer_place == offsetof(interpolator_answer, place)
+      && of.argument_request == offsetof(interpolator_argument, request)
+      && of.argument_item == offsetof(interpolator_argument, item_first);
+}
+
+/* ---- Memory
+ *
+ * A program may define these three, and then the library takes all its memory by them; else it calls
+ * malloc, realloc and free. They may be called by several threads at a time. `align` is a power of
+ * two, at most 16. A block with `ok` 0 refuses the memory, and a call then returns
+ * INTERPOLATOR_NO_MEMORY; its `at` is not null and is not read. */
+typedef struct {
+  size_t ok; /* 1, or 0 if there is no memory */
+  void *at;
+} rattle_block;
+
+rattle_block rattle_alloc(size_t size, size_t align);
+/* The first `kept` bytes are kept. If it refuses, the old block stays as it is. */
+rattle_block rattle_realloc(void *at, size_t kept, size_t size, size_t align);
+void rattle_dealloc(void *at);
+
+/* ---- Making fields */
+
+static inline interpolator_bytes interpolator_span(const char *at, size_t length) {
+  interpolator_bytes bytes;
+  bytes.at = at;
+  bytes.length = length;
+  return bytes;
+}
+
+/* The bytes of a text that a zero byte ends. */
+static inline interpolator_bytes interpolator_string(const char *text) {
+  return interpolator_span(text, strlen(text));
+}
+
+/* A field of this name and kind, with all else zero. */
+static inline interpolator_field interpolator_of(const char *name, uint32_t kind) {
+  interpolator_field field;
+  memset(&field, 0, sizeof field);
+  field.name = interpolator_string(name);
+  field.kind = kind;
+  return field;
+}
+
+static inline interpolator_field interpolator_text(const char *name, const char *text) {
+  interpolator_field field = interpolator_of(name, INTERPOLATOR_TEXT);
+  field.text = interpolator_string(text);
+  return field;
+}
+
+static inline interpolator_field interpolator_int(const char *name, int number) {
+  interpolator_field field = interpolator_of(name, INTERPOLATOR_SIGNED32);
+  field.number = number;
+  return field;
+}
+
+static inline interpolator_field interpolator_int64(const char *name, int64_t number) {
+  interpolator_field field = interpolator_of(name, INTERPOLATOR_SIGNED64);
+  field.number = number;
+  return field;
+}
+
+static inline interpolator_field interpolator_uint64(const char *name, uint64_t number) {
+  interpolator_field field = interpolator_of(name, INTERPOLATOR_UNSIGNED);
+  field.natural = number;
+  return field;
+}
+
+static inline interpolator_field interpolator_truth(const char *name, int truth) {
+  interpolator_field field = interpolator_of(name, INTERPOLATOR_TRUTH);
+  field.natural = truth != 0;
+  return field;
+}
+
+static inline interpolator_field interpolator_character(const char *name, uint32_t code) {
+  interpolator_field field = interpolator_of(name, INTERPOLATOR_CHARACTER);
+  field.natural = code;
+  return field;
+}
+
+/* The items from `first` up to `end` of the array of items. */
+static inline interpolator_field interpolator_list(const char *name, size_t first, size_t end) {
+  interpolator_field field = interpolator_of(name, INTERPOLATOR_LIST);
+  field.first = first;
+  field.end = end;
+  return field;
+}
+
+/* A value that only the caller can print, by texts that were made for requests. */
+static inline interpolator_field interpolator_lent_texts(
+    const char *name, const interpolator_lent *texts, size_t count) {
+  interpolator_field field = interpolator_of(name, INTERPOLATOR_LENT);
+  field.lent = texts;
+  field.lent_count = count;
+  return field;
+}
+
+#ifdef __cplusplus
+}
+#endif
+#endif
