@@ -1,0 +1,8 @@
+-- The definitions that the contracts cite.
+pub mod Answers
+pub mod Arguments
+pub mod Checks
+pub mod Costs
+pub mod Fields
+pub mod Requests
+pub mod Tables

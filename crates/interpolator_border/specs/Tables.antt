@@ -1,0 +1,169 @@
+-- A table: a format over each of its rows.
+use Rattle.std.specs.Prelude.{◌≡◌, ◌≢◌, ◌⊎◌, ⊤, ℕ, zero, suc, ◌+◌, ◌*◌, ◌<◌, List, [], ◌∷◌, ◌++◌}
+use Rattle.std.specs.Prelude.{map, length, take, drop, Option, None, Some, true, false, option_map}
+use Rattle.std.specs.Prelude.{Bool, Result, MatchResult, Ok, Err, encode_utf8_all}
+use Rattle.std.specs.List.{list_all}
+use Rattle.std.specs.Str.{chars, is_utf8}
+use Rattle.std.specs.Borrow.{Bor}
+use Rattle.std.specs.declared.vec.Vec.{Vec}
+use Rattle.interpolator_render.specs.Written.{Buffered, byte_count}
+use Rattle.interpolator_syntax.specs.At.{outermost, text_of}
+use Rattle.interpolator_syntax.specs.Faults.{Answer, Fault, fault, no_memory, answer_of}
+use Rattle.interpolator_syntax.specs.FaultTexts.{answer_text}
+use Rattle.interpolator_syntax.specs.declared.error.Error.{Error}
+use Rattle.interpolator_eval.specs.Contexts.{found_by_pairs}
+use Rattle.interpolator_eval.specs.Meaning.Environments.{environment}
+use Rattle.interpolator_eval.specs.Meaning.Meanings.{Meaning, means}
+use Rattle.interpolator_eval.specs.Slots.{slots_of}
+use Rattle.interpolator_eval.specs.declared.slots.Formattable.{Formattable}
+use Rattle.interpolator.specs.Prepared.Rows.{PreparedFormat, found_by_row, pair_names, row_at}
+use Rattle.interpolator.specs.Template.NodeChecks.{first_fault}
+use Rattle.interpolator.specs.Template.NodeSamples.{faults_over}
+use Rattle.interpolator.specs.Template.Telling.{AnswersFirst}
+use Rattle.interpolator_border.specs.Answers.{Told, ToldBy, fault_answer, text_answer}
+use Rattle.interpolator_border.specs.Fields.{all_within, field_shows, field_slots}
+use Rattle.interpolator_border.specs.declared.answer.Answer.{Answer as Told_answer}
+use Rattle.interpolator_border.specs.declared.answer.Failure.{Failure}
+use Rattle.interpolator_border.specs.declared.answer.Failure.TheVariants as failure
+use Rattle.interpolator_border.specs.declared.field.Field.{Field}
+use Rattle.interpolator_border.specs.declared.table.RowFault.{RowFault}
+
+-- ---- the columns
+
+-- the names of the columns
+abbrev pub column_names : List Field → List (List ℕ)
+column_names columns = map (λ column. column.name.now) columns
+
+-- pairs of the columns' names and of what their examples stand for, where a list has no items
+pub record Pairs (columns : List Field) (pairs : List (Bor (List ℕ) × Formattable Field)) : Type 0 where
+  pub names : pair_names pairs ≡ column_names columns
+  pub slots : map (λ pair. slots_of pair.1) pairs ≡ map (field_slots []) columns
+
+-- a name is UTF-8
+abbrev pub has_text_name : Field → Bool
+has_text_name column = is_utf8 column.name.now
+
+-- the columns have such pairs; or some name is not UTF-8, or memory was wanted
+abbrev pub PairsMade : List Field → {Z : Type 0}
+    → Result (Vec (Bor (List ℕ) × Formattable Field) Z) Failure → Type 0
+PairsMade columns (Ok pairs) = Pairs columns pairs.items
+PairsMade columns (Err failure.NotUtf8) = list_all has_text_name columns ≡ false
+PairsMade columns (Err (failure.Fault e)) = answer_of e ≡ no_memory
+PairsMade columns (Err _) = ⊥
+
+-- of the faults of a format over the columns
+pub record ColumnFaults (columns : List Field) (format : List ℕ) (P : List Fault → Type 0) : Type 0 where
+  pub pairs : List (Bor (List ℕ) × Formattable Field)
+  pub are : Pairs columns pairs
+  pub holds : P (faults_over field_shows (found_by_pairs pairs) (outermost (chars format)))
+
+-- the format with the columns' names, if it has no fault over them; or its first, or that memory was
+-- wanted, or that it or a name is not UTF-8
+abbrev pub Prepares : List Field → List ℕ → Result PreparedFormat Failure → Type 0
+Prepares columns format (Ok made) =
+    (is_utf8 format ≡ true) × (made ≡ record { text = format; names = column_names columns })
+Prepares columns format (Err failure.NotUtf8) =
+    (is_utf8 format ≡ false) ⊎ (list_all has_text_name columns ≡ false)
+Prepares columns format (Err (failure.Fault e)) =
+    (answer_of e ≡ no_memory) ⊎ ((is_utf8 format ≡ true)
+    × ColumnFaults columns format (λ fs. AnswersFirst fs (Some (answer_of e))))
+Prepares columns format (Err _) = ⊥
+
+-- ---- the rows
+
+-- what a format means over the values of a row, in the order of names
+abbrev pub values_mean : List (List ℕ) → List ℕ → List (Formattable Field) → Meaning
+values_mean names format row =
+    means field_shows (environment (found_by_row names (row_at row))) (outermost (chars format))
+
+-- a row was appended, and where it ends; or its fault, or memory was wanted
+abbrev pub Appended : Meaning → (old new : Buffered) → Result ℕ Error → Type 0
+Appended m old new (Ok end) =
+    (m.fault ≡ None) × (new.text ≡ old.text ++ text_of m.text) × (new.refused ≡ false)
+    × (end ≡ byte_count new.text)
+Appended m old new (Err e) =
+    (answer_of e ≡ no_memory) ⊎ (Some (answer_of e) ≡ option_map fault m.fault)
+
+module _ (names : List (List ℕ)) (format : List ℕ) (width : ℕ) (values : List (Formattable Field)) where
+  -- what the format means over a row
+  abbrev pub row_means : ℕ → Meaning
+  row_means row = values_mean names format (take width (drop (row * width) values))
+
+  -- the text of so many rows
+  abbrev pub rows_text : ℕ → List ℕ
+  rows_text zero = []
+  rows_text (suc row) = rows_text row ++ text_of (row_means row).text
+
+  -- where each of so many rows ends, in bytes
+  abbrev pub rows_ends : ℕ → List ℕ
+  rows_ends zero = []
+  rows_ends (suc row) = rows_ends row ++ (byte_count (rows_text (suc row)) ∷ [])
+
+  -- none of so many rows has a fault
+  abbrev pub Faultless : ℕ → Type 0
+  Faultless zero = ⊤
+  Faultless (suc row) = Faultless row × ((row_means row).fault ≡ None)
+
+  -- the first fault of a row, before which are none
+  abbrev pub FailsIn : RowFault → Type 0
+  FailsIn wrong =
+      (answer_of wrong.error ≡ no_memory) ⊎ (Faultless wrong.row
+      × (Some (answer_of wrong.error) ≡ option_map fault (row_means wrong.row).fault))
+
+  -- the rows were appended, and where each ends; or the first fault of one
+  abbrev pub MadeRows : {Z : Type 0} → (count : ℕ) → Buffered → Result (Vec ℕ Z) RowFault → Type 0
+  MadeRows count new result = MatchResult result
+      (λ ends. Faultless count × (new.text ≡ rows_text count) × (ends.items ≡ rows_ends count))
+      FailsIn
+
+-- values that stand for the cells, where a list has no items
+pub record Values (cells : List Field) (P : List (Formattable Field) → Type 0) : Type 0 where
+  pub values : List (Formattable Field)
+  pub are : map slots_of values ≡ map (field_slots []) cells
+  pub holds : P values
+
+module _ (names : List (List ℕ)) (format : List ℕ) (width : ℕ) (values : List (Formattable Field)) where
+  -- all rows are written: their texts one after the other, and where each ends
+  pub record AllRows (count : ℕ) (ends old new : List ℕ) (answer : Told_answer) : Type 0 where
+    pub faultless : Faultless names format width values count
+    pub ends_are : ends ≡ rows_ends names format width values count
+    pub told : answer ≡ text_answer (byte_count (rows_text names format width values count))
+    pub put : Told (encode_utf8_all (rows_text names format width values count)) old new
+
+  -- a fault of a row, before which are none, is told with its sentence
+  pub record OneRowFails (old new : List ℕ) (answer : Told_answer) : Type 0 where
+    pub f : Fault
+    pub row : ℕ
+    pub before : Faultless names format width values row
+    pub is : (row_means names format width values row).fault ≡ Some f
+    pub told : (answer.code ≡ 6) ⊎ ((answer ≡ record (fault_answer (fault f) 0) { row = row })
+        × Told (answer_text (fault f)) old new)
+
+  -- all rows are written, or a fault of one is told, or memory was wanted
+  abbrev pub TellsRows : (ends_old ends_new : List ℕ) → (old new : List ℕ) → Told_answer → Type 0
+  TellsRows ends_old ends_new old new answer =
+      AllRows (length ends_old) ends_new old new answer
+      ⊎ (OneRowFails old new answer ⊎ (answer.code ≡ 6))
+
+-- the first fault over the columns is told with its sentence
+pub record ColumnsFail (old new : List ℕ) (answer : Told_answer) (fs : List Fault) : Type 0 where
+  pub f : Fault
+  pub first : first_fault fs ≡ Some f
+  pub told : ToldBy (fault f) 0 old new answer
+
+-- why no row is written
+abbrev pub RowsAside : (columns cells : List Field) → List ℕ → (count : ℕ) → Told_answer → Type 0
+RowsAside columns cells format count answer =
+    (answer.code ≡ 6)
+    ⊎ ((answer.code ≡ 7) × ((is_utf8 format ≡ false) ⊎ (list_all has_text_name columns ≡ false)))
+    ⊎ ((answer.code ≡ 8) × ((all_within 0 columns ≡ false) ⊎ (all_within 0 cells ≡ false)))
+    ⊎ ((answer.code ≡ 10) × (length cells ≢ count * length columns))
+
+-- all rows, or a fault of one; or a fault over the columns, or why no row is written
+abbrev pub RowsAnswers : (columns cells : List Field) → List ℕ → (ends_old ends_new : List ℕ)
+    → (old new : List ℕ) → Told_answer → Type 0
+RowsAnswers columns cells format ends_old ends_new old new answer =
+    ((is_utf8 format ≡ true) × Values cells (λ values.
+    TellsRows (column_names columns) format (length columns) values ends_old ends_new old new answer))
+    ⊎ (((is_utf8 format ≡ true) × ColumnFaults columns format (ColumnsFail old new answer))
+    ⊎ RowsAside columns cells format (length ends_old) answer)

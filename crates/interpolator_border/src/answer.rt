@@ -1,0 +1,198 @@
+//! What a call returns.
+ghost use Rattle.std.specs.Prelude.{◌≡◌, ◌<◌, length};
+ghost use Rattle.interpolator_border.specs.Answers.{Told, ToldBy, ToldFailure, code_of_answer};
+ghost use Rattle.interpolator_border.specs.Answers.{detail_of_answer, fault_answer};
+ghost use Rattle.interpolator_syntax.specs.Faults.{answer_of};
+
+use crate::request::slot_code;
+use interpolator::Error;
+use std::alloc::Global;
+
+/// The code of a refusal of memory.
+pub(crate) const NO_MEMORY: u32 = 6;
+
+/// The code of a format that is not UTF-8.
+pub(crate) const NOT_UTF8: u32 = 7;
+
+/// The code of lists that do not lie as they should.
+const LISTS: u32 = 8;
+
+/// The code of a room that is too small.
+const FULL: u32 = 9;
+
+/// The code of a table with another number of cells.
+const TABLE: u32 = 10;
+
+/// What a call returns.
+#[repr(C)]
+#[derive(Clone, Copy)]
+pub struct Answer {
+    /// 0 if all went well, or what is wrong.
+    pub code: u32,
+    /// The number of a missing trait; else 0.
+    pub detail: u32,
+    /// The place of a fault, in bytes of the format.
+    pub place: usize,
+    /// How many bytes the text has.
+    pub length: usize,
+    /// How many bytes the sentence has that says what is wrong.
+    pub message: usize,
+    /// How many rows were written before a fault.
+    pub row: usize,
+}
+
+/// Why a call has no text.
+#[derive(Drop)]
+pub(crate) enum Failure {
+    /// The format is not UTF-8.
+    NotUtf8,
+    /// A list does not lie as it should.
+    Lists,
+    /// There are not as many cells as there should be.
+    Table,
+    /// A fault of the format, or memory was refused.
+    Fault(Error),
+}
+
+/// The code of a fault.
+pub(crate) fn code_of(error: &Error) -> u32
+    ensures code { result ≡ code_of_answer (answer_of error.now) }
+    ensures some { 0 < result }
+{
+    match error {
+        Error::MissingTraitImpl(_, _) => 1,
+        Error::Fmt(_, _) => 2,
+        Error::Parse(_) => 3,
+        Error::MissingValue(_, _) => 4,
+        Error::UnsupportedOption(_, _, _) => 5,
+        Error::NoMemory => NO_MEMORY,
+    }
+}
+
+/// The number of a missing trait.
+fn detail_of(error: &Error) -> u32
+    ensures { result ≡ detail_of_answer (answer_of error.now) }
+{
+    match error {
+        Error::MissingTraitImpl(t, _) => slot_code(*t),
+        _ => 0,
+    }
+}
+
+/// Copies a text to the front of the room, if it fits.
+pub(crate) fn put(room: &mut [u8], text: &[u8])
+    ensures { Told text.now room.old room.new }
+{
+    if text.len() <= room.len() {
+        let (front, _) = room.split_at_mut(text.len());
+        front.copy_from_slice(text);
+    }
+}
+
+/// All went well, and so many bytes are the text's.
+pub(crate) fn well(length: usize) -> Answer
+    ensures { result ≡ record { code = 0; detail = 0; place = 0; length = length; message = 0; row = 0 } }
+{
+    Answer {
+        code: 0,
+        detail: 0,
+        place: 0,
+        length,
+        message: 0,
+        row: 0,
+    }
+}
+
+/// A code alone.
+pub(crate) fn bare(code: u32) -> Answer
+    ensures { result ≡ record { code = code; detail = 0; place = 0; length = 0; message = 0; row = 0 } }
+{
+    Answer { code, ..well(0) }
+}
+
+/// A code, with its sentence.
+fn coded(code: u32, sentence: &str, room: &mut [u8]) -> Answer
+    ensures room { Told sentence.now room.old room.new }
+    ensures answer { result ≡ record {
+      code = code;
+      detail = 0;
+      place = 0;
+      length = 0;
+      message = length sentence.now;
+      row = 0;
+    } }
+{
+    put(room, sentence.as_bytes());
+    Answer {
+        code,
+        message: sentence.len(),
+        ..well(0)
+    }
+}
+
+/// The answer of a fault, with so many bytes before it and a sentence of so many.
+fn fault_answer(error: &Error, length: usize, message: usize) -> Answer
+    ensures { result ≡ record (fault_answer (answer_of error.now) length) { message = message } }
+{
+    Answer {
+        code: code_of(error),
+        detail: detail_of(error),
+        place: error.place().unwrap_or(0),
+        length,
+        message,
+        row: 0,
+    }
+}
+
+/// A fault, with the bytes before it and its sentence.
+pub(crate) fn told_fault(alloc: Global, error: &Error, length: usize, room: &mut [u8]) -> Answer
+    ensures fault { ToldBy (answer_of error.now) length room.old room.new result }
+    ensures some { 0 < result.code }
+{
+    match format!(in alloc; "{error}") {
+        Ok(sentence) => {
+            put(room, sentence.as_str().as_bytes());
+            fault_answer(error, length, sentence.len())
+        }
+        Err(_) => Answer {
+            length,
+            ..coded(NO_MEMORY, "out of memory", room)
+        },
+    }
+}
+
+/// Why a call has no text, with its sentence.
+pub(crate) fn told_failure(alloc: Global, failure: &Failure, room: &mut [u8]) -> Answer
+    ensures failure { ToldFailure failure.now room.old room.new result }
+    ensures some { 0 < result.code }
+{
+    match failure {
+        Failure::NotUtf8 => coded(NOT_UTF8, "not UTF-8", room),
+        Failure::Lists => coded(LISTS, "a list lies where it may not", room),
+        Failure::Table => coded(TABLE, "not as many cells as columns times rows", room),
+        Failure::Fault(error) => told_fault(alloc, error, 0, room),
+    }
+}
+
+/// The room is too small from a place of the format on, after so many bytes of the text.
+pub(crate) fn told_full(place: usize, length: usize, sentence: &mut [u8]) -> Answer
+    ensures code { result.code ≡ 9 }
+    ensures place { result.place ≡ place }
+    ensures length { result.length ≡ length }
+{
+    let told = coded(FULL, "the room is too small", sentence);
+    Answer {
+        place,
+        length,
+        ..told
+    }
+}
+
+/// A fault, with this text for its sentence.
+pub(crate) fn pictured(error: &Error, picture: &str, room: &mut [u8]) -> Answer
+    ensures room { Told picture.now room.old room.new }
+    ensures answer { result ≡ record (fault_answer (answer_of error.now) 0) { message = length picture.now } }
+{
+    put(room, picture.as_bytes());
+    fault_answer(error, 0, picture.len())
+}

@@ -1,0 +1,160 @@
+//! The arguments of a format.
+ghost use Rattle.std.specs.Prelude.{◌≡◌, ◌+◌, IfErr, IfOk, length, map, option_map};
+ghost use Rattle.std.specs.Str.{chars};
+ghost use Rattle.interpolator_render.specs.Lengths.{usize_count};
+ghost use Rattle.interpolator_render.specs.Written.{byte_count};
+ghost use Rattle.interpolator_syntax.specs.Arguments.{argument_of};
+ghost use Rattle.interpolator_syntax.specs.Faults.{answer_of, no_memory};
+ghost use Rattle.interpolator_syntax.specs.Groups.{group_of};
+ghost use Rattle.interpolator_border.specs.Arguments.{ArgumentAnswers, FillsFront, group_end};
+ghost use Rattle.interpolator_border.specs.Arguments.{group_first, told_argument, told_arguments};
+ghost use Rattle.interpolator_border.specs.Requests.{request_of};
+
+use crate::answer::{Answer, NO_MEMORY, NOT_UTF8, bare, well};
+use crate::bytes::text_of;
+use crate::request::{Request, request_of};
+use interpolator::{Argument as Parsed, Error, Group, Kind, Template, Trait};
+use std::alloc::{AllocError, Global};
+
+/// An argument of a format: what is in braces. Places count bytes of the format.
+#[repr(C)]
+#[derive(Clone, Copy)]
+pub struct Argument {
+    /// Where its name begins.
+    pub name_first: usize,
+    /// Where its name ends.
+    pub name_end: usize,
+    /// Its trait and its spec.
+    pub request: Request,
+    /// Of a list: where the format of an item begins; 0 if there is none.
+    pub item_first: usize,
+    /// Of a list: where the format of an item ends; 0 if there is none.
+    pub item_end: usize,
+    /// Of a list: where the format between two items begins; 0 if there is none.
+    pub join_first: usize,
+    /// Of a list: where the format between two items ends; 0 if there is none.
+    pub join_end: usize,
+}
+
+/// The bytes of a text.
+fn byte_length(text: &str) -> usize
+    ensures length { result ≡ length text.now }
+    ensures bytes { result ≡ byte_count (chars text.now) }
+{
+    text.len()
+}
+
+/// Where a group begins.
+fn group_first(group: Option<Group<'_>>) -> usize
+    ensures { result ≡ group_first (option_map group_of group.entry) }
+{
+    match group {
+        Some(group) => group.place,
+        None => 0,
+    }
+}
+
+/// Where a group ends.
+fn group_end(group: Option<Group<'_>>) -> usize
+    ensures { result ≡ group_end (option_map group_of group.entry) }
+{
+    match group {
+        Some(group) => group.place + byte_length(group.text),
+        None => 0,
+    }
+}
+
+/// What a value asks for, in numbers.
+fn told_value(argument: &Parsed<'_>, slot: Trait) -> Argument
+    ensures { result ≡ record {
+      name_first = argument.now.name_place;
+      name_end = usize_count (argument.now.name_place
+          + byte_count (chars argument.now.name.now));
+      request = request_of slot argument.now.spec;
+      item_first = 0;
+      item_end = 0;
+      join_first = 0;
+      join_end = 0;
+    } }
+{
+    Argument {
+        name_first: argument.name_place,
+        name_end: argument
+            .name_place
+            .saturating_add(byte_length(argument.name)),
+        request: request_of(slot, &argument.spec),
+        item_first: 0,
+        item_end: 0,
+        join_first: 0,
+        join_end: 0,
+    }
+}
+
+/// An argument, in numbers.
+fn told_argument(argument: &Parsed<'_>) -> Argument
+    ensures { result ≡ told_argument (argument_of argument.now) }
+{
+    match argument.kind {
+        Kind::Value(slot) => told_value(argument, slot),
+        Kind::List {
+            range: _,
+            item,
+            join,
+        } => Argument {
+            item_first: group_first(item),
+            item_end: group_end(item),
+            join_first: group_first(join),
+            join_end: group_end(join),
+            ..told_value(argument, Trait::Iter)
+        },
+    }
+}
+
+/// The arguments, in numbers.
+fn told_arguments(alloc: Global, arguments: &[Parsed<'_>]) -> Result<Vec<Argument>, AllocError>
+    ensures { IfOk result (λ told. told.items
+        ≡ map told_argument (map argument_of arguments.now)) }
+{
+    let mut told = Vec::with_capacity(alloc, arguments.len())?;
+    for argument in arguments {
+        told.push(told_argument(argument))?;
+    }
+    Ok(told)
+}
+
+/// Puts the arguments into the places, as many as there are of both.
+fn put_front(told: &[Argument], places: &mut [Argument])
+    ensures { FillsFront told.now places.old places.new }
+{
+    let count = told.len().min(places.len());
+    let (front, _) = places.split_at_mut(count);
+    front.copy_from_slice(&told[..count]);
+}
+
+/// The arguments of a text, in numbers.
+fn arguments_in(alloc: Global, text: &str) -> Result<Vec<Argument>, Error>
+    ensures ok { IfOk result (λ told. told.items ≡ told_arguments text.now) }
+    ensures refused { IfErr result (λ error. answer_of error ≡ no_memory) }
+{
+    let template = Template::parse(alloc, text)?;
+    let arguments = template.arguments(alloc)?;
+    let told = told_arguments(alloc, &arguments)?;
+    Ok(told)
+}
+
+/// The arguments of a format in order, and after a list those of its groups. The places get as many as
+/// there are of both.
+pub fn arguments(alloc: Global, format: &[u8], places: &mut [Argument]) -> Answer
+    ensures { ArgumentAnswers format.now places.old places.new result }
+{
+    let Some(text) = text_of(format) else {
+        return bare(NOT_UTF8);
+    };
+    match arguments_in(alloc, text) {
+        Ok(told) => {
+            put_front(&told, places);
+            well(told.len())
+        }
+        Err(_) => bare(NO_MEMORY),
+    }
+}

@@ -1,0 +1,34 @@
+//! The formatter for callers that are not Rattle, over what C can pass: bytes, numbers, and slices of
+//! structs of these.
+//!
+//! Each call is a function over slices, with its contract; `interpolator_c` exports them. A [`Field`]
+//! is a value under a name, or an item of a list. [`Answer`] is what a call returns.
+#![tactic(auto)]
+
+mod answer;
+mod argument;
+mod bytes;
+mod checking;
+mod costs;
+mod explaining;
+mod field;
+mod formatting;
+mod levels;
+mod offsets;
+mod request;
+mod row;
+mod slots;
+mod table;
+mod writing;
+
+pub use answer::Answer;
+pub use argument::{Argument, arguments};
+pub use checking::check;
+pub use costs::{CostAnswer, cost};
+pub use explaining::explain;
+pub use field::{Field, Lent};
+pub use formatting::format;
+pub use offsets::{Sizes, VERSION, layout};
+pub use request::Request;
+pub use table::rows;
+pub use writing::write;

@@ -1,0 +1,40 @@
+//! A row of fields, as a context.
+ghost use Rattle.std.specs.Prelude.{◌≡◌, map};
+ghost use Rattle.std.specs.Option.{option_copied};
+ghost use Rattle.interpolator_eval.specs.Slots.{slots_of};
+ghost use Rattle.interpolator_border.specs.Fields.{found_in, last_named};
+
+use crate::field::Field;
+use crate::slots::field_slots;
+use interpolator::{Context, Formattable};
+
+/// The fields of a row, and what the items of its lists stand for.
+#[derive(Clone, Copy)]
+pub(crate) struct Row<'a> {
+    pub(crate) fields: &'a [Field<'a>],
+    pub(crate) items: &'a [Formattable<'a, Field<'a>>],
+}
+
+/// The last field of that name.
+#[inline(never)]
+fn last_field<'s, 'a>(fields: &'s [Field<'a>], name: &str) -> Option<&'s Field<'a>>
+    ensures { option_copied result ≡ last_named fields.now name.now }
+{
+    fields
+        .iter()
+        .rev()
+        .find(|field| field.name == name.as_bytes())
+}
+
+impl<'a> Context for Row<'a> {
+    type Object = Field<'a>;
+
+    ghost finds = { λ row name. found_in row.fields.now (map slots_of row.items.now) name };
+
+    fn get(&self, key: &str) -> Option<Formattable<'_, Field<'a>>> {
+        match last_field(self.fields, key) {
+            Some(field) => Some(field_slots(self.items, field)),
+            None => None,
+        }
+    }
+}

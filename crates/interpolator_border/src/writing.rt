@@ -1,0 +1,178 @@
+//! A row written into a room.
+ghost use Rattle.std.specs.Prelude.{◌≡◌, drop, map, MatchOption, MatchResult, Ok, Err, [], false};
+ghost use Rattle.interpolator_render.specs.Bounds.{bounded_writer};
+ghost use Rattle.interpolator_border.specs.declared.answer.Failure.TheVariants.{Fault};
+ghost use Rattle.interpolator_eval.specs.Slots.{slots_of};
+ghost use Rattle.interpolator_border.specs.Answers.{TellsFault, TellsResult, WriteAnswers};
+ghost use Rattle.interpolator_border.specs.Answers.{WritesRow};
+ghost use Rattle.interpolator_syntax.specs.Faults.{answer_of};
+ghost use Rattle.interpolator_border.specs.Fields.{field_slots, lie_in_levels, lists_lie};
+
+use crate::answer::{Answer, Failure, put, told_failure, told_fault, told_full, well};
+use crate::bytes::text_of;
+use crate::field::Field;
+use crate::levels::{LEVELS, all_lie_within, next_level, settled};
+use crate::row::Row;
+use interpolator::{Bounded, Error, Formattable, TextWrite};
+use std::alloc::Global;
+
+/// Writes a format over a row, if what the items stand for is known from the item `left` on.
+#[tactic(auto, using(crate::proofs::AnswerLemmas::written_known, crate::proofs::LevelLemmas::next_known, crate::proofs::LevelLemmas::lie_no_deeper,))]
+pub(crate) fn write_levels<'a, W: TextWrite>(
+    alloc: Global,
+    out: &mut W,
+    format: &str,
+    fields: &'a [Field<'a>],
+    items: &'a [Field<'a>],
+    known: &'a [Formattable<'a, Field<'a>>],
+    left: usize,
+    levels: u32,
+) -> Result<(), Failure>
+    requires known { let trees = map slots_of known.now in
+        drop left trees ≡ drop left (map (field_slots trees) items.now) }
+    ensures { WritesRow (lie_in_levels levels items.now left) fields.now items.now format.now
+        (W.written out.old) (W.written out.new) result }
+{
+    if left == 0 {
+        let row = Row {
+            fields,
+            items: known,
+        };
+        return failing(interpolator::write(alloc, out, format, &row));
+    }
+    if levels == 0 {
+        return Err(Failure::Lists);
+    }
+    match next_level(alloc, items, known) {
+        Ok(level) => {
+            let rest = settled(left, items);
+            write_levels(
+                alloc,
+                out,
+                format,
+                &*fields,
+                &*items,
+                &level,
+                rest,
+                levels - 1,
+            )
+        }
+        Err(_) => Err(Failure::Fault(Error::NoMemory)),
+    }
+}
+
+/// A fault as why there is no text.
+pub(crate) fn failing(written: Result<(), Error>) -> Result<(), Failure>
+    ensures { MatchResult written (λ ok. result ≡ Ok ok) (λ e. result ≡ Err (Fault e)) }
+{
+    match written {
+        Ok(()) => Ok(()),
+        Err(error) => Err(Failure::Fault(error)),
+    }
+}
+
+/// Writes a format over a row, unless a list lies where it may not.
+#[tactic(auto, using(crate::proofs::AnswerLemmas::none_lies, crate::proofs::AnswerLemmas::row_written, crate::proofs::LevelLemmas::nothing_known,))]
+pub(crate) fn write_row<'a, W: TextWrite>(
+    alloc: Global,
+    out: &mut W,
+    format: &str,
+    fields: &'a [Field<'a>],
+    items: &'a [Field<'a>],
+) -> Result<(), Failure>
+    ensures { WritesRow (lists_lie fields.now items.now) fields.now items.now format.now
+        (W.written out.old) (W.written out.new) result }
+{
+    if !all_lie_within(fields, items) {
+        return Err(Failure::Lists);
+    }
+    write_levels(alloc, out, format, fields, items, &[], items.len(), LEVELS)
+}
+
+/// An empty writer that takes at most so many bytes, for which it has memory.
+fn bounded(alloc: Global, most: usize) -> Option<Bounded>
+    ensures { MatchOption result (Unit {0})
+        (λ out. bounded_writer out ≡ record { text = []; refused = false }) }
+{
+    let mut out = Bounded::new(alloc, most);
+    match out.reserve(most) {
+        Ok(()) => Some(out),
+        Err(_) => None,
+    }
+}
+
+/// What is told of a fault beside a text of so many bytes that was written.
+fn told_beside(
+    alloc: Global,
+    error: &Error,
+    refused: bool,
+    length: usize,
+    sentence: &mut [u8],
+) -> Answer
+    ensures { TellsFault refused length (answer_of error.now) sentence.old sentence.new result }
+{
+    if refused {
+        return told_full(error.place().unwrap_or(0), length, sentence);
+    }
+    told_fault(alloc, error, length, sentence)
+}
+
+/// What is told beside a text of so many bytes that was written.
+fn told_written(
+    alloc: Global,
+    written: &Result<(), Failure>,
+    refused: bool,
+    length: usize,
+    sentence: &mut [u8],
+) -> Answer
+    ensures { TellsResult refused length written.now sentence.old sentence.new result }
+{
+    match written {
+        Ok(()) => well(length),
+        Err(Failure::Fault(error)) => told_beside(alloc, error, refused, length, sentence),
+        Err(failure) => told_failure(alloc, failure, sentence),
+    }
+}
+
+/// Writes the text of a format over a row into a room, up to its first fault.
+fn write_text<'a>(
+    alloc: Global,
+    text: &str,
+    fields: &'a [Field<'a>],
+    items: &'a [Field<'a>],
+    room: &mut [u8],
+    sentence: &mut [u8],
+) -> Answer
+    ensures { WriteAnswers fields.now items.now text.now room.old room.new sentence.old sentence.new
+        result }
+{
+    let Some(mut out) = bounded(alloc, room.len()) else {
+        return told_failure(alloc, &Failure::Fault(Error::NoMemory), sentence);
+    };
+    let written = write_row(alloc, &mut out, text, fields, items);
+    let made = out.as_str();
+    if room.len() < made.len() {
+        return told_failure(alloc, &Failure::Fault(Error::NoMemory), sentence);
+    }
+    put(room, made.as_bytes());
+    told_written(alloc, &written, out.refused(), made.len(), sentence)
+}
+
+/// Writes the text of a format over a row into a room, up to its first fault, whose sentence comes
+/// into a second room.
+pub fn write<'a>(
+    alloc: Global,
+    format: &[u8],
+    fields: &'a [Field<'a>],
+    items: &'a [Field<'a>],
+    room: &mut [u8],
+    sentence: &mut [u8],
+) -> Answer
+    ensures { WriteAnswers fields.now items.now format.now room.old room.new sentence.old
+        sentence.new result }
+{
+    match text_of(format) {
+        Some(text) => write_text(alloc, text, fields, items, room, sentence),
+        None => told_failure(alloc, &Failure::NotUtf8, sentence),
+    }
+}

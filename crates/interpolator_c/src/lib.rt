@@ -1,0 +1,127 @@
+//! What C calls: `interpolator_border`, under the names of `bindings/c/interpolator.h`.
+#![tactic(auto)]
+
+ghost use Rattle.std.specs.Prelude.{◌≡◌};
+ghost use Rattle.interpolator_border.specs.Answers.{FormatAnswers, WriteAnswers};
+ghost use Rattle.interpolator_border.specs.Arguments.{ArgumentAnswers};
+ghost use Rattle.interpolator_border.specs.Checks.{CheckAnswers, ExplainAnswers, NeverFails};
+ghost use Rattle.interpolator_border.specs.Costs.{CostAnswers};
+ghost use Rattle.interpolator_border.specs.Tables.{RowsAnswers};
+
+use interpolator_border::{Answer, Argument, CostAnswer, Field, Sizes};
+use std::alloc::Global;
+
+/// The whole text of a format over a row, or none.
+#[unsafe(no_mangle)]
+pub extern "C" fn interpolator_format<'a>(
+    alloc: Global,
+    format: &[u8],
+    fields: &'a [Field<'a>],
+    items: &'a [Field<'a>],
+    room: &mut [u8],
+) -> Answer
+    ensures { FormatAnswers fields.now items.now format.now room.old room.new result }
+{
+    interpolator_border::format(alloc, format, fields, items, room)
+}
+
+/// The text of a format over a row, up to its first fault.
+#[unsafe(no_mangle)]
+pub extern "C" fn interpolator_write<'a>(
+    alloc: Global,
+    format: &[u8],
+    fields: &'a [Field<'a>],
+    items: &'a [Field<'a>],
+    room: &mut [u8],
+    sentence: &mut [u8],
+) -> Answer
+    ensures { WriteAnswers fields.now items.now format.now room.old room.new sentence.old
+        sentence.new result }
+{
+    interpolator_border::write(alloc, format, fields, items, room, sentence)
+}
+
+/// The first fault of a format over a row of examples.
+#[unsafe(no_mangle)]
+pub extern "C" fn interpolator_check<'a>(
+    alloc: Global,
+    format: &[u8],
+    fields: &'a [Field<'a>],
+    items: &'a [Field<'a>],
+    room: &mut [u8],
+) -> Answer
+    ensures answer { CheckAnswers fields.now items.now format.now room.old room.new result }
+    ensures never_fails { result.code ≡ 0 → NeverFails fields.now items.now format.now }
+{
+    interpolator_border::check(alloc, format, fields, items, room)
+}
+
+/// The first fault of a format over a row of examples, as a compiler shows it.
+#[unsafe(no_mangle)]
+pub extern "C" fn interpolator_explain<'a>(
+    alloc: Global,
+    name: &[u8],
+    first_line: usize,
+    format: &[u8],
+    fields: &'a [Field<'a>],
+    items: &'a [Field<'a>],
+    room: &mut [u8],
+) -> Answer
+    ensures { ExplainAnswers name.now first_line fields.now items.now format.now room.old room.new
+        result }
+{
+    interpolator_border::explain(alloc, name, first_line, format, fields, items, room)
+}
+
+/// A format over each row of a table.
+#[unsafe(no_mangle)]
+pub extern "C" fn interpolator_rows<'a>(
+    alloc: Global,
+    format: &[u8],
+    columns: &'a [Field<'a>],
+    cells: &'a [Field<'a>],
+    ends: &mut [usize],
+    room: &mut [u8],
+) -> Answer
+    ensures { RowsAnswers columns.now cells.now format.now ends.old ends.new room.old room.new
+        result }
+{
+    interpolator_border::rows(alloc, format, columns, cells, ends, room)
+}
+
+/// How much a format can write, over values within limits.
+#[unsafe(no_mangle)]
+pub extern "C" fn interpolator_cost(
+    alloc: Global,
+    format: &[u8],
+    text: usize,
+    items: usize,
+) -> CostAnswer
+    ensures { CostAnswers text items format.now result }
+{
+    interpolator_border::cost(alloc, format, text, items)
+}
+
+/// The arguments of a format.
+#[unsafe(no_mangle)]
+pub extern "C" fn interpolator_arguments(
+    alloc: Global,
+    format: &[u8],
+    arguments: &mut [Argument],
+) -> Answer
+    ensures { ArgumentAnswers format.now arguments.old arguments.new result }
+{
+    interpolator_border::arguments(alloc, format, arguments)
+}
+
+/// The sizes and offsets of the structs.
+#[unsafe(no_mangle)]
+pub extern "C" fn interpolator_layout() -> Sizes {
+    interpolator_border::layout()
+}
+
+/// The version of the structs and calls.
+#[unsafe(no_mangle)]
+pub extern "C" fn interpolator_version() -> u32 {
+    interpolator_border::VERSION
+}
