@@ -1,3 +1,6 @@
+pub mod EndingLemmas
+pub mod ReadingLemmas
 pub mod ServingLemmas
 pub mod ValueLemmas
 pub mod WithinLemmas
+pub mod WordLemmas

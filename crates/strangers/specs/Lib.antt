@@ -1,3 +1,5 @@
 -- What the program's contracts cite.
 pub mod Values
 pub mod Serving
+pub mod Reading
+pub mod Words

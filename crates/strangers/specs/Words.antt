@@ -1,0 +1,116 @@
+-- What words give, by the rule of `ifmt`: a name, and a text, a number or the items of a list. Texts
+-- are bytes.
+use Rattle.std.specs.Prelude.{◌≡◌, ◌⊎◌, ⊤, ℕ, ℤ, pos, neg_ℤ, Bool, ◌==◌, ◌-◌, ◌<◌, List, [], ◌∷◌}
+use Rattle.std.specs.Prelude.{◌++◌, codes, drop, length, map, take, FitsSigned, if◌then◌else◌}
+use Rattle.std.specs.Prelude.{Option, None, Some, string_bytes}
+use Rattle.std.specs.Borrow.{Bor}
+use Rattle.std.specs.Int.{w128}
+use Rattle.std.specs.List.{All, after_first, before_first, position_or_len, slice_split}
+use Rattle.std.specs.Str.{bytes_eq}
+use Rattle.std.specs.Str.Parse.{IsNumeral, digits_value}
+use Rattle.std.specs.declared.string.String.{String}
+use Rattle.strangers.specs.declared.values.Datum.{Datum}
+use Rattle.strangers.specs.declared.values.Datum.TheVariants.{Text, Number}
+use Rattle.strangers.specs.declared.values.Given.{Given}
+use Rattle.strangers.specs.declared.values.Given.TheVariants.{One, Many}
+use Rattle.strangers.specs.declared.values.Word.{Word}
+
+-- `=`
+abbrev pub is_equals : ℕ → Bool
+is_equals b = b == 61
+
+-- `,`
+abbrev pub is_comma : ℕ → Bool
+is_comma b = b == 44
+
+-- an `=` is in the text
+abbrev pub HasEquals : List ℕ → Type 0
+HasEquals text = position_or_len is_equals text < length text
+
+-- an optional `-`, then one or more ASCII digits, which write this number of 128 bits
+pub record Spells (whole : List ℕ) (value : ℤ) : Type 0 where
+  pub digits : List ℕ
+  pub numeral : IsNumeral 10 digits
+  pub sign : ((whole ≡ digits) × (value ≡ pos (digits_value 10 digits)))
+      ⊎ ((whole ≡ codes "-" ++ digits) × (value ≡ neg_ℤ (pos (digits_value 10 digits))))
+  pub fits : FitsSigned w128 value
+
+-- a text split at its commas, and no item for the empty text
+abbrev pub items_of : List ℕ → List (List ℕ)
+items_of [] = []
+items_of (c ∷ cs) = slice_split is_comma (c ∷ cs)
+
+-- texts, borrows aside
+abbrev pub texts_of : List (Bor (List ℕ)) → List (List ℕ)
+texts_of texts = map (λ text. text.now) texts
+
+-- the text that a value is
+abbrev pub text_in : Datum → Option (List ℕ)
+text_in (Text text) = Some text.now
+text_in (Number number) = None
+
+-- values that are these texts
+abbrev pub are_texts : List (List ℕ) → List (Option (List ℕ))
+are_texts texts = map (λ text. Some text) texts
+
+-- a text without an ending, if it ends so
+abbrev pub without : (ending text : List ℕ) → Option (List ℕ)
+without ending text =
+    if bytes_eq (drop (length text - length ending) text) ending
+    then Some (take (length text - length ending) text) else None
+
+-- a value is the number that a text spells
+abbrev pub IsNumber : List ℕ → Given → Type 0
+IsNumber text (One (Number number)) = Spells text number
+IsNumber text (One (Text value)) = ⊥
+IsNumber text (Many values) = ⊥
+
+-- a value is the items of a text
+abbrev pub AreItems : List ℕ → Given → Type 0
+AreItems text (Many values) = map text_in values.items ≡ are_texts (items_of text)
+AreItems text (One value) = ⊥
+
+-- a value is a text
+abbrev pub IsText : List ℕ → Given → Type 0
+IsText text (One value) = text_in value ≡ Some text
+IsText text (Many values) = ⊥
+
+-- what a word gives by the parts around its first `=`, and by the first part without `:` and without
+-- `[]` at its end: a number, the items of a list, or else a text
+abbrev pub GivesBy : (left right : List ℕ) → (number list : Option (List ℕ)) → Word → Type 0
+GivesBy left right (Some name) list word = (word.name.now ≡ name) × IsNumber right word.given
+GivesBy left right None (Some name) word = (word.name.now ≡ name) × AreItems right word.given
+GivesBy left right None None word = (word.name.now ≡ left) × IsText right word.given
+
+-- what parts around the first `=` give
+abbrev pub PartsGive : (left right : List ℕ) → Word → Type 0
+PartsGive left right word =
+    GivesBy left right (without (codes ":") left) (without (codes "[]") left) word
+
+-- such parts give a value, unless the second is no number
+abbrev pub IsGoodBy : List ℕ → Option (List ℕ) → Type 0
+IsGoodBy right (Some name) = (value : ℤ) × Spells right value
+IsGoodBy right None = ⊤
+
+abbrev pub ArePartsGood : (left right : List ℕ) → Type 0
+ArePartsGood left right = IsGoodBy right (without (codes ":") left)
+
+-- what a word gives
+abbrev pub Gives : List ℕ → Word → Type 0
+Gives text word = HasEquals text
+    × PartsGive (before_first is_equals text) (after_first is_equals text) word
+
+-- a word gives a value
+abbrev pub IsGood : List ℕ → Type 0
+IsGood text = HasEquals text
+    × ArePartsGood (before_first is_equals text) (after_first is_equals text)
+
+-- the first of the words that gives none
+pub record IsFirstBad {Z : Type 0} (words : List (String Z)) (bad : List ℕ) : Type 0 where
+  pub before : List (String Z)
+  pub word : String Z
+  pub after : List (String Z)
+  pub split : words ≡ before ++ (word ∷ after)
+  pub good : All (λ one. IsGood (string_bytes one)) before
+  pub spelled : string_bytes word ≡ bad
+  pub none : ¬ (IsGood bad)
