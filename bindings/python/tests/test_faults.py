@@ -1,0 +1,135 @@
+"""Faults: their classes, places and pictures. The sentences are those of docs/DEFINITIONS.md."""
+
+from __future__ import annotations
+
+import pickle
+import unittest
+
+import interpolator
+from interpolator import (
+    BrokenFormat, Code, FormatError, MissingTrait, MissingValue, NoMemory, NotUtf8, Template, Trait,
+    UnsupportedOption, check, check_alone, explain, format,
+)
+
+
+class Classes(unittest.TestCase):
+    def raised(self, text: str, **values: object) -> FormatError:
+        with self.assertRaises(FormatError) as raised:
+            format(text, **values)
+        return raised.exception
+
+    def test_a_missing_value(self) -> None:
+        error = self.raised("Grüße, {name}!")
+        self.assertIsInstance(error, MissingValue)
+        self.assertIsInstance(error, KeyError)
+        self.assertIsInstance(error, ValueError)
+        self.assertEqual(Code.MISSING_VALUE, error.code)
+        # `ü` and `ß` have two bytes each
+        self.assertEqual((10, 8), (error.place, error.index))
+        self.assertEqual("specified value not in context `name` at 10", str(error))
+
+    def test_a_broken_format(self) -> None:
+        error = self.raised("日本 {name", name="")
+        self.assertIsInstance(error, BrokenFormat)
+        self.assertEqual((8, 4), (error.place, error.index))
+        self.assertEqual(
+            "error while parsing input: Format spec at 8 is nether closed with a `}`", str(error))
+
+    def test_a_missing_trait(self) -> None:
+        error = self.raised("{t:e}", t="")
+        self.assertIsInstance(error, MissingTrait)
+        self.assertEqual(Trait.LOWER_EXP, error.trait)
+        self.assertEqual(
+            "trait `LowerExp` not implemented, used by format argument at 4", str(error))
+
+    def test_an_unsupported_option(self) -> None:
+        error = self.raised("{t:p}", t=1)
+        self.assertIsInstance(error, UnsupportedOption)
+        self.assertEqual(3, error.place)
+
+    def test_a_format_that_is_not_utf8(self) -> None:
+        error = self.raised("\ud800{")
+        self.assertIsInstance(error, NotUtf8)
+        self.assertIsInstance(error, UnicodeError)
+        self.assertEqual((Code.NOT_UTF8, 0), (error.code, error.place))
+        self.assertRaises(NotUtf8, check_alone, "\udfff")
+        self.assertRaises(NotUtf8, interpolator.cost, "\udfff", text_limit=1, items=1)
+
+    def test_no_memory(self) -> None:
+        error = self.raised("{t:>9223372036854775807}", t="")
+        self.assertIsInstance(error, NoMemory)
+        self.assertIsInstance(error, MemoryError)
+
+    def test_faults_can_be_pickled(self) -> None:
+        error = self.raised("é{t:x}", t="")
+        copy = pickle.loads(pickle.dumps(error))
+        self.assertIs(MissingTrait, type(copy))
+        for name in ("message", "code", "place", "index", "picture", "trait"):
+            self.assertEqual(getattr(error, name), getattr(copy, name))
+
+
+class Checks(unittest.TestCase):
+    def test_no_fault(self) -> None:
+        self.assertIsNone(check("{n:>5x} {t:?} {l:i({:.1})}", n=0, t="", l=[0.5, "a"]))
+
+    def test_a_group_that_is_not_written_is_checked(self) -> None:
+        text = "{l:i({:x})}"
+        self.assertEqual("", format(text, l=[]))
+        self.assertRaises(MissingTrait, check, text, l=["a"])
+        check(text, l=[1])
+
+    def test_a_value_that_python_formats(self) -> None:
+        check("{x:>99999999999999.99999999999}", x=0.5)
+        self.assertRaises(interpolator.ValueFailed, check, "{x:b}", x=0.5)
+
+    def test_a_format_by_itself(self) -> None:
+        check_alone("{a} {b:x} {c:i({d:e}{:?})({})} {:>5}")
+        check_alone("{a:i#({:i#({:i({}{:x})})#})#}")
+        check_alone("{a:>99999999999999}")
+        for text, place in (("{a", 1), ("{a} {b:y}", 7), ("{a:i({)}", 6), ("{a:i(x)({b:+i})}", 13)):
+            with self.subTest(text), self.assertRaises(BrokenFormat) as raised:
+                check_alone(text)
+            self.assertEqual(place, raised.exception.place)
+        self.assertRaises(UnsupportedOption, check_alone, "{a:p}")
+
+
+class Pictures(unittest.TestCase):
+    def test_of_a_fault(self) -> None:
+        with self.assertRaises(FormatError) as raised:
+            format("one\n\tGrüße, {name:y}!", name="Ann")
+        self.assertEqual(
+            "<format>:2:16: error while parsing input: Expected `}` at 21\n"
+            "  |\n"
+            "2 | \tGrüße, {name:y}!\n"
+            "  | \t       ^^^^^^^^^", raised.exception.picture)
+
+    def test_of_a_check(self) -> None:
+        wanted = (
+            "hello.txt:8:8: error while parsing input: Format spec at 7 is nether closed with a `}`\n"
+            "  |\n"
+            "8 | Hello {name\n"
+            "  |       ^^^^^")
+        self.assertEqual(wanted, explain("Hello {name", name="hello.txt", first_line=8))
+        self.assertEqual(wanted, Template("Hello {name").explain({}, name="hello.txt", first_line=8))
+        self.assertIsNone(explain("Hello {name}", {"name": "Ann"}))
+
+    def test_after_a_fault_that_is_not_written(self) -> None:
+        # the first fault over these values as examples is in a group that is not written
+        with self.assertRaises(MissingValue) as raised:
+            format("{l:i({)}\n {x}", l=[])
+        self.assertEqual(
+            "<format>:2:3: specified value not in context `x` at 11\n"
+            "  |\n"
+            "2 |  {x}\n"
+            "  |   ^", raised.exception.picture)
+
+    def test_without_a_place(self) -> None:
+        with self.assertRaises(NotUtf8) as raised:
+            format("\ud800")
+        self.assertEqual("<format>: not UTF-8", raised.exception.picture)
+        with self.assertRaises(NotUtf8):
+            explain("\ud800")
+
+
+if __name__ == "__main__":
+    unittest.main()
