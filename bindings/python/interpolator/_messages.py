@@ -37,7 +37,7 @@ def faults_in(name: str, text: str) -> Iterator[str]:
 
     >>> for told in faults_in("m.txt", "# greetings\\nhi = Hi {name, you\\nbye(name) = Bye {nane}.\\n"):
     ...     print(told)
-    m.txt:2:9: error while parsing input: Format spec at 4 is nether closed with a `}`
+    m.txt:2:10: error while parsing input: Format spec at 4 is nether closed with a `}`
       |
     2 | hi = Hi {name, you
       |         ^^^^^^^^^^

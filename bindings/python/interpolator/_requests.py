@@ -123,7 +123,7 @@ def python_spec(request: Request, fixed: bool = False) -> str:
     parts = []
     zero = request.zero and request.width is not None
     if request.alignment and not zero:
-        parts.append((request.fill or " ") + request.alignment)
+        parts.append((request.fill or "") + request.alignment)
     parts.append(request.sign)
     if request.alternate:
         parts.append("#")

@@ -226,12 +226,11 @@ def _shortened(request: Request) -> Request:
 
 def _own(value: Any) -> Optional[c.Field]:
     """The field of a value that the library formats itself."""
-    formats = type(value).__format__
     if isinstance(value, bool):
         return c.Field(kind=c.TRUTH, natural=value)
-    if isinstance(value, int) and formats is int.__format__:
+    if isinstance(value, int) and _shows_as(value, int):
         return _number(value, 128)
-    if isinstance(value, str) and formats is str.__format__:
+    if isinstance(value, str) and _shows_as(value, str):
         return c.Field(kind=c.TEXT, text=bytes_of(value))
     if isinstance(value, Integer):
         return _number(value.number, value.bits)
@@ -240,6 +239,12 @@ def _own(value: Any) -> Optional[c.Field]:
     if isinstance(value, Character):
         return c.Field(kind=c.CHARACTER, natural=ord(value.character))
     return None
+
+
+def _shows_as(value: Any, kind: type) -> bool:
+    """Whether the type of a value formats and represents it as this one does."""
+    its = type(value)
+    return its.__format__ is kind.__format__ and its.__repr__ is kind.__repr__
 
 
 _LOW = 2**64 - 1

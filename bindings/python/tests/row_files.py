@@ -4,7 +4,7 @@ from __future__ import annotations
 
 import re
 from pathlib import Path
-from typing import Any, Dict, Iterator, List, NamedTuple, Optional, Tuple
+from typing import Any, Dict, Iterator, List, NamedTuple, Optional, Set, Tuple
 
 from interpolator import Character, Integer, Only, Plain
 
@@ -39,12 +39,13 @@ class Failing:
 
 
 class Row(NamedTuple):
-    """A row: where it is, its facts, and the values of its context, or why there are none."""
+    """A row: where it is, its facts, the values of its context, and the names of the context that
+    Python has no value for."""
 
     where: str
     facts: Dict[str, List[str]]
     values: Dict[str, Any]
-    missing: Optional[str]
+    missing: Set[str]
 
 
 def text_of(words: List[str]) -> str:
@@ -120,12 +121,15 @@ def _in_parentheses(words: List[str]) -> List[str]:
         inside.append(word)
 
 
-def _values_of(facts: Dict[str, List[str]]) -> Tuple[Dict[str, Any], Optional[str]]:
-    """The values of a context, or why Python has none for it."""
-    try:
-        return {name: value_of(list(words)) for name, words in facts.items()}, None
-    except NotExpressible as why:
-        return {}, str(why)
+def _values_of(facts: Dict[str, List[str]]) -> Tuple[Dict[str, Any], Set[str]]:
+    """The values of a context, and the names that Python has no value for."""
+    values, missing = {}, set()
+    for name, words in facts.items():
+        try:
+            values[name] = value_of(list(words))
+        except NotExpressible:
+            missing.add(name)
+    return values, missing
 
 
 def rows() -> Iterator[Row]:

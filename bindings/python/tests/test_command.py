@@ -103,7 +103,7 @@ kinds.txt:5:2: {broken}
 kinds.txt:6:3: {broken}
 kinds.txt:7:9: {broken}
 kinds.txt:8:2: {broken}
-kinds.txt:9:10: {broken}
+kinds.txt:9:11: {broken}
 """, out)
         self.assertEqual(1, status)
 

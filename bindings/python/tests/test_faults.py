@@ -3,13 +3,18 @@
 from __future__ import annotations
 
 import pickle
+import subprocess
+import sys
 import unittest
+from pathlib import Path
 
 import interpolator
 from interpolator import (
-    BrokenFormat, Code, FormatError, MissingTrait, MissingValue, NoMemory, NotUtf8, Template, Trait,
+    BrokenFormat, Code, FormatError, MissingTrait, MissingValue, NotUtf8, Template, Trait,
     UnsupportedOption, check, check_alone, explain, format,
 )
+
+PACKAGE = Path(__file__).resolve().parent.parent
 
 
 class Classes(unittest.TestCase):
@@ -56,9 +61,17 @@ class Classes(unittest.TestCase):
         self.assertRaises(NotUtf8, interpolator.cost, "\udfff", text_limit=1, items=1)
 
     def test_no_memory(self) -> None:
-        error = self.raised("{t:>9223372036854775807}", t="")
-        self.assertIsInstance(error, NoMemory)
-        self.assertIsInstance(error, MemoryError)
+        # in a process of its own that may take a gigabyte
+        program = (
+            "import resource, interpolator\n"
+            "resource.setrlimit(resource.RLIMIT_AS, (2**30, 2**30))\n"
+            "try:\n"
+            "    interpolator.format('{t:>9999999999999}', t='')\n"
+            "except MemoryError as error:\n"
+            "    print(type(error).__name__, error.code.name, error)\n")
+        done = subprocess.run(
+            [sys.executable, "-c", program], cwd=PACKAGE, text=True, capture_output=True)
+        self.assertEqual(("NoMemory NO_MEMORY out of memory\n", ""), (done.stdout, done.stderr))
 
     def test_faults_can_be_pickled(self) -> None:
         error = self.raised("é{t:x}", t="")
@@ -84,7 +97,7 @@ class Checks(unittest.TestCase):
 
     def test_a_format_by_itself(self) -> None:
         check_alone("{a} {b:x} {c:i({d:e}{:?})({})} {:>5}")
-        check_alone("{a:i#({:i#({:i({}{:x})})#})#}")
+        check_alone("{a:i##({:i#({:i({}{:x})})#})##}")
         check_alone("{a:>99999999999999}")
         for text, place in (("{a", 1), ("{a} {b:y}", 7), ("{a:i({)}", 6), ("{a:i(x)({b:+i})}", 13)):
             with self.subTest(text), self.assertRaises(BrokenFormat) as raised:
@@ -98,7 +111,7 @@ class Pictures(unittest.TestCase):
         with self.assertRaises(FormatError) as raised:
             format("one\n\tGrüße, {name:y}!", name="Ann")
         self.assertEqual(
-            "<format>:2:16: error while parsing input: Expected `}` at 21\n"
+            "<format>:2:15: error while parsing input: Expected `}` at 20\n"
             "  |\n"
             "2 | \tGrüße, {name:y}!\n"
             "  | \t       ^^^^^^^^^", raised.exception.picture)

@@ -6,7 +6,7 @@ from __future__ import annotations
 import unittest
 from typing import Any, Callable, Counter, Dict, List, Optional, Tuple
 
-from interpolator import Code, FormatError, Request, Template, Trait
+from interpolator import Code, FormatError, Only, Request, Template, Trait
 
 from . import row_files
 from .row_files import NotExpressible, Row, text_of
@@ -117,6 +117,8 @@ def spec_text(trait: str, request: Request) -> str:
     """The spec as a format has it."""
     if request.fill is not None and (request.fill in "{}" or not request.alignment):
         raise NotExpressible("a fill that no format has")
+    if trait == "iter":
+        raise NotExpressible("a list")
     if request.hex_debug and trait != "debug":
         raise NotExpressible("a debug flag without debug")
     parts = [
@@ -172,8 +174,8 @@ class Rows(unittest.TestCase):
             self.counts["names"] += 1
         if "arguments" in facts:
             self.run_arguments(list(facts["arguments"]), template)
-        if row.missing is not None:
-            raise NotExpressible(row.missing)
+        if row.missing & set(template.names):
+            raise NotExpressible("several views, or none")
         if "sample" in facts:
             wanted = fault_of(facts["sample"])
             self.assertEqual(wanted, raised(lambda: template.check_map(row.values)))
@@ -222,7 +224,7 @@ class Rows(unittest.TestCase):
             raise NotExpressible("a room")
         trait = facts["trait"][0]
         spec = spec_text(trait, request_of(trait_of(trait), facts.get("spec", [])))
-        view = row_files.view_of(list(facts["view"]))
+        view = Only(row_files.view_of(list(facts["view"])), trait)
         template = Template(f"{{x:{spec}}}")
         if "fault" in facts:
             code = {"Failed": Code.FMT, "NotImplemented": Code.MISSING_TRAIT}[facts["fault"][0]]

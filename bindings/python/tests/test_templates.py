@@ -56,7 +56,7 @@ class Tables(unittest.TestCase):
         columns = {"item": "bread", "price": 1.0, "day": datetime.date(2024, 1, 1)}
         cells = [("tea", 3.5, datetime.date(2024, 2, 29)), ("é", 12, "-")]
         self.assertEqual(
-            ["tea     3.50 2024-02-29", "é       12 -         "],
+            ["tea     3.50 2024-02-29", "é         12 -         "],
             rows("{item:<6}{price:>6.2} {day:10}", columns, cells))
 
     def test_columns_as_pairs(self) -> None:
@@ -104,8 +104,9 @@ class Costs(unittest.TestCase):
         most = 2**64 - 1
         self.assertEqual(most, Template("{a}").cost(text=2**70, items=1).characters)
         self.assertRaises(ValueError, Template("{a}").cost, text=-1, items=0)
-        # a list under a width is held, of a text limit of 3: 2 items and a join
-        self.assertEqual(8, Template("{l:9i({})(, )}").cost(text=3, items=2).buffered)
+        # a list under a width is held: two items, of which each may be a number of 39 digits and a
+        # sign, and a join
+        self.assertEqual(82, Template("{l:9i({})(, )}").cost(text=3, items=2).buffered)
 
 
 class Threads(unittest.TestCase):
