@@ -77,8 +77,8 @@ class Only:
 
     def __init__(self, value: Any, *traits: Union[Trait, str]) -> None:
         chosen = tuple(Trait[t.upper()] if isinstance(t, str) else t for t in traits)
-        if not chosen or Trait.LIST in chosen:
-            raise ValueError("a value has at least one trait, and LIST is not one that it has")
+        if not chosen or Trait.LIST in chosen or is_list(value):
+            raise ValueError("a value that is no list has one trait or more, and LIST is none of them")
         object.__setattr__(self, "value", value)
         object.__setattr__(self, "traits", chosen)
 

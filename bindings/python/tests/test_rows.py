@@ -11,9 +11,10 @@ from interpolator import Code, FormatError, Only, Request, Template, Trait
 from . import row_files
 from .row_files import NotExpressible, Row, text_of
 
-# How many rows of each kind ran when they were counted last, so that none is left out unseen.
-LEAST = {"text": 1, "fault": 1, "check": 1, "sample": 1, "names": 1, "arguments": 1, "argument": 1,
-         "view": 1}
+# How many facts of each kind are compared at least: as many as there were when this was written, so
+# that none is left out unseen.
+LEAST = {"text": 327, "fault": 198, "check": 163, "sample": 64, "names": 24, "arguments": 7,
+         "argument": 53, "view": 147}
 
 _NUMBER_FAULTS = {
     "Empty": "cannot parse integer from empty string",
@@ -140,15 +141,18 @@ class Rows(unittest.TestCase):
 
     def test_rows(self) -> None:
         self.counts = Counter()
-        left_out: Counter[str] = Counter()
+        ran, total = 0, 0
         for row in row_files.rows():
+            before = sum(self.counts.values())
             with self.subTest(row.where):
                 try:
                     self.run_row(row)
-                except NotExpressible as why:
-                    left_out[str(why)] += 1
-        ran = ", ".join(f"{self.counts[kind]} of {kind}" for kind in LEAST)
-        print(f"rows that ran: {sum(self.counts.values())} ({ran})")
+                except NotExpressible:
+                    pass
+            total += 1
+            ran += sum(self.counts.values()) > before
+        facts = ", ".join(f"{self.counts[kind]} {kind}" for kind in LEAST)
+        print(f"\nrows that ran: {ran} of {total} (compared: {facts})")
         for kind, least in LEAST.items():
             self.assertGreaterEqual(self.counts[kind], least, kind)
 

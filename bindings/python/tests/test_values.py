@@ -101,7 +101,8 @@ class OwnValues(unittest.TestCase):
             format("{n:o}", n=Only(7, Trait.DISPLAY))
         self.assertEqual(Trait.OCTAL, raised.exception.trait)
         self.assertRaises(ValueError, Only, 7)
-        self.assertRaises(ValueError, Only, [7], Trait.LIST)
+        self.assertRaises(ValueError, Only, 7, Trait.LIST)
+        self.assertRaises(ValueError, Only, [7], Trait.DISPLAY)
 
     def test_texts_have_no_hexadecimal(self) -> None:
         with self.assertRaises(MissingTrait) as raised:
