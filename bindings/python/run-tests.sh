@@ -1,9 +1,10 @@
 #!/usr/bin/env bash
-# Runs the tests of the Python package, and the examples of its docstrings and of README.md, against the
-# built library: the one that INTERPOLATOR_LIBRARY names, else the one of bindings/c/build, which
+# Runs the tests of the Python package, and the examples of its docstrings and of README.md, against
+# the built library: the one that INTERPOLATOR_LIBRARY names, else the one of bindings/c/build, which
 # `make` and bindings/c/run-tests.sh build.
 #
-# Without Python 3.9 or the library the run fails, but for CI_SKIP_BINDINGS=1, by which nothing is run.
+# Without Python 3.9 or the library the run fails, but for CI_SKIP_BINDINGS=1, by which nothing is
+# run.
 #
 # usage: run-tests.sh [PYTHON]
 set -u

@@ -195,7 +195,8 @@ def _agree(library: ctypes.CDLL, path: str) -> None:
     for name, here in _layout().items():
         there = getattr(sizes, name)
         if there != here:
-            raise ImportError(f"{path} lays out its structs otherwise: {name} is {there}, not {here}")
+            raise ImportError(
+                f"{path} lays out its structs otherwise: {name} is {there}, not {here}")
 
 
 def load() -> ctypes.CDLL:

@@ -35,7 +35,8 @@ def faults_in(name: str, text: str) -> Iterator[str]:
     """What is wrong with each line of a file of messages: `NAME:LINE:COLUMN: ..`, and for a fault
     of a format also the line with its argument marked. Of a format the first fault is shown.
 
-    >>> for told in faults_in("m.txt", "# greetings\\nhi = Hi {name, you\\nbye(name) = Bye {nane}.\\n"):
+    >>> lines = ["# greetings", "hi = Hi {name, you", "bye(name) = Bye {nane}."]
+    >>> for told in faults_in("m.txt", "\\n".join(lines)):
     ...     print(told)
     m.txt:2:10: error while parsing input: Format spec at 4 is nether closed with a `}`
       |
@@ -77,7 +78,8 @@ def _picture(name: str, number: int, line: str, format: str, error: FormatError)
     """The fault of a format that ends where its line does, shown in the line."""
     start = len(line) - len(format)
     first, end = marks_in(error.picture, len(format), error.index)
-    return draw(name, number, line, start + error.index, (start + first, start + end), error.message)
+    marked = (start + first, start + end)
+    return draw(name, number, line, start + error.index, marked, error.message)
 
 
 def _heading_of(head: str) -> _Heading:

@@ -161,8 +161,8 @@ def text_for(value: Any, request: Request) -> str:
     """The text that Python makes of a value for a request.
 
     Under `{:?}` it is `repr(value)`, padded like a text; a `float` or an `int` is debugged as it is
-    displayed. Under any other trait it is `format(value, spec)` with the same spec in Python's form,
-    in which a precision of a number counts the digits after the point. A date or a time, and a value
+    displayed. Under any other trait it is `format(value, spec)` with the same spec in Python's
+    form; a precision of a number counts the digits after the point. A date or a time, and a value
     whose type does not say how it is formatted, is displayed as `format(value, "")`, padded here,
     since its `__format__` does not know widths.
 

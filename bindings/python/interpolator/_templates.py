@@ -186,7 +186,7 @@ class Template:
                 raise ValueError(f"row {count} has {len(row)} cells, not {len(heads)}")
             table.add_row(row, uses)
             count += 1
-        return self._rows(examples, table, count)
+        return self._rows([name for name, _ in heads], examples, table, count)
 
     def cost(self, *, text: int, items: int) -> Cost:
         """How much the format can write at most, with values whose texts have at most `text`
@@ -270,40 +270,53 @@ class Template:
         before = (called, len(called), _count(first_line))
         return self._call(_library.interpolator_explain, fields, *before)
 
-    def _rows(self, examples: Fields, table: Fields, count: int) -> List[str]:
+    def _rows(
+        self, names: List[str], examples: Fields, table: Fields, count: int
+    ) -> List[str]:
         columns, cells = examples.fields(), table.fields()
         ends = (ctypes.c_size_t * count)()
-        given = (self._bytes, len(self._bytes), columns, len(columns), cells, len(cells), ends, count)
+        given = (
+            self._bytes, len(self._bytes), columns, len(columns), cells, len(cells), ends, count)
         guess = count * (len(self._bytes) + 32) + 256
         answer, room, length = _with_room(_library.interpolator_rows, given, guess)
         made = ctypes.string_at(room, length)
         if answer.code:
-            raise self._fault(answer, made.decode(), examples, table)
+            failed = table.row(answer.row, names)
+            raise self._fault(answer, made.decode(), examples, failed, table)
         starts = [0, *ends[:-1]]
         return [made[start:end].decode() for start, end in zip(starts, ends)]
 
     def _fault(
-        self, answer: c.Answer, message: str, fields: Fields, table: Optional[Fields] = None
+        self,
+        answer: c.Answer,
+        message: str,
+        fields: Fields,
+        row: Optional[Fields] = None,
+        table: Optional[Fields] = None,
     ) -> FormatError:
-        """The exception for what a call returned."""
+        """The exception for what a call over fields returned; of a table they are its examples, and
+        `row` is the row that a fault may be in."""
         code = Code(answer.code)
         message = message or SENTENCES.get(code, "")
         if code not in PLACED:
             return fault(code, message, picture=f"{NAME}: {message}")
         index = self._index(answer.place)
-        picture = self._picture(answer, index, message, fields)
+        picture = self._picture(answer, index, message, [fields] + ([row] if row else []))
         found = fault(code, message, answer.place, index, picture, answer.detail)
         if code == Code.FMT:
             found.__cause__ = self._cause(answer, fields, table)
         return found
 
-    def _picture(self, answer: c.Answer, index: int, message: str, fields: Fields) -> str:
+    def _picture(
+        self, answer: c.Answer, index: int, message: str, candidates: List[Fields]
+    ) -> str:
         """The picture of a fault. The library draws that of the first one over the values as
         examples, which a format may have in a group that it does not write; then one character is
         marked."""
-        code, explained, picture = self._explained(fields, NAME, 1)
-        if (code, explained.place) == (answer.code, answer.place):
-            return picture
+        for fields in candidates:
+            code, explained, picture = self._explained(fields, NAME, 1)
+            if (code, explained.place) == (answer.code, answer.place):
+                return picture
         return draw_in(NAME, 1, self.text, index, (index, index), message)
 
     def _cause(

@@ -105,7 +105,7 @@ UNUSED = Uses()
 
 
 def encoded(text: str) -> bytes:
-    """A text in UTF-8. A lone surrogate makes bytes that are not UTF-8, which the library reports."""
+    """A text in UTF-8. A lone surrogate makes bytes that are not UTF-8: the library says so."""
     return text.encode("utf-8", "surrogatepass")
 
 
@@ -164,6 +164,15 @@ class Fields:
     def items(self) -> "ctypes.Array[c.Field]":
         """The items of all lists as the library takes them."""
         return (c.Field * len(self._items))(*self._items)
+
+    def row(self, number: int, names: Iterable[str]) -> "Fields":
+        """The cells of a row of a table as fields under the names of their columns."""
+        row = Fields()
+        named = list(names)
+        for name, field in zip(named, self._fields[number * len(named) :]):
+            field.name = bytes_of(name)
+            row._fields.append(field)
+        return row
 
     def failure(self, uses: Uses, request: Request, row: int = -1) -> Optional[Exception]:
         """Why a value that is used so, in this row of a table, has no text for a request."""

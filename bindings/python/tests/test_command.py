@@ -1,5 +1,5 @@
-"""`python -m interpolator` on files. The faults are worked out by hand from docs/DEFINITIONS.md, and
-are those that crates/catalogue/run-cases.sh has for the same files. Columns count characters."""
+"""`python -m interpolator` on files. The faults are worked out by hand from docs/DEFINITIONS.md,
+and are those that crates/catalogue/run-cases.sh has for the same files. Columns count characters."""
 
 from __future__ import annotations
 

@@ -118,12 +118,14 @@ class Pictures(unittest.TestCase):
 
     def test_of_a_check(self) -> None:
         wanted = (
-            "hello.txt:8:8: error while parsing input: Format spec at 7 is nether closed with a `}`\n"
+            "hello.txt:8:8: error while parsing input: "
+            "Format spec at 7 is nether closed with a `}`\n"
             "  |\n"
             "8 | Hello {name\n"
             "  |       ^^^^^")
-        self.assertEqual(wanted, explain("Hello {name", name="hello.txt", first_line=8))
-        self.assertEqual(wanted, Template("Hello {name").explain({}, name="hello.txt", first_line=8))
+        broken = "Hello {name"
+        self.assertEqual(wanted, explain(broken, name="hello.txt", first_line=8))
+        self.assertEqual(wanted, Template(broken).explain({}, name="hello.txt", first_line=8))
         self.assertIsNone(explain("Hello {name}", {"name": "Ann"}))
 
     def test_after_a_fault_that_is_not_written(self) -> None:

@@ -82,6 +82,15 @@ class Tables(unittest.TestCase):
             rows("{a:b}", {"a": 1}, [(1,), (0.5,)])
         self.assertIsInstance(raised.exception.__cause__, ValueError)
 
+    def test_pictures_of_faults(self) -> None:
+        with self.assertRaises(MissingTrait) as raised:
+            rows("a: {a:x}", {"a": 1}, [(1,), ("b",)])
+        self.assertEqual(
+            "<format>:1:8: trait `LowerHex` not implemented, used by format argument at 7\n"
+            "  |\n"
+            "1 | a: {a:x}\n"
+            "  |    ^^^^^", raised.exception.picture)
+
     def test_traits_of_cells(self) -> None:
         self.assertRaises(MissingTrait, rows, "{a:?}", {"a": 1}, [(Only(1, "display"),)])
 

@@ -203,7 +203,9 @@ class OtherValues(unittest.TestCase):
                 self.assertEqual(wanted, format(text, x=3.14159))
 
     def test_floats_without_a_number(self) -> None:
-        self.assertEqual("inf nan   -inf", format("{a} {b} {c:>6}", a=1e999, b=1e999 - 1e999, c=-1e999))
+        infinite = float("inf")
+        self.assertEqual(
+            "inf nan   -inf", format("{a} {b} {c:>6}", a=infinite, b=float("nan"), c=-infinite))
 
     def test_decimals_and_fractions(self) -> None:
         price = decimal.Decimal("1234.505")
@@ -231,7 +233,8 @@ class OtherValues(unittest.TestCase):
     def test_a_type_with_a_format_of_its_own(self) -> None:
         money = Money(1250)
         self.assertEqual(
-            "12.50 €|  12.50 €|12.50 €|Money(1250)  ", format("{m}|{m:>9}|{m}|{m:13?}", m=money))
+            "12.50 €|  12.50 €|12.50 €|Money(1250)  ",
+            format("{m}|{m:>9}|{m}|{m:13?}", m=money))
         # once for each spec
         self.assertEqual(["", ">9"], money.specs)
 
