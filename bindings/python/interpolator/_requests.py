@@ -164,7 +164,7 @@ def text_for(value: Any, request: Request) -> str:
     displayed. Under any other trait it is `format(value, spec)` with the same spec in Python's
     form; a precision of a number counts the digits after the point. A date or a time, and a value
     whose type does not say how it is formatted, is displayed as `format(value, "")`, padded here,
-    since its `__format__` does not know widths.
+    since its `__format__` does not know widths. What a whole number or a text ignores is left out.
 
     >>> text_for(3.14159, Request(width=8, precision=2))
     '    3.14'
@@ -175,6 +175,8 @@ def text_for(value: Any, request: Request) -> str:
     """
     if isinstance(value, int):
         request = request._replace(precision=None)
+    elif isinstance(value, str):
+        request = request._replace(sign="", alternate=False, zero=False)
     if request.trait == Trait.DEBUG:
         if type(value).__repr__ not in (int.__repr__, float.__repr__):
             return padded(repr(value), request)

@@ -110,7 +110,7 @@ def encoded(text: str) -> bytes:
 
 
 def bytes_of(text: str) -> c.Bytes:
-    made = encoded(text)
+    made = text.encode("utf-8", "surrogatepass")
     return c.Bytes(made, len(made))
 
 
@@ -234,25 +234,25 @@ def _shortened(request: Request) -> Request:
 
 
 def _own(value: Any) -> Optional[c.Field]:
-    """The field of a value that the library formats itself."""
-    if isinstance(value, bool):
-        return c.Field(kind=c.TRUTH, natural=value)
-    if isinstance(value, int) and _shows_as(value, int):
-        return _number(value, 128)
-    if isinstance(value, str) and _shows_as(value, str):
+    """The field of a value that the library writes itself."""
+    kind = type(value)
+    if kind is str or isinstance(value, str) and _shows_as(kind, str):
         return c.Field(kind=c.TEXT, text=bytes_of(value))
-    if isinstance(value, Integer):
+    if kind is bool:
+        return c.Field(kind=c.TRUTH, natural=value)
+    if kind is int or isinstance(value, int) and _shows_as(kind, int):
+        return _number(value, 128)
+    if kind is Integer:
         return _number(value.number, value.bits)
-    if isinstance(value, Plain):
+    if kind is Plain:
         return c.Field(kind=c.PLAIN, text=bytes_of(value.text))
-    if isinstance(value, Character):
+    if kind is Character:
         return c.Field(kind=c.CHARACTER, natural=ord(value.character))
     return None
 
 
-def _shows_as(value: Any, kind: type) -> bool:
-    """Whether the type of a value formats and represents it as this one does."""
-    its = type(value)
+def _shows_as(its: type, kind: type) -> bool:
+    """Whether a type formats and represents its values as this one does."""
     return its.__format__ is kind.__format__ and its.__repr__ is kind.__repr__
 
 

@@ -247,6 +247,15 @@ class OtherValues(unittest.TestCase):
     def test_enums(self) -> None:
         self.assertEqual(f"{Colour.RED}", format("{c}", c=Colour.RED))
         self.assertEqual("<Colour.RED: 1>", format("{c:?}", c=Colour.RED))
+        self.assertEqual("0x1", format("{c:#.2x}", c=Colour.RED))
+
+    def test_a_text_with_a_repr_of_its_own(self) -> None:
+        class Secret(str):
+            def __repr__(self) -> str:
+                return "Secret(..)"
+
+        # a text ignores the sign, `#` and `0`
+        self.assertEqual("pass|pas  |Secret(..)", format("{s}|{s:+#05.3}|{s:?}", s=Secret("pass")))
 
     def test_a_value_that_fails(self) -> None:
         with self.assertRaises(ValueFailed) as raised:
