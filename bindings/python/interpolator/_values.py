@@ -110,6 +110,7 @@ def encoded(text: str) -> bytes:
 
 
 def bytes_of(text: str) -> c.Bytes:
+    """A text as the library takes it."""
     made = text.encode("utf-8", "surrogatepass")
     return c.Bytes(made, len(made))
 
