@@ -6,7 +6,7 @@ from __future__ import annotations
 from typing import Dict, Iterator, List, NamedTuple, Optional, Tuple, Union
 
 from ._faults import FormatError
-from ._pictures import draw, lines_of, marks_in
+from ._pictures import draw, is_cut, lines_of, marks_in
 from ._templates import Template
 
 # The characters that count as white space in names and around keys.
@@ -32,11 +32,11 @@ class _Heading(NamedTuple):
 
 
 def faults_in(name: str, text: str) -> Iterator[str]:
-    """What is wrong with each line of a file of messages: `NAME:LINE:COLUMN: ..`, and for a fault
-    of a format also the line with its argument marked. Of a format the first fault is shown.
+    r"""What is wrong with each line of a file of messages: `NAME:LINE:COLUMN: ..`, and for a fault
+    of a format also the line with its argument marked. Of each argument the first fault is shown.
 
-    >>> lines = ["# greetings", "hi = Hi {name, you", "bye(name) = Bye {nane}."]
-    >>> for told in faults_in("m.txt", "\\n".join(lines)):
+    >>> lines = ["# greetings", "hi = Hi {name, you", "bye(name) = Bye {nane}, {name:x}."]
+    >>> for told in faults_in("m.txt", "\n".join(lines)):
     ...     print(told)
     m.txt:2:10: error while parsing input: Format spec at 4 is nether closed with a `}`
       |
@@ -44,42 +44,74 @@ def faults_in(name: str, text: str) -> Iterator[str]:
       |         ^^^^^^^^^^
     m.txt:3:18: specified value not in context `nane` at 5
       |
-    3 | bye(name) = Bye {nane}.
+    3 | bye(name) = Bye {nane}, {name:x}.
       |                 ^^^^^^
+    m.txt:3:32: trait `LowerHex` not implemented, used by format argument at 19
+      |
+    3 | bye(name) = Bye {nane}, {name:x}.
+      |                         ^^^^^^^^
     """
     for number, line in enumerate(lines_of(text), 1):
-        told = _told_of_line(name, number, line)
-        if told is not None:
-            yield told
+        if line.strip(_WHITE_SPACE) and not line.startswith("#"):
+            yield from _faults_of_line(name, number, line)
 
 
-def _told_of_line(name: str, number: int, line: str) -> Optional[str]:
-    """What is wrong with a line, if something is."""
-    if not line.strip(_WHITE_SPACE) or line.startswith("#"):
-        return None
+def _faults_of_line(name: str, number: int, line: str) -> Iterator[str]:
+    """What is wrong with a line that has to have a message."""
     head, equals, rest = line.partition("=")
-    if not equals:
-        return f"{name}:{number}:1: no `=`"
     heading = _heading_of(head)
-    if heading.broken is not None:
-        return f"{name}:{number}:{heading.broken + 1}: {_BROKEN}"
-    template = Template(rest.lstrip(_WHITE_SPACE))
+    if not equals:
+        yield f"{name}:{number}:1: no `=`"
+    elif heading.broken is not None:
+        yield f"{name}:{number}:{heading.broken + 1}: {_BROKEN}"
+    else:
+        format = rest.lstrip(_WHITE_SPACE)
+        start = len(line) - len(format)
+        for error, (first, end) in _faults_of(format, heading.examples):
+            marked = (start + first, start + end)
+            yield draw(name, number, line, start + error.index, marked, error.message)
+
+
+def _faults_of(
+    format: str, examples: Optional[Dict[str, Example]]
+) -> Iterator[Tuple[FormatError, Tuple[int, int]]]:
+    """The first fault of each argument of a format, and which of its characters are the
+    argument's.
+
+    An argument that has a fault is then taken for a text of the same length, which changes nothing
+    for the others.
+    """
+    while True:
+        error = _fault_of(format, examples)
+        if error is None:
+            return
+        first, end = marks_in(error.picture, len(format), error.index)
+        yield error, (first, end)
+        if is_cut(len(format), error.index, (first, end)):
+            # where the argument begins and ends is not known
+            return
+        format = format[:first] + _filler(format[first:end]) + format[end:]
+
+
+def _fault_of(format: str, examples: Optional[Dict[str, Example]]) -> Optional[FormatError]:
+    """The first fault of a format, by itself or over an example of what is declared."""
+    template = Template(format)
     try:
-        if heading.examples is None:
+        if examples is None:
             template.check_alone()
         else:
-            template.check_map(heading.examples)
+            template.check_map(examples)
     except FormatError as error:
-        return _picture(name, number, line, template.text, error)
+        return error
     return None
 
 
-def _picture(name: str, number: int, line: str, format: str, error: FormatError) -> str:
-    """The fault of a format that ends where its line does, shown in the line."""
-    start = len(line) - len(format)
-    first, end = marks_in(error.picture, len(format), error.index)
-    marked = (start + first, start + end)
-    return draw(name, number, line, start + error.index, marked, error.message)
+def _filler(text: str) -> str:
+    """Characters without a meaning in formats, each of as many bytes as the one that it replaces."""
+    return "".join(_FILLERS[len(c.encode()) - 1] for c in text)
+
+
+_FILLERS = "x\xe9\u65e5\U0001f600"
 
 
 def _heading_of(head: str) -> _Heading:

@@ -72,6 +72,14 @@ def marks_in(picture: str, count: int, around: int) -> Tuple[int, int]:
     return first, first + marks.count("^")
 
 
+def is_cut(count: int, around: int, marked: Tuple[int, int]) -> bool:
+    """Whether marks of a line of so many, as `marks_in` finds them, may go on where the line is cut
+    in its picture."""
+    left = _first_shown(count, around)
+    right = left + _MOST_SHOWN
+    return 0 < left and marked[0] <= left or right < count and right <= marked[1]
+
+
 def draw_in(
     name: str, first_line: int, text: str, index: int, marked: Tuple[int, int], message: str
 ) -> str:

@@ -107,6 +107,28 @@ kinds.txt:9:11: {broken}
 """, out)
         self.assertEqual(1, status)
 
+    def test_several_faults_of_a_message(self) -> None:
+        # after a list without a value, its groups are not looked at
+        status, out, _ = self.checked(
+            "many.txt", "m(n:, l[]) = é{é} {l:i({:b}{n}{m})({k})}{n:e}{k:i({j})}{n:i}{l}{z")
+        line = "1 | m(n:, l[]) = é{é} {l:i({:b}{n}{m})({k})}{n:e}{k:i({j})}{n:i}{l}{z\n"
+        faults = (
+            # the byte, the column and the characters of each argument; `é` has two bytes
+            ("specified value not in context `é` at 3", 16, 15, 3),
+            ("trait `Binary` not implemented, used by format argument at 15", 27, 24, 4),
+            ("specified value not in context `m` at 20", 32, 31, 3),
+            ("specified value not in context `k` at 25", 37, 36, 3),
+            ("specified value not in context `k` at 35", 47, 46, 10),
+            ("trait `Iter` not implemented, used by format argument at 48", 60, 56, 5),
+            ("trait `Display` not implemented, used by format argument at 51", 63, 61, 3),
+            ("error while parsing input: Format spec at 53 is nether closed with a `}`", 65, 64, 2),
+        )
+        wanted = "".join(
+            f"many.txt:1:{column}: {what}\n  |\n{line}  | {' ' * (first - 1)}{'^' * count}\n"
+            for what, column, first, count in faults)
+        self.assertEqual(wanted, out)
+        self.assertEqual(1, status)
+
     def test_a_long_line(self) -> None:
         # of 203 characters 120 are shown, from 60 before the place on
         status, out, _ = self.checked("long.txt", "k" * 50 + " = " + "a" * 100 + "{x" + "b" * 48)
