@@ -61,10 +61,10 @@ class Classes(unittest.TestCase):
         self.assertRaises(NotUtf8, interpolator.cost, "\udfff", text_limit=1, items=1)
 
     def test_no_memory(self) -> None:
-        # in a process of its own that may take a gigabyte
+        # in a process of its own that may take 256 MB
         program = (
             "import resource, interpolator\n"
-            "resource.setrlimit(resource.RLIMIT_AS, (2**30, 2**30))\n"
+            "resource.setrlimit(resource.RLIMIT_AS, (2**28, 2**28))\n"
             "try:\n"
             "    interpolator.format('{t:>9999999999999}', t='')\n"
             "except MemoryError as error:\n"
