@@ -193,9 +193,9 @@ class Fields:
     def _field(self, value: Any, uses: Uses, level: int) -> c.Field:
         if is_list(value):
             field = c.Field(kind=c.LIST)
-            # the items of a list that is not written as one are not looked at
-            if uses.items is not None:
-                self._lists.append((field, value, uses.items, level + 1))
+            # the items of a list that is not written as one are left out
+            items = () if uses.items is None else value
+            self._lists.append((field, items, uses.items or UNUSED, level + 1))
             return field
         mask = 0
         if isinstance(value, Only):
