@@ -1,0 +1,263 @@
+//! Why there is no text.
+use std::fmt::{self, Display};
+use std::num::ParseIntError;
+
+use crate::sys::{code, Answer};
+
+/// What a call returns.
+pub type Result<T = (), E = Error> = std::result::Result<T, E>;
+
+/// The traits of `std::fmt` that a format may name, and `Iter` for a list under `i`.
+#[derive(Debug, PartialEq, Eq, Clone, Copy, Hash)]
+pub enum Trait {
+    /// `{x:b}`
+    Binary,
+    /// `{x:?}`, `{x:x?}` and `{x:X?}`
+    Debug,
+    /// `{x}`
+    Display,
+    /// `{x:e}`
+    LowerExp,
+    /// `{x:x}`
+    LowerHex,
+    /// `{x:o}`
+    Octal,
+    /// `{x:E}`
+    UpperExp,
+    /// `{x:X}`
+    UpperHex,
+    /// `{x:i}`
+    Iter,
+}
+
+/// The traits in the order of their numbers in the library.
+const TRAITS: [Trait; 9] = [
+    Trait::Display,
+    Trait::Debug,
+    Trait::Binary,
+    Trait::Octal,
+    Trait::LowerHex,
+    Trait::UpperHex,
+    Trait::LowerExp,
+    Trait::UpperExp,
+    Trait::Iter,
+];
+
+/// The fault of a format, with its place: a count of bytes from the beginning of the format.
+#[derive(Debug, PartialEq, Clone)]
+pub enum Error {
+    /// The value has no such trait. The place is the byte after the spec.
+    MissingTraitImpl(Trait, usize),
+    /// A value failed to format itself, the writer failed (at place 0), or memory was refused.
+    Fmt(fmt::Error, usize),
+    /// The format is broken.
+    Parse(ParseError),
+    /// The context has no value of this name. The place is the byte after the opening brace.
+    MissingValue(String, usize),
+    /// The format has an option (the first text) that this version does not know: `p`, whose feature
+    /// would be `pointer` (the second).
+    UnsupportedOption(&'static str, &'static str, usize),
+}
+
+/// How a format is broken, with the place: a count of bytes from the beginning of the format.
+#[derive(Debug, PartialEq, Clone)]
+pub enum ParseError {
+    /// The format ends within an argument. The place is the byte after its opening brace.
+    FormatSpecUnclosed(usize),
+    /// This text should stand at the place.
+    Expected(&'static str, usize),
+    /// The width is no `usize`.
+    InvalidWidth(ParseIntError, usize),
+    /// The precision is no `usize`.
+    InvalidPrecision(ParseIntError, usize),
+    /// The fill is one that cannot be used: `{`.
+    Fill(usize),
+    /// A list has a sign, `#`, the zero flag or a precision.
+    Iter(usize),
+    /// A bound of a list's range is no `isize`.
+    RangeBound(ParseIntError, usize),
+}
+
+impl Error {
+    /// The byte of the format at which the fault is.
+    ///
+    /// ```
+    /// use interpolator::{format, Context, Formattable};
+    /// use std::collections::HashMap;
+    ///
+    /// let none: HashMap<&str, Formattable> = HashMap::new();
+    /// assert_eq!(format("Hello {name}", &none).unwrap_err().place(), 7);
+    /// ```
+    pub fn place(&self) -> usize {
+        match self {
+            Error::MissingTraitImpl(_, place)
+            | Error::Fmt(_, place)
+            | Error::MissingValue(_, place)
+            | Error::UnsupportedOption(_, _, place) => *place,
+            Error::Parse(error) => error.place(),
+        }
+    }
+
+    /// Memory was refused, or lists lie more than 64 deep.
+    pub(crate) fn refused() -> Self {
+        Error::Fmt(fmt::Error, 0)
+    }
+
+    /// The fault that a call returned, whose sentence this is.
+    pub(crate) fn of(answer: &Answer, format: &str, sentence: &str) -> Self {
+        match answer.code {
+            code::MISSING_TRAIT => Error::MissingTraitImpl(missing(answer.detail), answer.place),
+            code::FMT => Error::Fmt(fmt::Error, answer.place),
+            code::PARSE => Error::Parse(ParseError::of(sentence, answer.place)),
+            code::MISSING_VALUE => Error::MissingValue(name_at(format, answer.place), answer.place),
+            code::UNSUPPORTED => Error::UnsupportedOption("p", "pointer", answer.place),
+            _ => Error::refused(),
+        }
+    }
+}
+
+impl ParseError {
+    /// The byte of the format at which the fault is.
+    pub fn place(&self) -> usize {
+        match self {
+            ParseError::FormatSpecUnclosed(place)
+            | ParseError::Expected(_, place)
+            | ParseError::InvalidWidth(_, place)
+            | ParseError::InvalidPrecision(_, place)
+            | ParseError::Fill(place)
+            | ParseError::Iter(place)
+            | ParseError::RangeBound(_, place) => *place,
+        }
+    }
+
+    /// The fault that a sentence of the library states.
+    fn of(sentence: &str, place: usize) -> Self {
+        let stated = sentence.strip_prefix("error while parsing input: ");
+        let stated = stated.unwrap_or(sentence);
+        let begins = |beginning: &str| stated.starts_with(beginning);
+        if begins("Expected `(`") {
+            ParseError::Expected("(", place)
+        } else if begins("Expected") {
+            ParseError::Expected("}", place)
+        } else if begins("Unable to parse width") {
+            ParseError::InvalidWidth(number_error(stated), place)
+        } else if begins("Unable to parse precision") {
+            ParseError::InvalidPrecision(number_error(stated), place)
+        } else if begins("Unable to parse range bound") {
+            ParseError::RangeBound(number_error(stated), place)
+        } else if begins("Fill") {
+            ParseError::Fill(place)
+        } else if begins("Width") {
+            ParseError::Iter(place)
+        } else {
+            ParseError::FormatSpecUnclosed(place)
+        }
+    }
+}
+
+/// The trait of that number.
+fn missing(number: u32) -> Trait {
+    TRAITS
+        .get(number as usize)
+        .copied()
+        .unwrap_or(Trait::Display)
+}
+
+/// The name of the argument whose opening brace is before this place.
+fn name_at(format: &str, place: usize) -> String {
+    let after = format.get(place..).unwrap_or("").trim_start();
+    let end = after.find([':', '}']).unwrap_or(after.len());
+    after[..end].to_string()
+}
+
+/// std's fault of a number, by the text with which a sentence ends.
+fn number_error(stated: &str) -> ParseIntError {
+    let example = if stated.ends_with("empty string") {
+        ""
+    } else if stated.ends_with("too large to fit in target type") {
+        "128"
+    } else if stated.ends_with("too small to fit in target type") {
+        "-129"
+    } else {
+        "-"
+    };
+    match example.parse::<i8>() {
+        Err(error) => error,
+        Ok(number) => unreachable!("{number} is none of these examples"),
+    }
+}
+
+impl Display for Error {
+    fn fmt(&self, f: &mut fmt::Formatter<'_>) -> fmt::Result {
+        match self {
+            Error::MissingTraitImpl(missing, place) => write!(
+                f,
+                "trait `{missing:?}` not implemented, used by format argument at {place}"
+            ),
+            Error::Fmt(error, place) => write!(f, "error while formatting at {place}: {error}"),
+            Error::Parse(error) => write!(f, "error while parsing input: {error}"),
+            Error::MissingValue(name, place) => {
+                write!(f, "specified value not in context `{name}` at {place}")
+            }
+            Error::UnsupportedOption(option, feature, place) => write!(
+                f,
+                "option `{option}` is not supported without feature `{feature}` at {place}"
+            ),
+        }
+    }
+}
+
+impl Display for ParseError {
+    fn fmt(&self, f: &mut fmt::Formatter<'_>) -> fmt::Result {
+        match self {
+            ParseError::FormatSpecUnclosed(place) => {
+                write!(f, "Format spec at {place} is nether closed with a `}}`")
+            }
+            ParseError::Expected(text, place) => write!(f, "Expected `{text}` at {place}"),
+            ParseError::InvalidWidth(error, place) => {
+                write!(f, "Unable to parse width at {place} as usize: {error}")
+            }
+            ParseError::InvalidPrecision(error, place) => {
+                write!(f, "Unable to parse precision at {place} as usize: {error}")
+            }
+            ParseError::Fill(place) => write!(
+                f,
+                "Fill is not supported due to https://github.com/rust-lang/rfcs/pull/3394 at {place}"
+            ),
+            ParseError::Iter(place) => write!(
+                f,
+                "Width, precision, `-`, `+` and `#` are not supported for `i` at {place}"
+            ),
+            ParseError::RangeBound(error, place) => {
+                write!(f, "Unable to parse range bound at {place} as isize: {error}")
+            }
+        }
+    }
+}
+
+impl std::error::Error for Error {
+    fn source(&self) -> Option<&(dyn std::error::Error + 'static)> {
+        match self {
+            Error::Fmt(error, _) => Some(error),
+            Error::Parse(error) => Some(error),
+            _ => None,
+        }
+    }
+}
+
+impl std::error::Error for ParseError {
+    fn source(&self) -> Option<&(dyn std::error::Error + 'static)> {
+        match self {
+            ParseError::InvalidWidth(error, _)
+            | ParseError::InvalidPrecision(error, _)
+            | ParseError::RangeBound(error, _) => Some(error),
+            _ => None,
+        }
+    }
+}
+
+impl From<ParseError> for Error {
+    fn from(error: ParseError) -> Self {
+        Error::Parse(error)
+    }
+}

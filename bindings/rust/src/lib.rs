@@ -1,0 +1,317 @@
+//! Format strings at run time, with the API of the crate `interpolator` 0.5.0, over a formatter that is
+//! proved.
+//!
+//! ```
+//! use interpolator::{format, Formattable};
+//! use std::collections::HashMap;
+//!
+//! let words = ["hello", "hi", "hey"].each_ref().map(Formattable::display);
+//! let context = HashMap::from([
+//!     ("value", Formattable::display(&12)),
+//!     ("words", Formattable::iter(&words)),
+//! ]);
+//! assert_eq!(format("{value:+05}", &context)?, "+0012");
+//! assert_eq!(format("{words:i..-1(`{}`)(, )} and {words:i-1(`{}`)}", &context)?,
+//!     "`hello`, `hi` and `hey`");
+//! # Ok::<(), interpolator::Error>(())
+//! ```
+//!
+//! A format has arguments in braces, `{name}` or `{name:spec}`, where the spec is that of
+//! [`std::fmt`] with two exceptions: a width or precision is a number, and there is one trait more,
+//! `i`, which writes a list. Literal braces are `{{` and `}}`. After `i` come, each optional, a range
+//! (`1..`, `..-1`, `0..=2`, `-1`), the format of an item in parentheses, whose own argument is `{}`,
+//! and in parentheses what is written between two items. A group that holds a `)` is set between `#(`
+//! and `)#`, with as many `#` as it takes.
+//!
+//! Whole numbers, texts, `bool` and `char` are written by the library. Floats and values of any other
+//! type are written by their own `fmt`, under the spec that the format has.
+//!
+//! Beside the API of that crate are [`check`], [`explain`], [`cost`] and [`rows`].
+use std::borrow::Borrow;
+use std::collections::{BTreeMap, HashMap};
+use std::fmt;
+use std::hash::{BuildHasher, Hash};
+
+mod error;
+mod formattable;
+mod known;
+mod macros;
+mod quick;
+mod request;
+mod row;
+mod sys;
+mod table;
+mod uses;
+
+pub use error::{Error, ParseError, Result, Trait};
+pub use formattable::Formattable;
+pub use macros::{items, Interpolate};
+pub use table::{rows, Rows, RowsError};
+
+use row::{Find, Row};
+use sys::{code, Answer};
+
+/// Where a format finds the values of its names.
+///
+/// It may be asked for a name more than once, and for one whose value is not written in the end.
+///
+/// ```
+/// use interpolator::{format, Context, Formattable};
+///
+/// struct User {
+///     name: String,
+///     age: u8,
+/// }
+///
+/// impl Context for User {
+///     fn get(&self, key: &str) -> Option<Formattable<'_>> {
+///         match key {
+///             "name" => Some(Formattable::debug_display(&self.name)),
+///             "age" => Some(Formattable::integer(&self.age)),
+///             _ => None,
+///         }
+///     }
+/// }
+///
+/// let ann = User { name: "Ann".to_string(), age: 42 };
+/// assert_eq!(format("{name} is {age:#x}", &ann)?, "Ann is 0x2a");
+/// # Ok::<(), interpolator::Error>(())
+/// ```
+pub trait Context {
+    /// The value of a name, or none if there is no such name.
+    fn get(&self, key: &str) -> Option<Formattable<'_>>;
+}
+
+impl<K: Borrow<str> + Eq + Hash, S: BuildHasher> Context for HashMap<K, Formattable<'_>, S> {
+    #[inline]
+    fn get(&self, key: &str) -> Option<Formattable<'_>> {
+        HashMap::get(self, key).copied()
+    }
+}
+
+impl<K: Borrow<str> + Ord> Context for BTreeMap<K, Formattable<'_>> {
+    #[inline]
+    fn get(&self, key: &str) -> Option<Formattable<'_>> {
+        BTreeMap::get(self, key).copied()
+    }
+}
+
+impl<C: Context + ?Sized> Context for &C {
+    #[inline]
+    fn get(&self, key: &str) -> Option<Formattable<'_>> {
+        (**self).get(key)
+    }
+}
+
+/// The text of a format over a context, or its first fault.
+///
+/// ```
+/// use interpolator::{format, Error, Formattable};
+/// use std::collections::HashMap;
+///
+/// let context = HashMap::from([("name", Formattable::display(&"Ann"))]);
+/// assert_eq!(format("Hello {name:>5}", &context)?, "Hello   Ann");
+/// assert_eq!(format("{nome}", &context), Err(Error::MissingValue("nome".to_string(), 1)));
+/// # Ok::<(), Error>(())
+/// ```
+pub fn format(format: &str, context: &(impl Context + ?Sized)) -> Result<String> {
+    text(format, &|name| context.get(name))
+}
+
+/// Writes the text of a format over a context, up to its first fault.
+///
+/// The text comes to `out` in one piece. If `out` fails, that is [`Error::Fmt`] at place 0.
+///
+/// ```
+/// use interpolator::{write, Formattable};
+/// use std::collections::HashMap;
+///
+/// let context = HashMap::from([("name", Formattable::display(&"Ann"))]);
+/// let mut out = String::new();
+/// assert!(write(&mut out, "{name} and {friend}", &context).is_err());
+/// assert_eq!(out, "Ann and ");
+/// ```
+pub fn write(
+    out: &mut (impl fmt::Write + ?Sized),
+    format: &str,
+    context: &(impl Context + ?Sized),
+) -> Result<()> {
+    let (text, result) = beginning(format, &|name| context.get(name));
+    match out.write_str(&text) {
+        Ok(()) => result,
+        Err(error) => Err(Error::Fmt(error, 0)),
+    }
+}
+
+/// The first fault that a format has by itself, or over a context that is an example of others.
+///
+/// All of the format is looked at, whether or not it is written over this context: an item format is
+/// tried with each item that the example's list has, and a join whatever the number of items. If it
+/// returns `Ok`, no context fails that resembles the example: one that has, under each name that the
+/// format uses, a value of the same type (of texts, numbers, truth values, characters, and lists of
+/// these). A value of another type can still fail by its own `fmt`.
+///
+/// ```
+/// use interpolator::{check, Formattable};
+/// use std::collections::HashMap;
+///
+/// let example = HashMap::from([
+///     ("name", Formattable::display(&"Ann")),
+///     ("items", Formattable::iter(&[])),
+/// ]);
+/// assert!(check("{name}: {items:i({})(, )}", &example).is_ok());
+/// assert!(check("{name}: {items:i({nome})}", &example).is_err());
+/// ```
+pub fn check(format: &str, context: &(impl Context + ?Sized)) -> Result<()> {
+    let row = Row::of(format, &|name| context.get(name))?;
+    let mut room = quick::room_for(format);
+    let answer = row.lend(|fields, items| sys::check(format, fields, items, &mut room));
+    outcome(&answer, format, &room)
+}
+
+/// The fault that [`check`] finds, as a compiler shows it, or none if there is none.
+///
+/// `name` is what the format is called, such as its file, and `first_line` the line of the file at which
+/// it begins.
+///
+/// ```
+/// use interpolator::{explain, Formattable};
+/// use std::collections::HashMap;
+///
+/// let example = HashMap::from([("name", Formattable::display(&"Ann"))]);
+/// let picture = explain("greeting.txt", 1, "Hello {name", &example).unwrap();
+/// assert!(picture.starts_with("greeting.txt:1:8: "));
+/// assert!(picture.ends_with("\
+///   |
+/// 1 | Hello {name
+///   |       ^^^^^"));
+/// ```
+pub fn explain(
+    name: &str,
+    first_line: usize,
+    format: &str,
+    context: &(impl Context + ?Sized),
+) -> Option<String> {
+    let row = match Row::of(format, &|name| context.get(name)) {
+        Ok(row) => row,
+        Err(error) => return Some(format!("{name}: {error}")),
+    };
+    let mut room = quick::room_for(format);
+    row.lend(|fields, items| {
+        let explain =
+            |room: &mut String| sys::explain(name, first_line, format, fields, items, room);
+        let mut answer = explain(&mut room);
+        if answer.message > room.capacity() {
+            room.reserve_exact(answer.message);
+            answer = explain(&mut room);
+        }
+        (answer.code != code::OK).then_some(room)
+    })
+}
+
+/// Over which values [`cost`] counts.
+#[derive(Debug, Clone, Copy, PartialEq, Eq)]
+pub struct Limits {
+    /// The most characters of the text of a value.
+    pub text: usize,
+    /// The most items of a list.
+    pub items: usize,
+}
+
+/// How much a format can write. Of each count the greatest `usize` stands for as many or more.
+#[derive(Debug, Clone, Copy, PartialEq, Eq)]
+pub struct Cost {
+    /// The most characters of the text.
+    pub characters: usize,
+    /// The most pieces of the format that are gone through.
+    pub pieces: usize,
+    /// The most characters of lists under a width that are in memory at a time.
+    pub buffered: usize,
+}
+
+/// How much a format can write, over values within limits: its text is never longer.
+///
+/// ```
+/// use interpolator::{cost, Limits};
+///
+/// let limits = Limits { text: 80, items: 50 };
+/// assert_eq!(cost("Hello {name}!", limits).characters, 87);
+/// assert_eq!(cost("{bomb:9999999999}", limits).characters, 9_999_999_999);
+/// ```
+pub fn cost(format: &str, limits: Limits) -> Cost {
+    let cost = sys::cost(format, limits.text, limits.items);
+    if cost.code == code::OK {
+        Cost {
+            characters: cost.characters,
+            pieces: cost.pieces,
+            buffered: cost.buffered,
+        }
+    } else {
+        // Memory was refused, so that nothing is known.
+        Cost {
+            characters: usize::MAX,
+            pieces: usize::MAX,
+            buffered: usize::MAX,
+        }
+    }
+}
+
+/// What a call returned, whose sentence is in the room.
+fn outcome(answer: &Answer, format: &str, room: &str) -> Result<()> {
+    match answer.code {
+        code::OK => Ok(()),
+        _ => Err(Error::of(answer, format, room)),
+    }
+}
+
+fn text(format: &str, find: Find<'_, '_>) -> Result<String> {
+    match quick::text(format, find) {
+        Some(text) => Ok(text),
+        None => whole(format, &Row::of(format, find)?),
+    }
+}
+
+/// The whole text of a row.
+fn whole(format: &str, row: &Row<'_, '_>) -> Result<String> {
+    row.lend(|fields, items| {
+        let mut room = quick::room_for(format);
+        let mut answer = sys::format(format, fields, items, &mut room);
+        if answer.code == code::OK && answer.length > room.capacity() {
+            if room.try_reserve_exact(answer.length).is_err() {
+                return Err(Error::refused());
+            }
+            answer = sys::format(format, fields, items, &mut room);
+        }
+        outcome(&answer, format, &room).map(|()| room)
+    })
+}
+
+/// The text of a row up to its first fault, and the fault.
+fn beginning(format: &str, find: Find<'_, '_>) -> (String, Result<()>) {
+    if let Some(text) = quick::text(format, find) {
+        return (text, Ok(()));
+    }
+    let row = match Row::of(format, find) {
+        Ok(row) => row,
+        Err(error) => return (String::new(), Err(error)),
+    };
+    match whole(format, &row) {
+        Ok(text) => (text, Ok(())),
+        Err(error) => (before_fault(format, &row), Err(error)),
+    }
+}
+
+/// The text of a row before its first fault, if memory takes it.
+fn before_fault(format: &str, row: &Row<'_, '_>) -> String {
+    row.lend(|fields, items| {
+        let mut room = quick::room_for(format);
+        loop {
+            let answer = sys::write(format, fields, items, &mut room);
+            let is_short = matches!(answer.code, code::FULL | code::NO_MEMORY);
+            let more = room.capacity().saturating_mul(4) - room.len();
+            if !is_short || room.try_reserve_exact(more).is_err() {
+                return room;
+            }
+        }
+    })
+}

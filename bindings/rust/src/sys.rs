@@ -1,0 +1,578 @@
+//! The structs and calls of `bindings/c/interpolator.h`, and safe functions over the calls.
+//!
+//! A struct here borrows what it points to, and is made only from slices: so each pointer and length
+//! that a call gets are those of one slice that lives until the call returns.
+use std::marker::PhantomData;
+use std::ptr;
+
+/// Bytes that are lent to a call.
+#[repr(C)]
+#[derive(Clone, Copy)]
+pub(crate) struct Bytes<'a> {
+    at: *const u8,
+    length: usize,
+    lent: PhantomData<&'a [u8]>,
+}
+
+impl<'a> Bytes<'a> {
+    pub(crate) const fn of(bytes: &'a [u8]) -> Self {
+        Bytes {
+            at: bytes.as_ptr(),
+            length: bytes.len(),
+            lent: PhantomData,
+        }
+    }
+}
+
+/// A request without a fill.
+pub(crate) const NO_FILL: u32 = u32::MAX;
+
+/// The bit of `given` for a width.
+pub(crate) const WIDTH: u32 = 1;
+
+/// The bit of `given` for a precision.
+pub(crate) const PRECISION: u32 = 2;
+
+/// The trait of a list in a request.
+pub(crate) const ITER: u32 = 8;
+
+/// How an argument wants its value written.
+#[repr(C)]
+#[derive(Clone, Copy, PartialEq, Eq, Debug)]
+pub(crate) struct Request {
+    pub(crate) slot: u32,
+    pub(crate) fill: u32,
+    pub(crate) alignment: u32,
+    pub(crate) sign: u32,
+    pub(crate) alternate: u32,
+    pub(crate) zero: u32,
+    pub(crate) hex_debug: u32,
+    pub(crate) given: u32,
+    pub(crate) width: usize,
+    pub(crate) precision: usize,
+}
+
+impl Request {
+    /// That of `{x}`.
+    pub(crate) const PLAIN: Request = Request {
+        slot: 0,
+        fill: NO_FILL,
+        alignment: 0,
+        sign: 0,
+        alternate: 0,
+        zero: 0,
+        hex_debug: 0,
+        given: 0,
+        width: 0,
+        precision: 0,
+    };
+}
+
+/// A text that was made for a request.
+#[repr(C)]
+#[derive(Clone, Copy)]
+pub(crate) struct Lent<'a> {
+    pub(crate) request: Request,
+    pub(crate) text: Bytes<'a>,
+}
+
+/// The kinds of a field.
+pub(crate) mod kind {
+    pub(crate) const TEXT: u32 = 0;
+    pub(crate) const TRUTH: u32 = 2;
+    pub(crate) const CHARACTER: u32 = 3;
+    pub(crate) const UNSIGNED: u32 = 4;
+    pub(crate) const UNSIGNED128: u32 = 5;
+    pub(crate) const SIGNED8: u32 = 6;
+    pub(crate) const SIGNED16: u32 = 7;
+    pub(crate) const SIGNED32: u32 = 8;
+    pub(crate) const SIGNED64: u32 = 9;
+    pub(crate) const SIGNED128: u32 = 10;
+    pub(crate) const LIST: u32 = 11;
+    pub(crate) const LENT: u32 = 12;
+    /// None of the header's: a value without slots.
+    pub(crate) const NOTHING: u32 = u32::MAX;
+}
+
+/// A value under a name, or an item of a list.
+#[repr(C)]
+#[derive(Clone, Copy)]
+pub(crate) struct Field<'a> {
+    name: Bytes<'a>,
+    text: Bytes<'a>,
+    lent: *const Lent<'a>,
+    lent_count: usize,
+    kind: u32,
+    slots: u32,
+    number: i64,
+    natural: u64,
+    upper: u64,
+    first: usize,
+    end: usize,
+    spare: [u64; 2],
+    borrows: PhantomData<&'a [Lent<'a>]>,
+}
+
+impl<'a> Field<'a> {
+    /// A value without slots.
+    pub(crate) const NOTHING: Self = Field::of(kind::NOTHING);
+
+    const fn of(kind: u32) -> Self {
+        Field {
+            name: Bytes::of(&[]),
+            text: Bytes::of(&[]),
+            lent: ptr::null(),
+            lent_count: 0,
+            kind,
+            slots: 0,
+            number: 0,
+            natural: 0,
+            upper: 0,
+            first: 0,
+            end: 0,
+            spare: [0; 2],
+            borrows: PhantomData,
+        }
+    }
+
+    pub(crate) const fn text(text: &'a str) -> Self {
+        Field {
+            text: Bytes::of(text.as_bytes()),
+            ..Field::of(kind::TEXT)
+        }
+    }
+
+    /// What is not negative and has at most 64 bits.
+    pub(crate) const fn natural(kind: u32, natural: u64) -> Self {
+        Field {
+            natural,
+            ..Field::of(kind)
+        }
+    }
+
+    pub(crate) const fn signed(kind: u32, number: i64) -> Self {
+        Field {
+            number,
+            ..Field::of(kind)
+        }
+    }
+
+    pub(crate) const fn unsigned128(number: u128) -> Self {
+        Field {
+            upper: (number >> 64) as u64,
+            natural: number as u64,
+            ..Field::of(kind::UNSIGNED128)
+        }
+    }
+
+    pub(crate) const fn signed128(number: i128) -> Self {
+        Field {
+            number: (number >> 64) as i64,
+            natural: number as u64,
+            ..Field::of(kind::SIGNED128)
+        }
+    }
+
+    /// The items from `first` up to `end`.
+    pub(crate) const fn list(first: usize, end: usize) -> Self {
+        Field {
+            first,
+            end,
+            ..Field::of(kind::LIST)
+        }
+    }
+
+    /// A value by the texts that were made of it.
+    pub(crate) const fn lending(lent: &'a [Lent<'a>]) -> Self {
+        Field {
+            lent: lent.as_ptr(),
+            lent_count: lent.len(),
+            ..Field::of(kind::LENT)
+        }
+    }
+
+    /// The same under a name.
+    pub(crate) const fn named(self, name: &'a str) -> Self {
+        Field {
+            name: Bytes::of(name.as_bytes()),
+            ..self
+        }
+    }
+
+    /// The same with these slots.
+    pub(crate) const fn with_slots(self, slots: u32) -> Self {
+        Field { slots, ..self }
+    }
+}
+
+/// What a call returned.
+pub(crate) mod code {
+    pub(crate) const OK: u32 = 0;
+    pub(crate) const MISSING_TRAIT: u32 = 1;
+    pub(crate) const FMT: u32 = 2;
+    pub(crate) const PARSE: u32 = 3;
+    pub(crate) const MISSING_VALUE: u32 = 4;
+    pub(crate) const UNSUPPORTED: u32 = 5;
+    pub(crate) const NO_MEMORY: u32 = 6;
+    pub(crate) const FULL: u32 = 9;
+}
+
+/// What a call returns.
+#[repr(C)]
+#[derive(Clone, Copy, Debug)]
+pub(crate) struct Answer {
+    pub(crate) code: u32,
+    pub(crate) detail: u32,
+    pub(crate) place: usize,
+    pub(crate) length: usize,
+    pub(crate) message: usize,
+    pub(crate) row: usize,
+}
+
+/// What `interpolator_cost` returns.
+#[repr(C)]
+#[derive(Clone, Copy)]
+pub(crate) struct CostAnswer {
+    pub(crate) code: u32,
+    detail: u32,
+    pub(crate) characters: usize,
+    pub(crate) pieces: usize,
+    pub(crate) buffered: usize,
+}
+
+/// An argument of a format.
+#[repr(C)]
+#[derive(Clone, Copy)]
+pub(crate) struct Argument {
+    pub(crate) name_first: usize,
+    pub(crate) name_end: usize,
+    pub(crate) request: Request,
+    pub(crate) item_first: usize,
+    pub(crate) item_end: usize,
+    pub(crate) join_first: usize,
+    pub(crate) join_end: usize,
+}
+
+mod library {
+    use super::{Answer, Argument, CostAnswer, Field};
+
+    extern "C" {
+        pub(super) fn interpolator_format(
+            format: *const u8,
+            format_length: usize,
+            fields: *const Field<'_>,
+            field_count: usize,
+            items: *const Field<'_>,
+            item_count: usize,
+            room: *mut u8,
+            room_length: usize,
+        ) -> Answer;
+
+        pub(super) fn interpolator_write(
+            format: *const u8,
+            format_length: usize,
+            fields: *const Field<'_>,
+            field_count: usize,
+            items: *const Field<'_>,
+            item_count: usize,
+            room: *mut u8,
+            room_length: usize,
+            sentence: *mut u8,
+            sentence_length: usize,
+        ) -> Answer;
+
+        pub(super) fn interpolator_check(
+            format: *const u8,
+            format_length: usize,
+            fields: *const Field<'_>,
+            field_count: usize,
+            items: *const Field<'_>,
+            item_count: usize,
+            room: *mut u8,
+            room_length: usize,
+        ) -> Answer;
+
+        pub(super) fn interpolator_explain(
+            name: *const u8,
+            name_length: usize,
+            first_line: usize,
+            format: *const u8,
+            format_length: usize,
+            fields: *const Field<'_>,
+            field_count: usize,
+            items: *const Field<'_>,
+            item_count: usize,
+            room: *mut u8,
+            room_length: usize,
+        ) -> Answer;
+
+        pub(super) fn interpolator_rows(
+            format: *const u8,
+            format_length: usize,
+            columns: *const Field<'_>,
+            column_count: usize,
+            cells: *const Field<'_>,
+            cell_count: usize,
+            ends: *mut usize,
+            row_count: usize,
+            room: *mut u8,
+            room_length: usize,
+        ) -> Answer;
+
+        pub(super) fn interpolator_cost(
+            format: *const u8,
+            format_length: usize,
+            text: usize,
+            items: usize,
+        ) -> CostAnswer;
+
+        pub(super) fn interpolator_arguments(
+            format: *const u8,
+            format_length: usize,
+            arguments: *mut Argument,
+            argument_count: usize,
+        ) -> Answer;
+    }
+}
+
+/// Sets the length of a room to what a call wrote at its front: nothing, if it did not fit.
+///
+/// # Safety
+/// If `written` is at most the room's capacity, so many bytes of UTF-8 were written to its front.
+unsafe fn settle(room: &mut String, written: usize) {
+    let length = if written <= room.capacity() {
+        written
+    } else {
+        0
+    };
+    // SAFETY: the caller says that so many bytes are there, and that they are UTF-8.
+    unsafe { room.as_mut_vec().set_len(length) }
+}
+
+/// The text or sentence that a call put at the front of its room.
+fn written(answer: &Answer) -> usize {
+    if answer.code == code::OK {
+        answer.length
+    } else {
+        answer.message
+    }
+}
+
+/// The text of a format, or the sentence of its fault, in the room if its capacity is enough.
+pub(crate) fn format(
+    format: &str,
+    fields: &[Field<'_>],
+    items: &[Field<'_>],
+    room: &mut String,
+) -> Answer {
+    // SAFETY: the declaration is the header's; each pointer and length are those of one slice, and the
+    // room is the capacity of a String that nothing else borrows.
+    let answer = unsafe {
+        library::interpolator_format(
+            format.as_ptr(),
+            format.len(),
+            fields.as_ptr(),
+            fields.len(),
+            items.as_ptr(),
+            items.len(),
+            room.as_mut_ptr(),
+            room.capacity(),
+        )
+    };
+    // SAFETY: the header says so of the text's length and of the sentence's.
+    unsafe { settle(room, written(&answer)) };
+    answer
+}
+
+/// The text of a format up to its first fault, or as much of it as the room's capacity takes.
+pub(crate) fn write(
+    format: &str,
+    fields: &[Field<'_>],
+    items: &[Field<'_>],
+    room: &mut String,
+) -> Answer {
+    // SAFETY: as in `format`; the second room is empty.
+    let answer = unsafe {
+        library::interpolator_write(
+            format.as_ptr(),
+            format.len(),
+            fields.as_ptr(),
+            fields.len(),
+            items.as_ptr(),
+            items.len(),
+            room.as_mut_ptr(),
+            room.capacity(),
+            ptr::null_mut(),
+            0,
+        )
+    };
+    // SAFETY: the header says so of `length`, whatever the code is.
+    unsafe { settle(room, answer.length) };
+    answer
+}
+
+/// The first fault over a row of examples, with its sentence in the room if its capacity is enough.
+pub(crate) fn check(
+    format: &str,
+    fields: &[Field<'_>],
+    items: &[Field<'_>],
+    room: &mut String,
+) -> Answer {
+    // SAFETY: as in `format`.
+    let answer = unsafe {
+        library::interpolator_check(
+            format.as_ptr(),
+            format.len(),
+            fields.as_ptr(),
+            fields.len(),
+            items.as_ptr(),
+            items.len(),
+            room.as_mut_ptr(),
+            room.capacity(),
+        )
+    };
+    // SAFETY: the header says so of the sentence's length, which is 0 without a fault.
+    unsafe { settle(room, answer.message) };
+    answer
+}
+
+/// The picture of the first fault over a row of examples, in the room if its capacity is enough.
+pub(crate) fn explain(
+    name: &str,
+    first_line: usize,
+    format: &str,
+    fields: &[Field<'_>],
+    items: &[Field<'_>],
+    room: &mut String,
+) -> Answer {
+    // SAFETY: as in `format`.
+    let answer = unsafe {
+        library::interpolator_explain(
+            name.as_ptr(),
+            name.len(),
+            first_line,
+            format.as_ptr(),
+            format.len(),
+            fields.as_ptr(),
+            fields.len(),
+            items.as_ptr(),
+            items.len(),
+            room.as_mut_ptr(),
+            room.capacity(),
+        )
+    };
+    // SAFETY: the header says so of the picture's length, which is 0 without a fault.
+    unsafe { settle(room, answer.message) };
+    answer
+}
+
+/// The texts of a table's rows, or the sentence of the first fault, in the room if its capacity is
+/// enough; and where each row ends.
+pub(crate) fn rows(
+    format: &str,
+    columns: &[Field<'_>],
+    cells: &[Field<'_>],
+    ends: &mut [usize],
+    room: &mut String,
+) -> Answer {
+    // SAFETY: as in `format`; `ends` is a slice that nothing else borrows.
+    let answer = unsafe {
+        library::interpolator_rows(
+            format.as_ptr(),
+            format.len(),
+            columns.as_ptr(),
+            columns.len(),
+            cells.as_ptr(),
+            cells.len(),
+            ends.as_mut_ptr(),
+            ends.len(),
+            room.as_mut_ptr(),
+            room.capacity(),
+        )
+    };
+    // SAFETY: the header says so of the texts' length and of the sentence's.
+    unsafe { settle(room, written(&answer)) };
+    answer
+}
+
+/// How much a format can write.
+pub(crate) fn cost(format: &str, text: usize, items: usize) -> CostAnswer {
+    // SAFETY: the declaration is the header's; the pointer and length are those of the format.
+    unsafe { library::interpolator_cost(format.as_ptr(), format.len(), text, items) }
+}
+
+/// The arguments of a format, or none if memory was refused.
+pub(crate) fn arguments(format: &str) -> Option<Vec<Argument>> {
+    // Each argument begins with a brace of its own.
+    let most = format.bytes().filter(|byte| *byte == b'{').count();
+    let mut arguments = Vec::with_capacity(most);
+    // SAFETY: the declaration is the header's; the array is the capacity of a Vec.
+    let answer = unsafe {
+        library::interpolator_arguments(
+            format.as_ptr(),
+            format.len(),
+            arguments.as_mut_ptr(),
+            arguments.capacity(),
+        )
+    };
+    if answer.code != code::OK || answer.length > arguments.capacity() {
+        return None;
+    }
+    // SAFETY: the header says that the array begins with so many of them, of which it has room for all.
+    unsafe { arguments.set_len(answer.length) };
+    Some(arguments)
+}
+
+#[cfg(test)]
+mod tests {
+    use super::*;
+    use std::mem::{offset_of, size_of};
+
+    #[repr(C)]
+    #[derive(Debug, PartialEq)]
+    struct Sizes {
+        request: usize,
+        lent: usize,
+        field: usize,
+        answer: usize,
+        argument: usize,
+        cost_answer: usize,
+        request_width: usize,
+        lent_text: usize,
+        field_kind: usize,
+        field_number: usize,
+        field_first: usize,
+        answer_place: usize,
+        argument_request: usize,
+        argument_item: usize,
+    }
+
+    extern "C" {
+        fn interpolator_version() -> u32;
+        fn interpolator_layout() -> Sizes;
+    }
+
+    #[test]
+    fn the_library_has_this_layout() {
+        let here = Sizes {
+            request: size_of::<Request>(),
+            lent: size_of::<Lent<'_>>(),
+            field: size_of::<Field<'_>>(),
+            answer: size_of::<Answer>(),
+            argument: size_of::<Argument>(),
+            cost_answer: size_of::<CostAnswer>(),
+            request_width: offset_of!(Request, width),
+            lent_text: offset_of!(Lent<'_>, text),
+            field_kind: offset_of!(Field<'_>, kind),
+            field_number: offset_of!(Field<'_>, number),
+            field_first: offset_of!(Field<'_>, first),
+            answer_place: offset_of!(Answer, place),
+            argument_request: offset_of!(Argument, request),
+            argument_item: offset_of!(Argument, item_first),
+        };
+        // SAFETY: the declarations are the header's; the calls take nothing.
+        let (version, layout) = unsafe { (interpolator_version(), interpolator_layout()) };
+        assert_eq!(version, 1);
+        assert_eq!(layout, here);
+    }
+}

@@ -1,0 +1,32 @@
+//! What the tests share.
+#![allow(dead_code)]
+use interpolator::{format, write, Context, Error, Formattable};
+use std::collections::HashMap;
+
+pub type Pairs<'p, 'a> = &'p [(&'a str, Formattable<'a>)];
+
+pub fn map<'a>(pairs: Pairs<'_, 'a>) -> HashMap<&'a str, Formattable<'a>> {
+    pairs.iter().copied().collect()
+}
+
+/// The text of a format over pairs, which has no fault.
+#[track_caller]
+pub fn text(format_text: &str, pairs: Pairs<'_, '_>) -> String {
+    match format(format_text, &map(pairs)) {
+        Ok(text) => text,
+        Err(error) => panic!("{format_text}: {error}"),
+    }
+}
+
+/// The text before the fault of a format over a context, and the fault, which `format` returns too.
+#[track_caller]
+pub fn fault(format_text: &str, context: &impl Context) -> (String, Error) {
+    let mut out = String::new();
+    let error = write(&mut out, format_text, context).expect_err(format_text);
+    assert_eq!(
+        format(format_text, context),
+        Err(error.clone()),
+        "{format_text}"
+    );
+    (out, error)
+}
