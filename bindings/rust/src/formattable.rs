@@ -178,6 +178,12 @@ impl<'a> Formattable<'a> {
         self.filled == self.covered && self.filled != 0
     }
 
+    /// Whether it has debug of a text that std escapes more of than the library.
+    #[inline]
+    pub(crate) fn is_escaped(&self) -> bool {
+        self.covered & mask(slot::DEBUG) != 0 && self.known.is_past_ascii()
+    }
+
     /// Whether the slot is filled with what the library writes by itself, or not at all.
     pub(crate) fn is_known_under(&self, slot: u32) -> bool {
         self.covered & mask(slot) != 0 || !self.has(slot)

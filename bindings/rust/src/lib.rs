@@ -48,7 +48,7 @@ pub use formattable::Formattable;
 pub use macros::{items, Interpolate};
 pub use table::{rows, Rows, RowsError};
 
-use row::{Find, Row};
+use row::Row;
 use sys::{code, Answer};
 
 /// Where a format finds the values of its names.
@@ -80,12 +80,34 @@ use sys::{code, Answer};
 pub trait Context {
     /// The value of a name, or none if there is no such name.
     fn get(&self, key: &str) -> Option<Formattable<'_>>;
+
+    /// Hands on all names with their values, each name once, if there are at most so many; else none,
+    /// and returns false. To find few names this way is faster than by `get`.
+    #[doc(hidden)]
+    fn each<'c>(&'c self, most: usize, take: Take<'_, 'c>) -> bool {
+        let _ = (most, take);
+        false
+    }
 }
+
+/// What takes a name and its value.
+#[doc(hidden)]
+pub type Take<'t, 'c> = &'t mut dyn FnMut(&'c str, &Formattable<'c>);
 
 impl<K: Borrow<str> + Eq + Hash, S: BuildHasher> Context for HashMap<K, Formattable<'_>, S> {
     #[inline]
     fn get(&self, key: &str) -> Option<Formattable<'_>> {
         HashMap::get(self, key).copied()
+    }
+
+    #[inline]
+    fn each<'c>(&'c self, most: usize, take: Take<'_, 'c>) -> bool {
+        let are_few = self.len() <= most;
+        if are_few {
+            self.iter()
+                .for_each(|(name, value)| take(name.borrow(), value));
+        }
+        are_few
     }
 }
 
@@ -94,12 +116,27 @@ impl<K: Borrow<str> + Ord> Context for BTreeMap<K, Formattable<'_>> {
     fn get(&self, key: &str) -> Option<Formattable<'_>> {
         BTreeMap::get(self, key).copied()
     }
+
+    #[inline]
+    fn each<'c>(&'c self, most: usize, take: Take<'_, 'c>) -> bool {
+        let are_few = self.len() <= most;
+        if are_few {
+            self.iter()
+                .for_each(|(name, value)| take(name.borrow(), value));
+        }
+        are_few
+    }
 }
 
 impl<C: Context + ?Sized> Context for &C {
     #[inline]
     fn get(&self, key: &str) -> Option<Formattable<'_>> {
         (**self).get(key)
+    }
+
+    #[inline]
+    fn each<'c>(&'c self, most: usize, take: Take<'_, 'c>) -> bool {
+        (**self).each(most, take)
     }
 }
 
@@ -115,7 +152,7 @@ impl<C: Context + ?Sized> Context for &C {
 /// # Ok::<(), Error>(())
 /// ```
 pub fn format(format: &str, context: &(impl Context + ?Sized)) -> Result<String> {
-    text(format, &|name| context.get(name))
+    text(format, &context)
 }
 
 /// Writes the text of a format over a context, up to its first fault.
@@ -136,7 +173,7 @@ pub fn write(
     format: &str,
     context: &(impl Context + ?Sized),
 ) -> Result<()> {
-    let (text, result) = beginning(format, &|name| context.get(name));
+    let (text, result) = beginning(format, &context);
     match out.write_str(&text) {
         Ok(()) => result,
         Err(error) => Err(Error::Fmt(error, 0)),
@@ -163,7 +200,7 @@ pub fn write(
 /// assert!(check("{name}: {items:i({nome})}", &example).is_err());
 /// ```
 pub fn check(format: &str, context: &(impl Context + ?Sized)) -> Result<()> {
-    let row = Row::of(format, &|name| context.get(name))?;
+    let row = Row::of(format, &context)?;
     let mut room = quick::room_for(format);
     let answer = row.lend(|fields, items| sys::check(format, fields, items, &mut room));
     outcome(&answer, format, &room)
@@ -192,7 +229,7 @@ pub fn explain(
     format: &str,
     context: &(impl Context + ?Sized),
 ) -> Option<String> {
-    let row = match Row::of(format, &|name| context.get(name)) {
+    let row = match Row::of(format, &context) {
         Ok(row) => row,
         Err(error) => return Some(format!("{name}: {error}")),
     };
@@ -264,10 +301,10 @@ fn outcome(answer: &Answer, format: &str, room: &str) -> Result<()> {
     }
 }
 
-fn text(format: &str, find: Find<'_, '_>) -> Result<String> {
-    match quick::text(format, find) {
+fn text(format: &str, context: &dyn Context) -> Result<String> {
+    match quick::text(format, context) {
         Some(text) => Ok(text),
-        None => whole(format, &Row::of(format, find)?),
+        None => whole(format, &Row::of(format, context)?),
     }
 }
 
@@ -287,11 +324,11 @@ fn whole(format: &str, row: &Row<'_, '_>) -> Result<String> {
 }
 
 /// The text of a row up to its first fault, and the fault.
-fn beginning(format: &str, find: Find<'_, '_>) -> (String, Result<()>) {
-    if let Some(text) = quick::text(format, find) {
+fn beginning(format: &str, context: &dyn Context) -> (String, Result<()>) {
+    if let Some(text) = quick::text(format, context) {
         return (text, Ok(()));
     }
-    let row = match Row::of(format, find) {
+    let row = match Row::of(format, context) {
         Ok(row) => row,
         Err(error) => return (String::new(), Err(error)),
     };

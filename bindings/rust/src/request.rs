@@ -195,7 +195,7 @@ mod tests {
 
     #[test]
     fn each_part_of_a_spec_reaches_std() {
-        let float = Formattable::float(&3.14159);
+        let float = Formattable::float(&3.25159);
         let all = Request {
             alignment: 3,
             sign: 1,
@@ -204,8 +204,8 @@ mod tests {
             precision: 2,
             ..Request::PLAIN
         };
-        assert_eq!(text(float, all), "   +3.14");
-        assert_eq!(text(float, Request { zero: 1, ..all }), "+0003.14");
+        assert_eq!(text(float, all), "   +3.25");
+        assert_eq!(text(float, Request { zero: 1, ..all }), "+0003.25");
         assert_eq!(
             text(
                 float,
@@ -214,7 +214,7 @@ mod tests {
                     ..all
                 }
             ),
-            "+3.14   "
+            "+3.25   "
         );
         assert_eq!(
             text(
@@ -224,9 +224,9 @@ mod tests {
                     ..all
                 }
             ),
-            " +3.14  "
+            " +3.25  "
         );
-        assert_eq!(text(float, Request { slot: 6, ..all }), " +3.14e0");
+        assert_eq!(text(float, Request { slot: 6, ..all }), " +3.25e0");
         let bytes = [10u8, 255];
         let list = Formattable::debug(&bytes);
         let debug = Request {

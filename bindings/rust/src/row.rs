@@ -4,10 +4,7 @@ use crate::known::Known;
 use crate::request::write_value;
 use crate::sys::{self, Bytes, Field, Lent, Request};
 use crate::uses::{Uses, Wanted};
-use crate::{Error, Result};
-
-/// Finds the value of a name in a context.
-pub(crate) type Find<'f, 'c> = &'f dyn Fn(&str) -> Option<Formattable<'c>>;
+use crate::{Context, Error, Result};
 
 /// Bytes that are no UTF-8, for which the library returns the fault of a value that fails.
 const FAILED: &[u8] = b"\xff";
@@ -59,10 +56,10 @@ impl<'f, 'c> Row<'f, 'c> {
     }
 
     /// The values that a format names in a context. A name without a value has no field.
-    pub(crate) fn of(format: &'f str, find: Find<'_, 'c>) -> Result<Self> {
+    pub(crate) fn of(format: &'f str, context: &'c dyn Context) -> Result<Self> {
         let mut row = Row::new(format)?;
         for (name, wanted) in row.uses.names() {
-            if let Some(value) = find(name) {
+            if let Some(value) = context.get(name) {
                 let cell = row.cell(&value, wanted);
                 row.names.push(name);
                 row.fields.push(cell);

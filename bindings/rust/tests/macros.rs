@@ -61,7 +61,7 @@ fn lists() -> Result<(), Error> {
         iformat!("{list:i({}{:?}{:X})(,)}", list: i = both)?,
         "222,111"
     );
-    let all = vec![list![[display, debug, X]: 4, 16, 164]];
+    let all = [list![[display, debug, X]: 4, 16, 164]];
     assert_eq!(
         iformat!("{list:i({} {:?} {:X})(, )}", list: iter = all[0])?,
         "4 4 4, 16 16 10, 164 164 A4"

@@ -120,7 +120,7 @@ fn debug_of_texts_is_that_of_std() {
 #[test]
 fn floats_under_each_spec() {
     let f = [
-        ("f", Formattable::float(&3.14159)),
+        ("f", Formattable::float(&3.25159)),
         ("n", Formattable::float(&-0.5f32)),
     ];
     assert_eq!(
@@ -128,7 +128,7 @@ fn floats_under_each_spec() {
             "{f} {f:.2} {f:8.3} {f:<8.3}| {f:^+8.1}| {f:08.2} {f:e} {f:.1E} {f:?}",
             &f
         ),
-        "3.14159 3.14    3.142 3.142   |   +3.1  | 00003.14 3.14159e0 3.1E0 3.14159"
+        "3.25159 3.25    3.252 3.252   |   +3.3  | 00003.25 3.25159e0 3.3E0 3.25159"
     );
     assert_eq!(
         text("{n:*^9.2} {n:é<6} {n:_>+06} {n:>5} {n:-}", &f),
