@@ -11,73 +11,69 @@ pub(crate) struct Wanted {
     items: Option<usize>,
 }
 
-/// The arguments of a format, by what they are about: a name of the context, or an item of a list.
+/// What an argument is about: an item of a list, by the list's argument, or else a name.
+type About<'f> = (Option<usize>, &'f str);
+
+/// The arguments of a format, by what they are about.
 pub(crate) struct Uses<'f> {
-    format: &'f str,
     arguments: Vec<Argument>,
-    /// The arguments in order of what they are about.
-    order: Vec<usize>,
-    /// Of each argument: the list whose item its empty name stands for, if any.
-    binders: Vec<Option<usize>>,
+    /// What each argument is about, with the argument, in order.
+    order: Vec<(About<'f>, usize)>,
     wanted: Vec<Wanted>,
 }
 
 impl<'f> Uses<'f> {
     pub(crate) fn of(arguments: Vec<Argument>, format: &'f str) -> Self {
-        let mut uses = Uses {
-            format,
-            binders: binders(&arguments),
-            order: (0..arguments.len()).collect(),
+        let binders = binders(&arguments);
+        let mut order = Vec::with_capacity(arguments.len());
+        for (index, argument) in arguments.iter().enumerate() {
+            let about = match &format[argument.name_first..argument.name_end] {
+                "" => (binders[index], ""),
+                name => (None, name),
+            };
+            order.push((about, index));
+        }
+        order.sort_unstable();
+        Uses {
             arguments,
+            order,
             wanted: Vec::new(),
-        };
-        let mut order = std::mem::take(&mut uses.order);
-        order.sort_by_key(|index| uses.about(*index));
-        uses.order = order;
-        uses
-    }
-
-    fn name(&self, index: usize) -> &'f str {
-        let argument = &self.arguments[index];
-        &self.format[argument.name_first..argument.name_end]
-    }
-
-    /// What an argument is about: an item of a list (by its argument), or else a name.
-    fn about(&self, index: usize) -> (Option<usize>, &'f str) {
-        match self.name(index) {
-            "" => (self.binders[index], ""),
-            name => (None, name),
         }
     }
 
     /// The arguments about an item of a list, or about a name.
-    fn users(&self, about: (Option<usize>, &str)) -> &[usize] {
-        let first = self
-            .order
-            .partition_point(|index| self.about(*index) < about);
-        let count = self.order[first..].partition_point(|index| self.about(*index) == about);
-        &self.order[first..first + count]
+    fn users(&self, about: About<'_>) -> Vec<usize> {
+        let first = self.order.partition_point(|(of, _)| *of < about);
+        let users = self.order[first..].iter();
+        users
+            .take_while(|(of, _)| *of == about)
+            .map(|(_, index)| *index)
+            .collect()
     }
 
     /// The names that are looked up in the context, each once, with what is wanted of its value.
     pub(crate) fn names(&mut self) -> Vec<(&'f str, usize)> {
-        let mut names = Vec::with_capacity(self.order.len());
-        let mut next = 0;
-        while let Some(index) = self.order.get(next) {
-            let (None, name) = self.about(*index) else {
-                break;
-            };
-            let users = self.users((None, name)).to_vec();
-            next += users.len();
-            names.push((name, self.add(&users, false)));
+        let mut names: Vec<(&'f str, usize)> = Vec::with_capacity(self.order.len());
+        let mut first = 0;
+        while let Some(((None, name), _)) = self.order.get(first) {
+            let rest = &self.order[first..];
+            let count = rest
+                .iter()
+                .take_while(|(about, _)| *about == (None, *name))
+                .count();
+            let wanted = self.wanted_by(rest[..count].iter().map(|(_, index)| *index), false);
+            names.push((name, self.wanted.len()));
+            self.wanted.push(wanted);
+            first += count;
         }
         names
     }
 
     /// What is wanted of the value of a name.
     pub(crate) fn named(&mut self, name: &str) -> usize {
-        let users = self.users((None, name)).to_vec();
-        self.add(&users, false)
+        let wanted = self.wanted_by(self.users((None, name)), false);
+        self.wanted.push(wanted);
+        self.wanted.len() - 1
     }
 
     pub(crate) fn wanted(&self, wanted: usize) -> &Wanted {
@@ -86,43 +82,45 @@ impl<'f> Uses<'f> {
 
     /// What is wanted of each item of a list of which this is wanted.
     pub(crate) fn items_of(&mut self, wanted: usize) -> usize {
-        if let Some(items) = self.wanted[wanted].items {
+        let lists = &self.wanted[wanted];
+        if let Some(items) = lists.items {
             return items;
         }
-        let lists = std::mem::take(&mut self.wanted[wanted].lists);
-        let users: Vec<usize> = lists
+        let users = lists
+            .lists
             .iter()
-            .flat_map(|list| self.users((Some(*list), "")))
-            .copied()
-            .collect();
-        let is_plain = lists.iter().any(|list| self.arguments[*list].item_end == 0);
-        let items = self.add(&users, is_plain);
-        self.wanted[wanted].lists = lists;
+            .flat_map(|list| self.users((Some(*list), "")));
+        let is_plain = lists
+            .lists
+            .iter()
+            .any(|list| self.arguments[*list].item_end == 0);
+        let items = self.wanted_by(users, is_plain);
+        self.wanted.push(items);
+        let items = self.wanted.len() - 1;
         self.wanted[wanted].items = Some(items);
         items
     }
 
-    /// Adds what these arguments want, and the plain display of an item without a format.
-    fn add(&mut self, users: &[usize], is_plain: bool) -> usize {
-        let mut requests = Vec::with_capacity(users.len());
+    /// What these arguments want, and the plain display of an item without a format.
+    fn wanted_by(&self, users: impl IntoIterator<Item = usize>, is_plain: bool) -> Wanted {
+        let mut requests = Vec::new();
         let mut lists = Vec::new();
         if is_plain {
             requests.push(Request::PLAIN);
         }
         for index in users {
-            let request = self.arguments[*index].request;
+            let request = self.arguments[index].request;
             if request.slot == ITER {
-                lists.push(*index);
+                lists.push(index);
             } else if !requests.contains(&request) {
                 requests.push(request);
             }
         }
-        self.wanted.push(Wanted {
+        Wanted {
             requests,
             lists,
             items: None,
-        });
-        self.wanted.len() - 1
+        }
     }
 }
 
