@@ -16,8 +16,11 @@ enum Cell<'c> {
     Known(Known<'c>, u32),
     /// Texts, from one up to another.
     Lent(usize, usize),
-    /// Items, from one up to another.
-    List(usize, usize),
+    /// Items, from one up to another, and texts for other slots.
+    List {
+        items: (usize, usize),
+        texts: (usize, usize),
+    },
 }
 
 /// A text that was made for a request: where it lies, or none if the value failed.
@@ -110,30 +113,39 @@ impl<'f, 'c> Row<'f, 'c> {
 
     /// The field of a value of which this is wanted.
     fn cell(&mut self, value: &Formattable<'c>, wanted: usize) -> Cell<'c> {
-        let (known, covered) = value.known();
-        let escapes = known.is_past_ascii();
         let Wanted {
             requests, lists, ..
         } = self.uses.wanted(wanted);
         if let (false, Some(list)) = (lists.is_empty(), value.list()) {
-            let items = self.uses.items_of(wanted);
+            let texts = self.make(value, wanted);
             let first = self.reserved;
             self.reserved += list.len();
-            self.lists.push((list, items));
-            return Cell::List(first, self.reserved);
+            self.lists.push((list, self.uses.items_of(wanted)));
+            return Cell::List {
+                items: (first, self.reserved),
+                texts,
+            };
         }
+        let (known, covered) = value.known();
+        let is_escaped = value.is_escaped();
         let is_known = |request: &Request| {
-            value.is_known_under(request.slot) && !(escapes && request.slot == slot::DEBUG)
+            value.is_known_under(request.slot) && !(is_escaped && request.slot == slot::DEBUG)
         };
         if requests.iter().all(is_known) {
             return Cell::Known(known, covered);
         }
+        let (first, end) = self.make(value, wanted);
+        Cell::Lent(first, end)
+    }
+
+    /// Makes the texts of a value that are wanted, and returns where they are.
+    fn make(&mut self, value: &Formattable<'c>, wanted: usize) -> (usize, usize) {
         let first = self.made.len();
+        let requests = &self.uses.wanted(wanted).requests;
         for request in requests.iter().filter(|request| value.has(request.slot)) {
-            let made = make(&mut self.texts, value, request);
-            self.made.push(made);
+            self.made.push(make(&mut self.texts, value, request));
         }
-        Cell::Lent(first, self.made.len())
+        (first, self.made.len())
     }
 
     /// Calls with the fields and the items.
@@ -180,6 +192,6 @@ fn field<'a>(cell: &Cell<'a>, lent: &'a [Lent<'a>]) -> Field<'a> {
         Cell::Known(_, 0) => Field::NOTHING,
         Cell::Known(known, slots) => known.field(slots),
         Cell::Lent(first, end) => Field::lending(&lent[first..end]),
-        Cell::List(first, end) => Field::list(first, end),
+        Cell::List { items, texts } => Field::list(items.0, items.1, &lent[texts.0..texts.1]),
     }
 }

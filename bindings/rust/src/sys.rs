@@ -173,12 +173,15 @@ impl<'a> Field<'a> {
         }
     }
 
-    /// The items from `first` up to `end`.
-    pub(crate) const fn list(first: usize, end: usize) -> Self {
+    /// The items from `first` up to `end`, and the texts that were made of the value for other slots.
+    pub(crate) fn list(first: usize, end: usize, lent: &'a [Lent<'a>]) -> Self {
+        let masks = lent.iter().map(|lent| 1 << lent.request.slot);
         Field {
             first,
             end,
-            ..Field::of(kind::LIST)
+            kind: kind::LIST,
+            slots: masks.fold(0, |slots, mask: u32| slots | mask),
+            ..Field::lending(lent)
         }
     }
 

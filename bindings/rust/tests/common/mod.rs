@@ -1,5 +1,7 @@
 //! What the tests share.
 #![allow(dead_code)]
+pub mod reader;
+
 use interpolator::{format, write, Context, Error, Formattable};
 use std::collections::HashMap;
 
