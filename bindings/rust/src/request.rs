@@ -49,12 +49,7 @@ pub(crate) fn write_value(
         value,
         slot: request.slot,
     };
-    if *request
-        == (Request {
-            slot: request.slot,
-            ..Request::PLAIN
-        })
-    {
+    if request.is_plain() {
         return write!(out, "{shown}");
     }
     if request.width > MOST || request.precision > MOST {

@@ -66,6 +66,15 @@ impl Request {
         width: 0,
         precision: 0,
     };
+
+    /// Whether it has a trait alone.
+    pub(crate) fn is_plain(&self) -> bool {
+        *self
+            == Request {
+                slot: self.slot,
+                ..Request::PLAIN
+            }
+    }
 }
 
 /// A text that was made for a request.
