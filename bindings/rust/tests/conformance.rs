@@ -6,39 +6,10 @@
 mod common;
 
 use common::reader::{self, Row, Slots, View};
+use common::{Failed, Own, Plain};
 use interpolator::{check, format, iwriteln, write, Error, Formattable};
 use std::collections::HashMap;
-use std::fmt::{self, Binary, Debug, Display, LowerExp, LowerHex, Octal, UpperExp, UpperHex};
-
-/// A value that the crate does not know, and that is written as the one in it.
-struct Own<T>(T);
-
-/// A text that is written as it is.
-struct Plain(String);
-
-/// A value that fails.
-struct Failed;
-
-macro_rules! traits {
-    ($($name:ident)*) => {$(
-        impl<T: $name> $name for Own<T> {
-            fn fmt(&self, f: &mut fmt::Formatter<'_>) -> fmt::Result {
-                self.0.fmt(f)
-            }
-        }
-        impl $name for Plain {
-            fn fmt(&self, f: &mut fmt::Formatter<'_>) -> fmt::Result {
-                f.write_str(&self.0)
-            }
-        }
-        impl $name for Failed {
-            fn fmt(&self, _: &mut fmt::Formatter<'_>) -> fmt::Result {
-                Err(fmt::Error)
-            }
-        }
-    )*};
-}
-traits! { Binary Debug Display LowerExp LowerHex Octal UpperExp UpperHex }
+use std::fmt::{Binary, Debug, Display, LowerExp, LowerHex, Octal, UpperExp, UpperHex};
 
 /// The values of a test live as long as the program.
 fn kept<T>(value: T) -> &'static T {

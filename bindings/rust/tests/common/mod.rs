@@ -4,6 +4,7 @@ pub mod reader;
 
 use interpolator::{format, write, Context, Error, Formattable};
 use std::collections::HashMap;
+use std::fmt::{self, Binary, Debug, Display, LowerExp, LowerHex, Octal, UpperExp, UpperHex};
 
 pub type Pairs<'p, 'a> = &'p [(&'a str, Formattable<'a>)];
 
@@ -32,3 +33,33 @@ pub fn fault(format_text: &str, context: &impl Context) -> (String, Error) {
     );
     (out, error)
 }
+
+/// A value that the crate does not know, and that is written as the one in it.
+pub struct Own<T>(pub T);
+
+/// A text that is written as it is.
+pub struct Plain(pub String);
+
+/// A value that fails.
+pub struct Failed;
+
+macro_rules! traits {
+    ($($name:ident)*) => {$(
+        impl<T: $name> $name for Own<T> {
+            fn fmt(&self, f: &mut fmt::Formatter<'_>) -> fmt::Result {
+                self.0.fmt(f)
+            }
+        }
+        impl $name for Plain {
+            fn fmt(&self, f: &mut fmt::Formatter<'_>) -> fmt::Result {
+                f.write_str(&self.0)
+            }
+        }
+        impl $name for Failed {
+            fn fmt(&self, _: &mut fmt::Formatter<'_>) -> fmt::Result {
+                Err(fmt::Error)
+            }
+        }
+    )*};
+}
+traits! { Binary Debug Display LowerExp LowerHex Octal UpperExp UpperHex }
