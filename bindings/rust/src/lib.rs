@@ -1,5 +1,5 @@
-//! Format strings at run time, with the API of the crate `interpolator` 0.5.0, over a formatter that is
-//! proved.
+//! Format strings at run time, with the API of the crate `interpolator` 0.5.0, on top of a formatter
+//! that is proved.
 //!
 //! ```
 //! use interpolator::{format, Formattable};
@@ -53,7 +53,7 @@ use sys::{code, Answer};
 
 /// Where a format finds the values of its names.
 ///
-/// It may be asked for a name more than once, and for one whose value is not written in the end.
+/// `get` may be called more than once for a name, and for a name whose value is not written in the end.
 ///
 /// ```
 /// use interpolator::{format, Context, Formattable};
@@ -140,7 +140,7 @@ impl<C: Context + ?Sized> Context for &C {
     }
 }
 
-/// The text of a format over a context, or its first fault.
+/// Returns the text of a format with the values of a context, or its first fault.
 ///
 /// ```
 /// use interpolator::{format, Error, Formattable};
@@ -155,7 +155,7 @@ pub fn format(format: &str, context: &(impl Context + ?Sized)) -> Result<String>
     text(format, &context)
 }
 
-/// Writes the text of a format over a context, up to its first fault.
+/// Writes the text of a format with the values of a context, up to its first fault.
 ///
 /// The text comes to `out` in one piece. If `out` fails, that is [`Error::Fmt`] at place 0.
 ///
@@ -180,11 +180,11 @@ pub fn write(
     }
 }
 
-/// The first fault that a format has by itself, or over a context that is an example of others.
+/// Checks a format against a context that is an example of others, and returns its first fault.
 ///
-/// All of the format is looked at, whether or not it is written over this context: an item format is
-/// tried with each item that the example's list has, and a join whatever the number of items. If it
-/// returns `Ok`, no context fails that resembles the example: one that has, under each name that the
+/// All of the format is checked, whether or not it would be written with this context: an item format
+/// with each item that the example's list has, and a join whatever the number of items. If this returns
+/// `Ok`, no context fails that resembles the example: one that has, under each name that the
 /// format uses, a value of the same type (of texts, numbers, truth values, characters, and lists of
 /// these). A value of another type can still fail by its own `fmt`.
 ///
@@ -206,7 +206,7 @@ pub fn check(format: &str, context: &(impl Context + ?Sized)) -> Result<()> {
     outcome(&answer, format, &room)
 }
 
-/// The fault that [`check`] finds, as a compiler shows it, or none if there is none.
+/// Returns the fault that [`check`] finds, as a compiler shows it, or none if there is none.
 ///
 /// `name` is what the format is called, such as its file, and `first_line` the line of the file at which
 /// it begins.
@@ -246,7 +246,7 @@ pub fn explain(
     })
 }
 
-/// Over which values [`cost`] counts.
+/// The values that [`cost`] counts with.
 #[derive(Debug, Clone, Copy, PartialEq, Eq)]
 pub struct Limits {
     /// The most characters of the text of a value.
@@ -266,7 +266,7 @@ pub struct Cost {
     pub buffered: usize,
 }
 
-/// How much a format can write, over values within limits: its text is never longer.
+/// Returns how much a format can write with values within limits: its text is never longer.
 ///
 /// ```
 /// use interpolator::{cost, Limits};

@@ -84,8 +84,8 @@ macro_rules! list {
     };
 }
 
-/// Returns the text of a format as a `Result<String, Error>`, over the entries that follow it, as in
-/// [`context!`], or over a context: `&context`.
+/// Returns the text of a format as a `Result<String, Error>`, with the values of the entries that
+/// follow it, as in [`context!`], or of a context: `&context`.
 ///
 /// ```
 /// use interpolator::iformat;

@@ -423,7 +423,7 @@ pub(crate) fn write(
     answer
 }
 
-/// The first fault over a row of examples, with its sentence in the room if its capacity is enough.
+/// The first fault with a row of examples, with its sentence in the room if its capacity is enough.
 pub(crate) fn check(
     format: &str,
     fields: &[Field<'_>],
@@ -448,7 +448,7 @@ pub(crate) fn check(
     answer
 }
 
-/// The picture of the first fault over a row of examples, in the room if its capacity is enough.
+/// The picture of the first fault with a row of examples, in the room if its capacity is enough.
 pub(crate) fn explain(
     name: &str,
     first_line: usize,

@@ -80,16 +80,16 @@ fn values_that_are_made_on_the_spot() {
     let text = iformat!("{upper} {lines:i({})(/)} {sum:.1}", upper = name.to_uppercase(),
         lines: iter = list![name.len() + 1, name.repeat(2)], sum = 1.0 + 0.25,);
     assert_eq!(text.unwrap(), "ANN 4/annann 1.2");
-    let mut asked = 0;
+    let mut calls = 0;
     let mut next = || {
-        asked += 1;
-        asked
+        calls += 1;
+        calls
     };
     assert_eq!(
         iformat!("{n}{n:?}", n: [display, debug] = next()).unwrap(),
         "11"
     );
-    assert_eq!(asked, 1);
+    assert_eq!(calls, 1);
 }
 
 fn to_any(out: &mut impl fmt::Write) -> Result<(), Error> {

@@ -21,7 +21,7 @@ pub fn text(format_text: &str, pairs: Pairs<'_, '_>) -> String {
     }
 }
 
-/// The text before the fault of a format over a context, and the fault, which `format` returns too.
+/// The text before the fault of a format, and the fault, which `format` returns too.
 #[track_caller]
 pub fn fault(format_text: &str, context: &impl Context) -> (String, Error) {
     let mut out = String::new();
