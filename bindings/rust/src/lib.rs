@@ -45,7 +45,6 @@ mod uses;
 
 pub use error::{Error, ParseError, Result, Trait};
 pub use formattable::Formattable;
-pub use macros::{items, Interpolate};
 pub use table::{rows, Rows, RowsError};
 
 use row::Row;
@@ -91,8 +90,13 @@ pub trait Context {
 }
 
 /// What takes a name and its value.
+type Take<'t, 'c> = &'t mut dyn FnMut(&'c str, &Formattable<'c>);
+
+/// What the macros name.
 #[doc(hidden)]
-pub type Take<'t, 'c> = &'t mut dyn FnMut(&'c str, &Formattable<'c>);
+pub mod hidden {
+    pub use crate::macros::{items, Interpolate};
+}
 
 impl<K: Borrow<str> + Eq + Hash, S: BuildHasher> Context for HashMap<K, Formattable<'_>, S> {
     #[inline]

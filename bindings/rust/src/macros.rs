@@ -119,11 +119,11 @@ macro_rules! iformat {
 #[macro_export]
 macro_rules! iwrite {
     ($out:expr, $format:expr, &$context:expr $(,)?) => {{
-        use $crate::Interpolate as _;
+        use $crate::hidden::Interpolate as _;
         $out.interpolate($format, &$context)
     }};
     ($out:expr, $format:expr $(, $($entries:tt)*)?) => {{
-        use $crate::Interpolate as _;
+        use $crate::hidden::Interpolate as _;
         $out.interpolate($format, &$crate::context!($($($entries)*)?))
     }};
 }
@@ -142,11 +142,11 @@ macro_rules! iwrite {
 #[macro_export]
 macro_rules! iwriteln {
     ($out:expr, $format:expr, &$context:expr $(,)?) => {{
-        use $crate::Interpolate as _;
+        use $crate::hidden::Interpolate as _;
         $out.interpolate_line($format, &$context)
     }};
     ($out:expr, $format:expr $(, $($entries:tt)*)?) => {{
-        use $crate::Interpolate as _;
+        use $crate::hidden::Interpolate as _;
         $out.interpolate_line($format, &$crate::context!($($($entries)*)?))
     }};
 }
@@ -322,9 +322,9 @@ macro_rules! inner_slots {
         $crate::inner_slots!($value $made.and_upper_exp($value) $($rest)*)
     };
     ($value:ident $made:expr, iter $($rest:tt)*) => {
-        $crate::inner_slots!($value $made.and_iter($crate::items($value)) $($rest)*)
+        $crate::inner_slots!($value $made.and_iter($crate::hidden::items($value)) $($rest)*)
     };
     ($value:ident $made:expr, i $($rest:tt)*) => {
-        $crate::inner_slots!($value $made.and_iter($crate::items($value)) $($rest)*)
+        $crate::inner_slots!($value $made.and_iter($crate::hidden::items($value)) $($rest)*)
     };
 }

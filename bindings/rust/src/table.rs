@@ -1,4 +1,4 @@
-//! A table: one format over many rows.
+//! A table: one format, many rows.
 use std::fmt::{self, Display};
 
 use crate::row::Row;
@@ -53,7 +53,7 @@ pub enum RowsError {
     },
     /// A column or a cell is a list, which a table cannot hold.
     List,
-    /// The first fault: that of the format over the columns, or else of the first row that has one.
+    /// The first fault: that of the format with the columns, or else of the first row that has one.
     Fault {
         /// How many rows come before it.
         row: usize,
@@ -84,7 +84,7 @@ impl std::error::Error for RowsError {
 }
 
 /// Writes a table: the format is read once, checked against an example of each column, and written
-/// over each row of cells.
+/// with each row of cells.
 ///
 /// The cells come row by row. A cell that does not resemble its column's example is a fault of its row,
 /// if the format uses it in a way that it cannot meet.
