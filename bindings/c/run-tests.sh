@@ -72,7 +72,7 @@ Dear Bob,
 ff in hexadecimal
 END
     diff - build/errors <<'END'
-build/messages.txt:2:27: specified value not in context `messages` at 26
+build/messages.txt:2:26: specified value not in context `messages` at 25
   |
 2 | you have {count:>3} new {messages}
   |                         ^^^^^^^^^^

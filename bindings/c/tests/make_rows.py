@@ -209,8 +209,8 @@ def main(files):
                     row[key] = fault_from(words)
                 elif key == "bytes":
                     row[key] = min(int(words[0][1]), 1 << 16)
-                elif key == "room":
-                    raise LeftOut("a room in characters")
+                elif key in ("room", "line"):
+                    raise LeftOut("a room in characters, or a line")
                 elif key == "arguments":
                     row[key] = [int(word[1]) for word in words if word[0] == "word"]
             except (LeftOut, IndexError, ValueError):

@@ -6,6 +6,8 @@
 
 enum { THREADS = 8, TIMES = 2000 };
 
+static const char format[] = "thread {thread}, call {l:i-1..({:>5})}: [{l:i({})(|)}]";
+
 static void *run(void *given) {
   int number = *(int *)given, k;
   size_t *wrong = (size_t *)calloc(1, sizeof *wrong);
@@ -19,8 +21,7 @@ static void *run(void *given) {
     items[0] = interpolator_int("", number);
     items[1] = interpolator_int("", k);
     items[2] = interpolator_int("", 0);
-    got = interpolator_format("thread {thread}, call {l:i-1..({:>5})}: [{l:i({})(|)}]", 55, f, 2, items, 3,
-                              room, sizeof room);
+    got = interpolator_format(format, sizeof format - 1, f, 2, items, 3, room, sizeof room);
     if (got.code != 0 || got.length != (size_t)length || memcmp(room, wanted, got.length) != 0) ++*wrong;
   }
   return wrong;
