@@ -10,7 +10,7 @@ usage='usage: ifmt FORMAT [NAME=TEXT | NAME:=NUMBER | NAME[]=ITEM,ITEM..]'
 here=$(cd "$(dirname "$0")" && pwd)
 name=ifmt
 # the lines of `line_cases`, the examples of README, and the rows of its table
-wanted=35
+wanted=34
 . "$here/../../.ci/cases.sh"
 
 # A text, which goes to the output, with status 0.
