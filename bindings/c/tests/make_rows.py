@@ -1,4 +1,4 @@
-"""Writes the rows of the conformance suite (docs/CONFORMANCE.md) as a table for rows.c.
+"""Writes the rows of the conformance suite (crates/interpolator_vectors/ROWS.md) as a table for rows.c.
 
 usage: make_rows.py FILE.rows ..
 

@@ -1,4 +1,4 @@
-/* Runs the rows of the conformance suite (docs/CONFORMANCE.md) by the C library: each format by
+/* Runs the rows of the conformance suite (crates/interpolator_vectors/ROWS.md) by the C library: each format by
  * interpolator_format and by interpolator_write, in rooms of every size up to the text's; as a sample
  * by interpolator_check; and its arguments. */
 #include "interpolator.h"

@@ -1,4 +1,4 @@
-"""A reader of the conformance suite's files (docs/CONFORMANCE.md), for what Python can express."""
+"""A reader of the conformance suite's files (crates/interpolator_vectors/ROWS.md), for what Python can express."""
 
 from __future__ import annotations
 

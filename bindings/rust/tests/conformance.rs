@@ -1,4 +1,4 @@
-//! The rows of the conformance suite (docs/CONFORMANCE.md) that a Rust program can run: each format by
+//! The rows of the conformance suite (crates/interpolator_vectors/ROWS.md) that a Rust program can run: each format by
 //! `format` and `write`, each sample by `check`, and each printed fault.
 //!
 //! Each format is run twice: with the values as they are, which the library writes, and with values of

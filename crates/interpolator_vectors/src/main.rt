@@ -1,9 +1,8 @@
 //! `interpolator_vectors FILE..`: files of rows, each of which is run by every way there is.
 //!
-//! docs/CONFORMANCE.md says what is in a file, and what is run. A row that fails is reported with
-//! its file and line, what was wanted of it and what came. After the rows of a file come the number
-//! of rows and the number of runs. The exit status is 1 if a row fails, or if a file cannot be
-//! read.
+//! ROWS.md says what is in a file, and what is run. A row that fails is reported with its file and
+//! line, what was wanted of it and what came. After the rows of a file come the number of rows and
+//! the number of runs. The exit status is 1 if a row fails, or if a file cannot be read.
 #![tactic(auto)]
 
 mod arguments;
