@@ -46,18 +46,19 @@ names_are_known() {
     given=$(nm -g --defined-only "$archive" | awk 'NF == 3 {print $3}' | sort | tr '\n' ' ')
     wanted=$(nm -g --undefined-only "$archive" | awk 'NF == 2 {print $2}' | sort -u | tr '\n' ' ')
     echo "gives $given; wants $wanted"
-    [[ $given == 'interpolator_arguments interpolator_check interpolator_cost interpolator_explain interpolator_format interpolator_layout interpolator_rows interpolator_version interpolator_write ' ]]
-    [[ $(printf '%s\n' $wanted | grep -vxE 'rattle_(alloc|realloc|dealloc)|mem(cpy|move|set|cmp)|bcmp|__u(div|mod)ti3' | wc -l) -eq 0 ]]
+    [[ $given == 'interpolator_arguments interpolator_check interpolator_cost interpolator_explain interpolator_format interpolator_layout interpolator_rows interpolator_version interpolator_write ' ]] &&
+        [[ $(printf '%s\n' $wanted | grep -vxE 'rattle_(alloc|realloc|dealloc)|mem(cpy|move|set|cmp)|bcmp|__u(div|mod)ti3' | wc -l) -eq 0 ]]
 }
 
 # The library as a program finds it that is not in this folder.
 installed_copy() {
     local root=$PWD/build/installed
     rm -rf "$root"
-    make --quiet install PREFIX="$root"
-    export PKG_CONFIG_PATH=$root/lib/pkgconfig
-    cc -std=c99 example/catalogue.c $(pkg-config --cflags --libs interpolator) -Wl,-rpath,"$root/lib" -o build/catalogue_installed
-    catalogue build/catalogue_installed
+    make --quiet install PREFIX="$root" &&
+        export PKG_CONFIG_PATH=$root/lib/pkgconfig &&
+        cc -std=c99 example/catalogue.c $(pkg-config --cflags --libs interpolator) \
+            -Wl,-rpath,"$root/lib" -o build/catalogue_installed &&
+        catalogue build/catalogue_installed
 }
 
 # What the example writes of a file with one broken format: to the output the others, to the errors the
@@ -66,17 +67,17 @@ catalogue() {
     printf 'Dear {name},\nyou have {count:>3} new {messages}\n{count:x} in hexadecimal\n' >build/messages.txt
     local status=0
     "$@" build/messages.txt Bob 255 >build/out 2>build/errors || status=$?
-    [[ $status -eq 1 ]]
-    diff - build/out <<'END'
+    diff - build/out <<'END' || return 1
 Dear Bob,
 ff in hexadecimal
 END
-    diff - build/errors <<'END'
+    diff - build/errors <<'END' || return 1
 build/messages.txt:2:26: specified value not in context `messages` at 25
   |
 2 | you have {count:>3} new {messages}
   |                         ^^^^^^^^^^
 END
+    [[ $status -eq 1 ]]
 }
 
 mkdir -p build
