@@ -1,14 +1,15 @@
 -- What words give, one after the other, up to the first that gives nothing.
 use Rattle.std.proofs.Common.{◌≡◌, ◌≢◌, ◌∙◌, refl, sym, ap, subst, ℕ, ℤ, ◌+◌, ◌<◌, ◌↔◌, suc, List}
 use Rattle.std.proofs.Common.{[], ◌∷◌, ◌++◌, length, get_or, take, drop, drop-cons, string_bytes}
-use Rattle.std.proofs.Common.{take-append-drop, Option, None, Some, All}
-use Rattle.std.proofs.lemmas.List.{take_more}
+use Rattle.std.proofs.Common.{map, take-append-drop, Option, None, Some, All}
+use Rattle.std.proofs.lemmas.List.{map-append, take_more}
 use Rattle.std.proofs.lemmas.List.Elements.{All-cons, All-nil}
 use Rattle.std.proofs.lemmas.Slice.Zip.{all_zipped_more}
-use Rattle.std.specs.List.{AllZip, after_first, before_first, slice_split}
+use Rattle.std.specs.List.{after_first, before_first, slice_split}
 use Rattle.std.specs.Prelude.{codes}
 use Rattle.std.specs.declared.string.String.{String}
-use Rattle.strangers.specs.Words.{GivesBy, Gives, IsFirstBad, IsGood, IsGoodBy, IsNumber, Spells}
+use Rattle.strangers.specs.Words.{GiveAll, GivesBy, Gives, IsFirstBad, IsGood, IsGoodBy}
+use Rattle.strangers.specs.Words.{IsNumber, Spells}
 use Rattle.strangers.specs.Words.{is_comma, is_equals, items_of, without}
 use Rattle.strangers.specs.declared.values.Datum.TheVariants.{Text, Number}
 use Rattle.strangers.specs.declared.values.Given.{Given}
@@ -45,39 +46,44 @@ gives_good text word h = (
       (without (codes "[]") (before_first is_equals text)) word h.1,
 )
 
-module _ {Z : Type 0} where
-  all_good : (words : List (String Z)) (read : List Word)
-      → AllZip (λ one word. Gives (string_bytes one) word) words read
-      → All (λ one. IsGood (string_bytes one)) words
-  all_good [] read h = All-nil (λ (one : String Z). IsGood (string_bytes one))
-  all_good (one ∷ words) [] h = absurd h
-  all_good (one ∷ words) (word ∷ read) h =
-      All-cons (λ (x : String Z). IsGood (string_bytes x)) one words
-      (gives_good (string_bytes one) word h.0) (all_good words read h.1)
+all_good : (words : List (List ℕ)) (read : List Word) → GiveAll words read → All IsGood words
+all_good [] read h = All-nil IsGood
+all_good (one ∷ words) [] h = absurd h
+all_good (one ∷ words) (word ∷ read) h =
+    All-cons IsGood one words (gives_good one word h.0) (all_good words read h.1)
+
+module _ {Z : Type 0} (words : List (String Z)) (i : ℕ) (item : String Z)
+    (within : i < length words) (here : item ≡ get_or words i item) (read : List Word)
+    (so_far : GiveAll (map string_bytes (take i words)) read) where
+  abbrev front : List (List ℕ)
+  front = map string_bytes (take i words)
+
+  abbrev back : List (List ℕ)
+  back = map string_bytes (drop (suc i) words)
+
+  cut_here : words ≡ take i words ++ (item ∷ drop (suc i) words)
+  cut_here = sym (take-append-drop i words)
+      ∙ ap (λ rest. take i words ++ rest) (drop-cons words i item within)
+      ∙ ap (λ found. take i words ++ (found ∷ drop (suc i) words)) (sym here)
 
   -- the word at a place, if it gives nothing
-  pub first_bad_at : (words : List (String Z)) (i : ℕ) (item : String Z) → i < length words
-      → item ≡ get_or words i item → (read : List Word)
-      → AllZip (λ one word. Gives (string_bytes one) word) (take i words) read
-      → (text : List ℕ) → text ≡ string_bytes item → ¬ (IsGood (string_bytes item))
-      → IsFirstBad words text
-  first_bad_at words i item within here read so_far text spelled none = record {
-    before = take i words;
-    word = item;
-    after = drop (suc i) words;
-    split = sym (take-append-drop i words)
-        ∙ ap (λ rest. take i words ++ rest) (drop-cons words i item within)
-        ∙ ap (λ found. take i words ++ (found ∷ drop (suc i) words)) (sym here);
-    good = all_good (take i words) read so_far;
-    spelled = sym spelled;
-    none = subst (λ one. ¬ (IsGood one)) (sym spelled) none;
+  pub first_bad_at : (text : List ℕ) → text ≡ string_bytes item → ¬ (IsGood (string_bytes item))
+      → IsFirstBad (map string_bytes words) text
+  first_bad_at text spelled none = rw spelled record {
+    before = front;
+    after = back;
+    split = ap (λ (all : List (String Z)). map string_bytes all) cut_here
+        ∙ map-append string_bytes (take i words) (item ∷ drop (suc i) words);
+    good = all_good front read so_far;
+    none = none;
   }
 
--- one more of each list
-pub zip_more : {A B : Type 0} (xs : List A) (i : ℕ) (x : A) → i < length xs → x ≡ get_or xs i x
-    → (R : A → B → Type 0) (ys : List B) (y : B) → AllZip R (take i xs) ys → R x y
-    → AllZip R (take (i + 1) xs) (ys ++ (y ∷ []))
-zip_more xs i x within here R ys y so_far more =
-    subst (λ front. AllZip R front (ys ++ (y ∷ [])))
-    (sym (take_more xs i x within ∙ ap (λ z. take i xs ++ (z ∷ [])) (sym here)))
-    (all_zipped_more R (take i xs) ys x y so_far more)
+  -- one more word, and what it gives
+  pub one_more : (word : Word) → Gives (string_bytes item) word
+      → GiveAll (map string_bytes (take (i + 1) words)) (read ++ (word ∷ []))
+  one_more word more =
+      subst (λ all. GiveAll all (read ++ (word ∷ [])))
+      (sym (ap (λ (all : List (String Z)). map string_bytes all)
+      (take_more words i item within ∙ ap (λ z. take i words ++ (z ∷ [])) (sym here))
+      ∙ map-append string_bytes (take i words) (item ∷ [])))
+      (all_zipped_more Gives front read (string_bytes item) word so_far more)

@@ -3,3 +3,4 @@ pub mod Values
 pub mod Serving
 pub mod Reading
 pub mod Words
+pub mod Answering

@@ -2,13 +2,12 @@
 -- are bytes.
 use Rattle.std.specs.Prelude.{◌≡◌, ◌⊎◌, ⊤, ℕ, ℤ, pos, neg_ℤ, Bool, ◌==◌, ◌-◌, ◌<◌, List, [], ◌∷◌}
 use Rattle.std.specs.Prelude.{◌++◌, codes, drop, length, map, take, FitsSigned, if◌then◌else◌}
-use Rattle.std.specs.Prelude.{Option, None, Some, string_bytes}
+use Rattle.std.specs.Prelude.{Option, None, Some}
 use Rattle.std.specs.Borrow.{Bor}
 use Rattle.std.specs.Int.{w128}
-use Rattle.std.specs.List.{All, after_first, before_first, position_or_len, slice_split}
+use Rattle.std.specs.List.{All, AllZip, after_first, before_first, position_or_len, slice_split}
 use Rattle.std.specs.Str.{bytes_eq}
 use Rattle.std.specs.Str.Parse.{IsNumeral, digits_value}
-use Rattle.std.specs.declared.string.String.{String}
 use Rattle.strangers.specs.declared.values.Datum.{Datum}
 use Rattle.strangers.specs.declared.values.Datum.TheVariants.{Text, Number}
 use Rattle.strangers.specs.declared.values.Given.{Given}
@@ -105,12 +104,14 @@ abbrev pub IsGood : List ℕ → Type 0
 IsGood text = HasEquals text
     × ArePartsGood (before_first is_equals text) (after_first is_equals text)
 
+-- these words give these values, one each
+abbrev pub GiveAll : List (List ℕ) → List Word → Type 0
+GiveAll words read = AllZip Gives words read
+
 -- the first of the words that gives none
-pub record IsFirstBad {Z : Type 0} (words : List (String Z)) (bad : List ℕ) : Type 0 where
-  pub before : List (String Z)
-  pub word : String Z
-  pub after : List (String Z)
-  pub split : words ≡ before ++ (word ∷ after)
-  pub good : All (λ one. IsGood (string_bytes one)) before
-  pub spelled : string_bytes word ≡ bad
+pub record IsFirstBad (words : List (List ℕ)) (bad : List ℕ) : Type 0 where
+  pub before : List (List ℕ)
+  pub after : List (List ℕ)
+  pub split : words ≡ before ++ (bad ∷ after)
+  pub good : All IsGood before
   pub none : ¬ (IsGood bad)

@@ -6,15 +6,15 @@
 //! with such values: 10000, 1000 and 10000. Put `--` before a format that begins with `--`.
 #![tactic(auto)]
 
+mod answering;
 mod lending;
 mod reading;
 mod serving;
 mod values;
 
+use answering::{Answer, answered};
 use interpolator::Error;
-use reading::{asked_by, words_of};
-use serving::{Count, Refused, served};
-use std::alloc::Global;
+use serving::{Count, Refused};
 use std::process::ExitCode;
 use std::{env, io};
 
@@ -27,15 +27,6 @@ const BAD_USE: u8 = 2;
 
 const NOT_WRITTEN: u8 = 3;
 
-/// What is printed: a text to standard output, with status 0; anything else to standard error.
-#[derive(Drop)]
-enum Answer {
-    Text(String),
-    Refused(Refused),
-    BadWord(String),
-    BadUse,
-}
-
 /// The name of a count, as it is reported.
 fn name_of(count: Count) -> &'static str {
     match count {
@@ -44,22 +35,6 @@ fn name_of(count: Count) -> &'static str {
         Count::Buffered => "buffered characters",
         Count::Text => "characters of a text",
         Count::Items => "items of a list",
-    }
-}
-
-/// Runs a command line.
-fn answered(alloc: Global, line: &[String]) -> Result<Answer, Error> {
-    let Some(asked) = asked_by(line) else {
-        return Ok(Answer::BadUse);
-    };
-    match words_of(alloc, asked.words)? {
-        Err(word) => Ok(Answer::BadWord(String::from_str(alloc, word)?)),
-        Ok(words) => Ok(
-            match served(alloc, &asked.allowed, asked.format, words.as_slice()) {
-                Ok(text) => Answer::Text(text),
-                Err(refused) => Answer::Refused(refused),
-            },
-        ),
     }
 }
 

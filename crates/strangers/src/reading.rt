@@ -1,11 +1,10 @@
 //! The arguments of the command line: limits, a format, and words.
 ghost use Rattle.std.specs.Prelude.{◌≡◌, ◌↔◌, ℤ, IfOk, MatchOption, MatchResult, Some, map};
 ghost use Rattle.std.specs.Prelude.{string_bytes};
-ghost use Rattle.std.specs.List.{AllZip};
 ghost use Rattle.std.specs.Option.{option_map};
 ghost use Rattle.strangers.specs.Reading.{as_asked, asked_by, is_flag, limit_of, with_flag};
 ghost use Rattle.strangers.specs.Reading.{with_limit};
-ghost use Rattle.strangers.specs.Words.{ArePartsGood, Gives, IsFirstBad, IsGood, IsNumber};
+ghost use Rattle.strangers.specs.Words.{ArePartsGood, GiveAll, Gives, IsFirstBad, IsGood, IsNumber};
 ghost use Rattle.strangers.specs.Words.{PartsGive, Spells, are_texts, items_of, text_in};
 ghost use Rattle.strangers.specs.Words.{texts_of, without};
 
@@ -231,8 +230,8 @@ fn word_of(alloc: Global, word: &str) -> Result<Option<Word<'_>>, AllocError>
 /// Memory ran out.
 pub fn words_of(alloc: Global, words: &[String]) -> Result<Result<Vec<Word<'_>>, &str>, AllocError>
     ensures { IfOk result (λ found. MatchResult found
-        (λ read. AllZip (λ one word. Gives (string_bytes one) word) words.now read.items)
-        (λ bad. IsFirstBad words.now bad.now)) }
+        (λ read. GiveAll (map string_bytes words.now) read.items)
+        (λ bad. IsFirstBad (map string_bytes words.now) bad.now)) }
 {
     let mut read = Vec::with_capacity(alloc, words.len())?;
     for word in words {
