@@ -1,4 +1,4 @@
--- What a line's flags set, and what it asks for.
+-- The number after a flag, and the limits that the rest of a line is read with.
 use Rattle.std.proofs.Common.{◌≡◌, refl, sym, ap, ℕ, ◌<◌, ◌^◌, ltb-true, lt-ltb, Bool, true, false}
 use Rattle.std.proofs.Common.{arith, nat_lt, List, [], ◌∷◌, map}
 use Rattle.std.proofs.Common.{Option, None, Some, Result, Ok, Err, string_bytes}

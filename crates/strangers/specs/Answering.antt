@@ -8,12 +8,12 @@ use Rattle.strangers.specs.declared.answering.Answer.{Answer}
 use Rattle.strangers.specs.declared.answering.Answer.TheVariants.{Text, Refused, BadWord, BadUse}
 use Rattle.strangers.specs.declared.values.Word.{Word}
 
--- a line asks for this, and its words give these values
+-- a line has this request, and its words give these values
 abbrev pub IsRead : List (List ℕ) → Asked → List Word → Type 0
 IsRead line asked read = (asked_by line ≡ Some asked) × GiveAll asked.2 read
 
--- the answer: the text of the format that the line asks for, with what its words give and within its
--- limits, or why that is rejected; or its first word that gives nothing; or that it asks for nothing
+-- the answer to a line: the text of its format, with what its words give and within its limits; or
+-- why that is rejected; or its first word that gives nothing; or that it has no request
 abbrev pub IsAnswer : List (List ℕ) → Answer → Type 0
 IsAnswer line (Text text) =
     (asked : Asked) × (read : List Word) × IsRead line asked read

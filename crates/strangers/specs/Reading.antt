@@ -86,10 +86,10 @@ ends_flags text = bytes_eq text (codes "--")
 abbrev pub is_flag : List ℕ → Bool
 is_flag text = starts_with eqb text (codes "--")
 
--- what a command line asks for, if limits stand so far: the first argument is the format, or `--` is
--- and the format comes next, or a flag is and a number comes next, with which the rest is read. A
--- flag that is set again has its last number. Nothing is asked for without a format, nor with a flag
--- that is not known or has no number
+-- the request of a command line that is read with these limits so far. Its first argument is the
+-- format; or it is `--`, and the format is next; or it is a flag, its number is next, and the rest is
+-- read with that limit changed. A flag that is repeated has its last number. There is no request
+-- without a format, nor with a flag that is unknown or has no number
 abbrev pub asked_from : Allowed → List (List ℕ) → Option Asked
 asked_from allowed [] = None
 asked_from allowed (first ∷ []) =
@@ -100,6 +100,6 @@ asked_from allowed (first ∷ second ∷ rest) =
     then option_and_then (λ changed. asked_from changed rest) (with_flag allowed first second)
     else Some (allowed, first, second ∷ rest)
 
--- what a command line asks for
+-- the request of a command line, if it has one
 abbrev pub asked_by : List (List ℕ) → Option Asked
 asked_by line = asked_from usual line
