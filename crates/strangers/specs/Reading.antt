@@ -87,8 +87,8 @@ abbrev pub is_flag : List ℕ → Bool
 is_flag text = starts_with eqb text (codes "--")
 
 -- the request of a command line that is read with these limits so far. Its first argument is the
--- format; or it is `--`, and the format is next; or it is a flag, its number is next, and the rest is
--- read with that limit changed. A flag that is repeated has its last number. There is no request
+-- format; or it is `--`, and the format is next; or it is a flag, its number is next, and the rest
+-- is read with that limit changed. A flag that is repeated has its last number. There is no request
 -- without a format, nor with a flag that is unknown or has no number
 abbrev pub asked_from : Allowed → List (List ℕ) → Option Asked
 asked_from allowed [] = None

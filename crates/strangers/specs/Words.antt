@@ -1,5 +1,5 @@
--- What words give, by the rule of `ifmt`: a name, and a text, a number or the items of a list. Texts
--- are bytes.
+-- What words give, by the rule of `ifmt`: a name, and a text, a number or the items of a list.
+-- Texts are bytes.
 use Rattle.std.specs.Prelude.{◌≡◌, ◌⊎◌, ⊤, ℕ, ℤ, pos, neg_ℤ, Bool, ◌==◌, ◌-◌, ◌<◌, List, [], ◌∷◌}
 use Rattle.std.specs.Prelude.{◌++◌, codes, drop, length, map, take, FitsSigned, if◌then◌else◌}
 use Rattle.std.specs.Prelude.{Option, None, Some}
@@ -74,8 +74,8 @@ abbrev pub IsText : List ℕ → Given → Type 0
 IsText text (One value) = text_in value ≡ Some text
 IsText text (Many values) = ⊥
 
--- what a word gives by the parts around its first `=`, and by the first part without `:` and without
--- `[]` at its end: a number, the items of a list, or else a text
+-- what a word gives by the parts around its first `=`, and by the first part without `:` and
+-- without `[]` at its end: a number, the items of a list, or else a text
 abbrev pub GivesBy : (left right : List ℕ) → (number list : Option (List ℕ)) → Word → Type 0
 GivesBy left right (Some name) list word = (word.name.now ≡ name) × IsNumber right word.given
 GivesBy left right None (Some name) word = (word.name.now ≡ name) × AreItems right word.given
