@@ -18,9 +18,9 @@ use Rattle.interpolator_border.specs.declared.answer.Failure.TheVariants as fail
 use Rattle.interpolator_border.specs.declared.field.Field.{Field}
 use Rattle.interpolator_border.specs.Answers.{FormatAnswers, Means, ToldBy, WritesRow}
 use Rattle.interpolator_border.specs.Answers.{code_of_answer}
-use Rattle.interpolator_border.specs.Answers.{row_means, FailsBy, Faulty, ToldFailure, Wrote}
+use Rattle.interpolator_border.specs.Answers.{row_means, FailsBy, Faulty, ToldFailure}
 use Rattle.interpolator_border.specs.Answers.{Told, TellsFault, TellsResult, WriteAnswers, text_answer}
-use Rattle.interpolator_border.specs.Fields.{AreTrees, all_lie_within, field_slots, lie_in_levels}
+use Rattle.interpolator_border.specs.Fields.{all_lie_within, field_slots, lie_in_levels}
 use Rattle.interpolator_border.specs.Fields.{lists_lie}
 
 module _ {fields items : List Field} {format : List ℕ} where

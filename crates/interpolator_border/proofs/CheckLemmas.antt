@@ -1,8 +1,8 @@
 -- What is told of a format that was checked.
-use Rattle.std.proofs.Common.{◌≡◌, ◌⊎◌, inl, inr, ◌∙◌, sym, ap, refl, subst, List, [], ◌∷◌, ℕ, Option, None}
+use Rattle.std.proofs.Common.{◌≡◌, inl, inr, ◌∙◌, sym, ap, refl, subst, List, [], ◌∷◌, ℕ, None}
 use Rattle.std.proofs.Common.{Some, Bool, true, false, map, Result, Ok, Err, length}
 use Rattle.std.specs.Prelude.{MatchResult}
-use Rattle.std.specs.Str.{chars, is_utf8}
+use Rattle.std.specs.Str.{is_utf8}
 use Rattle.interpolator_syntax.specs.Faults.{Answer, Fault, fault, no_memory, answer_of, result_answer}
 use Rattle.interpolator_syntax.specs.declared.error.Error.{Error}
 use Rattle.interpolator_eval.specs.Slots.{Slots}
@@ -14,9 +14,9 @@ use Rattle.interpolator_border.specs.declared.answer.Failure.TheVariants as fail
 use Rattle.interpolator_border.specs.declared.field.Field.{Field}
 use Rattle.interpolator_border.specs.Answers.{Told, ToldBy, ToldFailure, code_of_answer, fault_answer}
 use Rattle.interpolator_border.specs.Checks.{CheckAnswers, Checked, CheckedBytes, ExplainAnswers}
-use Rattle.interpolator_border.specs.Checks.{Faults, PictureMade, Pictured, TellsFirst}
-use Rattle.interpolator_border.specs.Checks.{ToldPicture, row_faults}
-use Rattle.interpolator_border.specs.Fields.{AreTrees, all_lie_within, field_slots, lie_in_levels}
+use Rattle.interpolator_border.specs.Checks.{Faults, PictureMade, Pictured}
+use Rattle.interpolator_border.specs.Checks.{row_faults}
+use Rattle.interpolator_border.specs.Fields.{all_lie_within, field_slots, lie_in_levels}
 use Rattle.interpolator_border.specs.Fields.{lists_lie}
 use Rattle.interpolator_border.proofs.AnswerLemmas.{lies_as, out_of_memory}
 

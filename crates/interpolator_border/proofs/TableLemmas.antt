@@ -1,7 +1,7 @@
 -- What is told of a table.
-use Rattle.std.proofs.Common.{arith, ◌≡◌, ◌⊎◌, inl, inr, ◌∙◌, sym, ap, refl, subst, List, [], ◌∷◌, ◌++◌, ℕ, zero, suc}
-use Rattle.std.proofs.Common.{Option, None, Some, Bool, true, false, map, Result, Ok, Err, length, ◌+◌}
-use Rattle.std.proofs.Common.{◌*◌, ◌<◌, ◌≤◌, option_map}
+use Rattle.std.proofs.Common.{arith, ◌≡◌, ◌⊎◌, inl, inr, ◌∙◌, sym, ap, refl, subst, List, ℕ, zero, suc}
+use Rattle.std.proofs.Common.{Some, true, Err, length, ◌+◌}
+use Rattle.std.proofs.Common.{◌*◌, ◌<◌, ◌≤◌}
 use Rattle.std.proofs.lemmas.Nat.{mul-le}
 use Rattle.std.proofs.lemmas.List.{length-append}
 use Rattle.std.specs.Borrow.{Bor}
@@ -23,10 +23,9 @@ use Rattle.interpolator_border.specs.Answers.{Told, ToldBy, ToldFailure, fault_a
 use Rattle.interpolator_border.specs.Answers.{text_answer}
 use Rattle.interpolator_syntax.specs.FaultTexts.{answer_text}
 use Rattle.interpolator_border.specs.Fields.{field_shows}
-use Rattle.interpolator_border.specs.Tables.{ColumnFaults, ColumnsFail, FailsIn, Prepares, RowsAnswers}
+use Rattle.interpolator_border.specs.Tables.{ColumnFaults, FailsIn, Prepares, RowsAnswers}
 use Rattle.interpolator_border.specs.Tables.{AllRows, Faultless, Pairs, TellsRows}
 use Rattle.interpolator_border.specs.Tables.{rows_ends, rows_text}
-use Rattle.interpolator.specs.Prepared.Rows.{PreparedFormat}
 use Rattle.interpolator_border.proofs.AnswerLemmas.{out_of_memory, which_fault}
 
 module _ (names : List (List ℕ)) (format : List ℕ) (width : ℕ) (values : List (Formattable Field)) where

@@ -1,15 +1,14 @@
 -- What a caller that is not Rattle is told.
-use Rattle.std.specs.Prelude.{◌≡◌, ◌≤◌, ◌⊎◌, ◌<◌, ◌++◌, ℕ, List, None, Some, Option, length, take, drop}
+use Rattle.std.specs.Prelude.{◌≡◌, ◌≤◌, ◌⊎◌, ◌<◌, ℕ, List, None, Some, Option, length, take, drop}
 use Rattle.std.specs.Prelude.{Bool, Result, Ok, Err, MatchResult, string_bytes, true, false, option_map, []}
 use Rattle.std.specs.Prelude.{encode_utf8_all, unwrap_or}
 use Rattle.std.specs.Str.{chars, is_utf8}
 use Rattle.std.specs.declared.string.String.{String}
 use Rattle.interpolator_syntax.specs.Faults.{Answer, Fault, fault, no_memory, answer_of, answer_place}
 use Rattle.interpolator_syntax.specs.Faults.{missing_trait_impl, fmt, parse, missing_value}
-use Rattle.interpolator_syntax.specs.Faults.{unsupported_option, result_answer}
+use Rattle.interpolator_syntax.specs.Faults.{unsupported_option}
 use Rattle.interpolator_syntax.specs.FaultTexts.{answer_text}
 use Rattle.interpolator_syntax.specs.At.{outermost, text_of}
-use Rattle.interpolator_syntax.specs.declared.error.Error.{Error}
 use Rattle.interpolator_render.specs.Written.{Written}
 use Rattle.interpolator_eval.specs.Slots.{Slots}
 use Rattle.interpolator_eval.specs.Meaning.Environments.{environment}

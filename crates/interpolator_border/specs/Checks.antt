@@ -1,9 +1,8 @@
 -- What is wrong with a format over a row of examples.
 use Rattle.std.specs.Prelude.{◌≡◌, ◌⊎◌, ℕ, List, None, Some, Bool, true, false, length}
-use Rattle.std.specs.Prelude.{Result, Ok, Err, Option, string_bytes}
+use Rattle.std.specs.Prelude.{Result, Ok, Err, string_bytes}
 use Rattle.std.specs.declared.string.String.{String}
 use Rattle.std.specs.Str.{chars, is_utf8}
-use Rattle.std.specs.Borrow.{Bor}
 use Rattle.interpolator_syntax.specs.At.{outermost}
 use Rattle.interpolator_syntax.specs.Faults.{Answer, Fault, fault, no_memory, answer_of}
 use Rattle.interpolator_eval.specs.Slots.{Slots}

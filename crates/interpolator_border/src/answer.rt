@@ -1,7 +1,7 @@
 //! What a call returns.
 ghost use Rattle.std.specs.Prelude.{◌≡◌, ◌<◌, length};
 ghost use Rattle.interpolator_border.specs.Answers.{Told, ToldBy, ToldFailure, code_of_answer};
-ghost use Rattle.interpolator_border.specs.Answers.{detail_of_answer, fault_answer};
+ghost use Rattle.interpolator_border.specs.Answers.{detail_of_answer, fault_answer, text_answer};
 ghost use Rattle.interpolator_syntax.specs.Faults.{answer_of};
 
 use crate::request::slot_code;
@@ -91,7 +91,7 @@ pub(crate) fn put(room: &mut [u8], text: &[u8])
 
 /// All went well, and so many bytes are the text's.
 pub(crate) fn well(length: usize) -> Answer
-    ensures { result ≡ record { code = 0; detail = 0; place = 0; length = length; message = 0; row = 0 } }
+    ensures { result ≡ text_answer length }
 {
     Answer {
         code: 0,
@@ -105,7 +105,7 @@ pub(crate) fn well(length: usize) -> Answer
 
 /// A code alone.
 pub(crate) fn bare(code: u32) -> Answer
-    ensures { result ≡ record { code = code; detail = 0; place = 0; length = 0; message = 0; row = 0 } }
+    ensures { result ≡ record (text_answer 0) { code = code } }
 {
     Answer { code, ..well(0) }
 }
@@ -191,7 +191,8 @@ pub(crate) fn told_full(place: usize, length: usize, sentence: &mut [u8]) -> Ans
 /// A fault, with this text for its sentence.
 pub(crate) fn pictured(error: &Error, picture: &str, room: &mut [u8]) -> Answer
     ensures room { Told picture.now room.old room.new }
-    ensures answer { result ≡ record (fault_answer (answer_of error.now) 0) { message = length picture.now } }
+    ensures answer { result
+        ≡ record (fault_answer (answer_of error.now) 0) { message = length picture.now } }
 {
     put(room, picture.as_bytes());
     fault_answer(error, 0, picture.len())

@@ -14,8 +14,8 @@ use interpolator::laws::samples::a_checked_format_means_no_fault;
 use interpolator::{Error, Formattable, Template};
 use std::alloc::Global;
 
-/// The first fault of a format over a row of examples, if what the items stand for is known from the
-/// item `left` on.
+/// The first fault of a format over a row of examples, if what the items stand for is known from
+/// the item `left` on.
 #[tactic(auto, using(crate::proofs::CheckLemmas::checked_known, crate::proofs::LevelLemmas::next_known, crate::proofs::LevelLemmas::lie_no_deeper,))]
 fn check_levels<'a>(
     alloc: Global,
@@ -28,7 +28,8 @@ fn check_levels<'a>(
 ) -> Result<(), Failure>
     requires known { let trees = map slots_of known.now in
         drop left trees ≡ drop left (map (field_slots trees) items.now) }
-    ensures { Checked (lie_in_levels levels items.now left) fields.now items.now template.now result }
+    ensures { Checked (lie_in_levels levels items.now left) fields.now items.now template.now
+        result }
 {
     if left == 0 {
         let row = Row {

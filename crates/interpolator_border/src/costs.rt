@@ -25,7 +25,8 @@ pub struct CostAnswer {
 
 /// No cost, and a code.
 fn uncounted(code: u32) -> CostAnswer
-    ensures { result ≡ record { code = code; detail = 0; characters = 0; pieces = 0; buffered = 0 } }
+    ensures { result
+        ≡ record { code = code; detail = 0; characters = 0; pieces = 0; buffered = 0 } }
 {
     CostAnswer {
         code,

@@ -38,8 +38,8 @@ fn picture(
     }
 }
 
-/// The fault that [`check`](crate::check) finds, as a compiler shows it, for a format that begins at
-/// a line of a file of this name. After code 0 there is none.
+/// The fault that [`check`](crate::check) finds, as a compiler shows it, for a format that begins
+/// at a line of a file of this name. After code 0 there is none.
 #[tactic(auto, using(crate::proofs::CheckLemmas::explains, crate::proofs::CheckLemmas::picture_fails))]
 pub fn explain<'a>(
     alloc: Global,
@@ -50,7 +50,8 @@ pub fn explain<'a>(
     items: &'a [Field<'a>],
     room: &mut [u8],
 ) -> Answer
-    ensures { ExplainAnswers name.now first_line fields.now items.now format.now room.old room.new result }
+    ensures { ExplainAnswers name.now first_line fields.now items.now format.now room.old room.new
+        result }
 {
     match check_row(alloc, format, fields, items) {
         Ok(()) => well(0),

@@ -79,8 +79,8 @@ pub struct Field<'a> {
     pub slots: u32,
     /// A signed number, or the upper half of one of 128 bits.
     pub number: i64,
-    /// An unsigned number, a truth value (0 is false), the code of a character, or the lower half of a
-    /// number of 128 bits.
+    /// An unsigned number, a truth value (0 is false), the code of a character, or the lower half of
+    /// a number of 128 bits.
     pub natural: u64,
     /// The upper half of an unsigned number of 128 bits.
     pub upper: u64,

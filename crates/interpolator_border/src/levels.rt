@@ -1,7 +1,8 @@
 //! Lists in lists: where they may lie, and what the items stand for, level by level.
 ghost use Rattle.std.specs.Prelude.{◌≡◌, if◌then◌else◌, map, IfOk};
 ghost use Rattle.interpolator_eval.specs.Slots.{slots_of};
-ghost use Rattle.interpolator_border.specs.Fields.{all_lie_within, all_within, begins_before, field_slots};
+ghost use Rattle.interpolator_border.specs.Fields.{all_lie_within, all_within, begins_before};
+ghost use Rattle.interpolator_border.specs.Fields.{field_slots};
 ghost use Rattle.interpolator_border.specs.Fields.{lies_within, settled};
 
 use crate::field::{Field, LIST};

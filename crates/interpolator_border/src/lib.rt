@@ -1,8 +1,9 @@
-//! The formatter for callers that are not Rattle, over what C can pass: bytes, numbers, and slices of
-//! structs of these.
+//! The formatter for callers that are not Rattle, over what C can pass: bytes, numbers, and slices
+//! of structs of these.
 //!
-//! Each call is a function over slices, with its contract; `interpolator_c` exports them. A [`Field`]
-//! is a value under a name, or an item of a list. [`Answer`] is what a call returns.
+//! Each call is a function over slices, with its contract; `interpolator_c` exports them. A
+//! [`Field`] is a value under a name, or an item of a list. [`Answer`] is what a call returns.
+//! `bindings/c/interpolator.h` says all that a caller has to know of each, in words.
 #![tactic(auto)]
 
 mod answer;

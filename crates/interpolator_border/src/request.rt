@@ -6,13 +6,13 @@ ghost use Rattle.interpolator_border.specs.Requests.{request_of, sign_code, slot
 
 use interpolator::{Alignment, HexDebug, Sign, Spec, Trait};
 
-/// How an argument wants its value written: under which trait, and with which fill, flags, width and
-/// precision.
+/// How an argument wants its value written: under which trait, and with which fill, flags, width
+/// and precision.
 #[repr(C)]
 #[derive(Clone, Copy)]
 pub struct Request {
-    /// The trait: 0 display, 1 debug, 2 binary, 3 octal, 4 and 5 hexadecimal, 6 and 7 exponent form,
-    /// in lower and upper case; 8 a list.
+    /// The trait: 0 display, 1 debug, 2 binary, 3 octal, 4 and 5 hexadecimal, 6 and 7 exponent
+    /// form, in lower and upper case; 8 a list.
     pub slot: u32,
     /// The code of the fill character; the greatest `u32` if there is none.
     pub fill: u32,

@@ -1,7 +1,8 @@
 //! Which slots a field fills.
 ghost use Rattle.std.specs.Prelude.{◌≡◌, map, drop, take};
 ghost use Rattle.interpolator_eval.specs.Slots.{slots_of, empty_slots, with_iter, with_display};
-ghost use Rattle.interpolator_eval.specs.Slots.{with_debug, with_binary, with_octal, with_lower_hex};
+ghost use Rattle.interpolator_eval.specs.Slots.{with_debug, with_binary, with_octal};
+ghost use Rattle.interpolator_eval.specs.Slots.{with_lower_hex};
 ghost use Rattle.interpolator_eval.specs.Slots.{with_upper_hex, with_lower_exp, with_upper_exp};
 ghost use Rattle.interpolator_border.specs.Fields.{field_slots, kind_slots, masked_slots};
 ghost use Rattle.interpolator_border.specs.Fields.{value_slots, when};
@@ -10,6 +11,7 @@ use crate::field::{CHARACTER, Field, LIST};
 use interpolator::Formattable;
 
 /// The slots of a kind.
+#[inline(always)]
 fn kind_slots<'a>(field: &'a Field<'a>) -> Formattable<'a, Field<'a>>
     ensures { slots_of result ≡ kind_slots field.now }
 {
@@ -21,6 +23,7 @@ fn kind_slots<'a>(field: &'a Field<'a>) -> Formattable<'a, Field<'a>>
 }
 
 /// The display slot too, if the mask has its bit.
+#[inline(always)]
 fn masked_display<'a>(
     mask: u32,
     slots: Formattable<'a, Field<'a>>,
@@ -36,6 +39,7 @@ fn masked_display<'a>(
 }
 
 /// The debug slot too.
+#[inline(always)]
 fn masked_debug<'a>(
     mask: u32,
     slots: Formattable<'a, Field<'a>>,
@@ -51,6 +55,7 @@ fn masked_debug<'a>(
 }
 
 /// The binary slot too.
+#[inline(always)]
 fn masked_binary<'a>(
     mask: u32,
     slots: Formattable<'a, Field<'a>>,
@@ -66,6 +71,7 @@ fn masked_binary<'a>(
 }
 
 /// The octal slot too.
+#[inline(always)]
 fn masked_octal<'a>(
     mask: u32,
     slots: Formattable<'a, Field<'a>>,
@@ -81,6 +87,7 @@ fn masked_octal<'a>(
 }
 
 /// The lower_hex slot too.
+#[inline(always)]
 fn masked_lower_hex<'a>(
     mask: u32,
     slots: Formattable<'a, Field<'a>>,
@@ -96,6 +103,7 @@ fn masked_lower_hex<'a>(
 }
 
 /// The upper_hex slot too.
+#[inline(always)]
 fn masked_upper_hex<'a>(
     mask: u32,
     slots: Formattable<'a, Field<'a>>,
@@ -111,6 +119,7 @@ fn masked_upper_hex<'a>(
 }
 
 /// The lower_exp slot too.
+#[inline(always)]
 fn masked_lower_exp<'a>(
     mask: u32,
     slots: Formattable<'a, Field<'a>>,
@@ -126,6 +135,7 @@ fn masked_lower_exp<'a>(
 }
 
 /// The upper_exp slot too.
+#[inline(always)]
 fn masked_upper_exp<'a>(
     mask: u32,
     slots: Formattable<'a, Field<'a>>,
@@ -141,6 +151,7 @@ fn masked_upper_exp<'a>(
 }
 
 /// The slots of a mask.
+#[inline(always)]
 fn masked_slots<'a>(mask: u32, field: &'a Field<'a>) -> Formattable<'a, Field<'a>>
     ensures { slots_of result ≡ masked_slots mask field.now }
 {
@@ -155,6 +166,7 @@ fn masked_slots<'a>(mask: u32, field: &'a Field<'a>) -> Formattable<'a, Field<'a
 }
 
 /// The slots of a value.
+#[inline(always)]
 fn value_slots<'a>(field: &'a Field<'a>) -> Formattable<'a, Field<'a>>
     ensures { slots_of result ≡ value_slots field.now }
 {
@@ -166,6 +178,7 @@ fn value_slots<'a>(field: &'a Field<'a>) -> Formattable<'a, Field<'a>>
 }
 
 /// The items from one place up to another, as a list; what lies past the last item is left out.
+#[inline(always)]
 fn cut<'a>(
     items: &'a [Formattable<'a, Field<'a>>],
     first: usize,
@@ -179,6 +192,7 @@ fn cut<'a>(
 }
 
 /// What a field stands for: a list for the items that it names, and any other for its slots.
+#[inline(always)]
 pub(crate) fn field_slots<'a>(
     items: &'a [Formattable<'a, Field<'a>>],
     field: &'a Field<'a>,

@@ -161,8 +161,9 @@ fn rows_of<'a>(
     }
 }
 
-/// Formats each row of a table of cells, which has as many cells a row as there are columns. The texts
-/// come to the front of the room one after the other, if they fit, and `ends` gets where each ends.
+/// Formats each row of a table of cells, which has as many cells a row as there are columns. The
+/// texts come to the front of the room one after the other, if they fit, and `ends` gets where each
+/// ends.
 #[tactic(auto, using(crate::proofs::TableLemmas::columns_fail))]
 pub fn rows<'a>(
     alloc: Global,
@@ -172,7 +173,8 @@ pub fn rows<'a>(
     ends: &mut [usize],
     room: &mut [u8],
 ) -> Answer
-    ensures { RowsAnswers columns.now cells.now format.now ends.old ends.new room.old room.new result }
+    ensures { RowsAnswers columns.now cells.now format.now ends.old ends.new room.old room.new
+        result }
 {
     if !all_within(0, columns) || !all_within(0, cells) {
         return told_failure(alloc, &Failure::Lists, room);

@@ -1,4 +1,4 @@
-use Rattle.std.proofs.Common.{map, rules, subst}
+use Rattle.std.proofs.Common.{rules, subst}
 use Rattle.interpolator_border.specs.Checks.{Checked}
 use Rattle.interpolator_border.proofs.LevelLemmas.{lie_deeper, next_known}
 use Rattle.interpolator_border.proofs.checking.+check_levels.Goals as goal

@@ -1,5 +1,4 @@
-use Rattle.std.proofs.Common.{◌≡◌, ◌∙◌, rules, false, ap, length, sym}
-use Rattle.std.specs.Prelude.{encode_utf8_all}
+use Rattle.std.proofs.Common.{◌≡◌, rules, false, ap, length, sym}
 use Rattle.std.proofs.lemmas.Str.{encodes-chars}
 use Rattle.interpolator_border.proofs.AnswerLemmas.{appended}
 use Rattle.interpolator_border.proofs.table.put_row.Goals as goal

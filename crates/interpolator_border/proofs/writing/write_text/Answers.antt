@@ -1,4 +1,4 @@
-use Rattle.std.proofs.Common.{◌≡◌, ◌≤◌, arith, rules, refl, length}
+use Rattle.std.proofs.Common.{◌≤◌, arith, refl, length}
 use Rattle.interpolator_border.proofs.AnswerLemmas.{writes}
 use Rattle.interpolator_border.proofs.TextLemmas.{utf8_told}
 use Rattle.interpolator_border.proofs.writing.write_text.Goals as goal
