@@ -6,8 +6,8 @@ use Rattle.std.proofs.lemmas.List.Elements.{All-nil, All-cons}
 use Rattle.std.proofs.lemmas.Slice.Eq.{bytes_eq-Decides}
 use Rattle.std.specs.List.{All, AllZip}
 use Rattle.std.specs.Str.{bytes_eq, chars, encode_utf8_all}
-use Rattle.interpolator.proofs.TemplateLemmas.ResembleLemmas.{no_fault}
-use Rattle.interpolator.proofs.TemplateLemmas.SamplePairLemmas.{kind_has_text}
+use Rattle.interpolator_laws.proofs.ResembleLemmas.{no_fault}
+use Rattle.interpolator_laws.proofs.SamplePairLemmas.{kind_has_text}
 use Rattle.interpolator.specs.At.{outermost}
 use Rattle.interpolator.specs.Contexts.{found_by_pairs}
 use Rattle.interpolator.specs.Meaning.AskedNames.{asked_names}

@@ -5,7 +5,7 @@ use Rattle.std.proofs.lemmas.List.Elements.{filter-append}
 use Rattle.std.specs.List.{filter, list_any}
 use Rattle.std.specs.Prelude.{Contains}
 use Rattle.std.specs.Str.{chars}
-use Rattle.interpolator.proofs.TemplateLemmas.CheckPlaceLemmas.{faults_of_text}
+use Rattle.interpolator_pieces.proofs.CheckPlaceLemmas.{faults_of_text}
 use Rattle.interpolator.specs.At.{outermost}
 use Rattle.interpolator.specs.Faults.{Fault, fmt, missing_trait_impl, missing_value}
 use Rattle.interpolator.specs.Faults.{parse, unsupported_option}

@@ -1,10 +1,10 @@
--- The lemmas of the formats.
+-- The lemmas of the calls.
+pub mod DeepLemmas
 pub mod EndingLemmas
 pub mod EscapeLemmas
 pub mod ExcerptLemmas
-pub mod LineLemmas
 pub mod PartLemmas
 pub mod PositionLemmas
-pub mod PreparedLemmas
+pub mod SamplePlaceLemmas
+pub mod SampleWalkLemmas
 pub mod SeamLemmas
-pub mod TemplateLemmas

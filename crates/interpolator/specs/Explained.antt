@@ -9,7 +9,7 @@ use Rattle.interpolator_syntax.specs.FaultTexts.{answer_text}
 use Rattle.interpolator_syntax.specs.Nodes.{as_forest, nodes}
 use Rattle.interpolator.specs.Excerpts.{Excerpt, excerpt_of, picture}
 use Rattle.interpolator.specs.Positions.{line_at, column_at, position_text}
-use Rattle.interpolator.specs.Template.NodePlaces.{argument_among}
+use Rattle.interpolator_pieces.specs.NodePlaces.{argument_among}
 use Rattle.interpolator.specs.declared.explaining.Source.{Source}
 
 -- the sum, or the greatest `usize` if it is greater

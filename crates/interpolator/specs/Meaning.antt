@@ -7,7 +7,7 @@ pub use Rattle.interpolator_eval.specs.Meaning.EqualValues
 pub use Rattle.interpolator_eval.specs.Meaning.ListArguments
 pub use Rattle.interpolator_eval.specs.Meaning.Limits
 pub use Rattle.interpolator_eval.specs.Meaning.Lists
-pub mod Lines
+pub use Rattle.interpolator_pieces.specs.Lines
 pub use Rattle.interpolator_eval.specs.Meaning.Meanings
 pub use Rattle.interpolator_eval.specs.Meaning.Moves
 pub use Rattle.interpolator_eval.specs.Meaning.Outcomes
@@ -15,6 +15,5 @@ pub use Rattle.interpolator_eval.specs.Meaning.Resembling
 pub use Rattle.interpolator_eval.specs.Meaning.Samples
 pub use Rattle.interpolator_eval.specs.Meaning.CodeEnvironments
 pub use Rattle.interpolator_eval.specs.Meaning.Sinks
+pub use Rattle.interpolator_eval.specs.Meaning.Work
 pub mod Parts
-pub mod SamplePairs
-pub mod Unfailing

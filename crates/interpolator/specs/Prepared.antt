@@ -1,5 +1,5 @@
 -- A format that was prepared for rows of values: its program, and what that means with a row.
-pub mod Items
-pub mod Programs
-pub mod Rows
-pub mod StoredSteps
+pub use Rattle.interpolator_prepared.specs.Items
+pub use Rattle.interpolator_prepared.specs.Programs
+pub use Rattle.interpolator_prepared.specs.Rows
+pub use Rattle.interpolator_prepared.specs.StoredSteps

@@ -1,5 +1,5 @@
 -- How a text ends, and which text may follow it: none that would double a lone brace at its end.
-use Rattle.std.specs.Prelude.{ℕ, Bool, true, false, not, ◌==◌, List, [], ◌∷◌}
+use Rattle.std.specs.Prelude.{◌≢◌, ℕ, Bool, true, false, not, ◌==◌, List, [], ◌∷◌}
 use Rattle.interpolator_syntax.specs.At.{At, outermost}
 use Rattle.interpolator_syntax.specs.Classes.{close_brace}
 use Rattle.interpolator_syntax.specs.Pieces.{PieceKind, Piece, literal, doubled, lone_close, closed}
@@ -30,6 +30,10 @@ last_ending e (x ∷ xs) = last_ending (piece_ending x) xs
 -- how a text ends: as its last piece does
 abbrev pub ending : At → Ending
 ending a = last_ending Settled (pieces a)
+
+-- it does not end in an argument that is unclosed or broken
+abbrev pub EndsClosed : At → Type 0
+EndsClosed a = ending a ≢ Open
 
 -- whether a text begins with a closing brace
 abbrev pub begins_close : List ℕ → Bool

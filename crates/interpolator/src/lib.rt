@@ -16,30 +16,26 @@
 //! ```
 //!
 //! What a format means is defined in `specs/`, and `write` is proved to do that and nothing else,
-//! for every format, context and writer. Read on at [`write`], at the laws of [`laws`], and at
-//! `Meaning/Meanings` in `specs/` of `interpolator_eval`.
+//! for every format, context and writer. Read on at [`write`], at the laws of
+//! `interpolator_laws`, and at `Meaning/Meanings` in `specs/` of `interpolator_eval`.
 #![tactic(auto)]
 
 mod escaping;
 mod excerpt;
 mod explaining;
-mod functions;
 mod interpolate;
-pub mod laws;
-mod line;
 mod parts;
 mod position;
-mod prepared;
 mod template;
-mod tree;
 
 pub use escaping::escape;
 pub use explaining::{Source, explain, explain_in};
-pub use functions::{check, format, write};
 pub use interpolate::Interpolate;
 pub use interpolator_eval::{
     Context, ContextMap, Formattable, NameMap, Pairs, Tally, chosen, is_name, items_of, rows_of,
 };
+pub use interpolator_pieces::{Cost, Limits, Piece, check, format, iwriteln, write};
+pub use interpolator_prepared::{Prepared, Row};
 pub use interpolator_render::{
     Alignment, Bits, Bounded, HexDebug, IoWriter, Refusal, RenderFault, Sign, Spec, TextBuffer,
     TextWrite, Trait, Value, View, most_written, pad, render,
@@ -47,11 +43,6 @@ pub use interpolator_render::{
 pub use interpolator_syntax::{
     Argument, Error, Group, Kind, NumberError, ParseError, PieceKind, Range, parse_argument,
 };
-pub use line::iwriteln;
 pub use parts::{seam, write_parts};
 pub use position::Position;
-pub use prepared::Prepared;
-pub use prepared::row::Row;
 pub use template::Template;
-pub use template::cost::{Cost, Limits};
-pub use template::piece::Piece;

@@ -14,47 +14,27 @@ ghost use Rattle.interpolator_eval.specs.Meaning.Meanings.{means};
 ghost use Rattle.interpolator_eval.specs.Meaning.Outcomes.{Outcome, Formats};
 ghost use Rattle.interpolator_eval.specs.Meaning.Work.{text_work};
 ghost use Rattle.interpolator_eval.specs.Contexts.{found_by_pairs};
-ghost use Rattle.interpolator.specs.Prepared.Rows.{pair_names};
-ghost use Rattle.interpolator.specs.Template.AllArguments.{arguments_of};
-ghost use Rattle.interpolator.specs.Template.NodeChecks.{first_fault, text_faults};
-ghost use Rattle.interpolator.specs.Template.NodeCosts.{usize_cost, text_cost};
-ghost use Rattle.interpolator.specs.Template.NodeExtents.{forest_depth, forest_extent};
-ghost use Rattle.interpolator.specs.declared.template.cost.Limits.{Limits};
-ghost use Rattle.interpolator.specs.Template.NodeNames.{name_texts};
-ghost use Rattle.interpolator.specs.Template.NodePlaces.{argument_among};
-ghost use Rattle.interpolator.specs.Template.NodeSamples.{faults_over};
-ghost use Rattle.interpolator.specs.Template.Telling.{AnswersFirst};
+ghost use Rattle.interpolator_prepared.specs.Rows.{pair_names};
+ghost use Rattle.interpolator_pieces.specs.AllArguments.{arguments_of};
+ghost use Rattle.interpolator_pieces.specs.NodeChecks.{first_fault, text_faults};
+ghost use Rattle.interpolator_pieces.specs.NodeCosts.{usize_cost, text_cost};
+ghost use Rattle.interpolator_pieces.specs.NodeExtents.{forest_depth, forest_extent};
+ghost use Rattle.interpolator_pieces.specs.declared.cost.Limits.{Limits};
+ghost use Rattle.interpolator_pieces.specs.NodeNames.{name_texts};
+ghost use Rattle.interpolator_pieces.specs.NodePlaces.{argument_among};
+ghost use Rattle.interpolator_pieces.specs.NodeSamples.{faults_over};
+ghost use Rattle.interpolator_pieces.specs.Collecting.{AnswersFirst};
 ghost use Rattle.interpolator_syntax.specs.Nodes.{as_forest, nodes};
-ghost use Rattle.interpolator.specs.Template.Stored.{nodes_of};
-ghost use Rattle.interpolator.specs.Template.Visits.{Walks, text_visits};
+ghost use Rattle.interpolator_pieces.specs.Stored.{nodes_of};
+ghost use Rattle.interpolator_pieces.specs.Visits.{Walks, text_visits};
 
-pub(crate) mod arguments;
-pub(crate) mod check;
-pub(crate) mod cost;
-pub(crate) mod extent;
-pub(crate) mod names;
-pub(crate) mod parse;
-pub(crate) mod piece;
-pub(crate) mod place;
-pub(crate) mod sample;
-pub(crate) mod telling;
-pub(crate) mod walk;
-
-use crate::functions::{format_pieces, write_counted, write_pieces};
-use crate::prepared::Prepared;
-use crate::prepared::row::names_of;
-use crate::template::arguments::push_arguments;
-use crate::template::check::Check;
-use crate::template::cost::{Cost, Limits, cost_of};
-use crate::template::extent::{Deepest, Widest};
-use crate::template::names::Names;
-use crate::template::parse::parse_pieces;
-use crate::template::piece::Piece;
-use crate::template::place::argument_among;
-use crate::template::sample::tell_pieces;
-use crate::template::telling::Telling;
-use crate::template::walk::{Visitor, walk_text};
 use interpolator_eval::{Context, Pairs, SampleEnvironment, Tally};
+use interpolator_pieces::{
+    Check, Cost, Deepest, FaultCollector, Limits, Names, Piece, Visitor, Widest, argument_among,
+    collect_pieces, cost_of, format_pieces, parse_pieces, push_arguments, walk_text, write_counted,
+    write_pieces,
+};
+use interpolator_prepared::{Prepared, names_of, prepare_pieces};
 use interpolator_render::{TextWrite, Value};
 use interpolator_syntax::{Argument, Cursor, Error};
 use std::alloc::Global;
@@ -86,7 +66,7 @@ impl Model for Template {
     ghost use Rattle.std.specs.Str.{chars};
     ghost use Rattle.interpolator_syntax.specs.At.{outermost};
     ghost use Rattle.interpolator_syntax.specs.Nodes.{nodes};
-    ghost use Rattle.interpolator.specs.Template.Stored.{nodes_of};
+    ghost use Rattle.interpolator_pieces.specs.Stored.{nodes_of};
 
     ghost Value = { List ℕ };
 
@@ -199,8 +179,19 @@ impl Template {
         write_counted(alloc, out, self.text.as_str(), &self.pieces, context, tally)
     }
 
-    /// The text that it means, in a new `String`.
-    pub(crate) fn format<C: Context>(&self, alloc: Global, context: &C) -> Result<String, Error>
+    /// The text that it means in the context, in a new `String`.
+    ///
+    /// # Errors
+    ///
+    /// Those of `write`, where `Fmt` means that a value failed; and `NoMemory` if there is no memory
+    /// for the text, or for the room that it has at the beginning.
+    ///
+    /// # Example
+    ///
+    /// ```text
+    /// let text = template.format(alloc, &context)?;
+    /// ```
+    pub fn format<C: Context>(&self, alloc: Global, context: &C) -> Result<String, Error>
         ensures formats { Formats
             (means C.Object.shows (environment (C.finds context.now)) (outermost (chars self.now)))
             result }
@@ -249,7 +240,7 @@ impl Template {
     {
         self.check_in(alloc, sample)?;
         let names = names_of(alloc, sample.0)?;
-        Prepared::of(alloc, self.text.as_str(), &self.pieces, names)
+        prepare_pieces(alloc, self.text.as_str(), &self.pieces, names)
     }
 
     /// The names that the format looks up in its context, in order and with repeats: those of its
@@ -351,7 +342,7 @@ impl Template {
     /// 4. that it is not closed.
     ///
     /// If it returns `Ok`, the format has no fault in any context that resembles the sample: see
-    /// [`laws::samples`](crate::laws::samples). Each argument is checked once with each value that
+    /// `interpolator_laws::samples`. Each argument is checked once with each value that
     /// the sample has for it.
     ///
     /// # Errors
@@ -372,9 +363,14 @@ impl Template {
             (result_answer result) }
         ensures place { PlaceWithin (length self.now) (result_answer result) }
     {
-        let mut telling = Telling::first(alloc);
+        let mut collector = FaultCollector::first(alloc);
         let environment = SampleEnvironment::outermost(alloc, sample);
-        tell_pieces(&mut telling, &environment, self.text.as_str(), &self.pieces)
+        collect_pieces(
+            &mut collector,
+            &environment,
+            self.text.as_str(),
+            &self.pieces,
+        )
     }
 
     /// All faults that the format has by itself or against a sample, in the order of
@@ -398,10 +394,15 @@ impl Template {
             All (λ answer. PlaceWithin (length self.now) (Some answer)) (map answer_of errors.items)) }
         ensures refused { IfErr result (λ error. answer_of error ≡ no_memory) }
     {
-        let mut telling = Telling::all(alloc);
+        let mut collector = FaultCollector::all(alloc);
         let environment = SampleEnvironment::outermost(alloc, sample);
-        tell_pieces(&mut telling, &environment, self.text.as_str(), &self.pieces)?;
-        Ok(telling.into_kept())
+        collect_pieces(
+            &mut collector,
+            &environment,
+            self.text.as_str(),
+            &self.pieces,
+        )?;
+        Ok(collector.into_kept())
     }
 
     /// The greatest width or precision in the format, at any depth of groups; 0 if it has none. No
@@ -444,7 +445,7 @@ impl Template {
     /// its opening brace, up to its closing brace; without one, up to and including its end. No
     /// memory is taken.
     ///
-    /// That it is the innermost is a law, [`laws::places`](crate::laws::places).
+    /// That it is the innermost is a law, `interpolator_laws::places`.
     ///
     /// # Example
     ///

@@ -7,7 +7,7 @@ use Rattle.interpolator_syntax.specs.Faults.{Answer, Fault, fault, no_memory, an
 use Rattle.interpolator_syntax.specs.declared.error.Error.{Error}
 use Rattle.interpolator_eval.specs.Slots.{Slots}
 use Rattle.interpolator.specs.Template.NodeChecks.{first_fault}
-use Rattle.interpolator.specs.Template.Telling.{AnswersFirst}
+use Rattle.interpolator.specs.Template.Collecting.{AnswersFirst}
 use Rattle.interpolator_border.specs.declared.answer.Answer.{Answer as Told_answer}
 use Rattle.interpolator_border.specs.declared.answer.Failure.{Failure}
 use Rattle.interpolator_border.specs.declared.answer.Failure.TheVariants as failure

@@ -13,7 +13,7 @@ use Rattle.interpolator_syntax.specs.Faults.{Answer, Fault, fault, no_memory, an
 use Rattle.interpolator_eval.specs.Contexts.{found_by_pairs}
 use Rattle.interpolator_eval.specs.declared.slots.Formattable.{Formattable}
 use Rattle.interpolator.specs.Template.NodeSamples.{faults_over}
-use Rattle.interpolator.specs.Template.Telling.{AnswersFirst}
+use Rattle.interpolator.specs.Template.Collecting.{AnswersFirst}
 use Rattle.interpolator_border.specs.declared.answer.Answer.{Answer as Told_answer}
 use Rattle.interpolator_border.specs.declared.answer.Failure.{Failure}
 use Rattle.interpolator_border.specs.declared.answer.Failure.TheVariants as failure

@@ -13,7 +13,7 @@ use Rattle.interpolator.specs.Explained.{explanation_of}
 use Rattle.interpolator.specs.declared.explaining.Source.{Source}
 use Rattle.interpolator.specs.Template.NodeChecks.{first_fault}
 use Rattle.interpolator.specs.Template.NodeSamples.{faults_over}
-use Rattle.interpolator.specs.Template.Telling.{AnswersFirst}
+use Rattle.interpolator.specs.Template.Collecting.{AnswersFirst}
 use Rattle.interpolator_border.specs.Answers.{Told, ToldBy, ToldAside, fault_answer, row_means, text_answer}
 use Rattle.interpolator_border.specs.Fields.{AreTrees, field_shows, found_in, lists_lie}
 use Rattle.interpolator_border.specs.declared.answer.Answer.{Answer as Told_answer}

@@ -3,7 +3,7 @@ use Rattle.std.specs.Prelude.{◌≡◌, ◌⊎◌, ℕ, List, true, false}
 use Rattle.std.specs.Str.{chars, is_utf8}
 use Rattle.interpolator_syntax.specs.At.{outermost}
 use Rattle.interpolator.specs.Template.NodeCosts.{text_cost, usize_cost}
-use Rattle.interpolator.specs.declared.template.cost.Cost.{Cost}
+use Rattle.interpolator.specs.declared.Cost.{Cost}
 use Rattle.interpolator_border.specs.declared.costs.CostAnswer.{CostAnswer}
 
 -- a cost, as it is told

@@ -19,7 +19,7 @@ use Rattle.interpolator_eval.specs.declared.slots.Formattable.{Formattable}
 use Rattle.interpolator.specs.Prepared.Rows.{PreparedFormat, found_by_row, pair_names, row_at}
 use Rattle.interpolator.specs.Template.NodeChecks.{first_fault}
 use Rattle.interpolator.specs.Template.NodeSamples.{faults_over}
-use Rattle.interpolator.specs.Template.Telling.{AnswersFirst}
+use Rattle.interpolator.specs.Template.Collecting.{AnswersFirst}
 use Rattle.interpolator_border.specs.Answers.{Told, ToldBy, fault_answer, text_answer}
 use Rattle.interpolator_border.specs.Fields.{all_within, field_shows, field_slots}
 use Rattle.interpolator_border.specs.declared.answer.Answer.{Answer as Told_answer}

@@ -10,7 +10,7 @@ use crate::field::Field;
 use crate::levels::{LEVELS, all_lie_within, next_level, settled};
 use crate::row::Row;
 use crate::writing::failing;
-use interpolator::laws::samples::a_checked_format_means_no_fault;
+use interpolator_laws::samples::a_checked_format_means_no_fault;
 use interpolator::{Error, Formattable, Template};
 use std::alloc::Global;
 

@@ -1,7 +1,7 @@
 //! What templates report of their arguments, and a law whose body is worth running.
 
 use crate::report::Report;
-use interpolator::laws::templates::rest_of_the_pieces_is_written;
+use interpolator_laws::templates::rest_of_the_pieces_is_written;
 use interpolator::{Argument, Error, Formattable, Kind, Pairs, Range, Template, TextBuffer, Trait};
 
 /// Worked by hand: of the three pieces `a`, `{x}` and `b`, the output of those after the first 0,

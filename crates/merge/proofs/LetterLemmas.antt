@@ -15,9 +15,9 @@ use Rattle.std.proofs.lemmas.Slice.Zip.{all_zipped_more}
 use Rattle.std.proofs.lemmas.Option.{slice_get_read}
 use Rattle.std.proofs.lemmas.Grind.{get_or_after_one}
 use Rattle.std.specs.Str.{chars}
-use Rattle.interpolator.proofs.PreparedLemmas.RowSampleLemmas.{row_means}
-use Rattle.interpolator.proofs.TemplateLemmas.ResembleLemmas.{no_fault}
-use Rattle.interpolator.proofs.TemplateLemmas.SamplePairLemmas.{kind_has_text, pairs_resemble}
+use Rattle.interpolator_laws.proofs.RowSampleLemmas.{row_means}
+use Rattle.interpolator_laws.proofs.ResembleLemmas.{no_fault}
+use Rattle.interpolator_laws.proofs.SamplePairLemmas.{kind_has_text, pairs_resemble}
 use Rattle.interpolator.specs.At.{outermost, text_of}
 use Rattle.interpolator.specs.Contexts.{found_by_pairs}
 use Rattle.interpolator.specs.Faults.{Answer, Fault, answer_of, result_answer, fault, no_memory}
@@ -26,12 +26,12 @@ use Rattle.interpolator.specs.Meaning.Environments.{environment}
 use Rattle.interpolator.specs.Meaning.Meanings.{Meaning, means}
 use Rattle.interpolator.specs.Meaning.Outcomes.{Outcome}
 use Rattle.interpolator.specs.Meaning.Resembling.{Resembles, ResemblesSlot}
-use Rattle.interpolator.specs.Meaning.SamplePairs.{PairsResemble}
+use Rattle.interpolator_laws.specs.SamplePairs.{PairsResemble}
 use Rattle.interpolator.specs.Prepared.Rows.{found_by_row, pair_names, row_at, PreparedFormat}
 use Rattle.interpolator.specs.Slots.{empty_slots, slot_at, slots_of, values_of, with_debug_display}
 use Rattle.interpolator.specs.Template.NodeChecks.{first_fault}
 use Rattle.interpolator.specs.Template.NodeSamples.{faults_over}
-use Rattle.interpolator.specs.Template.Telling.{AnswersFirst}
+use Rattle.interpolator.specs.Template.Collecting.{AnswersFirst}
 use Rattle.interpolator.specs.Views.{Shown, some_text}
 use Rattle.interpolator.specs.Written.{Written}
 use Rattle.interpolator.specs.declared.Error.{Error}

@@ -3,20 +3,17 @@ use Rattle.std.proofs.Common.{◌≡◌, ◌∙◌, refl, sym, ap, ℕ, ◌-◌,
 use Rattle.std.proofs.Common.{◌∷◌, inl, inr, Option, Some, None, option_map, arith, min, ◌⊎◌}
 use Rattle.std.proofs.lemmas.Bool.Decides.{nat_tests}
 use Rattle.std.specs.Option.{option_or}
-use Rattle.std.specs.Str.{chars}
-use Rattle.interpolator.proofs.TemplateLemmas.ItselfLemmas.{no_fault_itself}
-use Rattle.interpolator.specs.At.{outermost}
 use Rattle.interpolator.specs.Contexts.{found_by_pairs}
 use Rattle.interpolator.specs.Faults.{Answer, Fault, answer_of, fault, no_memory}
 use Rattle.interpolator.specs.Meaning.Outcomes.{Outcome}
 use Rattle.interpolator.specs.Template.NodeChecks.{first_fault}
 use Rattle.interpolator.specs.Template.NodeCosts.{usize_cost}
-use Rattle.interpolator.specs.Template.Telling.{AnswersFirst}
+use Rattle.interpolator.specs.Template.Collecting.{AnswersFirst}
 use Rattle.interpolator.specs.Written.{Written}
 use Rattle.interpolator.specs.declared.Cost.{Cost}
 use Rattle.interpolator.specs.declared.Error.{Error}
 use Rattle.strangers.specs.Serving.{Affords, IsWithin, Rejects, Why, cost_why, count_why}
-use Rattle.strangers.specs.Serving.{failed, fault_why, faults_with, meaning_over, shows}
+use Rattle.strangers.specs.Serving.{failed, fault_why, meaning_over}
 use Rattle.strangers.specs.Values.{Row}
 use Rattle.strangers.specs.declared.serving.Count.{Count}
 use Rattle.strangers.specs.declared.serving.Refused.TheVariants.{Format}
@@ -30,18 +27,13 @@ up_and_down flag up down = cc
 same_answer : (a b : Answer) → Some a ≡ Some b → a ≡ b
 same_answer a b e = cc
 
--- the values are their own sample
-sound_means : (format : List ℕ) (pairs : Row) → faults_with format (found_by_pairs pairs) ≡ []
-    → (meaning_over format (found_by_pairs pairs)).fault ≡ None
-sound_means format pairs = no_fault_itself shows (found_by_pairs pairs) (outermost (chars format))
-
--- so if the writer did not refuse, no fault is left
+-- if a format means no fault and the writer did not refuse, no fault is left
 pub only_memory : (format : List ℕ) (pairs : Row) (old new : Written) (error : Error)
-    → faults_with format (found_by_pairs pairs) ≡ [] → new.refused ≡ false
+    → (meaning_over format (found_by_pairs pairs)).fault ≡ None → new.refused ≡ false
     → Outcome (meaning_over format (found_by_pairs pairs)) old new (Some (answer_of error))
     → answer_of error ≡ no_memory
 only_memory format pairs old new error sound down (inl done) = absurd (none_some _ (sym (done.told
-    ∙ ap (λ (f : Option Fault). option_map fault f) (sound_means format pairs sound))))
+    ∙ ap (λ (f : Option Fault). option_map fault f) sound)))
 only_memory format pairs old new error sound down (inr (inl refusal)) =
     absurd (up_and_down new.refused refusal.flag down)
 only_memory format pairs old new error sound down (inr (inr wants)) = same_answer _ _ wants.told

@@ -10,13 +10,15 @@ use Rattle.std.specs.List.{find}
 use Rattle.std.specs.Prelude.{reverse, ⊤, IfErr, IfOk, OnOk}
 use Rattle.std.specs.Str.{bytes_eq, chars, encode_utf8_all}
 use Rattle.std.specs.declared.string.String.{String}
-use Rattle.interpolator.proofs.TemplateLemmas.CostLawLemmas.{text_at_most}
-use Rattle.interpolator.specs.At.{outermost}
+use Rattle.interpolator.specs.At.{At, outermost}
 use Rattle.interpolator.specs.Contexts.{found_by_pairs}
 use Rattle.interpolator.specs.Meaning.AskedNames.{asked_names}
-use Rattle.interpolator.specs.Meaning.Environments.{environment}
+use Rattle.interpolator.specs.Meaning.Environments.{Environment, environment}
 use Rattle.interpolator.specs.Meaning.Limits.{FoundWithin, IsWithin, ItemsWithin, SlotsWithin}
 use Rattle.interpolator.specs.Meaning.Limits.{SlotWithin}
+use Rattle.interpolator.specs.Meaning.Meanings.{means}
+use Rattle.interpolator.specs.Meaning.Work.{text_work}
+use Rattle.interpolator.specs.Template.NodeCosts.{text_cost}
 use Rattle.interpolator.specs.Slots.{Slots, empty_slots, listed_slots, slot_at, slots_listed}
 use Rattle.interpolator.specs.Slots.{slots_of, values_of, with_integer}
 use Rattle.interpolator.specs.declared.Formattable.{Formattable}
@@ -209,22 +211,30 @@ as_told : (n count : ℕ) → n ≤ count → min count (2 ^ 64 - 1) < 2 ^ 64 - 
     → n ≤ min count (2 ^ 64 - 1)
 as_told n count h k = omega (arith, h, k)
 
+-- what a text means is within its cost, if the values are within the limits
+abbrev pub KeepsToCost : Limits → Type 0
+KeepsToCost limits = (e : Environment Datum) (a : At)
+    → IsWithin shows limits.text limits.items e (asked_names a)
+    → (length (means shows e a).text ≤ (text_cost limits a).characters)
+    × ((text_work shows e a).pieces ≤ (text_cost limits a).pieces)
+    × ((text_work shows e a).held ≤ (text_cost limits a).buffered)
+
 module _ (allowed : Allowed) (format : List ℕ) (words : List Word) (pairs : Row)
     (given : map pair_named pairs ≡ map word_named words) where
   -- a format that nothing rejects, with values within their limits, is served
-  served_whole : (text : List ℕ) → WordsWithin allowed.values words
+  served_whole : KeepsToCost allowed.values → (text : List ℕ) → WordsWithin allowed.values words
       → words_why allowed.values words ≡ None
       → IsWhole format (found_by_pairs pairs) text
       → format_why allowed format (found_by_pairs pairs) ≡ None
       → IsServed allowed format words text
-  served_whole text kept good done accepted =
+  served_whole costs text kept good done accepted =
       let a = outermost (chars format) in
       let same = found_same words pairs given in
       let within = subst (λ (finds : Names).
       IsWithin shows allowed.values.text allowed.values.items (environment finds) (asked_names a))
       same (names_within allowed.values pairs (asked_names a)
       (pairs_within allowed.values words pairs given kept)) in
-      let most = text_at_most shows allowed.values (environment (found_by_words words)) a within in
+      let most = costs (environment (found_by_words words)) a within in
       let whole = subst (λ (finds : Names). IsWhole format finds text) same done in
       let affords = afforded allowed.most _ (neither _ _ accepted).1 in
       let as_long : length text ≡ length (meaning_over format (found_by_words words)).text =
@@ -236,21 +246,21 @@ module _ (allowed : Allowed) (format : List ℕ) (words : List Word) (pairs : Ro
         written = whole;
         characters =
             subst (λ n. n ≤ (told_cost allowed.values format).characters) (sym as_long)
-            (as_told _ _ most.characters affords.characters.1);
-        pieces = as_told _ _ most.pieces affords.pieces.1;
-        buffered = as_told _ _ most.buffered affords.buffered.1;
+            (as_told _ _ most.0 affords.characters.1);
+        pieces = as_told _ _ most.1 affords.pieces.1;
+        buffered = as_told _ _ most.2 affords.buffered.1;
         afforded = affords;
       }
 
   -- so is what was answered, if that is a text
-  pub served_if_ok : {Z : Type 0} (result : Result (String Z) Refused)
-      → WordsWithin allowed.values words → words_why allowed.values words ≡ None
+  pub served_if_ok : {Z : Type 0} → KeepsToCost allowed.values
+      → (result : Result (String Z) Refused) → WordsWithin allowed.values words → words_why allowed.values words ≡ None
       → IfOk result (λ text. IsWhole format (found_by_pairs pairs) (chars (string_bytes text)))
       → OnOk result (format_why allowed format (found_by_pairs pairs) ≡ None)
       → IfOk result (λ text. IsServed allowed format words (chars (string_bytes text)))
-  served_if_ok (Ok text) kept good done accepted =
-      served_whole (chars (string_bytes text)) kept good done accepted
-  served_if_ok (Err refused) kept good done accepted = tt
+  served_if_ok costs (Ok text) kept good done accepted =
+      served_whole costs (chars (string_bytes text)) kept good done accepted
+  served_if_ok costs (Err refused) kept good done accepted = tt
 
   -- and what rejected it, if it is none
   pub rejected_if_err : {Z : Type 0} (result : Result (String Z) Refused)

@@ -12,7 +12,7 @@ use Rattle.interpolator.specs.Slots.{Slots}
 use Rattle.interpolator.specs.Template.NodeChecks.{first_fault}
 use Rattle.interpolator.specs.Template.NodeCosts.{usize_cost, text_cost}
 use Rattle.interpolator.specs.Template.NodeSamples.{faults_over}
-use Rattle.interpolator_eval.specs.Meaning.Work.{Work, text_work}
+use Rattle.interpolator.specs.Meaning.Work.{Work, text_work}
 use Rattle.interpolator.specs.Views.{Shown}
 use Rattle.interpolator.specs.declared.Cost.{Cost}
 use Rattle.interpolator.specs.declared.Error.{Error}

@@ -14,6 +14,8 @@ use crate::values::{Datum, Given, Word, characters_of, longest_of};
 use interpolator::{
     Bounded, Cost, Error, Formattable, Interpolate, Limits, Pairs, Template, TextWrite,
 };
+use interpolator_laws::costs::a_format_costs_no_more_than_it_is_said_to;
+use interpolator_laws::samples::a_context_resembles_itself;
 use std::alloc::Global;
 
 /// How many bytes a character has at most.
@@ -138,6 +140,7 @@ fn written<'a>(
     ensures err { IfErr result (λ error.
         FailsOfMemory template.now (found_by_pairs pairs.now) error) }
 {
+    a_context_resembles_itself::<Datum<'a>>();
     let mut out = Bounded::new(alloc, characters.saturating_mul(CHARACTER));
     let answer = Pairs(pairs).write_template_to(alloc, &mut out, template);
     if out.refused() {
@@ -202,6 +205,7 @@ pub fn served(
     ensures err { IfErr result (λ refused.
         Rejects (first_why allowed.now format.now words.now) refused) }
 {
+    a_format_costs_no_more_than_it_is_said_to::<Datum<'_>>();
     check_words(&allowed.values, words)?;
     let template = Template::parse(alloc, format)?;
     let entries = entries_of(alloc, words)?;

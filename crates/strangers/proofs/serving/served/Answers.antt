@@ -8,8 +8,14 @@ returns-clause-ok c =
     let given : GiveWords c.args.words.now c.in_ok-pairs.pairs.items =
     c.in_ok-pairs.ensures.ok ∙ ap (λ entries. map entry_named entries) c.as_slice.ensures.value
     ∙ c.in_ok-entries.ensures.ok in
+    let law = c.a_format_costs_no_more_than_it_is_said_to.ensures in
+    let limits = c.args.allowed.now.values in
     served_if_ok c.args.allowed.now c.args.format.now c.args.words.now c.in_ok-pairs.pairs.items
-    given c.decided.result c.in_ok-check_words.ensures.within (sym c.in_ok-check_words.ensures.why)
+    given (λ e a within. (
+      law.characters limits e a within,
+      law.pieces limits e a within,
+      law.buffered limits e a within,
+    )) c.decided.result c.in_ok-check_words.ensures.within (sym c.in_ok-check_words.ensures.why)
     (rw (c.in_ok-template.ensures.template, c.as_slice-2.ensures.value) at c.decided.ensures.ok)
     (rw (c.in_ok-template.ensures.template, c.as_slice-2.ensures.value)
     at c.decided.ensures.accepted)

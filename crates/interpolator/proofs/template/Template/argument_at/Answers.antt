@@ -2,9 +2,9 @@ use Rattle.std.proofs.Common.{ap, ◌∙◌}
 use Rattle.std.specs.Prelude.{string_bytes}
 use Rattle.std.specs.Str.{chars}
 use Rattle.interpolator_syntax.specs.At.{outermost}
-use Rattle.interpolator.specs.Template.NodePlaces.{argument_among}
+use Rattle.interpolator_pieces.specs.NodePlaces.{argument_among}
 use Rattle.interpolator_syntax.specs.Nodes.{as_forest, nodes}
-use Rattle.interpolator.specs.Template.Stored.{nodes_of}
+use Rattle.interpolator_pieces.specs.Stored.{nodes_of}
 use Rattle.interpolator.proofs.template.Template.argument_at.Goals as goal
 
 pub returns : goal.returns

@@ -6,15 +6,15 @@ use Rattle.interpolator_syntax.specs.At.{outermost}
 use Rattle.interpolator_syntax.specs.Faults.{result_answer}
 use Rattle.interpolator_syntax.specs.Nodes.{nodes}
 use Rattle.interpolator_eval.specs.Meaning.Samples.{sample_of, level_in}
-use Rattle.interpolator.specs.Template.NodeSamples.{faults_over}
-use Rattle.interpolator.specs.Template.Stored.{nodes_of}
-use Rattle.interpolator.proofs.TemplateLemmas.SamplePlaceLemmas.{first_lies_over}
-use Rattle.interpolator.proofs.TemplateLemmas.SampleWalkLemmas.{walk_whole, walk_deep, walk_tells}
-use Rattle.interpolator.proofs.TemplateLemmas.TellLemmas.{answers_first}
+use Rattle.interpolator_pieces.specs.NodeSamples.{faults_over}
+use Rattle.interpolator_pieces.specs.Stored.{nodes_of}
+use Rattle.interpolator.proofs.SamplePlaceLemmas.{first_lies_over}
+use Rattle.interpolator.proofs.SampleWalkLemmas.{walk_whole, walk_deep, walk_tells}
+use Rattle.interpolator_pieces.proofs.CollectLemmas.{answers_first}
 use Rattle.interpolator.proofs.template.Template.check_in.Goals as goal
 
-pub tell_pieces-requires : goal.tell_pieces-requires
-tell_pieces-requires g c =
+pub collect_pieces-requires : goal.collect_pieces-requires
+collect_pieces-requires g c =
     let utf8 = IsUtf8-string_bytes c.self.inside.text in
     let all = ap (λ bs. nodes_of bs c.deref.result.now) c.as_str.ensures.value
     ∙ ap (nodes_of (string_bytes c.self.inside.text)) c.deref.ensures.value ∙ c.self.invariant in
@@ -34,12 +34,12 @@ returns-clause-first g c =
     answers_first
     (faults_over g.C.Object.Value.shows (g.C.Context.finds c.args.sample.now)
     (outermost (chars c.args.self.now)))
-    c.first-telling.result c.tell_pieces.new.telling (result_answer c.tell_pieces.result)
-    c.first-telling.ensures
+    c.first-collector.result c.collect_pieces.new.collector (result_answer c.collect_pieces.result)
+    c.first-collector.ensures
     (walk_tells _ _ c.args.self.now utf8 all g.C.Object.Value.shows
     (g.C.Context.finds c.args.sample.now) (sample_of g.C.Context.finds c.outermost-environment.result)
-    c.first-telling.result c.tell_pieces.new.telling (result_answer c.tell_pieces.result)
-    c.outermost-environment.ensures.sample c.tell_pieces.ensures.tells)
+    c.first-collector.result c.collect_pieces.new.collector (result_answer c.collect_pieces.result)
+    c.outermost-environment.ensures.sample c.collect_pieces.ensures.collects)
 
 pub returns-clause-place : goal.returns-clause-place
 returns-clause-place g c =
@@ -50,11 +50,11 @@ returns-clause-place g c =
     let first = answers_first
     (faults_over g.C.Object.Value.shows (g.C.Context.finds c.args.sample.now)
     (outermost (chars c.args.self.now)))
-    c.first-telling.result c.tell_pieces.new.telling (result_answer c.tell_pieces.result)
-    c.first-telling.ensures
+    c.first-collector.result c.collect_pieces.new.collector (result_answer c.collect_pieces.result)
+    c.first-collector.ensures
     (walk_tells _ _ c.args.self.now utf8 all g.C.Object.Value.shows
     (g.C.Context.finds c.args.sample.now) (sample_of g.C.Context.finds c.outermost-environment.result)
-    c.first-telling.result c.tell_pieces.new.telling (result_answer c.tell_pieces.result)
-    c.outermost-environment.ensures.sample c.tell_pieces.ensures.tells) in
+    c.first-collector.result c.collect_pieces.new.collector (result_answer c.collect_pieces.result)
+    c.outermost-environment.ensures.sample c.collect_pieces.ensures.collects) in
     first_lies_over g.C.Object.Value.shows (g.C.Context.finds c.args.sample.now) c.args.self.now
-    (result_answer c.tell_pieces.result) utf8 first
+    (result_answer c.collect_pieces.result) utf8 first

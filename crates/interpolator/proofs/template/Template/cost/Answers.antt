@@ -3,9 +3,9 @@ use Rattle.std.specs.Prelude.{string_bytes}
 use Rattle.std.specs.Str.{chars}
 use Rattle.interpolator_syntax.specs.At.{outermost}
 use Rattle.interpolator_syntax.specs.Nodes.{as_forest, nodes}
-use Rattle.interpolator.specs.Template.NodeCosts.{usize_cost, forest_cost}
-use Rattle.interpolator.specs.Template.Stored.{nodes_of, forest_whole}
-use Rattle.interpolator.proofs.TemplateLemmas.WholeLemmas.{nodes_whole}
+use Rattle.interpolator_pieces.specs.NodeCosts.{usize_cost, forest_cost}
+use Rattle.interpolator_pieces.specs.Stored.{nodes_of, forest_whole}
+use Rattle.interpolator_pieces.proofs.WholeLemmas.{nodes_whole}
 use Rattle.interpolator.proofs.template.Template.cost.Goals as goal
 
 pub cost_of-requires : goal.cost_of-requires

@@ -7,15 +7,15 @@ use Rattle.interpolator_syntax.specs.At.{outermost}
 use Rattle.interpolator_syntax.specs.Faults.{answer_of}
 use Rattle.interpolator_syntax.specs.Nodes.{nodes}
 use Rattle.interpolator_eval.specs.Meaning.Samples.{sample_of, level_in}
-use Rattle.interpolator.specs.Template.NodeSamples.{faults_over}
-use Rattle.interpolator.specs.Template.Stored.{nodes_of}
-use Rattle.interpolator.proofs.TemplateLemmas.SampleWalkLemmas.{walk_whole, walk_deep, walk_tells}
-use Rattle.interpolator.proofs.TemplateLemmas.SamplePlaceLemmas.{told_lie_over}
-use Rattle.interpolator.proofs.TemplateLemmas.TellLemmas.{all_kept, only_memory}
+use Rattle.interpolator_pieces.specs.NodeSamples.{faults_over}
+use Rattle.interpolator_pieces.specs.Stored.{nodes_of}
+use Rattle.interpolator.proofs.SampleWalkLemmas.{walk_whole, walk_deep, walk_tells}
+use Rattle.interpolator.proofs.SamplePlaceLemmas.{told_lie_over}
+use Rattle.interpolator_pieces.proofs.CollectLemmas.{all_kept, only_memory}
 use Rattle.interpolator.proofs.template.Template.faults_in.Goals as goal
 
-pub tell_pieces-requires : goal.tell_pieces-requires
-tell_pieces-requires g c =
+pub collect_pieces-requires : goal.collect_pieces-requires
+collect_pieces-requires g c =
     let utf8 = IsUtf8-string_bytes c.self.inside.text in
     let all = ap (λ bs. nodes_of bs c.deref.result.now) c.as_str.ensures.value
     ∙ ap (nodes_of (string_bytes c.self.inside.text)) c.deref.ensures.value ∙ c.self.invariant in
@@ -35,19 +35,19 @@ returns-clause-all g c =
     let a = outermost (chars c.args.self.now) in
     rw (c.into_kept.ensures)
     (all_kept (faults_over g.C.Object.Value.shows (g.C.Context.finds c.args.sample.now) a)
-    c.all-telling.result c.tell_pieces.new.telling c.all-telling.ensures.none
+    c.all-collector.result c.collect_pieces.new.collector c.all-collector.ensures.none
     (walk_tells _ _ c.args.self.now utf8 all g.C.Object.Value.shows
     (g.C.Context.finds c.args.sample.now) (sample_of g.C.Context.finds c.outermost-environment.result)
-    c.all-telling.result c.tell_pieces.new.telling None c.outermost-environment.ensures.sample
-    c.in_ok-tell_pieces.ensures.tells))
+    c.all-collector.result c.collect_pieces.new.collector None c.outermost-environment.ensures.sample
+    c.in_ok-collect_pieces.ensures.collects))
 
-pub returns-in_err-tell_pieces-clause-refused : goal.returns-in_err-tell_pieces-clause-refused
-returns-in_err-tell_pieces-clause-refused g c =
+pub returns-in_err-collect_pieces-clause-refused : goal.returns-in_err-collect_pieces-clause-refused
+returns-in_err-collect_pieces-clause-refused g c =
     let err = err_from_is_err_and c.from_residual.result c.from_residual.ensures.1 in
-    let a = answer_of c.in_err-tell_pieces.field-0.0 in
+    let a = answer_of c.in_err-collect_pieces.field-0.0 in
     rw (err.1, err.2)
-    (only_memory _ c.all-telling.result c.tell_pieces.new.telling a c.all-telling.ensures.all
-    c.in_err-tell_pieces.ensures.tells)
+    (only_memory _ c.all-collector.result c.collect_pieces.new.collector a c.all-collector.ensures.all
+    c.in_err-collect_pieces.ensures.collects)
 
 pub returns-clause-places : goal.returns-clause-places
 returns-clause-places g c =

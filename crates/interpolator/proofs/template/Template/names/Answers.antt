@@ -2,9 +2,9 @@ use Rattle.std.proofs.Common.{◌++◌, ap, ◌∙◌}
 use Rattle.std.specs.Str.{chars}
 use Rattle.interpolator_syntax.specs.At.{outermost}
 use Rattle.interpolator_eval.specs.Meaning.AskedNames.{asked_names}
-use Rattle.interpolator.specs.Template.NodeNames.{name_texts}
-use Rattle.interpolator.specs.declared.template.names.Names.{Names}
-use Rattle.interpolator.proofs.TemplateLemmas.StoredNameLemmas.{text_names}
+use Rattle.interpolator_pieces.specs.NodeNames.{name_texts}
+use Rattle.interpolator_pieces.specs.declared.names.Names.{Names}
+use Rattle.interpolator_pieces.proofs.StoredNameLemmas.{text_names}
 use Rattle.interpolator.proofs.template.Template.names.Goals as goal
 
 pub returns-clause-names : goal.returns-clause-names

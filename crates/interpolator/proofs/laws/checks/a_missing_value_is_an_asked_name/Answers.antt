@@ -1,5 +1,0 @@
-use Rattle.interpolator.proofs.TemplateLemmas.MissedLemmas.{value_missed}
-use Rattle.interpolator.proofs.laws.checks.a_missing_value_is_an_asked_name.Goals as goal
-
-pub returns : goal.returns
-returns g c = value_missed g.V.Value.shows

@@ -1,5 +1,0 @@
-use Rattle.interpolator.proofs.TemplateLemmas.CostLawLemmas.{no_memory_taken}
-use Rattle.interpolator.proofs.laws.costs.a_format_that_holds_nothing_takes_no_memory.Goals as goal
-
-pub returns : goal.returns
-returns g c = record { none = λ limits e a. no_memory_taken g.V.Value.shows limits e a }

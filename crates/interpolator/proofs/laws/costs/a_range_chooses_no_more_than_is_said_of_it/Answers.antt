@@ -1,5 +1,0 @@
-use Rattle.interpolator.proofs.TemplateLemmas.RangeLemmas.{chosen_fewer}
-use Rattle.interpolator.proofs.laws.costs.a_range_chooses_no_more_than_is_said_of_it.Goals as goal
-
-pub returns : goal.returns
-returns g c = chosen_fewer

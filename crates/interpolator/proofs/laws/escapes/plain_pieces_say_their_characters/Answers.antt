@@ -1,5 +1,0 @@
-use Rattle.interpolator.proofs.EscapeLemmas.{plain_means}
-use Rattle.interpolator.proofs.laws.escapes.plain_pieces_say_their_characters.Goals as goal
-
-pub returns : goal.returns
-returns g c = plain_means g.V.Value.shows

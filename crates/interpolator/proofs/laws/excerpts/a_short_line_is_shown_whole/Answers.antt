@@ -1,5 +1,0 @@
-use Rattle.interpolator.proofs.ExcerptLemmas.{whole_line}
-use Rattle.interpolator.proofs.laws.excerpts.a_short_line_is_shown_whole.Goals as goal
-
-pub returns : goal.returns
-returns c = whole_line

@@ -1,5 +1,0 @@
-use Rattle.interpolator.proofs.PreparedLemmas.RowSampleLemmas.{means_no_fault}
-use Rattle.interpolator.proofs.laws.prepared.a_checked_format_means_no_fault_over_rows.Goals as goal
-
-pub returns : goal.returns
-returns g c = means_no_fault g.S.Value.shows g.V.Value.shows

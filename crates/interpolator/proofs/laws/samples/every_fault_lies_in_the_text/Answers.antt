@@ -1,5 +1,0 @@
-use Rattle.interpolator.proofs.TemplateLemmas.SamplePlaceLemmas.{all_lie_over}
-use Rattle.interpolator.proofs.laws.samples.every_fault_lies_in_the_text.Goals as goal
-
-pub returns : goal.returns
-returns g c finds = all_lie_over g.V.Value.shows finds c.args._text.now c.utf8._text

@@ -1,7 +1,0 @@
-use Rattle.std.proofs.Common.{◌∙◌}
-use Rattle.interpolator.proofs.TemplateLemmas.CheckLemmas.{own_told}
-use Rattle.interpolator.proofs.template.check.CheckVisitor.enter.Goals as goal
-
-pub returns : goal.returns
-returns c =
-    c.check_own.ensures.own ∙ own_told c.args._text.now c.args.piece.now c.requires.whole c.args._spot

@@ -1,7 +1,0 @@
-use Rattle.std.proofs.Common.{◌∙◌}
-use Rattle.interpolator.proofs.TemplateLemmas.CheckLemmas.{end_told}
-use Rattle.interpolator.proofs.template.check.CheckVisitor.leave.Goals as goal
-
-pub returns : goal.returns
-returns c =
-    c.check_end.ensures.end ∙ end_told c.args._text.now c.args.piece.now c.requires c.args._spot

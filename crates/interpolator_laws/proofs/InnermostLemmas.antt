@@ -1,0 +1,219 @@
+-- The argument found at a place has it, and none in its groups does; if none is found, none has it.
+use Rattle.std.proofs.Common.{◌≡◌, ◌∙◌, ap, refl, arith, ℕ, ◌<◌, ◌≤◌, Bool, true, false, inl, inr}
+use Rattle.std.proofs.Common.{Option, Some, None}
+use Rattle.std.specs.Prelude.{if◌then◌else◌, unwrap_or, ◌⊎◌}
+use Rattle.std.specs.Option.{option_or}
+use Rattle.interpolator_syntax.specs.At.{At}
+use Rattle.interpolator_syntax.specs.Nodes.{Node, node, Branch, no_branch, branch}
+use Rattle.interpolator_syntax.specs.Nodes.{Forest, no_nodes, nodes_and, as_forest, nodes, Content}
+use Rattle.interpolator_syntax.specs.Splits.{Contiguous, GroupsInside, GroupInside, HasGroups}
+use Rattle.interpolator_syntax.specs.Splits.{node_place, node_end}
+use Rattle.interpolator_syntax.specs.declared.piece_kind.PieceKind.{PieceKind}
+use Rattle.interpolator_syntax.specs.declared.piece_kind.PieceKind.TheVariants as kinds
+use Rattle.interpolator_pieces.specs.NodePlaces.{has_place, node_has, innermost, argument_in}
+use Rattle.interpolator_pieces.specs.NodePlaces.{argument_among, InForest, InGroups, InBranch}
+use Rattle.interpolator_pieces.specs.NodePlaces.{IsInnermost}
+use Rattle.interpolator_syntax.proofs.CaseLemmas.{some_same}
+use Rattle.interpolator_laws.proofs.ContiguousLemmas.{nodes_contiguous}
+
+-- ---- an argument around another has its places
+
+-- a node that has a place has it between its bytes
+kind_reaches : (place from end : ℕ) (kind : PieceKind) → has_place place from end kind ≡ true
+    → (from < place) × (place ≤ end)
+kind_reaches place from end kinds.Closed h = grind arith
+kind_reaches place from end kinds.Unclosed h = grind arith
+kind_reaches place from end kinds.Broken h = grind arith
+kind_reaches place from end kind h = absurd (cc)
+
+reaches : (place : ℕ) (x : Node) → node_has place x ≡ true
+    → (node_place x < place) × (place ≤ node_end x)
+reaches place (node from end kind held item join) h = kind_reaches place from end kind h
+
+-- an argument with groups has every place between its first byte and its last
+kind_has : (place from end : ℕ) (kind : PieceKind) → HasGroups kind → from < place → place < end
+    → has_place place from end kind ≡ true
+kind_has place from end kinds.Closed g l m = grind arith
+kind_has place from end kinds.Unclosed g l m = grind arith
+kind_has place from end kind g l m = absurd g
+
+-- nodes end at or behind the place at which they begin
+goes_up : (p : ℕ) (xs : Forest) (end : ℕ) → Contiguous p xs end → p ≤ end
+goes_up p no_nodes end h = omega (arith, h)
+goes_up p (nodes_and x xs) end h = omega (arith, h.1, goes_up (node_end x) xs end h.3)
+
+module _ (place : ℕ) (x : Node) (has : node_has place x ≡ true) where
+  mutual
+    -- a node among others has its places between theirs
+    forest_reaches : (p : ℕ) (xs : Forest) (end : ℕ) → Contiguous p xs end → InForest x xs
+        → (p < place) × (place ≤ end)
+    forest_reaches p no_nodes end h g = absurd g
+    forest_reaches p (nodes_and y ys) end h (inl e) =
+        let own = rw e at (reaches place x has) in
+        omega (arith, own, h.0, goes_up (node_end y) ys end h.3)
+    forest_reaches p (nodes_and y ys) end h (inr (inl g)) =
+        let own = reaches place y (node_around y h.2 g) in
+        omega (arith, own, h.0, goes_up (node_end y) ys end h.3)
+    forest_reaches p (nodes_and y ys) end h (inr (inr g)) =
+        omega (arith, h.0, h.1, forest_reaches (node_end y) ys end h.3 g)
+
+    -- so a node has the places of those in its groups
+    node_around : (y : Node) → GroupsInside y → InGroups x y → node_has place y ≡ true
+    node_around (node from end kind held item join) h (inl g) =
+        branch_around from end kind item h.0 g
+    node_around (node from end kind held item join) h (inr g) =
+        branch_around from end kind join h.1 g
+
+    branch_around : (from end : ℕ) (kind : PieceKind) (xs : Branch) → GroupInside from end kind xs
+        → InBranch x xs → has_place place from end kind ≡ true
+    branch_around from end kind no_branch h g = absurd g
+    branch_around from end kind (branch xs) h g =
+        let own = forest_reaches h.1 xs h.2 h.5 g in
+        kind_has place from end kind h.0 (omega (arith, own, h.3)) (omega (arith, own, h.4))
+
+-- ---- where none is found
+
+by_found : {A : Type 0} (b : Bool) (x : A) (o : Option A) → (if b then Some x else o) ≡ None
+    → (b ≡ false) × (o ≡ None)
+by_found true x o h = absurd (cc)
+by_found false x o h = (refl, h)
+
+-- none of these has the place
+abbrev NoneHas : ℕ → Forest → Type 0
+NoneHas place xs = (x : Node) → InForest x xs → node_has place x ≡ false
+
+not_true : (b : Bool) → (b ≡ true → ⊥) → b ≡ false
+not_true true h = absurd (h refl)
+not_true false h = refl
+
+forest_without : (place p : ℕ) (xs : Forest) (end : ℕ) → Contiguous p xs end
+    → argument_among place xs ≡ None → NoneHas place xs
+forest_without place p no_nodes end h none x g = absurd g
+forest_without place p (nodes_and y ys) end h none x (inl e) =
+    rw e (by_found (node_has place y) _ _ none).0
+forest_without place p (nodes_and y ys) end h none x (inr (inl g)) =
+    not_true (node_has place x) (λ has.
+    let around = node_around place x has y h.2 g in
+    let lacks = (by_found (node_has place y) _ _ none).0 in absurd (cc))
+forest_without place p (nodes_and y ys) end h none x (inr (inr g)) =
+    forest_without place (node_end y) ys end h.3 (by_found (node_has place y) _ _ none).1 x g
+
+branch_without : (place from end : ℕ) (kind : PieceKind) (xs : Branch)
+    → GroupInside from end kind xs → argument_in place xs ≡ None → (x : Node) → InBranch x xs
+    → node_has place x ≡ false
+branch_without place from end kind no_branch h none x g = absurd g
+branch_without place from end kind (branch xs) h none x g =
+    forest_without place h.1 xs h.2 h.5 none x g
+
+-- ---- where one is found
+
+-- an argument has the place, and none in its groups does
+record IsAlone (place : ℕ) (argument : Node) (bytes : ℕ × ℕ) : Type 0 where
+  has : node_has place argument ≡ true
+  bytes_are : (node_place argument, node_end argument) ≡ bytes
+  alone : (x : Node) → InGroups x argument → node_has place x ≡ false
+
+-- such an argument is a node, or in its groups; or it is in a group
+abbrev OfNode : ℕ → ℕ × ℕ → Node → Type 0
+OfNode place bytes y =
+    (argument : Node) × ((argument ≡ y) ⊎ InGroups argument y) × IsAlone place argument bytes
+
+abbrev OfBranch : ℕ → ℕ × ℕ → Branch → Type 0
+OfBranch place bytes xs = (argument : Node) × InBranch argument xs × IsAlone place argument bytes
+
+innermost_of : (place : ℕ) (xs : Forest) (bytes : ℕ × ℕ) (argument : Node) → InForest argument xs
+    → IsAlone place argument bytes → IsInnermost place xs bytes
+innermost_of place xs bytes argument there is = record {
+  argument = argument;
+  there = there;
+  has = is.has;
+  bytes_are = is.bytes_are;
+  alone = is.alone;
+}
+
+among_first : (argument y : Node) (ys : Forest) → (argument ≡ y) ⊎ InGroups argument y
+    → InForest argument (nodes_and y ys)
+among_first argument y ys (inl e) = inl e
+among_first argument y ys (inr g) = inr (inl g)
+
+-- among nodes it is that of the first, or of the rest
+first_or_rest : (place : ℕ) (y : Node) (ys : Forest) (bytes : ℕ × ℕ) (b : Bool)
+    → (b ≡ true → innermost place y ≡ bytes → OfNode place bytes y)
+    → (argument_among place ys ≡ Some bytes → IsInnermost place ys bytes)
+    → (if b then Some (innermost place y) else argument_among place ys) ≡ Some bytes
+    → IsInnermost place (nodes_and y ys) bytes
+first_or_rest place y ys bytes true first rest e =
+    let one = first refl (some_same e) in
+    innermost_of place (nodes_and y ys) bytes one.0 (among_first one.0 y ys one.1) one.2
+first_or_rest place y ys bytes false first rest e =
+    let one = rest e in record {
+      argument = one.argument;
+      there = inr (inr one.there);
+      has = one.has;
+      bytes_are = one.bytes_are;
+      alone = one.alone;
+    }
+
+-- in a node it is that of its item format, or of its join, or the node itself
+in_groups : (place from end : ℕ) (kind : PieceKind) (held : Option Content) (item join : Branch)
+    (bytes : ℕ × ℕ) → GroupsInside (node from end kind held item join)
+    → has_place place from end kind ≡ true → (i j : Option (ℕ × ℕ)) → argument_in place item ≡ i
+    → argument_in place join ≡ j
+    → (argument_in place item ≡ Some bytes → OfBranch place bytes item)
+    → (argument_in place join ≡ Some bytes → OfBranch place bytes join)
+    → unwrap_or (option_or i j) (from, end) ≡ bytes
+    → OfNode place bytes (node from end kind held item join)
+in_groups place from end kind held item join bytes h has (Some own) j e f first second is =
+    let one = first (e ∙ ap Some is) in (one.0, inr (inl one.1), one.2)
+in_groups place from end kind held item join bytes h has None (Some own) e f first second is =
+    let one = second (f ∙ ap Some is) in (one.0, inr (inr one.1), one.2)
+in_groups place from end kind held item join bytes h has None None e f first second is = (
+  node from end kind held item join,
+  inl refl,
+  record { has = has; bytes_are = is; alone = none_inside },
+)
+  where
+    none_inside : (x : Node) → InBranch x item ⊎ InBranch x join → node_has place x ≡ false
+    none_inside x (inl g) = branch_without place from end kind item h.0 e x g
+    none_inside x (inr g) = branch_without place from end kind join h.1 f x g
+
+mutual
+  forest_innermost : (place p : ℕ) (xs : Forest) (end : ℕ) (bytes : ℕ × ℕ) → Contiguous p xs end
+      → argument_among place xs ≡ Some bytes → IsInnermost place xs bytes
+  forest_innermost place p no_nodes end bytes h found = absurd (cc)
+  forest_innermost place p (nodes_and y ys) end bytes h found =
+      first_or_rest place y ys bytes (node_has place y)
+      (λ has is. node_innermost place y bytes h.2 has is)
+      (λ e. forest_innermost place (node_end y) ys end bytes h.3 e) found
+
+  branch_innermost : (place from end : ℕ) (kind : PieceKind) (xs : Branch) (bytes : ℕ × ℕ)
+      → GroupInside from end kind xs → argument_in place xs ≡ Some bytes
+      → OfBranch place bytes xs
+  branch_innermost place from end kind no_branch bytes h found = absurd (cc)
+  branch_innermost place from end kind (branch xs) bytes h found =
+      let one = forest_innermost place h.1 xs h.2 bytes h.5 found in (
+        one.argument,
+        one.there,
+        record { has = one.has; bytes_are = one.bytes_are; alone = one.alone },
+      )
+
+  node_innermost : (place : ℕ) (y : Node) (bytes : ℕ × ℕ) → GroupsInside y
+      → node_has place y ≡ true → innermost place y ≡ bytes → OfNode place bytes y
+  node_innermost place (node from end kind held item join) bytes h has is =
+      in_groups place from end kind held item join bytes h has (argument_in place item)
+      (argument_in place join) refl refl
+      (λ e. branch_innermost place from end kind item bytes h.0 e)
+      (λ e. branch_innermost place from end kind join bytes h.1 e) is
+
+-- ---- of a text
+
+pub innermost_found : (a : At) (place : ℕ) (bytes : ℕ × ℕ)
+    → argument_among place (as_forest (nodes a)) ≡ Some bytes
+    → IsInnermost place (as_forest (nodes a)) bytes
+innermost_found a place bytes e =
+    forest_innermost place a.place (as_forest (nodes a)) _ bytes (nodes_contiguous a) e
+
+pub none_found : (a : At) (place : ℕ) → argument_among place (as_forest (nodes a)) ≡ None
+    → NoneHas place (as_forest (nodes a))
+none_found a place e =
+    forest_without place a.place (as_forest (nodes a)) _ (nodes_contiguous a) e

@@ -1,0 +1,201 @@
+-- A row means what pairs of its names and values mean, and resembles a sample if they do.
+use Rattle.std.proofs.Common.{◌≡◌, ◌≢◌, ◌∙◌, refl, sym, ap, subst, ℕ, Bool, true, false, cond}
+use Rattle.std.proofs.Common.{List, [], ◌∷◌, ◌≤◌, length, map, arith}
+use Rattle.std.proofs.Common.{Option, Some, None, option_map}
+use Rattle.std.proofs.lemmas.List.{reverse-append}
+use Rattle.std.proofs.lemmas.List.Folds.{find-append}
+use Rattle.std.specs.Borrow.{Bor}
+use Rattle.std.specs.List.{find, zip}
+use Rattle.std.specs.Option.{option_and_then, option_or}
+use Rattle.std.specs.Prelude.{⊤, reverse}
+use Rattle.std.specs.Str.{bytes_eq, encode_utf8_all}
+use Rattle.interpolator_render.specs.Views.{Shown}
+use Rattle.interpolator_render.specs.Written.{Written}
+use Rattle.interpolator_render.specs.declared.view.Spec.{Spec}
+use Rattle.interpolator_render.specs.declared.view.Trait.{Trait}
+use Rattle.interpolator_syntax.specs.At.{At}
+use Rattle.interpolator_syntax.specs.Faults.{Answer, no_memory}
+use Rattle.interpolator_eval.specs.Contexts.{found_by_pairs}
+use Rattle.interpolator_eval.specs.Meaning.AskedNames.{asked_names, AgreeOn}
+use Rattle.interpolator_eval.specs.Meaning.Environments.{Environment, environment, slots_under}
+use Rattle.interpolator_eval.specs.Meaning.Meanings.{means}
+use Rattle.interpolator_eval.specs.Meaning.Outcomes.{Outcome}
+use Rattle.interpolator_eval.specs.Meaning.Resembling.{ResemblesFound, ResemblesOn}
+use Rattle.interpolator_eval.specs.Slots.{slots_of}
+use Rattle.interpolator_eval.specs.declared.slots.Formattable.{Formattable}
+use Rattle.interpolator_eval.proofs.MeaningLemmas.EqualLemmas.{means_same}
+use Rattle.interpolator_laws.specs.SamplePairs.{PairsResemble, RowResembles}
+use Rattle.interpolator_laws.specs.Unfailing.{OnlyRefused}
+use Rattle.interpolator_pieces.specs.NodeSamples.{faults_over, pads_a_list}
+use Rattle.interpolator_prepared.specs.Rows.{found_by_row, last_position, later_or_first}
+use Rattle.interpolator_prepared.specs.Rows.{pair_names, row_at}
+use Rattle.interpolator_laws.proofs.ResembleLemmas.{no_fault, no_memory_point}
+use Rattle.interpolator_laws.proofs.SamplePairLemmas.{pairs_resemble}
+use Rattle.interpolator_laws.proofs.UnfailingLemmas.{only_refused, wants_none}
+
+-- ---- a name
+
+module _ {Y : Type 0} (bytes : List ℕ) where
+  abbrev is_named : Bor (List ℕ) × Formattable Y → Bool
+  is_named pair = bytes_eq bytes pair.0.now
+
+  -- the value at the position that was found is that of the pair that was found
+  abbrev Agree : List (Formattable Y) → Option ℕ → Option (Bor (List ℕ) × Formattable Y) → Type 0
+  Agree row None None = ⊤
+  Agree row (Some k) (Some p) = row_at row k ≡ Some (slots_of p.1)
+  Agree row _ _ = ⊥
+
+  agree_more :
+      (x : Formattable Y) (row : List (Formattable Y)) (name : Bor (List ℕ)) (o : Option ℕ)
+      (r : Option (Bor (List ℕ) × Formattable Y)) (b : Bool) → Agree row o r
+      → Agree (x ∷ row) (later_or_first o b) (option_or r (cond b (Some (name, x)) None))
+  agree_more x row name (Some k) (Some p) b h = h
+  agree_more x row name (Some k) None b h = absurd h
+  agree_more x row name None (Some p) b h = absurd h
+  agree_more x row name None None true h = refl
+  agree_more x row name None None false h = tt
+
+  agree_found :
+      (row : List (Formattable Y)) (o : Option ℕ) (r : Option (Bor (List ℕ) × Formattable Y))
+      → Agree row o r
+      → option_and_then (row_at row) o ≡ option_map slots_of (option_map (λ pair. pair.1) r)
+  agree_found row (Some k) (Some p) h = h
+  agree_found row (Some k) None h = absurd h
+  agree_found row None (Some p) h = absurd h
+  agree_found row None None h = refl
+
+module _ {Y : Type 0} where
+  agree : (row : List (Formattable Y)) (names : List (Bor (List ℕ))) (bytes : List ℕ)
+      → length names ≤ length row
+      → Agree bytes row (last_position (map (λ name. name.now) names) bytes)
+      (find (is_named bytes) (reverse (zip names row)))
+  agree row [] bytes h = tt
+  agree [] (n ∷ names) bytes h = absurd (omega (arith, h))
+  agree (x ∷ row) (n ∷ names) bytes h =
+      let pairs = zip names row in
+      let found : find (is_named bytes) (reverse ((n, x) ∷ pairs))
+      ≡ option_or (find (is_named bytes) (reverse pairs))
+      (cond (bytes_eq bytes n.now) (Some (n, x)) None) =
+      ap (find (is_named bytes)) (reverse-append ((n, x) ∷ []) pairs)
+      ∙ find-append (is_named bytes) (reverse pairs) ((n, x) ∷ []) in
+      rw (found) (agree_more bytes x row n (last_position (map (λ name. name.now) names) bytes)
+      (find (is_named bytes) (reverse pairs)) (bytes_eq bytes n.now)
+      (agree row names bytes (omega (arith, h))))
+
+  -- the values of a row under names are those of their pairs
+  pub found_in_pairs : (row : List (Formattable Y)) (names : List (Bor (List ℕ))) (name : List ℕ)
+      → length names ≤ length row
+      → found_by_pairs (zip names row) name
+      ≡ found_by_row (map (λ own. own.now) names) (row_at row) name
+  found_in_pairs row names name h =
+      let bytes = encode_utf8_all name in
+      sym (agree_found bytes row (last_position (map (λ own. own.now) names) bytes)
+      (find (is_named bytes) (reverse (zip names row))) (agree row names bytes h))
+
+  rows_agree : (row : List (Formattable Y)) (names : List (Bor (List ℕ))) (asked : List (List ℕ))
+      → length names ≤ length row
+      → AgreeOn (environment (found_by_row (map (λ own. own.now) names) (row_at row)))
+      (environment (found_by_pairs (zip names row))) asked
+  rows_agree row names [] h = tt
+  rows_agree row names (name ∷ asked) h =
+      (sym (found_in_pairs row names name h), rows_agree row names asked h)
+
+  -- so a format means with a row what it means with these pairs
+  pub row_means : (shows : Y → Trait → Spec → Shown) (row : List (Formattable Y))
+      (names : List (Bor (List ℕ))) (a : At) → length names ≤ length row
+      → means shows (environment (found_by_row (map (λ own. own.now) names) (row_at row))) a
+      ≡ means shows (environment (found_by_pairs (zip names row))) a
+  row_means shows row names a h =
+      means_same shows (environment (found_by_row (map (λ own. own.now) names) (row_at row)))
+      (environment (found_by_pairs (zip names row))) a (rows_agree row names (asked_names a) h)
+
+-- ---- the sample
+
+module _ {X Y : Type 0} (shows : X → Trait → Spec → Shown) (others : Y → Trait → Spec → Shown) where
+  abbrev names_in : List (Bor (List ℕ) × Formattable X) → List (Bor (List ℕ))
+  names_in sample = map (λ pair. pair.0) sample
+
+  names_shown : (sample : List (Bor (List ℕ) × Formattable X))
+      → map (λ name. name.now) (names_in sample) ≡ pair_names sample
+  names_shown [] = refl
+  names_shown (q ∷ qs) = ap (λ names. q.0.now ∷ names) (names_shown qs)
+
+  reached : (row : List (Formattable Y)) (sample : List (Bor (List ℕ) × Formattable X))
+      → RowResembles shows others row sample → length (names_in sample) ≤ length row
+  reached row [] h = omega arith
+  reached [] (q ∷ qs) h = absurd h
+  reached (x ∷ row) (q ∷ qs) h = omega (arith, reached row qs h.1)
+
+  pairs_alike : (row : List (Formattable Y)) (sample : List (Bor (List ℕ) × Formattable X))
+      → RowResembles shows others row sample
+      → PairsResemble shows others (zip (names_in sample) row) sample
+  pairs_alike row [] h = tt
+  pairs_alike [] (q ∷ qs) h = absurd h
+  pairs_alike (x ∷ row) (q ∷ qs) h = (refl, h.0, pairs_alike row qs h.1)
+
+  of_pairs : (row : List (Formattable Y)) (sample : List (Bor (List ℕ) × Formattable X))
+      (names : List (List ℕ)) → RowResembles shows others row sample
+      → ResemblesOn shows others (environment (found_by_pairs (zip (names_in sample) row)))
+      (environment (found_by_pairs sample)) names
+      → ResemblesOn shows others (environment (found_by_row (pair_names sample) (row_at row)))
+      (environment (found_by_pairs sample)) names
+  of_pairs row sample [] h k = tt
+  of_pairs row sample (name ∷ names) h k =
+      let same : found_by_pairs (zip (names_in sample) row) name
+      ≡ found_by_row (pair_names sample) (row_at row) name =
+      found_in_pairs row (names_in sample) name (reached row sample h)
+      ∙ ap (λ own. found_by_row own (row_at row) name) (names_shown sample) in (
+        subst (λ o. ResemblesFound shows others o (slots_under (environment (found_by_pairs sample)) name))
+            same k.0,
+        of_pairs row sample names h k.1,
+      )
+
+  -- a row resembles a sample under whatever names
+  pub row_resembles : (row : List (Formattable Y)) (sample : List (Bor (List ℕ) × Formattable X))
+      (names : List (List ℕ)) → RowResembles shows others row sample
+      → ResemblesOn shows others (environment (found_by_row (pair_names sample) (row_at row)))
+      (environment (found_by_pairs sample)) names
+  row_resembles row sample names h =
+      of_pairs row sample names h
+      (pairs_resemble shows others (zip (names_in sample) row) sample names
+      (pairs_alike row sample h))
+
+-- ---- what is written
+
+module _ {X Y : Type 0} (shows : X → Trait → Spec → Shown) (others : Y → Trait → Spec → Shown)
+    (sample : List (Bor (List ℕ) × Formattable X)) (row : List (Formattable Y)) where
+  abbrev by_names : List (List ℕ) → Environment Y
+  by_names names = environment (found_by_row names (row_at row))
+
+  module _ (a : At) (none : faults_over shows (found_by_pairs sample) a ≡ [])
+      (like : RowResembles shows others row sample) where
+    like_on : ResemblesOn shows others (by_names (pair_names sample))
+        (environment (found_by_pairs sample)) (asked_names a)
+    like_on = row_resembles shows others row sample (asked_names a) like
+
+    -- no fault is meant
+    row_fault : (means others (by_names (pair_names sample)) a).fault ≡ None
+    row_fault =
+        no_fault shows others (found_by_pairs sample) (by_names (pair_names sample)) a none like_on
+
+    module _ (names : List (List ℕ)) (named : names ≡ pair_names sample) (old new : Written)
+        (answer : Option Answer) (o : Outcome (means others (by_names names) a) old new answer) where
+      no_fault_named : (means others (by_names names) a).fault ≡ None
+      no_fault_named = ap (λ ns. (means others (by_names ns) a).fault) named ∙ row_fault
+
+      -- so all is written, unless the writer has refused or there was no memory
+      pub writes_all : OnlyRefused new answer
+      writes_all = only_refused (means others (by_names names) a) old new answer no_fault_named o
+
+      -- and none is taken, if no list is under a width
+      pub wants_no_memory : pads_a_list a ≡ false → answer ≢ Some no_memory
+      wants_no_memory pads =
+          wants_none (means others (by_names names) a) old new answer no_fault_named
+          (ap (λ ns. (means others (by_names ns) a).memory_points) named
+          ∙ no_memory_point shows others (found_by_pairs sample) (by_names (pair_names sample)) a
+          none like_on pads) o
+
+  pub means_no_fault : (a : At) → faults_over shows (found_by_pairs sample) a ≡ []
+      → RowResembles shows others row sample
+      → (means others (by_names (pair_names sample)) a).fault ≡ None
+  means_no_fault a none like = row_fault a none like

@@ -1,0 +1,3 @@
+-- What only laws say.
+pub mod SamplePairs
+pub mod Unfailing

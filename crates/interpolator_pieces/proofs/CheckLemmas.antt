@@ -1,0 +1,91 @@
+-- The first fault of stored pieces, from those of their parts.
+use Rattle.std.proofs.Common.{◌≡◌, ◌∙◌, refl, sym, ap, ℕ, true, List, [], ◌∷◌, ◌++◌}
+use Rattle.std.proofs.Common.{Option, Some, None, IsSome, option_map, Result, Ok, Err, IsErr}
+use Rattle.interpolator_syntax.specs.At.{At}
+use Rattle.interpolator_syntax.specs.Faults.{Fault, Answer, fault}
+use Rattle.interpolator_pieces.specs.NodeChecks.{fault_list, first_fault, form_fault}
+use Rattle.interpolator_pieces.specs.NodeChecks.{form_end_fault, stored_own_fault}
+use Rattle.interpolator_pieces.specs.NodeChecks.{stored_end_fault, visit_faults, text_faults}
+use Rattle.interpolator_pieces.specs.Visits.{Visit, enter, leave, Walks, text_visits}
+use Rattle.interpolator_pieces.specs.declared.walk.Level.{Level}
+use Rattle.interpolator_syntax.specs.Faults.{result_answer, answer_of}
+use Rattle.interpolator_syntax.specs.declared.error.Error.{Error}
+use Rattle.interpolator_pieces.proofs.VisitLemmas.{collects_first, text_tells}
+use Rattle.interpolator_syntax.specs.Nodes.{Node, Content, node}
+use Rattle.interpolator_pieces.specs.Stored.{held_of, node_of}
+use Rattle.interpolator_pieces.specs.Stored.{branch_of, node_whole}
+use Rattle.interpolator_pieces.specs.declared.piece.Form.{Form}
+use Rattle.interpolator_pieces.specs.declared.piece.Piece.{Piece}
+use Rattle.interpolator_pieces.specs.declared.piece.Piece.TheViews.{out-Piece}
+use Rattle.interpolator_pieces.proofs.StoredLemmas.{node_of_out, by_form}
+use Rattle.interpolator_pieces.proofs.WholePieceLemmas.{fits_text}
+
+-- ---- the first of some faults
+
+abbrev pub told : List Fault → Option Answer
+told xs = option_map fault (first_fault xs)
+
+told_first : (xs ys : List Fault) (q : Answer) → Some q ≡ told xs → Some q ≡ told (xs ++ ys)
+told_first [] ys q h = absurd (cc)
+told_first (x ∷ xs) ys q h = h
+
+told_after : (xs ys : List Fault) → None ≡ told xs → told ys ≡ told (xs ++ ys)
+told_after [] ys h = refl
+told_after (x ∷ xs) ys h = absurd (cc)
+
+told_one : (o : Option Fault) → told (fault_list o) ≡ option_map fault o
+told_one None = refl
+told_one (Some f) = refl
+
+-- ---- the faults of one stored piece, when it is entered and when it is left
+
+module _ (bs : List ℕ) (x : Piece) (whole : node_whole (node_of bs x) ≡ true) (level : Level) where
+  abbrev with_held : Option Content → Node
+  with_held held =
+      let y = out-Piece x in
+      node y.place y.end y.kind held (branch_of bs y.item) (branch_of bs y.join)
+
+  abbrev Collects : Form → Option Content → Type 0
+  Collects form held =
+      let y = out-Piece x in
+      (visit_faults (enter level (with_held held)) ≡ fault_list (form_fault y.spec y.spec_end form))
+      × (visit_faults (leave level (with_held held))
+      ≡ fault_list (form_end_fault y.kind y.spec_end form))
+
+  piece_tells : Collects (out-Piece x).form (held_of bs x)
+  piece_tells =
+      let y = out-Piece x in
+      by_form bs y.place y.from y.to y.spec_end y.spec Collects (λ cs. (refl, refl))
+      (λ name e. (refl, refl)) (λ t name e. (refl, refl)) (λ range name e. (refl, refl))
+      (λ fault. (refl, refl)) y.form (fits_text bs x whole).held
+
+  pub own_told : option_map fault (stored_own_fault x)
+      ≡ told (visit_faults (enter level (node_of bs x)))
+  own_told =
+      sym (ap (λ n. told (visit_faults (enter level n))) (node_of_out bs x)
+      ∙ ap told piece_tells.0 ∙ told_one (stored_own_fault x))
+
+  pub end_told : option_map fault (stored_end_fault x)
+      ≡ told (visit_faults (leave level (node_of bs x)))
+  end_told =
+      sym (ap (λ n. told (visit_faults (leave level n))) (node_of_out bs x)
+      ∙ ap told piece_tells.1 ∙ told_one (stored_end_fault x))
+
+-- ---- the first fault of a text
+
+told_some : (answer : Result (Unit {0}) Error) → IsErr answer → IsSome (result_answer answer)
+told_some (Ok u) bad = absurd (cc)
+told_some (Err e) bad = refl
+
+pub text_told : {V : Type 0} (step : V → Visit → V → Result (Unit {0}) Error → Type 0)
+    → ((old new : V) (x : Visit) (answer : Result (Unit {0}) Error) → step old x new answer
+    → result_answer answer ≡ told (visit_faults x))
+    → (a : At) (old new : V) (answer : Result (Unit {0}) Error)
+    → Walks step old (text_visits a) new answer → result_answer answer ≡ told (text_faults a)
+text_told {V = V} step collects a old new answer h =
+    let keeps : V → Type 0 = λ v. Unit {0} in
+    (collects_first step visit_faults told result_answer keeps refl
+    (λ e xs ys some k. told_first xs ys (answer_of e) k) (λ xs ys k. told_after xs ys k)
+    (λ old new x answer k s. (tt, collects old new x answer s, told_some answer))
+    old new (text_visits a) answer tt h).0
+    ∙ ap told (text_tells a)

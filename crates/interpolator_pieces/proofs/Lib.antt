@@ -1,0 +1,23 @@
+-- The lemmas of stored pieces.
+pub mod AllArgumentLemmas
+pub mod CheckLemmas
+pub mod CheckPlaceLemmas
+pub mod CollectLemmas
+pub mod CopyLemmas
+pub mod CostLawLemmas
+pub mod CostLemmas
+pub mod DepthLemmas
+pub mod ExtentLemmas
+pub mod LineLemmas
+pub mod ParseLemmas
+pub mod PartLemmas
+pub mod PlaceLemmas
+pub mod RangeLemmas
+pub mod RunLemmas
+pub mod StoredLemmas
+pub mod StoredNameLemmas
+pub mod VisitLemmas
+pub mod WalkLemmas
+pub mod WholeLemmas
+pub mod WholePieceLemmas
+pub mod WithinLemmas

@@ -1,0 +1,109 @@
+-- The node of a stored piece, one layer at a time.
+use Rattle.std.proofs.Common.{◌≡◌, refl, ap, ◌∙◌, ℕ, suc, List, [], ◌∷◌, ◌++◌, Option, Some, None}
+use Rattle.std.proofs.Common.{Bool, true, false, nat_lt, IsSome, option_map}
+use Rattle.std.specs.Prelude.{if◌then◌else◌}
+use Rattle.std.specs.Global.{Vec, Box}
+use Rattle.interpolator_render.specs.declared.view.Trait.{Trait}
+use Rattle.interpolator_render.specs.declared.view.Trait.TheVariants as traits
+use Rattle.interpolator_render.specs.declared.view.Spec.{Spec}
+use Rattle.interpolator_syntax.specs.Faults.{argument_fault_of}
+use Rattle.interpolator_syntax.specs.Nodes.{Node, node, Content, text_content, argument_content, fault_content}
+use Rattle.interpolator_syntax.specs.Nodes.{target_value, target_list}
+use Rattle.interpolator_syntax.specs.SpecTexts.{plain_spec}
+use Rattle.interpolator_syntax.specs.declared.argument_fault.ArgumentFault.{ArgumentFault}
+use Rattle.interpolator_syntax.specs.declared.range.Range.{Range}
+use Rattle.interpolator_pieces.specs.Stored.{node_step, node_of, nodes_of, branch_of, held_of}
+use Rattle.interpolator_pieces.specs.Stored.{stored_held, part, range_of}
+use Rattle.interpolator_syntax.specs.declared.piece_kind.PieceKind.{PieceKind}
+use Rattle.interpolator_pieces.specs.declared.piece.Form.{Form}
+use Rattle.interpolator_pieces.specs.declared.piece.Form.TheVariants as forms
+use Rattle.interpolator_pieces.specs.declared.piece.Piece.{Piece}
+use Rattle.interpolator_pieces.specs.declared.piece.Piece.TheOpen.{Piece-F}
+use Rattle.interpolator_pieces.specs.declared.piece.Piece.TheViews.{out-Piece, roll-Piece}
+use Rattle.interpolator_pieces.specs.declared.piece.Piece.TheFolds.{map-Piece, fold-roll-Piece}
+use Rattle.interpolator_pieces.specs.declared.piece.Piece.TheFolds.{fold_out-Piece}
+
+at_groups :
+    (bs : List ℕ) (item join : Option (Vec Piece)) (place end : ℕ) (kind : PieceKind)
+    (from to spec_end : ℕ) (spec : Spec) (form : Form)
+    → node_step bs (map-Piece Piece Node (node_of bs) (record {
+      place = place;
+      end = end;
+      kind = kind;
+      item = item;
+      join = join;
+      from = from;
+      to = to;
+      spec_end = spec_end;
+      spec = spec;
+      form = form;
+    }))
+    ≡ node place end kind (stored_held bs place from to spec_end spec form) (branch_of bs item)
+    (branch_of bs join)
+at_groups bs None None place end kind from to spec_end spec form = refl
+at_groups bs None (Some w) place end kind from to spec_end spec form = refl
+at_groups bs (Some v) None place end kind from to spec_end spec form = refl
+at_groups bs (Some v) (Some w) place end kind from to spec_end spec form = refl
+
+-- the node of a piece that was made of its parts
+pub node_of_roll :
+    (bs : List ℕ) (x : Piece-F Piece) → node_of bs (roll-Piece x)
+    ≡ node x.place x.end x.kind (stored_held bs x.place x.from x.to x.spec_end x.spec x.form)
+    (branch_of bs x.item) (branch_of bs x.join)
+unfolding node_of
+node_of_roll bs x =
+    fold-roll-Piece Node (node_step bs) x
+    ∙ at_groups bs x.item x.join x.place x.end x.kind x.from x.to x.spec_end x.spec x.form
+
+-- the node of a piece, by its parts
+pub node_of_out :
+    (bs : List ℕ) (x : Piece) → node_of bs x
+    ≡ node (out-Piece x).place (out-Piece x).end (out-Piece x).kind (held_of bs x)
+    (branch_of bs (out-Piece x).item) (branch_of bs (out-Piece x).join)
+unfolding node_of
+node_of_out bs x =
+    let y = out-Piece x in
+    fold_out-Piece Node (node_step bs) x
+    ∙ at_groups bs y.item y.join y.place y.end y.kind y.from y.to y.spec_end y.spec y.form
+
+-- one more piece is one more node
+pub nodes_of_push :
+    (bs : List ℕ) (xs : List Piece) (x : Piece)
+    → nodes_of bs (xs ++ (x ∷ [])) ≡ nodes_of bs xs ++ (node_of bs x ∷ [])
+nodes_of_push bs [] x = refl
+nodes_of_push bs (y ∷ xs) x = ap (λ ys. node_of bs y ∷ ys) (nodes_of_push bs xs x)
+
+-- what a stored piece that fits its text holds, by its form
+module _ (bs : List ℕ) (place from to end : ℕ) (spec : Spec) (P : Form → Option Content → Type 0)
+    (of_text : (cs : List ℕ) → P forms.Text (Some (text_content from cs)))
+    (of_name : (name : List ℕ) → part bs from to ≡ Some name → P forms.Plain
+    (Some (argument_content (suc place) name plain_spec (target_value traits.Display) end)))
+    (of_value : (t : Trait) (name : List ℕ) → part bs from to ≡ Some name → P (forms.Value t)
+    (Some (argument_content (suc place) name spec (target_value t) end)))
+    (of_list : (range : Option (Box Range)) (name : List ℕ) → part bs from to ≡ Some name
+    → P (forms.List range) (Some (argument_content (suc place) name spec (target_list (range_of range)) end)))
+    (of_fault : (fault : Box ArgumentFault) → P (forms.Broken fault)
+    (Some (fault_content (argument_fault_of fault.value)))) where
+  by_text : (o : Option (List ℕ)) → IsSome (option_map (λ cs. text_content from cs) o)
+      → P forms.Text (option_map (λ cs. text_content from cs) o)
+  by_text None h = absurd (cc)
+  by_text (Some cs) h = of_text cs
+
+  by_name : (form : Form) (held : List ℕ → Content)
+      → ((name : List ℕ) → part bs from to ≡ Some name → P form (Some (held name)))
+      → (within : Bool) (o : Option (List ℕ)) → part bs from to ≡ o
+      → IsSome (option_map held (if within then o else None))
+      → P form (option_map held (if within then o else None))
+  by_name form held gives true None e h = absurd (cc)
+  by_name form held gives true (Some name) e h = gives name e
+  by_name form held gives false o e h = absurd (cc)
+
+  pub by_form : (form : Form) → IsSome (stored_held bs place from to end spec form)
+      → P form (stored_held bs place from to end spec form)
+  by_form forms.Text h = by_text (part bs from to) h
+  by_form forms.Plain h = by_name forms.Plain _ of_name (nat_lt place from) (part bs from to) refl h
+  by_form (forms.Value t) h =
+      by_name (forms.Value t) _ (of_value t) (nat_lt place from) (part bs from to) refl h
+  by_form (forms.List range) h =
+      by_name (forms.List range) _ (of_list range) (nat_lt place from) (part bs from to) refl h
+  by_form (forms.Broken fault) h = of_fault fault

@@ -1,0 +1,243 @@
+-- What visitors gather on a walk, and what that is for the pieces of a text.
+use Rattle.std.proofs.Common.{◌≡◌, ◌∙◌, refl, sym, ap, arith, ℕ, ◌+◌, List, [], ◌∷◌, ◌++◌}
+use Rattle.std.proofs.Common.{Option, Some, None, Result, Ok, Err, inl, inr, append_assoc, Bool, true}
+use Rattle.std.proofs.Common.{IsSome, IsErr}
+use Rattle.std.proofs.lemmas.Grind.{flat_map-append}
+use Rattle.std.proofs.lemmas.List.{append-nil}
+use Rattle.std.proofs.Math.Nat.{max-zero}
+use Rattle.std.specs.Prelude.{flat_map, max}
+use Rattle.interpolator_syntax.specs.At.{At}
+use Rattle.interpolator_syntax.specs.Nodes.{Node, node, Branch, no_branch, branch}
+use Rattle.interpolator_syntax.specs.Nodes.{Forest, no_nodes, nodes_and, as_forest, nodes}
+use Rattle.interpolator_eval.specs.Meaning.AskedNames.{held_asks, node_asks, branch_asks}
+use Rattle.interpolator_eval.specs.Meaning.AskedNames.{forest_asks, asked_names}
+use Rattle.interpolator_pieces.specs.NodeChecks.{node_faults, branch_faults, forest_faults}
+use Rattle.interpolator_pieces.specs.NodeChecks.{text_faults}
+use Rattle.interpolator_pieces.specs.NodeChecks.{visit_faults, fault_list, own_fault}
+use Rattle.interpolator_pieces.specs.NodeExtents.{node_depth, branch_depth, forest_depth}
+use Rattle.interpolator_pieces.specs.NodeExtents.{node_extent, branch_extent, forest_extent}
+use Rattle.interpolator_pieces.specs.NodeExtents.{visit_depth, inner_depth, visit_extent}
+use Rattle.interpolator_pieces.specs.NodeNames.{visit_asks}
+use Rattle.interpolator_pieces.specs.Visits.{Visit, leave, Walks, inner, greatest}
+use Rattle.interpolator_pieces.specs.Visits.{node_visits, branch_visits, forest_visits}
+use Rattle.interpolator_pieces.specs.Visits.{text_visits, outermost_spot}
+use Rattle.interpolator_pieces.specs.Stored.{node_whole, branch_whole, forest_whole}
+use Rattle.interpolator_pieces.specs.declared.walk.Level.{Level}
+use Rattle.interpolator_pieces.proofs.WholeLemmas.{nodes_whole}
+use Rattle.interpolator_pieces.proofs.WholePieceLemmas.{both}
+
+-- ---- what a visitor gathers
+
+module _ {V E : Type 0} (step : V → Visit → V → Result (Unit {0}) E → Type 0) where
+  -- each visit adds to a list
+  pub gathers : {B : Type 0} (content : V → List B) (gives : Visit → List B)
+      → ((old new : V) (x : Visit) → step old x new (Ok tt) → content new ≡ content old ++ gives x)
+      → (old new : V) (xs : List Visit) → Walks step old xs new (Ok tt)
+      → content new ≡ content old ++ flat_map gives xs
+  gathers content gives adds old new [] h = ap content h.0 ∙ sym (append-nil (content old))
+  gathers content gives adds old new (x ∷ xs) (inl h) = let wrong = h.1 in absurd (cc)
+  gathers content gives adds old new (x ∷ xs) (inr (mid, (s, h))) =
+      gathers content gives adds mid new xs h
+      ∙ ap (λ c. c ++ flat_map gives xs) (adds old mid x s)
+      ∙ append_assoc (content old) (gives x) (flat_map gives xs)
+
+  -- each visit gives a number, and the greatest is kept
+  pub gathers_greatest : (content : V → ℕ) (asks : Visit → ℕ)
+      → ((old new : V) (x : Visit) (answer : Result (Unit {0}) E) → step old x new answer
+      → (answer ≡ Ok tt) × (content new ≡ max (content old) (asks x)))
+      → (old new : V) (xs : List Visit) (answer : Result (Unit {0}) E)
+      → Walks step old xs new answer
+      → (answer ≡ Ok tt) × (content new ≡ max (content old) (greatest asks xs))
+  gathers_greatest content asks adds old new [] answer h =
+      (h.1, ap content h.0 ∙ sym (max-zero (content old)))
+  gathers_greatest content asks adds old new (x ∷ xs) answer (inl h) =
+      let ok = (adds old new x answer h.0).0 in let wrong = rw ok at h.1 in absurd (cc)
+  gathers_greatest content asks adds old new (x ∷ xs) answer (inr (mid, (s, h))) =
+      let first = (adds old mid x (Ok tt) s).1 in
+      let rest = gathers_greatest content asks adds mid new xs answer h in
+      (rest.0, omega (arith, first, rest.1))
+
+  -- the walk stops at the first of what visits give
+  module _ {A B : Type 0} (gives : Visit → List B) (first : List B → Option A)
+      (told : Result (Unit {0}) E → Option A) (keeps : V → Type 0)
+      (nothing : told (Ok tt) ≡ first [])
+      (found : (e : E) (xs ys : List B) → IsSome (told (Err e)) → told (Err e) ≡ first xs
+      → told (Err e) ≡ first (xs ++ ys))
+      (after : (xs ys : List B) → told (Ok tt) ≡ first xs → first ys ≡ first (xs ++ ys))
+      (collects : (old new : V) (x : Visit) (answer : Result (Unit {0}) E) → keeps old
+      → step old x new answer
+      → keeps new × (told answer ≡ first (gives x)) × (IsErr answer → IsSome (told answer))) where
+    pub collects_first : (old new : V) (xs : List Visit) (answer : Result (Unit {0}) E) → keeps old
+        → Walks step old xs new answer
+        → (told answer ≡ first (flat_map gives xs)) × (IsErr answer → IsSome (told answer))
+    collects_first old new [] (Ok u) k h = (nothing, λ bad. absurd (cc))
+    collects_first old new [] (Err e) k h = let wrong = h.1 in absurd (cc)
+    collects_first old new (x ∷ xs) (Ok u) k (inl h) = let wrong = h.1 in absurd (cc)
+    collects_first old new (x ∷ xs) (Err e) k (inl h) =
+        let one = collects old new x (Err e) k h.0 in
+        (found e (gives x) (flat_map gives xs) (one.2 refl) one.1, one.2)
+    collects_first old new (x ∷ xs) answer k (inr (mid, (s, h))) =
+        let one = collects old mid x (Ok tt) k s in
+        let rest = collects_first mid new xs answer one.0 h in
+        (rest.0 ∙ after (gives x) (flat_map gives xs) one.1, rest.1)
+
+-- ---- what visits give, of pieces
+
+module _ {B : Type 0} (gives : Visit → List B) where
+  -- what the visits of two groups give, and the one after them
+  around : (xs ys : List Visit) (z : Visit)
+      → flat_map gives (xs ++ (ys ++ (z ∷ [])))
+      ≡ flat_map gives xs ++ (flat_map gives ys ++ gives z)
+  around xs ys z =
+      flat_map-append gives xs (ys ++ (z ∷ []))
+      ∙ ap (λ ws. flat_map gives xs ++ ws) (flat_map-append gives ys (z ∷ [])
+      ∙ ap (λ ws. flat_map gives ys ++ ws) (append-nil (gives z)))
+
+module _ (level : Level) where
+  abbrev item_of : Branch → List Visit
+  item_of item = branch_visits (inner true level) item
+
+  abbrev join_of : Branch → List Visit
+  join_of join = branch_visits (inner level.in_item level) join
+
+-- the names of pieces
+mutual
+  node_names : (level : Level) (x : Node)
+      → flat_map visit_asks (node_visits level x) ≡ node_asks level.in_item x
+  node_names level (node place end kind held item join) =
+      ap (λ names. held_asks level.in_item held ++ names)
+      (around visit_asks (item_of level item) (join_of level join)
+      (leave level (node place end kind held item join))
+      ∙ rw (branch_names (inner true level) item, branch_names (inner level.in_item level) join)
+      (ap (λ names. branch_asks true item ++ names) (append-nil (branch_asks level.in_item join))))
+
+  branch_names : (level : Level) (x : Branch)
+      → flat_map visit_asks (branch_visits level x) ≡ branch_asks level.in_item x
+  branch_names level no_branch = refl
+  branch_names level (branch xs) = forest_names level xs
+
+  pub forest_names : (level : Level) (xs : Forest)
+      → flat_map visit_asks (forest_visits level xs) ≡ forest_asks level.in_item xs
+  forest_names level no_nodes = refl
+  forest_names level (nodes_and x xs) =
+      flat_map-append visit_asks (node_visits level x) (forest_visits level xs)
+      ∙ rw (node_names level x, forest_names level xs) refl
+
+-- their faults
+mutual
+  node_told : (level : Level) (x : Node) → node_whole x ≡ true
+      → flat_map visit_faults (node_visits level x) ≡ node_faults x
+  node_told level (node place end kind None item join) h = absurd (cc)
+  node_told level (node place end kind (Some held) item join) h =
+      let whole = both (branch_whole item) (branch_whole join) h in
+      ap (λ fs. fault_list (own_fault held) ++ fs)
+      (around visit_faults (item_of level item) (join_of level join)
+      (leave level (node place end kind (Some held) item join))
+      ∙ rw (
+        branch_told (inner true level) item whole.0,
+        branch_told (inner level.in_item level) join whole.1,
+      )
+      refl)
+
+  branch_told : (level : Level) (x : Branch) → branch_whole x ≡ true
+      → flat_map visit_faults (branch_visits level x) ≡ branch_faults x
+  branch_told level no_branch h = refl
+  branch_told level (branch xs) h = forest_told level xs h
+
+  pub forest_told : (level : Level) (xs : Forest) → forest_whole xs ≡ true
+      → flat_map visit_faults (forest_visits level xs) ≡ forest_faults xs
+  forest_told level no_nodes h = refl
+  forest_told level (nodes_and x xs) h =
+      let whole = both (node_whole x) (forest_whole xs) h in
+      flat_map-append visit_faults (node_visits level x) (forest_visits level xs)
+      ∙ rw (node_told level x whole.0, forest_told level xs whole.1) refl
+
+-- the greatest of two runs of visits
+greatest-append : (asks : Visit → ℕ) (xs ys : List Visit)
+    → greatest asks (xs ++ ys) ≡ max (greatest asks xs) (greatest asks ys)
+greatest-append asks [] ys = omega arith
+greatest-append asks (x ∷ xs) ys = omega (arith, greatest-append asks xs ys)
+
+-- the greatest of two groups and of what follows them
+greatest_around : (asks : Visit → ℕ) (xs ys : List Visit) (z : Visit)
+    → greatest asks (xs ++ (ys ++ (z ∷ [])))
+    ≡ max (greatest asks xs) (max (greatest asks ys) (asks z))
+greatest_around asks xs ys z =
+    let all = greatest-append asks xs (ys ++ (z ∷ [])) in
+    let rest = greatest-append asks ys (z ∷ []) in
+    omega (arith, all, rest)
+
+-- the greatest width or precision of pieces, by the walk
+mutual
+  node_wide : (level : Level) (x : Node)
+      → greatest visit_extent (node_visits level x) ≡ node_extent x
+  node_wide level (node place end kind held item join) =
+      omega (
+        arith,
+        greatest_around visit_extent (item_of level item) (join_of level join)
+            (leave level (node place end kind held item join)),
+        branch_wide (inner true level) item,
+        branch_wide (inner level.in_item level) join,
+      )
+
+  branch_wide : (level : Level) (x : Branch)
+      → greatest visit_extent (branch_visits level x) ≡ branch_extent x
+  branch_wide level no_branch = refl
+  branch_wide level (branch xs) = forest_wide level xs
+
+  forest_wide : (level : Level) (xs : Forest)
+      → greatest visit_extent (forest_visits level xs) ≡ forest_extent xs
+  forest_wide level no_nodes = refl
+  forest_wide level (nodes_and x xs) =
+      omega (
+        arith,
+        greatest-append visit_extent (node_visits level x) (forest_visits level xs),
+        node_wide level x,
+        forest_wide level xs,
+      )
+
+-- how deep pieces are, by where they are
+mutual
+  node_deep : (level : Level) (x : Node)
+      → max level.depth (greatest visit_depth (node_visits level x)) ≡ level.depth + node_depth x
+  node_deep level (node place end kind held item join) =
+      let parts = greatest_around visit_depth (item_of level item) (join_of level join)
+      (leave level (node place end kind held item join)) in
+      let a = branch_deep level true item in
+      let b = branch_deep level level.in_item join in
+      omega (arith, parts, a, b)
+
+  branch_deep : (level : Level) (in_item : Bool) (x : Branch)
+      → max level.depth (max (inner_depth level.depth x)
+      (greatest visit_depth (branch_visits (inner in_item level) x)))
+      ≡ level.depth + branch_depth x
+  branch_deep level in_item no_branch = omega arith
+  branch_deep level in_item (branch xs) =
+      omega (arith, forest_deep (inner in_item level) xs)
+
+  pub forest_deep : (level : Level) (xs : Forest)
+      → max level.depth (greatest visit_depth (forest_visits level xs)) ≡ level.depth + forest_depth xs
+  forest_deep level no_nodes = omega arith
+  forest_deep level (nodes_and x xs) =
+      omega (
+        arith,
+        greatest-append visit_depth (node_visits level x) (forest_visits level xs),
+        node_deep level x,
+        forest_deep level xs,
+      )
+
+-- ---- the visits of a text
+
+pub text_asks : (a : At) → flat_map visit_asks (text_visits a) ≡ asked_names a
+text_asks a = forest_names outermost_spot (as_forest (nodes a))
+
+pub text_tells : (a : At) → flat_map visit_faults (text_visits a) ≡ text_faults a
+text_tells a = forest_told outermost_spot (as_forest (nodes a)) (nodes_whole a)
+
+pub text_extent : (a : At)
+    → greatest visit_extent (text_visits a) ≡ forest_extent (as_forest (nodes a))
+text_extent a = forest_wide outermost_spot (as_forest (nodes a))
+
+pub text_depth : (a : At)
+    → greatest visit_depth (text_visits a) ≡ forest_depth (as_forest (nodes a))
+text_depth a = omega (arith, forest_deep outermost_spot (as_forest (nodes a)))

@@ -1,0 +1,125 @@
+-- What is known of a stored piece that fits its text, of pieces in order, and of the groups of one.
+use denote.Param.Weighed.{most}
+use Rattle.std.proofs.Common.{◌≡◌, refl, ap, arith, ℕ, zero, suc, ◌<◌, ◌≤◌, Bool, true, false, ◌&&◌}
+use Rattle.std.proofs.Common.{List, [], ◌∷◌, ◌++◌, length, drop, get_or, Option, None, Some, IsSome}
+use Rattle.std.proofs.lemmas.List.{drop_more}
+use Rattle.std.specs.Global.{Vec}
+use Rattle.interpolator_syntax.specs.Nodes.{Node, Branch, Content, node, as_forest}
+use Rattle.interpolator_pieces.specs.Stored.{held_of, node_of, nodes_of, branch_of}
+use Rattle.interpolator_pieces.specs.Stored.{node_whole, branch_whole, forest_whole}
+use Rattle.interpolator_pieces.specs.declared.piece.Piece.{Piece}
+use Rattle.interpolator_pieces.specs.declared.piece.Piece.TheViews.{out-Piece, size-Piece}
+use Rattle.interpolator_pieces.specs.declared.piece.Piece.TheViews.{size_is-Piece}
+use Rattle.interpolator_syntax.specs.declared.piece_kind.PieceKind.{PieceKind}
+use Rattle.interpolator_pieces.proofs.StoredLemmas.{node_of_out}
+
+-- the piece holds something, and its groups fit its text too
+pub record FitsText (bs : List ℕ) (x : Piece) : Type 0 where
+  pub held : IsSome (held_of bs x)
+  pub item : branch_whole (branch_of bs (out-Piece x).item) ≡ true
+  pub join : branch_whole (branch_of bs (out-Piece x).join) ≡ true
+
+pub both : (a b : Bool) → (a && b) ≡ true → (a ≡ true) × (b ≡ true)
+both true b h = (refl, h)
+both false b h = absurd (cc)
+
+node_parts :
+    (place end : ℕ) (kind : PieceKind) (held : Option Content) (item join : Branch)
+    → node_whole (node place end kind held item join) ≡ true
+    → IsSome held × (branch_whole item ≡ true) × (branch_whole join ≡ true)
+node_parts place end kind None item join h = absurd (cc)
+node_parts place end kind (Some x) item join h =
+    let (i, j) = both (branch_whole item) (branch_whole join) h in (refl, i, j)
+
+pub fits_text : (bs : List ℕ) (x : Piece) → node_whole (node_of bs x) ≡ true → FitsText bs x
+fits_text bs x h =
+    let y = out-Piece x in
+    let (held, item, join) = node_parts y.place y.end y.kind (held_of bs x) (branch_of bs y.item)
+    (branch_of bs y.join) (rw (node_of_out bs x) at h) in
+    record { held = held; item = item; join = join }
+
+-- if pieces fit their text, the last of them do
+pub rest_fits :
+    (xs ys : List Node) → forest_whole (as_forest (xs ++ ys)) ≡ true
+    → forest_whole (as_forest ys) ≡ true
+rest_fits [] ys h = h
+rest_fits (x ∷ xs) ys h =
+    rest_fits xs ys (both (node_whole x) (forest_whole (as_forest (xs ++ ys))) h).1
+
+-- so it is with stored pieces after the first ones
+pub pieces_whole :
+    (bs : List ℕ) (xs : List Piece) (n : ℕ) → forest_whole (as_forest (nodes_of bs xs)) ≡ true
+    → forest_whole (as_forest (nodes_of bs (drop n xs))) ≡ true
+pieces_whole bs xs zero h = h
+pieces_whole bs [] (suc n) h = refl
+pieces_whole bs (x ∷ xs) (suc n) h =
+    pieces_whole bs xs n (both (node_whole (node_of bs x)) (forest_whole (as_forest (nodes_of bs xs))) h).1
+
+-- and with each stored piece
+pub piece_whole :
+    (bs : List ℕ) (xs : List Piece) (i : ℕ) (x : Piece)
+    → forest_whole (as_forest (nodes_of bs xs)) ≡ true → i < length xs → x ≡ get_or xs i x
+    → node_whole (node_of bs x) ≡ true
+piece_whole bs xs i x h l is =
+    let left = pieces_whole bs xs i h in
+    (both (node_whole (node_of bs x)) _ (rw (drop_more xs i x l, ← is) at left)).0
+
+-- none is greater than the greatest
+pub most_at :
+    {X : Type 0} (size : X → ℕ) (xs : List X) (i : ℕ) (x : X) → i < length xs
+    → x ≡ get_or xs i x → size x ≤ most size xs
+most_at size [] i x l is = absurd (omega arith)
+most_at size (y ∷ ys) zero x l is = let same : size x ≡ size y = ap size is in omega (arith, same)
+most_at size (y ∷ ys) (suc i) x l is = omega (arith, most_at size ys i x (omega arith) is)
+
+-- the pieces of a group
+pub group_whole :
+    (bs : List ℕ) (group : Option (Vec Piece)) (v : Vec Piece) (xs : List Piece)
+    → branch_whole (branch_of bs group) ≡ true → group ≡ Some v → xs ≡ v.items
+    → forest_whole (as_forest (nodes_of bs xs)) ≡ true
+group_whole bs group v xs h is same = rw same (rw is at h)
+
+-- the size of the greatest piece of a group
+abbrev pub group_most : Option (Vec Piece) → ℕ
+group_most None = 0
+group_most (Some v) = most size-Piece v.items
+
+module _ (x : Piece) where
+  item_by : (o : Option (Vec Piece)) → (out-Piece x).item ≡ o → group_most o < size-Piece x
+  item_by None is = let size = rw is at (size_is-Piece x) in omega (arith, size)
+  item_by (Some v) is = let size = rw is at (size_is-Piece x) in omega (arith, size)
+
+  join_by : (o : Option (Vec Piece)) → (out-Piece x).join ≡ o → group_most o < size-Piece x
+  join_by None is = let size = rw is at (size_is-Piece x) in omega (arith, size)
+  join_by (Some v) is = let size = rw is at (size_is-Piece x) in omega (arith, size)
+
+  -- a group is smaller than its piece
+  pub item_smaller : group_most (out-Piece x).item < size-Piece x
+  item_smaller = item_by (out-Piece x).item refl
+
+  pub join_smaller : group_most (out-Piece x).join < size-Piece x
+  join_smaller = join_by (out-Piece x).join refl
+
+-- the pieces of a group are no greater than it
+pub group_smaller : (group : Option (Vec Piece)) (v : Vec Piece) (xs : List Piece)
+    → group ≡ Some v → xs ≡ v.items → most size-Piece xs ≡ group_most group
+group_smaller group v xs is same = rw (same, is) refl
+
+-- the pieces of a group of a piece: they fit the text, and are smaller than the piece
+pub record InGroup (bs : List ℕ) (x : Piece) (xs : List Piece) : Type 0 where
+  pub whole : forest_whole (as_forest (nodes_of bs xs)) ≡ true
+  pub smaller : most size-Piece xs < size-Piece x
+
+module _ (bs : List ℕ) (x : Piece) (v : Vec Piece) (xs : List Piece) (same : xs ≡ v.items)
+    (h : node_whole (node_of bs x) ≡ true) where
+  pub in_item : (out-Piece x).item ≡ Some v → InGroup bs x xs
+  in_item is = record {
+    whole = group_whole bs (out-Piece x).item v xs (fits_text bs x h).item is same;
+    smaller = rw same (item_by x (Some v) is);
+  }
+
+  pub in_join : (out-Piece x).join ≡ Some v → InGroup bs x xs
+  in_join is = record {
+    whole = group_whole bs (out-Piece x).join v xs (fits_text bs x h).join is same;
+    smaller = rw same (join_by x (Some v) is);
+  }

@@ -1,0 +1,180 @@
+use Rattle.std.proofs.Common.{◌≡◌, refl, sym, arith}
+use Rattle.std.proofs.Common.{Some, rules}
+use Rattle.std.specs.Str.{chars}
+use Rattle.interpolator_syntax.specs.At.{at}
+use Rattle.interpolator_syntax.specs.Tokens.{literals, doubled, lone_close, argument, first_token}
+use Rattle.interpolator_syntax.proofs.TokenLemmas.{scan_shorter, token_shorter}
+use Rattle.interpolator_eval.proofs.MeaningLemmas.ScanLemmas.{asked_ok, asked_broken}
+use Rattle.interpolator_pieces.proofs.WithinLemmas.{after_front, within_same}
+use Rattle.interpolator_syntax.proofs.HandedLemmas.{handed_on}
+use Rattle.interpolator_pieces.proofs.ParseLemmas.{rest_is, list_pushed, list_within}
+use Rattle.interpolator_pieces.proofs.ParseLemmas.{broken_is, doubled_ends}
+use Rattle.interpolator_pieces.proofs.ParseLemmas.{literals_pushed, doubled_pushed}
+use Rattle.interpolator_pieces.proofs.ParseLemmas.{lone_pushed, left_within}
+use Rattle.interpolator_pieces.proofs.ParseLemmas.{name_pushed, name_rest}
+use Rattle.interpolator_pieces.proofs.ParseLemmas.{reads_on, all_read}
+use Rattle.interpolator_pieces.proofs.StoredLemmas.{node_of_roll}
+use Rattle.interpolator_pieces.proofs.parse.+parse.Goals as goal
+
+pub parse_pieces-overflow_add-here : goal.parse_pieces-overflow_add-here
+parse_pieces-overflow_add-here t c =
+    let token : first_token (at c.loop-token.here) ≡ Some (doubled c.in-Doubled.field-0, at c.in-Some.rest) =
+    rw c.in-Doubled.is at (sym c.in-Some.ensures.token) in
+    let ends = doubled_ends (at c.loop-token.here) (at c.in-Some.rest) c.in-Doubled.field-0 token in
+    omega (arith, ends, c.in-Some.rest.fits)
+
+pub parse_pieces-push_argument-requires : goal.parse_pieces-push_argument-requires
+parse_pieces-push_argument-requires t c =
+    let text = at c.args.text in
+    let here = at c.loop-token.here in
+    let token : first_token here ≡ Some (argument, at c.in-Some.rest) =
+    rw c.in-Argument.is at (sym c.in-Some.ensures.token) in
+    let left = left_within text here c.loop-token.pieces.items c.loop-token.invariant in (
+      omega (arith, token_shorter here (argument, at c.in-Some.rest) token, left),
+      (handed_on here (argument, at c.in-Some.rest) token).size,
+    )
+
+pub parse_pieces-loop-token-smaller-in_ok-push_piece-in-Literals :
+    goal.parse_pieces-loop-token-smaller-in_ok-push_piece-in-Literals
+parse_pieces-loop-token-smaller-in_ok-push_piece-in-Literals t c =
+    token_shorter (at c.loop-token.here) _ (sym c.in-Some.ensures.token)
+
+pub parse_pieces-loop-token-preserved-in_ok-push_piece-in-Literals :
+    goal.parse_pieces-loop-token-preserved-in_ok-push_piece-in-Literals
+parse_pieces-loop-token-preserved-in_ok-push_piece-in-Literals t c =
+    let text = at c.args.text in
+    let here = at c.loop-token.here in
+    let rest = at c.in-Some.rest in
+    let old = c.loop-token.pieces.items in
+    let cs = chars c.in-Literals.field-0.now in
+    let token : first_token here ≡ Some (literals cs, rest) =
+    rw c.in-Literals.is at (sym c.in-Some.ensures.token) in
+    reads_on text here old c.loop-token.invariant rest (literals cs) here rest _ token
+    (within_same here)
+    (literals_pushed here rest old _ c.text_piece-piece.result
+    c.in_ok-push_piece-in-Literals.ensures cs token c.text_piece-piece.ensures.node) refl
+
+pub parse_pieces-loop-token-smaller-in_ok-push_piece-in-Doubled :
+    goal.parse_pieces-loop-token-smaller-in_ok-push_piece-in-Doubled
+parse_pieces-loop-token-smaller-in_ok-push_piece-in-Doubled t c =
+    token_shorter (at c.loop-token.here) _ (sym c.in-Some.ensures.token)
+
+pub parse_pieces-loop-token-preserved-in_ok-push_piece-in-Doubled :
+    goal.parse_pieces-loop-token-preserved-in_ok-push_piece-in-Doubled
+parse_pieces-loop-token-preserved-in_ok-push_piece-in-Doubled t c =
+    let text = at c.args.text in
+    let here = at c.loop-token.here in
+    let rest = at c.in-Some.rest in
+    let old = c.loop-token.pieces.items in
+    let brace = c.in-Doubled.field-0 in
+    let token : first_token here ≡ Some (doubled brace, rest) =
+    rw c.in-Doubled.is at (sym c.in-Some.ensures.token) in
+    reads_on text here old c.loop-token.invariant rest (doubled brace) here rest _ token
+    (within_same here)
+    (doubled_pushed here rest old _ c.text_piece-piece-in-Doubled.result
+    c.in_ok-push_piece-in-Doubled.ensures brace token
+    c.text_piece-piece-in-Doubled.ensures.node) refl
+
+pub parse_pieces-loop-token-smaller-in_ok-push_piece-in-LoneClose :
+    goal.parse_pieces-loop-token-smaller-in_ok-push_piece-in-LoneClose
+parse_pieces-loop-token-smaller-in_ok-push_piece-in-LoneClose t c =
+    token_shorter (at c.loop-token.here) _ (sym c.in-Some.ensures.token)
+
+pub parse_pieces-loop-token-preserved-in_ok-push_piece-in-LoneClose :
+    goal.parse_pieces-loop-token-preserved-in_ok-push_piece-in-LoneClose
+parse_pieces-loop-token-preserved-in_ok-push_piece-in-LoneClose t c =
+    let text = at c.args.text in
+    let here = at c.loop-token.here in
+    let rest = at c.in-Some.rest in
+    let old = c.loop-token.pieces.items in
+    let token : first_token here ≡ Some (lone_close, rest) =
+    rw c.in-LoneClose.is at (sym c.in-Some.ensures.token) in
+    reads_on text here old c.loop-token.invariant rest lone_close here rest _ token
+    (within_same here)
+    (lone_pushed here rest old _ c.text_piece-piece-in-LoneClose.result
+    c.in_ok-push_piece-in-LoneClose.ensures token
+    c.text_piece-piece-in-LoneClose.ensures.node) refl
+
+pub parse_pieces-loop-token-smaller : goal.parse_pieces-loop-token-smaller
+parse_pieces-loop-token-smaller t c =
+    scan_shorter (at c.loop-token.here) _ (argument, at c.in-Some.rest)
+    (rw c.in-Argument.is at (sym c.in-Some.ensures.token))
+    c.in_ok-here-in-Argument.ensures.rest
+
+pub parse_pieces-loop-token-preserved : goal.parse_pieces-loop-token-preserved
+parse_pieces-loop-token-preserved t c =
+    let here = at c.loop-token.here in
+    let begin = at c.in-Some.rest in
+    let token : first_token here ≡ Some (argument, begin) =
+    rw c.in-Argument.is at (sym c.in-Some.ensures.token) in
+    reads_on (at c.args.text) here c.loop-token.pieces.items c.loop-token.invariant begin argument
+    begin (at c.in_ok-here-in-Argument.here) _ token
+    (after_front here begin (handed_on here (argument, begin) token).takes)
+    c.in_ok-here-in-Argument.ensures.pushed c.in_ok-here-in-Argument.ensures.rest
+
+pub parse_pieces-returns : goal.parse_pieces-returns
+parse_pieces-returns t c =
+    record {
+      stand =
+          all_read (at c.args.text) (at c.loop-token.here) c.loop-token.pieces.items
+          c.loop-token.invariant (sym c.in_default.ensures.token);
+    }
+
+pub push_argument-returns-in_ok-push_piece-in-Some-clause-rest :
+    goal.push_argument-returns-in_ok-push_piece-in-Some-clause-rest
+push_argument-returns-in_ok-push_piece-in-Some-clause-rest t c =
+    let named = c.take_name-named in
+    name_rest c.args.place (at c.args.here) named.result (at c.in-Some.after) named.ensures.read
+    c.in-Some.ensures c.requires.start named.ensures.end_place
+
+pub push_argument-returns-in_ok-push_piece-in-Some-clause-pushed :
+    goal.push_argument-returns-in_ok-push_piece-in-Some-clause-pushed
+push_argument-returns-in_ok-push_piece-in-Some-clause-pushed t c =
+    let named = c.take_name-named in
+    name_pushed c.args.place (at c.args.here) named.result (at c.in-Some.after) named.ensures.read
+    c.in-Some.ensures c.requires.start named.ensures.end_place _ _ c.name_piece-piece.result
+    c.in_ok-push_piece-in-Some.ensures c.name_piece-piece.ensures.node
+
+pub push_asked-push_taken-requires : goal.push_asked-push_taken-requires
+push_asked-push_taken-requires t c =
+    let read = asked_ok (at c.args.here) c.args.named c.requires.named _ _ c.in-Ok.ensures in
+    (search rules, (c.requires.start, (read, c.requires.name_end)))
+
+pub push_asked-returns-in-Err-clause-rest : goal.push_asked-returns-in-Err-clause-rest
+push_asked-returns-in-Err-clause-rest t c =
+    let read = asked_broken (at c.args.here) c.args.named c.requires.named _ c.in-Err.ensures in
+    rw (broken_is (at c.args.here) _ (sym read)) c.push_broken.ensures.rest
+
+pub push_asked-returns-in-Err-clause-pushed : goal.push_asked-returns-in-Err-clause-pushed
+push_asked-returns-in-Err-clause-pushed t c =
+    let read = asked_broken (at c.args.here) c.args.named c.requires.named _ c.in-Err.ensures in
+    rw (broken_is (at c.args.here) _ (sym read)) c.push_broken.ensures.pushed
+
+pub push_list-parse_group-requires : goal.push_list-parse_group-requires
+push_list-parse_group-requires t c =
+    omega (
+      arith,
+      list_within (at c.args.here) c.args.named c.args.asked.now (at c.args.end) c.requires.read
+          c.requires.asked,
+    )
+
+pub push_list-parse_group-requires-2 : goal.push_list-parse_group-requires-2
+push_list-parse_group-requires-2 t c =
+    omega (
+      arith,
+      list_within (at c.args.here) c.args.named c.args.asked.now (at c.args.end) c.requires.read
+          c.requires.asked,
+    )
+
+pub push_list-returns-clause-rest : goal.push_list-returns-clause-rest
+push_list-returns-clause-rest t c =
+    rest_is c.args.place (at c.args.here) c.args.named c.args.asked.now c.args.end c.requires.start
+    c.requires.read c.requires.name_end _ c.ending-kind.ensures.rest
+
+pub push_list-returns-clause-pushed : goal.push_list-returns-clause-pushed
+push_list-returns-clause-pushed t c =
+    list_pushed c.args.place (at c.args.here) c.args.named c.args.asked.now c.args.end
+    c.requires.start c.requires.read c.requires.name_end _ _ _ _ _ c.ending-kind.ensures.rest
+    c.ending-kind.ensures.kind c.in_ok-push_piece.ensures c.in_ok-range.range c.in_ok-item.item
+    c.in_ok-join.join c.requires.asked c.in_ok-range.ensures c.in_ok-item.ensures.stands
+    c.in_ok-join.ensures.stands (λ bs. node_of_roll bs _)

@@ -1,0 +1,127 @@
+-- How the code stores the pieces of a text: for each what it is, and which bytes of the text it is
+-- cut from.
+use Rattle.std.specs.Prelude.{◌≡◌, ℕ, suc, ◌+◌, ◌-◌, Bool, true, false, ◌&&◌, ◌||◌, not, nat_lt}
+use Rattle.std.specs.Prelude.{if◌then◌else◌, List, [], ◌∷◌, ◌++◌, length, take, drop, slice_index}
+use Rattle.std.specs.Prelude.{Option, Some, None, option_map, map}
+use Rattle.std.specs.Str.{chars, IsUtf8}
+use Rattle.std.specs.Global.{Vec, Box}
+use Rattle.interpolator_render.specs.declared.view.Spec.{Spec}
+use Rattle.interpolator_render.specs.declared.view.Trait.TheVariants as traits
+use Rattle.interpolator_syntax.specs.At.{At, size, outermost}
+use Rattle.interpolator_syntax.specs.Faults.{argument_fault_of}
+use Rattle.interpolator_syntax.specs.Groups.{Group}
+use Rattle.interpolator_syntax.specs.SpecTexts.{plain_spec}
+use Rattle.interpolator_syntax.specs.declared.range.Range.{Range}
+use Rattle.interpolator_syntax.specs.Nodes.{Node, node, Branch, no_branch, branch, Forest}
+use Rattle.interpolator_syntax.specs.Groups.{inside}
+use Rattle.interpolator_syntax.specs.Nodes.{no_nodes, nodes_and, as_branch, nodes, group_branch}
+use Rattle.interpolator_syntax.specs.Nodes.{Content, text_content, argument_content, fault_content}
+use Rattle.interpolator_syntax.specs.Nodes.{target_value, target_list}
+use Rattle.interpolator_pieces.specs.declared.piece.Form.{Form}
+use Rattle.interpolator_pieces.specs.declared.piece.Form.TheVariants as forms
+use Rattle.interpolator_pieces.specs.declared.piece.Piece.{Piece}
+use Rattle.interpolator_pieces.specs.declared.piece.Piece.TheOpen.{Piece-F}
+use Rattle.interpolator_pieces.specs.declared.piece.Piece.TheFolds.{fold-Piece}
+use Rattle.interpolator_pieces.specs.declared.piece.Piece.TheViews.{out-Piece}
+
+-- whether a text may be cut before this byte: it is the end of the text, or begins a character
+abbrev pub may_cut : List ℕ → ℕ → Bool
+may_cut bs i =
+    not (nat_lt (length bs) i) && (not (nat_lt i (length bs))
+    || (nat_lt (slice_index bs i) 128 || not (nat_lt (slice_index bs i) 192)))
+
+-- the characters from one byte up to another, if the text may be cut at both
+unfoldable pub part : List ℕ → (from to : ℕ) → Option (List ℕ)
+part bs from to =
+    if not (nat_lt to from) && (may_cut bs from && may_cut bs to)
+    then Some (chars (take (to - from) (drop from bs))) else None
+
+-- the characters of a name that begins after the byte `place`
+abbrev pub name_part : List ℕ → (place from to : ℕ) → Option (List ℕ)
+name_part bs place from to = if nat_lt place from then part bs from to else None
+
+-- the range of a list, as the code has it
+abbrev pub range_of : Option (Box Range) → Option Range
+range_of range = option_map (λ b. b.value) range
+
+-- what a piece at `place` holds, by its form, the bytes that are stored of it, and the end of its
+-- spec
+abbrev pub stored_held : List ℕ → (place from to end : ℕ) → Spec → Form → Option Content
+stored_held bs place from to end spec forms.Text =
+    option_map (λ cs. text_content from cs) (part bs from to)
+stored_held bs place from to end spec forms.Plain =
+    option_map (λ name. argument_content (suc place) name plain_spec (target_value traits.Display) end)
+    (name_part bs place from to)
+stored_held bs place from to end spec (forms.Value t) =
+    option_map (λ name. argument_content (suc place) name spec (target_value t) end) (name_part bs place from to)
+stored_held bs place from to end spec (forms.List range) =
+    option_map (λ name. argument_content (suc place) name spec (target_list (range_of range)) end)
+    (name_part bs place from to)
+stored_held bs place from to end spec (forms.Broken fault) =
+    Some (fault_content (argument_fault_of fault.value))
+
+-- the node of a piece whose groups have become nodes
+abbrev pub node_step : List ℕ → Piece-F Node → Node
+node_step bs x =
+    node x.place x.end x.kind
+    (stored_held bs x.place x.from x.to x.spec_end x.spec x.form)
+    (as_branch (option_map (λ xs. xs.items) x.item))
+    (as_branch (option_map (λ xs. xs.items) x.join))
+
+-- the node of a stored piece
+unfoldable pub node_of : List ℕ → Piece → Node
+node_of bs x = fold-Piece Node (node_step bs) x
+
+-- what a stored piece holds
+abbrev pub held_of : List ℕ → Piece → Option Content
+held_of bs x =
+    let y = out-Piece x in stored_held bs y.place y.from y.to y.spec_end y.spec y.form
+
+-- the nodes of stored pieces
+abbrev pub nodes_of : List ℕ → List Piece → List Node
+nodes_of bs xs = map (node_of bs) xs
+
+-- the pieces of a stored group
+abbrev pub branch_of : List ℕ → Option (Vec Piece) → Branch
+branch_of bs xs = as_branch (option_map (λ xs. nodes_of bs xs.items) xs)
+
+-- whether all that is stored of a node, and of the nodes below it, fits its text
+abbrev mutual
+  pub node_whole : Node → Bool
+  node_whole (node place end kind None item join) = false
+  node_whole (node place end kind (Some held) item join) = branch_whole item && branch_whole join
+
+  pub branch_whole : Branch → Bool
+  branch_whole no_branch = true
+  branch_whole (branch xs) = forest_whole xs
+
+  pub forest_whole : Forest → Bool
+  forest_whole no_nodes = true
+  forest_whole (nodes_and x xs) = node_whole x && forest_whole xs
+
+-- one text lies in another, at its place
+pub record Within (whole a : At) : Type 0 where
+  pub front : List ℕ
+  pub back : List ℕ
+  pub split : whole.text ≡ front ++ (a.text ++ back)
+  pub place : a.place ≡ whole.place + size front
+
+-- in every format that has this text at its place, the stored pieces are the pieces of the text
+abbrev pub StandFor : List Piece → At → Type 0
+StandFor xs a =
+    (bs : List ℕ) → IsUtf8 bs → Within (outermost (chars bs)) a → nodes_of bs xs ≡ nodes a
+
+-- one stored piece was added after others, and it is that node in every format that has this text
+-- at its place
+pub record Pushed (old new : List Piece) (n : Node) (a : At) : Type 0 where
+  pub piece : Piece
+  pub added : new ≡ old ++ (piece ∷ [])
+  pub stands :
+      (bs : List ℕ) → IsUtf8 bs → Within (outermost (chars bs)) a → node_of bs piece ≡ n
+
+-- the stored pieces are those of a group, if there is one
+abbrev pub GroupStands : Option (Vec Piece) → Option Group → Type 0
+GroupStands xs None = xs ≡ None
+GroupStands xs (Some g) =
+    (bs : List ℕ) → IsUtf8 bs → Within (outermost (chars bs)) (inside g)
+    → branch_of bs xs ≡ group_branch nodes (Some g)

@@ -1,0 +1,296 @@
+//! The functions that write a format, make its text, and check it.
+
+ghost use Rattle.std.specs.Prelude.{◌≡◌, ◌+◌, ◌<◌, ◌≤◌, ◌⊎◌, [], false, length, IfOk, Some};
+ghost use Rattle.std.specs.Prelude.{option_map};
+ghost use Rattle.std.specs.Str.{chars};
+ghost use Rattle.interpolator_syntax.specs.At.{outermost};
+ghost use Rattle.interpolator_eval.specs.Meaning.AskedNames.{asked_names};
+ghost use Rattle.interpolator_eval.specs.Meaning.Environments.{environment, cut};
+ghost use Rattle.interpolator_syntax.specs.Faults.{result_answer, fault, no_memory, PlaceWithin};
+ghost use Rattle.interpolator_eval.specs.Meaning.Limits.{IsWithin};
+ghost use Rattle.interpolator_eval.specs.Meaning.Meanings.{means};
+ghost use Rattle.interpolator_eval.specs.Meaning.Outcomes.{Outcome, Formats};
+ghost use Rattle.interpolator_pieces.specs.NodeChecks.{first_fault, text_faults};
+ghost use Rattle.interpolator_pieces.specs.NodeCosts.{text_cost};
+ghost use Rattle.interpolator_eval.specs.Meaning.Work.{text_work};
+ghost use Rattle.interpolator_pieces.specs.declared.cost.Limits.{Limits};
+ghost use Rattle.interpolator_syntax.specs.Nodes.{nodes};
+ghost use Rattle.interpolator_pieces.specs.Stored.{nodes_of};
+ghost use Rattle.interpolator_render.specs.Written.{as_writer};
+
+use crate::checks::Check;
+use crate::parse::parse_pieces;
+use crate::piece::Piece;
+use crate::stored_source::Stored;
+use crate::walk::walk_text;
+use interpolator_eval::{Context, Environment, Sink, Tally, write_source, write_text};
+use interpolator_render::{TextBuffer, TextWrite};
+use interpolator_syntax::{Cursor, Error};
+use std::alloc::{AllocError, Global};
+use std::marker::Brand;
+use std::sync::ledger::{Blank, Ledger};
+
+/// Writes what the format means in the context, up to its first fault.
+///
+/// The pieces of the format are read once, from left to right, and written as they come: `{{` as
+/// `{`, `}}` as `}`, `{name}` as the text of the value under the name, and every other character as
+/// it is. `{name:i}` writes the items of a list one after the other: each displayed plainly or, if
+/// a group `(..)` follows, by the format in it, in which the empty name is the item. A second group
+/// is written between each two items.
+///
+/// Under a width the text of a list is first made whole in a buffer and then padded; if there is a
+/// fault in it, nothing of the list is written. Memory is taken for such a buffer, before anything
+/// of its argument is written, and for the name in a `MissingValue`; and for nothing else. If the
+/// writer has a limit, its [`room`](TextWrite::room) when the list begins also limits the buffer: a
+/// longer list is not made whole, since the writer would refuse it.
+///
+/// # Errors
+///
+/// - `Parse`: an argument is broken, or asks for a list with a precision, a sign, `#` or the zero
+///   flag. The text before it was written.
+/// - `MissingValue`: the context has nothing under the name.
+/// - `MissingTraitImpl`: the value has no slot for the trait, or no text under it.
+/// - `Fmt`: a value failed, or the writer refused. If the writer refused a literal character, the
+///   place is that of the first one that was not appended; if it refused a value or a padded list,
+///   the place is the byte after the argument's spec.
+/// - `NoMemory`: there was no memory for the name of a missing value or for the text of a padded
+///   list, or that text has more bytes than the writer's room.
+///
+/// Every place counts bytes from the beginning of the format, and is at most its length.
+///
+/// # Example
+///
+/// ```text
+/// write(alloc, &mut out, "Hello {name}, {{n}} is {n} }", &context)?;
+/// // with `Ann` under `name` and -7 under `n`: Hello Ann, {n} is -7 }
+/// write(alloc, &mut out, "{l:i(<{}>)(, )}", &context)?;
+/// // with the list of 1, 2 and 3 under `l`: <1>, <2>, <3>
+/// ```
+pub fn write<W: TextWrite, C: Context>(
+    alloc: Global,
+    out: &mut W,
+    format: &str,
+    context: &C,
+) -> Result<(), Error>
+    ensures outcome { Outcome
+        (means C.Object.shows (environment (C.finds context.now)) (outermost (chars format.now)))
+        (W.written out.old) (W.written out.new) (result_answer result) }
+    ensures asked { let a = outermost (chars format.now) in Outcome
+        (means C.Object.shows (cut (environment (C.finds context.now)) (asked_names a)) a)
+        (W.written out.old) (W.written out.new) (result_answer result) }
+    ensures place { PlaceWithin (length format.now) (result_answer result) }
+{
+    let text = Cursor {
+        place: 0,
+        rest: format,
+    };
+    let mut sink = Sink::Writer(out);
+    let answer = write_text(&mut sink, &Environment::outermost(alloc, context), text);
+    match sink {
+        Sink::Writer(end) => {
+            let _ = end;
+        }
+        Sink::Aside(_) => unreachable!(),
+    }
+    answer
+}
+
+/// The most bytes beyond the length of its format for which a buffer has room at the beginning, for
+/// the texts of values.
+const MOST_MORE: usize = 256;
+
+/// An empty buffer with room for the bytes of the format and, up to a bound, as many again.
+#[tactic(auto, using(interpolator_syntax::proofs::CharacterLemmas::no_text))]
+pub fn buffer_for(alloc: Global, format: &str) -> Result<TextBuffer, AllocError>
+    ensures empty { IfOk result
+        (λ buffer. as_writer buffer ≡ record { text = []; refused = false }) }
+    ensures room { IfOk result (λ buffer. length format.now ≤ buffer.room) }
+{
+    let len = format.len();
+    let text = String::with_capacity(alloc, len.saturating_add(len.min(MOST_MORE)))?;
+    Ok(TextBuffer::from_string(text))
+}
+
+/// Writes what the stored pieces of a format mean in the context, and counts the pieces that it
+/// goes through: no more than the format's work, and so, with values within limits, no more than
+/// its cost.
+pub fn write_counted<W: TextWrite, C: Context, L: Ledger>(
+    alloc: Global,
+    out: &mut W,
+    format: &str,
+    pieces: &[Piece],
+    context: &C,
+    tally: &mut Tally<L>,
+) -> Result<(), Error>
+    requires pieces { nodes_of format.now pieces.now ≡ nodes (outermost (chars format.now)) }
+    ensures outcome { Outcome
+        (means C.Object.shows (environment (C.finds context.now)) (outermost (chars format.now)))
+        (W.written out.old) (W.written out.new) (result_answer result) }
+    ensures asked { let a = outermost (chars format.now) in Outcome
+        (means C.Object.shows (cut (environment (C.finds context.now)) (asked_names a)) a)
+        (W.written out.old) (W.written out.new) (result_answer result) }
+    ensures place { PlaceWithin (length format.now) (result_answer result) }
+    ensures gone { tally.new ≤ tally.old + (text_work C.Object.shows
+        (environment (C.finds context.now)) (outermost (chars format.now))).pieces }
+    ensures exact { IfOk result (λ _. tally.new ≡ tally.old + (text_work C.Object.shows
+        (environment (C.finds context.now)) (outermost (chars format.now))).pieces) }
+    ensures within { (limits : Limits)
+        → IsWithin C.Object.shows limits.text limits.items (environment (C.finds context.now))
+        (asked_names (outermost (chars format.now)))
+        → tally.new ≤ tally.old + (text_cost limits (outermost (chars format.now))).pieces }
+{
+    let mut sink = Sink::Writer(out);
+    let source = Stored {
+        text: format,
+        pieces,
+    };
+    let environment = Environment::outermost(alloc, context);
+    let answer = write_source(&mut sink, &environment, source, tally);
+    match sink {
+        Sink::Writer(end) => {
+            let _ = end;
+        }
+        Sink::Aside(_) => unreachable!(),
+    }
+    answer
+}
+
+/// The text of a format, for a function that opens a ledger, whose signature cannot have a `&str`.
+#[derive(Clone, Copy)]
+struct FormatText<'a> {
+    text: &'a str,
+}
+
+/// Writes what the stored pieces of a format mean in the context, counted from a blank ledger.
+#[inline(always)]
+fn write_on<W: TextWrite, C: Context, L: Ledger>(
+    alloc: Global,
+    out: &mut W,
+    format: FormatText<'_>,
+    pieces: &[Piece],
+    context: &C,
+    blank: Blank,
+) -> Result<(), Error>
+    requires name { blank.name ≡ L.name }
+    requires parts { blank.parts ≡ L.parts }
+    requires some { 0 < blank.parts }
+    requires pieces { nodes_of format.text.now pieces.now ≡ nodes (outermost (chars format.text.now)) }
+    ensures outcome { Outcome
+        (means C.Object.shows (environment (C.finds context.now))
+        (outermost (chars format.entry.text.now)))
+        (W.written out.old) (W.written out.new) (result_answer result) }
+    ensures asked { let a = outermost (chars format.entry.text.now) in Outcome
+        (means C.Object.shows (cut (environment (C.finds context.now)) (asked_names a)) a)
+        (W.written out.old) (W.written out.new) (result_answer result) }
+    ensures place { PlaceWithin (length format.entry.text.now) (result_answer result) }
+{
+    let mut tally = Tally::<L>::open(blank);
+    write_counted(alloc, out, format.text, pieces, context, &mut tally)
+}
+
+/// Writes what the stored pieces of a format mean in the context.
+pub fn write_pieces<W: TextWrite, C: Context>(
+    alloc: Global,
+    out: &mut W,
+    format: &str,
+    pieces: &[Piece],
+    context: &C,
+) -> Result<(), Error>
+    requires pieces { nodes_of format.now pieces.now ≡ nodes (outermost (chars format.now)) }
+    ensures outcome { Outcome
+        (means C.Object.shows (environment (C.finds context.now)) (outermost (chars format.now)))
+        (W.written out.old) (W.written out.new) (result_answer result) }
+    ensures asked { let a = outermost (chars format.now) in Outcome
+        (means C.Object.shows (cut (environment (C.finds context.now)) (asked_names a)) a)
+        (W.written out.old) (W.written out.new) (result_answer result) }
+    ensures place { PlaceWithin (length format.now) (result_answer result) }
+{
+    let format = FormatText { text: format };
+    write_on::<W, C, Brand>(alloc, out, format, pieces, context, Blank::new(1))
+}
+
+/// The text that the stored pieces of a format mean in the context, in a new `String`.
+pub fn format_pieces<C: Context>(
+    alloc: Global,
+    format: &str,
+    pieces: &[Piece],
+    context: &C,
+) -> Result<String, Error>
+    requires pieces { nodes_of format.now pieces.now ≡ nodes (outermost (chars format.now)) }
+    ensures formats { Formats
+        (means C.Object.shows (environment (C.finds context.now)) (outermost (chars format.now)))
+        result }
+    ensures asked { let a = outermost (chars format.now) in Formats
+        (means C.Object.shows (cut (environment (C.finds context.now)) (asked_names a)) a) result }
+    ensures place { PlaceWithin (length format.now) (result_answer result) }
+{
+    let mut out = buffer_for(alloc, format)?;
+    let answer = write_pieces(alloc, &mut out, format, pieces, context);
+    if out.refused() {
+        return Err(Error::NoMemory);
+    }
+    answer?;
+    Ok(out.into_string())
+}
+
+/// The format's text in a new `String`.
+///
+/// The format is first read into its pieces, which are then written. To write a text once into a
+/// buffer of your own, [`write`] is faster; to write it often, use a `Template`.
+///
+/// # Errors
+///
+/// Those of `write` with the same format and context, where `Fmt` means that a value failed; and
+/// `NoMemory` if there is no memory for the text, for the room that it has at the beginning, or for
+/// the pieces of the format.
+///
+/// # Example
+///
+/// ```text
+/// let text = format(alloc, "{{{x}}}", &context)?; // with 1 under `x`: {1}
+/// ```
+pub fn format<C: Context>(alloc: Global, format: &str, context: &C) -> Result<String, Error>
+    ensures formats { Formats
+        (means C.Object.shows (environment (C.finds context.now)) (outermost (chars format.now)))
+        result }
+    ensures asked { let a = outermost (chars format.now) in Formats
+        (means C.Object.shows (cut (environment (C.finds context.now)) (asked_names a)) a) result }
+    ensures place { PlaceWithin (length format.now) (result_answer result) }
+{
+    let start = Cursor {
+        place: 0,
+        rest: format,
+    };
+    let pieces = parse_pieces(alloc, start)?;
+    format_pieces(alloc, format, &pieces, context)
+}
+
+/// Reports the first fault that a format has by itself, as
+/// `Template::check` does for a format that was read.
+///
+/// If it returns `Ok`, the format never fails with `Parse` or `UnsupportedOption`, whatever its
+/// context.
+///
+/// # Errors
+///
+/// `Parse` and `UnsupportedOption`, each at its place in the text; and `NoMemory` if there is no
+/// memory for the pieces of the format.
+///
+/// # Example
+///
+/// ```text
+/// check(alloc, "{a:i({z)}{b")?    // Err(Parse(FormatSpecUnclosed(6)))
+/// ```
+pub fn check(alloc: Global, text: &str) -> Result<(), Error>
+    ensures first { (result_answer result
+        ≡ option_map fault (first_fault (text_faults (outermost (chars text.now)))))
+        ⊎ (result_answer result ≡ Some no_memory) }
+    ensures place { PlaceWithin (length text.now) (result_answer result) }
+{
+    let start = Cursor {
+        place: 0,
+        rest: text,
+    };
+    let pieces = parse_pieces(alloc, start)?;
+    walk_text(&mut Check, text, &pieces)
+}

@@ -1,0 +1,361 @@
+//! Reads a format into its pieces.
+ghost use Rattle.std.specs.Prelude.{◌≡◌, ◌≤◌, ◌+◌, ℕ, List, [], ◌∷◌, ◌++◌, IfOk, None, Ok};
+ghost use Rattle.std.specs.Prelude.{option_map, vec_capacity};
+ghost use Rattle.std.specs.Str.{chars};
+ghost use Rattle.interpolator_syntax.specs.At.{at, size, strip, all_after};
+ghost use Rattle.interpolator_syntax.specs.Arguments.{argument_at, argument_after, plain_argument};
+ghost use Rattle.interpolator_syntax.specs.Arguments.{named_argument, request_of, kind_of_request};
+ghost use Rattle.interpolator_syntax.specs.Arguments.{list_of};
+ghost use Rattle.interpolator_syntax.specs.Classes.{close_brace};
+ghost use Rattle.interpolator_syntax.specs.Faults.{argument_fault_of};
+ghost use Rattle.interpolator_syntax.specs.Groups.{group_of};
+ghost use Rattle.interpolator_syntax.specs.Pieces.{argument_from, broken};
+ghost use Rattle.interpolator_syntax.specs.SpecTexts.{of_value, of_list, plain_spec};
+ghost use Rattle.interpolator_syntax.specs.Tokens.{argument};
+ghost use Rattle.interpolator_syntax.specs.Nodes.{nodes, node, no_branch, text_content, piece_node};
+ghost use Rattle.interpolator_syntax.specs.Nodes.{token_node};
+ghost use Rattle.interpolator_pieces.specs.Stored.{StandFor, Pushed, GroupStands, part, node_of};
+ghost use Rattle.interpolator_pieces.specs.Stored.{stored_held, range_of};
+ghost use Rattle.interpolator_pieces.specs.declared.piece.Form.TheVariants as forms;
+ghost use Rattle.interpolator_pieces.specs.Reading.{ending_kind, ending_rest};
+
+use crate::piece::{Form, Piece};
+use interpolator_render::{Spec, Trait};
+use interpolator_syntax::{
+    ArgumentFault, ArgumentName, Cursor, Group, PieceKind, Range, Request, Token, inside,
+    next_token, take_name, take_request,
+};
+use std::alloc::{AllocError, Global};
+
+/// A piece that is written as it is, from its first byte up to `to`.
+fn text_piece(place: usize, end: usize, kind: PieceKind, to: usize) -> Piece
+    ensures node { (bs : List ℕ) → node_of bs result
+        ≡ node place end kind (option_map (λ cs. text_content place cs) (part bs place to))
+        no_branch no_branch }
+{
+    Piece {
+        place,
+        end,
+        kind,
+        item: None,
+        join: None,
+        from: place,
+        to,
+        spec_end: to,
+        spec: Spec::default(),
+        form: Form::Text,
+    }
+}
+
+/// An argument that is a name alone, from its brace at `place` up to `end`.
+fn name_piece(place: usize, end: usize, named: ArgumentName<'_>) -> Piece
+    ensures node { (bs : List ℕ) → node_of bs result
+        ≡ node place end PieceKind.Closed (stored_held bs place named.entry.place
+        named.entry.end.place named.entry.end.place plain_spec forms.Plain) no_branch no_branch }
+{
+    Piece {
+        place,
+        end,
+        kind: PieceKind::Closed,
+        item: None,
+        join: None,
+        from: named.place,
+        to: named.end.place,
+        spec_end: named.end.place,
+        spec: Spec::default(),
+        form: Form::Plain,
+    }
+}
+
+/// A range in a box of its own, since few lists have one.
+pub fn boxed(alloc: Global, range: Option<Range>) -> Result<Option<Box<Range>>, AllocError>
+    ensures { IfOk result (λ b. range_of b ≡ range) }
+{
+    match range {
+        Some(range) => Ok(Some(Box::new(alloc, range)?)),
+        None => Ok(None),
+    }
+}
+
+/// Adds a piece.
+#[inline(always)]
+fn push_piece(pieces: &mut Vec<Piece>, piece: Piece) -> Result<(), AllocError>
+    ensures { IfOk result (λ _. pieces.new.items ≡ pieces.old.items ++ (piece ∷ [])) }
+{
+    pieces.reserve(1)?;
+    pieces.push_reserved(piece);
+    Ok(())
+}
+
+/// What follows the whole text: nothing.
+pub fn skip_all(here: Cursor<'_>) -> Cursor<'_>
+    ensures { at result ≡ all_after (at here.entry) }
+{
+    let (_, rest) = here.rest.split_at(here.rest.len());
+    Cursor {
+        place: here.place + here.rest.len(),
+        rest,
+    }
+}
+
+/// How an argument whose spec ends here ends itself, and what follows it.
+pub fn ending(end: Cursor<'_>) -> (PieceKind, Cursor<'_>)
+    ensures kind { result.0 ≡ ending_kind (strip close_brace (at end.entry)) }
+    ensures rest { at result.1 ≡ ending_rest (at end.entry) (strip close_brace (at end.entry)) }
+{
+    match end.strip(b'}') {
+        Some(rest) => (PieceKind::Closed, rest),
+        None => (PieceKind::Unclosed, skip_all(end)),
+    }
+}
+
+/// The most pieces of a format for which room is made at the beginning.
+const MOST_ROOM: usize = 32;
+
+/// The number of pieces of a group for which room is made: most groups have few.
+const MOST_GROUP_ROOM: usize = 4;
+
+/// The number of pieces for which room is made at the beginning: most have at least two bytes.
+fn room_for(text: Cursor<'_>) -> usize
+    ensures most { result ≤ 32 }
+    ensures group { ¬ (text.entry.place ≡ 0) → result ≤ 4 }
+{
+    let most = if text.place == 0 {
+        MOST_ROOM
+    } else {
+        MOST_GROUP_ROOM
+    };
+    (text.rest.len() / 2 + 1).min(most)
+}
+
+/// No pieces yet, with room for some.
+fn no_pieces(alloc: Global, text: Cursor<'_>) -> Result<Vec<Piece>, AllocError>
+    ensures none { IfOk result (λ pieces. pieces.items ≡ []) }
+    ensures most { IfOk result (λ pieces. vec_capacity pieces ≤ 32) }
+    ensures group { ¬ (text.entry.place ≡ 0) → IfOk result (λ pieces. vec_capacity pieces ≤ 4) }
+{
+    Vec::with_capacity(alloc, room_for(text))
+}
+
+/// The pieces of a text.
+#[cycle(parse)]
+pub fn parse_pieces(alloc: Global, text: Cursor<'_>) -> Result<Vec<Piece>, AllocError>
+    ensures stand { IfOk result (λ pieces. StandFor pieces.items (at text.entry)) }
+{
+    let mut pieces = no_pieces(alloc, text)?;
+    let mut here = text;
+    while let Some((token, rest)) = next_token(here) {
+        here = match token {
+            Token::Literals(_) => {
+                let piece = text_piece(here.place, rest.place, PieceKind::Literal, rest.place);
+                push_piece(&mut pieces, piece)?;
+                rest
+            }
+            Token::Doubled(_) => {
+                let piece = text_piece(here.place, rest.place, PieceKind::Doubled, here.place + 1);
+                push_piece(&mut pieces, piece)?;
+                rest
+            }
+            Token::LoneClose => {
+                let piece = text_piece(here.place, rest.place, PieceKind::LoneClose, rest.place);
+                push_piece(&mut pieces, piece)?;
+                rest
+            }
+            Token::Argument => push_argument(alloc, &mut pieces, here.place, rest)?,
+        };
+    }
+    Ok(pieces)
+}
+
+/// Adds the argument that begins here, after its brace at `place`, or its fault. Returns what
+/// follows it.
+#[cycle(parse)]
+fn push_argument<'t>(
+    alloc: Global,
+    pieces: &mut Vec<Piece>,
+    place: usize,
+    here: Cursor<'t>,
+) -> Result<Cursor<'t>, AllocError>
+    requires start { here.place ≡ place + 1 }
+    ensures rest { IfOk result (λ r. at r ≡ (argument_from here.entry.place (at here.entry)).rest) }
+    ensures pushed { IfOk result (λ _. Pushed pieces.old.items pieces.new.items
+        (token_node nodes place argument (at here.entry)) (at here.entry)) }
+{
+    let named = take_name(here);
+    match named.end.strip(b'}') {
+        Some(after) => {
+            let piece = name_piece(place, after.place, named);
+            push_piece(pieces, piece)?;
+            Ok(after)
+        }
+        None => push_asked(alloc, pieces, place, here, named),
+    }
+}
+
+/// Adds the argument that begins here and has this name, with a spec after it, or its fault.
+#[cycle(parse)]
+fn push_asked<'t>(
+    alloc: Global,
+    pieces: &mut Vec<Piece>,
+    place: usize,
+    here: Cursor<'t>,
+    named: ArgumentName<'t>,
+) -> Result<Cursor<'t>, AllocError>
+    requires start { here.place ≡ place + 1 }
+    requires named { argument_at (at here)
+        ≡ argument_after here.place (plain_argument named) (at named.end) }
+    requires open { strip close_brace (at named.end) ≡ None }
+    requires name_end { named.end.place ≡ named.place + size (chars named.name.now) }
+    ensures rest { IfOk result (λ r. at r ≡ (argument_from here.entry.place (at here.entry)).rest) }
+    ensures pushed { IfOk result (λ _. Pushed pieces.old.items pieces.new.items
+        (token_node nodes place argument (at here.entry)) (at here.entry)) }
+{
+    let mut end = named.end;
+    let mut asked = Request::plain();
+    match take_request(&mut end, &mut asked, here.place) {
+        Ok(()) => push_taken(alloc, pieces, place, here, named, &asked, end),
+        Err(fault) => push_broken(alloc, pieces, place, here, fault),
+    }
+}
+
+/// Adds the argument that begins here, has this name and asks for this, up to `end`.
+#[cycle(parse)]
+fn push_taken<'t>(
+    alloc: Global,
+    pieces: &mut Vec<Piece>,
+    place: usize,
+    here: Cursor<'t>,
+    named: ArgumentName<'t>,
+    asked: &Request<'t>,
+    end: Cursor<'t>,
+) -> Result<Cursor<'t>, AllocError>
+    requires start { here.place ≡ place + 1 }
+    requires read { argument_at (at here) ≡ Ok (named_argument named (request_of asked.now), at end) }
+    requires name_end { named.end.place ≡ named.place + size (chars named.name.now) }
+    ensures rest { IfOk result (λ r. at r ≡ (argument_from here.entry.place (at here.entry)).rest) }
+    ensures pushed { IfOk result (λ _. Pushed pieces.old.items pieces.new.items
+        (token_node nodes place argument (at here.entry)) (at here.entry)) }
+{
+    match asked.slot {
+        Trait::Iter => push_list(alloc, pieces, place, here, named, asked, end),
+        t => push_value(pieces, place, here, named, t, asked, end),
+    }
+}
+
+/// Adds an argument that asks for a value under a trait.
+fn push_value<'t>(
+    pieces: &mut Vec<Piece>,
+    place: usize,
+    here: Cursor<'t>,
+    named: ArgumentName<'t>,
+    t: Trait,
+    asked: &Request<'t>,
+    end: Cursor<'t>,
+) -> Result<Cursor<'t>, AllocError>
+    requires start { here.place ≡ place + 1 }
+    requires read { argument_at (at here) ≡ Ok (named_argument named (request_of asked.now), at end) }
+    requires name_end { named.end.place ≡ named.place + size (chars named.name.now) }
+    requires asked { kind_of_request asked.now ≡ of_value t }
+    ensures rest { IfOk result (λ r. at r ≡ (argument_from here.entry.place (at here.entry)).rest) }
+    ensures pushed { IfOk result (λ _. Pushed pieces.old.items pieces.new.items
+        (token_node nodes place argument (at here.entry)) (at here.entry)) }
+{
+    let (kind, rest) = ending(end);
+    let piece = Piece {
+        place,
+        end: rest.place,
+        kind,
+        item: None,
+        join: None,
+        from: named.place,
+        to: named.end.place,
+        spec_end: end.place,
+        spec: asked.spec,
+        form: Form::Value(t),
+    };
+    push_piece(pieces, piece)?;
+    Ok(rest)
+}
+
+/// Adds an argument that asks for a list, and the pieces of its groups.
+#[cycle(parse)]
+#[inline(never)]
+fn push_list<'t>(
+    alloc: Global,
+    pieces: &mut Vec<Piece>,
+    place: usize,
+    here: Cursor<'t>,
+    named: ArgumentName<'t>,
+    asked: &Request<'t>,
+    end: Cursor<'t>,
+) -> Result<Cursor<'t>, AllocError>
+    requires start { here.place ≡ place + 1 }
+    requires read { argument_at (at here) ≡ Ok (named_argument named (request_of asked.now), at end) }
+    requires name_end { named.end.place ≡ named.place + size (chars named.name.now) }
+    requires asked { kind_of_request asked.now ≡ of_list (list_of asked.now.list) }
+    ensures rest { IfOk result (λ r. at r ≡ (argument_from here.entry.place (at here.entry)).rest) }
+    ensures pushed { IfOk result (λ _. Pushed pieces.old.items pieces.new.items
+        (token_node nodes place argument (at here.entry)) (at here.entry)) }
+{
+    let item = parse_group(alloc, asked.list.item)?;
+    let join = parse_group(alloc, asked.list.join)?;
+    let range = boxed(alloc, asked.list.range)?;
+    let (kind, rest) = ending(end);
+    let piece = Piece {
+        place,
+        end: rest.place,
+        kind,
+        item,
+        join,
+        from: named.place,
+        to: named.end.place,
+        spec_end: end.place,
+        spec: asked.spec,
+        form: Form::List(range),
+    };
+    push_piece(pieces, piece)?;
+    Ok(rest)
+}
+
+/// The pieces of a group, if there is one.
+#[cycle(parse)]
+fn parse_group(alloc: Global, group: Option<Group<'_>>) -> Result<Option<Vec<Piece>>, AllocError>
+    ensures stands { IfOk result (λ xs. GroupStands xs (option_map group_of group.entry)) }
+{
+    match group {
+        None => Ok(None),
+        Some(group) => Ok(Some(parse_pieces(alloc, inside(group))?)),
+    }
+}
+
+/// Adds the fault of an argument that cannot be read, whose text begins here.
+#[cold]
+#[inline(never)]
+fn push_broken<'t>(
+    alloc: Global,
+    pieces: &mut Vec<Piece>,
+    place: usize,
+    here: Cursor<'t>,
+    fault: ArgumentFault,
+) -> Result<Cursor<'t>, AllocError>
+    ensures rest { IfOk result (λ r. at r ≡ all_after (at here.entry)) }
+    ensures pushed { IfOk result (λ _. Pushed pieces.old.items pieces.new.items
+        (piece_node nodes place (all_after (at here.entry)).place
+        (broken (argument_fault_of fault))) (at here.entry)) }
+{
+    let rest = skip_all(here);
+    let piece = Piece {
+        place,
+        end: rest.place,
+        kind: PieceKind::Broken,
+        item: None,
+        join: None,
+        from: place,
+        to: place,
+        spec_end: place,
+        spec: Spec::default(),
+        form: Form::Broken(Box::new(alloc, fault)?),
+    };
+    push_piece(pieces, piece)?;
+    Ok(rest)
+}

@@ -1,0 +1,301 @@
+//! Stored pieces as the source of a format. Callers come before what they call.
+ghost use Rattle.std.specs.Prelude.{◌≡◌, ◌+◌, ◌^◌, ◌<◌, ◌≤◌, ⊤, IfOk, IsSome, MatchBool, Some};
+ghost use Rattle.std.specs.Prelude.{false, length, option_map, true};
+ghost use Rattle.std.specs.Str.{chars};
+ghost use Rattle.interpolator_syntax.specs.Faults.{result_answer, fault, argument_fault_of};
+ghost use Rattle.interpolator_syntax.specs.Nodes.{as_forest, no_nodes};
+ghost use Rattle.interpolator_eval.specs.Meaning.CodeEnvironments.{environment_of};
+ghost use Rattle.interpolator_eval.specs.Meaning.Meanings.{forest_means};
+ghost use Rattle.interpolator_eval.specs.Meaning.Sinks.{Writes};
+ghost use Rattle.interpolator_eval.specs.Meaning.Sources.{Met, asks_list, before_list, from_list};
+ghost use Rattle.interpolator_eval.specs.Meaning.Sources.{met_pieces, unlisted_means};
+ghost use Rattle.interpolator_eval.specs.Meaning.Work.{forest_work};
+ghost use Rattle.interpolator_pieces.specs.Stored.{node_of, nodes_of, node_whole, forest_whole};
+ghost use Rattle.interpolator_pieces.specs.Stored.{part, range_of};
+ghost use Rattle.interpolator_pieces.specs.StoredLists.{begins_list, is_list_form, range_asked};
+ghost use Rattle.interpolator_pieces.specs.StoredLists.{stored_list, stored_rest};
+ghost use Rattle.interpolator_pieces.specs.StoredMeanings.{stored_part, stored_name};
+ghost use Rattle.interpolator_pieces.specs.StoredMeanings.{unclosed_fault};
+ghost use Rattle.interpolator_pieces.specs.declared.piece.Form.TheVariants as forms;
+ghost use Rattle.interpolator_pieces.specs.declared.piece.Piece.TheViews.{out-Piece};
+
+use crate::piece::{Form, Piece};
+use interpolator_eval::{
+    Context, Environment, FormatSource, Formattable, Sink, Tally, chosen_list, write_plain_value,
+    write_value,
+};
+use interpolator_render::{Spec, TextWrite};
+use interpolator_syntax::{ArgumentFault, Error, ParseError, PieceKind, Range};
+use std::sync::ledger::Ledger;
+
+/// Pieces that are still to be written: all those of a text, or any others that fit it.
+#[derive(Clone, Copy)]
+pub struct Stored<'t> {
+    pub text: &'t str,
+    pub pieces: &'t [Piece],
+    ghost fits: { forest_whole (as_forest (nodes_of text.now pieces.now)) ≡ true },
+}
+
+impl<'t> FormatSource for Stored<'t> {
+    /// The list that comes next, and what follows it.
+    type List = Stored<'t>;
+
+    ghost tree = { λ s. as_forest (nodes_of s.text.now s.pieces.now) };
+
+    ghost is_met = { λ s. begins_list s.pieces.now ≡ true };
+
+    ghost asks = { λ s. stored_list s.text.now s.pieces.now };
+
+    ghost follows = { λ s. stored_rest s.text.now s.pieces.now };
+
+    #[inline(always)]
+    fn is_empty(&self) -> bool {
+        self.pieces.is_empty()
+    }
+
+    #[inline(always)]
+    fn no_list(&self) -> Stored<'t> {
+        *self
+    }
+
+    #[inline(always)]
+    fn write_to_list<'a, W: TextWrite, C: Context, L: Ledger>(
+        &self,
+        sink: &mut Sink<'_, W>,
+        environment: &Environment<'a, C, C::Object>,
+        list: &mut Stored<'t>,
+        tally: &mut Tally<L>,
+    ) -> Result<bool, Error> {
+        run_pieces(sink, environment, *self, list, tally)
+    }
+
+    #[inline(always)]
+    fn items<'a, C: Context>(
+        list: &Stored<'t>,
+        environment: &Environment<'a, C, C::Object>,
+    ) -> Result<&'a [Formattable<'a, C::Object>], Error> {
+        let piece = &list.pieces[0];
+        let (start, name) = name_of(list.text, piece);
+        chosen_list(
+            environment,
+            start,
+            name,
+            range_asked(&piece.form),
+            &piece.spec,
+            piece.spec_end,
+        )
+    }
+
+    #[inline(always)]
+    fn has_width(list: &Stored<'t>) -> bool {
+        list.pieces[0].spec.width.is_some()
+    }
+
+    #[inline(always)]
+    fn spec(list: &Stored<'t>) -> Spec {
+        list.pieces[0].spec
+    }
+
+    #[inline(always)]
+    fn end(list: &Stored<'t>) -> usize {
+        list.pieces[0].spec_end
+    }
+
+    #[inline(always)]
+    fn item(list: &Stored<'t>) -> Option<Stored<'t>> {
+        let pieces = list.pieces;
+        match &pieces[0].item {
+            Some(item) => Some(Stored {
+                text: list.text,
+                pieces: item,
+            }),
+            None => None,
+        }
+    }
+
+    #[inline(always)]
+    fn join(list: &Stored<'t>) -> Option<Stored<'t>> {
+        let pieces = list.pieces;
+        match &pieces[0].join {
+            Some(join) => Some(Stored {
+                text: list.text,
+                pieces: join,
+            }),
+            None => None,
+        }
+    }
+
+    #[inline(always)]
+    fn rest(list: &Stored<'t>) -> Option<Stored<'t>> {
+        let pieces = list.pieces;
+        match pieces[0].kind {
+            PieceKind::Unclosed => None,
+            _ => Some(Stored {
+                text: list.text,
+                pieces: &pieces[1..],
+            }),
+        }
+    }
+}
+
+/// Which items of a list are written: all, unless the form of the piece has a range.
+#[inline(always)]
+fn range_asked(form: &Form) -> Option<Range>
+    ensures { result ≡ range_asked form.now }
+{
+    match form {
+        Form::List(range) => unboxed(range),
+        _ => None,
+    }
+}
+
+/// Writes what pieces mean up to the first list, in order, and returns whether there is one.
+#[inline(always)]
+fn run_pieces<'t, 'a, W: TextWrite, C: Context, L: Ledger>(
+    sink: &mut Sink<'_, W>,
+    environment: &Environment<'a, C, C::Object>,
+    source: Stored<'t>,
+    list: &mut Stored<'t>,
+    tally: &mut Tally<L>,
+) -> Result<bool, Error>
+    ensures writes { Writes W.written
+        (forest_means C.Object.shows (environment_of C.finds environment.now)
+        (before_list (as_forest (nodes_of source.entry.text.now source.entry.pieces.now))))
+        sink.old sink.new (result_answer result) }
+    ensures met { IfOk result (λ met. Met met (begins_list list.new.pieces.now ≡ true)
+        (stored_list list.new.text.now list.new.pieces.now)
+        (stored_rest list.new.text.now list.new.pieces.now)
+        (from_list (as_forest (nodes_of source.entry.text.now source.entry.pieces.now)))) }
+    ensures gone { tally.new ≤ tally.old + ((forest_work C.Object.shows
+        (environment_of C.finds environment.now)
+        (before_list (as_forest (nodes_of source.entry.text.now source.entry.pieces.now)))).pieces
+        + met_pieces result) }
+    ensures exact { IfOk result (λ _. tally.new ≡ tally.old + ((forest_work C.Object.shows
+        (environment_of C.finds environment.now)
+        (before_list (as_forest (nodes_of source.entry.text.now source.entry.pieces.now)))).pieces
+        + met_pieces result)) }
+{
+    let text = source.text;
+    let mut rest = source.pieces;
+    while let Some((piece, after)) = rest.split_first() {
+        tally.tick();
+        if run_piece(sink, environment, text, piece)? {
+            *list = Stored { text, pieces: rest };
+            return Ok(true);
+        }
+        rest = after;
+    }
+    Ok(false)
+}
+
+/// Writes what a piece means, unless it asks for a list; returns whether it does.
+#[inline(always)]
+fn run_piece<'a, W: TextWrite, C: Context>(
+    sink: &mut Sink<'_, W>,
+    environment: &Environment<'a, C, C::Object>,
+    text: &str,
+    piece: &Piece,
+) -> Result<bool, Error>
+    requires whole { node_whole (node_of text.now piece.now) ≡ true }
+    ensures writes { Writes W.written
+        (unlisted_means C.Object.shows (environment_of C.finds environment.now)
+        (node_of text.now piece.now))
+        sink.old sink.new (result_answer result) }
+    ensures list { IfOk result (λ list. is_list_form (out-Piece piece.now).form ≡ list) }
+{
+    match &piece.form {
+        Form::Text => {
+            sink.put_run(text_of(text, piece), piece.from)?;
+            Ok(false)
+        }
+        Form::Plain => {
+            let (start, name) = name_of(text, piece);
+            write_plain_value(sink, environment, start, name, piece.spec_end)?;
+            value_done(piece)
+        }
+        Form::Value(t) => {
+            let (start, name) = name_of(text, piece);
+            write_value(
+                sink,
+                environment,
+                start,
+                name,
+                *t,
+                &piece.spec,
+                piece.spec_end,
+            )?;
+            value_done(piece)
+        }
+        Form::List(_) => Ok(true),
+        Form::Broken(fault) => refused(fault),
+    }
+}
+
+/// `false`, for a value that was written, since it is no list; or the fault of an argument that is
+/// not closed.
+#[inline(always)]
+fn value_done(piece: &Piece) -> Result<bool, Error>
+    ensures closed { result_answer result ≡ option_map fault (unclosed_fault piece.now) }
+    ensures value { IfOk result (λ list. list ≡ false) }
+{
+    require_closed(piece)?;
+    Ok(false)
+}
+
+/// The fault of a broken argument. This is a function of its own, since a function zeroes its error
+/// slot on entry.
+#[inline(always)]
+fn refused(broken: &ArgumentFault) -> Result<bool, Error>
+    ensures { result_answer result ≡ Some (fault (argument_fault_of broken.now)) }
+{
+    Err(Error::from(*broken))
+}
+
+/// The text from byte `from` up to `to`.
+pub fn cut(text: &str, from: usize, to: usize) -> &str
+    requires fits { IsSome (part text.now from to) }
+    ensures text { Some (chars result.now) ≡ part text.now from to }
+    ensures size { from + length result.now ≡ to }
+    ensures fits { from + length result.now < 2 ^ 64 }
+{
+    &text[from..to]
+}
+
+/// The bytes of the text that are written for a piece.
+pub fn text_of<'t>(text: &'t str, piece: &Piece) -> &'t str
+    requires fits { IsSome (stored_part text.now piece.now) }
+    ensures text { Some (chars result.now) ≡ stored_part text.now piece.now }
+    ensures fits { (out-Piece piece.now).from + length result.now < 2 ^ 64 }
+{
+    cut(text, piece.from, piece.to)
+}
+
+/// Where the argument of a piece begins, and its name.
+pub fn name_of<'t>(text: &'t str, piece: &Piece) -> (usize, &'t str)
+    requires fits { IsSome (stored_name text.now piece.now) }
+    ensures start { result.0 ≡ (out-Piece piece.now).place + 1 }
+    ensures name { Some (chars result.1.now) ≡ stored_name text.now piece.now }
+{
+    (piece.place + 1, text_of(text, piece))
+}
+
+/// The fault of an argument that is not closed.
+pub fn require_closed(piece: &Piece) -> Result<(), Error>
+    ensures { result_answer result ≡ option_map fault (unclosed_fault piece.now) }
+{
+    match piece.kind {
+        PieceKind::Unclosed => Err(Error::Parse(ParseError::Expected("}", piece.spec_end))),
+        _ => Ok(()),
+    }
+}
+
+/// The range of a list, if it has one.
+#[inline(always)]
+pub fn unboxed(range: &Option<Box<Range>>) -> Option<Range>
+    ensures { result ≡ range_of range.now }
+{
+    match range {
+        Some(range) => Some(**range),
+        None => None,
+    }
+}

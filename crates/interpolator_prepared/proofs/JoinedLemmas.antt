@@ -1,0 +1,218 @@
+-- Text of several parts of a format: the place of each of its bytes, and what a refusal means.
+use Rattle.std.proofs.Common.{◌≡◌, ◌∙◌, refl, sym, ap, arith, ℕ, ◌+◌, ◌-◌, ◌<◌, ◌≤◌, Bool, true, false}
+use Rattle.std.proofs.Common.{nat_lt, List, [], ◌∷◌, ◌++◌, length, drop, get_or, None, Some, inl, inr}
+use Rattle.std.specs.Prelude.{◌==◌, if◌then◌else◌}
+use Rattle.std.specs.Char.{len_utf8}
+use Rattle.std.specs.Str.{chars, IsUtf8}
+use Rattle.std.proofs.lemmas.List.{map-append, drop_more}
+use Rattle.std.proofs.Common.{length-append}
+use Rattle.std.proofs.lemmas.Str.{chars-append, chars-nil, len_utf8_bounds}
+use Rattle.interpolator_render.specs.Written.{Written}
+use Rattle.interpolator_syntax.specs.At.{Placed, placed_from, size, text_of}
+use Rattle.interpolator_syntax.specs.Faults.{Answer}
+use Rattle.interpolator_syntax.proofs.CharacterLemmas.{size-chars}
+use Rattle.interpolator_eval.specs.Meaning.Meanings.{text_alone}
+use Rattle.interpolator_eval.specs.Meaning.Outcomes.{Outcome}
+use Rattle.interpolator_eval.specs.Meaning.Sinks.{write_fault_answer}
+use Rattle.interpolator_eval.specs.declared.meaning.sink.WriteFault.{WriteFault}
+use Rattle.interpolator_eval.specs.declared.meaning.sink.WriteFault.TheVariants.{MissingTraitImpl, Fmt}
+use Rattle.interpolator_eval.proofs.MeaningLemmas.PlacedLemmas.{placed_from-append}
+use Rattle.interpolator_prepared.specs.Programs.{text_step}
+use Rattle.interpolator_prepared.specs.StoredSteps.{parts_size, joined_place, placed_by}
+use Rattle.interpolator_prepared.specs.StoredSteps.{joined_placed, joined_step, moved_fault}
+use Rattle.interpolator_prepared.specs.declared.step.Part.{Part}
+
+-- ---- the place of a byte
+
+kept_by : (b : Bool) (m q r : ℕ) → (b ≡ false → q ≡ r)
+    → (if b then m else q) ≡ (if b then m else r)
+kept_by true m q r h = refl
+kept_by false m q r h = h refl
+
+-- one more part leaves the places of the bytes before it
+pub place_kept : (ps : List Part) (x : Part) (o : ℕ) → o < parts_size ps
+    → joined_place (ps ++ (x ∷ [])) o ≡ joined_place ps o
+place_kept [] x o h = absurd (omega (arith, h))
+place_kept (p ∷ ps) x o h =
+    kept_by (nat_lt o (p.to - p.from)) (p.from + o)
+    (joined_place (ps ++ (x ∷ [])) (o - (p.to - p.from)))
+    (joined_place ps (o - (p.to - p.from)))
+    (λ e.
+    let past : p.to - p.from ≤ o = grind arith in
+    place_kept ps x (o - (p.to - p.from)) (omega (arith, h, past)))
+
+-- and its own bytes are at its place
+pub place_added : (ps : List Part) (x : Part) (o : ℕ) → o < x.to - x.from
+    → joined_place (ps ++ (x ∷ [])) (parts_size ps + o) ≡ x.from + o
+place_added [] x o h =
+    let e : nat_lt (0 + o) (x.to - x.from) ≡ true = grind arith in
+    let same : 0 + o ≡ o = omega arith in
+    rw (e) (ap (λ n. x.from + n) same)
+place_added (p ∷ ps) x o h =
+    let w = p.to - p.from in
+    let e : nat_lt (w + parts_size ps + o) w ≡ false = grind arith in
+    let left : w + parts_size ps + o - w ≡ parts_size ps + o = omega arith in
+    rw (e) (ap (joined_place (ps ++ (x ∷ []))) left ∙ place_added ps x o h)
+
+-- ---- characters at other places
+
+module _ (f g : ℕ → ℕ) (n : ℕ) (same : (o : ℕ) → o < n → f o ≡ g o) where
+  pub same_places : (p : ℕ) (cs : List ℕ) → p + size cs ≤ n
+      → placed_by f (placed_from p cs) ≡ placed_by g (placed_from p cs)
+  same_places p [] h = refl
+  same_places p (c ∷ cs) h =
+      let (least, most) = len_utf8_bounds c in
+      let here : p < n = omega arith in
+      let rest : p + len_utf8 c + size cs ≤ n = omega arith in
+      ap (λ q. (c, q) ∷ placed_by f (placed_from (p + len_utf8 c) cs)) (same p here)
+      ∙ ap (λ xs. (c, g p) ∷ xs) (same_places (p + len_utf8 c) cs rest)
+
+pub moved_places : (f : ℕ → ℕ) (q from : ℕ) (cs : List ℕ)
+    → ((o : ℕ) → o < size cs → f (q + o) ≡ from + o)
+    → placed_by f (placed_from q cs) ≡ placed_from from cs
+moved_places f q from [] h = refl
+moved_places f q from (c ∷ cs) h =
+    let (least, most) = len_utf8_bounds c in
+    let here : f q ≡ from =
+    ap f (let e : q ≡ q + 0 = omega arith in e) ∙ h 0 (omega arith)
+    ∙ (let e : from + 0 ≡ from = omega arith in e) in
+    ap (λ p. (c, p) ∷ placed_by f (placed_from (q + len_utf8 c) cs)) here
+    ∙ ap (λ xs. (c, from) ∷ xs)
+    (moved_places f (q + len_utf8 c) (from + len_utf8 c) cs
+    (λ o l. ap f (let e : q + len_utf8 c + o ≡ q + (len_utf8 c + o) = omega arith in e)
+    ∙ h (len_utf8 c + o) (omega arith)
+    ∙ (let e : from + (len_utf8 c + o) ≡ from + len_utf8 c + o = omega arith in e)))
+
+-- ---- one more part
+
+joined_is : (b : Bool) (xs ds : Placed)
+    → (if b then Some (text_step xs) else None) ≡ Some (text_step ds) → (b ≡ true) × (xs ≡ ds)
+joined_is true xs ds h = (refl, cc)
+joined_is false xs ds h = absurd (cc)
+
+-- numbers that a test finds equal
+pub equal_numbers : (a b : ℕ) → (a == b) ≡ true → a ≡ b
+equal_numbers a b h = grind arith
+
+number_equals : (a b : ℕ) → a ≡ b → (a == b) ≡ true
+number_equals a b h = grind arith
+
+module _ (ps : List Part) (bs more : List ℕ) (from to : ℕ) (cs : List ℕ) (utf8 : IsUtf8 bs)
+    (is : chars more ≡ cs) (sized : length more ≡ to - from) (fit : size cs ≡ to - from) where
+  abbrev Added : List Part
+  Added = ps ++ (record { from = from; to = to } ∷ [])
+
+  sizes : (ps : List Part)
+      → parts_size (ps ++ (record { from = from; to = to } ∷ [])) ≡ parts_size ps + (to - from)
+  sizes [] = omega arith
+  sizes (p ∷ ps) = omega (arith, sizes ps)
+
+  placed_added : parts_size ps ≡ length bs
+      → joined_placed Added (bs ++ more) ≡ joined_placed ps bs ++ placed_from from cs
+  placed_added whole =
+      let x : Part = record { from = from; to = to } in
+      let long : size (chars bs) ≡ parts_size ps = size-chars bs utf8 ∙ sym whole in
+      let f = joined_place Added in
+      let front : placed_by f (placed_from 0 (chars bs)) ≡ joined_placed ps bs =
+      same_places f (joined_place ps) (parts_size ps) (place_kept ps x) 0 (chars bs)
+      (omega (arith, long)) in
+      let back : placed_by f (placed_from (0 + size (chars bs)) cs) ≡ placed_from from cs =
+      moved_places f (0 + size (chars bs)) from cs
+      (λ o l. ap f (let e : 0 + size (chars bs) + o ≡ parts_size ps + o = omega (arith, long) in e)
+      ∙ place_added ps x o (omega (arith, l, fit))) in
+      ap (λ ds. placed_by f (placed_from 0 ds))
+      (chars-append bs more utf8 ∙ ap (λ ds. chars bs ++ ds) is)
+      ∙ ap (placed_by f) (placed_from-append 0 (chars bs) cs)
+      ∙ map-append (λ y. (y.0, f y.1)) (placed_from 0 (chars bs))
+      (placed_from (0 + size (chars bs)) cs)
+      ∙ ap (λ xs. xs ++ placed_by f (placed_from (0 + size (chars bs)) cs)) front
+      ∙ ap (λ xs. joined_placed ps bs ++ xs) back
+
+  pub part_added : (ds : Placed) → joined_step ps bs ≡ Some (text_step ds)
+      → joined_step Added (bs ++ more) ≡ Some (text_step (ds ++ placed_from from cs))
+  part_added ds h =
+      let (test, placed) = joined_is (parts_size ps == length bs) (joined_placed ps bs) ds h in
+      let whole = equal_numbers (parts_size ps) (length bs) test in
+      let longer : length (bs ++ more) ≡ length bs + length more = length-append bs more in
+      let all : (parts_size Added == length (bs ++ more)) ≡ true =
+      number_equals (parts_size Added) (length (bs ++ more))
+      (omega (arith, sizes ps, whole, longer, sized)) in
+      rw (all) (ap (λ xs. Some (text_step xs))
+      (placed_added whole ∙ ap (λ xs. xs ++ placed_from from cs) placed))
+
+-- ---- a refusal
+
+text_of-placed_by : (f : ℕ → ℕ) (xs : Placed) → text_of (placed_by f xs) ≡ text_of xs
+text_of-placed_by f [] = refl
+text_of-placed_by f (x ∷ xs) = ap (λ cs. x.0 ∷ cs) (text_of-placed_by f xs)
+
+-- what was written of a text was also written of the same characters at other places
+pub placed_written :
+    (f : ℕ → ℕ) (xs : Placed) (old new : Written) → Outcome (text_alone xs) old new None
+    → Outcome (text_alone (placed_by f xs)) old new None
+placed_written f xs old new (inl o) =
+    inl (record { all = rw (text_of-placed_by f xs) o.all; told = o.told })
+placed_written f xs old new (inr (inl o)) = absurd (let e = o.told in cc)
+placed_written f xs old new (inr (inr o)) = absurd (let e = o.told in cc)
+
+-- and if they were refused, the place is that of the first that was not appended
+pub placed_refused :
+    (f : ℕ → ℕ) (xs : Placed) (old new : Written) (w : WriteFault)
+    → Outcome (text_alone xs) old new (Some (write_fault_answer w))
+    → Outcome (text_alone (placed_by f xs)) old new (Some (moved_fault f w))
+placed_refused f xs old new w (inl o) = absurd (let e = o.told in cc)
+placed_refused f xs old new (MissingTraitImpl t p) (inr (inl o)) = absurd (let e = o.told in cc)
+placed_refused f xs old new (Fmt p) (inr (inl o)) =
+    let e = o.told in
+    let here : p ≡ o.place = cc in
+    inr (inl (record {
+      front = placed_by f o.front;
+      c = o.c;
+      place = f o.place;
+      back = placed_by f o.back;
+      split = ap (placed_by f) o.split
+          ∙ map-append (λ y. (y.0, f y.1)) o.front ((o.c, o.place) ∷ o.back);
+      appended = rw (text_of-placed_by f o.front) o.appended;
+      flag = o.flag;
+      none_after_refusal = λ r. text_of-placed_by f o.front ∙ o.none_after_refusal r;
+      told = ap (λ q. Some (moved_fault f (Fmt q))) here;
+    }))
+placed_refused f xs old new (MissingTraitImpl t p) (inr (inr o)) = absurd (let e = o.told in cc)
+placed_refused f xs old new (Fmt p) (inr (inr o)) = absurd (let e = o.told in cc)
+
+-- joined text that was written, or refused
+module _ (ps : List Part) (bs text : List ℕ) (old new : Written) (same : text ≡ bs) where
+  pub joined_writes : Outcome (text_alone (placed_from 0 (chars text))) old new None
+      → Outcome (text_alone (joined_placed ps bs)) old new None
+  joined_writes o =
+      rw (← same) (placed_written (joined_place ps) (placed_from 0 (chars text)) old new o)
+
+  pub joined_refused : (w : WriteFault) (answer : Answer) (qs : List Part)
+      → answer ≡ moved_fault (joined_place qs) w → qs ≡ ps
+      → Outcome (text_alone (placed_from 0 (chars text))) old new (Some (write_fault_answer w))
+      → Outcome (text_alone (joined_placed ps bs)) old new (Some answer)
+  joined_refused w answer qs told parts o =
+      rw (told, parts, ← same)
+      (placed_refused (joined_place ps) (placed_from 0 (chars text)) old new w o)
+
+-- ---- no part, and parts one by one
+
+pub empty_joined : (ps : List Part) (bs : List ℕ) → ps ≡ [] → bs ≡ []
+    → joined_step ps bs ≡ Some (text_step [])
+empty_joined ps bs none empty =
+    rw (none, empty) (ap (λ cs. Some (text_step (placed_by (joined_place []) (placed_from 0 cs))))
+    chars-nil)
+
+module _ (ps : List Part) (i : ℕ) (x : Part) (o : ℕ) (l : i < length ps) (is : x ≡ get_or ps i x)
+  where
+    next_part : drop i ps ≡ x ∷ drop (i + 1) ps
+    next_part = rw (drop_more ps i x l, ← is) refl
+
+    -- a byte of the next part
+    pub place_here : o < x.to - x.from → joined_place (drop i ps) o ≡ x.from + o
+    place_here h = let e : nat_lt o (x.to - x.from) ≡ true = grind arith in rw (next_part, e) refl
+
+    -- a byte after it
+    pub place_later : x.to - x.from ≤ o
+        → joined_place (drop i ps) o ≡ joined_place (drop (i + 1) ps) (o - (x.to - x.from))
+    place_later h = let e : nat_lt o (x.to - x.from) ≡ false = grind arith in rw (next_part, e) refl

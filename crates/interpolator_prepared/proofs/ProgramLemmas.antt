@@ -1,0 +1,161 @@
+-- The program of nodes means what they mean, with a row that reaches each name.
+use Rattle.std.proofs.Common.{◌≡◌, ◌∙◌, refl, sym, ap, arith, ℕ, suc, ◌+◌, ◌<◌, Bool, true, false}
+use Rattle.std.proofs.Common.{List, [], ◌∷◌, ◌++◌, length, Option, None, Some, IsSome}
+use Rattle.std.specs.List.{fold}
+use Rattle.std.specs.Option.{option_and_then}
+use Rattle.std.specs.Str.{bytes_eq, encode_utf8_all}
+use Rattle.interpolator_render.specs.declared.view.Trait.{Trait}
+use Rattle.interpolator_render.specs.declared.view.Spec.{Spec}
+use Rattle.interpolator_render.specs.Views.{Shown}
+use Rattle.interpolator_syntax.specs.At.{Placed, placed_from}
+use Rattle.interpolator_syntax.specs.Nodes.{Node, node, Branch, Content, text_content, argument_content, fault_content}
+use Rattle.interpolator_syntax.specs.Nodes.{target_value, target_list, as_forest}
+use Rattle.interpolator_syntax.specs.declared.piece_kind.PieceKind.{PieceKind}
+use Rattle.interpolator_syntax.specs.declared.piece_kind.PieceKind.TheVariants as kinds
+use Rattle.interpolator_eval.specs.Slots.{Slots}
+use Rattle.interpolator_eval.specs.Meaning.Environments.{Environment, environment}
+use Rattle.interpolator_eval.specs.Meaning.Meanings.{Meaning, text_alone, chain, under_name}
+use Rattle.interpolator_eval.proofs.MeaningLemmas.MeaningLemmas.{joined_none, nothing_last}
+use Rattle.interpolator_eval.proofs.MeaningLemmas.MeaningLemmas.{joined_assoc}
+use Rattle.interpolator_eval.specs.Meaning.Meanings.{bare_means, node_means, forest_means}
+use Rattle.interpolator_eval.specs.Meaning.Meanings.{join_branch_means, item_branch_means}
+use Rattle.interpolator_prepared.specs.Programs.{Instruction, text_step, value_step, node_step}
+use Rattle.interpolator_prepared.specs.Programs.{text_after, with_text, with_node, program}
+use Rattle.interpolator_prepared.specs.Programs.{held_position, node_position, step_at, argument_step}
+use Rattle.interpolator_prepared.specs.Programs.{position_means, step_means, steps_mean}
+use Rattle.interpolator_prepared.specs.Rows.{later_or_first, last_position, found_by_row}
+
+-- ---- positions
+
+later_below :
+    (o : Option ℕ) (b : Bool) (n k : ℕ) → ((j : ℕ) → o ≡ Some j → j < n)
+    → later_or_first o b ≡ Some k → k < n + 1
+later_below (Some j) b n k h e =
+    let same : suc j ≡ k = cc in let below : j < n = h j refl in omega (arith, same, below)
+later_below None true n k h e = let same : 0 ≡ k = cc in omega (arith, same)
+later_below None false n k h e = absurd (cc)
+
+-- the position of a name is one of theirs
+pub position_below : (names : List (List ℕ)) (name : List ℕ) (k : ℕ)
+    → last_position names name ≡ Some k → k < length names
+position_below [] name k e = absurd (cc)
+position_below (own ∷ names) name k e =
+    let below : k < length names + 1 =
+    later_below (last_position names name) (bytes_eq name own) (length names) k
+    (position_below names name) e in omega (arith, below)
+
+-- ---- steps in order
+
+module _ {X : Type 0} (shows : X → Trait → Spec → Shown) (e : Environment X)
+    (value_at : ℕ → Option (Slots X)) where
+  abbrev Mean : List Instruction → Meaning
+  Mean = steps_mean shows e value_at
+
+  abbrev One : Instruction → Meaning
+  One = step_means shows e value_at
+
+  pub steps_append : (xs ys : List Instruction) → Mean (xs ++ ys) ≡ chain (Mean xs) (Mean ys)
+  steps_append [] ys = sym (joined_none (Mean ys))
+  steps_append (x ∷ xs) ys =
+      ap (chain (One x)) (steps_append xs ys) ∙ sym (joined_assoc (One x) (Mean xs) (Mean ys))
+
+  after_means : (x : Instruction) (xs : Placed)
+      → Mean (text_after x xs) ≡ chain (One x) (text_alone xs)
+  after_means (text_step before) xs = nothing_last (text_alone (before ++ xs))
+  after_means (value_step k t spec end) xs =
+      ap (chain (One (value_step k t spec end))) (nothing_last (text_alone xs))
+  after_means (node_step x) xs = ap (chain (One (node_step x))) (nothing_last (text_alone xs))
+
+  pub with_text_means : (steps : List Instruction) (xs : Placed)
+      → Mean (with_text steps xs) ≡ chain (Mean steps) (text_alone xs)
+  with_text_means [] xs = nothing_last (text_alone xs) ∙ sym (joined_none (text_alone xs))
+  with_text_means (x ∷ []) xs =
+      after_means x xs ∙ ap (λ m. chain m (text_alone xs)) (sym (nothing_last (One x)))
+  with_text_means (x ∷ (y ∷ steps)) xs =
+      ap (chain (One x)) (with_text_means (y ∷ steps) xs)
+      ∙ sym (joined_assoc (One x) (Mean (y ∷ steps)) (text_alone xs))
+
+-- ---- nodes
+
+module _ {X : Type 0} (shows : X → Trait → Spec → Shown) (names : List (List ℕ))
+    (value_at : ℕ → Option (Slots X))
+    (reached : (k : ℕ) → k < length names → IsSome (value_at k)) where
+  abbrev E : Environment X
+  E = environment (found_by_row names value_at)
+
+  by_value :
+      (start : ℕ) (name : List ℕ) (t : Trait) (spec : Spec) (q : ℕ) (item join : Branch)
+      (o : Option (Slots X)) → IsSome o
+      → position_means shows t spec q o
+      ≡ under_name name start (bare_means shows (target_value t) spec q
+      (join_branch_means shows E join) (item_branch_means shows E item q)) o
+  by_value start name t spec q item join None h = absurd (cc)
+  by_value start name t spec q item join (Some found) h = refl
+
+  held_argument :
+      (place end : ℕ) (kind : PieceKind) (held : Option Content) (item join : Branch) (k : ℕ)
+      → held_position names kind held ≡ Some k
+      → step_means shows E value_at (step_at names k (node place end kind held item join))
+      ≡ node_means shows E (node place end kind held item join)
+  held_argument place end kind None item join k h = refl
+  held_argument place end kind (Some (text_content from cs)) item join k h = refl
+  held_argument place end kind (Some (fault_content f)) item join k h = refl
+  held_argument place end kind (Some (argument_content start name spec (target_list r) q)) item join k h = refl
+  held_argument place end kinds.Closed (Some (argument_content start name spec (target_value t) q)) item join k h =
+      by_value start name t spec q item join (value_at k)
+      (reached k (position_below names (encode_utf8_all name) k h))
+      ∙ sym (ap (λ o. under_name name start (bare_means shows (target_value t) spec q
+      (join_branch_means shows E join) (item_branch_means shows E item q))
+      (option_and_then value_at o)) h)
+  held_argument place end kinds.Literal (Some (argument_content start name spec (target_value t) q)) item join k h =
+      absurd (cc)
+  held_argument place end kinds.Doubled (Some (argument_content start name spec (target_value t) q)) item join k h =
+      absurd (cc)
+  held_argument place end kinds.LoneClose (Some (argument_content start name spec (target_value t) q)) item join k h =
+      absurd (cc)
+  held_argument place end kinds.Unclosed (Some (argument_content start name spec (target_value t) q)) item join k h =
+      absurd (cc)
+  held_argument place end kinds.Broken (Some (argument_content start name spec (target_value t) q)) item join k h =
+      absurd (cc)
+
+  argument_means : (o : Option ℕ) (x : Node) → node_position names x ≡ o
+      → step_means shows E value_at (argument_step names o x) ≡ node_means shows E x
+  argument_means None x h = refl
+  argument_means (Some k) (node place end kind held item join) h =
+      held_argument place end kind held item join k h
+
+  last_means : (steps : List Instruction) (x : Node)
+      → steps_mean shows E value_at (steps ++ (argument_step names (node_position names x) x ∷ []))
+      ≡ chain (steps_mean shows E value_at steps) (node_means shows E x)
+  last_means steps x =
+      steps_append shows E value_at steps (argument_step names (node_position names x) x ∷ [])
+      ∙ ap (chain (steps_mean shows E value_at steps))
+      (nothing_last (step_means shows E value_at (argument_step names (node_position names x) x))
+      ∙ argument_means (node_position names x) x refl)
+
+  node_after : (steps : List Instruction) (x : Node)
+      → steps_mean shows E value_at (with_node names steps x)
+      ≡ chain (steps_mean shows E value_at steps) (node_means shows E x)
+  node_after steps (node place end kind None item join) =
+      last_means steps (node place end kind None item join)
+  node_after steps (node place end kind (Some (text_content from cs)) item join) =
+      with_text_means shows E value_at steps (placed_from from cs)
+  node_after steps (node place end kind (Some (argument_content start name spec bare q)) item join) =
+      last_means steps (node place end kind (Some (argument_content start name spec bare q)) item join)
+  node_after steps (node place end kind (Some (fault_content f)) item join) =
+      last_means steps (node place end kind (Some (fault_content f)) item join)
+
+  program_after : (steps : List Instruction) (xs : List Node)
+      → steps_mean shows E value_at (fold (with_node names) steps xs)
+      ≡ chain (steps_mean shows E value_at steps) (forest_means shows E (as_forest xs))
+  program_after steps [] = sym (nothing_last (steps_mean shows E value_at steps))
+  program_after steps (x ∷ xs) =
+      program_after (with_node names steps x) xs
+      ∙ ap (λ m. chain m (forest_means shows E (as_forest xs))) (node_after steps x)
+      ∙ joined_assoc (steps_mean shows E value_at steps) (node_means shows E x)
+      (forest_means shows E (as_forest xs))
+
+  -- the program of nodes means what they mean
+  pub program_means : (xs : List Node)
+      → steps_mean shows E value_at (program names xs) ≡ forest_means shows E (as_forest xs)
+  program_means xs = program_after [] xs ∙ joined_none (forest_means shows E (as_forest xs))

@@ -1,0 +1,72 @@
+use Rattle.interpolator_prepared.specs.Rows.{name_bytes}
+use Rattle.interpolator_pieces.specs.declared.piece.Form.TheVariants as forms
+use Rattle.interpolator_syntax.specs.declared.piece_kind.PieceKind.TheVariants as kinds
+use Rattle.interpolator_prepared.proofs.CompileLemmas.{position_of_name, position_of_value}
+use Rattle.interpolator_prepared.proofs.CompileLemmas.{no_position_kind, no_position_form}
+use Rattle.interpolator_pieces.proofs.RunLemmas.{name_fits, value_fits}
+use Rattle.interpolator_pieces.proofs.WholePieceLemmas.{fits_text}
+use Rattle.interpolator_prepared.proofs.compile.position_of.Goals as goal
+
+pub position_in-requires : goal.position_in-requires
+position_in-requires c =
+    record {
+      fits = name_fits c.args.text.now c.args.piece.now c.in-Plain.is
+          (fits_text c.args.text.now c.args.piece.now c.requires.whole).held;
+    }
+
+pub position_in-requires-in-Value : goal.position_in-requires-in-Value
+position_in-requires-in-Value c =
+    record {
+      fits = value_fits c.args.text.now c.args.piece.now _ c.in-Value.is
+          (fits_text c.args.text.now c.args.piece.now c.requires.whole).held;
+    }
+
+pub returns-in-Plain : goal.returns-in-Plain
+returns-in-Plain c =
+    position_of_name (name_bytes c.args.names.now) c.args.text.now c.args.piece.now
+    c.requires.whole c.in-Closed.is _ c.position_in.ensures.position c.in-Plain.is
+
+pub returns-in-Value : goal.returns-in-Value
+returns-in-Value c =
+    position_of_value (name_bytes c.args.names.now) c.args.text.now c.args.piece.now
+    c.requires.whole c.in-Closed.is _ c.position_in-in-Value.ensures.position _ c.in-Value.is
+
+pub returns-in-Text : goal.returns-in-Text
+returns-in-Text c =
+    no_position_form (name_bytes c.args.names.now) c.args.text.now c.args.piece.now forms.Text
+    c.in-Text.is tt c.in-Closed.is
+
+pub returns-in-List : goal.returns-in-List
+returns-in-List c =
+    no_position_form (name_bytes c.args.names.now) c.args.text.now c.args.piece.now _
+    c.in-List.is tt c.in-Closed.is
+
+pub returns-in-Broken-form : goal.returns-in-Broken-form
+returns-in-Broken-form c =
+    no_position_form (name_bytes c.args.names.now) c.args.text.now c.args.piece.now _
+    c.in-Broken-form.is tt c.in-Closed.is
+
+pub returns-in-Literal : goal.returns-in-Literal
+returns-in-Literal c =
+    no_position_kind (name_bytes c.args.names.now) c.args.text.now c.args.piece.now kinds.Literal
+    c.in-Literal.is (λ e. cc)
+
+pub returns-in-Doubled : goal.returns-in-Doubled
+returns-in-Doubled c =
+    no_position_kind (name_bytes c.args.names.now) c.args.text.now c.args.piece.now kinds.Doubled
+    c.in-Doubled.is (λ e. cc)
+
+pub returns-in-LoneClose : goal.returns-in-LoneClose
+returns-in-LoneClose c =
+    no_position_kind (name_bytes c.args.names.now) c.args.text.now c.args.piece.now kinds.LoneClose
+    c.in-LoneClose.is (λ e. cc)
+
+pub returns-in-Unclosed : goal.returns-in-Unclosed
+returns-in-Unclosed c =
+    no_position_kind (name_bytes c.args.names.now) c.args.text.now c.args.piece.now kinds.Unclosed
+    c.in-Unclosed.is (λ e. cc)
+
+pub returns-in-Broken : goal.returns-in-Broken
+returns-in-Broken c =
+    no_position_kind (name_bytes c.args.names.now) c.args.text.now c.args.piece.now kinds.Broken
+    c.in-Broken.is (λ e. cc)

@@ -1,0 +1,5 @@
+-- Formats that were prepared for rows of values: their programs, and what these mean with a row.
+pub mod Items
+pub mod Programs
+pub mod Rows
+pub mod StoredSteps

@@ -1,0 +1,86 @@
+-- The flat program of a format and names, and what it means with a row.
+use Rattle.std.specs.Prelude.{ℕ, List, [], ◌∷◌, ◌++◌, Option, Some, None}
+use Rattle.std.specs.List.{fold}
+use Rattle.std.specs.Str.{encode_utf8_all}
+use Rattle.interpolator_render.specs.declared.view.Trait.{Trait}
+use Rattle.interpolator_render.specs.declared.view.Spec.{Spec}
+use Rattle.interpolator_render.specs.Views.{Shown}
+use Rattle.interpolator_syntax.specs.At.{Placed, placed_from}
+use Rattle.interpolator_syntax.specs.Nodes.{Node, node, Content, text_content, argument_content, target_value}
+use Rattle.interpolator_syntax.specs.declared.piece_kind.PieceKind.{PieceKind}
+use Rattle.interpolator_syntax.specs.declared.piece_kind.PieceKind.TheVariants.{Closed}
+use Rattle.interpolator_eval.specs.Slots.{Slots, values_of, slot_at}
+use Rattle.interpolator_eval.specs.Meaning.Environments.{Environment}
+use Rattle.interpolator_eval.specs.Meaning.Meanings.{Meaning, nothing, text_alone, chain, value_means}
+use Rattle.interpolator_eval.specs.Meaning.Meanings.{node_means}
+use Rattle.interpolator_prepared.specs.Rows.{last_position}
+
+-- one step of a program: characters, each with its place; the value at a position, under a trait
+-- and a spec that ends at `end`; or what a node means
+pub data Instruction : Type 0 where
+  text_step : Placed → Instruction
+  value_step : (position : ℕ) (wanted : Trait) (spec : Spec) (end : ℕ) → Instruction
+  node_step : Node → Instruction
+
+-- text that follows a step: one step with it if that is text too: joined to it, if it is text too
+abbrev pub text_after : Instruction → Placed → List Instruction
+text_after (text_step before) xs = text_step (before ++ xs) ∷ []
+text_after step xs = step ∷ (text_step xs ∷ [])
+
+-- text that follows steps: joined to the last of them, if that is text too
+abbrev pub with_text : List Instruction → Placed → List Instruction
+with_text [] xs = text_step xs ∷ []
+with_text (step ∷ []) xs = text_after step xs
+with_text (step ∷ (next ∷ steps)) xs = step ∷ with_text (next ∷ steps) xs
+
+module _ (names : List (List ℕ)) where
+  -- the position of the name of a closed argument that asks for a value
+  abbrev pub held_position : PieceKind → Option Content → Option ℕ
+  held_position Closed (Some (argument_content start name spec (target_value t) end)) =
+      last_position names (encode_utf8_all name)
+  held_position kind held = None
+
+  abbrev pub node_position : Node → Option ℕ
+  node_position (node place end kind held item join) = held_position kind held
+
+  -- the step of an argument whose name has that position
+  abbrev pub step_at : (position : ℕ) → Node → Instruction
+  step_at k (node place end kind (Some (argument_content start name spec (target_value t) q)) item join) =
+      value_step k t spec q
+  step_at k x = node_step x
+
+  -- the step of an argument whose name has a position; or, if it has none, of the node as it is
+  abbrev pub argument_step : Option ℕ → Node → Instruction
+  argument_step None x = node_step x
+  argument_step (Some k) x = step_at k x
+
+  -- steps with what a node adds
+  abbrev pub with_node : List Instruction → Node → List Instruction
+  with_node steps (node place end kind (Some (text_content from cs)) item join) =
+      with_text steps (placed_from from cs)
+  with_node steps x = steps ++ (argument_step (node_position x) x ∷ [])
+
+  -- the program of nodes: neighbouring text is one step, and a name is a position
+  abbrev pub program : List Node → List Instruction
+  program xs = fold with_node [] xs
+
+-- what the value at a position means: nothing if the row does not reach it
+abbrev pub position_means : {X : Type 0} → (X → Trait → Spec → Shown) → Trait → Spec → (end : ℕ)
+    → Option (Slots X) → Meaning
+position_means shows t spec end None = nothing
+position_means shows t spec end (Some found) =
+    value_means shows t spec end (slot_at t (values_of found))
+
+-- `value_at` gives the value at each position of a row
+module _ {X : Type 0} (shows : X → Trait → Spec → Shown) (e : Environment X)
+    (value_at : ℕ → Option (Slots X)) where
+  -- what a step means
+  abbrev pub step_means : Instruction → Meaning
+  step_means (text_step xs) = text_alone xs
+  step_means (value_step k t spec end) = position_means shows t spec end (value_at k)
+  step_means (node_step x) = node_means shows e x
+
+  -- what steps mean in order, up to the first fault
+  abbrev pub steps_mean : List Instruction → Meaning
+  steps_mean [] = nothing
+  steps_mean (step ∷ steps) = chain (step_means step) (steps_mean steps)

@@ -1,0 +1,210 @@
+//! Lists of a prepared format whose items are one value each and whose join is text.
+ghost use Rattle.std.specs.Prelude.{◌≡◌, ◌+◌, ◌^◌, ◌<◌, ⊤, ℕ, List, MatchOption, Some};
+ghost use Rattle.std.specs.Prelude.{IsSome, false, is_some, length, map, true};
+ghost use Rattle.std.specs.Str.{chars};
+ghost use Rattle.interpolator_syntax.specs.At.{placed_from};
+ghost use Rattle.interpolator_syntax.specs.Faults.{result_answer};
+ghost use Rattle.interpolator_syntax.specs.Nodes.{as_forest, target_value, argument_content};
+ghost use Rattle.interpolator_syntax.specs.declared.piece_kind.PieceKind.TheVariants.{Closed};
+ghost use Rattle.interpolator_eval.specs.Meaning.Meanings.{items_mean, text_alone};
+ghost use Rattle.interpolator_eval.specs.Meaning.CodeEnvironments.{environment_of};
+ghost use Rattle.interpolator_eval.specs.Meaning.Sinks.{Writes, write_answered};
+ghost use Rattle.interpolator_eval.specs.Slots.{slots_of};
+ghost use Rattle.interpolator_prepared.specs.Items.{IsItemForm, IsJoinForm, IsNodeValue, value_under};
+ghost use Rattle.interpolator_pieces.specs.Stored.{branch_of, forest_whole, held_of, node_of};
+ghost use Rattle.interpolator_pieces.specs.Stored.{node_whole, nodes_of};
+ghost use Rattle.interpolator_pieces.specs.StoredMeanings.{stored_name, stored_piece_means};
+ghost use Rattle.interpolator_pieces.specs.StoredMeanings.{stored_pieces_mean};
+ghost use Rattle.interpolator_pieces.specs.declared.piece.Form.TheVariants as forms;
+ghost use Rattle.interpolator_pieces.specs.declared.piece.Piece.TheViews.{out-Piece};
+
+use interpolator_eval::{
+    Context, Environment, Formattable, Sink, WriteFault, chosen_list, write_slot, write_uncounted,
+};
+use interpolator_pieces::{Form, Piece, Stored, name_of, require_closed, text_of, unboxed};
+use interpolator_render::{Spec, TextWrite, Trait, Value};
+use interpolator_syntax::{Error, PieceKind, Range};
+
+/// How each item is written: as what is in this slot, under this spec, which ends at `end`.
+#[derive(Clone, Copy)]
+pub struct ItemForm {
+    pub slot: Trait,
+    pub spec: Spec,
+    pub end: usize,
+}
+
+/// Writes what kept pieces of a text mean: by a loop of its own if they are one list under no
+/// width, whose items and join are simple.
+#[inline(never)]
+pub fn run_whole<'a, W: TextWrite, C: Context>(
+    sink: &mut Sink<'_, W>,
+    environment: &Environment<'a, C, C::Object>,
+    text: &str,
+    pieces: &[Piece],
+) -> Result<(), Error>
+    requires whole { forest_whole (as_forest (nodes_of text.now pieces.now)) ≡ true }
+    ensures writes { Writes W.written
+        (stored_pieces_mean C.Object.shows (environment_of C.finds environment.now) text.now pieces.now)
+        sink.old sink.new (result_answer result) }
+{
+    let [piece] = pieces else {
+        return write_uncounted(sink, environment, Stored { text, pieces });
+    };
+    let Form::List(range) = &piece.form else {
+        return write_uncounted(sink, environment, Stored { text, pieces });
+    };
+    if piece.spec.width.is_some() {
+        return write_uncounted(sink, environment, Stored { text, pieces });
+    }
+    let Some(form) = item_form(text, piece) else {
+        return write_uncounted(sink, environment, Stored { text, pieces });
+    };
+    let Some((place, join)) = join_form(text, piece) else {
+        return write_uncounted(sink, environment, Stored { text, pieces });
+    };
+    run_simple_list(sink, environment, text, piece, range, form, place, join)
+}
+
+/// Writes a list under no width, each item in this form, with this text between each two.
+fn run_simple_list<'a, W: TextWrite, C: Context>(
+    sink: &mut Sink<'_, W>,
+    environment: &Environment<'a, C, C::Object>,
+    text: &str,
+    piece: &Piece,
+    range: &Option<Box<Range>>,
+    form: ItemForm,
+    place: usize,
+    join: &str,
+) -> Result<(), Error>
+    requires whole { node_whole (node_of text.now piece.now) ≡ true }
+    requires list { (out-Piece piece.now).form ≡ forms.List range.now }
+    requires no_width { is_some (out-Piece piece.now).spec.width ≡ false }
+    requires item { IsItemForm (branch_of text.now (out-Piece piece.now).item)
+        (out-Piece piece.now).spec_end form }
+    requires join { IsJoinForm (branch_of text.now (out-Piece piece.now).join) place
+        (chars join.now) }
+    requires fits { place + length join.now < 2 ^ 64 }
+    ensures writes { Writes W.written
+        (stored_piece_means C.Object.shows (environment_of C.finds environment.now) text.now piece.now)
+        sink.old sink.new (result_answer result) }
+{
+    let (start, name) = name_of(text, piece);
+    let spec = &piece.spec;
+    let items = chosen_list(
+        environment,
+        start,
+        name,
+        unboxed(range),
+        spec,
+        piece.spec_end,
+    )?;
+    put_items(sink, items, &form, place, join)?;
+    require_closed(piece)
+}
+
+/// Writes items, each in this form, with this text, which is at a place, between each two.
+fn put_items<'a, W: TextWrite, V: Value>(
+    sink: &mut Sink<'_, W>,
+    items: &'a [Formattable<'a, V>],
+    form: &ItemForm,
+    place: usize,
+    join: &str,
+) -> Result<(), WriteFault>
+    requires fits { place + length join.now < 2 ^ 64 }
+    ensures writes { Writes W.written
+        (items_mean (text_alone (placed_from place (chars join.now))) (value_under V.shows form.now)
+        (map slots_of items.now))
+        sink.old sink.new (write_answered result) }
+{
+    let Some((first, rest)) = items.split_first() else {
+        return Ok(());
+    };
+    write_slot(sink, first, form.slot, &form.spec, form.end)?;
+    for item in rest {
+        sink.put_run(join, place)?;
+        write_slot(sink, item, form.slot, &form.spec, form.end)?;
+    }
+    Ok(())
+}
+
+/// How the items of a list are written, if each is one value.
+fn item_form(text: &str, piece: &Piece) -> Option<ItemForm>
+    requires whole { node_whole (node_of text.now piece.now) ≡ true }
+    ensures form { MatchOption result ⊤ (IsItemForm
+        (branch_of text.now (out-Piece piece.now).item) (out-Piece piece.now).spec_end) }
+{
+    let Some(pieces) = &piece.item else {
+        return Some(ItemForm {
+            slot: Trait::Display,
+            spec: Spec::default(),
+            end: piece.spec_end,
+        });
+    };
+    let [one] = pieces.as_slice() else {
+        return None;
+    };
+    value_form(text, one)
+}
+
+/// How a piece is written, if it is the value under the empty name.
+fn value_form(text: &str, piece: &Piece) -> Option<ItemForm>
+    requires whole { node_whole (node_of text.now piece.now) ≡ true }
+    ensures form { MatchOption result ⊤ (IsNodeValue (node_of text.now piece.now)) }
+{
+    match piece.kind {
+        PieceKind::Closed => closed_form(text, piece),
+        _ => None,
+    }
+}
+
+/// How a closed piece is written, if it is the value under the empty name.
+fn closed_form(text: &str, piece: &Piece) -> Option<ItemForm>
+    requires whole { node_whole (node_of text.now piece.now) ≡ true }
+    requires closed { (out-Piece piece.now).kind ≡ Closed }
+    ensures form { MatchOption result ⊤ (IsNodeValue (node_of text.now piece.now)) }
+{
+    match &piece.form {
+        Form::Plain => nameless_form(text, piece, Trait::Display, Spec::default()),
+        Form::Value(t) => nameless_form(text, piece, *t, piece.spec),
+        _ => None,
+    }
+}
+
+/// How a closed piece that asks for this value is written, if its name is empty.
+fn nameless_form(text: &str, piece: &Piece, slot: Trait, spec: Spec) -> Option<ItemForm>
+    requires fits { IsSome (stored_name text.now piece.now) }
+    requires closed { (out-Piece piece.now).kind ≡ Closed }
+    requires held { (name : List ℕ) → Some name ≡ stored_name text.now piece.now
+        → held_of text.now piece.now ≡ Some (argument_content ((out-Piece piece.now).place + 1) name spec
+        (target_value slot) (out-Piece piece.now).spec_end) }
+    ensures form { MatchOption result ⊤ (IsNodeValue (node_of text.now piece.now)) }
+{
+    let (_, name) = name_of(text, piece);
+    if !name.is_empty() {
+        return None;
+    }
+    Some(ItemForm {
+        slot,
+        spec,
+        end: piece.spec_end,
+    })
+}
+
+/// The text between two items of a list, and its place, if the join is text or there is none.
+fn join_form<'t>(text: &'t str, piece: &Piece) -> Option<(usize, &'t str)>
+    requires whole { node_whole (node_of text.now piece.now) ≡ true }
+    ensures form { MatchOption result ⊤ (λ join. IsJoinForm
+        (branch_of text.now (out-Piece piece.now).join) join.0 (chars join.1.now)) }
+    ensures fits { MatchOption result ⊤ (λ join. join.0 + length join.1.now < 2 ^ 64) }
+{
+    let Some(pieces) = &piece.join else {
+        return Some((0, ""));
+    };
+    let [one] = pieces.as_slice() else {
+        return None;
+    };
+    match &one.form {
+        Form::Text => Some((one.from, text_of(text, one))),
+        _ => None,
+    }
+}

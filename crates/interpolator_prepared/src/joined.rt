@@ -1,0 +1,112 @@
+//! Text of several parts of a format.
+ghost use Rattle.std.specs.Prelude.{◌≡◌, ◌+◌, ℕ, List, [], ◌++◌, IfOk, IsSome, Some, length};
+ghost use Rattle.std.specs.Prelude.{string_bytes};
+ghost use Rattle.std.specs.Str.{chars};
+ghost use Rattle.interpolator_syntax.specs.At.{Placed, placed_from};
+ghost use Rattle.interpolator_eval.specs.Meaning.Meanings.{text_alone};
+ghost use Rattle.interpolator_eval.specs.Meaning.Outcomes.{Outcome};
+ghost use Rattle.interpolator_eval.specs.Meaning.Sinks.{write_answered};
+ghost use Rattle.interpolator_prepared.specs.Programs.{text_step};
+ghost use Rattle.interpolator_prepared.specs.StoredSteps.{joined_place, joined_placed, joined_step};
+ghost use Rattle.interpolator_pieces.specs.Stored.{part};
+
+use crate::step::{JoinedText, Part};
+use interpolator_eval::{WriteFault, write_run};
+use interpolator_pieces::cut;
+use interpolator_render::TextWrite;
+use std::alloc::{AllocError, Global};
+
+/// No parts yet.
+fn no_parts(alloc: Global) -> JoinedText
+    ensures { joined_step result.parts.items (string_bytes result.text) ≡ Some (text_step []) }
+{
+    JoinedText {
+        text: String::new(alloc),
+        parts: Vec::new(alloc),
+    }
+}
+
+/// Adds bytes of the format, from one up to another.
+fn add_part(joined: &mut JoinedText, text: &str, from: usize, to: usize) -> Result<(), AllocError>
+    requires fits { IsSome (part text.now from to) }
+    ensures added { IfOk result (λ _. (cs : List ℕ) (placed : Placed)
+        → part text.now from to ≡ Some cs
+        → joined_step joined.old.parts.items (string_bytes joined.old.text) ≡ Some (text_step placed)
+        → joined_step joined.new.parts.items (string_bytes joined.new.text)
+        ≡ Some (text_step (placed ++ placed_from from cs))) }
+{
+    joined.text.push_str(cut(text, from, to))?;
+    joined.parts.push(Part { from, to })?;
+    Ok(())
+}
+
+/// The text of two parts.
+pub fn join_two(
+    alloc: Global,
+    text: &str,
+    first: Part,
+    second: Part,
+) -> Result<Box<JoinedText>, AllocError>
+    requires first { IsSome (part text.now first.from first.to) }
+    requires second { IsSome (part text.now second.from second.to) }
+    ensures joined { IfOk result (λ joined. (cs ds : List ℕ)
+        → part text.now first.from first.to ≡ Some cs
+        → part text.now second.from second.to ≡ Some ds
+        → joined_step joined.value.parts.items (string_bytes joined.value.text)
+        ≡ Some (text_step (placed_from first.from cs ++ placed_from second.from ds))) }
+{
+    let mut joined = no_parts(alloc);
+    add_part(&mut joined, text, first.from, first.to)?;
+    add_part(&mut joined, text, second.from, second.to)?;
+    Ok(Box::new(alloc, joined)?)
+}
+
+/// The text with one part more.
+pub fn join_more(
+    mut joined: Box<JoinedText>,
+    text: &str,
+    from: usize,
+    to: usize,
+) -> Result<Box<JoinedText>, AllocError>
+    requires fits { IsSome (part text.now from to) }
+    ensures joined { IfOk result (λ longer. (cs : List ℕ) (placed : Placed)
+        → part text.now from to ≡ Some cs
+        → joined_step joined.value.parts.items (string_bytes joined.value.text)
+        ≡ Some (text_step placed)
+        → joined_step longer.value.parts.items (string_bytes longer.value.text)
+        ≡ Some (text_step (placed ++ placed_from from cs))) }
+{
+    add_part(&mut joined, text, from, to)?;
+    Ok(joined)
+}
+
+/// The place in the format of a byte of joined parts, which is needed only once a byte is refused.
+#[cold]
+#[inline(never)]
+fn place_of(parts: &[Part], offset: usize) -> usize
+    ensures { result ≡ joined_place parts.now offset }
+{
+    let mut left = offset;
+    for part in parts {
+        let size = part.to.saturating_sub(part.from);
+        if left < size {
+            return part.from + left;
+        }
+        left -= size;
+    }
+    left
+}
+
+/// Writes text of several parts.
+#[inline(always)]
+pub fn put_joined<W: TextWrite>(out: &mut W, joined: &JoinedText) -> Result<(), WriteFault>
+    ensures outcome { Outcome
+        (text_alone (joined_placed joined.now.parts.items (string_bytes joined.now.text)))
+        (W.written out.old) (W.written out.new) (write_answered result) }
+{
+    match write_run(out, joined.text.as_str(), 0) {
+        Ok(()) => Ok(()),
+        Err(WriteFault::MissingTraitImpl(t, place)) => Err(WriteFault::MissingTraitImpl(t, place)),
+        Err(WriteFault::Fmt(offset)) => Err(WriteFault::Fmt(place_of(&joined.parts, offset))),
+    }
+}

@@ -1,0 +1,250 @@
+//! Formats that were prepared for rows of values: names are positions, and text is joined.
+ghost use Rattle.std.specs.Prelude.{◌≡◌, ◌≤◌, length, map, IfErr, IfOk, Some};
+ghost use Rattle.std.specs.Str.{chars};
+ghost use Rattle.interpolator_syntax.specs.At.{outermost};
+ghost use Rattle.interpolator_syntax.specs.Faults.{answer_of, result_answer, no_memory, PlaceWithin};
+ghost use Rattle.interpolator_syntax.specs.Nodes.{nodes};
+ghost use Rattle.interpolator_eval.specs.Meaning.Environments.{environment};
+ghost use Rattle.interpolator_eval.specs.Meaning.Meanings.{means};
+ghost use Rattle.interpolator_eval.specs.Meaning.Outcomes.{Outcome, Formats};
+ghost use Rattle.interpolator_prepared.specs.Programs.{program};
+ghost use Rattle.interpolator_prepared.specs.Rows.{found_by_row, name_bytes, row_at};
+ghost use Rattle.interpolator_prepared.specs.StoredSteps.{step_of};
+ghost use Rattle.interpolator_pieces.specs.Lines.{line_means};
+ghost use Rattle.interpolator_pieces.specs.Stored.{nodes_of};
+
+use crate::compile::compile;
+use crate::row::{NamedRow, Row};
+use crate::run::run_steps;
+use crate::step::Step;
+use interpolator_eval::Environment;
+use interpolator_pieces::{Piece, buffer_for, write, write_newline};
+use interpolator_render::{TextWrite, Value};
+use interpolator_syntax::Error;
+use std::alloc::Global;
+use std::marker::Model;
+
+/// A format that was prepared for rows of values: its names are positions, and the text between two
+/// arguments is one piece, in which a doubled brace is one character.
+///
+/// It is written as [`write`](interpolator_pieces::write) writes its text with pairs of the names and the values,
+/// to the byte and to the fault: use it for a format that is written often with values of the same
+/// names. `Template::prepare` makes it.
+///
+/// # Example
+///
+/// ```text
+/// let line = template.prepare(alloc, &sample)?;
+/// for row in &rows {
+///     line.write(alloc, &mut out, &Row(row))?;
+/// }
+/// ```
+#[derive(Drop)]
+pub struct Prepared {
+    text: String,
+    names: Vec<String>,
+    steps: Vec<Step>,
+}
+
+impl Model for Prepared {
+    ghost use Rattle.std.specs.Prelude.{◌≡◌, Some, map, string_bytes};
+    ghost use Rattle.std.specs.Str.{chars};
+    ghost use Rattle.interpolator_syntax.specs.At.{outermost};
+    ghost use Rattle.interpolator_syntax.specs.Nodes.{nodes};
+    ghost use Rattle.interpolator_prepared.specs.Programs.{program};
+    ghost use Rattle.interpolator_prepared.specs.Rows.{PreparedFormat, name_bytes};
+    ghost use Rattle.interpolator_prepared.specs.StoredSteps.{step_of};
+
+    ghost Value = { PreparedFormat };
+
+    ghost view = { λ p. record { text = string_bytes p.text; names = name_bytes p.names.items } };
+
+    ghost invariant = { λ p. map (step_of (string_bytes p.text)) p.steps.items
+        ≡ map Some (program (name_bytes p.names.items)
+        (nodes (outermost (chars (string_bytes p.text))))) };
+}
+
+/// Writes the steps of a format with a row; if the row is too short, writes the text instead.
+pub fn write_row<'a, W: TextWrite, V: Value>(
+    alloc: Global,
+    out: &mut W,
+    text: &str,
+    named: &NamedRow<'a, V>,
+    steps: &[Step],
+) -> Result<(), Error>
+    requires program { map (step_of text.now) steps.now
+        ≡ map Some (program (name_bytes named.now.names.now) (nodes (outermost (chars text.now)))) }
+    ensures outcome { Outcome
+        (means V.shows (environment (found_by_row (name_bytes named.now.names.now)
+        (row_at named.now.row.now))) (outermost (chars text.now)))
+        (W.written out.old) (W.written out.new) (result_answer result) }
+    ensures place { PlaceWithin (length text.now) (result_answer result) }
+{
+    if named.row.len() < named.names.len() {
+        return write(alloc, out, text, named);
+    }
+    let environment = Environment::outermost(alloc, named);
+    run_steps(out, &environment, text, named.row, steps)?;
+    Ok(())
+}
+
+/// The text of the steps of a format with a row, in a new `String`.
+fn format_row<'a, V: Value>(
+    alloc: Global,
+    text: &str,
+    named: &NamedRow<'a, V>,
+    steps: &[Step],
+) -> Result<String, Error>
+    requires program { map (step_of text.now) steps.now
+        ≡ map Some (program (name_bytes named.now.names.now) (nodes (outermost (chars text.now)))) }
+    ensures formats { Formats
+        (means V.shows (environment (found_by_row (name_bytes named.now.names.now)
+        (row_at named.now.row.now))) (outermost (chars text.now)))
+        result }
+    ensures place { PlaceWithin (length text.now) (result_answer result) }
+{
+    let mut out = buffer_for(alloc, text)?;
+    let answer = write_row(alloc, &mut out, text, named, steps);
+    if out.refused() {
+        return Err(Error::NoMemory);
+    }
+    answer?;
+    Ok(out.into_string())
+}
+
+impl Prepared {
+    /// Writes what the format means with a row of values, as [`write`](interpolator_pieces::write) does with
+    /// pairs of the names and these values. Of two equal names the last one counts. A name whose
+    /// position the row does not reach has no value.
+    ///
+    /// Memory is taken where `write` takes it, and for nothing else.
+    ///
+    /// # Errors
+    ///
+    /// Those of `write` for the text, each at its place in it.
+    ///
+    /// # Example
+    ///
+    /// ```text
+    /// prepared.write(alloc, &mut out, &Row(&[Formattable::display(&name)]))?;
+    /// ```
+    pub fn write<W: TextWrite, V: Value>(
+        &self,
+        alloc: Global,
+        out: &mut W,
+        row: &Row<'_, V>,
+    ) -> Result<(), Error>
+        ensures outcome { Outcome
+            (means V.shows (environment (found_by_row self.now.names (row_at row.now.0.now)))
+            (outermost (chars self.now.text)))
+            (W.written out.old) (W.written out.new) (result_answer result) }
+        ensures place { PlaceWithin (length self.now.text) (result_answer result) }
+    {
+        let named = NamedRow {
+            names: &self.names,
+            row: row.0,
+        };
+        write_row(alloc, out, self.text.as_str(), &named, &self.steps)?;
+        Ok(())
+    }
+
+    /// Writes what the format means with a row of values, as [`write`](Prepared::write) does, and
+    /// after it a newline if there is no fault.
+    ///
+    /// # Errors
+    ///
+    /// Those of `write`; `Fmt` at place 0 if the writer takes the text and refuses the newline.
+    ///
+    /// # Example
+    ///
+    /// ```text
+    /// prepared.write_line(alloc, &mut out, &Row(&[Formattable::display(&name)]))?;
+    /// ```
+    pub fn write_line<W: TextWrite, V: Value>(
+        &self,
+        alloc: Global,
+        out: &mut W,
+        row: &Row<'_, V>,
+    ) -> Result<(), Error>
+        ensures outcome { Outcome
+            (line_means
+            (means V.shows (environment (found_by_row self.now.names (row_at row.now.0.now)))
+            (outermost (chars self.now.text))))
+            (W.written out.old) (W.written out.new) (result_answer result) }
+        ensures place { PlaceWithin (length self.now.text) (result_answer result) }
+    {
+        match self.write(alloc, out, row) {
+            Ok(()) => write_newline(out),
+            Err(fault) => Err(fault),
+        }
+    }
+
+    /// The text that it means with a row, in a new `String`.
+    ///
+    /// # Errors
+    ///
+    /// Those of `write`, where `Fmt` means that a value failed; and `NoMemory` if there is no
+    /// memory for the text, or for the room that it has at the beginning.
+    ///
+    /// # Example
+    ///
+    /// ```text
+    /// prepared.format(alloc, &Row(&[Formattable::display(&name)]))?
+    /// ```
+    pub fn format<V: Value>(&self, alloc: Global, row: &Row<'_, V>) -> Result<String, Error>
+        ensures formats { Formats
+            (means V.shows (environment (found_by_row self.now.names (row_at row.now.0.now)))
+            (outermost (chars self.now.text)))
+            result }
+        ensures place { PlaceWithin (length self.now.text) (result_answer result) }
+    {
+        let named = NamedRow {
+            names: &self.names,
+            row: row.0,
+        };
+        format_row(alloc, self.text.as_str(), &named, &self.steps)
+    }
+
+    /// The names, in the order of a row's values.
+    ///
+    /// # Example
+    ///
+    /// ```text
+    /// prepared.names()    // the names of the sample
+    /// ```
+    pub fn names(&self) -> &[String]
+        ensures names { name_bytes result.now ≡ self.now.names }
+    {
+        &self.names
+    }
+
+    /// The text of the format.
+    ///
+    /// # Example
+    ///
+    /// ```text
+    /// prepared.text()    // the text of the template
+    /// ```
+    pub fn text(&self) -> &str
+        ensures text { result.now ≡ self.now.text }
+    {
+        self.text.as_str()
+    }
+}
+
+/// The format of these pieces with these names, in order.
+pub fn prepare_pieces(
+    alloc: Global,
+    text: &str,
+    pieces: &[Piece],
+    names: Vec<String>,
+) -> Result<Prepared, Error>
+    requires pieces { nodes_of text.now pieces.now ≡ nodes (outermost (chars text.now)) }
+    ensures prepared { IfOk result (λ made. made
+        ≡ record { text = text.now; names = name_bytes names.items }) }
+    ensures refused { IfErr result (λ error. answer_of error ≡ no_memory) }
+{
+    let steps = compile(alloc, text, &names, pieces)?;
+    let text = String::from_str(alloc, text)?;
+    Ok(Prepared { text, names, steps })
+}
