@@ -3,6 +3,7 @@ pub mod DeepLemmas
 pub mod EndingLemmas
 pub mod EscapeLemmas
 pub mod ExcerptLemmas
+pub mod NamedValueLemmas
 pub mod PartLemmas
 pub mod PositionLemmas
 pub mod SamplePlaceLemmas

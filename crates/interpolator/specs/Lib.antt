@@ -18,3 +18,5 @@ pub use Rattle.interpolator_eval.specs.Contexts
 pub use Rattle.interpolator_eval.specs.NameMaps
 pub mod Escaping
 pub use Rattle.interpolator_eval.specs.Rows
+pub mod NamedValues
+pub mod OwnedViews

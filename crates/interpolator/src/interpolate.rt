@@ -160,6 +160,37 @@ pub trait Interpolate: Context {
         template.write(alloc, out, self)
     }
 
+    /// Writes what the template means, as [`Template::write`] does, and after it a newline if there
+    /// is no fault.
+    ///
+    /// # Errors
+    ///
+    /// Those of `write_template_to`; `Fmt` at place 0 if the writer refuses the newline.
+    ///
+    /// ```text
+    /// let template = Template::parse(alloc, "{n:>3}")?;
+    /// context.write_template_line_to(alloc, &mut out, &template)?;    // with 7, appends "  7\n"
+    /// ```
+    fn write_template_line_to<W: TextWrite>(
+        &self,
+        alloc: Global,
+        out: &mut W,
+        template: &Template,
+    ) -> Result<(), Error>
+        ensures outcome { Outcome
+            (line_means
+            (means Self.Object.shows (environment (Self.finds self.now))
+            (outermost (chars template.now))))
+            (W.written out.old) (W.written out.new) (result_answer result) }
+        ensures asked { let a = outermost (chars template.now) in Outcome
+            (line_means
+            (means Self.Object.shows (cut (environment (Self.finds self.now)) (asked_names a)) a))
+            (W.written out.old) (W.written out.new) (result_answer result) }
+        ensures place { PlaceWithin (length template.now) (result_answer result) }
+    {
+        template.write_line(alloc, out, self)
+    }
+
     /// The text that the template means, in a new `String`.
     ///
     /// # Errors
@@ -265,6 +296,15 @@ impl<'k, 'a, V: Value> Interpolate for HashMap<&'k str, Formattable<'a, V>> {
         template: &Template,
     ) -> Result<(), Error> {
         template.write(alloc, out, &ByNames::new(self))
+    }
+
+    fn write_template_line_to<W: TextWrite>(
+        &self,
+        alloc: Global,
+        out: &mut W,
+        template: &Template,
+    ) -> Result<(), Error> {
+        template.write_line(alloc, out, &ByNames::new(self))
     }
 
     fn format_template(&self, alloc: Global, template: &Template) -> Result<String, Error> {

@@ -20,14 +20,22 @@
 //! `interpolator_laws`, and at `Meaning/Meanings` in `specs/` of `interpolator_eval`.
 #![tactic(auto)]
 
+mod choice;
 mod escaping;
 mod excerpt;
 mod explaining;
 mod interpolate;
+mod macros;
+pub mod made;
+mod or;
+mod owned_view;
 mod parts;
 mod position;
 mod template;
+mod values;
+mod views;
 
+pub use choice::first_if;
 pub use escaping::escape;
 pub use explaining::{Source, explain, explain_in};
 pub use interpolate::Interpolate;
@@ -43,6 +51,9 @@ pub use interpolator_render::{
 pub use interpolator_syntax::{
     Argument, Error, Group, Kind, NumberError, ParseError, PieceKind, Range, parse_argument,
 };
+pub use or::Or;
+pub use owned_view::OwnedView;
 pub use parts::{seam, write_parts};
 pub use position::Position;
 pub use template::Template;
+pub use values::{NamedValue, Values};

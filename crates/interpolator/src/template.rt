@@ -16,6 +16,7 @@ ghost use Rattle.interpolator_eval.specs.Meaning.Work.{text_work};
 ghost use Rattle.interpolator_eval.specs.Contexts.{found_by_pairs};
 ghost use Rattle.interpolator_prepared.specs.Rows.{pair_names};
 ghost use Rattle.interpolator_pieces.specs.AllArguments.{arguments_of};
+ghost use Rattle.interpolator_pieces.specs.Lines.{line_means};
 ghost use Rattle.interpolator_pieces.specs.NodeChecks.{first_fault, text_faults};
 ghost use Rattle.interpolator_pieces.specs.NodeCosts.{usize_cost, text_cost};
 ghost use Rattle.interpolator_pieces.specs.NodeExtents.{forest_depth, forest_extent};
@@ -32,7 +33,7 @@ use interpolator_eval::{Context, Pairs, SampleEnvironment, Tally};
 use interpolator_pieces::{
     Check, Cost, Deepest, FaultCollector, Limits, Names, Piece, Visitor, Widest, argument_among,
     collect_pieces, cost_of, format_pieces, parse_pieces, push_arguments, walk_text, write_counted,
-    write_pieces,
+    write_newline, write_pieces,
 };
 use interpolator_prepared::{Prepared, names_of, prepare_pieces};
 use interpolator_render::{TextWrite, Value};
@@ -131,6 +132,40 @@ impl Template {
         ensures place { PlaceWithin (length self.now) (result_answer result) }
     {
         write_pieces(alloc, out, self.text.as_str(), &self.pieces, context)
+    }
+
+    /// Writes what the format means in the context, as [`write`](Template::write) does, and after it a
+    /// newline if there is no fault.
+    ///
+    /// # Errors
+    ///
+    /// Those of `write`; `Fmt` at place 0 if the writer takes the text and refuses the newline.
+    ///
+    /// # Example
+    ///
+    /// ```text
+    /// template.write_line(alloc, &mut out, &context)?;    // for `{n}` and 7: "7\n"
+    /// ```
+    pub fn write_line<W: TextWrite, C: Context>(
+        &self,
+        alloc: Global,
+        out: &mut W,
+        context: &C,
+    ) -> Result<(), Error>
+        ensures outcome { Outcome
+            (line_means (means C.Object.shows (environment (C.finds context.now))
+            (outermost (chars self.now))))
+            (W.written out.old) (W.written out.new) (result_answer result) }
+        ensures asked { let a = outermost (chars self.now) in Outcome
+            (line_means
+            (means C.Object.shows (cut (environment (C.finds context.now)) (asked_names a)) a))
+            (W.written out.old) (W.written out.new) (result_answer result) }
+        ensures place { PlaceWithin (length self.now) (result_answer result) }
+    {
+        match self.write(alloc, out, context) {
+            Ok(()) => write_newline(out),
+            Err(fault) => Err(fault),
+        }
     }
 
     /// Writes what the format means in the context, as [`write`](Template::write) does, and counts

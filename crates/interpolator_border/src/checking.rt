@@ -10,8 +10,8 @@ use crate::field::Field;
 use crate::levels::{LEVELS, all_lie_within, next_level, settled};
 use crate::row::Row;
 use crate::writing::failing;
-use interpolator_laws::samples::a_checked_format_means_no_fault;
 use interpolator::{Error, Formattable, Template};
+use interpolator_laws::samples::a_checked_format_means_no_fault;
 use std::alloc::Global;
 
 /// The first fault of a format over a row of examples, if what the items stand for is known from

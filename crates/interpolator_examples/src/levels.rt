@@ -1,6 +1,8 @@
 //! A user's own value: an enum whose debug text is not its display text.
 
-use interpolator::{Spec, Trait, Value, View};
+use crate::page::Page;
+use interpolator::{Error, Formattable, Interpolate, Pairs, Spec, Trait, Value, View};
+use std::alloc::Global;
 
 /// How much a message matters.
 #[derive(Clone, Copy)]
@@ -30,4 +32,17 @@ impl Value for Level {
             },
         }
     }
+}
+
+/// A level, written by a format.
+fn told(alloc: Global, level: Level, format: &str) -> Result<String, Error> {
+    Pairs(&[("level", Formattable::integer(&level))]).format(alloc, format)
+}
+
+pub fn show(page: &mut Page) {
+    let alloc = page.alloc;
+    for level in [Level::Info, Level::Warn] {
+        page.put_made("level", told(alloc, level, "[{level:<5}] {level:?}"));
+    }
+    page.put_made("level under x", told(alloc, Level::Warn, "{level:x}"));
 }

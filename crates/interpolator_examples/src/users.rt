@@ -3,13 +3,15 @@
 mod amounts;
 mod calls;
 mod catalogue;
-mod cell;
 mod explained;
+mod fallback;
 mod files;
-mod level;
 mod log;
+mod macros;
+mod named;
 mod order;
 mod own_error;
+mod owned_rows;
 mod prepared;
 mod record;
 mod rows;
@@ -17,6 +19,7 @@ mod slots;
 mod teams;
 
 use crate::page::Page;
+use crate::{cells, levels};
 use interpolator::{
     Bits, ContextMap, Error, Formattable, Interpolate, Pairs, Spec, Template, TextBuffer, Trait,
     Value, View,
@@ -81,25 +84,6 @@ fn lines(alloc: Global, layout: &str, records: &[(&str, u32)]) -> Result<String,
         .write_to(alloc, &mut out, layout)?;
     }
     Ok(out.into_string())
-}
-
-/// A report in columns: the specs give their width and alignment, and the base of the numbers.
-fn stock(alloc: Global, rows: &[(&str, u32)]) -> Result<String, Error> {
-    let mut out = TextBuffer::new(alloc);
-    for (item, count) in rows {
-        let values = [View::Text(item), View::Unsigned(u128::from(*count))];
-        Pairs(&[
-            ("item", Formattable::display(&values[0])),
-            ("n", Formattable::integer(&values[1])),
-        ])
-        .write_to(alloc, &mut out, "{item:<10}|{n:>6}|{n:#06x}\n")?;
-    }
-    Ok(out.into_string())
-}
-
-/// A name as it is, and as it is written in code.
-fn badge(alloc: Global, name: &str) -> Result<String, Error> {
-    Pairs(&[("name", Formattable::debug_display(&name))]).format(alloc, "[{name:^9}] {name:?}")
 }
 
 /// Values of one kind, under `&str` names.
@@ -216,12 +200,6 @@ fn all_letters(alloc: Global, format: &str) -> Result<String, Error> {
     Ok(out.into_string())
 }
 
-/// One pair.
-fn seven(alloc: Global) -> Result<String, Error> {
-    let seven = 7u64;
-    Pairs(&[("n", Formattable::display(&seven))]).format(alloc, "{n}")
-}
-
 fn show_pairs(page: &mut Page) {
     let alloc = page.alloc;
     let letter = all_letters(alloc, "Hello {name}, how is {city}?\n");
@@ -232,11 +210,8 @@ fn show_pairs(page: &mut Page) {
     page.put_made("listed_names", listed);
     let levels = lines(alloc, "[{level}] {line};", &[("info", 1), ("warn", 22)]);
     page.put_made("lines", levels);
-    page.put_made("stock", stock(alloc, &[("bread", 7), ("crème", 1234)]));
-    page.put_made("badge", badge(alloc, "Zoé \"Z\""));
     page.put_made("range", range(alloc, -4, Some(3)));
     page.put_made("range of one", range(alloc, -4, None));
-    page.put_made("seven", seven(alloc));
 }
 
 fn show_maps(page: &mut Page) -> Result<(), Error> {
@@ -267,11 +242,15 @@ pub fn show(page: &mut Page) -> Result<(), Error> {
     show_lines(page)?;
     calls::show(page)?;
     catalogue::show(page)?;
-    cell::show(page)?;
-    level::show(page);
+    cells::show(page)?;
+    levels::show(page);
     log::show(page);
+    named::show(page);
+    macros::show(page);
+    fallback::show(page);
+    owned_rows::show(page);
     record::show(page)?;
-    rows::show(page)?;
+    rows::show(page);
     slots::show(page);
     amounts::show(page);
     explained::show(page);

@@ -2,8 +2,8 @@
 
 use crate::page::Page;
 use interpolator::{
-    Context, ContextMap, Error, Formattable, Interpolate, Pairs, Refusal, Template, TextBuffer,
-    TextWrite, View,
+    ContextMap, Error, Formattable, Interpolate, Pairs, Refusal, Template, TextBuffer, TextWrite,
+    View,
 };
 use std::alloc::Global;
 use std::collections::HashMap;
@@ -92,24 +92,6 @@ fn by_methods(alloc: Global) -> Result<String, Error> {
     Ok(out.into_string())
 }
 
-/// The text that a method of a context returns.
-fn made(alloc: Global, format: &str) -> Result<String, Error> {
-    Pairs(&[("n", Formattable::display(&7u64))]).format(alloc, format)
-}
-
-/// The text that a template returns.
-fn made_by_template(alloc: Global, format: &str) -> Result<String, Error> {
-    let template = Template::parse(alloc, format)?;
-    Pairs(&[("n", Formattable::display(&7u64))]).format_template(alloc, &template)
-}
-
-/// Whether a name is found.
-fn found(name: &str) -> bool {
-    let n = 7u64;
-    let context = Pairs(&[("n", Formattable::display(&n))]);
-    context.get(name).is_some()
-}
-
 /// Fills two slots under one name, one after the other.
 fn of_two_slots(alloc: Global) -> Result<String, Error> {
     let n = 7u64;
@@ -146,10 +128,6 @@ pub fn show(page: &mut Page) -> Result<(), Error> {
     let alloc = page.alloc;
     show_readme(page)?;
     page.put_made("by_methods", by_methods(alloc));
-    page.put_made("made", made(alloc, "{n:>3}"));
-    page.put_made("made_by_template", made_by_template(alloc, "{n:>3}"));
-    page.put("found", if found("n") { "yes" } else { "no" });
-    page.put("found under another", if found("m") { "yes" } else { "no" });
     page.put_made("of_two_slots", of_two_slots(alloc));
     page.put_made("by_a_writer", by_a_writer(alloc));
     page.put_made("of_a_copy", of_a_copy(alloc));

@@ -38,7 +38,7 @@ impl<'a> Context for Entry<'a> {
 impl<'a> Interpolate for Entry<'a> {}
 
 /// A record, written by a layout that was parsed once.
-fn logged_by(alloc: Global, level: &str, line: u32, layout: &Template) -> Result<String, Error> {
+fn logged(alloc: Global, level: &str, line: u32, layout: &Template) -> Result<String, Error> {
     let entry = Entry {
         level: View::from(level),
         line: View::from(line),
@@ -46,27 +46,16 @@ fn logged_by(alloc: Global, level: &str, line: u32, layout: &Template) -> Result
     entry.format_template(alloc, layout)
 }
 
-/// A record, written by a layout.
-fn logged(alloc: Global, level: &str, line: u32, layout: &str) -> Result<String, Error> {
-    let entry = Entry {
-        level: View::from(level),
-        line: View::from(line),
-    };
-    entry.format(alloc, layout)
-}
-
-/// Records, with the layout as a text and with one that is parsed once; and names that no field
-/// has.
+/// Records; and names that no field has.
 pub fn show(page: &mut Page) -> Result<(), Error> {
     let alloc = page.alloc;
-    let layout = "[{level}] {line:>3}";
-    page.put_made("record", logged(alloc, "INFO", 7, layout));
-    let layout = Template::parse(alloc, layout)?;
+    let layout = Template::parse(alloc, "[{level}] {line:>3}")?;
     for (level, line) in [("INFO", 7), ("WARN", 1234)] {
-        page.put_made("record", logged_by(alloc, level, line, &layout));
+        page.put_made("record", logged(alloc, level, line, &layout));
     }
     for format in ["{Level}", "{leve}", "{}", "{line }"] {
-        page.put_made(format, logged(alloc, "INFO", 7, format));
+        let layout = Template::parse(alloc, format)?;
+        page.put_made(format, logged(alloc, "INFO", 7, &layout));
     }
     Ok(())
 }

@@ -34,80 +34,67 @@ fn constructors(page: &mut Page) {
     }
 }
 
-/// Chains.
-#[rattlefmt::skip]
-fn chains(page: &mut Page) {
-    let alloc = page.alloc;
+/// The uses of all slots.
+const USES: &str = "{n:>5} {n:?} {n:#b} {n:.1e} {n:x} {n:o} {n:E} {n:X} {n:i({})(, )}";
+
+/// A chain: each call fills a slot beside those that are filled.
+fn chain(alloc: Global) -> Result<String, Error> {
     let n = 255u64;
     let items = [Formattable::display(&n), Formattable::display(&n)];
-    let rows = [
-        (Formattable::octal(&n).and_debug_display(&n), "{n} {n:?}"),
-        (Formattable::display(&n).and_debug(&n), "{n:?}"),
-        (Formattable::debug(&n).and_display(&n), "{n:>5}"),
-        (Formattable::display(&n).and_integer(&n), "{n:#x}"),
-        (Formattable::display(&n).and_float(&n), "{n:.1e}"),
-        (Formattable::display(&n).and_binary(&n), "{n:b}"),
-        (Formattable::display(&n).and_lower_exp(&n), "{n:e}"),
-        (Formattable::display(&n).and_lower_hex(&n), "{n:x}"),
-        (Formattable::display(&n).and_octal(&n), "{n:o}"),
-        (Formattable::display(&n).and_upper_exp(&n), "{n:E}"),
-        (Formattable::display(&n).and_upper_hex(&n), "{n:X}"),
-        (Formattable::display(&n).and_iter(&items), "{n:i({})(, )}"),
-    ];
-    for (slots, format) in rows {
-        page.put_made(format, told(alloc, slots, format));
-    }
+    let slots = Formattable::debug(&n)
+        .and_display(&n)
+        .and_binary(&n)
+        .and_lower_exp(&n)
+        .and_lower_hex(&n)
+        .and_octal(&n)
+        .and_upper_exp(&n)
+        .and_upper_hex(&n)
+        .and_iter(&items);
+    told(alloc, slots, USES)
 }
 
-/// Fills each slot after the others.
-fn setters(page: &mut Page) {
-    let alloc = page.alloc;
+/// A shorter chain.
+fn short_chain(alloc: Global) -> Result<String, Error> {
     let n = 255u64;
-    let mut slots = Formattable::default();
-    slots.set_binary(&n);
-    page.put_made("set_binary", told(alloc, slots, "{n:b}"));
-    slots.set_lower_exp(&n);
-    page.put_made("set_lower_exp", told(alloc, slots, "{n:e}"));
-    slots.set_lower_hex(&n);
-    page.put_made("set_lower_hex", told(alloc, slots, "{n:x}"));
-    slots.set_octal(&n);
-    page.put_made("set_octal", told(alloc, slots, "{n:o}"));
-    slots.set_upper_exp(&n);
-    page.put_made("set_upper_exp", told(alloc, slots, "{n:E}"));
-    slots.set_upper_hex(&n);
-    page.put_made("set_upper_hex", told(alloc, slots, "{n:X}"));
-    slots.set_debug(&n);
-    page.put_made("set_debug", told(alloc, slots, "{n:?}"));
-    slots.set_display(&n);
-    page.put_made("set_display", told(alloc, slots, "{n:>5}"));
-    slots.set_debug_display(&n);
-    page.put_made("set_debug_display", told(alloc, slots, "{n} {n:?}"));
-    slots.set_float(&n);
-    page.put_made("set_float", told(alloc, slots, "{n:.1e}"));
-    slots.set_integer(&n);
-    page.put_made("set_integer", told(alloc, slots, "{n:#x}"));
+    let slots = Formattable::octal(&n)
+        .and_debug_display(&n)
+        .and_integer(&n)
+        .and_float(&n);
+    told(alloc, slots, "{n} {n:?} {n:#x} {n:.1e}")
 }
 
-/// A list in the slots of a value.
-fn listed<'a>(items: &'a [Formattable<'a, u64>]) -> Formattable<'a, u64> {
+/// Fills each slot in place.
+fn set<'a>(n: &'a u64, items: &'a [Formattable<'a, u64>]) -> Formattable<'a, u64> {
     let mut slots = Formattable::default();
+    slots.set_debug(n);
+    slots.set_display(n);
+    slots.set_binary(n);
+    slots.set_lower_exp(n);
+    slots.set_lower_hex(n);
+    slots.set_octal(n);
+    slots.set_upper_exp(n);
+    slots.set_upper_hex(n);
     slots.set_iter(items);
     slots
 }
 
-/// Fills the slot of a list.
-fn set_list(page: &mut Page) {
-    let n = 255u64;
-    let items = [Formattable::display(&n), Formattable::display(&n)];
-    page.put_made(
-        "set_iter",
-        told(page.alloc, listed(&items), "{n:i({})(, )}"),
-    );
+/// Fills several slots in place by one call.
+fn set_several(n: &u64) -> Formattable<'_, u64> {
+    let mut slots = Formattable::default();
+    slots.set_debug_display(n);
+    slots.set_float(n);
+    slots.set_integer(n);
+    slots
 }
 
 pub fn show(page: &mut Page) {
+    let alloc = page.alloc;
+    let n = 255u64;
+    let items = [Formattable::display(&n), Formattable::display(&n)];
     constructors(page);
-    chains(page);
-    setters(page);
-    set_list(page);
+    page.put_made("chain", chain(alloc));
+    page.put_made("short chain", short_chain(alloc));
+    page.put_made("set", told(alloc, set(&n, &items), USES));
+    let several = told(alloc, set_several(&n), "{n} {n:?} {n:#x} {n:.1e}");
+    page.put_made("set several", several);
 }

@@ -1,0 +1,51 @@
+-- What named values stand for, and what a row of them finds under a name.
+use Rattle.std.specs.Prelude.{ℕ, List, [], ◌∷◌, map, min, take, Option, Some, None}
+use Rattle.std.specs.Borrow.{Bor}
+use Rattle.interpolator_render.specs.declared.view.Trait.{Trait}
+use Rattle.interpolator_render.specs.declared.view.Trait.TheVariants.{Binary, Debug, Display}
+use Rattle.interpolator_render.specs.declared.view.Trait.TheVariants.{LowerExp}
+use Rattle.interpolator_render.specs.declared.view.Trait.TheVariants.{LowerHex, Octal, UpperExp}
+use Rattle.interpolator_render.specs.declared.view.Trait.TheVariants.{UpperHex, Iter}
+use Rattle.interpolator_render.specs.declared.view.View.{View}
+use Rattle.interpolator_eval.specs.Slots.{Slots, slots_of, empty_slots, with_iter}
+use Rattle.interpolator_eval.specs.Slots.{with_debug, with_display, with_binary, with_lower_exp}
+use Rattle.interpolator_eval.specs.Slots.{with_lower_hex, with_octal, with_upper_exp}
+use Rattle.interpolator_eval.specs.Slots.{with_upper_hex}
+use Rattle.interpolator_eval.specs.declared.slots.Formattable.{Formattable}
+use Rattle.interpolator.specs.declared.values.NamedValue.{NamedValue}
+use Rattle.interpolator.specs.declared.values.Values.{Values}
+
+module _ {X : Type 0} where
+  -- the tree with the slot of a trait filled; a value fills no list
+  abbrev pub with_trait : Trait → Slots X → X → Slots X
+  with_trait Binary tree value = with_binary tree value
+  with_trait Debug tree value = with_debug tree value
+  with_trait Display tree value = with_display tree value
+  with_trait LowerExp tree value = with_lower_exp tree value
+  with_trait LowerHex tree value = with_lower_hex tree value
+  with_trait Octal tree value = with_octal tree value
+  with_trait UpperExp tree value = with_upper_exp tree value
+  with_trait UpperHex tree value = with_upper_hex tree value
+  with_trait Iter tree value = tree
+
+  -- the tree with the slots of these traits filled
+  abbrev pub with_traits : List Trait → Slots X → X → Slots X
+  with_traits [] tree value = tree
+  with_traits (t ∷ ts) tree value = with_traits ts (with_trait t tree value) value
+
+-- the tree of a list, if there is one, or else that of a value in the slots of these traits
+abbrev pub list_or_value : Option (Bor (List (Formattable View))) → List Trait → View → Slots View
+list_or_value (Some items) traits view = with_iter empty_slots (map slots_of items.now)
+list_or_value None traits view = with_traits traits empty_slots view
+
+-- what a named value stands for
+abbrev pub named_slots : NamedValue → Slots View
+named_slots value = list_or_value value.items value.traits.now value.view
+
+-- a named value as a pair
+abbrev pub pair_of : NamedValue → Bor (List ℕ) × Slots View
+pair_of value = (value.name, named_slots value)
+
+-- the named values of a row, as pairs: those before its length, which is at most sixteen
+abbrev pub pairs_of : Values → List (Bor (List ℕ) × Slots View)
+pairs_of values = map pair_of (take (min values.len 16) values.entries)

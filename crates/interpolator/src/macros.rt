@@ -1,0 +1,410 @@
+//! Macros that make a context of names and values, and write a format with it.
+//!
+//! Each takes names, with commas between them, in the syntax of the Rust crate `interpolator`:
+//!
+//! - `name` stands for the variable of this name, and `name = value` for a value.
+//! - Before the `=`, each `:` and a trait fill a slot: `?`, `x`, `X`, `o`, `b`, `e` and `E`, or by
+//!   their words `debug`, `lower_hex`, `upper_hex`, `octal`, `binary`, `lower_exp` and `upper_exp`.
+//!   A `:` alone, `display`, or no trait at all fills the display slot. `debug_display`, `integer`
+//!   and `float` fill those that the calls of `Formattable` with these names fill.
+//! - `name:i = items` or `name:iter = items` stands for a list, a slice of `Formattable`s.
+//!
+//! Values go by `View::from`, so that several kinds mix.
+
+/// A context of at most sixteen names, a [`Values`](crate::Values), which takes no memory.
+///
+/// If a name occurs more than once, its last value counts.
+///
+/// ```text
+/// values!(name, n = apples).format(alloc, "{name} has {n}")?    // with `Ann` and 3: Ann has 3
+/// values!(a:?:x = 255u8).format(alloc, "{a:?} {a:x}")?          // 255 ff
+/// values!(a: :? = "b").format(alloc, "{a} {a:?}")?              // b "b"
+/// ```
+#[macro_export]
+macro_rules! values {
+    ($($named:tt)*) => {
+        $crate::read_values!([] $($named)*)
+    };
+}
+
+/// Reads the names of [`values!`](crate::values) one by one.
+#[macro_export]
+macro_rules! read_values {
+    ([$($made:expr),*]) => {
+        $crate::values_of!($($made),*)
+    };
+    ([$($made:expr),*] $name:ident $($rest:tt)*) => {
+        $crate::read_values!(@traits [$($made),*] $name [] $($rest)*)
+    };
+    (@traits [$($made:expr),*] $name:ident [] : i = $items:expr $(, $($rest:tt)*)?) => {
+        $crate::read_values!(
+            [$($made,)* $crate::made::named_list(stringify!($name), $items)] $($($rest)*)?
+        )
+    };
+    (@traits [$($made:expr),*] $name:ident [] : iter = $items:expr $(, $($rest:tt)*)?) => {
+        $crate::read_values!(
+            [$($made,)* $crate::made::named_list(stringify!($name), $items)] $($($rest)*)?
+        )
+    };
+    (@traits $made:tt $name:ident [$($slot:ident)*] : ? $($rest:tt)*) => {
+        $crate::read_values!(@traits $made $name [$($slot)* Debug] $($rest)*)
+    };
+    (@traits $made:tt $name:ident [$($slot:ident)*] : debug $($rest:tt)*) => {
+        $crate::read_values!(@traits $made $name [$($slot)* Debug] $($rest)*)
+    };
+    (@traits $made:tt $name:ident [$($slot:ident)*] : x $($rest:tt)*) => {
+        $crate::read_values!(@traits $made $name [$($slot)* LowerHex] $($rest)*)
+    };
+    (@traits $made:tt $name:ident [$($slot:ident)*] : lower_hex $($rest:tt)*) => {
+        $crate::read_values!(@traits $made $name [$($slot)* LowerHex] $($rest)*)
+    };
+    (@traits $made:tt $name:ident [$($slot:ident)*] : X $($rest:tt)*) => {
+        $crate::read_values!(@traits $made $name [$($slot)* UpperHex] $($rest)*)
+    };
+    (@traits $made:tt $name:ident [$($slot:ident)*] : upper_hex $($rest:tt)*) => {
+        $crate::read_values!(@traits $made $name [$($slot)* UpperHex] $($rest)*)
+    };
+    (@traits $made:tt $name:ident [$($slot:ident)*] : o $($rest:tt)*) => {
+        $crate::read_values!(@traits $made $name [$($slot)* Octal] $($rest)*)
+    };
+    (@traits $made:tt $name:ident [$($slot:ident)*] : octal $($rest:tt)*) => {
+        $crate::read_values!(@traits $made $name [$($slot)* Octal] $($rest)*)
+    };
+    (@traits $made:tt $name:ident [$($slot:ident)*] : b $($rest:tt)*) => {
+        $crate::read_values!(@traits $made $name [$($slot)* Binary] $($rest)*)
+    };
+    (@traits $made:tt $name:ident [$($slot:ident)*] : binary $($rest:tt)*) => {
+        $crate::read_values!(@traits $made $name [$($slot)* Binary] $($rest)*)
+    };
+    (@traits $made:tt $name:ident [$($slot:ident)*] : e $($rest:tt)*) => {
+        $crate::read_values!(@traits $made $name [$($slot)* LowerExp] $($rest)*)
+    };
+    (@traits $made:tt $name:ident [$($slot:ident)*] : lower_exp $($rest:tt)*) => {
+        $crate::read_values!(@traits $made $name [$($slot)* LowerExp] $($rest)*)
+    };
+    (@traits $made:tt $name:ident [$($slot:ident)*] : E $($rest:tt)*) => {
+        $crate::read_values!(@traits $made $name [$($slot)* UpperExp] $($rest)*)
+    };
+    (@traits $made:tt $name:ident [$($slot:ident)*] : upper_exp $($rest:tt)*) => {
+        $crate::read_values!(@traits $made $name [$($slot)* UpperExp] $($rest)*)
+    };
+    (@traits $made:tt $name:ident [$($slot:ident)*] : debug_display $($rest:tt)*) => {
+        $crate::read_values!(@traits $made $name [$($slot)* Debug Display] $($rest)*)
+    };
+    (@traits $made:tt $name:ident [$($slot:ident)*] : float $($rest:tt)*) => {
+        $crate::read_values!(
+            @traits $made $name [$($slot)* Debug Display LowerExp UpperExp] $($rest)*
+        )
+    };
+    (@traits $made:tt $name:ident [$($slot:ident)*] : integer $($rest:tt)*) => {
+        $crate::read_values!(
+            @traits $made $name
+            [$($slot)* Debug Display Binary Octal LowerHex UpperHex LowerExp UpperExp] $($rest)*
+        )
+    };
+    (@traits $made:tt $name:ident [$($slot:ident)*] : display $($rest:tt)*) => {
+        $crate::read_values!(@traits $made $name [$($slot)* Display] $($rest)*)
+    };
+    (@traits $made:tt $name:ident [$($slot:ident)*] : $($rest:tt)*) => {
+        $crate::read_values!(@traits $made $name [$($slot)* Display] $($rest)*)
+    };
+    (@traits $made:tt $name:ident [] $($rest:tt)*) => {
+        $crate::read_values!(@traits $made $name [Display] $($rest)*)
+    };
+    (@traits [$($made:expr),*] $name:ident $slots:tt = $value:expr $(, $($rest:tt)*)?) => {
+        $crate::read_values!(
+            [$($made,)* $crate::named_of!($name $slots $value)] $($($rest)*)?
+        )
+    };
+    (@traits [$($made:expr),*] $name:ident $slots:tt $(, $($rest:tt)*)?) => {
+        $crate::read_values!(
+            [$($made,)* $crate::named_of!($name $slots $name)] $($($rest)*)?
+        )
+    };
+    ($($other:tt)*) => {
+        compile_error!("write a name, its traits and its value, as `name`, `n:?` or `n:x = 5u8`")
+    };
+}
+
+/// A value under a name, in the slots of these traits.
+#[macro_export]
+macro_rules! named_of {
+    ($name:ident [$($slot:ident)*] $value:expr) => {
+        $crate::made::named_value(
+            stringify!($name),
+            $crate::View::from($value),
+            &[$($crate::Trait::$slot),*],
+        )
+    };
+}
+
+/// A row of so many named values.
+#[macro_export]
+macro_rules! values_of {
+    () => {
+        $crate::made::values_0()
+    };
+    ($a:expr) => {
+        $crate::made::values_1($a)
+    };
+    ($a:expr, $b:expr) => {
+        $crate::made::values_2($a, $b)
+    };
+    ($a:expr, $b:expr, $c:expr) => {
+        $crate::made::values_3($a, $b, $c)
+    };
+    ($a:expr, $b:expr, $c:expr, $d:expr) => {
+        $crate::made::values_4($a, $b, $c, $d)
+    };
+    ($a:expr, $b:expr, $c:expr, $d:expr, $e:expr) => {
+        $crate::made::values_5($a, $b, $c, $d, $e)
+    };
+    ($a:expr, $b:expr, $c:expr, $d:expr, $e:expr, $f:expr) => {
+        $crate::made::values_6($a, $b, $c, $d, $e, $f)
+    };
+    ($a:expr, $b:expr, $c:expr, $d:expr, $e:expr, $f:expr, $g:expr) => {
+        $crate::made::values_7($a, $b, $c, $d, $e, $f, $g)
+    };
+    ($a:expr, $b:expr, $c:expr, $d:expr, $e:expr, $f:expr, $g:expr, $h:expr) => {
+        $crate::made::values_8($a, $b, $c, $d, $e, $f, $g, $h)
+    };
+    ($a:expr, $b:expr, $c:expr, $d:expr, $e:expr, $f:expr, $g:expr, $h:expr, $i:expr) => {
+        $crate::made::values_9($a, $b, $c, $d, $e, $f, $g, $h, $i)
+    };
+    ($a:expr, $b:expr, $c:expr, $d:expr, $e:expr, $f:expr, $g:expr, $h:expr, $i:expr, $j:expr) => {
+        $crate::made::values_10($a, $b, $c, $d, $e, $f, $g, $h, $i, $j)
+    };
+    (
+        $a:expr, $b:expr, $c:expr, $d:expr, $e:expr, $f:expr, $g:expr, $h:expr,
+        $i:expr, $j:expr, $k:expr
+    ) => {
+        $crate::made::values_11($a, $b, $c, $d, $e, $f, $g, $h, $i, $j, $k)
+    };
+    (
+        $a:expr, $b:expr, $c:expr, $d:expr, $e:expr, $f:expr, $g:expr, $h:expr,
+        $i:expr, $j:expr, $k:expr, $l:expr
+    ) => {
+        $crate::made::values_12($a, $b, $c, $d, $e, $f, $g, $h, $i, $j, $k, $l)
+    };
+    (
+        $a:expr, $b:expr, $c:expr, $d:expr, $e:expr, $f:expr, $g:expr, $h:expr,
+        $i:expr, $j:expr, $k:expr, $l:expr, $m:expr
+    ) => {
+        $crate::made::values_13($a, $b, $c, $d, $e, $f, $g, $h, $i, $j, $k, $l, $m)
+    };
+    (
+        $a:expr, $b:expr, $c:expr, $d:expr, $e:expr, $f:expr, $g:expr, $h:expr,
+        $i:expr, $j:expr, $k:expr, $l:expr, $m:expr, $n:expr
+    ) => {
+        $crate::made::values_14($a, $b, $c, $d, $e, $f, $g, $h, $i, $j, $k, $l, $m, $n)
+    };
+    (
+        $a:expr, $b:expr, $c:expr, $d:expr, $e:expr, $f:expr, $g:expr, $h:expr,
+        $i:expr, $j:expr, $k:expr, $l:expr, $m:expr, $n:expr, $o:expr
+    ) => {
+        $crate::made::values_15($a, $b, $c, $d, $e, $f, $g, $h, $i, $j, $k, $l, $m, $n, $o)
+    };
+    (
+        $a:expr, $b:expr, $c:expr, $d:expr, $e:expr, $f:expr, $g:expr, $h:expr,
+        $i:expr, $j:expr, $k:expr, $l:expr, $m:expr, $n:expr, $o:expr, $p:expr
+    ) => {
+        $crate::made::values_16($a, $b, $c, $d, $e, $f, $g, $h, $i, $j, $k, $l, $m, $n, $o, $p)
+    };
+    ($($more:expr),*) => {
+        compile_error!("a row has at most sixteen names: use a `ContextMap`")
+    };
+}
+
+/// The text of a format with named values: `format` of [`values!`](crate::values).
+///
+/// ```text
+/// iformat!(in alloc; "{a}, {b:?}", a = 10u8, b:? = "test")?    // 10, "test"
+/// ```
+#[macro_export]
+macro_rules! iformat {
+    (in $alloc:expr; $format:expr $(, $($named:tt)*)?) => {
+        $crate::Interpolate::format(&$crate::values!($($($named)*)?), $alloc, $format)
+    };
+    ($($other:tt)*) => {
+        compile_error!("`iformat!` takes an allocator first: `iformat!(in alloc; \"{n}\", n)?`")
+    };
+}
+
+/// Writes a format with named values: `write_to` of [`values!`](crate::values).
+///
+/// ```text
+/// iwrite!(in alloc; &mut out, "{n:>5}", n)?    // with 7, appends "    7"
+/// ```
+#[macro_export]
+macro_rules! iwrite {
+    (in $alloc:expr; $out:expr, $format:expr $(, $($named:tt)*)?) => {
+        $crate::Interpolate::write_to(&$crate::values!($($($named)*)?), $alloc, $out, $format)
+    };
+    ($($other:tt)*) => {
+        compile_error!("write `iwrite!(in alloc; &mut out, \"{n}\", n)?`")
+    };
+}
+
+/// Writes a format with named values, and a newline after it if there is no fault: `write_line_to`
+/// of [`values!`](crate::values).
+#[macro_export]
+macro_rules! iwriteln {
+    (in $alloc:expr; $out:expr, $format:expr $(, $($named:tt)*)?) => {
+        $crate::Interpolate::write_line_to(&$crate::values!($($($named)*)?), $alloc, $out, $format)
+    };
+    ($($other:tt)*) => {
+        compile_error!("write `iwriteln!(in alloc; &mut out, \"{n}\", n)?`")
+    };
+}
+
+/// Prints a format with named values to the standard output. The text is made first: if it has a
+/// fault, nothing is printed. A refused write is `Fmt` at place 0.
+///
+/// ```text
+/// iprint!(rt; "{n:>5}", n)?
+/// ```
+#[macro_export]
+macro_rules! iprint {
+    ($rt:expr; $($format:tt)+) => {
+        $crate::print_by!(print $rt; $($format)+)
+    };
+    ($($other:tt)*) => {
+        compile_error!("`iprint!` takes the runtime first: `iprint!(rt; \"{n}\", n)?`")
+    };
+}
+
+/// As [`iprint!`](crate::iprint), with a newline after the text.
+#[macro_export]
+macro_rules! iprintln {
+    ($rt:expr; $($format:tt)+) => {
+        $crate::print_by!(println $rt; $($format)+)
+    };
+    ($($other:tt)*) => {
+        compile_error!("`iprintln!` takes the runtime first: `iprintln!(rt; \"{n}\", n)?`")
+    };
+}
+
+/// As [`iprint!`](crate::iprint), to the standard error.
+#[macro_export]
+macro_rules! ieprint {
+    ($rt:expr; $($format:tt)+) => {
+        $crate::print_by!(eprint $rt; $($format)+)
+    };
+    ($($other:tt)*) => {
+        compile_error!("`ieprint!` takes the runtime first: `ieprint!(rt; \"{n}\", n)?`")
+    };
+}
+
+/// As [`iprintln!`](crate::iprintln), to the standard error.
+#[macro_export]
+macro_rules! ieprintln {
+    ($rt:expr; $($format:tt)+) => {
+        $crate::print_by!(eprintln $rt; $($format)+)
+    };
+    ($($other:tt)*) => {
+        compile_error!("`ieprintln!` takes the runtime first: `ieprintln!(rt; \"{n}\", n)?`")
+    };
+}
+
+/// Makes a text, and prints it by this method of the runtime.
+#[macro_export]
+macro_rules! print_by {
+    ($print:ident $rt:expr; $($format:tt)+) => {{
+        let rt = &$rt;
+        match $crate::iformat!(in rt.alloc(); $($format)+) {
+            Ok(text) => $crate::made::printed(rt.$print(text)),
+            Err(fault) => Err(fault),
+        }
+    }};
+}
+
+/// An array of views at one lifetime, for a list of at most sixteen values of several kinds.
+///
+/// ```text
+/// let cells = list!["one", name, 3u8];
+/// let items = items_of(alloc, &cells)?;
+/// values!(l:i = &items).format(alloc, "{l:i..-1({})(, )} and {l:i-1}")?    // one, Ann and 3
+/// ```
+#[macro_export]
+macro_rules! list {
+    ($($value:expr),+ $(,)?) => {
+        $crate::views_of!($($crate::View::from($value)),+)
+    };
+    ($($other:tt)*) => {
+        compile_error!("`list!` takes at least one value: for a list without items write `&[]`")
+    };
+}
+
+/// An array of so many views.
+#[macro_export]
+macro_rules! views_of {
+    ($a:expr) => {
+        $crate::made::views_1($a)
+    };
+    ($a:expr, $b:expr) => {
+        $crate::made::views_2($a, $b)
+    };
+    ($a:expr, $b:expr, $c:expr) => {
+        $crate::made::views_3($a, $b, $c)
+    };
+    ($a:expr, $b:expr, $c:expr, $d:expr) => {
+        $crate::made::views_4($a, $b, $c, $d)
+    };
+    ($a:expr, $b:expr, $c:expr, $d:expr, $e:expr) => {
+        $crate::made::views_5($a, $b, $c, $d, $e)
+    };
+    ($a:expr, $b:expr, $c:expr, $d:expr, $e:expr, $f:expr) => {
+        $crate::made::views_6($a, $b, $c, $d, $e, $f)
+    };
+    ($a:expr, $b:expr, $c:expr, $d:expr, $e:expr, $f:expr, $g:expr) => {
+        $crate::made::views_7($a, $b, $c, $d, $e, $f, $g)
+    };
+    ($a:expr, $b:expr, $c:expr, $d:expr, $e:expr, $f:expr, $g:expr, $h:expr) => {
+        $crate::made::views_8($a, $b, $c, $d, $e, $f, $g, $h)
+    };
+    ($a:expr, $b:expr, $c:expr, $d:expr, $e:expr, $f:expr, $g:expr, $h:expr, $i:expr) => {
+        $crate::made::views_9($a, $b, $c, $d, $e, $f, $g, $h, $i)
+    };
+    ($a:expr, $b:expr, $c:expr, $d:expr, $e:expr, $f:expr, $g:expr, $h:expr, $i:expr, $j:expr) => {
+        $crate::made::views_10($a, $b, $c, $d, $e, $f, $g, $h, $i, $j)
+    };
+    (
+        $a:expr, $b:expr, $c:expr, $d:expr, $e:expr, $f:expr, $g:expr, $h:expr,
+        $i:expr, $j:expr, $k:expr
+    ) => {
+        $crate::made::views_11($a, $b, $c, $d, $e, $f, $g, $h, $i, $j, $k)
+    };
+    (
+        $a:expr, $b:expr, $c:expr, $d:expr, $e:expr, $f:expr, $g:expr, $h:expr,
+        $i:expr, $j:expr, $k:expr, $l:expr
+    ) => {
+        $crate::made::views_12($a, $b, $c, $d, $e, $f, $g, $h, $i, $j, $k, $l)
+    };
+    (
+        $a:expr, $b:expr, $c:expr, $d:expr, $e:expr, $f:expr, $g:expr, $h:expr,
+        $i:expr, $j:expr, $k:expr, $l:expr, $m:expr
+    ) => {
+        $crate::made::views_13($a, $b, $c, $d, $e, $f, $g, $h, $i, $j, $k, $l, $m)
+    };
+    (
+        $a:expr, $b:expr, $c:expr, $d:expr, $e:expr, $f:expr, $g:expr, $h:expr,
+        $i:expr, $j:expr, $k:expr, $l:expr, $m:expr, $n:expr
+    ) => {
+        $crate::made::views_14($a, $b, $c, $d, $e, $f, $g, $h, $i, $j, $k, $l, $m, $n)
+    };
+    (
+        $a:expr, $b:expr, $c:expr, $d:expr, $e:expr, $f:expr, $g:expr, $h:expr,
+        $i:expr, $j:expr, $k:expr, $l:expr, $m:expr, $n:expr, $o:expr
+    ) => {
+        $crate::made::views_15($a, $b, $c, $d, $e, $f, $g, $h, $i, $j, $k, $l, $m, $n, $o)
+    };
+    (
+        $a:expr, $b:expr, $c:expr, $d:expr, $e:expr, $f:expr, $g:expr, $h:expr,
+        $i:expr, $j:expr, $k:expr, $l:expr, $m:expr, $n:expr, $o:expr, $p:expr
+    ) => {
+        $crate::made::views_16($a, $b, $c, $d, $e, $f, $g, $h, $i, $j, $k, $l, $m, $n, $o, $p)
+    };
+    ($($more:expr),*) => {
+        compile_error!("`list!` takes at most sixteen values: use a `Vec` of `View`s")
+    };
+}

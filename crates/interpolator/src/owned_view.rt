@@ -1,0 +1,217 @@
+//! Values of several kinds that own their text.
+ghost use Rattle.std.specs.Prelude.{◌≡◌, IfOk, IfErr, IfSome};
+ghost use Rattle.std.specs.Str.{chars};
+ghost use Rattle.interpolator_render.specs.declared.view.Bits.TheVariants.{B8, B16, B32, B64, B128};
+ghost use Rattle.interpolator_render.specs.Views.{shown_by, some_text, fits_signed, IsInRange};
+ghost use Rattle.interpolator.specs.OwnedViews.{owned_shows};
+ghost use Rattle.interpolator.specs.declared.owned_view.OwnedView.TheVariants as owned;
+ghost use Rattle.interpolator_syntax.specs.declared.error.Error.TheVariants.{NoMemory};
+
+use interpolator_render::{Bits, Spec, Trait, Value, View};
+use interpolator_syntax::Error;
+use std::alloc::Global;
+use std::fmt::Display;
+
+/// A [`View`] that owns its text: for rows whose texts are `String`s, and for values that only
+/// `Display` can write.
+///
+/// ```text
+/// let row = [OwnedView::from(name), OwnedView::shown(alloc, amount)?, OwnedView::from(7u32)];
+/// Pairs(&[("name", Formattable::display(&row[0])), ..]).format(alloc, "{name} pays {amount}")?
+/// ```
+#[derive(Debug, Drop)]
+pub enum OwnedView {
+    /// A number of a signed type of this width. It lies in the range of that type.
+    Signed(i128, Bits),
+    /// A number of an unsigned type.
+    Unsigned(u128),
+    /// A truth value.
+    Truth(bool),
+    /// One character.
+    Character(char),
+    /// A text.
+    Text(String),
+}
+
+impl OwnedView {
+    /// The text of any value with `Display`, as `{}` of std writes it.
+    ///
+    /// # Errors
+    ///
+    /// `NoMemory`: there is no memory for the text, or the value failed.
+    ///
+    /// ```text
+    /// OwnedView::shown(alloc, Cents(1250))?    // shows the text 12.50, if `Cents` writes it so
+    /// ```
+    pub fn shown<D: Display + Drop>(alloc: Global, value: D) -> Result<OwnedView, Error>
+        ensures text { IfOk result (λ made. IfSome (D.output value)
+            (λ bytes. owned_shows made ≡ some_text (chars bytes))) }
+        ensures refused { IfErr result (λ error. error ≡ NoMemory) }
+    {
+        let text = String::format(alloc, value)?;
+        Ok(OwnedView::Text(text))
+    }
+}
+
+/// Whether a number lies in the range of signed numbers of this width.
+fn fits(number: i128, bits: Bits) -> bool
+    ensures { result ≡ fits_signed number bits }
+{
+    match bits {
+        Bits::B8 => i8::MIN as i128 <= number && number <= i8::MAX as i128,
+        Bits::B16 => i16::MIN as i128 <= number && number <= i16::MAX as i128,
+        Bits::B32 => i32::MIN as i128 <= number && number <= i32::MAX as i128,
+        Bits::B64 => i64::MIN as i128 <= number && number <= i64::MAX as i128,
+        Bits::B128 => true,
+    }
+}
+
+/// The view borrows the text. A signed number outside its width is a failure.
+impl<'a> From<&'a OwnedView> for View<'a> {
+    ghost from_gives = { λ value view. (shown_by view ≡ owned_shows value.now)
+        × IsInRange (shown_by view) };
+
+    fn from(value: &'a OwnedView) -> View<'a> {
+        match value {
+            OwnedView::Signed(number, bits) => {
+                if fits(*number, *bits) {
+                    View::Signed(*number, *bits)
+                } else {
+                    View::Failed
+                }
+            }
+            OwnedView::Unsigned(number) => View::Unsigned(*number),
+            OwnedView::Truth(truth) => View::Truth(*truth),
+            OwnedView::Character(c) => View::Character(*c),
+            OwnedView::Text(text) => View::Text(text.as_str()),
+        }
+    }
+}
+
+impl Value for OwnedView {
+    ghost shows = { λ value _ _. owned_shows value };
+
+    fn view(&self, _t: Trait, _spec: &Spec) -> View<'_> {
+        View::from(self)
+    }
+}
+
+impl From<u8> for OwnedView {
+    ghost from_gives = { λ number value. value ≡ owned.Unsigned number };
+
+    fn from(number: u8) -> OwnedView {
+        OwnedView::Unsigned(u128::from(number))
+    }
+}
+
+impl From<u16> for OwnedView {
+    ghost from_gives = { λ number value. value ≡ owned.Unsigned number };
+
+    fn from(number: u16) -> OwnedView {
+        OwnedView::Unsigned(u128::from(number))
+    }
+}
+
+impl From<u32> for OwnedView {
+    ghost from_gives = { λ number value. value ≡ owned.Unsigned number };
+
+    fn from(number: u32) -> OwnedView {
+        OwnedView::Unsigned(u128::from(number))
+    }
+}
+
+impl From<u64> for OwnedView {
+    ghost from_gives = { λ number value. value ≡ owned.Unsigned number };
+
+    fn from(number: u64) -> OwnedView {
+        OwnedView::Unsigned(u128::from(number))
+    }
+}
+
+impl From<u128> for OwnedView {
+    ghost from_gives = { λ number value. value ≡ owned.Unsigned number };
+
+    fn from(number: u128) -> OwnedView {
+        OwnedView::Unsigned(number)
+    }
+}
+
+impl From<usize> for OwnedView {
+    ghost from_gives = { λ number value. value ≡ owned.Unsigned number };
+
+    fn from(number: usize) -> OwnedView {
+        OwnedView::Unsigned(number as u128)
+    }
+}
+
+impl From<i8> for OwnedView {
+    ghost from_gives = { λ number value. value ≡ owned.Signed number B8 };
+
+    fn from(number: i8) -> OwnedView {
+        OwnedView::Signed(i128::from(number), Bits::B8)
+    }
+}
+
+impl From<i16> for OwnedView {
+    ghost from_gives = { λ number value. value ≡ owned.Signed number B16 };
+
+    fn from(number: i16) -> OwnedView {
+        OwnedView::Signed(i128::from(number), Bits::B16)
+    }
+}
+
+impl From<i32> for OwnedView {
+    ghost from_gives = { λ number value. value ≡ owned.Signed number B32 };
+
+    fn from(number: i32) -> OwnedView {
+        OwnedView::Signed(i128::from(number), Bits::B32)
+    }
+}
+
+impl From<i64> for OwnedView {
+    ghost from_gives = { λ number value. value ≡ owned.Signed number B64 };
+
+    fn from(number: i64) -> OwnedView {
+        OwnedView::Signed(i128::from(number), Bits::B64)
+    }
+}
+
+impl From<i128> for OwnedView {
+    ghost from_gives = { λ number value. value ≡ owned.Signed number B128 };
+
+    fn from(number: i128) -> OwnedView {
+        OwnedView::Signed(number, Bits::B128)
+    }
+}
+
+impl From<isize> for OwnedView {
+    ghost from_gives = { λ number value. value ≡ owned.Signed number B64 };
+
+    fn from(number: isize) -> OwnedView {
+        OwnedView::Signed(number as i128, Bits::B64)
+    }
+}
+
+impl From<bool> for OwnedView {
+    ghost from_gives = { λ truth value. value ≡ owned.Truth truth };
+
+    fn from(truth: bool) -> OwnedView {
+        OwnedView::Truth(truth)
+    }
+}
+
+impl From<char> for OwnedView {
+    ghost from_gives = { λ c value. value ≡ owned.Character c };
+
+    fn from(c: char) -> OwnedView {
+        OwnedView::Character(c)
+    }
+}
+
+impl From<String> for OwnedView {
+    ghost from_gives = { λ text value. value ≡ owned.Text text };
+
+    fn from(text: String) -> OwnedView {
+        OwnedView::Text(text)
+    }
+}
