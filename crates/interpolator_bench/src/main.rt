@@ -2,29 +2,28 @@
 #![tactic(auto)]
 
 mod checksum;
-mod command;
 mod documents;
 mod failure;
 mod formats;
 mod lists;
 mod merge;
-mod renders;
-mod rows;
-mod spec_formats;
 mod uses;
+mod values;
 mod workloads;
 
 use checksum::checksum_of;
-use command::{Command, command_of};
 use failure::Failure;
+use std::env;
 use std::process::ExitCode;
 use std::rt::Env;
-use std::{env, io};
-use workloads::{FORMATS, PREPARED, Workload};
+use workloads::{Workload, workloads};
 
 const FAULT: u8 = 1;
 
 const BAD_USE: u8 = 2;
+
+/// The word that stands for every workload.
+const EVERY: &str = "all";
 
 fn main(rt: HostRuntime) -> ExitCode {
     let status = match answer(&rt) {
@@ -37,90 +36,75 @@ fn main(rt: HostRuntime) -> ExitCode {
 
 // Runs what the command line says, and prints an error if that fails.
 fn answer(rt: &(impl Env + Print + Eprint + AllocGlobal)) -> Result<(), Failure> {
-    let answer = match asked(rt) {
-        Ok(command) => run(rt, command),
-        Err(failure) => Err(failure),
-    };
+    let answer = asked(rt);
     if let Err(failure) = &answer {
         complain(rt, failure)?;
     }
     answer
 }
 
-// The command that the words after the program's name spell.
-fn asked(rt: &(impl Env + AllocGlobal)) -> Result<Command, Failure> {
+// Runs what the words after the program's name spell: a workload's name, or `all`, and a number of
+// repeats.
+fn asked(rt: &(impl Env + Print + AllocGlobal)) -> Result<(), Failure> {
     let words = env::args(rt)?.skip(1).collect::<Vec<String>>(rt.alloc())?;
-    command_of(words.as_slice()).ok_or(Failure::Usage)
+    let [name, repeats] = words.as_slice() else {
+        return Err(Failure::Usage);
+    };
+    match repeats.as_str().parse::<u32>() {
+        Ok(repeats) => run(rt, name.as_str(), repeats),
+        Err(_) => Err(Failure::Usage),
+    }
 }
 
-fn run(rt: &(impl Print + AllocGlobal), command: Command) -> Result<(), Failure> {
-    let Command { workload, repeats } = command;
-    match workload {
-        Some(workload) => report(rt, workload, repeats),
-        None => {
-            report_formats(rt, repeats)?;
-            report_prepared(rt, repeats)
+// Runs the workload of this name, or all of them.
+fn run(rt: &(impl Print + AllocGlobal), name: &str, repeats: u32) -> Result<(), Failure> {
+    let mut is_found = false;
+    let all = workloads(rt.alloc())?;
+    for workload in &all {
+        if name == EVERY || workload.has_name(name) {
+            report(rt, workload, repeats)?;
+            is_found = true;
         }
     }
-}
-
-fn report_formats(rt: &(impl Print + AllocGlobal), repeats: u32) -> Result<(), Failure> {
-    for workload in FORMATS {
-        report(rt, workload, repeats)?;
+    if is_found {
+        Ok(())
+    } else {
+        Err(Failure::Usage)
     }
-    Ok(())
-}
-
-fn report_prepared(rt: &(impl Print + AllocGlobal), repeats: u32) -> Result<(), Failure> {
-    for workload in PREPARED {
-        report(rt, workload, repeats)?;
-    }
-    Ok(())
 }
 
 // Runs a workload, and prints the length of its text and its checksum.
 fn report(
     rt: &(impl Print + AllocGlobal),
-    workload: Workload,
+    workload: &Workload,
     repeats: u32,
 ) -> Result<(), Failure> {
     let text = workload.run(rt.alloc(), repeats)?;
-    let name = workload.name();
+    let (front, name) = (workload.front, workload.name);
     let len = text.len();
     let sum = checksum_of(text.as_str());
-    println!(rt; "{name}: {len} bytes, checksum {sum:016x}")?;
+    println!(rt; "{front}{name}: {len} bytes, checksum {sum:016x}")?;
     Ok(())
 }
 
-fn complain(rt: &impl Eprint, failure: &Failure) -> io::Result<()> {
+fn complain(rt: &(impl Eprint + AllocGlobal), failure: &Failure) -> Result<(), Failure> {
     match failure {
-        Failure::Usage => usage(rt),
-        Failure::Format(error) => eprintln!(rt; "{error}"),
-        Failure::Render(fault) => eprintln!(rt; "not rendered: {fault:?}"),
-        Failure::NoMemory => eprintln!(rt; "out of memory"),
-        Failure::Io(error) => eprintln!(rt; "{error}"),
-    }
-}
-
-fn usage(rt: &impl Eprint) -> io::Result<()> {
-    eprint!(rt; "usage: interpolator_bench WORKLOAD REPEATS, a workload being all")?;
-    name_formats(rt)?;
-    name_prepared(rt)?;
-    eprintln!(rt; "")
-}
-
-fn name_formats(rt: &impl Eprint) -> io::Result<()> {
-    for workload in &FORMATS {
-        let name = workload.name();
-        eprint!(rt; ", {name}")?;
+        Failure::Usage => return usage(rt),
+        Failure::Format(error) => eprintln!(rt; "{error}")?,
+        Failure::Render(fault) => eprintln!(rt; "not rendered: {fault:?}")?,
+        Failure::NoMemory => eprintln!(rt; "out of memory")?,
+        Failure::Io(error) => eprintln!(rt; "{error}")?,
     }
     Ok(())
 }
 
-fn name_prepared(rt: &impl Eprint) -> io::Result<()> {
-    for workload in &PREPARED {
-        let name = workload.name();
-        eprint!(rt; ", {name}")?;
+fn usage(rt: &(impl Eprint + AllocGlobal)) -> Result<(), Failure> {
+    eprint!(rt; "usage: interpolator_bench WORKLOAD REPEATS, a workload being all")?;
+    let all = workloads(rt.alloc())?;
+    for workload in &all {
+        let (front, name) = (workload.front, workload.name);
+        eprint!(rt; ", {front}{name}")?;
     }
+    eprintln!(rt; "")?;
     Ok(())
 }

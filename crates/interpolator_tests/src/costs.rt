@@ -1,13 +1,10 @@
-//! What formats cost at most: with the greatest values the output is exactly as long as the cost
-//! says, and the cost of a format whose output would be huge is known without writing it.
+//! What formats cost at most. The cost of a format whose output would be huge is known without
+//! writing it.
 
 ghost use Rattle.std.specs.Prelude.{◌≡◌, ◌<◌};
 
 use crate::report::Report;
-use interpolator::{
-    Cost, Error, Formattable, Interpolate, Limits, Pairs, Tally, Template, TextBuffer, View,
-};
-use std::alloc::{AllocError, Global};
+use interpolator::{Error, Formattable, Limits, Pairs, Tally, Template, TextBuffer};
 use std::marker::Brand;
 use std::sync::ledger::{Blank, Ledger};
 
@@ -60,121 +57,16 @@ const COSTS: [Priced<'static>; 22] = [
     },
 ];
 
-/// Checks that the cost is this many characters, pieces and buffered characters.
-fn check_cost(report: &mut Report, what: &str, wanted: (usize, usize, usize), cost: Cost) {
-    let (characters, pieces, buffered) = wanted;
-    report.number(what, characters, cost.characters);
-    report.number(what, pieces, cost.pieces);
-    report.number(what, buffered, cost.buffered);
-}
-
 fn worked_costs(report: &mut Report) -> Result<(), Error> {
     for row in &COSTS {
         let (text, items) = (row.text, row.items);
         let template = Template::parse(report.alloc, row.format)?;
         let cost = template.cost(&Limits { text, items });
-        check_cost(report, row.format, row.cost, cost);
+        let (characters, pieces, buffered) = row.cost;
+        report.number(row.format, characters, cost.characters);
+        report.number(row.format, pieces, cost.pieces);
+        report.number(row.format, buffered, cost.buffered);
     }
-    Ok(())
-}
-
-/// Formats whose output is exactly as long as their cost, with the greatest values: texts of 40
-/// characters, lists of three of them, numbers of 128 bits, and a text whose characters are all
-/// escaped.
-#[rattlefmt::skip]
-const EXACT: [&str; 16] = [
-    "", "aé{{}}b", "{least}", "{text}", "{least:90}|{text:^90}", "{most:+b}", "{least:#b}", "{most:+#o}",
-    "{least:e}", "{least:E}{text}", "{text:x<44}", "{controls:?}", "{list:i}",
-    "{list:i({:>60})(, )}", "{list:i1..({}-)(é)}", "{list:200i(<{}>)(, )}{list:9i}",
-];
-
-fn greatest_values(report: &mut Report) -> Result<(), Error> {
-    let alloc = report.alloc;
-    let texts = [
-        View::Text("éééééééééééééééééééééééééééééééééééééééé"),
-        View::Text(
-            "\u{10}\u{10}\u{10}\u{10}\u{10}\u{10}\u{10}\u{10}\u{10}\u{10}\u{10}\u{10}\u{10}\u{10}\u{10}\u{10}\u{10}\u{10}\u{10}\u{10}\u{10}\u{10}\u{10}\u{10}\u{10}\u{10}\u{10}\u{10}\u{10}\u{10}\u{10}\u{10}\u{10}\u{10}\u{10}\u{10}\u{10}\u{10}\u{10}\u{10}",
-        ),
-        View::from(i128::MIN),
-        View::from(u128::MAX),
-    ];
-    let shown = Formattable::debug_display(&texts[0]);
-    let list = [
-        Formattable::debug_display(&texts[0]),
-        Formattable::debug_display(&texts[0]),
-        Formattable::debug_display(&texts[0]),
-    ];
-    let context = [
-        ("text", shown),
-        ("controls", Formattable::debug_display(&texts[1])),
-        ("least", Formattable::integer(&texts[2])),
-        ("most", Formattable::integer(&texts[3])),
-        ("list", Formattable::iter(&list)),
-    ];
-    for format in EXACT {
-        let template = Template::parse(alloc, format)?;
-        let cost = template.cost(&Limits { text: 40, items: 3 });
-        let written = Pairs(&context).format_template(alloc, &template)?;
-        report.number(format, written.chars().count(), cost.characters);
-    }
-    Ok(())
-}
-
-/// Nested lists with a width each, the innermost of them displayed plainly.
-fn padded_lists(alloc: Global, depth: usize) -> Result<String, AllocError> {
-    let mut format = String::new(alloc);
-    for passed in 0..depth {
-        format.push_str("{:1i")?;
-        put_signs(&mut format, depth - 1 - passed)?;
-        format.push('(')?;
-    }
-    format.push_str("{:1i}")?;
-    for signs in 0..depth {
-        format.push(')')?;
-        put_signs(&mut format, signs)?;
-        format.push('}')?;
-    }
-    Ok(format)
-}
-
-/// Appends `count` signs.
-fn put_signs(format: &mut String, count: usize) -> Result<(), AllocError> {
-    for _ in 0..count {
-        format.push('#')?;
-    }
-    Ok(())
-}
-
-/// By hand: with two items at each of ten depths, 40 characters each, the text doubles ten times,
-/// to 40 * 2^10; the texts at all depths together have 40 * (2 + 4 + .. + 2^10) characters, and
-/// there are 2^11 - 1 pieces. With the greatest limits each count is the greatest number.
-fn lists_that_double(report: &mut Report) -> Result<(), Error> {
-    let format = padded_lists(report.alloc, 9)?;
-    let template = Template::parse(report.alloc, format.as_str())?;
-    let cost = template.cost(&Limits { text: 10, items: 2 });
-    check_cost(report, "ten lists of two", (40_960, 2_047, 81_840), cost);
-    let (text, items) = (usize::MAX, usize::MAX);
-    let cost = template.cost(&Limits { text, items });
-    check_cost(
-        report,
-        "ten lists without limits",
-        (usize::MAX, usize::MAX, usize::MAX),
-        cost,
-    );
-    Ok(())
-}
-
-/// By hand: two joins of 10,000 characters between three plain items of 40.
-fn long_joins(report: &mut Report) -> Result<(), Error> {
-    let mut format = String::new(report.alloc);
-    format.push_str("{l:i({})(")?;
-    for _ in 0..1_000 {
-        format.push_str("éxxxxxxxxx")?;
-    }
-    format.push_str(")}")?;
-    let template = Template::parse(report.alloc, format.as_str())?;
-    let cost = template.cost(&Limits { text: 10, items: 3 });
-    check_cost(report, "long joins", (20_120, 6, 0), cost);
     Ok(())
 }
 
@@ -204,16 +96,8 @@ fn counted(report: &mut Report) -> Result<(), Error> {
     written_counted::<Brand>(report, Blank::new(1))
 }
 
-pub fn run(report: &mut Report) {
+pub fn run(report: &mut Report) -> Result<(), Error> {
     report.begin("costs");
-    let answer = worked_costs(report);
-    report.done("worked costs", answer);
-    let answer = greatest_values(report);
-    report.done("the greatest values", answer);
-    let answer = lists_that_double(report);
-    report.done("lists that double", answer);
-    let answer = long_joins(report);
-    report.done("long joins", answer);
-    let answer = counted(report);
-    report.done("a counted template", answer);
+    worked_costs(report)?;
+    counted(report)
 }

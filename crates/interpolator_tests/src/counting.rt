@@ -2,6 +2,7 @@
 
 ghost use Rattle.interpolator_render.specs.Written.{as_writer};
 
+use crate::report::Report;
 use interpolator_render::{Refusal, TextBuffer, TextWrite};
 use std::alloc::Global;
 
@@ -10,7 +11,7 @@ use std::alloc::Global;
 pub struct Counting {
     inner: TextBuffer,
     pub calls: usize,
-    pub empty_calls: usize,
+    empty_calls: usize,
 }
 
 impl Counting {
@@ -22,8 +23,11 @@ impl Counting {
         }
     }
 
-    pub fn as_str(&self) -> &str {
-        self.inner.as_str()
+    /// Checks that this text was written, by at most `most` calls, none of them with an empty text.
+    pub fn check(&self, report: &mut Report, text: &str, most: usize) {
+        report.text("what few calls write", text, self.inner.as_str());
+        report.holds(text, self.calls <= most);
+        report.number(text, 0, self.empty_calls);
     }
 }
 

@@ -1,8 +1,8 @@
 //! Faults as a compiler shows them, lines and columns, and which argument a place belongs to.
 
+use crate::given::padded;
 use crate::report::Report;
 use interpolator::{Error, ParseError, Position, Source, Template, Trait, explain, explain_in};
-use std::alloc::{AllocError, Global};
 use std::fmt;
 
 /// A place, its line and its column in the text `a\né{x}\n\nb`, by hand.
@@ -35,21 +35,14 @@ fn arguments_at_places(report: &mut Report) -> Result<(), Error> {
     Ok(())
 }
 
-/// Checks that the fault of a format is shown in this way.
+/// Checks that the fault of a text is shown in this way.
 fn check_shown(report: &mut Report, text: &str, error: &Error, wanted: &str) {
     let told = explain(report.alloc, "f", text, error);
     report.made(text, (wanted, ""), told);
 }
 
-/// Worked by hand.
-fn faults_are_shown(report: &mut Report) {
-    check_shown(
-        report,
-        "Hello {name",
-        &Error::Parse(ParseError::FormatSpecUnclosed(7)),
-        "f:1:8: error while parsing input: Format spec at 7 is nether closed with a `}`\n  |\n\
-         1 | Hello {name\n  |       ^^^^^",
-    );
+/// Worked by hand: `é` has two bytes, and in its text it is on the second line.
+fn faults_are_shown(report: &mut Report) -> Result<(), Error> {
     check_shown(
         report,
         "{a:i({:?})}",
@@ -72,10 +65,6 @@ fn faults_are_shown(report: &mut Report) {
          1 | ab \n  |    ^",
     );
     check_shown(report, "x", &Error::NoMemory, "f: out of memory");
-}
-
-/// By hand: `é` has two bytes, and its line is the second.
-fn missing_name_is_shown(report: &mut Report) -> Result<(), Error> {
     let name = String::from_str(report.alloc, "q")?;
     check_shown(
         report,
@@ -102,46 +91,26 @@ fn line_of_a_file(report: &mut Report) {
     report.made("a line of a file", (wanted, ""), told);
 }
 
-/// A text with another text in it `count` times.
-fn with_copies(
-    alloc: Global,
-    front: &str,
-    copy: &str,
-    count: usize,
-    back: &str,
-) -> Result<String, AllocError> {
-    let mut text = String::from_str(alloc, front)?;
-    for _ in 0..count {
-        text.push_str(copy)?;
-    }
-    text.push_str(back)?;
-    Ok(text)
-}
-
 /// Of 132 characters the first 71 are left out: 60 are shown before the one at the place.
 fn long_line(report: &mut Report) -> Result<(), Error> {
     let alloc = report.alloc;
-    let text = with_copies(alloc, "", "a", 130, "{x")?;
-    let head =
-        "f:1:132: error while parsing input: Format spec at 131 is nether closed with a `}`\n";
-    let line = with_copies(alloc, "  |\n1 | ..", "a", 59, "{x\n")?;
-    let marks = with_copies(alloc, "  |   ", " ", 59, "^^")?;
+    let text = padded(alloc, ("", "a", 130, "{x"))?;
+    let shown = "a".repeat(alloc, 59)?;
+    let spaces = " ".repeat(alloc, 59)?;
+    let wanted = format!(in alloc;
+        "f:1:132: error while parsing input: Format spec at 131 is nether closed with a `}}`\n  |\n\
+         1 | ..{shown}{{x\n  |   {spaces}^^"
+    )?;
     let error = Error::Parse(ParseError::FormatSpecUnclosed(131));
-    let told = explain(alloc, "f", text.as_str(), &error);
-    let wanted = format!(in alloc; "{head}{line}{marks}")?;
-    report.made("a long line", (wanted.as_str(), ""), told);
+    check_shown(report, text.as_str(), &error, wanted.as_str());
     Ok(())
 }
 
-pub fn run(report: &mut Report) {
+pub fn run(report: &mut Report) -> Result<(), Error> {
     report.begin("explained");
     lines_and_columns(report);
-    let answer = arguments_at_places(report);
-    report.done("arguments at places", answer);
-    faults_are_shown(report);
-    let answer = missing_name_is_shown(report);
-    report.done("a missing name", answer);
+    arguments_at_places(report)?;
+    faults_are_shown(report)?;
     line_of_a_file(report);
-    let answer = long_line(report);
-    report.done("a long line", answer);
+    long_line(report)
 }

@@ -1,8 +1,8 @@
-//! A format or its template, for tables whose rows are written in both ways; and the names that a
-//! format uses.
+//! A format or its template: what both write and return.
 
-use interpolator::{Error, Interpolate, Pairs, Template, TextWrite};
-use std::alloc::Global;
+use crate::report::Report;
+use interpolator::{Error, Interpolate, Template, TextBuffer, TextWrite};
+use std::alloc::{AllocError, Global};
 
 /// A format, or its template.
 #[derive(Clone, Copy)]
@@ -11,29 +11,58 @@ pub enum Given<'a> {
     Template(&'a Template),
 }
 
-/// Writes it with pairs of numbers.
-pub fn write_given<W: TextWrite>(
+/// Writes it with the context.
+pub fn write_given<W: TextWrite, C: Interpolate>(
     alloc: Global,
     out: &mut W,
     given: Given<'_>,
-    pairs: Pairs<'_, u64>,
+    context: &C,
 ) -> Result<(), Error> {
     match given {
-        Given::Text(format) => pairs.write_to(alloc, out, format),
-        Given::Template(template) => pairs.write_template_to(alloc, out, template),
+        Given::Text(format) => context.write_to(alloc, out, format),
+        Given::Template(template) => context.write_template_to(alloc, out, template),
     }
 }
 
-/// Its text with pairs of numbers.
-pub fn format_given(
+/// Its text with the context.
+pub fn format_given<C: Interpolate>(
     alloc: Global,
     given: Given<'_>,
-    pairs: Pairs<'_, u64>,
+    context: &C,
 ) -> Result<String, Error> {
     match given {
-        Given::Text(format) => pairs.format(alloc, format),
-        Given::Template(template) => pairs.format_template(alloc, template),
+        Given::Text(format) => context.format(alloc, format),
+        Given::Template(template) => context.format_template(alloc, template),
     }
+}
+
+/// Checks that the format and its template both write and return this text or, in place of what is
+/// returned, this fault.
+pub fn gives<C: Interpolate>(
+    report: &mut Report,
+    context: &C,
+    format: &str,
+    wanted: (&str, &str),
+) -> Result<(), Error> {
+    let alloc = report.alloc;
+    let template = Template::parse(alloc, format)?;
+    for given in [Given::Text(format), Given::Template(&template)] {
+        let mut out = TextBuffer::new(alloc);
+        let answer = write_given(alloc, &mut out, given, context);
+        report.written(format, wanted, out.as_str(), answer);
+        report.made(format, wanted, format_given(alloc, given, context));
+    }
+    Ok(())
+}
+
+/// A text that is padded: what is in front, a part, how often the part is repeated, and the end.
+pub type Padded<'a> = (&'a str, &'a str, usize, &'a str);
+
+/// The padded text.
+pub fn padded(alloc: Global, parts: Padded<'_>) -> Result<String, AllocError> {
+    let (front, part, count, end) = parts;
+    let middle = part.repeat(alloc, count)?;
+    format!(in alloc; "{front}{middle}{end}")
 }
 
 /// The template of a format. If memory is refused, this tries once more.
@@ -42,17 +71,4 @@ pub fn parsed(alloc: Global, format: &str) -> Result<Template, Error> {
         Err(Error::NoMemory) => Template::parse(alloc, format),
         answer => answer,
     }
-}
-
-/// Whether the names are these, in order.
-pub fn are_names(names: &[String], wanted: &[&str]) -> bool {
-    if names.len() != wanted.len() {
-        return false;
-    }
-    for (name, one) in names.iter().zip(wanted) {
-        if name.as_str() != *one {
-            return false;
-        }
-    }
-    true
 }

@@ -1,8 +1,9 @@
 //! A writer on top of a writer of bytes: what it passes on, and when it refuses.
 
+use crate::given::padded;
 use crate::report::Report;
-use interpolator::{IoWriter, TextWrite};
-use std::alloc::{AllocError, Global};
+use interpolator::{Error, IoWriter, TextWrite};
+use std::alloc::Global;
 use std::io;
 
 /// A writer of bytes that keeps what it gets, and fails once.
@@ -70,52 +71,28 @@ fn fails_as(flushed: io::Result<()>, kind: io::ErrorKind) -> bool {
     }
 }
 
-/// A text of copies of one letter.
-fn letters(alloc: Global, letter: char, count: usize) -> Result<String, AllocError> {
-    let mut text = String::new(alloc);
-    for _ in 0..count {
-        text.push(letter)?;
-    }
-    Ok(text)
-}
-
-/// Writes a text, and appends it to `taken` if it was taken.
-fn write(out: &mut IoWriter<Spy>, taken: &mut String, text: &str) -> bool {
-    out.write_str(text).is_ok() && taken.push_str(text).is_ok()
-}
-
 /// Checks that the writer below has got `count` bytes, a prefix of the text taken.
 fn holds_prefix(report: &mut Report, what: &str, below: &Spy, taken: &str, count: usize) {
     report.number(what, count, below.got.len());
     report.holds(what, taken.as_bytes().starts_with(below.got.as_slice()));
 }
 
-/// 2,000 times six bytes, which is more than is gathered at once.
-fn all_is_passed_on(report: &mut Report) {
-    let mut out = IoWriter::new(report.alloc, Vec::new(report.alloc));
-    for _ in 0..2_000 {
-        let _ = out.write_str("naïve");
-    }
-    report.holds("the last is taken", out.write_char('é').is_ok());
-    report.holds("all is passed on", out.flush().is_ok());
-    let bytes = out.into_inner();
-    report.number("the bytes", 12_002, bytes.len());
-    let last = bytes.as_slice().ends_with("naïveé".as_bytes());
-    report.holds("the last bytes", last);
-}
-
-/// A text of more bytes than are gathered at once, between short ones.
-fn long_text(report: &mut Report) {
-    let Ok(long) = letters(report.alloc, 'x', 9_000) else {
-        return report.holds("memory for a long text", false);
-    };
+/// 2,000 times six bytes, and a text, which are more than is gathered at once.
+fn long_text(report: &mut Report) -> Result<(), Error> {
+    let long = "x".repeat(report.alloc, 9_000)?;
     let mut out = IoWriter::new(report.alloc, Spy::new(report.alloc, 1_000));
-    let mut taken = String::new(report.alloc);
-    report.holds("a short text", write(&mut out, &mut taken, "é"));
-    report.holds("a long one", write(&mut out, &mut taken, long.as_str()));
-    report.holds("a short one", write(&mut out, &mut taken, "é"));
+    let mut is_taken = true;
+    for _ in 0..2_000 {
+        is_taken = out.write_str("naïve").is_ok() && is_taken;
+    }
+    report.holds("short texts", is_taken);
+    report.holds("a long one", out.write_str(long.as_str()).is_ok());
+    report.holds("a character", out.write_char('é').is_ok());
     report.holds("all is passed on", out.flush().is_ok());
-    holds_prefix(report, "long", &out.into_inner(), taken.as_str(), 9_004);
+    let text = padded(report.alloc, ("", "naïve", 2_000, long.as_str()))?;
+    let text = padded(report.alloc, (text.as_str(), "é", 1, ""))?;
+    holds_prefix(report, "long", &out.into_inner(), text.as_str(), 21_002);
+    Ok(())
 }
 
 /// Each flush reaches the writer below.
@@ -183,77 +160,13 @@ fn interrupted_write(report: &mut Report) {
     holds_prefix(report, "interrupted", &below, "text", 4);
 }
 
-/// Records after a failure between two flushes.
-fn records_after_a_failure(report: &mut Report) {
-    let mut out = IoWriter::new(report.alloc, Spy::failing(report.alloc, 3, 2));
-    let mut taken = String::new(report.alloc);
-    for _ in 0..2_000 {
-        let _ = write(&mut out, &mut taken, "abcdefghij");
-    }
-    report.holds("the flush fails", out.flush().is_err());
-    report.number("the text taken", 8_190, taken.len());
-    holds_prefix(report, "records", &out.into_inner(), taken.as_str(), 3);
-}
-
-/// A text of `count` letters after a flush that failed.
-fn text_after_a_failure(report: &mut Report, most: usize, first: &str, count: usize) {
-    let Ok(second) = letters(report.alloc, 'b', count) else {
-        return report.holds("memory for a text", false);
-    };
-    let mut out = IoWriter::new(report.alloc, Spy::failing(report.alloc, most, 2));
-    let mut taken = String::new(report.alloc);
-    report.holds("it is gathered", write(&mut out, &mut taken, first));
-    report.holds("the flush fails", out.flush().is_err());
-    report.holds(
-        "the next is refused",
-        out.write_str(second.as_str()).is_err(),
-    );
-    report.holds("the next flush fails", out.flush().is_err());
-    holds_prefix(report, "after", &out.into_inner(), taken.as_str(), most);
-}
-
-/// Writes ten records of 900 bytes, and flushes.
-fn write_ten(out: &mut IoWriter<Spy>, taken: &mut String, names: &str) -> Result<bool, AllocError> {
-    let alloc = *taken.allocator();
-    for name in names.chars() {
-        let record = letters(alloc, name, 900)?;
-        let _ = write(out, taken, record.as_str());
-    }
-    Ok(out.flush().is_ok())
-}
-
-/// Two times ten records, which make twenty writes below, of which the nth fails: the writes before
-/// it are passed on, and nothing is passed on after it.
-fn failure_at(report: &mut Report, nth: usize) {
-    let mut out = IoWriter::new(report.alloc, Spy::failing(report.alloc, 1_000, nth));
-    let mut taken = String::new(report.alloc);
-    let first = write_ten(&mut out, &mut taken, "abcdefghij");
-    let second = write_ten(&mut out, &mut taken, "klmnopqrst");
-    report.holds("the first flush", first == Ok(nth > 10));
-    report.holds("the second flush", second == Ok(nth > 20));
-    report.holds("the flag", out.refused() == (nth <= 20));
-    let below = out.into_inner();
-    report.number("the writes", nth.min(20), below.writes);
-    report.holds(
-        "a prefix",
-        taken.as_bytes().starts_with(below.got.as_slice()),
-    );
-    report.holds("all of it", nth <= 20 || below.got.len() == 18_000);
-}
-
-pub fn run(report: &mut Report) {
+pub fn run(report: &mut Report) -> Result<(), Error> {
     report.begin("io writers");
-    all_is_passed_on(report);
-    long_text(report);
+    long_text(report)?;
     flushed_twice(report);
     failed_flush(report);
     failed_write(report);
     nothing_taken(report);
     interrupted_write(report);
-    records_after_a_failure(report);
-    text_after_a_failure(report, 3, "abcdef", 9_000);
-    text_after_a_failure(report, 1, "aaa", 8_190);
-    for nth in 1..22 {
-        failure_at(report, nth);
-    }
+    Ok(())
 }

@@ -1,16 +1,13 @@
 //! Long values, and many arguments and items, by hand: each result is exact, and no size is too
 //! great.
 
-mod lists;
-
 use crate::counting::Counting;
-use crate::given::are_names;
+use crate::given::gives;
 use crate::report::Report;
 use interpolator::{
     ContextMap, Error, Formattable, Interpolate, Pairs, Template, TextBuffer, TextWrite, View,
     check, items_of, rows_of,
 };
-use std::alloc::{AllocError, Global};
 
 /// A value of a million letters is written by one call.
 fn a_long_value(report: &mut Report) -> Result<(), Error> {
@@ -18,147 +15,86 @@ fn a_long_value(report: &mut Report) -> Result<(), Error> {
     let view = View::Text(long.as_str());
     let context = Pairs(&[("t", Formattable::display(&view))]);
     let mut out = Counting::new(report.alloc);
-    let answer = context.write_to(report.alloc, &mut out, "{t}");
-    report.written("a long value", (long.as_str(), ""), out.as_str(), answer);
-    report.number("calls of a long value", 1, out.calls);
+    context.write_to(report.alloc, &mut out, "{t}")?;
+    out.check(report, long.as_str(), 1);
     Ok(())
 }
 
-/// How many arguments, items or rows there are.
+/// How many arguments, or rows, there are.
 const MANY: usize = 5_000;
 
-/// The texts `0`, `1` and so on, `count` of them.
-fn counted(alloc: Global, count: usize) -> Result<Vec<String>, AllocError> {
-    let mut texts = Vec::new(alloc);
-    for number in 0..count {
-        texts.push(format!(in alloc; "{number}")?)?;
-    }
-    Ok(texts)
-}
-
-/// The texts in braces, one after the other.
-fn in_braces(alloc: Global, texts: &[String]) -> Result<String, AllocError> {
-    let mut format = String::new(alloc);
-    for text in texts {
-        format.push('{')?;
-        format.push_str(text.as_str())?;
-        format.push('}')?;
-    }
-    Ok(format)
-}
-
-/// Checks that the names of the arguments are these, and so are the slices of the format at their
-/// places.
-fn asks(report: &mut Report, template: &Template, texts: &[String]) -> Result<(), Error> {
-    let alloc = report.alloc;
-    let mut wanted = Vec::new(alloc);
-    for text in texts {
-        wanted.push(text.as_str())?;
-    }
-    report.holds("many names", are_names(&template.names(alloc)?, &wanted));
-    let arguments = template.arguments(alloc)?;
-    report.number("many arguments", wanted.len(), arguments.len());
-    let mut place: usize = 1;
-    for (argument, name) in arguments.iter().zip(&wanted) {
-        report.text("an argument of many", name, argument.name);
-        report.number("its place", place, argument.name_place);
-        place = place.saturating_add(name.len()).saturating_add(2);
-    }
-    Ok(())
-}
-
-/// Checks that the format and its template have this fault, found without any values.
-fn checks(report: &mut Report, format: &str, texts: &[String], fault: &str) -> Result<(), Error> {
-    report.fault("the check of many", fault, check(report.alloc, format));
-    let template = Template::parse(report.alloc, format)?;
-    report.fault("the check of their template", fault, template.check());
-    asks(report, &template, texts)
-}
-
-/// Thousands of arguments: by hand, the fault is at the `y` of the last one, 3 bytes after its `{`.
+/// Thousands of arguments of three bytes each. By hand, the fault is at the `y` of the last one, 3
+/// bytes after its `{`.
 fn many_arguments(report: &mut Report) -> Result<(), Error> {
     let alloc = report.alloc;
-    let texts = counted(alloc, MANY)?;
-    let format = in_braces(alloc, &texts)?;
-    checks(report, format.as_str(), &texts, "")?;
-    let place = format.len().saturating_add(3);
-    let fault = format!(in alloc; "Parse(Expected(\"}}\", {place}))")?;
+    let format = "{x}".repeat(alloc, MANY)?;
+    let text = "7".repeat(alloc, MANY)?;
+    let pairs = Pairs(&[("x", Formattable::display(&7u64))]);
+    gives(report, &pairs, format.as_str(), (text.as_str(), ""))?;
+    let template = Template::parse(alloc, format.as_str())?;
+    report.fault("the check of many", "", template.check());
+    report.number("many names", MANY, template.names(alloc)?.len());
+    report.number("many arguments", MANY, template.arguments(alloc)?.len());
     let broken = format!(in alloc; "{format}{{x:y}}")?;
-    checks(report, broken.as_str(), &texts, fault.as_str())
-}
-
-/// The texts, with `join` between each two.
-fn joined(alloc: Global, texts: &[String], join: &str) -> Result<String, AllocError> {
-    let mut all = String::new(alloc);
-    for text in texts {
-        if !all.is_empty() {
-            all.push_str(join)?;
-        }
-        all.push_str(text.as_str())?;
-    }
-    Ok(all)
-}
-
-/// The output with the texts as the items of a list.
-fn of_items(alloc: Global, texts: &[String]) -> Result<String, Error> {
-    let items = items_of(alloc, texts)?;
-    let mut map = ContextMap::new(alloc);
-    map.put("l", Formattable::iter(&items))?;
-    map.format(alloc, "{l:i({})(,)}")
-}
-
-/// The output with the texts as rows of one item each.
-fn of_rows(alloc: Global, texts: &[String]) -> Result<String, Error> {
-    let mut ends = Vec::new(alloc);
-    for place in 1..=texts.len() {
-        ends.push(place)?;
-    }
-    let items = items_of(alloc, texts)?;
-    let rows = rows_of(alloc, &items, &ends)?;
-    let mut map = ContextMap::new(alloc);
-    map.put("r", Formattable::iter(&rows))?;
-    map.format(alloc, "{r:i#({:i})#(;)}")
-}
-
-/// Thousands of items, and as many rows.
-fn many_items(report: &mut Report) -> Result<(), Error> {
-    let alloc = report.alloc;
-    let texts = counted(alloc, MANY)?;
-    let text = joined(alloc, &texts, ",")?;
-    report.made("many items", (text.as_str(), ""), of_items(alloc, &texts));
-    let text = joined(alloc, &texts, ";")?;
-    report.made("many rows", (text.as_str(), ""), of_rows(alloc, &texts));
+    let fault = "Parse(Expected(\"}\", 15003))";
+    report.fault("a fault after many", fault, check(alloc, broken.as_str()));
     Ok(())
+}
+
+/// How many times the ten digits are in the lists.
+const TIMES: usize = 10_000;
+
+/// A hundred thousand items, without a width and with one.
+fn many_items(report: &mut Report, digits: &[char], text: &str) -> Result<(), Error> {
+    let items = items_of(report.alloc, digits)?;
+    let mut map = ContextMap::new(report.alloc);
+    map.put("l", Formattable::iter(&items))?;
+    gives(report, &map, "{l:i}", (text, ""))?;
+    let text = format!(in report.alloc; "   {text}")?;
+    gives(report, &map, "{l:>100003i}", (text.as_str(), ""))
+}
+
+/// Thousands of rows of twenty items each.
+fn many_rows(report: &mut Report, digits: &[char], text: &str) -> Result<(), Error> {
+    let mut ends = Vec::new(report.alloc);
+    for row in 1..=MANY {
+        ends.push(row.saturating_mul(20))?;
+    }
+    let items = items_of(report.alloc, digits)?;
+    let rows = rows_of(report.alloc, &items, &ends)?;
+    let mut map = ContextMap::new(report.alloc);
+    map.put("r", Formattable::iter(&rows))?;
+    gives(report, &map, "{r:i#({:i})#}", (text, ""))
+}
+
+/// Lists of many digits.
+fn many_digits(report: &mut Report) -> Result<(), Error> {
+    let text = "0123456789".repeat(report.alloc, TIMES)?;
+    let digits = text.chars().collect::<Vec<char>>(report.alloc)?;
+    many_items(report, &digits, text.as_str())?;
+    many_rows(report, &digits, text.as_str())
 }
 
 /// A buffer grows as often as is needed, by characters and by texts, even if it began with a text.
 fn a_buffer(report: &mut Report) -> Result<(), Error> {
     let alloc = report.alloc;
     let mut out = TextBuffer::from_string(String::from_str(alloc, "<")?);
+    let mut is_taken = true;
     for _ in 0..20_000 {
-        report.holds("a character more", out.write_char('é').is_ok());
-        report.holds("a text more", out.write_str("ab").is_ok());
+        is_taken = out.write_char('é').is_ok() && out.write_str("ab").is_ok() && is_taken;
     }
+    report.holds("everything is taken", is_taken);
+    report.holds("it refuses nothing", !out.refused());
     let text = "éab".repeat(alloc, 20_000)?;
     let text = format!(in alloc; "<{text}")?;
     report.text("a buffer that grew", text.as_str(), out.as_str());
-    report.holds("it refuses nothing", !out.refused());
-    let mut out = TextBuffer::new(alloc);
-    report.holds("a long text", out.write_str(text.as_str()).is_ok());
-    report.text("a buffer of a long text", text.as_str(), out.as_str());
     Ok(())
 }
 
-pub fn run(report: &mut Report) {
+pub fn run(report: &mut Report) -> Result<(), Error> {
     report.begin("long");
-    let answer = a_long_value(report);
-    report.done("a long value", answer);
-    let answer = many_arguments(report);
-    report.done("many arguments", answer);
-    let answer = many_items(report);
-    report.done("many items", answer);
-    let answer = a_buffer(report);
-    report.done("a buffer", answer);
-    let answer = lists::run(report);
-    report.done("long lists", answer);
+    a_long_value(report)?;
+    many_arguments(report)?;
+    many_digits(report)?;
+    a_buffer(report)
 }

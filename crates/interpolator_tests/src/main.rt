@@ -7,7 +7,6 @@
 //! could not be written.
 #![tactic(auto)]
 
-mod bounded;
 mod contexts;
 mod costs;
 mod counting;
@@ -23,41 +22,36 @@ mod own;
 mod prepared;
 mod render;
 mod report;
-mod samples;
 mod templates;
 mod values;
 mod writers;
 
+use interpolator::Error;
 use report::Report;
 use std::process::ExitCode;
 use std::{env, io};
 
 /// All groups but that of refused memory.
-fn run_others(report: &mut Report) {
-    bounded::run(report);
-    contexts::run(report);
-    costs::run(report);
-    depth::run(report);
-    explained::run(report);
-    faults::run(report);
-    io_writers::run(report);
-    long::run(report);
-    maps::run(report);
-    prepared::run(report);
-    render::run(report);
-    samples::run(report);
-    templates::run(report);
-    values::run(report);
-    writers::run(report);
+fn run_others(report: &mut Report) -> Result<(), Error> {
+    contexts::run(report)?;
+    costs::run(report)?;
+    depth::run(report)?;
+    explained::run(report)?;
+    faults::run(report)?;
+    io_writers::run(report)?;
+    long::run(report)?;
+    maps::run(report)?;
+    prepared::run(report)?;
+    render::run(report)?;
+    templates::run(report)?;
+    values::run(report)?;
+    writers::run(report)
 }
 
 /// Runs the group of refused memory, and the others too if `is_all`.
-fn run_asked(report: &mut Report, is_all: bool) {
-    memory::run(report);
-    if is_all {
-        run_others(report);
-    }
-    report.end();
+fn run_asked(report: &mut Report, is_all: bool) -> Result<(), Error> {
+    memory::run(report)?;
+    if is_all { run_others(report) } else { Ok(()) }
 }
 
 /// Whether everything was run; prints the report.
@@ -66,7 +60,8 @@ fn told(rt: &HostRuntime) -> io::Result<bool> {
     let Ok(mut report) = Report::new(rt.alloc()) else {
         return Ok(false);
     };
-    run_asked(&mut report, is_all);
+    let answer = run_asked(&mut report, is_all);
+    report.done(answer);
     rt.print(report.told.as_str())?;
     Ok(!report.wants_memory)
 }

@@ -6,19 +6,13 @@
 mod lists;
 mod loaded;
 mod names;
-mod templates;
 
 use crate::report::Report;
 use interpolator::Error;
 
-pub fn run(report: &mut Report) {
+pub fn run(report: &mut Report) -> Result<(), Error> {
     report.begin("memory");
-    let answer = lists::run(report);
-    report.done("lists", answer);
-    let answer = loaded::run(report);
-    report.done("loaded", answer);
-    let answer = names::run(report);
-    report.done("names", answer.map_err(Error::from));
-    let answer = templates::run(report);
-    report.done("templates", answer);
+    lists::run(report)?;
+    loaded::run(report)?;
+    names::run(report)
 }

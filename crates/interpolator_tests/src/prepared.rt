@@ -62,29 +62,6 @@ fn rows_are_written(report: &mut Report) -> Result<(), Error> {
     Ok(())
 }
 
-/// By hand: a prepared format is the same after a refusal, and with another row.
-fn used_again(report: &mut Report) -> Result<(), Error> {
-    let alloc = report.alloc;
-    let row = [Formattable::display(&1u32), Formattable::display(&2u32)];
-    let turned = [Formattable::display(&2u32), Formattable::display(&1u32)];
-    let pairs = [
-        ("a", Formattable::display(&1u32)),
-        ("b", Formattable::display(&2u32)),
-    ];
-    let template = Template::parse(alloc, "{{{a}}}{b}")?;
-    let prepared = template.prepare(alloc, &Pairs(&pairs))?;
-    let mut none = Bounded::new(alloc, 0);
-    let answer = prepared.write(alloc, &mut none, &Row(&row));
-    report.fault("no room", "Fmt(Error, 0)", answer);
-    let text = prepared.format(alloc, &Row(&row));
-    report.made("a row", ("{1}2", ""), text);
-    let text = prepared.format(alloc, &Row(&turned));
-    report.made("another row", ("{2}1", ""), text);
-    report.text("its text", "{{{a}}}{b}", prepared.text());
-    report.number("its names", 2, prepared.names().len());
-    Ok(())
-}
-
 /// By hand: text between two arguments is written by one call, although a format that is not
 /// prepared is written brace by brace. So this shows that the prepared steps are run.
 fn joined_text_is_one_call(report: &mut Report) -> Result<(), Error> {
@@ -94,18 +71,13 @@ fn joined_text_is_one_call(report: &mut Report) -> Result<(), Error> {
     let template = Template::parse(alloc, "a{{b{x}}}c")?;
     let prepared = template.prepare(alloc, &Pairs(&pairs))?;
     let mut out = Counting::new(alloc);
-    let answer = prepared.write(alloc, &mut out, &Row(&row));
-    report.written("joined text", ("a{b7}c", ""), out.as_str(), answer);
-    report.number("calls for joined text", 3, out.calls);
+    prepared.write(alloc, &mut out, &Row(&row))?;
+    out.check(report, "a{b7}c", 3);
     Ok(())
 }
 
-pub fn run(report: &mut Report) {
+pub fn run(report: &mut Report) -> Result<(), Error> {
     report.begin("prepared");
-    let answer = rows_are_written(report);
-    report.done("rows", answer);
-    let answer = used_again(report);
-    report.done("used again", answer);
-    let answer = joined_text_is_one_call(report);
-    report.done("joined text", answer);
+    rows_are_written(report)?;
+    joined_text_is_one_call(report)
 }

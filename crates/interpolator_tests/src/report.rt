@@ -3,11 +3,8 @@
 use interpolator::Error;
 use std::alloc::{AllocError, Global};
 
-/// The room for the report, so that reporting takes no memory: more bytes than all groups need.
+/// More bytes than all groups report, so that the report itself never grows.
 const ROOM: usize = 4_000;
-
-/// The most characters of a text that are reported.
-const MOST: usize = 200;
 
 /// The report of the checks.
 #[derive(Drop)]
@@ -23,15 +20,6 @@ pub struct Report {
     failed: usize,
 }
 
-/// The first characters of a text.
-fn front(alloc: Global, text: &str) -> Result<String, AllocError> {
-    let mut front = String::new(alloc);
-    for c in text.chars().take(MOST) {
-        front.push(c)?;
-    }
-    Ok(front)
-}
-
 impl Report {
     pub fn new(alloc: Global) -> Result<Report, AllocError> {
         Ok(Report {
@@ -44,26 +32,14 @@ impl Report {
         })
     }
 
-    /// Reports a text.
-    fn say(&mut self, text: &str) {
-        if self.told.push_str(text).is_err() {
+    /// Reports a line, if there was memory for it.
+    fn say(&mut self, line: Result<String, AllocError>) {
+        let Ok(line) = line else {
             self.wants_memory = true;
-        }
-    }
-
-    /// Reports the first characters of a text, if there is memory for them.
-    fn say_front(&mut self, text: &str) {
-        match front(self.alloc, text) {
-            Ok(front) => self.say(front.as_str()),
-            Err(_) => self.wants_memory = true,
-        }
-    }
-
-    /// Reports a number.
-    fn say_number(&mut self, number: usize) {
-        match format!(in self.alloc; "{number}") {
-            Ok(text) => self.say(text.as_str()),
-            Err(_) => self.wants_memory = true,
+            return;
+        };
+        if self.told.push_str(line.as_str()).is_err() {
+            self.wants_memory = true;
         }
     }
 
@@ -76,15 +52,24 @@ impl Report {
     }
 
     /// Ends the group: reports how many checks it has, and how many fail.
-    pub fn end(&mut self) {
+    fn end(&mut self) {
         if self.checks > 0 {
-            self.say(self.group);
-            self.say(": ");
-            self.say_number(self.checks);
-            self.say(" checks, ");
-            self.say_number(self.failed);
-            self.say(" fail\n");
+            let line = format!(in self.alloc;
+                "{}: {} checks, {} fail\n",
+                self.group, self.checks, self.failed
+            );
+            self.say(line);
         }
+    }
+
+    /// Ends the report. A fault that ended a group early is a failed check of it.
+    pub fn done(&mut self, answer: Result<(), Error>) {
+        match answer {
+            Ok(()) => {}
+            Err(Error::NoMemory) => self.wants_memory = true,
+            Err(error) => self.error("its end", "", &error),
+        }
+        self.end();
     }
 
     /// Counts a check, which holds or fails.
@@ -95,28 +80,13 @@ impl Report {
         }
     }
 
-    /// Names the check that the next words are about.
-    fn say_check(&mut self, what: &str) {
-        self.say(self.group);
-        self.say(": ");
-        self.say_front(what);
-    }
-
     /// Checks that this holds.
     pub fn holds(&mut self, what: &str, holds: bool) {
         self.count(holds);
         if !holds {
-            self.say_check(what);
-            self.say(": does not hold\n");
-        }
-    }
-
-    /// Checks that this part of the group came to its end.
-    pub fn done(&mut self, what: &str, answer: Result<(), Error>) {
-        match answer {
-            Ok(()) => {}
-            Err(Error::NoMemory) => self.wants_memory = true,
-            Err(error) => self.error(what, "", &error),
+            let group = self.group;
+            let line = format!(in self.alloc; "{group}: {what:.200}: does not hold\n");
+            self.say(line);
         }
     }
 
@@ -132,12 +102,11 @@ impl Report {
     pub fn number(&mut self, what: &str, wanted: usize, came: usize) {
         self.count(wanted == came);
         if wanted != came {
-            self.say_check(what);
-            self.say(": wanted ");
-            self.say_number(wanted);
-            self.say(", came ");
-            self.say_number(came);
-            self.say("\n");
+            let group = self.group;
+            let line = format!(in self.alloc;
+                "{group}: {what:.200}: wanted {wanted}, came {came}\n"
+            );
+            self.say(line);
         }
     }
 
@@ -145,12 +114,11 @@ impl Report {
     pub fn text(&mut self, what: &str, wanted: &str, came: &str) {
         self.count(wanted == came);
         if wanted != came {
-            self.say_check(what);
-            self.say("\n  wanted ");
-            self.say_front(wanted);
-            self.say("\n  came   ");
-            self.say_front(came);
-            self.say("\n");
+            let group = self.group;
+            let line = format!(in self.alloc;
+                "{group}: {what:.200}\n  wanted {wanted:.200}\n  came   {came:.200}\n"
+            );
+            self.say(line);
         }
     }
 
@@ -185,13 +153,9 @@ impl Report {
 
     /// Checks that this text was returned, or else this fault.
     pub fn made(&mut self, what: &str, wanted: (&str, &str), made: Result<String, Error>) {
-        let (wanted, fault) = wanted;
         match made {
-            Ok(text) => {
-                self.text(what, "", fault);
-                self.text(what, wanted, text.as_str());
-            }
-            Err(error) => self.error(what, fault, &error),
+            Ok(text) => self.written(what, wanted, text.as_str(), Ok(())),
+            Err(error) => self.error(what, wanted.1, &error),
         }
     }
 }

@@ -1,8 +1,8 @@
 //! What templates report of their arguments, and a law whose body is worth running.
 
 use crate::report::Report;
-use interpolator_laws::templates::rest_of_the_pieces_is_written;
 use interpolator::{Argument, Error, Formattable, Kind, Pairs, Range, Template, TextBuffer, Trait};
+use interpolator_laws::templates::rest_of_the_pieces_is_written;
 
 /// Worked by hand: of the three pieces `a`, `{x}` and `b`, the output of those after the first 0,
 /// 1, 2 and so on, with 1 under `x`.
@@ -63,10 +63,8 @@ fn arguments(report: &mut Report) -> Result<(), Error> {
     Ok(())
 }
 
-pub fn run(report: &mut Report) {
+pub fn run(report: &mut Report) -> Result<(), Error> {
     report.begin("templates");
-    let answer = tails(report);
-    report.done("tails", answer);
-    let answer = arguments(report);
-    report.done("arguments", answer);
+    tails(report)?;
+    arguments(report)
 }

@@ -5,7 +5,7 @@ ghost use Rattle.std.specs.Prelude.{Some};
 ghost use Rattle.interpolator_render.specs.Bounds.{bounded_writer, bytes_left};
 
 use crate::counting::Counting;
-use crate::given::{Given, write_given};
+use crate::given::{Given, Padded, padded, write_given};
 use crate::report::Report;
 use interpolator::{
     Bounded, Error, Formattable, Interpolate, Pairs, Refusal, Template, TextBuffer, TextWrite,
@@ -57,6 +57,28 @@ impl TextWrite for Telling {
     }
 }
 
+/// Whether nothing was taken.
+fn is_refused(answer: Result<(), Refusal>) -> bool {
+    matches!(answer, Err(Refusal { taken: 0 }))
+}
+
+/// A bounded writer by itself. After a refusal, a text that would fit is refused too: `ï` has 2
+/// bytes.
+fn bounded(report: &mut Report) {
+    let mut out = Bounded::new(report.alloc, 5);
+    report.number("the room of five", 5, out.left());
+    report.holds("ab is taken", out.write_str("ab").is_ok());
+    report.holds("the room after ab", out.room() == Some(3));
+    report.holds("ï is taken", out.write_char('ï').is_ok());
+    report.number("what is left after ï", 1, out.left());
+    report.holds("ï does not fit", is_refused(out.write_char('ï')));
+    report.holds("nor does a letter then", is_refused(out.write_str("a")));
+    report.holds("the empty text is taken", out.write_str("").is_ok());
+    report.holds("it has refused", out.refused());
+    report.number("what is left then", 0, out.left());
+    report.text("its text", "abï", out.into_string().as_str());
+}
+
 /// There is no memory for this many spaces, whatever the system says of its memory.
 fn great_widths(report: &mut Report) {
     let alloc = report.alloc;
@@ -78,72 +100,53 @@ const ASKED: [(&str, usize); 4] = [
 ];
 
 /// Room is reserved before a long padding.
-fn asked_room(report: &mut Report) {
+fn asked_room(report: &mut Report) -> Result<(), Error> {
     let pairs = Pairs(&[("v", Formattable::display(&7u64))]);
     for (text, asked) in &ASKED {
         let mut out = Telling::new(report.alloc, usize::MAX);
-        let answer = pairs.write_to(report.alloc, &mut out, text);
-        report.done(text, answer);
+        pairs.write_to(report.alloc, &mut out, text)?;
         report.number(text, *asked, out.asked);
     }
+    Ok(())
 }
 
-/// A format with 7 under `v`; its output, as a front, a part, how often the part is repeated, and
-/// an end; and the most calls that the writer may get: one for each part, and for padding one for
-/// each 64 characters or fewer.
-struct Counted<'a> {
-    format: &'a str,
-    front: &'a str,
-    part: &'a str,
-    count: usize,
-    end: &'a str,
-    most: usize,
-}
-
-/// Worked by hand from the rules of pieces and of padding in docs/DEFINITIONS.md.
+/// A format with 7 under `v`, its output, and the most calls that the writer may get: one for each
+/// part, and for padding one for each 64 characters or fewer. Worked by hand from the rules of
+/// pieces and of padding in docs/DEFINITIONS.md.
 #[rattlefmt::skip]
-const BY_CALLS: [Counted<'static>; 8] = [
-    Counted { format: "{{", front: "{", part: "", count: 0, end: "", most: 1 },
-    Counted { format: "}}", front: "}", part: "", count: 0, end: "", most: 1 },
-    Counted { format: "}", front: "}", part: "", count: 0, end: "", most: 1 },
-    Counted { format: "ab{{cd}}", front: "ab{cd}", part: "", count: 0, end: "", most: 4 },
-    Counted { format: "{v}", front: "7", part: "", count: 0, end: "", most: 1 },
-    Counted { format: "{v:1001}", front: "", part: " ", count: 1000, end: "7", most: 17 },
-    Counted { format: "{v:é>1001}", front: "", part: "é", count: 1000, end: "7", most: 17 },
-    Counted { format: "<{v:-<1001}>", front: "<7", part: "-", count: 1000, end: ">", most: 19 },
+const BY_CALLS: [(&str, Padded<'static>, usize); 9] = [
+    ("{{", ("{", "", 0, ""), 1),
+    ("}}", ("}", "", 0, ""), 1),
+    ("}", ("}", "", 0, ""), 1),
+    ("ab{{cd}}", ("ab{cd}", "", 0, ""), 4),
+    ("a text of some words", ("a text of some words", "", 0, ""), 1),
+    ("{v}", ("7", "", 0, ""), 1),
+    ("{v:1001}", ("", " ", 1000, "7"), 17),
+    ("{v:é>1001}", ("", "é", 1000, "7"), 17),
+    ("<{v:-<1001}>", ("<7", "-", 1000, ">"), 19),
 ];
 
-/// With 7 under `v`, the text is written by at most `most` calls, none of them with an empty text.
+/// The format and its template are each written by few calls.
 fn is_written_by(report: &mut Report, format: &str, text: &str, most: usize) -> Result<(), Error> {
     let alloc = report.alloc;
     let template = Template::parse(alloc, format)?;
     for given in [Given::Text(format), Given::Template(&template)] {
         let mut out = Counting::new(alloc);
         let pairs = Pairs(&[("v", Formattable::display(&7u64))]);
-        let answer = write_given(alloc, &mut out, given, pairs);
-        report.written(format, (text, ""), out.as_str(), answer);
-        report.holds(format, out.calls <= most);
-        report.number(format, 0, out.empty_calls);
+        write_given(alloc, &mut out, given, &pairs)?;
+        out.check(report, text, most);
     }
     Ok(())
 }
 
-/// Texts are written by few calls.
-fn few_calls(report: &mut Report) -> Result<(), Error> {
-    let alloc = report.alloc;
-    for row in &BY_CALLS {
-        let middle = row.part.repeat(alloc, row.count)?;
-        let text = format!(in alloc; "{}{middle}{}", row.front, row.end)?;
-        is_written_by(report, row.format, text.as_str(), row.most)?;
-    }
-    let text = "a".repeat(alloc, 1000)?;
-    is_written_by(report, text.as_str(), text.as_str(), 1)
-}
-
-pub fn run(report: &mut Report) {
+pub fn run(report: &mut Report) -> Result<(), Error> {
     report.begin("writers");
+    bounded(report);
     great_widths(report);
-    asked_room(report);
-    let answer = few_calls(report);
-    report.done("few calls", answer);
+    asked_room(report)?;
+    for (format, parts, most) in BY_CALLS {
+        let text = padded(report.alloc, parts)?;
+        is_written_by(report, format, text.as_str(), most)?;
+    }
+    Ok(())
 }

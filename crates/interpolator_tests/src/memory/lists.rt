@@ -57,7 +57,7 @@ fn is_written(
         return false;
     };
     let mut out = TextBuffer::from_string(room);
-    let answer = write_given(report.alloc, &mut out, given, pairs);
+    let answer = write_given(report.alloc, &mut out, given, &pairs);
     if matches!(answer, Err(Error::NoMemory)) {
         report.refused(row.format, is_one_of(out.as_str(), row.before));
         return false;
@@ -66,27 +66,15 @@ fn is_written(
     true
 }
 
-/// Checks the row as a new text, and returns whether there was memory for it.
-fn is_made(
-    report: &mut Report,
-    pairs: Pairs<'_, u64>,
-    row: &Wanting<'_>,
-    given: Given<'_>,
-) -> bool {
-    let made = format_given(report.alloc, given, pairs);
-    if matches!(made, Err(Error::NoMemory)) {
-        return false;
-    }
-    report.made(row.format, (row.text, row.fault), made);
-    true
-}
-
 /// Checks the row: the first call succeeds or, if memory was refused, the second.
 fn gives(report: &mut Report, pairs: Pairs<'_, u64>, row: &Wanting<'_>, given: Given<'_>) {
     let written = is_written(report, pairs, row, given) || is_written(report, pairs, row, given);
     report.holds(row.format, written);
-    let made = is_made(report, pairs, row, given) || is_made(report, pairs, row, given);
-    report.holds(row.format, made);
+    let made = match format_given(report.alloc, given, &pairs) {
+        Err(Error::NoMemory) => format_given(report.alloc, given, &pairs),
+        made => made,
+    };
+    report.made(row.format, (row.text, row.fault), made);
 }
 
 /// Checks the rows with a list, and with a list of one item which is that list: by their formats
@@ -95,8 +83,8 @@ fn give(report: &mut Report, numbers: Formattable<'_, u64>) -> Result<(), Error>
     let outer = [numbers];
     for row in &WANTING {
         let pairs = Pairs(&[("h", numbers), ("o", Formattable::iter(&outer))]);
-        gives(report, pairs, row, Given::Text(row.format));
         let template = parsed(report.alloc, row.format)?;
+        gives(report, pairs, row, Given::Text(row.format));
         gives(report, pairs, row, Given::Template(&template));
     }
     Ok(())

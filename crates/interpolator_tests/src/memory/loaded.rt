@@ -1,83 +1,107 @@
-//! Memory that loading a format needs: it is checked against a sample, and prepared for rows.
+//! Memory that a template needs: for its names, its check against a sample, its text, and that of
+//! the format prepared for rows.
 
 use crate::given::parsed;
 use crate::report::Report;
 use interpolator::{Error, Formattable, Interpolate, Pairs, Row, Template};
+use std::alloc::Global;
 
-/// A format, the first of its faults and how many there are, and its text if there is none.
+/// A format, the names that it uses, its text, the first of its faults with a sample, and how many
+/// there are.
 struct Loading<'a> {
     format: &'a str,
+    names: &'a [&'a str],
+    text: &'a str,
     first: &'a str,
     count: usize,
-    text: &'a str,
 }
 
-/// Worked by hand from the rules of samples in docs/DEFINITIONS.md, with the list `h` of 1 and 5,
-/// and 7 under `x`.
+/// Worked by hand from the rules of names, samples and places in docs/DEFINITIONS.md, with the list
+/// `h` of 1 and 5, and 7 under `x`. Of a broken argument, what is broken is the only fault.
 #[rattlefmt::skip]
-const LOADED: [Loading<'static>; 5] = [
-    Loading { format: "", first: "", count: 0, text: "" },
-    Loading { format: "ab{x}{{", first: "", count: 0, text: "ab7{" },
-    Loading { format: "{h:i({}{x})(, )}|{h:6i}|", first: "", count: 0, text: "17, 57|15    |" },
-    Loading { format: "{q}{x}{z}", first: "MissingValue(\"q\", 1)", count: 2, text: "" },
-    Loading { format: "{h:i({y})({z})}{", first: "MissingValue(\"y\", 6)", count: 3, text: "" },
+const LOADED: [Loading<'static>; 9] = [
+    Loading { format: "", names: &[], text: "", first: "", count: 0 },
+    Loading { format: "ab{x}{{", names: &["x"], text: "ab7{", first: "", count: 0 },
+    Loading { format: "{x}-{x}-{x}-{x}-{x}-{x}-{x}-{x}-{x}", names: &["x", "x", "x", "x", "x", "x", "x", "x", "x"], text: "7-7-7-7-7-7-7-7-7", first: "", count: 0 },
+    Loading { format: "{h:i({}{x})(, )}|{h:6i}|", names: &["h", "x", "h"], text: "17, 57|15    |", first: "", count: 0 },
+    Loading { format: "{h:i..-1({:>3})}{", names: &["h"], text: "", first: "Parse(FormatSpecUnclosed(17))", count: 1 },
+    Loading { format: "{h:i({z)}", names: &["h"], text: "", first: "Parse(FormatSpecUnclosed(6))", count: 1 },
+    Loading { format: "{x}{q}", names: &["x", "q"], text: "", first: "MissingValue(\"q\", 4)", count: 1 },
+    Loading { format: "{q}{x}{z}", names: &["q", "x", "z"], text: "", first: "MissingValue(\"q\", 1)", count: 2 },
+    Loading { format: "{h:i({y})({z})}{", names: &["h", "y", "z"], text: "", first: "MissingValue(\"y\", 6)", count: 3 },
 ];
 
-/// Checks the first fault, and returns whether there was memory for it.
+/// Whether the names are these, in order.
+fn are_names(names: &[String], wanted: &[&str]) -> bool {
+    if names.len() != wanted.len() {
+        return false;
+    }
+    for (name, one) in names.iter().zip(wanted) {
+        if name.as_str() != *one {
+            return false;
+        }
+    }
+    true
+}
+
+/// Checks the names, and what is found with a sample. A call that is refused memory is called again.
 fn is_checked(
     report: &mut Report,
     template: &Template,
     sample: Pairs<'_, u64>,
     row: &Loading<'_>,
-) -> bool {
-    let answer = sample.check_template(report.alloc, template);
-    if matches!(answer, Err(Error::NoMemory)) {
-        return false;
-    }
+) -> Result<(), Error> {
+    let alloc = report.alloc;
+    let names = match template.names(alloc) {
+        Err(Error::NoMemory) => template.names(alloc)?,
+        names => names?,
+    };
+    report.holds(row.format, are_names(&names, row.names));
+    let answer = match sample.check_template(alloc, template) {
+        Err(Error::NoMemory) => sample.check_template(alloc, template),
+        answer => answer,
+    };
     report.fault(row.format, row.first, answer);
-    true
+    let faults = match sample.template_faults(alloc, template) {
+        Err(Error::NoMemory) => sample.template_faults(alloc, template)?,
+        faults => faults?,
+    };
+    report.number(row.format, row.count, faults.len());
+    Ok(())
 }
 
-/// Checks all faults, and returns whether there was memory for them.
-fn are_told(
-    report: &mut Report,
+/// The text of the format, prepared for a row.
+fn prepared_text(
+    alloc: Global,
     template: &Template,
     sample: Pairs<'_, u64>,
-    row: &Loading<'_>,
-) -> bool {
-    match sample.template_faults(report.alloc, template) {
-        Ok(faults) => {
-            report.number(row.format, row.count, faults.len());
-            true
-        }
-        Err(error) => {
-            report.refused(row.format, error == Error::NoMemory);
-            false
-        }
-    }
+    values: Row<'_, u64>,
+) -> Result<String, Error> {
+    template.prepare(alloc, &sample)?.format(alloc, &values)
 }
 
-/// Checks that the format is prepared and returns its text, or is rejected for its fault; returns
-/// whether there was memory.
-fn is_prepared(
+/// Checks the text, and that of the prepared format: each is made again if it is refused memory.
+fn is_made(
     report: &mut Report,
     template: &Template,
     sample: Pairs<'_, u64>,
     values: Row<'_, u64>,
     row: &Loading<'_>,
-) -> bool {
-    let made = match template.prepare(report.alloc, &sample) {
-        Ok(prepared) => prepared.format(report.alloc, &values),
-        Err(error) => Err(error),
+) {
+    let alloc = report.alloc;
+    let made = match sample.format_template(alloc, template) {
+        Err(Error::NoMemory) => sample.format_template(alloc, template),
+        made => made,
     };
-    if matches!(made, Err(Error::NoMemory)) {
-        return false;
-    }
     report.made(row.format, (row.text, row.first), made);
-    true
+    let made = match prepared_text(alloc, template, sample, values) {
+        Err(Error::NoMemory) => prepared_text(alloc, template, sample, values),
+        made => made,
+    };
+    report.made(row.format, (row.text, row.first), made);
 }
 
-/// Checks the row with a list: the first call succeeds or, if memory was refused, the second.
+/// Checks the row with a list.
 fn gives(
     report: &mut Report,
     row: &Loading<'_>,
@@ -86,14 +110,8 @@ fn gives(
     let template = parsed(report.alloc, row.format)?;
     let sample = Pairs(&[("h", numbers), ("x", Formattable::display(&7u64))]);
     let values = Row(&[numbers, Formattable::display(&7u64)]);
-    let told = is_checked(report, &template, sample, row)
-        || is_checked(report, &template, sample, row);
-    report.holds(row.format, told);
-    let told = are_told(report, &template, sample, row) || are_told(report, &template, sample, row);
-    report.holds(row.format, told);
-    let made = is_prepared(report, &template, sample, values, row)
-        || is_prepared(report, &template, sample, values, row);
-    report.holds(row.format, made);
+    is_checked(report, &template, sample, row)?;
+    is_made(report, &template, sample, values, row);
     Ok(())
 }
 

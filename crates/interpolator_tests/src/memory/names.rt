@@ -4,7 +4,6 @@
 use crate::own::Nowhere;
 use crate::report::Report;
 use interpolator::{Context, ContextMap, Error, Formattable, TextBuffer, escape, write};
-use std::alloc::{AllocError, Global};
 
 /// Whether there was memory for the entry of the name.
 fn is_lent(report: &mut Report, map: &mut ContextMap<'_, u64>, name: &str) -> bool {
@@ -17,11 +16,6 @@ fn is_lent(report: &mut Report, map: &mut ContextMap<'_, u64>, name: &str) -> bo
     }
 }
 
-/// Whether there was memory to put the name.
-fn is_put<'a>(map: &mut ContextMap<'a, u64>, name: &str, value: Formattable<'a, u64>) -> bool {
-    map.put(name, value).is_ok()
-}
-
 /// Whether the map has these names, and `count` names in all.
 fn has(map: &ContextMap<'_, u64>, a: bool, b: bool, count: usize) -> bool {
     map.get("a").is_some() == a && map.get("b").is_some() == b && map.len() == count
@@ -32,9 +26,9 @@ fn maps(report: &mut Report) {
     let value = 7u64;
     let shown = Formattable::display(&value);
     let mut map = ContextMap::new(report.alloc);
-    if !is_put(&mut map, "a", shown) {
+    if map.put("a", shown).is_err() {
         report.refused("a put that is refused", has(&map, false, false, 0));
-        report.refused("a put again", is_put(&mut map, "a", shown));
+        report.refused("a put again", map.put("a", shown).is_ok());
     }
     report.holds("a name that is put", has(&map, true, false, 1));
     if !is_lent(report, &mut map, "b") {
@@ -45,28 +39,6 @@ fn maps(report: &mut Report) {
     report.holds("a name that is entered", has(&map, true, true, 2));
 }
 
-/// A copy of a text. If memory is refused, this tries once more.
-fn copied(alloc: Global, text: &str) -> Result<String, AllocError> {
-    match String::from_str(alloc, text) {
-        Ok(copy) => Ok(copy),
-        Err(_) => String::from_str(alloc, text),
-    }
-}
-
-/// Checks a copy of the fault, and returns whether there was memory for it.
-fn is_cloned(report: &mut Report, fault: &Error) -> bool {
-    match fault.try_clone(report.alloc) {
-        Ok(copy) => {
-            report.holds("a copy of a fault", copy == *fault);
-            true
-        }
-        Err(error) => {
-            report.refused("a copy of a fault", error == Error::NoMemory);
-            false
-        }
-    }
-}
-
 /// Whether the fault is that there is no value under `q`, at this place.
 fn is_missing(fault: &Error, wanted: usize) -> bool {
     match fault {
@@ -75,10 +47,19 @@ fn is_missing(fault: &Error, wanted: usize) -> bool {
     }
 }
 
-fn faults(report: &mut Report) -> Result<(), AllocError> {
-    let fault = Error::MissingValue(copied(report.alloc, "q")?, 1);
-    let cloned = is_cloned(report, &fault) || is_cloned(report, &fault);
-    report.holds("a fault is copied", cloned);
+/// A copy of a fault.
+fn faults(report: &mut Report) -> Result<(), Error> {
+    let alloc = report.alloc;
+    let name = match String::from_str(alloc, "q") {
+        Err(_) => String::from_str(alloc, "q")?,
+        name => name?,
+    };
+    let fault = Error::MissingValue(name, 1);
+    let copy = match fault.try_clone(alloc) {
+        Err(Error::NoMemory) => fault.try_clone(alloc)?,
+        copy => copy?,
+    };
+    report.holds("a copy of a fault", copy == fault);
     report.holds("the copied fault stays", is_missing(&fault, 1));
     Ok(())
 }
@@ -92,24 +73,13 @@ const ESCAPED: [(&str, &str); 4] = [
     ("more than sixteen bytes{ and a brace }", "more than sixteen bytes{{ and a brace }}"),
 ];
 
-/// Checks the text with its braces doubled, and returns whether there was memory for it.
-fn is_doubled(report: &mut Report, text: &str, doubled: &str) -> bool {
-    match escape(report.alloc, text) {
-        Ok(format) => {
-            report.text(text, doubled, format.as_str());
-            true
-        }
-        Err(error) => {
-            report.refused(text, error == Error::NoMemory);
-            false
-        }
-    }
-}
-
 fn escapes(report: &mut Report) {
     for (text, doubled) in ESCAPED {
-        let given = is_doubled(report, text, doubled) || is_doubled(report, text, doubled);
-        report.holds(text, given);
+        let made = match escape(report.alloc, text) {
+            Err(Error::NoMemory) => escape(report.alloc, text),
+            made => made,
+        };
+        report.made(text, (doubled, ""), made);
     }
 }
 
@@ -131,14 +101,10 @@ fn is_told(report: &mut Report) -> bool {
     }
 }
 
-fn missing_names(report: &mut Report) {
-    let told = is_told(report) || is_told(report);
-    report.holds("a missing name is told", told);
-}
-
-pub fn run(report: &mut Report) -> Result<(), AllocError> {
+pub fn run(report: &mut Report) -> Result<(), Error> {
     maps(report);
     escapes(report);
-    missing_names(report);
+    let told = is_told(report) || is_told(report);
+    report.holds("a missing name is told", told);
     faults(report)
 }
