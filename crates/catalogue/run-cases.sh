@@ -8,12 +8,24 @@ set -u
 
 here=$(cd "$(dirname "$0")" && pwd)
 name=catalogue
-wanted=34
+usage='usage: catalogue [--fallback FILE] FILE KEY [NAME=TEXT | NAME:=NUMBER | NAME[]=ITEM,ITEM..]'
+usage+=' | catalogue --check FILE..'
+wanted=59
 . "$here/../../.ci/cases.sh"
 
 # message WANTED WORD..: a message, which goes to standard output, with status 0.
 message() {
     case_of file file 0 "$1"$'\n' '' "${@:2}"
+}
+
+# wrong WANTED WORD..: a wrong use, which is told on standard error, with status 2.
+wrong() {
+    case_of file file 2 '' "$1"$'\n' "${@:2}"
+}
+
+# unread WANTED WORD..: a file that cannot be read, which is told on standard error, with status 3.
+unread() {
+    case_of file file 3 '' "$1"$'\n' "${@:2}"
 }
 
 # told WANTED WORD..: what is wrong, which goes to standard error, with status 1.
@@ -23,10 +35,10 @@ told() {
 
 all_cases() {
     printf '%s\n' '# greetings' '' 'hello = Hello {name}!' 'bye=  Bye, {name:>5}.' \
-        'list = {x:i#({:?})#}' 'twice = first' 'twice = {a}={b}' >m.txt
+        'list = {x:i#({:?})#}' 'two = {a}={b}' >m.txt
     message 'Hello Zoë!' m.txt hello name=Zoë
     message 'Bye,   Ann.' m.txt bye name=Ann x=1
-    message '2=c=d' m.txt twice a=1 b=c=d a=2
+    message '2=c=d' m.txt two a=1 b=c=d a=2
     told "$(printf '%s\n' 'm.txt:3:16: specified value not in context `name` at 7' \
         '  |' '3 | hello = Hello {name}!' '  |               ^^^^^^')" m.txt hello
     told "$(printf '%s\n' \
@@ -34,9 +46,9 @@ all_cases() {
         '  |' '5 | list = {x:i#({:?})#}' '  |        ^^^^^^^^^^^^^')" m.txt list x=1
     told 'm.txt: no message `gone`' m.txt gone
     told 'm.txt: no message `# greetings`' m.txt '# greetings'
-    told 'a value is `NAME=TEXT`, `NAME:=NUMBER` or `NAME[]=ITEM,ITEM`' m.txt hello name
-    told 'a value is `NAME=TEXT`, `NAME:=NUMBER` or `NAME[]=ITEM,ITEM`' m.txt hello name:=x
-    told 'a value is `NAME=TEXT`, `NAME:=NUMBER` or `NAME[]=ITEM,ITEM`' m.txt bye name=Ann 'a[b:=x'
+    wrong 'bad word: name' m.txt hello name
+    wrong 'bad word: name:=x' m.txt hello name:=x
+    wrong 'bad word: a[b:=x' m.txt bye name=Ann 'a[b:=x'
     message 'Bye,   Ann.' m.txt bye a:b=1 'a[b=1' 'a[][]=1' =1 'a[b:=1' name=Ann
     message 'Hello i!' m.txt hello a=1 b=2 c=3 d=4 e=5 f=6 g=7 h=8 name=i
     case_of closed file 3 '' '' m.txt hello name=Zoë
@@ -48,6 +60,7 @@ all_cases() {
         'broken.txt:2:11: error while parsing input: Expected `}` at 7' \
         '  |' '2 | b = é {x:?y}' '  |       ^^^^^^' \
         'broken.txt:3:1: no `=`' \
+        '  |' '3 | no equals' '  | ^' \
         'broken.txt:4:11: error while parsing input: Format spec at 6 is nether closed with a `}`' \
         '  |' '4 | c = {h:i({z)}' '  |          ^^' \
         'broken.txt:5:12: error while parsing input: Width, precision, `-`, `+` and `#` are not supported for `i` at 5' \
@@ -74,8 +87,11 @@ all_cases() {
         'f( x ) = 1' >heads.txt
     told "$(printf '%s\n' \
         'heads.txt:3:2: declarations are `(NAME, NAME:, NAME[])`, each name once' \
+        '  |' '3 | c(x)y = 1' '  |  ^' \
         'heads.txt:4:2: declarations are `(NAME, NAME:, NAME[])`, each name once' \
-        'heads.txt:5:6: declarations are `(NAME, NAME:, NAME[])`, each name once')" \
+        '  |' '4 | d(x)(y) = 1' '  |  ^' \
+        'heads.txt:5:6: declarations are `(NAME, NAME:, NAME[])`, each name once' \
+        '  |' '5 | e(x, [] , :) = 1' '  |      ^')" \
         heads.txt f x=1
 
     printf '%s\n' 'é = {x' 'ok = {x}' 'ü = é{x}{y' >accents.txt
@@ -111,14 +127,75 @@ all_cases() {
         'kinds.txt:3:18: trait `LowerHex` not implemented, used by format argument at 8' \
         '  |' '3 | c(l[]) = {l:i({:x})}' '  |               ^^^^' \
         'kinds.txt:4:11: declarations are `(NAME, NAME:, NAME[])`, each name once' \
+        '  |' '4 | d(n:, l[],) = {n}' '  |           ^' \
         'kinds.txt:5:2: declarations are `(NAME, NAME:, NAME[])`, each name once' \
+        '  |' '5 | e(n = {n}' '  |  ^' \
         'kinds.txt:6:11: specified value not in context `n` at 1' \
         '  |' '6 | f(n:x) = {n}' '  |          ^^^' \
-        'kinds.txt:7:9: declarations are `(NAME, NAME:, NAME[])`, each name once')" \
+        'kinds.txt:7:9: declarations are `(NAME, NAME:, NAME[])`, each name once' \
+        '  |' '7 | g(n, m, n:) = {n}{m}' '  |         ^')" \
         kinds.txt a name=Ann
-    case_of file file 2 '' ''
-    case_of file file 2 '' '' m.txt
-    case_of file file 2 '' '' none.txt hello
+    printf '\xef\xbb\xbf%s\n%s\n' '# greetings' 'hello = Hello {name}!' >mark.txt
+    message 'Hello Ann!' mark.txt hello name=Ann
+    printf '\xef\xbb\xbf%s\n' 'hello = Hello {name' >mark.txt
+    told "$(printf '%s\n' \
+        'mark.txt:1:16: error while parsing input: Format spec at 7 is nether closed with a `}`' \
+        '  |' '1 | hello = Hello {name' '  |               ^^^^^')" \
+        mark.txt hello name=Ann
+    printf '%s\n' 'é = first' '# é = none' 'bye = Bye' '  é(x) = {x' ' = no key' '(n:) = {n}' \
+        'greeting(name count) = {name}' 'cart(n :) = {n}' 'bye=Bye' '   = ' >keys.txt
+    told "$(printf '%s\n' \
+        'keys.txt:4:3: line 1 has the key `é` too' \
+        '  |' '4 |   é(x) = {x' '  |   ^' \
+        'keys.txt:4:11: error while parsing input: Format spec at 1 is nether closed with a `}`' \
+        '  |' '4 |   é(x) = {x' '  |          ^^' \
+        'keys.txt:5:2: no key' '  |' '5 |  = no key' '  |  ^' \
+        'keys.txt:6:1: no key' '  |' '6 | (n:) = {n}' '  | ^' \
+        'keys.txt:7:10: declarations are `(NAME, NAME:, NAME[])`, each name once' \
+        '  |' '7 | greeting(name count) = {name}' '  |          ^' \
+        'keys.txt:8:6: declarations are `(NAME, NAME:, NAME[])`, each name once' \
+        '  |' '8 | cart(n :) = {n}' '  |      ^' \
+        'keys.txt:9:1: line 3 has the key `bye` too' '  |' '9 | bye=Bye' '  | ^' \
+        'keys.txt:10:4: no key' '   |' '10 |    = ' '   |    ^')" \
+        keys.txt bye
+    printf '%s\n' 'hello = Hallo {name}!' >de.txt
+    message 'Hallo Zoë!' --fallback m.txt de.txt hello name=Zoë
+    message 'Bye,   Ann.' --fallback m.txt de.txt bye name=Ann
+    told 'de.txt: no message `gone`'$'\n''m.txt: no message `gone`' --fallback m.txt de.txt gone
+    told "$(printf '%s\n' 'de.txt:1:16: specified value not in context `name` at 7' \
+        '  |' '1 | hello = Hallo {name}!' '  |               ^^^^^^')" \
+        --fallback m.txt de.txt hello
+    told "$(printf '%s\n' 'mark.txt:1:16: error while parsing input: Format spec at 7 is nether closed with a `}`' \
+        '  |' '1 | hello = Hello {name' '  |               ^^^^^')" \
+        --fallback mark.txt m.txt hello name=Zoë
+    unread 'none.txt: No such file or directory (os error 2)' --fallback none.txt m.txt hello
+    wrong "$usage" --fallback m.txt
+    wrong "$usage" --fallback m.txt de.txt
+    wrong "$usage" --fallback m.txt --check de.txt
+    case_of file file 0 '' '' --check m.txt de.txt declared.txt
+    printf '%s\n' 'x = 1' 'y' >one.txt
+    printf '%s\n' 'hello = {' >two.txt
+    faults="$(printf '%s\n' 'one.txt:2:1: no `=`' '  |' '2 | y' '  | ^' \
+        'two.txt:1:10: error while parsing input: Format spec at 1 is nether closed with a `}`' \
+        '  |' '1 | hello = {' '  |         ^')"
+    told "$faults" --check one.txt m.txt two.txt
+    case_of file file 3 '' \
+        'none.txt: No such file or directory (os error 2)'$'\n'"$faults"$'\n' \
+        --check one.txt none.txt two.txt
+    unread 'none.txt: No such file or directory (os error 2)' --check m.txt none.txt
+    wrong "$usage" --check
+    case_of file full 3 '' '' --check one.txt
+    wrong "$usage"
+    wrong "$usage" m.txt
+    wrong "$usage" --chek m.txt
+    wrong "$usage" m.txt hello $'name=\xff'
+    wrong 'bad word: x' m.txt hello y=1 x z:=z
+    unread 'none.txt: No such file or directory (os error 2)' none.txt hello
+    unread '.: Is a directory (os error 21)' . hello
+    printf 'a = \xff\n' >latin.txt
+    unread 'latin.txt: stream did not contain valid UTF-8' latin.txt a
+    case_of file full 3 '' '' none.txt hello
+    case_of file closed 3 '' ''
 }
 
 run_cases "$@"

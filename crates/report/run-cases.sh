@@ -1,13 +1,17 @@
 #!/usr/bin/env bash
 # Runs the built program on tables, and compares what it writes to both streams and its status with
-# what is worked out by hand: widths count characters, and a row may lack fields.
+# what is worked out by hand: widths count characters, and a total is the sum of all entries of its
+# column. Then it runs the line of docs/USING.md.
 #
 # usage: run-cases.sh [PROGRAM..]
 set -u
 
+usage='usage: report FILE'
+# the greatest number of 128 bits, without its last digit, which is 7
+most=17014118346046923173168730371588410572
 here=$(cd "$(dirname "$0")" && pwd)
 name=report
-wanted=8
+wanted=25
 . "$here/../../.ci/cases.sh"
 
 # table WANTED TEXT: the report of a file with this text, which goes to the output, with status 0.
@@ -16,16 +20,65 @@ table() {
     case_of file file 0 "$1" '' t
 }
 
-all_cases() {
+# fault WANTED TEXT: the faults of a file with this text, which go to the errors, with status 1; no
+# table is written.
+fault() {
+    printf '%s' "$2" >t
+    case_of file file 1 '' "$1"$'\n' t
+}
+
+table_cases() {
     table $'item   count\nbread      7\ncrème  -1234\ntotal  -1227\n' \
         $'item,count\nbread,7\ncrème,-1234\n'
     table $' n  t\n 1   \n20  é\n21   \n' $'n,t\n1,\n20,é\n'
-    table $'t      n\na      9\nb      \nc      1\ntotal   \n' $'t,n\na,9\nb\nc,1,2'
     table $'a\n0\n' 'a'
     table $'{a}    )#\n{b}     1\n{c}     2\ntotal   3\n' $'{a},)#\n{b},1\n{c},2\n'
-    case_of file file 2 '' ''
-    case_of file file 2 '' '' none
+    table $'n  m\n1  2\n1  2\n' $'\xef\xbb\xbfn,m\r\n1,2\r\n'
+    table $'  n\n007\n +1\n  8\n' $'n\n007\n+1\n'
+    table "$(printf '%39s\n' n "${most}6" 1 "${most}7")"$'\n' $'n\n'"${most}6"$'\n1\n'
+    table "$(printf '%-39s\n' n "${most}8" x total)"$'\n' $'n\n'"${most}8"$'\nx\n'
+}
+
+fault_cases() {
+    fault 't:2: 3 fields, but line 1 has 2' $'item,count\nbread,1,2\n'
+    fault $'t:3: 1 field, but line 1 has 2\nt:4: 3 fields, but line 1 has 2' $'t,n\na,9\nb\nc,1,2'
+    fault 't:3: 0 fields, but line 1 has 1' $'a\n1\n\n'
+    fault 't:1: the first line names no columns' ''
+    fault 't:1: the first line names no columns' $'\n1\n'
+    fault 't:3: the total of `n` has more than 128 bits from here on' $'n\n'"${most}7"$'\n1\n'
+    fault 't:3: the total of `n` has more than 128 bits from here on' $'n\n'"-${most}8"$'\n-1\n'
+    fault 't:2: the total of `m` has more than 128 bits from here on' $'t,m\na,'"${most}8"$'\nb,1\n'
+}
+
+# Wrong use, unreadable files and refused writes.
+other_cases() {
+    case_of file file 2 '' "$usage"$'\n'
+    case_of file file 2 '' "$usage"$'\n' t t
+    case_of file file 2 '' "$usage"$'\n' --total
+    case_of file file 2 '' "$usage"$'\n' $'\xff'
+    case_of file file 3 '' $'none: No such file or directory (os error 2)\n' none
+    printf 'a\n\xff\n' >b
+    case_of file file 3 '' $'b: stream did not contain valid UTF-8\n' b
+    printf 'a\n1\n' >t
     case_of closed file 3 '' '' t
+    case_of file full 3 '' '' none
+}
+
+# The line of USING, in the folder that it names.
+using_case() {
+    local line text
+    line=$(grep -o "crates/$name\` (there \`rt run -- [^\`]*" "$here/../../docs/USING.md")
+    text=$(held "$here/stdout")
+    cd "$here" || exit 1
+    eval "case_of file file 0 \"\${text%x}\" '' ${line##*rt run -- }"
+    cd "$room" || exit 1
+}
+
+all_cases() {
+    table_cases
+    fault_cases
+    other_cases
+    using_case
 }
 
 run_cases "$@"

@@ -2,38 +2,38 @@
 use Rattle.std.proofs.Common.{◌≡◌, ℕ, List, Option, None, Some, Ok, Err, Result, IfOk, sym, ap, ◌∙◌}
 use Rattle.std.proofs.Common.{All, inl, inr, unwrap_or, refl, subst, string_bytes}
 use Rattle.std.specs.Option.{option_map}
-use Rattle.std.specs.Str.Lines.{lines}
 use Rattle.std.specs.declared.string.String.{String}
 use Rattle.interpolator.specs.declared.Error.{Error}
-use Rattle.catalogue.specs.Messages.{Answers, GiveValues, HoldAll, IsSound, IsSoundOver, IsToldOf}
+use Rattle.catalogue.specs.Messages.{Answers, GiveValues, HoldAll, IsSoundOver, IsToldOf}
 use Rattle.catalogue.specs.Messages.{Replies, declared_of, message_means}
 use Rattle.catalogue.specs.Entries.{Pair}
 use Rattle.catalogue.specs.Picks.{ArePicked}
 use Rattle.interpolator.specs.Faults.{Fault}
 use Rattle.catalogue.proofs.KindLemmas.{IsGiven, all_given, none_fails}
-use Rattle.catalogue.proofs.SoundLemmas.{sound_last}
+use Rattle.catalogue.proofs.SoundLemmas.{sound_among}
 use Rattle.catalogue.specs.Messages.{format_of}
 use Rattle.catalogue.specs.Declarations.{Declared, nothing, these, broken}
-use Rattle.catalogue.specs.Messages.{last_under, with_format}
+use Rattle.catalogue.specs.Messages.{IsSoundFile, found_among, line_with_format}
 use Rattle.catalogue.specs.declared.entries.Object.{Object}
 use Rattle.catalogue.specs.declared.messages.Answer.{Answer}
-use Rattle.catalogue.specs.declared.messages.Answer.TheVariants.{Message, Faults}
+use Rattle.catalogue.specs.declared.messages.Answer.TheVariants.{Message, Faults, BadWord}
 
 -- none is not some
 not_none : {A : Type 0} (x : A) → Some x ≡ None → ⊥
 not_none x e = cc
 
--- the line that was found is the last one of the key, with its format
-pub found_under : (number : ℕ) (line format : List ℕ) (declared : Declared)
-    (o : Option (ℕ × List ℕ)) → Some (number, line, format, declared) ≡ option_map with_format o
-    → (o ≡ Some (number, line)) × (format ≡ format_of line) × (declared ≡ declared_of line)
-found_under number line format declared None h = absurd (not_none _ h)
-found_under number line format declared (Some one) h =
-    let e = ap (λ x. unwrap_or x (number, line, format, declared)) h in
-    let same = ap (λ x. x.1) e in (
-      ap {B = Option (ℕ × List ℕ)} (λ x. Some (x.0, x.1)) (sym e),
-      ap (λ x. x.2) e ∙ ap format_of (sym same),
-      ap (λ x. x.3) e ∙ ap declared_of (sym same),
+-- the line that was found is the one of the key, with its format
+pub found_under : (file : List ℕ) (number : ℕ) (line format : List ℕ) (declared : Declared)
+    (o : Option (List ℕ × ℕ × List ℕ))
+    → Some (file, number, line, format, declared) ≡ option_map line_with_format o
+    → (o ≡ Some (file, number, line)) × (format ≡ format_of line) × (declared ≡ declared_of line)
+found_under file number line format declared None h = absurd (not_none _ h)
+found_under file number line format declared (Some one) h =
+    let e = ap (λ x. unwrap_or x (file, number, line, format, declared)) h in
+    let same = ap (λ x. x.2) e in (
+      ap {B = Option (List ℕ × ℕ × List ℕ)} (λ x. Some (x.0, x.1, x.2)) (sym e),
+      ap (λ x. x.3) e ∙ ap format_of (sym same),
+      ap (λ x. x.4) e ∙ ap declared_of (sym same),
     )
 
 -- a sound line whose message has a fault over what is picked of given values declares nothing
@@ -47,15 +47,17 @@ only_plain format (these ds) values picked pairs f sound given are held told =
 only_plain format (broken place) values picked pairs f sound given are held told = absurd sound
 
 -- the message of the line, what value it lacks, or its fault, is the answer
-pub answers_message : {Y : Type 0} (file text key : List ℕ) (words : List (String Y)) (number : ℕ)
-    (line : List ℕ) (values : List Object) (result : Result Answer Error)
-    → All IsSound (lines text) → last_under key (lines text) ≡ Some (number, line)
+pub answers_message : {Y : Type 0} (files : List (List ℕ × List ℕ)) (key : List ℕ)
+    (words : List (String Y)) (file : List ℕ) (number : ℕ) (line : List ℕ) (values : List Object)
+    (result : Result Answer Error)
+    → All IsSoundFile files → found_among key files ≡ Some (file, number, line)
     → GiveValues words values
     → IfOk result (λ answer. Replies file number line key (format_of line) (declared_of line)
-    values answer) → IfOk result (λ answer. Answers file text key words answer)
-answers_message file text key words number line values (Ok (Message m)) sound under given h =
+    values answer) → IfOk result (λ answer. Answers files key words answer)
+answers_message files key words file number line values (Ok (Message m)) sound under given h =
     record {
       sound = sound;
+      file = file;
       number = number;
       line = line;
       under = under;
@@ -65,23 +67,25 @@ answers_message file text key words number line values (Ok (Message m)) sound un
       are = h.are;
       made = h.made;
     }
-answers_message file text key words number line values (Ok (Faults told)) sound under given
-    (inl h) = inr (inr (inr (inl (record {
+answers_message files key words file number line values (Ok (Faults told)) sound under given
+    (inl h) = inr (inr (inl (record {
       sound = sound;
+      file = file;
       number = number;
       line = line;
       under = under;
       values = values;
       given = given;
       lacks = h;
-    }))))
-answers_message file text key words number line values (Ok (Faults told)) sound under given
+    })))
+answers_message files key words file number line values (Ok (Faults told)) sound under given
     (inr h) =
     let plain = only_plain (format_of line) (declared_of line) values h.picked
-    h.made.faulty.pairs h.made.f (sound_last key (lines text) number line sound under)
+    h.made.faulty.pairs h.made.f (sound_among key files (file, number, line) sound under)
     (all_given string_bytes words values given) h.are h.made.faulty.shown h.made.faulty.told in
-    inr (inr (inr (inr (record {
+    inr (inr (inr (record {
       sound = sound;
+      file = file;
       number = number;
       line = line;
       under = under;
@@ -90,10 +94,12 @@ answers_message file text key words number line values (Ok (Faults told)) sound 
       given = given;
       faulty = subst (λ vs. IsToldOf file number line (format_of line) vs (string_bytes told))
           plain.1 h.made;
-    }))))
-answers_message file text key words number line values (Err e) sound under given h = h
+    })))
+answers_message files key words file number line values (Ok (BadWord word)) sound under given h =
+    absurd h
+answers_message files key words file number line values (Err e) sound under given h = h
 
 -- no line was found: none has the key
-pub none_under : (o : Option (ℕ × List ℕ)) → None ≡ option_map with_format o → o ≡ None
+pub none_under : (o : Option (List ℕ × ℕ × List ℕ)) → None ≡ option_map line_with_format o → o ≡ None
 none_under None h = refl
 none_under (Some one) h = absurd (not_none _ (sym h))

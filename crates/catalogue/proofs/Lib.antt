@@ -10,4 +10,5 @@ pub mod KindLemmas
 pub mod SoundLemmas
 pub mod PickLemmas
 pub mod ToldLemmas
-pub mod ReplyLemmas
+pub mod FileLemmas
+pub mod KeyLemmas

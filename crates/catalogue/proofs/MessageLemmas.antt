@@ -1,24 +1,19 @@
 -- Lines that are checked one after the other, and lists made one after the other.
 use Rattle.std.proofs.Common.{◌≡◌, ℕ, ◌+◌, ◌<◌, Bool, true, false, cond, List, [], ◌∷◌, ◌++◌, take}
 use Rattle.std.proofs.Common.{length, get_or, map, Option, None, Some, refl, sym, ap, ◌∙◌, subst}
-use Rattle.std.proofs.Common.{codes, reverse, arith, append-nil, length-append, ◌⊎◌, inl, inr}
+use Rattle.std.proofs.Common.{arith, append-nil, append_assoc, length-append, ◌⊎◌, inl, inr}
 use Rattle.std.specs.Borrow.{Bor}
-use Rattle.std.specs.List.{All, AllZip, concat, enumerate_from, find}
+use Rattle.std.specs.List.{AllZip, enumerate_from, find}
 use Rattle.std.specs.Option.{option_map, option_or}
-use Rattle.std.proofs.lemmas.List.{get_or_default, length-map, map-append, reverse-append}
-use Rattle.std.proofs.lemmas.List.{take_more}
-use Rattle.std.proofs.lemmas.List.Folds.{concat-append}
-use Rattle.std.proofs.lemmas.List.Elements.{All-append, All-cons}
+use Rattle.std.proofs.lemmas.List.{get_or_default, length-map, map-append, take_more}
+use Rattle.std.proofs.lemmas.List.Folds.{find-append}
 use Rattle.std.proofs.lemmas.Slice.Zip.{all_zipped_more}
 use Rattle.catalogue.specs.Declarations.{Declared, nothing, these, broken}
-use Rattle.catalogue.specs.Messages.{IsSound, IsSoundOver, is_under, last_under, told_of_line}
-use Rattle.catalogue.specs.Messages.{declared_of, format_of, told_of_fault, told_of_faults}
-use Rattle.catalogue.specs.Messages.{told_of_message}
-use Rattle.catalogue.specs.Words.{HasEquals}
-use Rattle.catalogue.specs.Messages.{told_of_lines, numbered, source_of, what_is_declared}
-use Rattle.catalogue.specs.Messages.{with_format}
-use Rattle.std.specs.Fmt.{decimal}
-use Rattle.interpolator.specs.Positions.{column_at}
+use Rattle.catalogue.specs.Keys.{as_keys}
+use Rattle.catalogue.specs.Messages.{IsSoundOver, is_under, key_with, keys_in, line_under, numbered}
+use Rattle.catalogue.specs.Messages.{source_of, told_of_fault, told_of_faults, told_of_line}
+use Rattle.catalogue.specs.Messages.{told_of_lines, told_of_message, what_is_declared}
+use Rattle.catalogue.specs.Reports.{told_at}
 use Rattle.interpolator.specs.Explained.{explanation_of}
 use Rattle.interpolator.specs.Faults.{answer_place, Answer, Fault, fault, no_memory}
 
@@ -64,27 +59,25 @@ numbers_more n (y ∷ ys) x = let e : n + 1 + length ys ≡ n + length (y ∷ ys
     ap {B = List (ℕ × List ℕ)} (λ l. (n, y) ∷ l) (numbers_more (n + 1) ys x
     ∙ ap {B = List (ℕ × List ℕ)} (λ k. enumerate_from (n + 1) ys ++ ((k, x) ∷ [])) e)
 
-module _ (file key : List ℕ) (xs : List (List ℕ)) (x : List ℕ) where
-  -- what is reported of lines and one more
-  pub told_more : told_of_lines file (xs ++ (x ∷ []))
-      ≡ told_of_lines file xs ++ told_of_line file (1 + length xs) x
-  told_more =
-      let g : ℕ × List ℕ → List ℕ = λ one. told_of_line file one.0 one.1 in
-      ap (λ (l : List (ℕ × List ℕ)). concat (map g l)) (numbers_more 1 xs x)
-      ∙ (ap (λ (l : List (List ℕ)). concat l)
-      (map-append g (numbered xs) ((1 + length xs, x) ∷ []))
-      ∙ (concat-append (map g (numbered xs)) (told_of_line file (1 + length xs) x ∷ [])
-      ∙ ap (λ (y : List ℕ). told_of_lines file xs ++ y)
-      (append-nil (told_of_line file (1 + length xs) x))))
+-- what is reported of lines and one more, after others with these keys
+told_more : (file : List ℕ) (keys xs : List (ℕ × List ℕ)) (x : ℕ × List ℕ)
+    → told_of_lines file keys (xs ++ (x ∷ []))
+    ≡ told_of_lines file keys xs ++ told_of_line file (keys ++ keys_in xs) x.0 x.1
+told_more file keys [] x = append-nil (told_of_line file keys x.0 x.1)
+    ∙ ap (λ k. told_of_line file k x.0 x.1) (sym (append-nil keys))
+told_more file keys (y ∷ xs) x =
+    let here = as_keys y.0 (key_with y.1) in
+    ap (λ t. told_of_line file keys y.0 y.1 ++ t) (told_more file (keys ++ here) xs x)
+    ∙ (sym (append_assoc (told_of_line file keys y.0 y.1) (told_of_lines file (keys ++ here) xs) _)
+    ∙ ap (λ k. told_of_lines file keys (y ∷ xs) ++ told_of_line file k x.0 x.1)
+    (append_assoc keys here (keys_in xs)))
 
-  -- the last line of a key among lines and one more
-  pub under_more : last_under key (xs ++ (x ∷ []))
-      ≡ cond (is_under key x) (Some (1 + length xs, x)) (last_under key xs)
-  under_more =
-      ap (λ (l : List (ℕ × List ℕ)). find (λ one. is_under key one.1) (reverse l))
-      (numbers_more 1 xs x)
-      ∙ ap (λ (l : List (ℕ × List ℕ)). find (λ one. is_under key one.1) l)
-      (reverse-append (numbered xs) ((1 + length xs, x) ∷ []))
+-- the keys of lines and one more
+keys_more : (xs : List (ℕ × List ℕ)) (x : ℕ × List ℕ)
+    → keys_in (xs ++ (x ∷ [])) ≡ keys_in xs ++ as_keys x.0 (key_with x.1)
+keys_more [] x = append-nil (as_keys x.0 (key_with x.1))
+keys_more (y ∷ xs) x = ap (λ l. as_keys y.0 (key_with y.1) ++ l) (keys_more xs x)
+    ∙ sym (append_assoc (as_keys y.0 (key_with y.1)) (keys_in xs) (as_keys x.0 (key_with x.1)))
 
 -- a fault that has a place, as a call told it, is the fault of what it means
 pub told_fault : (a : Answer) (o : Option Fault) (place : ℕ) → Some place ≡ answer_place a
@@ -95,69 +88,77 @@ told_fault (fault f) None place has (inr e) = cc
 told_fault (fault f) (Some g) place has (inr e) =
     (f, refl, ap {B = Option Fault} (λ x. Some x) (same_fault g f (sym e)))
 
--- one that is found among others, before them
-or_first : {A B : Type 0} (g : A → B) (b : Bool) (x : B) (one before : Option A) (o : Option B)
-    → option_map g one ≡ cond b (Some x) None → option_map g before ≡ o
-    → option_map g (option_or one before) ≡ cond b (Some x) o
-or_first g true x (Some y) before o e h = e
-or_first g false x (Some y) before o e h = cc
-or_first g true x None before o e h = cc
-or_first g false x None before o e h = h
+-- one of two, seen as another
+pub map_or : {A B : Type 0} (g : A → B) (before one : Option A)
+    → option_map g (option_or before one) ≡ option_or (option_map g before) (option_map g one)
+map_or g None one = refl
+map_or g (Some x) one = refl
 
--- a line's format, if it has the key
-with_format_of : (b : Bool) (number : ℕ) (line : List ℕ) (o : Option (ℕ × List ℕ))
-    → option_map with_format (cond b (Some (number, line)) o)
-    ≡ cond b (Some (with_format (number, line))) (option_map with_format o)
-with_format_of true number line o = refl
-with_format_of false number line o = refl
+-- a line with a message, if it has the key
+format_of_one : {B : Type 0} (g : ℕ × List ℕ → B) (b : Bool) (one : ℕ × List ℕ)
+    → option_map g (cond b (Some one) None) ≡ cond b (Some (g one)) None
+format_of_one g true one = refl
+format_of_one g false one = refl
 
-module _ (file key : List ℕ) (seen : List (Bor (List ℕ))) (line : Bor (List ℕ)) (number : ℕ)
-    (told more new : List ℕ) (counted : number ≡ length seen) (pushed : new ≡ told ++ more) where
+module _ (seen : List (Bor (List ℕ))) (line : Bor (List ℕ)) (number : ℕ)
+    (counted : number ≡ length seen) where
   -- the texts of the lines
   abbrev texts : List (List ℕ)
   texts = map (λ x. x.now) seen
 
-  -- those and one more
-  one_text : map (λ x. x.now) (seen ++ (line ∷ [])) ≡ texts ++ (line.now ∷ [])
-  one_text = map-append (λ (x : Bor (List ℕ)). x.now) seen (line ∷ [])
+  -- those and one more, with their numbers
+  one_line : numbered (map (λ x. x.now) (seen ++ (line ∷ [])))
+      ≡ numbered texts ++ ((number + 1, line.now) ∷ [])
+  one_line =
+      let its : 1 + length texts ≡ number + 1 =
+      (let n = length-map seen (λ (x : Bor (List ℕ)). x.now) in omega (arith, n, counted)) in
+      ap (λ (l : List (List ℕ)). numbered l)
+      (map-append (λ (x : Bor (List ℕ)). x.now) seen (line ∷ []))
+      ∙ (numbers_more 1 texts line.now
+      ∙ ap {B = List (ℕ × List ℕ)} (λ k. numbered texts ++ ((k, line.now) ∷ [])) its)
 
-  -- its number
-  its_number : 1 + length texts ≡ number + 1
-  its_number = let n = length-map seen (λ (x : Bor (List ℕ)). x.now) in omega arith
+  -- their keys
+  pub keys_next : (keys : List (ℕ × List ℕ)) → keys ≡ keys_in (numbered texts)
+      → keys ++ as_keys (number + 1) (key_with line.now)
+      ≡ keys_in (numbered (map (λ x. x.now) (seen ++ (line ∷ []))))
+  keys_next keys so_far =
+      rw (one_line, keys_more (numbered texts) (number + 1, line.now), so_far) refl
 
   -- what is reported of them
-  pub told_next : told ≡ told_of_lines file texts → more ≡ told_of_line file (number + 1) line.now
-      → new ≡ told_of_lines file (map (λ x. x.now) (seen ++ (line ∷ [])))
-  told_next so_far one =
-      rw (one_text, told_more file key texts line.now, its_number, pushed, so_far, one) refl
+  pub told_next : (file told more new : List ℕ) (keys : List (ℕ × List ℕ)) → new ≡ told ++ more
+      → keys ≡ keys_in (numbered texts) → told ≡ told_of_lines file [] (numbered texts)
+      → more ≡ told_of_line file keys (number + 1) line.now
+      → new ≡ told_of_lines file [] (numbered (map (λ x. x.now) (seen ++ (line ∷ []))))
+  told_next file told more new keys pushed same so_far one =
+      rw (
+        one_line,
+        told_more file [] (numbered texts) (number + 1, line.now),
+        pushed,
+        so_far,
+        one,
+        same,
+      ) refl
 
-  -- nothing is reported of them
-  pub before_clean : length new ≡ 0 → length told ≡ 0
-  before_clean h = let n = ap length pushed in let m = length-append told more in omega arith
+  -- the one of them that has the key
+  pub found_next : {A B : Type 0} (f : A → B) (g : ℕ × List ℕ → B) (key : List ℕ)
+      (before one : Option A) → option_map f before ≡ option_map g (line_under key (numbered texts))
+      → option_map f one ≡ cond (is_under key line.now) (Some (g (number + 1, line.now))) None
+      → option_map f (option_or before one) ≡ option_map g
+      (line_under key (numbered (map (λ x. x.now) (seen ++ (line ∷ [])))))
+  found_next f g key before one so_far here =
+      let this : ℕ × List ℕ = (number + 1, line.now) in
+      let under = λ (l : ℕ × List ℕ). is_under key l.1 in
+      map_or f before one
+      ∙ (rw (so_far, here, ← format_of_one g (is_under key line.now) this)
+      (sym (map_or g (line_under key (numbered texts))
+      (cond (is_under key line.now) (Some this) None))
+      ∙ ap (option_map g) (sym (ap (find under) one_line
+      ∙ find-append under (numbered texts) (this ∷ [])))))
 
-  -- nor of the line
-  pub line_clean : length new ≡ 0 → length more ≡ 0
-  line_clean h = let n = ap length pushed in let m = length-append told more in omega arith
-
-  -- they are sound
-  pub sound_next : (length told ≡ 0 → All IsSound texts) → (length more ≡ 0 → IsSound line.now)
-      → length new ≡ 0 → All IsSound (map (λ x. x.now) (seen ++ (line ∷ [])))
-  sound_next so_far one h = rw one_text (All-append IsSound texts (line.now ∷ [])
-      (so_far (before_clean h)) (All-cons IsSound line.now [] (one (line_clean h))
-      (λ k d t. absurd (omega arith))))
-
-  -- the last of them under the key
-  pub found_next : {A : Type 0} (g : A → ℕ × List ℕ × List ℕ × Declared) (one before : Option A)
-      → (length told ≡ 0 → option_map g before ≡ option_map with_format (last_under key texts))
-      → (length more ≡ 0 → option_map g one
-      ≡ cond (is_under key line.now) (Some (with_format (number + 1, line.now))) None)
-      → length new ≡ 0 → option_map g (option_or one before)
-      ≡ option_map with_format (last_under key (map (λ x. x.now) (seen ++ (line ∷ []))))
-  found_next g one before so_far here h =
-      or_first g (is_under key line.now) (with_format (number + 1, line.now)) one before _
-      (here (line_clean h)) (so_far (before_clean h))
-      ∙ sym (rw (one_text, under_more file key texts line.now, its_number)
-      (with_format_of (is_under key line.now) (number + 1) line.now (last_under key texts)))
+-- what is reported at a byte of a line is some text
+pub some_told : (file : List ℕ) (number : ℕ) (line : List ℕ) (place : ℕ) (what : List ℕ)
+    → 0 < length (told_at file number line place what)
+some_told file number line place what = ends_in_some file _ 58
 
 module _ (file : List ℕ) (number : ℕ) (line format : List ℕ) where
   -- nothing is reported only if there is no fault
@@ -175,20 +176,8 @@ module _ (file : List ℕ) (number : ℕ) (line format : List ℕ) where
       → length (told_of_message file number line declared format) ≡ 0 → IsSoundOver declared format
   clean_message nothing e = clean_faults _ e
   clean_message (these declared) e = clean_faults _ e
-  clean_message (broken place) e =
-      let what = decimal number ++ (codes ":" ++ (decimal (column_at line place) ++ (codes ": "
-      ++ (what_is_declared ++ codes "\n")))) in
-      let some = ends_in_some file what 58 in absurd (omega (arith, e, some))
-
--- a line of which nothing is reported is sound
-pub sound_line : (file : List ℕ) (number : ℕ) (line format : List ℕ) (declared : Declared)
-    (told : List ℕ) → HasEquals line → declared ≡ declared_of line → format ≡ format_of line
-    → told ≡ told_of_message file number line declared format → length told ≡ 0 → IsSound line
-sound_line file number line format declared told cut same_declared same_format is empty =
-    let clean = clean_message file number line format declared
-    (ap (λ (x : List ℕ). length x) (sym is) ∙ empty) in
-    inr (
-      cut,
-      subst (λ d. IsSoundOver d (format_of line)) same_declared
-          (subst (λ f. IsSoundOver declared f) same_format clean),
-    )
+  clean_message (broken place) e = absurd (omega (
+    arith,
+    e,
+    some_told file number line place what_is_declared,
+  ))

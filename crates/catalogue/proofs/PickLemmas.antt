@@ -45,7 +45,7 @@ each_picked objects (d ∷ ds) (e ∷ es) h =
     (h.0.object, h.0.is) (each_picked objects ds es h.1)
 
 -- a list is its front, an element and the rest
-split_at : {A : Type 0} (xs : List A) (i : ℕ) (d : A) → i < length xs
+pub split_at : {A : Type 0} (xs : List A) (i : ℕ) (d : A) → i < length xs
     → xs ≡ take i xs ++ (get_or xs i d ∷ drop (i + 1) xs)
 split_at xs i d within = sym (take-append-drop (i + 1) xs)
     ∙ (ap (λ l. l ++ drop (i + 1) xs) (take_more xs i d within)

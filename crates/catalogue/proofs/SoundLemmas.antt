@@ -1,12 +1,20 @@
--- The line that was found is sound, if all are.
-use Rattle.std.proofs.Common.{◌≡◌, refl, subst, ℕ, ◌+◌, Bool, true, false, cond, List, [], ◌∷◌}
-use Rattle.std.proofs.Common.{Option, Some, inl, inr, ◌&&◌, not, reverse}
+-- Lines of which nothing is reported are sound, and so is the one that is found.
+use Rattle.std.proofs.Common.{◌≡◌, ◌∙◌, refl, sym, ap, subst, ℕ, ◌+◌, ◌==◌, Bool, true, false, cond}
+use Rattle.std.proofs.Common.{List, [], ◌∷◌, ◌++◌, Option, None, Some, inl, inr, ◌&&◌, not, reverse}
+use Rattle.std.proofs.Common.{arith, codes, eq-eqb, length, length-append, ltb-true, unwrap_or}
 use Rattle.std.proofs.lemmas.List.{reverse-append}
 use Rattle.std.proofs.lemmas.List.Elements.{All-append, All-cons, All-head, All-nil, All-tail}
-use Rattle.std.specs.List.{All, enumerate_from, find}
+use Rattle.std.specs.List.{All, find}
+use Rattle.std.specs.Option.{option_map, option_or}
 use Rattle.std.specs.Str.{bytes_eq}
-use Rattle.catalogue.specs.Messages.{IsSound, IsSoundOver, declared_of, format_of, is_passed_over}
-use Rattle.catalogue.specs.Messages.{is_under, key_of, last_under, numbered}
+use Rattle.catalogue.specs.Declarations.{begin_of, has}
+use Rattle.catalogue.specs.Keys.{IsNew, as_keys, number_of, told_of_key, what_is_again}
+use Rattle.catalogue.specs.Messages.{AreSound, IsSound, IsSoundOver, declared_of, format_of}
+use Rattle.catalogue.specs.Messages.{head_of, is_passed_over, is_under, key_of, key_with, line_under}
+use Rattle.catalogue.specs.Messages.{told_of_line, told_of_lines, told_of_message, IsSoundFile}
+use Rattle.catalogue.specs.Messages.{found_among, lines_of, told_of_file, told_of_files}
+use Rattle.catalogue.specs.Words.{is_equals}
+use Rattle.catalogue.proofs.MessageLemmas.{clean_message, some_told}
 
 -- one that is found first, or later
 by_test : {A : Type 0} (p : A → Bool) (P : A → Type 0) (y x : A) (rest : Option A) (b : Bool)
@@ -29,34 +37,112 @@ all_reversed P (x ∷ xs) h = rw (reverse-append (x ∷ []) xs)
     (All-append P (reverse xs) (x ∷ []) (all_reversed P xs (All-tail P x xs h))
     (All-cons P x [] (All-head P x xs h) (All-nil P)))
 
--- lines with their numbers
-all_numbered : (n : ℕ) (ls : List (List ℕ)) → All IsSound ls
-    → All (λ one. IsSound one.1) (enumerate_from n ls)
-all_numbered n [] h = All-nil _
-all_numbered n (l ∷ ls) h = All-cons (λ (one : ℕ × List ℕ). IsSound one.1) (n, l) _
-    (All-head IsSound l ls h) (all_numbered (n + 1) ls (All-tail IsSound l ls h))
+-- each line is sound after those before it
+all_sound : (keys ls : List (ℕ × List ℕ)) → AreSound keys ls
+    → All (λ one. (before : List (ℕ × List ℕ)) × IsSound before one.1) ls
+all_sound keys [] h = All-nil _
+all_sound keys (one ∷ rest) h = All-cons
+    (λ (one : ℕ × List ℕ). (before : List (ℕ × List ℕ)) × IsSound before one.1) one rest
+    (keys, h.0) (all_sound (keys ++ as_keys one.0 (key_with one.1)) rest h.1)
 
 -- false is not true
 no_bool : false ≡ true → ⊥
 no_bool e = cc
 
 -- a line that has a message is not passed over
-has_message : (passed same : Bool) → (not passed && same) ≡ true → passed ≡ true → ⊥
-has_message true same h e = no_bool h
-has_message false same h e = no_bool e
+not_passed : (passed has same : Bool) → ((not passed && has) && same) ≡ true → passed ≡ true → ⊥
+not_passed true has same h e = no_bool h
+not_passed false has same h e = no_bool e
 
 -- a sound line with a message is sound over what it declares
-sound_under : (key line : List ℕ) → is_under key line ≡ true → IsSound line
-    → IsSoundOver (declared_of line) (format_of line)
-sound_under key line h (inl e) =
-    absurd (has_message (is_passed_over line) (bytes_eq (key_of line) key) h e)
-sound_under key line h (inr s) = s.1
+sound_under : (key line : List ℕ) (keys : List (ℕ × List ℕ)) → is_under key line ≡ true
+    → IsSound keys line → IsSoundOver (declared_of line) (format_of line)
+sound_under key line keys h (inl e) =
+    absurd (not_passed (is_passed_over line) (has is_equals line) (bytes_eq (key_of line) key) h e)
+sound_under key line keys h (inr s) = s.2
 
--- the last line of a key is sound over what it declares
-pub sound_last : (key : List ℕ) (ls : List (List ℕ)) (number : ℕ) (line : List ℕ) → All IsSound ls
-    → last_under key ls ≡ Some (number, line) → IsSoundOver (declared_of line) (format_of line)
-sound_last key ls number line all e =
-    let both = find_holds (λ (one : ℕ × List ℕ). is_under key one.1) (λ one. IsSound one.1)
-    (reverse (numbered ls)) (number, line)
-    (all_reversed (λ (one : ℕ × List ℕ). IsSound one.1) (numbered ls) (all_numbered 1 ls all)) e in
-    sound_under key line both.0 both.1
+-- the line of a key is sound over what it declares
+sound_found : (key : List ℕ) (ls : List (ℕ × List ℕ)) (one : ℕ × List ℕ) → AreSound [] ls
+    → line_under key ls ≡ Some one → IsSoundOver (declared_of one.1) (format_of one.1)
+sound_found key ls one all e =
+    let both = find_holds (λ (one : ℕ × List ℕ). is_under key one.1)
+    (λ one. (before : List (ℕ × List ℕ)) × IsSound before one.1) ls one (all_sound [] ls all) e in
+    sound_under key one.1 both.1.0 both.0 both.1.1
+
+-- nothing is reported of a key only if it is new
+clean_key : (file : List ℕ) (number : ℕ) (line head key : List ℕ) (keys : List (ℕ × List ℕ))
+    (empty : Bool) (o : Option ℕ) → (length key == 0) ≡ empty → number_of keys key ≡ o
+    → length (told_of_key file number line head key keys) ≡ 0 → IsNew keys key
+clean_key file number line head key keys true o b f e =
+    absurd (omega (arith, rw b at e, some_told file number line (begin_of 0 head) (codes "no key")))
+clean_key file number line head key keys false None b f e = record {
+  some = λ none. no_bool (sym b ∙ eq-eqb _ _ none);
+  first = f;
+}
+clean_key file number line head key keys false (Some n) b f e = absurd (omega (
+  arith,
+  rw (b, f) at e,
+  some_told file number line (begin_of 0 head) (what_is_again n key),
+))
+
+-- nor of a line only if it is sound
+clean_line : (file : List ℕ) (keys : List (ℕ × List ℕ)) (number : ℕ) (line : List ℕ)
+    (passed cut : Bool) → is_passed_over line ≡ passed → has is_equals line ≡ cut
+    → length (told_of_line file keys number line) ≡ 0 → IsSound keys line
+clean_line file keys number line true cut p h e = inl p
+clean_line file keys number line false true p h e =
+    let of_key = told_of_key file number line (head_of line) (key_of line) keys in
+    let of_message = told_of_message file number line (declared_of line) (format_of line) in
+    let both : length of_key + length of_message ≡ 0 =
+    sym (length-append of_key of_message) ∙ (rw (p, h) at e) in
+    inr (
+      ltb-true _ _ h,
+      clean_key file number line (head_of line) (key_of line) keys _ _ refl refl
+          (omega (arith, both)),
+      clean_message file number line (format_of line) (declared_of line) (omega (arith, both)),
+    )
+clean_line file keys number line false false p h e =
+    absurd (omega (arith, rw (p, h) at e, some_told file number line 0 (codes "no `=`")))
+
+-- nor of lines
+clean_lines : (file : List ℕ) (keys ls : List (ℕ × List ℕ))
+    → length (told_of_lines file keys ls) ≡ 0 → AreSound keys ls
+clean_lines file keys [] e = tt
+clean_lines file keys (one ∷ rest) e =
+    let more = keys ++ as_keys one.0 (key_with one.1) in
+    let both = length-append (told_of_line file keys one.0 one.1) (told_of_lines file more rest) in (
+      clean_line file keys one.0 one.1 _ _ refl refl (omega (arith, e, both)),
+      clean_lines file more rest (omega (arith, e, both)),
+    )
+
+-- nor of files
+pub clean_files : (files : List (List ℕ × List ℕ)) → length (told_of_files files) ≡ 0
+    → All IsSoundFile files
+clean_files [] e = All-nil IsSoundFile
+clean_files (file ∷ files) e =
+    let both = length-append (told_of_file file) (told_of_files files) in
+    All-cons IsSoundFile file files
+    (clean_lines file.0 [] (lines_of file.1) (omega (arith, e, both)))
+    (clean_files files (omega (arith, e, both)))
+
+-- what is found in a file, or else in others, is sound over what it declares
+sound_in : (key : List ℕ) (file : List ℕ × List ℕ) (o : Option (ℕ × List ℕ))
+    (rest : Option (List ℕ × ℕ × List ℕ)) (one : List ℕ × ℕ × List ℕ) → IsSoundFile file
+    → line_under key (lines_of file.1) ≡ o
+    → (rest ≡ Some one → IsSoundOver (declared_of one.2) (format_of one.2))
+    → option_or (option_map (λ x. (file.0, x.0, x.1)) o) rest ≡ Some one
+    → IsSoundOver (declared_of one.2) (format_of one.2)
+sound_in key file None rest one sound is next e = next e
+sound_in key file (Some x) rest one sound is next e =
+    let same = ap (λ (y : List ℕ × ℕ × List ℕ). y.2) (ap (λ o. unwrap_or o one) e) in
+    subst (λ l. IsSoundOver (declared_of l) (format_of l)) same
+    (sound_found key (lines_of file.1) x sound is)
+
+pub sound_among : (key : List ℕ) (files : List (List ℕ × List ℕ)) (one : List ℕ × ℕ × List ℕ)
+    → All IsSoundFile files → found_among key files ≡ Some one
+    → IsSoundOver (declared_of one.2) (format_of one.2)
+sound_among key [] one h e = absurd (cc)
+sound_among key (file ∷ files) one h e =
+    sound_in key file (line_under key (lines_of file.1)) (found_among key files) one
+    (All-head IsSoundFile file files h) refl
+    (sound_among key files one (All-tail IsSoundFile file files h)) e

@@ -1,10 +1,11 @@
 -- What the head of a line declares: names, each with a kind of value. Texts are bytes.
-use Rattle.std.specs.Prelude.{ℕ, Bool, not, ◌==◌, ◌-◌, nat_lt, List, [], ◌∷◌, ◌++◌}
+use Rattle.std.specs.Prelude.{ℕ, Bool, not, ◌&&◌, ◌==◌, ◌-◌, nat_lt, List, [], ◌∷◌, ◌++◌}
 use Rattle.std.specs.Prelude.{drop, length, map, take}
 use Rattle.std.specs.Prelude.{codes, if◌then◌else◌, Option, None, Some}
 use Rattle.std.specs.Option.{option_or}
 use Rattle.std.specs.List.{before_first, after_first, list_any, position_or_len, slice_split}
-use Rattle.std.specs.Str.{bytes_eq, trim, trim_start}
+use Rattle.std.specs.Char.{is_whitespace}
+use Rattle.std.specs.Str.{bytes_eq, chars, trim, trim_start}
 use Rattle.interpolator.specs.Explained.{usize_sum}
 use Rattle.catalogue.specs.declared.declarations.Declaration.{Declaration}
 use Rattle.catalogue.specs.declared.declarations.Heading.{Heading}
@@ -51,9 +52,13 @@ by_ending text None None = (text, kinds.Text)
 abbrev pub declaration_of : List ℕ → List ℕ × Kind
 declaration_of text = by_ending text (without (codes ":") text) (without (codes "[]") text)
 
--- a declaration whose name is not empty
+-- a text can be a declared name: it is not empty, and has no white space
+abbrev pub is_name : List ℕ → Bool
+is_name text = not (length text == 0) && not (list_any is_whitespace (chars text))
+
+-- a declaration whose name can be one
 abbrev pub named : List ℕ × Kind → Option (List ℕ × Kind)
-named declared = if_whole (not (length declared.0 == 0)) declared
+named declared = if_whole (is_name declared.0) declared
 
 -- the declaration between two commas
 abbrev pub part_of : List ℕ → Option (List ℕ × Kind)

@@ -5,3 +5,5 @@ pub mod Examples
 pub mod Entries
 pub mod Words
 pub mod Picks
+pub mod Reports
+pub mod Keys

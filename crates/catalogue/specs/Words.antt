@@ -1,11 +1,12 @@
 -- What the words give: a name with a kind, `=`, and a text, a number or the items of a list.
 use Rattle.std.specs.Prelude.{◌≡◌, ◌⊎◌, ⊤, ℕ, ℤ, pos, neg_ℤ, Bool, ◌==◌, ◌<◌, List, [], ◌∷◌, ◌++◌}
-use Rattle.std.specs.Prelude.{map, codes, FitsSigned, length}
+use Rattle.std.specs.Prelude.{map, codes, FitsSigned, length, string_bytes}
 use Rattle.std.specs.Borrow.{Bor}
 use Rattle.std.specs.Int.{w128}
-use Rattle.std.specs.List.{after_first, before_first, position_or_len, slice_split}
+use Rattle.std.specs.List.{All, after_first, before_first, position_or_len, slice_split}
 use Rattle.std.specs.Str.{chars}
 use Rattle.std.specs.Str.Parse.{IsNumeral, digits_value}
+use Rattle.std.specs.declared.string.String.{String}
 use Rattle.interpolator.specs.Views.{Shown, shown_as_value, signed_number, some_text}
 use Rattle.interpolator.specs.declared.Bits.TheVariants.{B128}
 use Rattle.interpolator.specs.declared.View.{View}
@@ -76,6 +77,16 @@ IsCut word = (declared : List ℕ × Kind) × (text : List ℕ) × Cuts word dec
 abbrev pub IsGood : List ℕ → Type 0
 IsGood word = (declared : List ℕ × Kind) × (text : List ℕ) × Cuts word declared text
     × Fits declared.1 text
+
+-- the first of some words that gives nothing
+pub record IsFirstBad {Y : Type 0} (words : List (String Y)) (bad : List ℕ) : Type 0 where
+  pub before : List (String Y)
+  pub word : String Y
+  pub after : List (String Y)
+  pub split : words ≡ before ++ (word ∷ after)
+  pub good : All (λ one. IsGood (string_bytes one)) before
+  pub spelled : bad ≡ string_bytes word
+  pub none : ¬ IsGood bad
 
 -- a word gives an object: its name, its kind and what its value shows
 pub record Gives (word : List ℕ) (object : Object) : Type 0 where

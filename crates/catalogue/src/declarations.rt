@@ -3,10 +3,11 @@
 ghost use Rattle.std.specs.Prelude.{◌≡◌, ◌++◌, IfOk, OnOk, map};
 ghost use Rattle.std.specs.Option.{option_map};
 ghost use Rattle.std.specs.List.{list_any};
-ghost use Rattle.std.specs.Str.{bytes_eq, trim};
+ghost use Rattle.std.specs.Char.{is_whitespace};
+ghost use Rattle.std.specs.Str.{bytes_eq, chars, trim};
 ghost use Rattle.catalogue.specs.Declarations.{as_declaration, as_list};
 ghost use Rattle.catalogue.specs.Declarations.{declaration_of, if_whole, without};
-ghost use Rattle.catalogue.specs.Declarations.{part_of, begin_of, after_part, broken_at};
+ghost use Rattle.catalogue.specs.Declarations.{is_name, part_of, begin_of, after_part, broken_at};
 ghost use Rattle.catalogue.specs.Declarations.{declared_by, declared_between, declared_after};
 ghost use Rattle.catalogue.specs.Declarations.{declared_in, key_in};
 
@@ -83,16 +84,30 @@ pub fn declaration_of(text: &str) -> Declaration<'_>
     }
 }
 
-/// The declaration between two commas, without the white space around it. Its name is not empty.
+/// Whether a text has white space.
+fn has_space(text: &str) -> bool
+    ensures { result ≡ list_any is_whitespace (chars text.now) }
+{
+    text.chars().any(|c| c.is_whitespace())
+}
+
+/// Whether a text can be a declared name: it is not empty, and has no white space.
+fn is_name(text: &str) -> bool
+    ensures { result ≡ is_name text.now }
+{
+    !text.is_empty() && !has_space(text)
+}
+
+/// The declaration between two commas, without the white space around it.
 fn part_of(part: &str) -> Option<Declaration<'_>>
     ensures { option_map as_declaration result ≡ part_of part.now }
 {
     let declared = declaration_of(part.trim());
-    if_whole(declared.name, declared.kind, !declared.name.is_empty())
+    if_whole(declared.name, declared.kind, is_name(declared.name))
 }
 
 /// Where the part at a byte begins, after the white space in front of it.
-fn begin_of(place: usize, part: &str) -> usize
+pub fn begin_of(place: usize, part: &str) -> usize
     ensures { result ≡ begin_of place part.now }
 {
     place.saturating_add(part.len().saturating_sub(part.trim_start().len()))
@@ -183,7 +198,8 @@ fn declared_after<'a>(
 /// The key of a line's head, and what it declares.
 ///
 /// `greeting(name, count:, items[])` declares a text `name`, a number `count` and a list of texts
-/// `items`. Each name is declared once. After the `)` there is nothing but white space.
+/// `items`. Each name is declared once, and has no white space. After the `)` there is nothing but
+/// white space.
 pub fn heading_of<'a>(alloc: Global, head: &'a str) -> Result<(&'a str, Heading<'a>), AllocError>
     ensures key { IfOk result (λ found. found.0.now ≡ key_in head.now) }
     ensures declared { IfOk result (λ found. declared_by found.1 ≡ declared_in head.now) }

@@ -1,23 +1,36 @@
-//! `catalogue FILE KEY [NAME=TEXT | NAME:=NUMBER | NAME[]=ITEM,ITEM..]`: the message under a key in
-//! a file whose messages are all checked first.
+//! `catalogue [--fallback FILE] FILE KEY [NAME=TEXT | NAME:=NUMBER | NAME[]=ITEM,ITEM..]`: the message
+//! under a key in a file whose messages are all checked first. If the file lacks the key, the message
+//! is that of the fallback, which is checked too. `catalogue --check FILE..` checks files alone.
 //!
-//! A line of the file is `key = format`, or `key(name, count:, items[]) = format`, which declares
+//! A line of a file is `key = format`, or `key(name, count:, items[]) = format`, which declares
 //! a text `name`, a number `count` and a list of texts `items`. The format is then checked with
-//! examples of these, and the words have to give them, in any order. Blank lines, and lines that
-//! begin with `#`, are skipped. Each fault is shown in its line, with the file, the line and the
-//! column; if there is any, no message is written.
+//! examples of these, and the words have to give them, in any order. No two lines of a file have the
+//! same key. Blank lines, and lines that begin with `#`, are skipped. Each fault is shown in its line,
+//! with the file, the line and the column; if there is any, no message is written.
+//!
+//! The status is 0 after a message, or a check without a fault; 1 after a fault, 2 after a wrong use or
+//! a bad word, and 3 if a file cannot be read or the output cannot be written.
 #![tactic(auto)]
 
 mod declarations;
 mod entries;
 mod examples;
+mod files;
+mod keys;
 mod messages;
 mod picks;
+mod reports;
 mod words;
 
-use messages::{Answer, look_up};
+use files::File;
+use messages::{Answer, check, look_up};
 use std::process::ExitCode;
 use std::{env, fs, io};
+
+const USAGE: &str = "usage: catalogue [--fallback FILE] FILE KEY \
+    [NAME=TEXT | NAME:=NUMBER | NAME[]=ITEM,ITEM..] | catalogue --check FILE..";
+
+const WRITTEN: u8 = 0;
 
 const FAULT: u8 = 1;
 
@@ -25,40 +38,149 @@ const BAD_USE: u8 = 2;
 
 const REFUSED: u8 = 3;
 
-/// The file, its text, the key, and the words that give values.
-#[derive(Drop)]
-struct Request {
-    words: Vec<String>,
-    text: String,
+/// What a command line asks for.
+#[derive(Clone, Copy)]
+enum Asked<'a> {
+    /// A check of these files.
+    Check(&'a [String]),
+    /// A message.
+    Message(Wanted<'a>),
 }
 
-fn words_and_text(rt: &HostRuntime) -> io::Result<Request> {
-    let words = env::args(rt)?.skip(1).collect::<Vec<String>>(rt.alloc())?;
-    let [file, _, ..] = words.as_slice() else {
-        return Err(io::Error::from(io::ErrorKind::InvalidInput));
+/// The message under a key of a file, or else of a second file, with the values of words.
+#[derive(Clone, Copy)]
+struct Wanted<'a> {
+    file: &'a str,
+    second: Option<&'a str>,
+    key: &'a str,
+    values: &'a [String],
+}
+
+/// The message that words ask for, if they do: a file, a key and values.
+fn wanted_by<'a>(words: &'a [String], second: Option<&'a str>) -> Option<Asked<'a>> {
+    let [file, key, values @ ..] = words else {
+        return None;
     };
-    let text = fs::read_to_string(rt, file.as_str())?;
-    Ok(Request { words, text })
+    if file.starts_with("--") {
+        return None;
+    }
+    Some(Asked::Message(Wanted {
+        file: file.as_str(),
+        second,
+        key: key.as_str(),
+        values,
+    }))
+}
+
+/// What a command line asks for, if it is a right one.
+fn asked_by(line: &[String]) -> Option<Asked<'_>> {
+    let (flag, files) = line.split_first()?;
+    if flag.as_str() == "--check" && !files.is_empty() {
+        return Some(Asked::Check(files));
+    }
+    if flag.as_str() == "--fallback" {
+        let (second, words) = files.split_first()?;
+        return wanted_by(words, Some(second.as_str()));
+    }
+    wanted_by(line, None)
+}
+
+/// Reads a file; if that fails, says why.
+fn read(rt: &HostRuntime, name: &str) -> io::Result<Option<File>> {
+    match fs::read_to_string(rt, name) {
+        Ok(text) => {
+            let name = String::from_str(rt.alloc(), name)?;
+            Ok(Some(File { name, text }))
+        }
+        Err(error) => {
+            eprintln!(rt; "{name}: {error}")?;
+            Ok(None)
+        }
+    }
+}
+
+/// Writes the usage line.
+fn tell_usage(rt: &HostRuntime) -> io::Result<u8> {
+    eprintln!(rt; "{USAGE}")?;
+    Ok(BAD_USE)
+}
+
+/// Writes an answer.
+fn tell(rt: &HostRuntime, answer: &Answer) -> io::Result<u8> {
+    match answer {
+        Answer::Message(message) => {
+            println!(rt; "{message}")?;
+            Ok(WRITTEN)
+        }
+        Answer::Faults(faults) => {
+            eprint!(rt; "{faults}")?;
+            Ok(FAULT)
+        }
+        Answer::BadWord(word) => {
+            eprintln!(rt; "bad word: {word}")?;
+            Ok(BAD_USE)
+        }
+    }
+}
+
+/// Writes a message.
+fn answer(rt: &HostRuntime, wanted: &Wanted<'_>) -> io::Result<u8> {
+    let mut files = Vec::new(rt.alloc());
+    let Some(file) = read(rt, wanted.file)? else {
+        return Ok(REFUSED);
+    };
+    files.push(file)?;
+    if let Some(second) = wanted.second {
+        let Some(file) = read(rt, second)? else {
+            return Ok(REFUSED);
+        };
+        files.push(file)?;
+    }
+    match look_up(rt.alloc(), files.as_slice(), wanted.key, wanted.values) {
+        Ok(answer) => tell(rt, &answer),
+        Err(error) => {
+            eprintln!(rt; "{error}")?;
+            Ok(FAULT)
+        }
+    }
+}
+
+/// Checks files, and writes what is wrong with those that can be read.
+fn check_files(rt: &HostRuntime, names: &[String]) -> io::Result<u8> {
+    let mut files = Vec::new(rt.alloc());
+    let mut status = WRITTEN;
+    for name in names {
+        match read(rt, name.as_str())? {
+            Some(file) => files.push(file)?,
+            None => status = REFUSED,
+        }
+    }
+    let told = check(rt.alloc(), files.as_slice());
+    match &told {
+        Ok(told) if told.is_empty() => return Ok(status),
+        Ok(told) => eprint!(rt; "{told}")?,
+        Err(error) => eprintln!(rt; "{error}")?,
+    }
+    Ok(status.max(FAULT))
+}
+
+/// Runs a command line, and returns the status.
+fn run(rt: &HostRuntime) -> io::Result<u8> {
+    // A word that is not UTF-8 is a wrong use.
+    let Ok(words) = env::args(rt) else {
+        return tell_usage(rt);
+    };
+    let line = words.skip(1).collect::<Vec<String>>(rt.alloc())?;
+    match asked_by(line.as_slice()) {
+        Some(Asked::Check(files)) => check_files(rt, files),
+        Some(Asked::Message(wanted)) => answer(rt, &wanted),
+        None => tell_usage(rt),
+    }
 }
 
 fn main(rt: HostRuntime) -> ExitCode {
-    let Ok(asked) = words_and_text(&rt) else {
-        return ExitCode::from(BAD_USE);
-    };
-    let [file, key, values @ ..] = asked.words.as_slice() else {
-        return ExitCode::from(BAD_USE);
-    };
-    let text = asked.text.as_str();
-    let told = match look_up(rt.alloc(), file.as_str(), text, key.as_str(), values) {
-        Ok(Answer::Message(message)) => match println!(&rt; "{message}") {
-            Ok(()) => return ExitCode::SUCCESS,
-            Err(_) => return ExitCode::from(REFUSED),
-        },
-        Ok(Answer::Faults(faults)) => eprint!(&rt; "{faults}"),
-        Err(error) => eprintln!(&rt; "{error}"),
-    };
-    match told {
-        Ok(()) => ExitCode::from(FAULT),
+    match run(&rt) {
+        Ok(status) => ExitCode::from(status),
         Err(_) => ExitCode::from(REFUSED),
     }
 }

@@ -1,39 +1,44 @@
 //! The messages of a file, which are all checked, and the one under a key.
 
-ghost use Rattle.std.specs.Prelude.{◌≡◌, ◌<◌, ℕ, List, IfOk, IfErr, IfSome, MatchOption, All};
+ghost use Rattle.std.specs.Prelude.{◌≡◌, ◌<◌, ℕ, List, [], IfOk, IfErr, IfSome, MatchOption};
 ghost use Rattle.std.specs.Prelude.{length, map, None, Some, if◌then◌else◌, string_bytes};
-ghost use Rattle.std.specs.List.{AllZip};
+ghost use Rattle.std.specs.List.{All, AllZip};
 ghost use Rattle.std.specs.Option.{option_map};
 ghost use Rattle.std.specs.Str.{bytes_eq};
 ghost use Rattle.std.specs.Str.Lines.{lines};
 ghost use Rattle.interpolator.specs.Faults.{answer_of, no_memory};
 ghost use Rattle.catalogue.specs.Declarations.{Declared, declared_by};
-ghost use Rattle.catalogue.specs.Messages.{IsSound};
-ghost use Rattle.catalogue.specs.Words.{HasEquals};
-ghost use Rattle.catalogue.specs.Messages.{is_passed_over, is_under, head_of, format_of};
-ghost use Rattle.catalogue.specs.Messages.{last_under, told_at, told_of_fault, told_of_message};
+ghost use Rattle.catalogue.specs.Keys.{as_key, told_of_key};
+ghost use Rattle.catalogue.specs.Messages.{is_passed_over, is_under, head_of, format_of, key_with};
+ghost use Rattle.catalogue.specs.Messages.{line_under, lines_of, numbered, without_mark};
+ghost use Rattle.catalogue.specs.Messages.{IsSoundFile, as_file, found_among, line_with_format};
+ghost use Rattle.catalogue.specs.Messages.{told_of_absent, told_of_file, told_of_files};
+ghost use Rattle.catalogue.specs.Messages.{told_of_fault, told_of_message};
 ghost use Rattle.catalogue.specs.Messages.{told_of_line, told_of_lines, told_of_replies};
 ghost use Rattle.catalogue.specs.Messages.{told_of_faults, told_of_reply};
-ghost use Rattle.catalogue.specs.Examples.{faults_of};
 ghost use Rattle.catalogue.specs.Messages.{with_format, IsMadeOrTold, Replies, Answers};
+ghost use Rattle.catalogue.specs.Examples.{faults_of};
 ghost use Rattle.catalogue.specs.Entries.{Lends};
+ghost use Rattle.catalogue.specs.Reports.{told_at};
+ghost use Rattle.catalogue.specs.Words.{HasEquals};
 ghost use Rattle.catalogue.specs.declared.entries.Object.{Object};
 
 use crate::declarations::{Heading, heading_of};
 use crate::entries::{Entry, Object, pairs_of};
 use crate::examples::{counts, faults_of};
+use crate::files::File;
+use crate::keys::{Key, add, told_of_key};
 use crate::picks::{Picked, picks_of, told_of_lacking};
+use crate::reports::told_at;
 use crate::words::objects_of;
-use interpolator::{
-    Error, Formattable, Interpolate, Pairs, Position, Source, Template, explain_in,
-};
-use std::alloc::{AllocError, Global};
+use interpolator::{Error, Formattable, Interpolate, Pairs, Source, Template, explain_in};
+use std::alloc::Global;
+
+/// The byte order mark, which some editors write at the head of a file.
+const MARK: &str = "\u{feff}";
 
 /// What is reported of a broken declaration.
 const WHAT_IS_DECLARED: &str = "declarations are `(NAME, NAME:, NAME[])`, each name once";
-
-/// What is reported of a word that gives no value.
-const WHAT_IS_A_WORD: &str = "a value is `NAME=TEXT`, `NAME:=NUMBER` or `NAME[]=ITEM,ITEM`\n";
 
 /// What the program prints.
 #[derive(Drop)]
@@ -42,11 +47,14 @@ pub enum Answer {
     Message(String),
     /// Everything that is wrong, fault by fault.
     Faults(String),
+    /// The first word that gives no value.
+    BadWord(String),
 }
 
-/// A line of the file that has the key.
+/// A line that has the key, and the name of its file.
 #[derive(Drop)]
 struct Found<'a> {
+    file: &'a str,
     /// Counted from 1.
     number: usize,
     text: &'a str,
@@ -54,27 +62,19 @@ struct Found<'a> {
     heading: Heading<'a>,
 }
 
-/// What is wrong with some lines, and the last of them that has the key.
+/// What is wrong with a line, its own key, and the line itself if it has the key that is looked up.
+#[derive(Drop)]
+struct Line<'a> {
+    told: String,
+    key: Option<&'a str>,
+    found: Option<Found<'a>>,
+}
+
+/// What is wrong with all lines, and the one that has the key.
 #[derive(Drop)]
 struct Verdict<'a> {
     told: String,
     found: Option<Found<'a>>,
-}
-
-/// Reports something at a column of a line of the file.
-fn told_at(
-    alloc: Global,
-    file: &str,
-    number: usize,
-    column: usize,
-    what: &str,
-) -> Result<String, AllocError>
-    ensures told { IfOk result (λ told.
-        string_bytes told ≡ told_at file.now number column what.now) }
-    ensures some { IfOk result (λ told. 0 < length (string_bytes told)) }
-{
-    let told = format!(in alloc; "{file}:{number}:{column}: {what}\n")?;
-    Ok(told)
 }
 
 /// Reports a fault of a line's format, shown in its line.
@@ -185,9 +185,7 @@ fn told_of_message(
     ensures refused { IfErr result (λ error. answer_of error ≡ no_memory) }
 {
     if let Heading::Broken(place) = heading {
-        let column = Position::of(line, *place).column;
-        let told = told_at(alloc, file, number, column, WHAT_IS_DECLARED)?;
-        return Ok(told);
+        return told_at(alloc, file, number, line, *place, WHAT_IS_DECLARED);
     }
     told_of_format(alloc, file, number, line, template, heading)
 }
@@ -216,84 +214,176 @@ fn is_passed_over(line: &str) -> bool
     line.trim().is_empty() || line.starts_with('#')
 }
 
-/// Checks a line, and returns what is wrong with it, and the line itself if it has the key.
+/// A text without a byte order mark at its head.
+fn without_mark(text: &str) -> &str
+    ensures { result.now ≡ without_mark text.now }
+{
+    text.strip_prefix(MARK).unwrap_or(text)
+}
+
+/// Checks a line, after others with these keys.
 fn checked_line<'a>(
     alloc: Global,
-    file: &str,
+    file: &'a str,
     number: usize,
     text: &'a str,
+    keys: &[Key<'_>],
     key: &str,
-) -> Result<Verdict<'a>, Error>
-    ensures told { IfOk result (λ verdict.
-        string_bytes verdict.told ≡ told_of_line file.now number text.now) }
-    ensures sound { IfOk result (λ verdict. length (string_bytes verdict.told) ≡ 0
-        → IsSound text.now) }
-    ensures found { IfOk result (λ verdict. length (string_bytes verdict.told) ≡ 0
-        → option_map {U = ℕ × List ℕ × List ℕ × Declared}
-        (λ one. (one.number, one.text.now, one.template, declared_by one.heading)) verdict.found
-        ≡ (if is_under key.now text.now then Some (with_format (number, text.now)) else None)) }
+) -> Result<Line<'a>, Error>
+    ensures told { IfOk result (λ line. string_bytes line.told
+        ≡ told_of_line file.now (map as_key keys.now) number text.now) }
+    ensures key { IfOk result (λ line.
+        option_map (λ x. x.now) line.key ≡ key_with text.now) }
+    ensures found { IfOk result (λ line. option_map {U = List ℕ × ℕ × List ℕ × List ℕ × Declared}
+        (λ one. (one.file.now, one.number, one.text.now, one.template, declared_by one.heading))
+        line.found ≡ (if is_under key.now text.now
+        then Some (with_format file.now (number, text.now)) else None)) }
     ensures refused { IfErr result (λ error. answer_of error ≡ no_memory) }
 {
-    let told = String::new(alloc);
     if is_passed_over(text) {
-        return Ok(Verdict { told, found: None });
+        let told = String::new(alloc);
+        return Ok(Line {
+            told,
+            key: None,
+            found: None,
+        });
     }
     let Some((head, format)) = line_of(text) else {
-        let told = told_at(alloc, file, number, 1, "no `=`")?;
-        return Ok(Verdict { told, found: None });
+        let told = told_at(alloc, file, number, text, 0, "no `=`")?;
+        return Ok(Line {
+            told,
+            key: None,
+            found: None,
+        });
     };
     let (its_key, heading) = heading_of(alloc, head)?;
     let template = Template::parse(alloc, format)?;
-    let told = told_of_message(alloc, file, number, text, &template, &heading)?;
-    if is_key(its_key, key) {
-        let found = Some(Found {
-            number,
-            text,
-            template,
-            heading,
+    let mut told = told_of_key(alloc, file, number, text, head, its_key, keys)?;
+    let more = told_of_message(alloc, file, number, text, &template, &heading)?;
+    told.push_str(more.as_str())?;
+    if !is_key(its_key, key) {
+        return Ok(Line {
+            told,
+            key: Some(its_key),
+            found: None,
         });
-        Ok(Verdict { told, found })
-    } else {
-        Ok(Verdict { told, found: None })
     }
+    let found = Some(Found {
+        file,
+        number,
+        text,
+        template,
+        heading,
+    });
+    Ok(Line {
+        told,
+        key: Some(its_key),
+        found,
+    })
 }
 
-/// Checks each line, and finds the last one that has the key.
-fn checked<'a>(alloc: Global, file: &str, text: &'a str, key: &str) -> Result<Verdict<'a>, Error>
-    ensures told { IfOk result (λ verdict.
-        string_bytes verdict.told ≡ told_of_lines file.now (lines text.now)) }
-    ensures sound { IfOk result (λ verdict. length (string_bytes verdict.told) ≡ 0
-        → All IsSound (lines text.now)) }
-    ensures found { IfOk result (λ verdict. length (string_bytes verdict.told) ≡ 0
-        → option_map {U = ℕ × List ℕ × List ℕ × Declared}
-        (λ one. (one.number, one.text.now, one.template, declared_by one.heading)) verdict.found
-        ≡ option_map with_format (last_under key.now (lines text.now))) }
+/// Checks each line of a text, and finds the one that has the key.
+fn checked_lines<'a>(
+    alloc: Global,
+    file: &'a str,
+    text: &'a str,
+    key: &str,
+) -> Result<Verdict<'a>, Error>
+    ensures told { IfOk result (λ verdict. string_bytes verdict.told
+        ≡ told_of_lines file.now [] (numbered (lines text.now))) }
+    ensures found { IfOk result (λ verdict. option_map
+        {U = List ℕ × ℕ × List ℕ × List ℕ × Declared}
+        (λ one. (one.file.now, one.number, one.text.now, one.template, declared_by one.heading))
+        verdict.found ≡ option_map (with_format file.now)
+        (line_under key.now (numbered (lines text.now)))) }
     ensures refused { IfErr result (λ error. answer_of error ≡ no_memory) }
 {
     let mut told = String::new(alloc);
+    let mut keys = Vec::new(alloc);
     let mut found = None;
     let mut number = 0usize;
     for text in text.lines() {
         number += 1;
-        let Verdict {
-            told: more,
-            found: one,
-        } = checked_line(alloc, file, number, text, key)?;
-        told.push_str(more.as_str())?;
-        found = one.or(found);
+        let line = checked_line(alloc, file, number, text, keys.as_slice(), key)?;
+        told.push_str(line.told.as_str())?;
+        add(&mut keys, number, line.key)?;
+        found = found.or(line.found);
     }
     Ok(Verdict { told, found })
 }
 
+/// Checks the lines of a file, and finds the one that has the key.
+fn checked_file<'a>(alloc: Global, file: &'a File, key: &str) -> Result<Verdict<'a>, Error>
+    ensures told { IfOk result (λ verdict.
+        string_bytes verdict.told ≡ told_of_file (as_file file.now)) }
+    ensures found { IfOk result (λ verdict. option_map
+        {U = List ℕ × ℕ × List ℕ × List ℕ × Declared}
+        (λ one. (one.file.now, one.number, one.text.now, one.template, declared_by one.heading))
+        verdict.found ≡ option_map (with_format (as_file file.now).0)
+        (line_under key.now (lines_of (as_file file.now).1))) }
+    ensures refused { IfErr result (λ error. answer_of error ≡ no_memory) }
+{
+    let text = without_mark(file.text.as_str());
+    checked_lines(alloc, file.name.as_str(), text, key)
+}
+
+/// Checks some files, and finds the line of the key in the first that has it.
+fn checked<'a>(alloc: Global, files: &'a [File], key: &str) -> Result<Verdict<'a>, Error>
+    ensures told { IfOk result (λ verdict.
+        string_bytes verdict.told ≡ told_of_files (map as_file files.now)) }
+    ensures found { IfOk result (λ verdict. option_map
+        {U = List ℕ × ℕ × List ℕ × List ℕ × Declared}
+        (λ one. (one.file.now, one.number, one.text.now, one.template, declared_by one.heading))
+        verdict.found ≡ option_map line_with_format
+        (found_among key.now (map as_file files.now))) }
+    ensures refused { IfErr result (λ error. answer_of error ≡ no_memory) }
+{
+    let mut told = String::new(alloc);
+    let mut found = None;
+    for file in files {
+        let of_file = checked_file(alloc, file, key)?;
+        told.push_str(of_file.told.as_str())?;
+        found = found.or(of_file.found);
+    }
+    Ok(Verdict { told, found })
+}
+
+/// Reports all that is wrong with some files: the faults of each line of each file, in their order;
+/// nothing, if every file is sound.
+///
+/// # Errors
+///
+/// `NoMemory`.
+pub fn check(alloc: Global, files: &[File]) -> Result<String, Error>
+    ensures told { IfOk result (λ told.
+        string_bytes told ≡ told_of_files (map as_file files.now)) }
+    ensures sound { IfOk result (λ told.
+        length (string_bytes told) ≡ 0 → All IsSoundFile (map as_file files.now)) }
+    ensures refused { IfErr result (λ error. answer_of error ≡ no_memory) }
+{
+    let verdict = checked(alloc, files, "")?;
+    Ok(verdict.told)
+}
+
+/// Reports that no file has a message under a key, for each of them.
+fn told_of_absent(alloc: Global, files: &[File], key: &str) -> Result<String, Error>
+    ensures told { IfOk result (λ told.
+        string_bytes told ≡ told_of_absent key.now (map as_file files.now)) }
+    ensures refused { IfErr result (λ error. answer_of error ≡ no_memory) }
+{
+    let mut told = String::new(alloc);
+    for file in files {
+        let name = file.name.as_str();
+        let more = format!(in alloc; "{name}: no message `{key}`\n")?;
+        told.push_str(more.as_str())?;
+    }
+    Ok(told)
+}
+
 /// The message of a line, or its fault.
-fn said(
-    alloc: Global,
-    file: &str,
-    found: &Found<'_>,
-    entries: &[Entry<'_>],
-) -> Result<Answer, Error>
+fn said(alloc: Global, found: &Found<'_>, entries: &[Entry<'_>]) -> Result<Answer, Error>
     ensures said { IfOk result (λ answer. (objects : List Object)
-        → AllZip Lends objects entries.now → IsMadeOrTold file.now found.now.number
+        → AllZip Lends objects entries.now → IsMadeOrTold found.now.file.now found.now.number
         found.now.text.now found.now.template objects answer) }
     ensures refused { IfErr result (λ error. answer_of error ≡ no_memory) }
 {
@@ -304,7 +394,14 @@ fn said(
             None => Err(error),
             Some(_) => {
                 let format = found.template.text();
-                let told = told_of_fault(alloc, file, found.number, found.text, format, &error)?;
+                let told = told_of_fault(
+                    alloc,
+                    found.file,
+                    found.number,
+                    found.text,
+                    format,
+                    &error,
+                )?;
                 Ok(Answer::Faults(told))
             }
         },
@@ -315,32 +412,33 @@ fn said(
 /// fault.
 fn message(
     alloc: Global,
-    file: &str,
     key: &str,
     found: &Found<'_>,
     objects: &[Object<'_>],
 ) -> Result<Answer, Error>
-    ensures replies { IfOk result (λ answer. Replies file.now found.now.number found.now.text.now
-        key.now found.now.template (declared_by found.now.heading) objects.now answer) }
+    ensures replies { IfOk result (λ answer. Replies found.now.file.now found.now.number
+        found.now.text.now key.now found.now.template (declared_by found.now.heading)
+        objects.now answer) }
     ensures refused { IfErr result (λ error. answer_of error ≡ no_memory) }
 {
     match picks_of(alloc, objects, &found.heading)? {
-        Picked::Values(entries) => said(alloc, file, found, entries.as_slice()),
+        Picked::Values(entries) => said(alloc, found, entries.as_slice()),
         Picked::Lacks(lacking) => {
-            let told = told_of_lacking(alloc, file, found.number, key, &lacking)?;
+            let told = told_of_lacking(alloc, found.file, found.number, key, &lacking)?;
             Ok(Answer::Faults(told))
         }
     }
 }
 
-/// The message under a key, with the values of words `NAME=TEXT`, `NAME:=NUMBER` and
-/// `NAME[]=ITEM,ITEM..`; or all that is wrong with the file, or else with the key, the words or the
-/// message.
+/// The message under a key in the first file that has the key, with the values of words `NAME=TEXT`,
+/// `NAME:=NUMBER` and `NAME[]=ITEM,ITEM..`; or all that is wrong with the files, or else with the key,
+/// the words or the message.
 ///
-/// There is a message only if every line but blank ones and comments is sound: it has an `=`, its
-/// declarations are whole, and its format has no fault, by itself or with examples of what the line
-/// declares. Else all faults of each line are reported. Of two lines with one key the last counts,
-/// and so does the last of two words with one name.
+/// There is a message only if every line of every file but blank ones and comments is sound: it has
+/// an `=` and a key that no line before it has, its declarations are whole, and its format has no
+/// fault, by itself or with examples of what the line declares. Else all faults of each line are
+/// reported. A byte order mark at the head of a file is skipped. Of two words with one name the last
+/// counts.
 ///
 /// The format of a line that declares names gets the words of these names, in any order, and no
 /// others. If one of them is missing, or of another kind, that is reported; else the message has no
@@ -349,28 +447,24 @@ fn message(
 /// # Errors
 ///
 /// `NoMemory`.
-pub fn look_up(
-    alloc: Global,
-    file: &str,
-    text: &str,
-    key: &str,
-    words: &[String],
-) -> Result<Answer, Error>
+pub fn look_up(alloc: Global, files: &[File], key: &str, words: &[String]) -> Result<Answer, Error>
     ensures answers { IfOk result (λ answer.
-        Answers file.now text.now key.now words.now answer) }
+        Answers (map as_file files.now) key.now words.now answer) }
     ensures refused { IfErr result (λ error. answer_of error ≡ no_memory) }
 {
-    let Verdict { told, found } = checked(alloc, file, text, key)?;
+    let Verdict { told, found } = checked(alloc, files, key)?;
     if !told.is_empty() {
         return Ok(Answer::Faults(told));
     }
     let Some(found) = found else {
-        let told = format!(in alloc; "{file}: no message `{key}`\n")?;
-        return Ok(Answer::Faults(told));
+        let absent = told_of_absent(alloc, files, key)?;
+        return Ok(Answer::Faults(absent));
     };
-    let Some(objects) = objects_of(alloc, words)? else {
-        let told = String::from_str(alloc, WHAT_IS_A_WORD)?;
-        return Ok(Answer::Faults(told));
-    };
-    message(alloc, file, key, &found, objects.as_slice())
+    match objects_of(alloc, words)? {
+        Ok(objects) => message(alloc, key, &found, objects.as_slice()),
+        Err(word) => {
+            let bad = String::from_str(alloc, word)?;
+            Ok(Answer::BadWord(bad))
+        }
+    }
 }

@@ -1,12 +1,12 @@
 //! The words that give values.
 
-ghost use Rattle.std.specs.Prelude.{◌≡◌, ◌↔◌, ℤ, IfOk, IfErr, MatchOption, Some, All, map};
+ghost use Rattle.std.specs.Prelude.{◌≡◌, ◌↔◌, ℤ, IfOk, IfErr, MatchOption, MatchResult, Some, map};
 ghost use Rattle.std.specs.Prelude.{string_bytes};
 ghost use Rattle.std.specs.List.{AllZip};
 ghost use Rattle.interpolator.specs.Faults.{answer_of, no_memory};
 ghost use Rattle.interpolator.specs.Views.{shown_as_value};
 ghost use Rattle.catalogue.specs.Declarations.{as_declaration};
-ghost use Rattle.catalogue.specs.Words.{Spells, Fits, ShowsAs, Cuts, IsCut, IsGood, Gives};
+ghost use Rattle.catalogue.specs.Words.{Spells, Fits, ShowsAs, Cuts, IsCut, IsGood, Gives, IsFirstBad};
 ghost use Rattle.catalogue.specs.Words.{items_of, items_in, texts_of, texts_show};
 
 use crate::declarations::{Declaration, Kind, declaration_of};
@@ -109,20 +109,20 @@ fn object_of<'a>(alloc: Global, word: &'a str) -> Result<Option<Object<'a>>, Err
     }))
 }
 
-/// The value that each word gives; `None` if one of them gives none.
-pub fn objects_of(alloc: Global, words: &[String]) -> Result<Option<Vec<Object<'_>>>, Error>
-    ensures given { IfOk result (λ found. MatchOption found
-        (¬ All (λ word. IsGood (string_bytes word)) words.now)
+/// The value that each word gives, or the first word that gives none.
+pub fn objects_of(alloc: Global, words: &[String]) -> Result<Result<Vec<Object<'_>>, &str>, Error>
+    ensures given { IfOk result (λ found. MatchResult found
         (λ objects. AllZip (λ word object. Gives (string_bytes word) object)
-        words.now objects.items)) }
+        words.now objects.items)
+        (λ bad. IsFirstBad words.now bad.now)) }
     ensures refused { IfErr result (λ error. answer_of error ≡ no_memory) }
 {
     let mut objects = Vec::with_capacity(alloc, words.len())?;
     for word in words {
         match object_of(alloc, word.as_str())? {
             Some(object) => objects.push(object)?,
-            None => return Ok(None),
+            None => return Ok(Err(word.as_str())),
         }
     }
-    Ok(Some(objects))
+    Ok(Ok(objects))
 }

@@ -4,106 +4,185 @@
 //! the measure of its line: its bar is 100 long, and the other bars of the line are in proportion.
 //! The format gets `{height}`, the height of the picture, and `{rows}`, a list for each line: its
 //! place from the top, its name, and each number after the length of its bar.
+//!
+//! Each line has as many numbers as the first, at least two, and as many as the format draws by their
+//! indices. All faults of the file are reported, with line and column, and no picture is drawn.
 #![tactic(auto)]
 
-use interpolator::{ContextMap, Error, Formattable, Interpolate, View, items_of, rows_of};
+mod faults;
+mod rows;
+
+use faults::Faults;
+use interpolator::{
+    Argument, ContextMap, Error, Formattable, Interpolate, Kind, Range, Template, View, explain,
+    items_of, rows_of,
+};
+use rows::{Rows, place_of, rows_of_table};
 use std::alloc::Global;
 use std::process::ExitCode;
 use std::{env, fs, io};
 
-/// The length of the bar of the number that measures its line.
-const UNIT: u128 = 100;
+const WRITTEN: u8 = 0;
 
-/// The height of a line's bars together, with the gap after them.
-const ROW: u128 = 64;
+const FAULT: u8 = 1;
 
-/// The height of the space above all bars.
-const HEAD: u128 = 64;
+const BAD_USE: u8 = 2;
 
-/// The words of a line after its name.
-fn numbers_of(line: &str) -> &str {
-    match line.split_once(' ') {
-        Some((_, numbers)) => numbers,
-        None => "",
+/// The status of a refused write, and of a file that cannot be read.
+const REFUSED: u8 = 3;
+
+/// What a table is drawn as.
+#[derive(Drop)]
+enum Chart {
+    /// Its picture.
+    Picture(String),
+    /// A line for each fault that it has, or the fault of the format.
+    Faults(String),
+}
+
+/// The files of the command line, and their texts.
+#[derive(Clone, Copy)]
+struct Files<'a> {
+    format_name: &'a str,
+    format: &'a str,
+    table_name: &'a str,
+    table: &'a str,
+}
+
+/// How many numbers a row has at least, if it has the cell at this index. Two cells come before
+/// them, and each number has two.
+fn numbers_up_to(index: isize) -> usize {
+    if index < 0 {
+        return index.unsigned_abs().saturating_sub(1) / 2;
+    }
+    index.unsigned_abs() / 2
+}
+
+/// How many numbers of each row a list under this name draws, if its range is an index.
+fn numbers_of_range(name: &str, range: Range) -> usize {
+    match (range.lower, range.upper) {
+        (Some(lower), Some(upper)) if name.is_empty() && range.inclusive && lower == upper => {
+            numbers_up_to(lower)
+        }
+        _ => 0,
     }
 }
 
-/// The number that a word spells; zero if it spells none.
-fn number_of(word: &str) -> u128 {
-    word.parse::<u128>().unwrap_or(0)
-}
-
-/// The length of a number's bar, if that of the measure is `UNIT`.
-fn length_of(number: u128, measure: u128) -> u128 {
-    number.saturating_mul(UNIT) / measure.max(1)
-}
-
-/// Appends the cells of a line, which is this far from the top.
-fn push_cells<'a>(cells: &mut Vec<View<'a>>, place: u128, line: &'a str) -> Result<(), Error> {
-    cells.push(View::Unsigned(place))?;
-    cells.push(View::Text(line.split(' ').next().unwrap_or("")))?;
-    let numbers = numbers_of(line);
-    let measure = number_of(numbers.split(' ').nth(1).unwrap_or(""));
-    for word in numbers.split(' ') {
-        let number = number_of(word);
-        cells.push(View::Unsigned(length_of(number, measure)))?;
-        cells.push(View::Unsigned(number))?;
+/// How many numbers of each row an argument draws by an index, as `{:i5({})}`.
+fn numbers_of(argument: &Argument<'_>) -> usize {
+    match argument.kind {
+        Kind::List { range, .. } => match range {
+            Some(range) => numbers_of_range(argument.name, range),
+            None => 0,
+        },
+        Kind::Value(_) => 0,
     }
-    Ok(())
 }
 
-/// The cells of all lines, one after the other, and where each line ends.
-fn cells_of(alloc: Global, table: &str) -> Result<(Vec<View<'_>>, Vec<usize>), Error> {
-    let mut cells = Vec::new(alloc);
-    let mut ends = Vec::new(alloc);
-    for line in table.lines() {
-        push_cells(&mut cells, place_of(ends.len()), line)?;
-        ends.push(cells.len())?;
+/// How many numbers of each row the format draws by their indices.
+fn numbers_drawn(alloc: Global, template: &Template) -> Result<usize, Error> {
+    let arguments = template.arguments(alloc)?;
+    let mut drawn = 0usize;
+    for argument in &arguments {
+        drawn = drawn.max(numbers_of(argument));
     }
-    Ok((cells, ends))
+    Ok(drawn)
 }
 
-/// How far from the top a line is, with `before` other lines above it.
-fn place_of(before: usize) -> u128 {
-    HEAD.saturating_add(ROW.saturating_mul(before as u128))
-}
-
-/// The picture of a table, drawn by a format.
-fn chart(alloc: Global, format: &str, table: &str) -> Result<String, Error> {
-    let (cells, ends) = cells_of(alloc, table)?;
+/// The picture of rows, drawn by a format.
+fn drawn(alloc: Global, template: &Template, rows: Rows<'_>) -> Result<String, Error> {
+    let Rows { cells, ends } = rows;
     let height = View::Unsigned(place_of(ends.len()));
     let items = items_of(alloc, &cells)?;
-    let rows = rows_of(alloc, &items, &ends)?;
+    let lists = rows_of(alloc, &items, &ends)?;
     let mut context = ContextMap::new(alloc);
     context.put("height", Formattable::integer(&height))?;
-    context.put("rows", Formattable::iter(&rows))?;
-    context.format(alloc, format)
+    context.put("rows", Formattable::iter(&lists))?;
+    context.format_template(alloc, template)
 }
 
-/// The texts of the two files.
-fn texts_of(rt: &HostRuntime) -> io::Result<(String, String)> {
+/// The chart of a table.
+fn chart_of(alloc: Global, files: Files<'_>) -> Result<Chart, Error> {
+    let template = Template::parse(alloc, files.format)?;
+    let wanted = numbers_drawn(alloc, &template)?;
+    let mut faults = Faults::new(alloc, files.table_name);
+    let rows = rows_of_table(alloc, &mut faults, files.table, wanted)?;
+    let told = faults.into_text();
+    if !told.is_empty() {
+        return Ok(Chart::Faults(told));
+    }
+    match drawn(alloc, &template, rows) {
+        Ok(picture) => Ok(Chart::Picture(picture)),
+        Err(Error::NoMemory) => Err(Error::NoMemory),
+        Err(error) => {
+            let mut told = explain(alloc, files.format_name, files.format, &error)?;
+            told.push('\n')?;
+            Ok(Chart::Faults(told))
+        }
+    }
+}
+
+/// The text without the byte order mark at its head.
+fn without_mark(text: &str) -> &str {
+    text.strip_prefix('\u{feff}').unwrap_or(text)
+}
+
+/// The words after the program's name.
+fn arguments(rt: &HostRuntime) -> io::Result<Vec<String>> {
     let words = env::args(rt)?.skip(1).collect::<Vec<String>>(rt.alloc())?;
-    let [format, table] = words.as_slice() else {
-        return Err(io::Error::from(io::ErrorKind::InvalidInput));
+    Ok(words)
+}
+
+/// Whether a word looks like a flag, of which there are none.
+fn is_flag(word: &str) -> bool {
+    word.starts_with('-')
+}
+
+/// The usage, on standard error.
+fn usage(rt: &HostRuntime) -> ExitCode {
+    ended(eprintln!(rt; "usage: chart FORMAT FILE"), BAD_USE)
+}
+
+/// The status of a run that ends with this write.
+fn ended(written: io::Result<()>, status: u8) -> ExitCode {
+    match written {
+        Ok(()) => ExitCode::from(status),
+        Err(_) => ExitCode::from(REFUSED),
+    }
+}
+
+/// Draws the chart of two files.
+fn draw(rt: &HostRuntime, format_name: &str, table_name: &str) -> ExitCode {
+    let format = match fs::read_to_string(rt, format_name) {
+        Ok(text) => text,
+        Err(error) => return ended(eprintln!(rt; "{format_name}: {error}"), REFUSED),
     };
-    let format = fs::read_to_string(rt, format.as_str())?;
-    let table = fs::read_to_string(rt, table.as_str())?;
-    Ok((format, table))
+    let table = match fs::read_to_string(rt, table_name) {
+        Ok(text) => text,
+        Err(error) => return ended(eprintln!(rt; "{table_name}: {error}"), REFUSED),
+    };
+    let files = Files {
+        format_name,
+        format: without_mark(format.as_str()),
+        table_name,
+        table: without_mark(table.as_str()),
+    };
+    match chart_of(rt.alloc(), files) {
+        Ok(Chart::Picture(picture)) => ended(rt.print(picture.as_str()), WRITTEN),
+        Ok(Chart::Faults(told)) => ended(eprint!(rt; "{told}"), FAULT),
+        Err(error) => ended(eprintln!(rt; "{error}"), FAULT),
+    }
 }
 
 fn main(rt: HostRuntime) -> ExitCode {
-    let Ok((format, table)) = texts_of(&rt) else {
-        return ExitCode::from(2);
+    let Ok(words) = arguments(&rt) else {
+        return usage(&rt);
     };
-    let told = match chart(rt.alloc(), format.as_str(), table.as_str()) {
-        Ok(picture) => match rt.print(picture.as_str()) {
-            Ok(()) => return ExitCode::SUCCESS,
-            Err(_) => return ExitCode::from(3),
-        },
-        Err(error) => eprintln!(&rt; "{error}"),
+    let [format, table] = words.as_slice() else {
+        return usage(&rt);
     };
-    match told {
-        Ok(()) => ExitCode::from(1),
-        Err(_) => ExitCode::from(3),
+    if is_flag(format.as_str()) || is_flag(table.as_str()) {
+        return usage(&rt);
     }
+    draw(&rt, format.as_str(), table.as_str())
 }

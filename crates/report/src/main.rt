@@ -1,200 +1,197 @@
-//! `report FILE`: prints a file of comma-separated fields as a table.
+//! `report FILE`: prints a file of comma-separated fields as a table, with totals.
 //!
-//! The first line names the columns. A column is as wide, in characters, as the widest of its name,
-//! its fields and the text at its foot. A column in which all fields are whole numbers is aligned
-//! to the right, and the last line has its sum.
+//! The first line names the columns, and each line after it has an entry for each. A column is as
+//! wide, in characters, as the widest of its name, its entries and the text at its foot. A column in
+//! which all entries are whole numbers is aligned to the right, and has its total at its foot. If a
+//! line has another number of fields, or a number or a sum is too large, all such lines are reported,
+//! and no table is written.
 #![tactic(auto)]
 
-use interpolator::{
-    Error, Formattable, Pairs, Prepared, Row, Template, TextBuffer, Value, View, items_of,
-};
+mod layout;
+mod totals;
+
+use interpolator::Error;
+use layout::{Column, table_of};
 use std::alloc::Global;
 use std::process::ExitCode;
 use std::{env, fs, io};
+use totals::{is_numeric, total_of};
 
-/// A column.
-#[derive(Clone, Copy)]
-struct Column {
-    /// How many characters the widest of its name and its fields has.
-    width: usize,
-    /// The sum of its fields, if all of them so far are numbers.
-    sum: Option<i128>,
+const WRITTEN: u8 = 0;
+
+const FAULT: u8 = 1;
+
+const BAD_USE: u8 = 2;
+
+/// The status of a refused write, and of a file that cannot be read.
+const REFUSED: u8 = 3;
+
+/// What a file is reported as.
+#[derive(Drop)]
+enum Report {
+    /// Its table.
+    Table(String),
+    /// A line for each fault that it has.
+    Faults(String),
 }
 
-/// The number that a field spells.
-fn number_of(field: &str) -> Option<i64> {
-    field.parse::<i64>().ok()
+/// How many fields a line has: a blank line has none.
+fn field_count(line: &str) -> usize {
+    if line.is_empty() {
+        return 0;
+    }
+    line.split(',').count()
 }
 
-impl Column {
-    /// A column with a name and no fields.
-    fn new(name: &str) -> Column {
-        Column {
-            width: name.chars().count(),
-            sum: Some(0),
-        }
+/// Appends what is wrong with a line whose fields are not as many as the columns.
+fn check_line(
+    alloc: Global,
+    faults: &mut String,
+    file: &str,
+    number: usize,
+    line: &str,
+    wanted: usize,
+) -> Result<(), Error> {
+    let count = field_count(line);
+    if count != wanted {
+        let noun = if count == 1 { "field" } else { "fields" };
+        let told = format!(in alloc; "{file}:{number}: {count} {noun}, but line 1 has {wanted}\n")?;
+        faults.push_str(told.as_str())?;
     }
+    Ok(())
+}
 
-    /// The column with one more field.
-    fn with_field(self, field: &str) -> Column {
-        let sum = match (self.sum, number_of(field)) {
-            (Some(sum), Some(number)) => Some(sum.saturating_add(i128::from(number))),
-            _ => None,
-        };
-        Column {
-            width: self.width.max(field.chars().count()),
-            sum,
-        }
+/// Appends what is wrong with the lines after the first.
+fn check_lines(
+    alloc: Global,
+    faults: &mut String,
+    file: &str,
+    header: &str,
+    lines: &[&str],
+) -> Result<(), Error> {
+    let wanted = field_count(header);
+    let mut number = 1usize;
+    for line in lines {
+        number = number.saturating_add(1);
+        check_line(alloc, faults, file, number, line, wanted)?;
     }
+    Ok(())
+}
 
-    /// The text at the foot of the column: its sum, or in the first column the label of the line.
-    fn total(self, alloc: Global, is_first: bool) -> Result<String, Error> {
-        match self.sum {
-            Some(sum) => Ok(format!(in alloc; "{sum}")?),
-            None if is_first => Ok(String::from_str(alloc, "total")?),
-            None => Ok(String::new(alloc)),
+/// The column with this name at this index. If it has no total since a number is too large, this is
+/// appended to the faults.
+fn column_of(
+    alloc: Global,
+    faults: &mut String,
+    file: &str,
+    name: &str,
+    lines: &[&str],
+    index: usize,
+) -> Result<Column, Error> {
+    let column = Column::new(name, lines, index);
+    if !is_numeric(lines, index) {
+        return Ok(column);
+    }
+    match total_of(lines, index) {
+        Ok(total) => Ok(column.with_total(total)),
+        Err(before) => {
+            let number = before.saturating_add(2);
+            let told = format!(in alloc;
+                "{file}:{number}: the total of `{name}` has more than 128 bits from here on\n"
+            )?;
+            faults.push_str(told.as_str())?;
+            Ok(column)
         }
     }
 }
 
 /// The columns that the first line names.
-fn named_columns(alloc: Global, header: &str) -> Result<Vec<Column>, Error> {
+fn columns_of(
+    alloc: Global,
+    faults: &mut String,
+    file: &str,
+    header: &str,
+    lines: &[&str],
+) -> Result<Vec<Column>, Error> {
     let mut columns = Vec::new(alloc);
-    for name in header.split(',') {
-        columns.push(Column::new(name))?;
+    for (index, name) in header.split(',').enumerate() {
+        columns.push(column_of(alloc, faults, file, name, lines, index)?)?;
     }
     Ok(columns)
 }
 
-/// The columns with the fields of one more line. Fields past the last column are left out.
-fn with_line(alloc: Global, columns: &[Column], line: &str) -> Result<Vec<Column>, Error> {
-    let mut fields = line.split(',');
-    let mut more = Vec::new(alloc);
-    for column in columns {
-        more.push(column.with_field(fields.next().unwrap_or("")))?;
-    }
-    Ok(more)
+/// The report of a file that names no columns.
+fn without_columns(alloc: Global, file: &str) -> Result<Report, Error> {
+    let told = format!(in alloc; "{file}:1: the first line names no columns\n")?;
+    Ok(Report::Faults(told))
 }
 
-/// The columns of a table.
-fn columns_of(alloc: Global, table: &str) -> Result<Vec<Column>, Error> {
-    let mut lines = table.lines();
-    let mut columns = named_columns(alloc, lines.next().unwrap_or(""))?;
-    for line in lines {
-        columns = with_line(alloc, &columns, line)?;
-    }
-    Ok(columns)
-}
-
-/// The last line: the text at the foot of each column.
-fn totals_of(alloc: Global, columns: &[Column]) -> Result<Vec<String>, Error> {
-    let mut totals = Vec::new(alloc);
-    for column in columns {
-        totals.push(column.total(alloc, totals.is_empty())?)?;
-    }
-    Ok(totals)
-}
-
-/// The format of a row: its items by their indices, each in the width of its column.
-fn row_format(alloc: Global, columns: &[Column], totals: &[String]) -> Result<String, Error> {
-    let mut format = String::new(alloc);
-    let mut index = 0usize;
-    for (column, total) in columns.iter().zip(totals) {
-        let gap = if index == 0 { "" } else { "  " };
-        let side = if column.sum.is_some() { '>' } else { '<' };
-        let width = column.width.max(total.chars().count());
-        let item = format!(in alloc; "{gap}{{:i{index}({{:{side}{width}}})}}")?;
-        format.push_str(item.as_str())?;
-        index = index.saturating_add(1);
-    }
-    format.push('\n')?;
-    Ok(format)
-}
-
-/// The format of a row, prepared for a list of cells under the empty name.
-fn prepared_row(alloc: Global, format: &str) -> Result<Prepared, Error> {
-    let cell = View::Text("");
-    let items = [Formattable::integer(&cell)];
-    let template = Template::parse(alloc, format)?;
-    template.prepare(alloc, &Pairs(&[("", Formattable::iter(&items))]))
-}
-
-/// A field as a value: a number, if it spells one.
-fn cell_of(field: &str) -> View<'_> {
-    match number_of(field) {
-        Some(number) => View::from(number),
-        None => View::Text(field),
-    }
-}
-
-/// The cells of a line.
-fn cells_of(alloc: Global, line: &str) -> Result<Vec<View<'_>>, Error> {
-    let mut cells = Vec::new(alloc);
-    for field in line.split(',') {
-        cells.push(cell_of(field))?;
-    }
-    Ok(cells)
-}
-
-/// Writes a row of cells.
-fn write_row<V: Value>(
-    alloc: Global,
-    out: &mut TextBuffer,
-    row: &Prepared,
-    cells: &[V],
-) -> Result<(), Error> {
-    let items = items_of(alloc, cells)?;
-    row.write(alloc, out, &Row(&[Formattable::iter(&items)]))
-}
-
-/// Writes a line of the file as a row.
-fn write_line(
-    alloc: Global,
-    out: &mut TextBuffer,
-    row: &Prepared,
-    line: &str,
-) -> Result<(), Error> {
-    let cells = cells_of(alloc, line)?;
-    write_row(alloc, out, row, &cells)
-}
-
-/// The table of a file.
-fn report(alloc: Global, table: &str) -> Result<String, Error> {
-    let columns = columns_of(alloc, table)?;
-    let totals = totals_of(alloc, &columns)?;
-    let format = row_format(alloc, &columns, &totals)?;
-    let row = prepared_row(alloc, format.as_str())?;
-    let mut out = TextBuffer::new(alloc);
-    let mut lines = table.lines();
-    write_line(alloc, &mut out, &row, lines.next().unwrap_or(""))?;
-    for line in lines {
-        write_line(alloc, &mut out, &row, line)?;
-    }
-    write_row(alloc, &mut out, &row, &totals)?;
-    Ok(out.into_string())
-}
-
-fn text_of(rt: &HostRuntime) -> io::Result<String> {
-    let words = env::args(rt)?.skip(1).collect::<Vec<String>>(rt.alloc())?;
-    let [file] = words.as_slice() else {
-        return Err(io::Error::from(io::ErrorKind::InvalidInput));
+/// The report of a file's text.
+fn report_on(alloc: Global, file: &str, text: &str) -> Result<Report, Error> {
+    let all = text.lines().collect::<Vec<&str>>(alloc)?;
+    let [header, lines @ ..] = all.as_slice() else {
+        return without_columns(alloc, file);
     };
-    fs::read_to_string(rt, file.as_str())
+    if header.is_empty() {
+        return without_columns(alloc, file);
+    }
+    let mut faults = String::new(alloc);
+    check_lines(alloc, &mut faults, file, header, lines)?;
+    let columns = columns_of(alloc, &mut faults, file, header, lines)?;
+    if !faults.is_empty() {
+        return Ok(Report::Faults(faults));
+    }
+    Ok(Report::Table(table_of(alloc, &columns, &all)?))
+}
+
+/// The text without the byte order mark at its head.
+fn without_mark(text: &str) -> &str {
+    text.strip_prefix('\u{feff}').unwrap_or(text)
+}
+
+/// The words after the program's name.
+fn arguments(rt: &HostRuntime) -> io::Result<Vec<String>> {
+    let words = env::args(rt)?.skip(1).collect::<Vec<String>>(rt.alloc())?;
+    Ok(words)
+}
+
+/// Whether a word looks like a flag, of which there are none.
+fn is_flag(word: &str) -> bool {
+    word.starts_with('-')
+}
+
+/// The usage, on standard error.
+fn usage(rt: &HostRuntime) -> ExitCode {
+    ended(eprintln!(rt; "usage: report FILE"), BAD_USE)
+}
+
+/// The status of a run that ends with this write.
+fn ended(written: io::Result<()>, status: u8) -> ExitCode {
+    match written {
+        Ok(()) => ExitCode::from(status),
+        Err(_) => ExitCode::from(REFUSED),
+    }
+}
+
+/// Prints the table of a file, or what is wrong with it.
+fn print_report(rt: &HostRuntime, file: &str) -> ExitCode {
+    let text = match fs::read_to_string(rt, file) {
+        Ok(text) => text,
+        Err(error) => return ended(eprintln!(rt; "{file}: {error}"), REFUSED),
+    };
+    match report_on(rt.alloc(), file, without_mark(text.as_str())) {
+        Ok(Report::Table(table)) => ended(rt.print(table.as_str()), WRITTEN),
+        Ok(Report::Faults(faults)) => ended(eprint!(rt; "{faults}"), FAULT),
+        Err(error) => ended(eprintln!(rt; "{error}"), FAULT),
+    }
 }
 
 fn main(rt: HostRuntime) -> ExitCode {
-    let Ok(table) = text_of(&rt) else {
-        return ExitCode::from(2);
+    let Ok(words) = arguments(&rt) else {
+        return usage(&rt);
     };
-    let told = match report(rt.alloc(), table.as_str()) {
-        Ok(report) => match rt.print(report.as_str()) {
-            Ok(()) => return ExitCode::SUCCESS,
-            Err(_) => return ExitCode::from(3),
-        },
-        Err(error) => eprintln!(&rt; "{error}"),
-    };
-    match told {
-        Ok(()) => ExitCode::from(1),
-        Err(_) => ExitCode::from(3),
+    match words.as_slice() {
+        [file] if !is_flag(file.as_str()) => print_report(&rt, file.as_str()),
+        _ => usage(&rt),
     }
 }

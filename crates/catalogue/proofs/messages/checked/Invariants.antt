@@ -1,15 +1,14 @@
-use Rattle.std.proofs.Common.{◌≡◌, ℕ, List, length, map, All, string_bytes}
+use Rattle.std.proofs.Common.{◌≡◌, ℕ, List, map, string_bytes, take}
 use Rattle.std.specs.Option.{option_map}
 use Rattle.catalogue.specs.Declarations.{Declared, declared_by}
-use Rattle.catalogue.specs.Messages.{IsSound, last_under, told_of_lines, with_format}
+use Rattle.catalogue.specs.Messages.{as_file, found_among, line_with_format, told_of_files}
 use Rattle.catalogue.proofs.messages.checked.Given as goal
 
-abbrev pub invariant-loop-text : goal.invariant-loop-text
-invariant-loop-text l = record {
-  counted : l.number ≡ length l.yielded;
-  told : string_bytes l.told ≡ told_of_lines l.file (map (λ x. x.now) l.yielded);
-  sound : length (string_bytes l.told) ≡ 0 → All IsSound (map (λ x. x.now) l.yielded);
-  found : length (string_bytes l.told) ≡ 0 → option_map {U = ℕ × List ℕ × List ℕ × Declared}
-      (λ one. (one.number, one.text.now, one.template, declared_by one.heading)) l.found
-      ≡ option_map with_format (last_under l.key (map (λ x. x.now) l.yielded));
+abbrev pub invariant-loop-file : goal.invariant-loop-file
+invariant-loop-file l = record {
+  told : string_bytes l.told ≡ told_of_files (map as_file (take l.file-index l.files));
+  found : option_map {U = List ℕ × ℕ × List ℕ × List ℕ × Declared}
+      (λ one. (one.file.now, one.number, one.text.now, one.template, declared_by one.heading))
+      l.found ≡ option_map line_with_format
+      (found_among l.key (map as_file (take l.file-index l.files)));
 }

@@ -1,7 +1,5 @@
-use Rattle.std.proofs.Common.{string_bytes}
-use Rattle.catalogue.specs.Words.{IsGood}
 use Rattle.catalogue.proofs.MessageLemmas.{zip_more}
-use Rattle.catalogue.proofs.WordLemmas.{not_all}
+use Rattle.catalogue.proofs.WordLemmas.{first_bad}
 use Rattle.catalogue.proofs.words.objects_of.Goals as goal
 
 pub loop-word-preserved : goal.loop-word-preserved
@@ -13,6 +11,7 @@ loop-word-preserved c =
 
 pub returns-in-None-clause-given : goal.returns-in-None-clause-given
 returns-in-None-clause-given c =
-    not_all (λ word. IsGood (string_bytes word)) c.args.words.now c.loop-word.word-index
-    c.word-item.result c.loop-word-test.true c.word-item.is
+    first_bad c.args.words.now c.loop-word.word-index c.word-item.result c.loop-word.objects.items
+    c.as_str-in-None.result.now c.loop-word-test.true c.word-item.is c.loop-word.invariant
+    c.as_str-in-None.ensures.value
     (rw c.as_str.ensures.value at (rw c.in-None.is at c.in_ok-object.ensures.given))

@@ -1,0 +1,45 @@
+-- The keys of the lines of a file. Texts are bytes.
+use Rattle.std.specs.Prelude.{◌≡◌, ◌≢◌, ℕ, ◌==◌, List, [], ◌∷◌, ◌++◌, codes, length, if◌then◌else◌}
+use Rattle.std.specs.Prelude.{Option, None, Some}
+use Rattle.std.specs.Fmt.{decimal}
+use Rattle.std.specs.List.{find}
+use Rattle.std.specs.Option.{option_map}
+use Rattle.std.specs.Str.{bytes_eq}
+use Rattle.catalogue.specs.Declarations.{begin_of}
+use Rattle.catalogue.specs.Reports.{told_at}
+use Rattle.catalogue.specs.declared.keys.Key.{Key}
+
+-- the number of a line and its key, borrows aside
+abbrev pub as_key : Key → ℕ × List ℕ
+as_key key = (key.number, key.text.now)
+
+-- the key of a line with its number, if it has one, as a list
+abbrev pub as_keys : ℕ → Option (List ℕ) → List (ℕ × List ℕ)
+as_keys number None = []
+as_keys number (Some key) = (number, key) ∷ []
+
+-- the number of the line that has a key, if one has
+abbrev pub number_of : List (ℕ × List ℕ) → List ℕ → Option ℕ
+number_of keys key = option_map (λ one. one.0) (find (λ one. bytes_eq key one.1) keys)
+
+-- a key is not empty, and not among those of the lines before
+pub record IsNew (keys : List (ℕ × List ℕ)) (key : List ℕ) : Type 0 where
+  pub some : length key ≢ 0
+  pub first : number_of keys key ≡ None
+
+-- what is reported of a key that another line has
+abbrev pub what_is_again : ℕ → List ℕ → List ℕ
+what_is_again number key =
+    codes "line " ++ (decimal number ++ (codes " has the key `" ++ (key ++ codes "` too")))
+
+-- what is reported of a key by the line before that has it
+abbrev pub told_again : List ℕ → ℕ → (line head key : List ℕ) → Option ℕ → List ℕ
+told_again file number line head key None = []
+told_again file number line head key (Some before) =
+    told_at file number line (begin_of 0 head) (what_is_again before key)
+
+-- what is reported of the key in the head of a line, by those of the lines before
+abbrev pub told_of_key : List ℕ → ℕ → (line head key : List ℕ) → List (ℕ × List ℕ) → List ℕ
+told_of_key file number line head key keys =
+    if length key == 0 then told_at file number line (begin_of 0 head) (codes "no key")
+    else told_again file number line head key (number_of keys key)

@@ -1,0 +1,40 @@
+-- What is reported at a byte of a line. Texts are bytes.
+use Rattle.std.specs.Prelude.{ℕ, Bool, ◌==◌, List, [], ◌++◌, codes}
+use Rattle.std.specs.Borrow.{Bor}
+use Rattle.std.specs.Fmt.{decimal}
+use Rattle.std.specs.List.{after_first}
+use Rattle.interpolator.specs.Faults.{fault, fmt}
+use Rattle.interpolator.specs.Explained.{explanation_of}
+use Rattle.interpolator.specs.Positions.{column_at}
+use Rattle.interpolator.specs.declared.Source.{Source}
+
+-- the end of a line
+abbrev pub is_newline : ℕ → Bool
+is_newline b = b == 10
+
+-- a borrowed text, at any address
+abbrev pub lent : List ℕ → Bor (List ℕ)
+lent text = record { ref_ptr = (0, 0); now = text }
+
+-- an empty format at a byte of a line
+abbrev pub empty_at : ℕ → (line : List ℕ) → ℕ → Source
+empty_at number line place = record {
+  name = lent [];
+  first_line = number;
+  text = lent line;
+  start = place;
+  format = lent [];
+}
+
+-- the line with a mark under the character at a byte: what stands below the first line of what
+-- explains a fault there
+abbrev pub picture_at : ℕ → (line : List ℕ) → ℕ → List ℕ
+picture_at number line place =
+    after_first is_newline (explanation_of (empty_at number line place) (fault (fmt 0)))
+
+-- what is reported at a byte of a line: the file, the line's number, the column, what it is, and
+-- the line with a mark
+abbrev pub told_at : List ℕ → ℕ → (line : List ℕ) → ℕ → List ℕ → List ℕ
+told_at file number line place what = file ++ (codes ":" ++ (decimal number ++ (codes ":"
+    ++ (decimal (column_at line place) ++ (codes ": " ++ (what ++ (codes "\n"
+    ++ (picture_at number line place ++ codes "\n"))))))))

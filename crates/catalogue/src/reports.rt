@@ -1,0 +1,49 @@
+//! What is reported at a byte of a line.
+
+ghost use Rattle.std.specs.Prelude.{◌≡◌, IfErr, IfOk, string_bytes};
+ghost use Rattle.std.specs.List.{after_first};
+ghost use Rattle.interpolator.specs.Faults.{answer_of, no_memory};
+ghost use Rattle.catalogue.specs.Reports.{is_newline, told_at};
+
+use interpolator::{Error, Position, Source, explain_in};
+use std::alloc::Global;
+use std::fmt;
+
+/// What comes after the first line of a text.
+fn after_first_line(text: &str) -> &str
+    ensures { result.now ≡ after_first is_newline text.now }
+{
+    match text.split_once('\n') {
+        Some((_, rest)) => rest,
+        None => "",
+    }
+}
+
+/// Reports something at a byte of a line of the file, with the line and a mark under the byte's
+/// character.
+pub fn told_at(
+    alloc: Global,
+    file: &str,
+    number: usize,
+    line: &str,
+    place: usize,
+    what: &str,
+) -> Result<String, Error>
+    ensures told { IfOk result (λ told.
+        string_bytes told ≡ told_at file.now number line.now place what.now) }
+    ensures refused { IfErr result (λ error. answer_of error ≡ no_memory) }
+{
+    // The line is shown as `explain_in` shows it for a fault at the beginning of an empty format.
+    let here = Source {
+        name: "",
+        first_line: number,
+        text: line,
+        start: place,
+        format: "",
+    };
+    let explained = explain_in(alloc, &here, &Error::Fmt(fmt::Error, 0))?;
+    let picture = after_first_line(explained.as_str());
+    let column = Position::of(line, place).column;
+    let told = format!(in alloc; "{file}:{number}:{column}: {what}\n{picture}\n")?;
+    Ok(told)
+}

@@ -1,0 +1,2 @@
+-- What the total of a column is.
+pub mod Totals
