@@ -1,44 +1,40 @@
--- What a node adds to a program, as stored steps.
-use Rattle.std.proofs.Common.{◌≡◌, ◌≢◌, ◌∙◌, refl, sym, ap, ℕ, suc, ◌<◌, ◌≤◌, List, [], ◌∷◌, ◌++◌, map}
+-- The steps that stand for the pieces of a text.
+use Rattle.std.proofs.Common.{◌≡◌, ◌≢◌, ◌∙◌, refl, sym, ap, arith, ℕ, zero, suc, ◌≤◌, List, [], ◌∷◌, ◌++◌, map}
 use Rattle.std.proofs.Common.{Option, None, Some, IsSome, option_map, true, false, Bool, length}
-use Rattle.std.proofs.Common.{drop, get_or}
-use Rattle.std.proofs.lemmas.List.{map-append, drop_more, drop_all}
-use Rattle.std.specs.List.{All, fold}
-use Rattle.std.specs.Prelude.{⊤, ◌+◌, Result, Ok, Err, IfOk}
+use Rattle.std.proofs.Common.{drop, take}
+use Rattle.std.proofs.lemmas.List.{append-nil, append_assoc}
+use Rattle.std.specs.List.{All}
+use Rattle.std.specs.Prelude.{⊤, ◌+◌, Result, Ok, Err, IfOk, unwrap_or}
 use Rattle.std.specs.Str.{encode_utf8_all}
-use Rattle.std.specs.Prelude.{if◌then◌else◌, ◌==◌}
+use Rattle.std.specs.Prelude.{if◌then◌else◌}
 use Rattle.interpolator_render.specs.declared.view.Spec.{Spec}
 use Rattle.interpolator_render.specs.declared.view.Trait.{Trait}
 use Rattle.interpolator_render.specs.declared.view.Trait.TheVariants as traits
 use Rattle.interpolator_syntax.specs.At.{Placed, placed_from}
 use Rattle.interpolator_syntax.specs.Nodes.{Node, node, Branch, Content, text_content, argument_content, Target}
-use Rattle.interpolator_syntax.specs.Nodes.{target_value, target_list, as_forest}
+use Rattle.interpolator_syntax.specs.Nodes.{fault_content, target_value, target_list, as_forest}
 use Rattle.interpolator_syntax.specs.SpecTexts.{plain_spec}
 use Rattle.interpolator_syntax.specs.declared.piece_kind.PieceKind.{PieceKind}
 use Rattle.interpolator_syntax.specs.declared.piece_kind.PieceKind.TheVariants as kinds
 use Rattle.interpolator_syntax.specs.declared.range.Range.{Range}
-use Rattle.interpolator_pieces.specs.Stored.{part, name_part, stored_held, held_of, node_of, nodes_of}
+use Rattle.interpolator_pieces.specs.Stored.{name_part, stored_held, held_of, node_of, nodes_of}
 use Rattle.interpolator_pieces.specs.Stored.{node_whole, forest_whole, range_of, branch_of}
-use Rattle.interpolator_prepared.specs.Programs.{Instruction, text_step, value_step, node_step}
-use Rattle.interpolator_prepared.specs.Programs.{text_after, with_text, with_node}
-use Rattle.interpolator_prepared.specs.Programs.{held_position, node_position, step_at, argument_step}
-use Rattle.interpolator_prepared.specs.Programs.{program}
-use Rattle.interpolator_prepared.specs.Rows.{last_position}
-use Rattle.interpolator_prepared.specs.StoredSteps.{step_of, Becomes}
-use Rattle.interpolator_prepared.specs.StoredSteps.{parts_size, joined_placed, joined_step, whole_step}
-use Rattle.interpolator_prepared.specs.declared.step.Part.{Part}
-use Rattle.interpolator_prepared.specs.declared.step.Step.{Step}
-use Rattle.interpolator_prepared.specs.declared.step.Step.TheVariants.{Literal}
+use Rattle.interpolator_pieces.specs.StoredMeanings.{stored_name, stored_part}
 use Rattle.interpolator_pieces.specs.declared.piece.Form.{Form}
 use Rattle.interpolator_pieces.specs.declared.piece.Form.TheVariants as forms
 use Rattle.interpolator_pieces.specs.declared.piece.Piece.{Piece}
 use Rattle.interpolator_pieces.specs.declared.piece.Piece.TheViews.{out-Piece}
-use Rattle.interpolator_prepared.proofs.StepLemmas.{program_fits}
-use Rattle.interpolator_pieces.specs.StoredMeanings.{stored_name}
-use Rattle.interpolator_pieces.proofs.RunLemmas.{text_held, name_held, value_held, name_fits}
+use Rattle.interpolator_pieces.proofs.RunLemmas.{text_fits, text_held, name_held, value_held, name_fits}
 use Rattle.interpolator_pieces.proofs.RunLemmas.{value_fits}
 use Rattle.interpolator_pieces.proofs.StoredLemmas.{node_of_out}
-use Rattle.interpolator_pieces.proofs.WholePieceLemmas.{both, fits_text}
+use Rattle.interpolator_pieces.proofs.WholePieceLemmas.{both, fits_text, pieces_whole}
+use Rattle.interpolator_prepared.specs.Programs.{Instruction, text_step, value_step, node_step}
+use Rattle.interpolator_prepared.specs.Programs.{text_before, node_before, program}
+use Rattle.interpolator_prepared.specs.Programs.{held_position, node_position, step_at, argument_step}
+use Rattle.interpolator_prepared.specs.Rows.{last_position}
+use Rattle.interpolator_prepared.specs.StoredSteps.{first_step, is_text, is_text_form, step_of}
+use Rattle.interpolator_prepared.specs.StoredSteps.{text_count, texts_after, texts_placed}
+use Rattle.interpolator_prepared.specs.declared.step.Step.{Step}
 
 -- the forms that are neither a name nor a value
 abbrev pub IsOther : Form → Type 0
@@ -48,236 +44,28 @@ IsOther (forms.Value t) = ⊥
 IsOther (forms.List range) = ⊤
 IsOther (forms.Broken f) = ⊤
 
--- ---- the last of stored steps, and of the program that they stand for
+-- what holds for an item and for all of a list
+and_all : {A : Type 0} (P : A → Type 0) (x : A) (xs : List A) → P x → All P xs
+    → All P (x ∷ xs)
+and_all P x xs first later zero d l = first
+and_all P x xs first later (suc k) d l = later k d (omega (arith, l))
 
--- text after steps whose last is known
-pub text_after_last : (front : List Instruction) (x : Instruction) (xs : Placed)
-    → with_text (front ++ (x ∷ [])) xs ≡ front ++ text_after x xs
-text_after_last [] x xs = refl
-text_after_last (y ∷ []) x xs = refl
-text_after_last (y ∷ (z ∷ front)) x xs = ap (λ ys. y ∷ ys) (text_after_last (z ∷ front) x xs)
-
-some_same : {A : Type 0} (x y : A) → Some x ≡ Some y → x ≡ y
-some_same x y h = cc
-
--- a program whose stored steps have this last one
-pub record LastStep (bs : List ℕ) (front : List Step) (program : List Instruction) (last : Option Instruction)
-    : Type 0 where
-  pub before : List Instruction
-  pub step : Instruction
-  pub is : last ≡ Some step
-  pub all : program ≡ before ++ (step ∷ [])
-  pub stands : map (step_of bs) front ≡ map Some before
-
-module _ {A : Type 0} where
-  first_same : (x y : A) (xs ys : List A) → x ∷ xs ≡ y ∷ ys → x ≡ y
-  first_same x y xs ys h = cc
-
-  rest_same : (x y : A) (xs ys : List A) → x ∷ xs ≡ y ∷ ys → xs ≡ ys
-  rest_same x y xs ys h = cc
-
-pub last_step :
-    (bs : List ℕ) (front : List Step) (s : Step) (program : List Instruction)
-    → map (step_of bs) (front ++ (s ∷ [])) ≡ map Some program
-    → LastStep bs front program (step_of bs s)
-last_step bs [] s [] h = absurd (cc)
-last_step bs [] s (p ∷ []) h = record {
-  before = [];
-  step = p;
-  is = first_same (step_of bs s) (Some p) [] [] h;
-  all = refl;
-  stands = refl;
-}
-last_step bs [] s (p ∷ (q ∷ ps)) h =
-    absurd (let e = rest_same (step_of bs s) (Some p) [] (Some q ∷ map Some ps) h in cc)
-last_step bs (f ∷ fs) s [] h = absurd (cc)
-last_step bs (f ∷ fs) s (p ∷ ps) h =
-    let first = first_same (step_of bs f) (Some p) (map (step_of bs) (fs ++ (s ∷ []))) (map Some ps) h in
-    let r = last_step bs fs s ps
-    (rest_same (step_of bs f) (Some p) (map (step_of bs) (fs ++ (s ∷ []))) (map Some ps) h) in
-    record {
-      before = p ∷ r.before;
-      step = r.step;
-      is = r.is;
-      all = ap (λ xs. p ∷ xs) r.all;
-      stands = ap (λ o. o ∷ map (step_of bs) fs) first ∙ ap (λ xs. Some p ∷ xs) r.stands;
-    }
-
--- one more step
-pub stands_more :
-    (bs : List ℕ) (front : List Step) (before : List Instruction) (s : Step) (x : Instruction)
-    → map (step_of bs) front ≡ map Some before → step_of bs s ≡ Some x
-    → map (step_of bs) (front ++ (s ∷ [])) ≡ map Some (before ++ (x ∷ []))
-stands_more bs front before s x h is =
-    map-append (step_of bs) front (s ∷ [])
-    ∙ ap (λ xs. xs ++ (step_of bs s ∷ [])) h
-    ∙ ap (λ o. map Some before ++ (o ∷ [])) is
-    ∙ sym (map-append Some before (x ∷ []))
-
-append_two : {A : Type 0} (xs : List A) (x y : A)
-    → (xs ++ (x ∷ [])) ++ (y ∷ []) ≡ xs ++ (x ∷ (y ∷ []))
-append_two [] x y = refl
-append_two (z ∷ xs) x y = ap (λ ys. z ∷ ys) (append_two xs x y)
-
--- ---- text
-
-module _ (bs : List ℕ) (xs : Placed) where
-  -- text with no step before it
-  pub text_alone_after :
-      (old new : List Step) (s : Step) → old ≡ [] → new ≡ old ++ (s ∷ [])
-      → step_of bs s ≡ Some (text_step xs) → Becomes bs old new (λ p. with_text p xs)
-  text_alone_after old new s none now is [] h =
-      rw (now, none) (ap (λ o. o ∷ []) is)
-  text_alone_after old new s none now is (p ∷ ps) h = absurd (let e = rw none at h in cc)
-
-  -- text after text: one step for both
-  pub text_joins :
-      (old front new : List Step) (last s : Step) → old ≡ front ++ (last ∷ [])
-      → new ≡ front ++ (s ∷ [])
-      → ((x : Instruction) → step_of bs last ≡ Some x
-      → (ds : Placed) × (x ≡ text_step ds) × (step_of bs s ≡ Some (text_step (ds ++ xs))))
-      → Becomes bs old new (λ p. with_text p xs)
-  text_joins old front new last s was now made program h =
-      let r = last_step bs front last program (ap (map (step_of bs)) (sym was) ∙ h) in
-      let (ds, same, is) = made r.step r.is in
-      let joins : with_text program xs ≡ r.before ++ (text_step (ds ++ xs) ∷ []) =
-      ap (λ p. with_text p xs) r.all ∙ text_after_last r.before r.step xs
-      ∙ ap (λ x. r.before ++ text_after x xs) same in
-      ap (map (step_of bs)) now
-      ∙ stands_more bs front r.before s (text_step (ds ++ xs)) r.stands is
-      ∙ ap (map Some) (sym joins)
-
-  -- text after any other step
-  pub text_follows :
-      (old front new : List Step) (last s : Step) → old ≡ front ++ (last ∷ [])
-      → new ≡ (front ++ (last ∷ [])) ++ (s ∷ []) → step_of bs s ≡ Some (text_step xs)
-      → ((x : Instruction) → step_of bs last ≡ Some x
-      → text_after x xs ≡ x ∷ (text_step xs ∷ []))
-      → Becomes bs old new (λ p. with_text p xs)
-  text_follows old front new last s was now is apart program h =
-      let r = last_step bs front last program (ap (map (step_of bs)) (sym was) ∙ h) in
-      let follows : with_text program xs ≡ (r.before ++ (r.step ∷ [])) ++ (text_step xs ∷ []) =
-      ap (λ p. with_text p xs) r.all ∙ text_after_last r.before r.step xs
-      ∙ ap (λ ys. r.before ++ ys) (apart r.step r.is)
-      ∙ sym (append_two r.before r.step (text_step xs)) in
-      ap (map (step_of bs)) now
-      ∙ stands_more bs (front ++ (last ∷ [])) (r.before ++ (r.step ∷ [])) s (text_step xs)
-      (stands_more bs front r.before last r.step r.stands r.is) is
-      ∙ ap (map Some) (sym follows)
-
--- a value stays apart from the text after it
-pub value_apart :
-    (k : ℕ) (t : Trait) (spec : Spec) (q : ℕ) (x : Instruction) (xs : Placed)
-    → Some (value_step k t spec q) ≡ Some x → text_after x xs ≡ x ∷ (text_step xs ∷ [])
-value_apart k t spec q x xs h =
-    let same : value_step k t spec q ≡ x = some_same (value_step k t spec q) x h in
-    rw (← same) refl
-
-whole_apart_by : (b : Bool) (n : Node) (x : Instruction) (xs : Placed)
-    → (if b then Some (node_step n) else None) ≡ Some x
-    → text_after x xs ≡ x ∷ (text_step xs ∷ [])
-whole_apart_by true n x xs h =
-    let same : node_step n ≡ x = some_same (node_step n) x h in rw (← same) refl
-whole_apart_by false n x xs h = absurd (cc)
-
--- and so does a node that is kept alone
-pub whole_apart : (ns : List Node) (x : Instruction) (xs : Placed) → whole_step ns ≡ Some x
-    → text_after x xs ≡ x ∷ (text_step xs ∷ [])
-whole_apart [] x xs h = absurd (cc)
-whole_apart (n ∷ []) x xs h = whole_apart_by (node_whole n) n x xs h
-whole_apart (n ∷ (m ∷ ns)) x xs h = absurd (cc)
-
--- and a copy that is kept alone is the piece's node
-pub kept_step :
-    (bs : List ℕ) (x y : Piece) (kept : List Piece) → kept ≡ [] ++ (y ∷ [])
-    → node_of bs y ≡ node_of bs x → node_whole (node_of bs x) ≡ true
-    → whole_step (nodes_of bs kept) ≡ Some (node_step (node_of bs x))
-kept_step bs x y kept is same whole =
-    ap (λ ys. whole_step (nodes_of bs ys)) is ∙ ap (λ n. whole_step (n ∷ [])) same
-    ∙ ap (λ b. if b then Some (node_step (node_of bs x)) else None) whole
-
--- the bytes of a format are a step
-pub literal_is : (bs : List ℕ) (from to : ℕ) (cs : List ℕ) → part bs from to ≡ Some cs
-    → step_of bs (Literal from to) ≡ Some (text_step (placed_from from cs))
-literal_is bs from to cs is = ap (option_map (λ ds. text_step (placed_from from ds))) is
-
--- what a literal step stands for
-pub literal_text : (from : ℕ) (o : Option (List ℕ)) (x : Instruction)
-    → option_map (λ cs. text_step (placed_from from cs)) o ≡ Some x
-    → (cs : List ℕ) × (o ≡ Some cs) × (x ≡ text_step (placed_from from cs))
-literal_text from None x h = absurd (cc)
-literal_text from (Some cs) x h =
-    (cs, refl, let e : text_step (placed_from from cs) ≡ x = some_same _ _ h in sym e)
-
-joined_text_by : (b : Bool) (ds : Placed) (x : Instruction)
-    → (if b then Some (text_step ds) else None) ≡ Some x → (es : Placed) × (x ≡ text_step es)
-joined_text_by true ds x h = (ds, sym (some_same (text_step ds) x h))
-joined_text_by false ds x h = absurd (cc)
-
--- what joined text stands for
-pub joined_text : (ps : List Part) (bytes : List ℕ) (x : Instruction) → joined_step ps bytes ≡ Some x
-    → (ds : Placed) × (x ≡ text_step ds)
-joined_text ps bytes x h =
-    joined_text_by (parts_size ps == length bytes) (joined_placed ps bytes) x h
-
--- one step was pushed in place of the last, or after it
-module _ {E : Type 0} (r : Result (Unit {0}) E) (bs : List ℕ) (from to : ℕ)
-    (old front new : List Step) (last s : Step) (was : old ≡ front ++ (last ∷ [])) where
-  abbrev Pushed : Type 0
-  Pushed =
-      IfOk r (λ u. (cs : List ℕ) → part bs from to ≡ Some cs
-      → Becomes bs old new (λ p. with_text p (placed_from from cs)))
-
-  joins_by :
-      (o : Result (Unit {0}) E) → IfOk o (λ u. new ≡ front ++ (s ∷ []))
-      → ((cs : List ℕ) → part bs from to ≡ Some cs → (x : Instruction) → step_of bs last ≡ Some x
-      → (ds : Placed) × (x ≡ text_step ds)
-      × (step_of bs s ≡ Some (text_step (ds ++ placed_from from cs))))
-      → IfOk o (λ u. (cs : List ℕ) → part bs from to ≡ Some cs
-      → Becomes bs old new (λ p. with_text p (placed_from from cs)))
-  joins_by (Ok u) now made =
-      λ cs is. text_joins bs (placed_from from cs) old front new last s was now (made cs is)
-  joins_by (Err e) now made = tt
-
-  pub pushed_joined :
-      IfOk r (λ u. new ≡ front ++ (s ∷ []))
-      → ((cs : List ℕ) → part bs from to ≡ Some cs → (x : Instruction) → step_of bs last ≡ Some x
-      → (ds : Placed) × (x ≡ text_step ds)
-      × (step_of bs s ≡ Some (text_step (ds ++ placed_from from cs))))
-      → Pushed
-  pushed_joined now made = joins_by r now made
-
-  follows_by :
-      (o : Result (Unit {0}) E)
-      → IfOk o (λ u. new ≡ (front ++ (last ∷ [])) ++ (Literal from to ∷ []))
-      → ((xs : Placed) (x : Instruction) → step_of bs last ≡ Some x
-      → text_after x xs ≡ x ∷ (text_step xs ∷ []))
-      → IfOk o (λ u. (cs : List ℕ) → part bs from to ≡ Some cs
-      → Becomes bs old new (λ p. with_text p (placed_from from cs)))
-  follows_by (Ok u) now apart =
-      λ cs is. text_follows bs (placed_from from cs) old front new last (Literal from to) was now
-      (literal_is bs from to cs is) (apart (placed_from from cs))
-  follows_by (Err e) now apart = tt
-
-  pub pushed_after :
-      IfOk r (λ u. new ≡ (front ++ (last ∷ [])) ++ (Literal from to ∷ []))
-      → ((xs : Placed) (x : Instruction) → step_of bs last ≡ Some x
-      → text_after x xs ≡ x ∷ (text_step xs ∷ []))
-      → Pushed
-  pushed_after now apart = follows_by r now apart
-
--- equal instructions
+-- a step that stands for an instruction with every text stands for it with this one
 pub if_same :
-    {T E : Type 0} (r : Result T E) (f : T → Option Instruction) (a b : Option Instruction) → a ≡ b
-    → IfOk r (λ x. f x ≡ a) → IfOk r (λ x. f x ≡ b)
-if_same (Ok x) f a b e h = h ∙ e
-if_same (Err y) f a b e h = tt
+    {E : Type 0} (r : Result Step E) (bs : List ℕ) (a : List ℕ → Option Instruction)
+    (b : Option Instruction) → a bs ≡ b
+    → IfOk r (λ x. (cs : List ℕ) → step_of cs x ≡ a cs) → IfOk r (λ x. step_of bs x ≡ b)
+if_same (Ok x) bs a b e h = h bs ∙ e
+if_same (Err y) bs a b e h = tt
 
-pub if_same_all :
-    {E : Type 0} (r : Result Step E) (bs : List ℕ) (a b : Option Instruction) → a ≡ b
-    → IfOk r (λ x. (cs : List ℕ) → step_of cs x ≡ a) → IfOk r (λ x. step_of bs x ≡ b)
-if_same_all (Ok x) bs a b e h = h bs ∙ e
-if_same_all (Err y) bs a b e h = tt
+-- there are at most so many texts at the beginning of pieces as pieces
+pub text_count_le : (xs : List Piece) → text_count xs ≤ length xs
+text_count_le [] = omega arith
+text_count_le (x ∷ xs) = by_text (is_text x) (text_count xs) (length xs) (text_count_le xs)
+  where
+    by_text : (b : Bool) (n m : ℕ) → n ≤ m → (if b then suc n else 0) ≤ suc m
+    by_text true n m h = omega (arith, h)
+    by_text false n m h = omega arith
 
 -- a name is the part that is stored of it
 pub named_part : (b : Bool) (o : Option (List ℕ)) (name : List ℕ)
@@ -288,22 +76,21 @@ named_part false o name h = absurd (cc)
 -- ---- arguments
 
 module _ (names : List (List ℕ)) where
-  -- an argument after a program is one step more
-  abbrev Follows : Node → Type 0
-  Follows x = (program : List Instruction)
-      → with_node names program x
-      ≡ program ++ (argument_step names (node_position names x) x ∷ [])
+  -- an argument before steps is one step more
+  abbrev Precedes : Node → Type 0
+  Precedes x = (steps : List Instruction)
+      → node_before names x steps ≡ argument_step names (node_position names x) x ∷ steps
 
   no_text : (place end : ℕ) (kind : PieceKind) (item join : Branch) (o : Option (List ℕ))
       (start : ℕ) (spec : Spec) (bare : Target) (q : ℕ)
-      → Follows (node place end kind (option_map (λ name. argument_content start name spec bare q) o) item join)
-  no_text place end kind item join None start spec bare q program = refl
-  no_text place end kind item join (Some name) start spec bare q program = refl
+      → Precedes (node place end kind (option_map (λ name. argument_content start name spec bare q) o) item join)
+  no_text place end kind item join None start spec bare q steps = refl
+  no_text place end kind item join (Some name) start spec bare q steps = refl
 
   by_form :
       (bs : List ℕ) (place end : ℕ) (kind : PieceKind) (item join : Branch) (from to q : ℕ)
       (spec : Spec) (form : Form) → form ≢ forms.Text
-      → Follows (node place end kind (stored_held bs place from to q spec form) item join)
+      → Precedes (node place end kind (stored_held bs place from to q spec form) item join)
   by_form bs place end kind item join from to q spec forms.Text h = absurd (h refl)
   by_form bs place end kind item join from to q spec forms.Plain h =
       no_text place end kind item join (name_part bs place from to) (suc place) plain_spec
@@ -314,69 +101,142 @@ module _ (names : List (List ℕ)) where
   by_form bs place end kind item join from to q spec (forms.List range) h =
       no_text place end kind item join (name_part bs place from to) (suc place) spec
       (target_list (range_of range)) q
-  by_form bs place end kind item join from to q spec (forms.Broken f) h = λ program. refl
+  by_form bs place end kind item join from to q spec (forms.Broken f) h = λ steps. refl
 
-  pub argument_follows :
-      (bs : List ℕ) (x : Piece) → (out-Piece x).form ≢ forms.Text → Follows (node_of bs x)
-  argument_follows bs x h program =
+  pub argument_precedes :
+      (bs : List ℕ) (x : Piece) → (out-Piece x).form ≢ forms.Text → Precedes (node_of bs x)
+  argument_precedes bs x h steps =
       let y = out-Piece x in
       rw (node_of_out bs x)
-      (by_form bs y.place y.end y.kind _ _ y.from y.to y.spec_end y.spec y.form h program)
+      (by_form bs y.place y.end y.kind _ _ y.from y.to y.spec_end y.spec y.form h steps)
 
-  pub step_follows :
-      (bs : List ℕ) (old new : List Step) (s : Step) (x : Node) → Follows x
-      → new ≡ old ++ (s ∷ [])
-      → step_of bs s ≡ Some (argument_step names (node_position names x) x)
-      → Becomes bs old new (λ p. with_node names p x)
-  step_follows bs old new s x follows now is program h =
-      ap (map (step_of bs)) now
-      ∙ stands_more bs old program s (argument_step names (node_position names x) x) h is
-      ∙ ap (map Some) (sym (follows program))
+  -- ---- text
 
-  -- a piece of text
-  pub text_node :
-      (bs : List ℕ) (x : Piece) (cs : List ℕ) (program : List Instruction)
-      → held_of bs x ≡ Some (text_content (out-Piece x).from cs)
-      → with_node names program (node_of bs x)
-      ≡ with_text program (placed_from (out-Piece x).from cs)
-  text_node bs x cs program is = rw (node_of_out bs x, is) refl
+  -- an argument stays apart from the text before it
+  argument_apart : (o : Option ℕ) (x : Node) (ds : Placed) (steps : List Instruction)
+      → text_before ds (argument_step names o x ∷ steps)
+      ≡ text_step ds ∷ (argument_step names o x ∷ steps)
+  argument_apart None x ds steps = refl
+  argument_apart (Some k) (node place end kind None item join) ds steps = refl
+  argument_apart (Some k) (node place end kind (Some (text_content from cs)) item join) ds steps = refl
+  argument_apart (Some k) (node place end kind (Some (fault_content f)) item join) ds steps = refl
+  argument_apart (Some k) (node place end kind (Some (argument_content start name spec (target_list r) q)) item join) ds steps =
+      refl
+  argument_apart (Some k) (node place end kind (Some (argument_content start name spec (target_value t) q)) item join) ds steps =
+      refl
 
-  -- text that is written, of a stored piece
-  pub text_piece :
-      (bs : List ℕ) (x : Piece) (old new : List Step) → (out-Piece x).form ≡ forms.Text
-      → IsSome (part bs (out-Piece x).from (out-Piece x).to)
-      → ((cs : List ℕ) → part bs (out-Piece x).from (out-Piece x).to ≡ Some cs
-      → Becomes bs old new (λ p. with_text p (placed_from (out-Piece x).from cs)))
-      → Becomes bs old new (λ p. with_node names p (node_of bs x))
-  text_piece bs x old new form fits made =
-      by_part (part bs (out-Piece x).from (out-Piece x).to) refl fits
-    where
-      by_part : (o : Option (List ℕ)) → part bs (out-Piece x).from (out-Piece x).to ≡ o → IsSome o
-          → Becomes bs old new (λ p. with_node names p (node_of bs x))
-      by_part None e h steps stands = absurd (cc)
-      by_part (Some cs) e h steps stands =
-          made cs e steps stands
-          ∙ ap (map Some) (sym (text_node bs x cs steps (text_held bs x cs form (sym e))))
+  module _ (bs : List ℕ) where
+    abbrev Program : List Piece → List Instruction
+    Program xs = program names (nodes_of bs xs)
 
-  pub text_pushed :
-      {E : Type 0} (r : Result (Unit {0}) E) (bs : List ℕ) (x : Piece) (old new : List Step)
-      → (out-Piece x).form ≡ forms.Text → IsSome (part bs (out-Piece x).from (out-Piece x).to)
-      → IfOk r (λ u. (cs : List ℕ) → part bs (out-Piece x).from (out-Piece x).to ≡ Some cs
-      → Becomes bs old new (λ p. with_text p (placed_from (out-Piece x).from cs)))
-      → IfOk r (λ u. Becomes bs old new (λ p. with_node names p (node_of bs x)))
-  text_pushed (Ok u) bs x old new form fits made = text_piece bs x old new form fits made
-  text_pushed (Err e) bs x old new form fits made = tt
+    abbrev Whole : List Piece → Type 0
+    Whole xs = forest_whole (as_forest (nodes_of bs xs)) ≡ true
 
-  pub argument_pushed :
-      {E : Type 0} (r : Result (Unit {0}) E) (bs : List ℕ) (x : Piece) (old new : List Step) (s : Step)
-      → (out-Piece x).form ≢ forms.Text
-      → step_of bs s
-      ≡ Some (argument_step names (node_position names (node_of bs x)) (node_of bs x))
-      → IfOk r (λ u. new ≡ old ++ (s ∷ []))
-      → IfOk r (λ u. Becomes bs old new (λ p. with_node names p (node_of bs x)))
-  argument_pushed (Ok u) bs x old new s form is now =
-      step_follows bs old new s (node_of bs x) (argument_follows bs x form) now is
-  argument_pushed (Err e) bs x old new s form is now = tt
+    pub first_whole : (x : Piece) (xs : List Piece) → Whole (x ∷ xs)
+        → (node_whole (node_of bs x) ≡ true) × Whole xs
+    first_whole x xs h = both (node_whole (node_of bs x)) (forest_whole (as_forest (nodes_of bs xs))) h
+
+    text_form : (form : Form) → is_text_form form ≡ true → form ≡ forms.Text
+    text_form forms.Text h = refl
+    text_form forms.Plain h = absurd (cc)
+    text_form (forms.Value t) h = absurd (cc)
+    text_form (forms.List range) h = absurd (cc)
+    text_form (forms.Broken f) h = absurd (cc)
+
+    other_form : (form : Form) → is_text_form form ≡ false → form ≢ forms.Text
+    other_form form h e = let t : is_text_form form ≡ true = ap is_text_form e in cc
+
+    -- text fits its format
+    pub text_part : (x : Piece) → is_text x ≡ true → node_whole (node_of bs x) ≡ true
+        → IsSome (stored_part bs x)
+    text_part x is whole = text_fits bs x (text_form (out-Piece x).form is) (fits_text bs x whole).held
+
+    -- the steps of text, and of what is after it
+    text_first : (x : Piece) (steps : List Instruction) → is_text x ≡ true
+        → node_whole (node_of bs x) ≡ true
+        → node_before names (node_of bs x) steps ≡ text_before (texts_placed bs (x ∷ [])) steps
+    text_first x steps is whole = by_part (stored_part bs x) refl (text_part x is whole)
+      where
+        by_part : (o : Option (List ℕ)) → stored_part bs x ≡ o → IsSome o
+            → node_before names (node_of bs x) steps ≡ text_before (texts_placed bs (x ∷ [])) steps
+        by_part None e h = absurd (cc)
+        by_part (Some cs) e h =
+            rw (node_of_out bs x, text_held bs x cs (text_form (out-Piece x).form is) (sym e), e)
+            (ap (λ ds. text_before ds steps) (sym (append-nil (placed_from (out-Piece x).from cs))))
+
+    -- text before the program of pieces is joined to the text at their beginning
+    texts_join : (xs : List Piece) (ds : Placed) → Whole xs
+        → text_before ds (Program xs)
+        ≡ text_step (ds ++ texts_placed bs (take (text_count xs) xs)) ∷ Program (drop (text_count xs) xs)
+    texts_join [] ds whole = ap (λ es. text_step es ∷ []) (sym (append-nil ds))
+    texts_join (x ∷ xs) ds whole =
+        by_text (is_text x)
+        (texts_join xs (texts_placed bs (x ∷ [])) (first_whole x xs whole).1) refl
+      where
+        by_text : (b : Bool)
+            → text_before (texts_placed bs (x ∷ [])) (Program xs)
+            ≡ text_step (texts_placed bs (x ∷ []) ++ texts_placed bs (take (text_count xs) xs))
+            ∷ Program (drop (text_count xs) xs)
+            → is_text x ≡ b
+            → text_before ds (Program (x ∷ xs))
+            ≡ text_step (ds ++ texts_placed bs (take (text_count (x ∷ xs)) (x ∷ xs)))
+            ∷ Program (drop (text_count (x ∷ xs)) (x ∷ xs))
+        by_text true later is =
+            rw (text_first x (Program xs) is (first_whole x xs whole).0, is, later)
+            (ap (λ es. text_step (ds ++ es) ∷ Program (drop (text_count xs) xs))
+            (append_assoc (placed_from (out-Piece x).from (unwrap_or (stored_part bs x) [])) []
+            (texts_placed bs (take (text_count xs) xs))))
+        by_text false later is =
+            let apart = argument_apart (node_position names (node_of bs x)) (node_of bs x) ds (Program xs) in
+            let first = argument_precedes bs x (other_form (out-Piece x).form is) (Program xs) in
+            rw (is, first) (apart ∙ ap (λ es. text_step es
+            ∷ (argument_step names (node_position names (node_of bs x)) (node_of bs x) ∷ Program xs))
+            (sym (append-nil ds)))
+
+    -- the first step of pieces, and the program of those after it
+    pub program_first : (x : Piece) (xs : List Piece) → Whole (x ∷ xs)
+        → Program (x ∷ xs)
+        ≡ first_step bs names x (take (texts_after x xs) xs) ∷ Program (drop (texts_after x xs) xs)
+    program_first x xs whole = by_text (is_text x) refl
+      where
+        by_text : (b : Bool) → is_text x ≡ b
+            → Program (x ∷ xs)
+            ≡ first_step bs names x (take (texts_after x xs) xs) ∷ Program (drop (texts_after x xs) xs)
+        by_text true is =
+            let wholes = first_whole x xs whole in
+            rw (
+              text_first x (Program xs) is wholes.0,
+              is,
+              texts_join xs (texts_placed bs (x ∷ [])) wholes.1,
+            )
+            (ap (λ es. text_step es ∷ Program (drop (text_count xs) xs))
+            (append_assoc (placed_from (out-Piece x).from (unwrap_or (stored_part bs x) [])) []
+            (texts_placed bs (take (text_count xs) xs))))
+        by_text false is =
+            rw is (argument_precedes bs x (other_form (out-Piece x).form is) (Program xs))
+
+    abbrev Fits : Piece → Type 0
+    Fits x = IsSome (stored_part bs x)
+
+    -- if pieces fit their format, so do the texts at their beginning
+    pub texts_fit : (xs : List Piece) → Whole xs → All Fits (take (text_count xs) xs)
+    texts_fit [] whole = λ k d l. absurd (omega (arith, l))
+    texts_fit (x ∷ xs) whole = by_text (is_text x) (texts_fit xs (first_whole x xs whole).1) refl
+      where
+        by_text : (b : Bool) → All Fits (take (text_count xs) xs) → is_text x ≡ b
+            → All Fits (take (text_count (x ∷ xs)) (x ∷ xs))
+        by_text true later is =
+            rw is (and_all Fits x (take (text_count xs) xs)
+            (text_part x is (first_whole x xs whole).0) later)
+        by_text false later is = rw is (λ k d l. absurd (omega (arith, l)))
+
+    pub texts_after_fit : (x : Piece) (xs : List Piece) → Whole (x ∷ xs)
+        → All Fits (take (texts_after x xs) xs)
+    texts_after_fit x xs whole = by_text (is_text x) refl
+      where
+        by_text : (b : Bool) → is_text x ≡ b → All Fits (take (texts_after x xs) xs)
+        by_text true is = rw is (texts_fit xs (first_whole x xs whole).1)
+        by_text false is = rw is (λ k d l. absurd (omega (arith, l)))
 
   -- ---- the position of an argument's name
 
@@ -562,55 +422,32 @@ module _ (names : List (List ℕ)) where
 
   -- ---- all pieces, one by one
 
-  module _ (bs : List ℕ) (all : List Node) where
+  module _ (bs : List ℕ) (all : List Piece) where
     -- the steps so far, and those of the pieces that are left
     pub record Compiled (made : List Step) (left : List Piece) : Type 0 where
       pub whole : forest_whole (as_forest (nodes_of bs left)) ≡ true
-      pub done : List Instruction
-      pub stands : map (step_of bs) made ≡ map Some done
-      pub goes_on : fold (with_node names) done (nodes_of bs left) ≡ program names all
+      pub goes_on : map (step_of bs) made ++ map Some (program names (nodes_of bs left))
+          ≡ map Some (program names (nodes_of bs all))
 
-    module _ (pieces : List Piece) (made : List Step) (i : ℕ) (c : Compiled made (drop i pieces))
-        (x : Piece) (l : i < length pieces) (is : x ≡ get_or pieces i x) where
-      next_first : drop i pieces ≡ x ∷ drop (i + 1) pieces
-      next_first = rw (drop_more pieces i x l, ← is) refl
-
-      wholes : (node_whole (node_of bs x) ≡ true)
-          × (forest_whole (as_forest (nodes_of bs (drop (i + 1) pieces))) ≡ true)
-      wholes = both (node_whole (node_of bs x))
-          (forest_whole (as_forest (nodes_of bs (drop (i + 1) pieces))))
-          (ap (λ xs. forest_whole (as_forest (nodes_of bs xs))) (sym next_first) ∙ c.whole)
-
-      pub next_whole : node_whole (node_of bs x) ≡ true
-      next_whole = wholes.0
-
-      pub compiled_more : (new : List Step)
-          → Becomes bs made new (λ p. with_node names p (node_of bs x))
-          → Compiled new (drop (i + 1) pieces)
-      compiled_more new becomes = record {
-        whole = wholes.1;
-        done = with_node names c.done (node_of bs x);
-        stands = becomes c.done c.stands;
-        goes_on = ap (λ xs. fold (with_node names) c.done (nodes_of bs xs)) (sym next_first)
-            ∙ c.goes_on;
-      }
-
-    pub compiled_fits : (made : List Step) (left : List Piece) → Compiled made left
-        → All (λ step. IsSome (step_of bs step)) made
-    compiled_fits made left c = program_fits bs made c.done c.stands
-
-    pub compiled_none : (pieces : List Piece) (made : List Step) → nodes_of bs pieces ≡ all
-        → forest_whole (as_forest (nodes_of bs pieces)) ≡ true → made ≡ [] → Compiled made pieces
-    compiled_none pieces made same whole none = record {
-      whole = whole;
-      done = [];
-      stands = ap (map (step_of bs)) none;
-      goes_on = ap (program names) same;
+    -- one step more
+    pub compiled_more : (made new : List Step) (x : Piece) (xs : List Piece)
+        → Compiled made (x ∷ xs)
+        → map (step_of bs) new
+        ≡ map (step_of bs) made
+        ++ (Some (first_step bs names x (take (texts_after x xs) xs)) ∷ [])
+        → Compiled new (drop (texts_after x xs) xs)
+    compiled_more made new x xs c pushed = record {
+      whole = pieces_whole bs xs (texts_after x xs) (first_whole bs x xs c.whole).1;
+      goes_on =
+          ap (λ os. os ++ map Some (program names (nodes_of bs (drop (texts_after x xs) xs)))) pushed
+          ∙ append_assoc (map (step_of bs) made)
+          (Some (first_step bs names x (take (texts_after x xs) xs)) ∷ [])
+          (map Some (program names (nodes_of bs (drop (texts_after x xs) xs))))
+          ∙ ap (λ ps. map (step_of bs) made ++ map Some ps) (sym (program_first bs x xs c.whole))
+          ∙ c.goes_on;
     }
 
-    pub compiled_all : (pieces : List Piece) (made : List Step) (i : ℕ) → length pieces ≤ i
-        → Compiled made (drop i pieces) → map (step_of bs) made ≡ map Some (program names all)
-    compiled_all pieces made i h c =
-        c.stands
-        ∙ ap (map Some) (ap (λ xs. fold (with_node names) c.done (nodes_of bs xs))
-        (sym (drop_all i pieces h)) ∙ c.goes_on)
+    -- no piece is left
+    pub compiled_all : (made : List Step) → Compiled made []
+        → map (step_of bs) made ≡ map Some (program names (nodes_of bs all))
+    compiled_all made c = sym (append-nil (map (step_of bs) made)) ∙ c.goes_on

@@ -1,10 +1,12 @@
 -- Text of several parts of a format: the place of each of its bytes, and what a refusal means.
 use Rattle.std.proofs.Common.{◌≡◌, ◌∙◌, refl, sym, ap, arith, ℕ, ◌+◌, ◌-◌, ◌<◌, ◌≤◌, Bool, true, false}
 use Rattle.std.proofs.Common.{nat_lt, List, [], ◌∷◌, ◌++◌, length, drop, get_or, None, Some, inl, inr}
-use Rattle.std.specs.Prelude.{◌==◌, if◌then◌else◌}
+use Rattle.std.proofs.Common.{IsSome, Option, subst}
+use Rattle.std.specs.Prelude.{◌==◌, if◌then◌else◌, string_bytes, unwrap_or}
+use Rattle.std.specs.List.{All}
 use Rattle.std.specs.Char.{len_utf8}
 use Rattle.std.specs.Str.{chars, IsUtf8}
-use Rattle.std.proofs.lemmas.List.{map-append, drop_more}
+use Rattle.std.proofs.lemmas.List.{append-nil, append_assoc, drop_more, map-append}
 use Rattle.std.proofs.Common.{length-append}
 use Rattle.std.proofs.lemmas.Str.{chars-append, chars-nil, len_utf8_bounds}
 use Rattle.interpolator_render.specs.Written.{Written}
@@ -20,7 +22,12 @@ use Rattle.interpolator_eval.proofs.MeaningLemmas.PlacedLemmas.{placed_from-appe
 use Rattle.interpolator_prepared.specs.Programs.{text_step}
 use Rattle.interpolator_prepared.specs.StoredSteps.{parts_size, joined_place, placed_by}
 use Rattle.interpolator_prepared.specs.StoredSteps.{joined_placed, joined_step, moved_fault}
+use Rattle.interpolator_prepared.specs.StoredSteps.{texts_placed}
+use Rattle.interpolator_prepared.specs.declared.step.JoinedText.{JoinedText}
 use Rattle.interpolator_prepared.specs.declared.step.Part.{Part}
+use Rattle.interpolator_pieces.specs.StoredMeanings.{stored_part}
+use Rattle.interpolator_pieces.specs.declared.piece.Piece.{Piece}
+use Rattle.interpolator_pieces.specs.declared.piece.Piece.TheViews.{out-Piece}
 
 -- ---- the place of a byte
 
@@ -202,6 +209,65 @@ pub empty_joined : (ps : List Part) (bs : List ℕ) → ps ≡ [] → bs ≡ []
 empty_joined ps bs none empty =
     rw (none, empty) (ap (λ cs. Some (text_step (placed_by (joined_place []) (placed_from 0 cs))))
     chars-nil)
+
+-- the text so far stands for characters before those of the pieces that are left
+pub record Joins (bs : List ℕ) (all : List Piece) (joined : JoinedText) (left : List Piece)
+    : Type 0 where
+  pub placed : Placed
+  pub is : joined_step joined.parts.items (string_bytes joined.text) ≡ Some (text_step placed)
+  pub rest : placed ++ texts_placed bs left ≡ texts_placed bs all
+
+module _ (bs : List ℕ) (x : Piece) (xs : List Piece) (fits : IsSome (stored_part bs x)) where
+  -- the text of a piece that fits its format
+  fitting_part : (cs : List ℕ) × (stored_part bs x ≡ Some cs)
+  fitting_part = by_part (stored_part bs x) refl fits
+    where
+      by_part : (o : Option (List ℕ)) → stored_part bs x ≡ o → IsSome o
+          → (cs : List ℕ) × (stored_part bs x ≡ Some cs)
+      by_part None e h = absurd (cc)
+      by_part (Some cs) e h = (cs, e)
+
+  -- one piece more
+  pub joins_more : (all : List Piece) (old new : JoinedText) → Joins bs all old (x ∷ xs)
+      → ((cs : List ℕ) (placed : Placed) → stored_part bs x ≡ Some cs
+      → joined_step old.parts.items (string_bytes old.text) ≡ Some (text_step placed)
+      → joined_step new.parts.items (string_bytes new.text)
+      ≡ Some (text_step (placed ++ placed_from (out-Piece x).from cs)))
+      → Joins bs all new xs
+  joins_more all old new j added =
+      let (cs, part) = fitting_part in
+      record {
+        placed = j.placed ++ placed_from (out-Piece x).from cs;
+        is = added cs j.placed part j.is;
+        rest = append_assoc j.placed (placed_from (out-Piece x).from cs) (texts_placed bs xs)
+            ∙ ap (λ ds. j.placed ++ (placed_from (out-Piece x).from (unwrap_or ds []) ++ texts_placed bs xs))
+            (sym part)
+            ∙ j.rest;
+      }
+
+-- the next piece of some
+pub joins_next : (bs : List ℕ) (all rest : List Piece) (i : ℕ) (x : Piece) (old new : JoinedText)
+    → All (λ piece. IsSome (stored_part bs piece)) rest → i < length rest → x ≡ get_or rest i x
+    → Joins bs all old (drop i rest)
+    → ((cs : List ℕ) (placed : Placed) → stored_part bs x ≡ Some cs
+    → joined_step old.parts.items (string_bytes old.text) ≡ Some (text_step placed)
+    → joined_step new.parts.items (string_bytes new.text)
+    ≡ Some (text_step (placed ++ placed_from (out-Piece x).from cs)))
+    → Joins bs all new (drop (i + 1) rest)
+joins_next bs all rest i x old new fit l is j added =
+    let next : drop i rest ≡ x ∷ drop (i + 1) rest = rw (drop_more rest i x l, ← is) refl in
+    joins_more bs x (drop (i + 1) rest) (subst (λ y. IsSome (stored_part bs y)) (sym is) (fit i x l)) all old new (rw next at j) added
+
+-- no piece so far, and all
+pub joins_none : (bs : List ℕ) (all : List Piece) (joined : JoinedText)
+    → joined_step joined.parts.items (string_bytes joined.text) ≡ Some (text_step [])
+    → Joins bs all joined all
+joins_none bs all joined is = record { placed = []; is = is; rest = refl }
+
+pub joins_all : (bs : List ℕ) (all : List Piece) (joined : JoinedText) → Joins bs all joined []
+    → joined_step joined.parts.items (string_bytes joined.text)
+    ≡ Some (text_step (texts_placed bs all))
+joins_all bs all joined j = j.is ∙ ap (λ ds. Some (text_step ds)) (sym (append-nil j.placed) ∙ j.rest)
 
 module _ (ps : List Part) (i : ℕ) (x : Part) (o : ℕ) (l : i < length ps) (is : x ≡ get_or ps i x)
   where

@@ -1,54 +1,38 @@
--- A copy that is kept alone fits its text, and means its node.
-use Rattle.std.proofs.Common.{◌≡◌, ◌∙◌, refl, sym, ap, ℕ, ◌+◌, ◌<◌, Bool, true, false, ◌&&◌}
-use Rattle.std.proofs.Common.{List, [], ◌∷◌, ◌++◌, length, take, get_or, Option, None, Some, IsSome}
-use Rattle.std.proofs.lemmas.List.{take_more}
+-- A piece that is kept fits its text, and means its node.
+use Rattle.std.proofs.Common.{◌≡◌, refl, ap, ℕ, Bool, true, false, ◌∷◌, []}
+use Rattle.std.proofs.Common.{Option, None, Some, IsSome}
 use Rattle.std.specs.Prelude.{if◌then◌else◌}
 use Rattle.interpolator_render.specs.declared.view.Trait.{Trait}
 use Rattle.interpolator_render.specs.declared.view.Spec.{Spec}
 use Rattle.interpolator_render.specs.Views.{Shown}
-use Rattle.interpolator_render.specs.Written.{Written}
-use Rattle.interpolator_syntax.specs.Faults.{Answer}
-use Rattle.interpolator_syntax.specs.Nodes.{Node, node, Branch, Content, as_forest}
-use Rattle.interpolator_syntax.specs.declared.piece_kind.PieceKind.{PieceKind}
+use Rattle.interpolator_syntax.specs.Nodes.{Node, as_forest}
 use Rattle.interpolator_eval.specs.Slots.{Slots}
 use Rattle.interpolator_eval.specs.Meaning.Environments.{Environment}
-use Rattle.interpolator_eval.specs.Meaning.Outcomes.{Outcome}
-use Rattle.interpolator_eval.proofs.MeaningLemmas.MeaningLemmas.{nothing_last}
 use Rattle.interpolator_eval.specs.Meaning.Meanings.{node_means, forest_means}
-use Rattle.interpolator_pieces.specs.Stored.{node_of, nodes_of, node_whole, forest_whole}
+use Rattle.interpolator_eval.proofs.MeaningLemmas.MeaningLemmas.{nothing_last}
+use Rattle.interpolator_pieces.specs.Stored.{node_whole}
 use Rattle.interpolator_prepared.specs.Programs.{node_step}
-use Rattle.interpolator_prepared.specs.StoredSteps.{fitting_means, whole_step}
-use Rattle.interpolator_pieces.specs.declared.piece.Piece.{Piece}
-use Rattle.interpolator_pieces.proofs.StoredLemmas.{nodes_of_push}
+use Rattle.interpolator_prepared.specs.StoredSteps.{fitting_means, kept_step}
 
-alone_whole : (b : Bool) (n : Node) → IsSome (if b then Some (node_step n) else None)
-    → (b && true) ≡ true
-alone_whole true n h = refl
-alone_whole false n h = absurd (cc)
+-- a node that fits its text is a step
+pub kept_is : (n : Node) → node_whole n ≡ true → kept_step n ≡ Some (node_step n)
+kept_is n whole = ap (λ b. if b then Some (node_step n) else None) whole
 
--- it fits its text
-pub kept_whole : (ns : List Node) → IsSome (whole_step ns) → forest_whole (as_forest ns) ≡ true
-kept_whole [] h = absurd (cc)
-kept_whole (n ∷ []) h = alone_whole (node_whole n) n h
-kept_whole (n ∷ (m ∷ ns)) h = absurd (cc)
+whole_by : (b : Bool) (n : Node) → IsSome (if b then Some (node_step n) else None) → b ≡ true
+whole_by true n h = refl
+whole_by false n h = absurd (cc)
+
+-- and a node that is a step fits its text
+pub kept_whole : (n : Node) → IsSome (kept_step n) → node_whole n ≡ true
+kept_whole n h = whole_by (node_whole n) n h
 
 module _ {X : Type 0} (shows : X → Trait → Spec → Shown) (e : Environment X)
     (value_at : ℕ → Option (Slots X)) where
-  alone_means : (b : Bool) (n : Node) → IsSome (if b then Some (node_step n) else None)
-      → node_means shows e n
-      ≡ fitting_means shows e value_at (if b then Some (node_step n) else None)
-  alone_means true n h = refl
-  alone_means false n h = absurd (cc)
+  -- and means what the step means
+  pub kept_means : (n : Node) → IsSome (kept_step n)
+      → node_means shows e n ≡ fitting_means shows e value_at (kept_step n)
+  kept_means n h = rw (kept_is n (kept_whole n h)) refl
 
-  kept_means : (ns : List Node) → IsSome (whole_step ns)
-      → forest_means shows e (as_forest ns) ≡ fitting_means shows e value_at (whole_step ns)
-  kept_means [] h = absurd (cc)
-  kept_means (n ∷ []) h = nothing_last (node_means shows e n) ∙ alone_means (node_whole n) n h
-  kept_means (n ∷ (m ∷ ns)) h = absurd (cc)
-
-  -- and is written as its step
-  pub kept_writes :
-      (ns : List Node) (old new : Written) (answer : Option Answer) → IsSome (whole_step ns)
-      → Outcome (forest_means shows e (as_forest ns)) old new answer
-      → Outcome (fitting_means shows e value_at (whole_step ns)) old new answer
-  kept_writes ns old new answer h o = rw (kept_means ns h) at o
+  -- one piece means what its node means
+  pub alone_means : (n : Node) → forest_means shows e (as_forest (n ∷ [])) ≡ node_means shows e n
+  alone_means n = nothing_last (node_means shows e n)

@@ -1,7 +1,6 @@
 -- The program of nodes means what they mean, with a row that reaches each name.
 use Rattle.std.proofs.Common.{◌≡◌, ◌∙◌, refl, sym, ap, arith, ℕ, suc, ◌+◌, ◌<◌, Bool, true, false}
-use Rattle.std.proofs.Common.{List, [], ◌∷◌, ◌++◌, length, Option, None, Some, IsSome}
-use Rattle.std.specs.List.{fold}
+use Rattle.std.proofs.Common.{List, [], ◌∷◌, length, Option, None, Some, IsSome}
 use Rattle.std.specs.Option.{option_and_then}
 use Rattle.std.specs.Str.{bytes_eq, encode_utf8_all}
 use Rattle.interpolator_render.specs.declared.view.Trait.{Trait}
@@ -15,12 +14,11 @@ use Rattle.interpolator_syntax.specs.declared.piece_kind.PieceKind.TheVariants a
 use Rattle.interpolator_eval.specs.Slots.{Slots}
 use Rattle.interpolator_eval.specs.Meaning.Environments.{Environment, environment}
 use Rattle.interpolator_eval.specs.Meaning.Meanings.{Meaning, text_alone, chain, under_name}
-use Rattle.interpolator_eval.proofs.MeaningLemmas.MeaningLemmas.{joined_none, nothing_last}
 use Rattle.interpolator_eval.proofs.MeaningLemmas.MeaningLemmas.{joined_assoc}
 use Rattle.interpolator_eval.specs.Meaning.Meanings.{bare_means, node_means, forest_means}
 use Rattle.interpolator_eval.specs.Meaning.Meanings.{join_branch_means, item_branch_means}
 use Rattle.interpolator_prepared.specs.Programs.{Instruction, text_step, value_step, node_step}
-use Rattle.interpolator_prepared.specs.Programs.{text_after, with_text, with_node, program}
+use Rattle.interpolator_prepared.specs.Programs.{text_before, node_before, program}
 use Rattle.interpolator_prepared.specs.Programs.{held_position, node_position, step_at, argument_step}
 use Rattle.interpolator_prepared.specs.Programs.{position_means, step_means, steps_mean}
 use Rattle.interpolator_prepared.specs.Rows.{later_or_first, last_position, found_by_row}
@@ -54,26 +52,12 @@ module _ {X : Type 0} (shows : X → Trait → Spec → Shown) (e : Environment 
   abbrev One : Instruction → Meaning
   One = step_means shows e value_at
 
-  pub steps_append : (xs ys : List Instruction) → Mean (xs ++ ys) ≡ chain (Mean xs) (Mean ys)
-  steps_append [] ys = sym (joined_none (Mean ys))
-  steps_append (x ∷ xs) ys =
-      ap (chain (One x)) (steps_append xs ys) ∙ sym (joined_assoc (One x) (Mean xs) (Mean ys))
-
-  after_means : (x : Instruction) (xs : Placed)
-      → Mean (text_after x xs) ≡ chain (One x) (text_alone xs)
-  after_means (text_step before) xs = nothing_last (text_alone (before ++ xs))
-  after_means (value_step k t spec end) xs =
-      ap (chain (One (value_step k t spec end))) (nothing_last (text_alone xs))
-  after_means (node_step x) xs = ap (chain (One (node_step x))) (nothing_last (text_alone xs))
-
-  pub with_text_means : (steps : List Instruction) (xs : Placed)
-      → Mean (with_text steps xs) ≡ chain (Mean steps) (text_alone xs)
-  with_text_means [] xs = nothing_last (text_alone xs) ∙ sym (joined_none (text_alone xs))
-  with_text_means (x ∷ []) xs =
-      after_means x xs ∙ ap (λ m. chain m (text_alone xs)) (sym (nothing_last (One x)))
-  with_text_means (x ∷ (y ∷ steps)) xs =
-      ap (chain (One x)) (with_text_means (y ∷ steps) xs)
-      ∙ sym (joined_assoc (One x) (Mean (y ∷ steps)) (text_alone xs))
+  text_before_means : (xs : Placed) (steps : List Instruction)
+      → Mean (text_before xs steps) ≡ chain (text_alone xs) (Mean steps)
+  text_before_means xs [] = refl
+  text_before_means xs (text_step ys ∷ steps) = joined_assoc (text_alone xs) (text_alone ys) (Mean steps)
+  text_before_means xs (value_step k t spec end ∷ steps) = refl
+  text_before_means xs (node_step x ∷ steps) = refl
 
 -- ---- nodes
 
@@ -124,38 +108,29 @@ module _ {X : Type 0} (shows : X → Trait → Spec → Shown) (names : List (Li
   argument_means (Some k) (node place end kind held item join) h =
       held_argument place end kind held item join k h
 
-  last_means : (steps : List Instruction) (x : Node)
-      → steps_mean shows E value_at (steps ++ (argument_step names (node_position names x) x ∷ []))
-      ≡ chain (steps_mean shows E value_at steps) (node_means shows E x)
-  last_means steps x =
-      steps_append shows E value_at steps (argument_step names (node_position names x) x ∷ [])
-      ∙ ap (chain (steps_mean shows E value_at steps))
-      (nothing_last (step_means shows E value_at (argument_step names (node_position names x) x))
-      ∙ argument_means (node_position names x) x refl)
+  argument_before_means : (x : Node) (steps : List Instruction)
+      → steps_mean shows E value_at (argument_step names (node_position names x) x ∷ steps)
+      ≡ chain (node_means shows E x) (steps_mean shows E value_at steps)
+  argument_before_means x steps =
+      ap (λ m. chain m (steps_mean shows E value_at steps))
+      (argument_means (node_position names x) x refl)
 
-  node_after : (steps : List Instruction) (x : Node)
-      → steps_mean shows E value_at (with_node names steps x)
-      ≡ chain (steps_mean shows E value_at steps) (node_means shows E x)
-  node_after steps (node place end kind None item join) =
-      last_means steps (node place end kind None item join)
-  node_after steps (node place end kind (Some (text_content from cs)) item join) =
-      with_text_means shows E value_at steps (placed_from from cs)
-  node_after steps (node place end kind (Some (argument_content start name spec bare q)) item join) =
-      last_means steps (node place end kind (Some (argument_content start name spec bare q)) item join)
-  node_after steps (node place end kind (Some (fault_content f)) item join) =
-      last_means steps (node place end kind (Some (fault_content f)) item join)
-
-  program_after : (steps : List Instruction) (xs : List Node)
-      → steps_mean shows E value_at (fold (with_node names) steps xs)
-      ≡ chain (steps_mean shows E value_at steps) (forest_means shows E (as_forest xs))
-  program_after steps [] = sym (nothing_last (steps_mean shows E value_at steps))
-  program_after steps (x ∷ xs) =
-      program_after (with_node names steps x) xs
-      ∙ ap (λ m. chain m (forest_means shows E (as_forest xs))) (node_after steps x)
-      ∙ joined_assoc (steps_mean shows E value_at steps) (node_means shows E x)
-      (forest_means shows E (as_forest xs))
+  node_before_means : (x : Node) (steps : List Instruction)
+      → steps_mean shows E value_at (node_before names x steps)
+      ≡ chain (node_means shows E x) (steps_mean shows E value_at steps)
+  node_before_means (node place end kind None item join) steps =
+      argument_before_means (node place end kind None item join) steps
+  node_before_means (node place end kind (Some (text_content from cs)) item join) steps =
+      text_before_means shows E value_at (placed_from from cs) steps
+  node_before_means (node place end kind (Some (argument_content start name spec bare q)) item join) steps =
+      argument_before_means (node place end kind (Some (argument_content start name spec bare q)) item join)
+      steps
+  node_before_means (node place end kind (Some (fault_content f)) item join) steps =
+      argument_before_means (node place end kind (Some (fault_content f)) item join) steps
 
   -- the program of nodes means what they mean
   pub program_means : (xs : List Node)
       → steps_mean shows E value_at (program names xs) ≡ forest_means shows E (as_forest xs)
-  program_means xs = program_after [] xs ∙ joined_none (forest_means shows E (as_forest xs))
+  program_means [] = refl
+  program_means (x ∷ xs) =
+      node_before_means x (program names xs) ∙ ap (chain (node_means shows E x)) (program_means xs)

@@ -1,5 +1,5 @@
 -- What stored steps mean, one after the other.
-use Rattle.std.proofs.Common.{◌≡◌, ◌∙◌, refl, ap, ℕ, zero, suc, ◌+◌, ◌<◌, ◌≤◌, List, [], ◌∷◌, ◌++◌}
+use Rattle.std.proofs.Common.{◌≡◌, ◌∙◌, refl, ap, ℕ, zero, suc, ◌+◌, ◌<◌, ◌≤◌, List, [], ◌∷◌}
 use Rattle.std.proofs.Common.{arith}
 use Rattle.std.proofs.Common.{length, drop, map, get_or, Option, None, Some, IsSome}
 use Rattle.std.proofs.lemmas.List.{drop_more, drop_all}
@@ -37,11 +37,6 @@ program_fits bs (s ∷ ss) (p ∷ ps) h zero d l =
 program_fits bs (s ∷ ss) (p ∷ ps) h (suc k) d l =
     program_fits bs ss ps
     (rest_same (step_of bs s) (Some p) (map (step_of bs) ss) (map Some ps) h) k d (omega (arith, l))
-
--- what holds for all steps holds for the last
-pub all_last : {A : Type 0} (P : A → Type 0) (xs : List A) (x : A) → All P (xs ++ (x ∷ [])) → P x
-all_last P [] x h = h 0 x (omega arith)
-all_last P (y ∷ xs) x h = all_last P xs x (λ k d l. h (suc k) d (omega (arith, l)))
 
 module _ {X : Type 0} (shows : X → Trait → Spec → Shown) (e : Environment X)
     (value_at : ℕ → Option (Slots X)) (bs : List ℕ) where

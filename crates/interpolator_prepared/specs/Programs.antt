@@ -1,6 +1,5 @@
 -- The flat program of a format and names, and what it means with a row.
 use Rattle.std.specs.Prelude.{ℕ, List, [], ◌∷◌, ◌++◌, Option, Some, None}
-use Rattle.std.specs.List.{fold}
 use Rattle.std.specs.Str.{encode_utf8_all}
 use Rattle.interpolator_render.specs.declared.view.Trait.{Trait}
 use Rattle.interpolator_render.specs.declared.view.Spec.{Spec}
@@ -22,16 +21,10 @@ pub data Instruction : Type 0 where
   value_step : (position : ℕ) (wanted : Trait) (spec : Spec) (end : ℕ) → Instruction
   node_step : Node → Instruction
 
--- text that follows a step: one step with it if that is text too: joined to it, if it is text too
-abbrev pub text_after : Instruction → Placed → List Instruction
-text_after (text_step before) xs = text_step (before ++ xs) ∷ []
-text_after step xs = step ∷ (text_step xs ∷ [])
-
--- text that follows steps: joined to the last of them, if that is text too
-abbrev pub with_text : List Instruction → Placed → List Instruction
-with_text [] xs = text_step xs ∷ []
-with_text (step ∷ []) xs = text_after step xs
-with_text (step ∷ (next ∷ steps)) xs = step ∷ with_text (next ∷ steps) xs
+-- text before steps: joined to the first of them, if that is text too
+abbrev pub text_before : Placed → List Instruction → List Instruction
+text_before xs (text_step ys ∷ steps) = text_step (xs ++ ys) ∷ steps
+text_before xs steps = text_step xs ∷ steps
 
 module _ (names : List (List ℕ)) where
   -- the position of the name of a closed argument that asks for a value
@@ -54,15 +47,16 @@ module _ (names : List (List ℕ)) where
   argument_step None x = node_step x
   argument_step (Some k) x = step_at k x
 
-  -- steps with what a node adds
-  abbrev pub with_node : List Instruction → Node → List Instruction
-  with_node steps (node place end kind (Some (text_content from cs)) item join) =
-      with_text steps (placed_from from cs)
-  with_node steps x = steps ++ (argument_step (node_position x) x ∷ [])
+  -- what a node adds before steps
+  abbrev pub node_before : Node → List Instruction → List Instruction
+  node_before (node place end kind (Some (text_content from cs)) item join) steps =
+      text_before (placed_from from cs) steps
+  node_before x steps = argument_step (node_position x) x ∷ steps
 
   -- the program of nodes: neighbouring text is one step, and a name is a position
   abbrev pub program : List Node → List Instruction
-  program xs = fold with_node [] xs
+  program [] = []
+  program (x ∷ xs) = node_before x (program xs)
 
 -- what the value at a position means: nothing if the row does not reach it
 abbrev pub position_means : {X : Type 0} → (X → Trait → Spec → Shown) → Trait → Spec → (end : ℕ)

@@ -1,6 +1,6 @@
 -- How the code stores a program.
-use Rattle.std.specs.Prelude.{◌≡◌, ℕ, ◌+◌, ◌-◌, nat_lt, ◌==◌, if◌then◌else◌, List, [], ◌∷◌}
-use Rattle.std.specs.Prelude.{Bool, true, false}
+use Rattle.std.specs.Prelude.{ℕ, suc, ◌+◌, ◌-◌, nat_lt, ◌==◌, if◌then◌else◌, List, [], ◌∷◌, ◌++◌}
+use Rattle.std.specs.Prelude.{Bool, true, false, unwrap_or}
 use Rattle.std.specs.Prelude.{length, map, Option, Some, None, option_map, string_bytes}
 use Rattle.std.specs.Str.{chars}
 use Rattle.interpolator_render.specs.declared.view.Trait.{Trait}
@@ -16,9 +16,14 @@ use Rattle.interpolator_eval.specs.Meaning.Meanings.{Meaning, nothing, chain}
 use Rattle.interpolator_eval.specs.declared.meaning.sink.WriteFault.{WriteFault}
 use Rattle.interpolator_eval.specs.declared.meaning.sink.WriteFault.TheVariants.{MissingTraitImpl, Fmt}
 use Rattle.interpolator_syntax.specs.Nodes.{Node}
-use Rattle.interpolator_pieces.specs.Stored.{part, nodes_of, node_whole}
+use Rattle.interpolator_pieces.specs.Stored.{part, node_of, node_whole}
+use Rattle.interpolator_pieces.specs.StoredMeanings.{stored_part}
+use Rattle.interpolator_pieces.specs.declared.piece.Form.{Form}
+use Rattle.interpolator_pieces.specs.declared.piece.Form.TheVariants as forms
+use Rattle.interpolator_pieces.specs.declared.piece.Piece.{Piece}
+use Rattle.interpolator_pieces.specs.declared.piece.Piece.TheViews.{out-Piece}
 use Rattle.interpolator_prepared.specs.Programs.{Instruction, text_step, value_step, node_step}
-use Rattle.interpolator_prepared.specs.Programs.{step_means}
+use Rattle.interpolator_prepared.specs.Programs.{step_means, argument_step, node_position}
 use Rattle.interpolator_prepared.specs.declared.step.Part.{Part}
 use Rattle.interpolator_prepared.specs.declared.step.Step.{Step}
 use Rattle.interpolator_prepared.specs.declared.step.Step.TheVariants.{Literal, Joined, Plain, Value, Kept}
@@ -48,10 +53,9 @@ abbrev pub joined_step : List Part → List ℕ → Option Instruction
 joined_step parts bytes =
     if parts_size parts == length bytes then Some (text_step (joined_placed parts bytes)) else None
 
--- the step of a node that is kept alone, if its stored pieces fit the format
-abbrev pub whole_step : List Node → Option Instruction
-whole_step (x ∷ []) = if node_whole x then Some (node_step x) else None
-whole_step xs = None
+-- the step of a node that is kept, if its stored piece fits the format
+abbrev pub kept_step : Node → Option Instruction
+kept_step x = if node_whole x then Some (node_step x) else None
 
 -- what a stored step of a format stands for, if it fits the format
 abbrev pub step_of : List ℕ → Step → Option Instruction
@@ -60,18 +64,42 @@ step_of bs (Joined x) = joined_step x.value.parts.items (string_bytes x.value.te
 step_of bs (Plain position end) = Some (value_step position traits.Display plain_spec end)
 step_of bs (Value position asked) =
     Some (value_step position asked.value.slot asked.value.spec asked.value.end)
-step_of bs (Kept x) = whole_step (nodes_of bs x.value.items)
+step_of bs (Kept x) = kept_step (node_of bs x.value)
 
 -- whether a step keeps a piece
 abbrev pub keeps_piece : Step → Bool
 keeps_piece (Kept x) = true
 keeps_piece _ = false
 
--- if the old steps stand for a program, the new ones stand for what `made` makes of it
-abbrev pub Becomes : List ℕ → (old new : List Step) → (List Instruction → List Instruction) → Type 0
-Becomes bs old new made =
-    (program : List Instruction) → map (step_of bs) old ≡ map Some program
-    → map (step_of bs) new ≡ map Some (made program)
+-- a form is text
+abbrev pub is_text_form : Form → Bool
+is_text_form forms.Text = true
+is_text_form form = false
+
+-- a stored piece is text
+abbrev pub is_text : Piece → Bool
+is_text x = is_text_form (out-Piece x).form
+
+-- how many pieces of text are at the beginning of some pieces
+abbrev pub text_count : List Piece → ℕ
+text_count [] = 0
+text_count (x ∷ xs) = if is_text x then suc (text_count xs) else 0
+
+-- how many pieces of text follow a piece, if that is text too
+abbrev pub texts_after : Piece → List Piece → ℕ
+texts_after x xs = if is_text x then text_count xs else 0
+
+-- the characters of pieces of text, one after the other
+abbrev pub texts_placed : List ℕ → List Piece → Placed
+texts_placed bs [] = []
+texts_placed bs (x ∷ xs) =
+    placed_from (out-Piece x).from (unwrap_or (stored_part bs x) []) ++ texts_placed bs xs
+
+-- the step of a piece: with the text after it, if it is text
+abbrev pub first_step : List ℕ → (names : List (List ℕ)) → Piece → (texts : List Piece) → Instruction
+first_step bs names x texts =
+    if is_text x then text_step (texts_placed bs (x ∷ texts))
+    else argument_step names (node_position names (node_of bs x)) (node_of bs x)
 
 -- the fault of a write that failed, with the place of a refused text moved
 abbrev pub moved_fault : (ℕ → ℕ) → WriteFault → Answer

@@ -1,22 +1,21 @@
 //! Turns the pieces of a format into steps, for names in order.
-ghost use Rattle.std.specs.Prelude.{◌≡◌, ◌≢◌, ℕ, List, [], ◌∷◌, ◌++◌, IfOk};
-ghost use Rattle.std.specs.Prelude.{IsSome, Some, map, true};
+ghost use Rattle.std.specs.Prelude.{◌≡◌, ◌≤◌, ℕ, List, [], ◌∷◌, ◌++◌, IfOk};
+ghost use Rattle.std.specs.Prelude.{IsSome, Some, length, map, true};
 ghost use Rattle.std.specs.List.{All};
 ghost use Rattle.std.specs.Str.{encode_utf8_all};
-ghost use Rattle.interpolator_syntax.specs.At.{placed_from};
 ghost use Rattle.interpolator_syntax.specs.Nodes.{as_forest};
-ghost use Rattle.interpolator_prepared.specs.Programs.{program, with_node, with_text, argument_step};
-ghost use Rattle.interpolator_prepared.specs.Programs.{node_position, node_step, value_step};
+ghost use Rattle.interpolator_prepared.specs.Programs.{argument_step, node_position, program};
+ghost use Rattle.interpolator_prepared.specs.Programs.{text_step, value_step};
 ghost use Rattle.interpolator_prepared.specs.Rows.{last_position, name_bytes};
-ghost use Rattle.interpolator_prepared.specs.StoredSteps.{step_of, Becomes};
-ghost use Rattle.interpolator_pieces.specs.Stored.{node_of, nodes_of, node_whole, forest_whole, part};
-ghost use Rattle.interpolator_pieces.specs.StoredMeanings.{stored_name};
-ghost use Rattle.interpolator_pieces.specs.declared.piece.Form.TheVariants as forms;
+ghost use Rattle.interpolator_prepared.specs.StoredSteps.{first_step, is_text, kept_step, step_of};
+ghost use Rattle.interpolator_prepared.specs.StoredSteps.{text_count, texts_after, texts_placed};
+ghost use Rattle.interpolator_pieces.specs.Stored.{forest_whole, node_of, node_whole, nodes_of};
+ghost use Rattle.interpolator_pieces.specs.StoredMeanings.{stored_name, stored_part};
 ghost use Rattle.interpolator_pieces.specs.declared.piece.Piece.TheViews.{out-Piece};
 
-use crate::joined::{join_more, join_two};
+use crate::joined::join;
 use crate::row::last_position;
-use crate::step::{Part, Step, ValueSpec};
+use crate::step::{Step, ValueSpec};
 use interpolator_pieces::{Form, Piece, copy_piece, text_of};
 use interpolator_render::Trait;
 use interpolator_syntax::PieceKind;
@@ -37,102 +36,101 @@ pub fn compile(
         ≡ map Some (program (name_bytes names.now) (nodes_of text.now pieces.now))) }
 {
     let mut made = Vec::with_capacity(alloc, pieces.len().min(MOST_ROOM))?;
-    for piece in pieces {
-        push_piece(alloc, &mut made, text, names, piece)?;
+    let mut left = pieces;
+    while let Some((piece, after)) = left.split_first() {
+        let (texts, rest) = after.split_at(texts_after(piece, after));
+        push_step(alloc, &mut made, text, names, piece, texts)?;
+        left = rest;
     }
     Ok(made)
 }
 
-/// Adds what a piece means.
-fn push_piece(
+/// Whether a piece is text.
+fn is_text(piece: &Piece) -> bool
+    ensures { result ≡ is_text piece.now }
+{
+    match &piece.form {
+        Form::Text => true,
+        _ => false,
+    }
+}
+
+/// How many pieces of text follow a piece, if that is text too.
+fn texts_after(piece: &Piece, after: &[Piece]) -> usize
+    ensures count { result ≡ texts_after piece.now after.now }
+    ensures within { result ≤ length after.now }
+{
+    if !is_text(piece) {
+        return 0;
+    }
+    text_count(after)
+}
+
+/// How many pieces of text are at the beginning of some pieces.
+fn text_count(pieces: &[Piece]) -> usize
+    ensures { result ≡ text_count pieces.now }
+{
+    let mut count = 0usize;
+    for piece in pieces {
+        if !is_text(piece) {
+            return count;
+        }
+        count += 1;
+    }
+    count
+}
+
+/// Adds the step of a piece, and of the text after it if it is text.
+fn push_step(
     alloc: Global,
     made: &mut Vec<Step>,
     text: &str,
     names: &[String],
     piece: &Piece,
+    texts: &[Piece],
 ) -> Result<(), AllocError>
     requires whole { node_whole (node_of text.now piece.now) ≡ true }
-    requires stand { All (λ step. IsSome (step_of text.now step)) made.old.items }
-    ensures pushed { IfOk result (λ _. Becomes text.now made.old.items made.new.items
-        (λ before. with_node (name_bytes names.now) before (node_of text.now piece.now))) }
+    requires texts { All (λ piece. IsSome (stored_part text.now piece)) texts.now }
+    ensures pushed { IfOk result (λ _. map (step_of text.now) made.new.items
+        ≡ map (step_of text.now) made.old.items
+        ++ (Some (first_step text.now (name_bytes names.now) piece.now texts.now) ∷ [])) }
 {
-    match &piece.form {
-        Form::Text => push_text(alloc, made, text, piece.from, piece.to),
-        _ => push_argument(alloc, made, text, names, piece),
-    }
-}
-
-/// Adds bytes of the text, from one up to another, to the last step if that is text too.
-fn push_text(
-    alloc: Global,
-    made: &mut Vec<Step>,
-    text: &str,
-    from: usize,
-    to: usize,
-) -> Result<(), AllocError>
-    requires fits { IsSome (part text.now from to) }
-    requires stand { All (λ step. IsSome (step_of text.now step)) made.old.items }
-    ensures pushed { IfOk result (λ _. (cs : List ℕ) → part text.now from to ≡ Some cs
-        → Becomes text.now made.old.items made.new.items
-        (λ before. with_text before (placed_from from cs))) }
-{
-    match made.pop() {
-        None => push_step(made, Step::Literal(from, to)),
-        Some(Step::Literal(first, end)) => {
-            let first = Part {
-                from: first,
-                to: end,
-            };
-            let joined = join_two(alloc, text, first, Part { from, to })?;
-            push_step(made, Step::Joined(joined))
-        }
-        Some(Step::Joined(joined)) => {
-            let joined = join_more(joined, text, from, to)?;
-            push_step(made, Step::Joined(joined))
-        }
-        Some(Step::Plain(position, end)) => {
-            push_after(made, Step::Plain(position, end), Step::Literal(from, to))
-        }
-        Some(Step::Value(position, asked)) => {
-            push_after(made, Step::Value(position, asked), Step::Literal(from, to))
-        }
-        Some(Step::Kept(piece)) => push_after(made, Step::Kept(piece), Step::Literal(from, to)),
-    }
-}
-
-/// Adds a step.
-#[inline(always)]
-fn push_step(made: &mut Vec<Step>, step: Step) -> Result<(), AllocError>
-    ensures { IfOk result (λ _. made.new.items ≡ made.old.items ++ (step ∷ [])) }
-{
+    let step = first_step(alloc, text, names, piece, texts)?;
     made.reserve(1)?;
     made.push_reserved(step);
     Ok(())
 }
 
-/// Adds a step, and one after it.
-fn push_after(made: &mut Vec<Step>, step: Step, next: Step) -> Result<(), AllocError>
-    ensures { IfOk result (λ _. made.new.items ≡ (made.old.items ++ (step ∷ [])) ++ (next ∷ [])) }
-{
-    push_step(made, step)?;
-    push_step(made, next)
-}
-
-/// Adds the step of an argument.
-fn push_argument(
+/// The step of a piece, and of the text after it if it is text.
+fn first_step(
     alloc: Global,
-    made: &mut Vec<Step>,
     text: &str,
     names: &[String],
     piece: &Piece,
-) -> Result<(), AllocError>
+    texts: &[Piece],
+) -> Result<Step, AllocError>
     requires whole { node_whole (node_of text.now piece.now) ≡ true }
-    requires asks { (out-Piece piece.now).form ≢ forms.Text }
-    ensures pushed { IfOk result (λ _. Becomes text.now made.old.items made.new.items
-        (λ before. with_node (name_bytes names.now) before (node_of text.now piece.now))) }
+    requires texts { All (λ piece. IsSome (stored_part text.now piece)) texts.now }
+    ensures step { IfOk result (λ step. step_of text.now step
+        ≡ Some (first_step text.now (name_bytes names.now) piece.now texts.now)) }
 {
-    let step = argument_step(alloc, text, names, piece)?;
-    push_step(made, step)
+    if is_text(piece) {
+        return text_step(alloc, text, piece, texts);
+    }
+    argument_step(alloc, text, names, piece)
+}
+
+/// The step of a piece of text, and of the text after it.
+fn text_step(alloc: Global, text: &str, piece: &Piece, texts: &[Piece]) -> Result<Step, AllocError>
+    requires first { IsSome (stored_part text.now piece.now) }
+    requires texts { All (λ piece. IsSome (stored_part text.now piece)) texts.now }
+    ensures step { IfOk result (λ step. step_of text.now step
+        ≡ Some (text_step (texts_placed text.now (piece.now ∷ texts.now)))) }
+{
+    if texts.is_empty() {
+        return Ok(Step::Literal(piece.from, piece.to));
+    }
+    Ok(Step::Joined(join(alloc, text, piece, texts)?))
 }
 
 /// The step of an argument: the value at the position of its name, or a copy of its piece.
@@ -151,11 +149,11 @@ fn argument_step(
         Some(position) => match &piece.form {
             Form::Plain => Ok(Step::Plain(position, piece.spec_end)),
             Form::Value(t) => under(alloc, position, *t, piece),
-            Form::Text => whole(alloc, text, piece),
-            Form::List(_) => whole(alloc, text, piece),
-            Form::Broken(_) => whole(alloc, text, piece),
+            Form::Text => kept(alloc, piece),
+            Form::List(_) => kept(alloc, piece),
+            Form::Broken(_) => kept(alloc, piece),
         },
-        None => whole(alloc, text, piece),
+        None => kept(alloc, piece),
     }
 }
 
@@ -173,15 +171,12 @@ fn under(alloc: Global, position: usize, t: Trait, piece: &Piece) -> Result<Step
 }
 
 /// The step of a piece of which a copy is kept.
-fn whole(alloc: Global, text: &str, piece: &Piece) -> Result<Step, AllocError>
-    requires whole { node_whole (node_of text.now piece.now) ≡ true }
-    ensures step { IfOk result (λ step. step_of text.now step
-        ≡ Some (node_step (node_of text.now piece.now))) }
+fn kept(alloc: Global, piece: &Piece) -> Result<Step, AllocError>
+    ensures step { IfOk result (λ step. (bs : List ℕ)
+        → step_of bs step ≡ kept_step (node_of bs piece.now)) }
 {
-    let _ = text;
-    let mut kept = Vec::new(alloc);
-    kept.push(copy_piece(alloc, piece)?)?;
-    Ok(Step::Kept(Box::new(alloc, kept)?))
+    let copy = copy_piece(alloc, piece)?;
+    Ok(Step::Kept(Box::new(alloc, copy)?))
 }
 
 /// The position of the name of a closed argument that asks for a value, if it is one of the names.

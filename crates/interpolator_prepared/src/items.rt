@@ -4,17 +4,15 @@ ghost use Rattle.std.specs.Prelude.{IsSome, false, is_some, length, map, true};
 ghost use Rattle.std.specs.Str.{chars};
 ghost use Rattle.interpolator_syntax.specs.At.{placed_from};
 ghost use Rattle.interpolator_syntax.specs.Faults.{result_answer};
-ghost use Rattle.interpolator_syntax.specs.Nodes.{as_forest, target_value, argument_content};
+ghost use Rattle.interpolator_syntax.specs.Nodes.{argument_content, target_value};
 ghost use Rattle.interpolator_syntax.specs.declared.piece_kind.PieceKind.TheVariants.{Closed};
 ghost use Rattle.interpolator_eval.specs.Meaning.Meanings.{items_mean, text_alone};
 ghost use Rattle.interpolator_eval.specs.Meaning.CodeEnvironments.{environment_of};
 ghost use Rattle.interpolator_eval.specs.Meaning.Sinks.{Writes, write_answered};
 ghost use Rattle.interpolator_eval.specs.Slots.{slots_of};
 ghost use Rattle.interpolator_prepared.specs.Items.{IsItemForm, IsJoinForm, IsNodeValue, value_under};
-ghost use Rattle.interpolator_pieces.specs.Stored.{branch_of, forest_whole, held_of, node_of};
-ghost use Rattle.interpolator_pieces.specs.Stored.{node_whole, nodes_of};
+ghost use Rattle.interpolator_pieces.specs.Stored.{branch_of, held_of, node_of, node_whole};
 ghost use Rattle.interpolator_pieces.specs.StoredMeanings.{stored_name, stored_piece_means};
-ghost use Rattle.interpolator_pieces.specs.StoredMeanings.{stored_pieces_mean};
 ghost use Rattle.interpolator_pieces.specs.declared.piece.Form.TheVariants as forms;
 ghost use Rattle.interpolator_pieces.specs.declared.piece.Piece.TheViews.{out-Piece};
 
@@ -24,6 +22,7 @@ use interpolator_eval::{
 use interpolator_pieces::{Form, Piece, Stored, name_of, require_closed, text_of, unboxed};
 use interpolator_render::{Spec, TextWrite, Trait, Value};
 use interpolator_syntax::{Error, PieceKind, Range};
+use std::slice;
 
 /// How each item is written: as what is in this slot, under this spec, which ends at `end`.
 #[derive(Clone, Copy)]
@@ -33,36 +32,49 @@ pub struct ItemForm {
     pub end: usize,
 }
 
-/// Writes what kept pieces of a text mean: by a loop of its own if they are one list under no
-/// width, whose items and join are simple.
+/// Writes what a kept piece of a text means: by a loop of its own if it is a list under no width,
+/// whose items and join are simple.
 #[inline(never)]
-pub fn run_whole<'a, W: TextWrite, C: Context>(
+pub fn write_kept<'a, W: TextWrite, C: Context>(
     sink: &mut Sink<'_, W>,
     environment: &Environment<'a, C, C::Object>,
     text: &str,
-    pieces: &[Piece],
+    piece: &Piece,
 ) -> Result<(), Error>
-    requires whole { forest_whole (as_forest (nodes_of text.now pieces.now)) ≡ true }
+    requires whole { node_whole (node_of text.now piece.now) ≡ true }
     ensures writes { Writes W.written
-        (stored_pieces_mean C.Object.shows (environment_of C.finds environment.now) text.now pieces.now)
+        (stored_piece_means C.Object.shows (environment_of C.finds environment.now) text.now piece.now)
         sink.old sink.new (result_answer result) }
 {
-    let [piece] = pieces else {
-        return write_uncounted(sink, environment, Stored { text, pieces });
-    };
     let Form::List(range) = &piece.form else {
-        return write_uncounted(sink, environment, Stored { text, pieces });
+        return write_alone(sink, environment, text, piece);
     };
     if piece.spec.width.is_some() {
-        return write_uncounted(sink, environment, Stored { text, pieces });
+        return write_alone(sink, environment, text, piece);
     }
     let Some(form) = item_form(text, piece) else {
-        return write_uncounted(sink, environment, Stored { text, pieces });
+        return write_alone(sink, environment, text, piece);
     };
     let Some((place, join)) = join_form(text, piece) else {
-        return write_uncounted(sink, environment, Stored { text, pieces });
+        return write_alone(sink, environment, text, piece);
     };
     run_simple_list(sink, environment, text, piece, range, form, place, join)
+}
+
+/// Writes what a piece of a text means, as the evaluator does.
+fn write_alone<'a, W: TextWrite, C: Context>(
+    sink: &mut Sink<'_, W>,
+    environment: &Environment<'a, C, C::Object>,
+    text: &str,
+    piece: &Piece,
+) -> Result<(), Error>
+    requires whole { node_whole (node_of text.now piece.now) ≡ true }
+    ensures writes { Writes W.written
+        (stored_piece_means C.Object.shows (environment_of C.finds environment.now) text.now piece.now)
+        sink.old sink.new (result_answer result) }
+{
+    let pieces = slice::from_ref(piece);
+    write_uncounted(sink, environment, Stored { text, pieces })
 }
 
 /// Writes a list under no width, each item in this form, with this text between each two.

@@ -1,6 +1,7 @@
 //! Text of several parts of a format.
-ghost use Rattle.std.specs.Prelude.{◌≡◌, ◌+◌, ℕ, List, [], ◌++◌, IfOk, IsSome, Some, length};
+ghost use Rattle.std.specs.Prelude.{◌≡◌, ◌+◌, ℕ, List, [], ◌∷◌, ◌++◌, IfOk, IsSome, Some, length};
 ghost use Rattle.std.specs.Prelude.{string_bytes};
+ghost use Rattle.std.specs.List.{All};
 ghost use Rattle.std.specs.Str.{chars};
 ghost use Rattle.interpolator_syntax.specs.At.{Placed, placed_from};
 ghost use Rattle.interpolator_eval.specs.Meaning.Meanings.{text_alone};
@@ -8,11 +9,13 @@ ghost use Rattle.interpolator_eval.specs.Meaning.Outcomes.{Outcome};
 ghost use Rattle.interpolator_eval.specs.Meaning.Sinks.{write_answered};
 ghost use Rattle.interpolator_prepared.specs.Programs.{text_step};
 ghost use Rattle.interpolator_prepared.specs.StoredSteps.{joined_place, joined_placed, joined_step};
+ghost use Rattle.interpolator_prepared.specs.StoredSteps.{texts_placed};
 ghost use Rattle.interpolator_pieces.specs.Stored.{part};
+ghost use Rattle.interpolator_pieces.specs.StoredMeanings.{stored_part};
 
 use crate::step::{JoinedText, Part};
 use interpolator_eval::{WriteFault, write_run};
-use interpolator_pieces::cut;
+use interpolator_pieces::{Piece, cut};
 use interpolator_render::TextWrite;
 use std::alloc::{AllocError, Global};
 
@@ -40,44 +43,25 @@ fn add_part(joined: &mut JoinedText, text: &str, from: usize, to: usize) -> Resu
     Ok(())
 }
 
-/// The text of two parts.
-pub fn join_two(
+/// The text of a piece and of those after it.
+pub fn join(
     alloc: Global,
     text: &str,
-    first: Part,
-    second: Part,
+    first: &Piece,
+    rest: &[Piece],
 ) -> Result<Box<JoinedText>, AllocError>
-    requires first { IsSome (part text.now first.from first.to) }
-    requires second { IsSome (part text.now second.from second.to) }
-    ensures joined { IfOk result (λ joined. (cs ds : List ℕ)
-        → part text.now first.from first.to ≡ Some cs
-        → part text.now second.from second.to ≡ Some ds
-        → joined_step joined.value.parts.items (string_bytes joined.value.text)
-        ≡ Some (text_step (placed_from first.from cs ++ placed_from second.from ds))) }
+    requires first { IsSome (stored_part text.now first.now) }
+    requires rest { All (λ piece. IsSome (stored_part text.now piece)) rest.now }
+    ensures joined { IfOk result (λ joined.
+        joined_step joined.value.parts.items (string_bytes joined.value.text)
+        ≡ Some (text_step (texts_placed text.now (first.now ∷ rest.now)))) }
 {
     let mut joined = no_parts(alloc);
     add_part(&mut joined, text, first.from, first.to)?;
-    add_part(&mut joined, text, second.from, second.to)?;
+    for piece in rest {
+        add_part(&mut joined, text, piece.from, piece.to)?;
+    }
     Ok(Box::new(alloc, joined)?)
-}
-
-/// The text with one part more.
-pub fn join_more(
-    mut joined: Box<JoinedText>,
-    text: &str,
-    from: usize,
-    to: usize,
-) -> Result<Box<JoinedText>, AllocError>
-    requires fits { IsSome (part text.now from to) }
-    ensures joined { IfOk result (λ longer. (cs : List ℕ) (placed : Placed)
-        → part text.now from to ≡ Some cs
-        → joined_step joined.value.parts.items (string_bytes joined.value.text)
-        ≡ Some (text_step placed)
-        → joined_step longer.value.parts.items (string_bytes longer.value.text)
-        ≡ Some (text_step (placed ++ placed_from from cs))) }
-{
-    add_part(&mut joined, text, from, to)?;
-    Ok(joined)
 }
 
 /// The place in the format of a byte of joined parts, which is needed only once a byte is refused.

@@ -7,10 +7,10 @@ ghost use Rattle.interpolator_eval.specs.Meaning.Outcomes.{Outcome};
 ghost use Rattle.interpolator_eval.specs.Slots.{Slots};
 ghost use Rattle.interpolator_prepared.specs.Rows.{row_at};
 ghost use Rattle.interpolator_prepared.specs.StoredSteps.{fitting_means, step_of, stored_steps_mean};
-ghost use Rattle.interpolator_prepared.specs.StoredSteps.{whole_step};
-ghost use Rattle.interpolator_pieces.specs.Stored.{nodes_of};
+ghost use Rattle.interpolator_prepared.specs.StoredSteps.{kept_step};
+ghost use Rattle.interpolator_pieces.specs.Stored.{node_of};
 
-use crate::items::run_whole;
+use crate::items::write_kept;
 use crate::put::put_step;
 use crate::step::Step;
 use interpolator_eval::{Context, Environment, Formattable, Sink};
@@ -41,22 +41,22 @@ pub fn run_steps<'a, W: TextWrite, C: Context>(
     Ok(())
 }
 
-/// Writes what a piece that is kept alone means.
+/// Writes what a piece that is kept means.
 #[inline(never)]
 fn run_kept<'a, W: TextWrite, C: Context>(
     out: &mut W,
     environment: &Environment<'a, C, C::Object>,
     text: &str,
-    kept: &[Piece],
+    kept: &Piece,
 ) -> Result<(), Error>
-    requires fits { IsSome (whole_step (nodes_of text.now kept.now)) }
+    requires fits { IsSome (kept_step (node_of text.now kept.now)) }
     ensures outcome { (value_at : ℕ → Option (Slots C.Object)) → Outcome
         (fitting_means C.Object.shows (environment_of C.finds environment.now) value_at
-        (whole_step (nodes_of text.now kept.now)))
+        (kept_step (node_of text.now kept.now)))
         (W.written out.old) (W.written out.new) (result_answer result) }
 {
     let mut sink = Sink::Writer(out);
-    let answer = run_whole(&mut sink, environment, text, kept);
+    let answer = write_kept(&mut sink, environment, text, kept);
     match sink {
         Sink::Writer(end) => {
             let _ = end;

@@ -36,6 +36,6 @@ pub enum Step {
     Plain(usize, usize),
     /// The value at a position, under a trait and a spec.
     Value(usize, Box<ValueSpec>),
-    /// A piece that is kept alone: a list, or an argument whose name has no position.
-    Kept(Box<Vec<Piece>>),
+    /// A piece that is kept: a list, or an argument whose name has no position.
+    Kept(Box<Piece>),
 }

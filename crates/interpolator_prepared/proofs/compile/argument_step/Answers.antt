@@ -1,8 +1,9 @@
+use Rattle.std.proofs.Common.{◌∙◌}
 use Rattle.interpolator_prepared.specs.Rows.{name_bytes}
-use Rattle.interpolator_prepared.specs.StoredSteps.{step_of}
 use Rattle.interpolator_pieces.specs.declared.piece.Form.TheVariants as forms
 use Rattle.interpolator_prepared.proofs.CompileLemmas.{step_of_name, step_of_value, step_other}
-use Rattle.interpolator_prepared.proofs.CompileLemmas.{if_same, if_same_all}
+use Rattle.interpolator_prepared.proofs.CompileLemmas.{if_same, step_without}
+use Rattle.interpolator_prepared.proofs.KeptLemmas.{kept_is}
 use Rattle.interpolator_prepared.proofs.compile.argument_step.Goals as goal
 
 pub returns-in-Plain : goal.returns-in-Plain
@@ -15,7 +16,7 @@ returns-in-Plain c =
 pub returns-in-Value : goal.returns-in-Value
 returns-in-Value c =
     record {
-      step = if_same_all _ c.args.text.now _ _
+      step = if_same _ c.args.text.now _ _
           (step_of_value (name_bytes c.args.names.now) c.args.text.now c.args.piece.now
           c.requires.whole c.in-Some.position c.in-Some.ensures c.in-Value.t c.in-Value.is)
           c.under.ensures.step;
@@ -24,26 +25,39 @@ returns-in-Value c =
 pub returns-in-Text : goal.returns-in-Text
 returns-in-Text c =
     record {
-      step = if_same _ (step_of c.args.text.now) _ _
-          (step_other (name_bytes c.args.names.now) c.args.text.now c.args.piece.now forms.Text
+      step = if_same _ c.args.text.now _ _
+          (kept_is _ c.requires.whole
+          ∙ step_other (name_bytes c.args.names.now) c.args.text.now c.args.piece.now forms.Text
           c.in-Text.is tt c.in-Some.position c.in-Some.ensures)
-          c.whole.ensures.step;
+          c.kept.ensures.step;
     }
 
 pub returns-in-List : goal.returns-in-List
 returns-in-List c =
     record {
-      step = if_same _ (step_of c.args.text.now) _ _
-          (step_other (name_bytes c.args.names.now) c.args.text.now c.args.piece.now _
+      step = if_same _ c.args.text.now _ _
+          (kept_is _ c.requires.whole
+          ∙ step_other (name_bytes c.args.names.now) c.args.text.now c.args.piece.now _
           c.in-List.is tt c.in-Some.position c.in-Some.ensures)
-          c.whole-in-List.ensures.step;
+          c.kept-in-List.ensures.step;
     }
 
 pub returns-in-Broken : goal.returns-in-Broken
 returns-in-Broken c =
     record {
-      step = if_same _ (step_of c.args.text.now) _ _
-          (step_other (name_bytes c.args.names.now) c.args.text.now c.args.piece.now _
+      step = if_same _ c.args.text.now _ _
+          (kept_is _ c.requires.whole
+          ∙ step_other (name_bytes c.args.names.now) c.args.text.now c.args.piece.now _
           c.in-Broken.is tt c.in-Some.position c.in-Some.ensures)
-          c.whole-in-Broken.ensures.step;
+          c.kept-in-Broken.ensures.step;
+    }
+
+pub returns-in-None : goal.returns-in-None
+returns-in-None c =
+    record {
+      step = if_same _ c.args.text.now _ _
+          (kept_is _ c.requires.whole
+          ∙ step_without (name_bytes c.args.names.now) c.args.text.now c.args.piece.now
+          c.in-None.ensures)
+          c.kept-in-None.ensures.step;
     }

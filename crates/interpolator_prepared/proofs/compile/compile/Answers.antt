@@ -1,5 +1,21 @@
-use Rattle.interpolator_prepared.proofs.CompileLemmas.{compiled_fits}
+use Rattle.std.proofs.Common.{◌≡◌, ◌∷◌}
+use Rattle.interpolator_prepared.proofs.CompileLemmas.{compiled_more, texts_after_fit}
+use Rattle.interpolator_prepared.specs.Rows.{name_bytes}
 use Rattle.interpolator_prepared.proofs.compile.compile.Goals as goal
 
-pub push_piece-requires-clause-stand : goal.push_piece-requires-clause-stand
-push_piece-requires-clause-stand c = compiled_fits _ _ _ _ _ c.loop-piece.invariant
+pub push_step-requires-clause-texts : goal.push_step-requires-clause-texts
+push_step-requires-clause-texts c =
+    let split : c.loop-piece.left.now ≡ c.in-Some.piece.now ∷ c.in-Some.after.now =
+    c.in-Some.ensures.cases.0 in
+    rw (c.split_at.ensures.front, c.texts_after.ensures.count)
+    (texts_after_fit (name_bytes c.args.names.now) c.args.text.now c.in-Some.piece.now
+    c.in-Some.after.now (rw split at c.loop-piece.invariant.whole))
+
+pub loop-piece-preserved : goal.loop-piece-preserved
+loop-piece-preserved c =
+    let split : c.loop-piece.left.now ≡ c.in-Some.piece.now ∷ c.in-Some.after.now =
+    c.in-Some.ensures.cases.0 in
+    rw (c.split_at.ensures.back, c.texts_after.ensures.count)
+    (compiled_more (name_bytes c.args.names.now) c.args.text.now c.args.pieces.now _ _
+    c.in-Some.piece.now c.in-Some.after.now (rw split at c.loop-piece.invariant)
+    (rw (c.split_at.ensures.front, c.texts_after.ensures.count) at c.in_ok-push_step.ensures.pushed))

@@ -2,8 +2,8 @@ use Rattle.std.proofs.Common.{◌≡◌, rules}
 use Rattle.std.proofs.lemmas.Result.{err_from_is_err_and}
 use Rattle.interpolator_eval.specs.Meaning.CodeEnvironments.{environment_of}
 use Rattle.interpolator_prepared.specs.Rows.{row_at}
-use Rattle.interpolator_prepared.specs.StoredSteps.{step_of, whole_step}
-use Rattle.interpolator_pieces.specs.Stored.{nodes_of}
+use Rattle.interpolator_prepared.specs.StoredSteps.{step_of, kept_step}
+use Rattle.interpolator_pieces.specs.Stored.{node_of}
 use Rattle.interpolator_prepared.proofs.StepLemmas.{step_fault, step_runs, steps_end}
 use Rattle.interpolator_prepared.proofs.run.run_steps.Goals.{in-Kept+in_ok-run_kept-in-Kept}
 use Rattle.interpolator_prepared.proofs.run.run_steps.Goals.{in_default+in_ok-put_step-in_default}
@@ -16,7 +16,7 @@ pub returns-in_err-run_kept-in-Kept : goal.returns-in_err-run_kept-in-Kept
 returns-in_err-run_kept-in-Kept g c =
     let err = err_from_is_err_and c.from_residual.result c.from_residual.ensures.1 in
     let kept : step_of c.args.text.now c.step-item.result
-    ≡ whole_step (nodes_of c.args.text.now c.deref-in-Kept.result.now) = search rules in
+    ≡ kept_step (node_of c.args.text.now c.deref.result.now) = search rules in
     rw (err.1, err.2) (record {
       outcome = c.loop-step.invariant _ _ (step_fault _ _ _ c.args.text.now c.args.steps.now
           c.loop-step.step-index _ _ c.step-item.result c.loop-step-test.true c.step-item.is _
@@ -39,7 +39,7 @@ loop-step-preserved g c =
     elim c.match-step.branch [
       | in-Kept+in_ok-run_kept-in-Kept w ↦ λ new answer k.
           let kept : step_of c.args.text.now c.step-item.result
-          ≡ whole_step (nodes_of c.args.text.now w.deref-in-Kept.result.now) = search rules in
+          ≡ kept_step (node_of c.args.text.now w.deref.result.now) = search rules in
           c.loop-step.invariant new answer (step_runs _ _ _ c.args.text.now c.args.steps.now
           c.loop-step.step-index _ _ c.step-item.result c.loop-step-test.true c.step-item.is _ _
           (rw (← kept) at w.in_ok-run_kept-in-Kept.ensures.outcome (row_at c.args.row.now))
