@@ -1,14 +1,16 @@
 -- A line of a text, shown with marks under some of its characters.
-use Rattle.std.specs.Prelude.{ℕ, suc, Bool, ◌-◌, ◌==◌, nat_lt, nat_le, max, if◌then◌else◌}
+use Rattle.std.specs.Prelude.{ℕ, suc, Bool, ◌-◌, ◌==◌, nat_lt, nat_le, if◌then◌else◌}
 use Rattle.std.specs.Prelude.{List, [], ◌∷◌, ◌++◌, length, take, drop, map, replicate, codes}
 use Rattle.std.specs.Prelude.{encode_utf8_all}
 use Rattle.std.specs.Fmt.{decimal}
 
--- a line, cut around a place if it is long: the characters before the marked ones, the marked ones,
--- and those after them; and whether the line is cut before these and after them
+-- a line, cut around one of its characters if it is long, with some characters marked: those
+-- before the marked ones, the marked ones before that character and from it on, and those after
+-- them; and whether the line is cut before these and after them
 pub record Excerpt : Type 0 where
   pub cut_before : Bool
   pub before : List ℕ
+  pub marked_before : List ℕ
   pub marked : List ℕ
   pub after : List ℕ
   pub cut_after : Bool
@@ -26,12 +28,14 @@ abbrev pub excerpt_of : List ℕ → (around from to : ℕ) → Excerpt
 excerpt_of line around from to =
     let left = first_shown (length line) around in
     let shown = take most_shown (drop left line) in
-    let rest = drop (from - left) shown in
+    let front = take (around - left) shown in
+    let back = drop (around - left) shown in
     record {
       cut_before = nat_lt 0 left;
-      before = take (from - left) shown;
-      marked = take ((to - left) - (from - left)) rest;
-      after = drop ((to - left) - (from - left)) rest;
+      before = take (from - left) front;
+      marked_before = drop (from - left) front;
+      marked = take (to - around) back;
+      after = drop (to - around) back;
       cut_after = nat_lt most_shown (length line - left);
     }
 
@@ -41,34 +45,44 @@ dots cut = if cut then codes ".." else []
 
 -- the characters of the line as it is shown
 abbrev pub shown_characters : Excerpt → List ℕ
-shown_characters e =
-    dots e.cut_before ++ (e.before ++ (e.marked ++ (e.after ++ dots e.cut_after)))
+shown_characters e = dots e.cut_before ++ (e.before ++ (e.marked_before ++ (e.marked
+    ++ (e.after ++ dots e.cut_after))))
 
 -- the line as it is shown, in bytes
 abbrev pub shown_line : Excerpt → List ℕ
-shown_line e = dots e.cut_before ++ (encode_utf8_all e.before ++ (encode_utf8_all e.marked
-    ++ (encode_utf8_all e.after ++ dots e.cut_after)))
+shown_line e = dots e.cut_before ++ (encode_utf8_all e.before
+    ++ (encode_utf8_all e.marked_before ++ (encode_utf8_all e.marked
+    ++ (encode_utf8_all e.after ++ dots e.cut_after))))
 
--- what is written under a character that is not marked: a tab under a tab, else a space
-abbrev pub blank : ℕ → ℕ
-blank c = if c == 9 then 9 else 32
+-- what stands under a character of a line: a tab under a tab, else this sign
+abbrev pub under : (sign : ℕ) → ℕ → ℕ
+under sign c = if c == 9 then 9 else sign
 
--- the mark `^`
+-- the sign ` `, under what is not marked
+abbrev pub space : ℕ
+space = 32
+
+-- the sign `^`, under the character around which a line is cut
 abbrev pub mark : ℕ
 mark = 94
 
--- the marks: blanks under all that is before the marked characters, and a mark under each of these;
--- one mark if none is marked
-abbrev pub marks_under : Excerpt → List ℕ
-marks_under e = map blank (dots e.cut_before) ++ (map blank e.before
-    ++ replicate (max 1 (length e.marked)) mark)
+-- the sign `~`, under the others that are marked
+abbrev pub side_mark : ℕ
+side_mark = 126
 
--- how many characters are before the first mark
+-- what stands under an excerpt: `^` under the character around which the line is cut, `~` under the
+-- marked ones before and after it, and spaces under all that is before these
+abbrev pub marks_under : Excerpt → List ℕ
+marks_under e = map (under space) (dots e.cut_before) ++ (map (under space) e.before
+    ++ (map (under side_mark) e.marked_before
+    ++ (mark ∷ map (under side_mark) (drop 1 e.marked))))
+
+-- how many characters are before the first `^`
 abbrev pub before_mark : List ℕ → ℕ
 before_mark [] = 0
 before_mark (c ∷ cs) = if c == mark then 0 else suc (before_mark cs)
 
--- how many characters are before the first mark under an excerpt
+-- how many characters are before the `^` under an excerpt
 abbrev pub before_marks : Excerpt → ℕ
 before_marks e = before_mark (marks_under e)
 

@@ -1,6 +1,8 @@
--- A fault as a compiler shows it: where it is, what it is, and the line with its argument marked.
-use Rattle.std.specs.Prelude.{ℕ, ◌+◌, ◌-◌, ◌^◌, min, nat_lt, if◌then◌else◌, List, [], ◌++◌, length}
-use Rattle.std.specs.Prelude.{get_or, codes, Option, None, Some, unwrap_or}
+-- A fault as a compiler shows it: where it is, what it is, and the line with `^` under its place and
+-- `~` under the rest of its argument.
+use Rattle.std.specs.Prelude.{ℕ, ◌+◌, ◌-◌, ◌^◌, ◌==◌, min, nat_lt, if◌then◌else◌, List, []}
+use Rattle.std.specs.Prelude.{◌++◌, length, get_or, codes, Option, None, Some, unwrap_or}
+use Rattle.std.specs.Fmt.{decimal}
 use Rattle.std.specs.Str.{chars}
 use Rattle.std.specs.Str.Lines.{lines}
 use Rattle.interpolator_syntax.specs.At.{outermost}
@@ -64,11 +66,17 @@ told_in s line at marked what =
 abbrev pub told_at : Source → (at : ℕ) → ℕ × ℕ → List ℕ → List ℕ
 told_at s at marked what = told_in s (line_with s.text.now at) at marked what
 
+-- where a place that a text names counts from: said only if the format does not begin its text
+abbrev pub note_of : (start place : ℕ) → List ℕ
+note_of start place =
+    if start == 0 then [] else codes " (byte " ++ (decimal place ++ codes " of the format)")
+
 -- what is reported at a byte of the format, or without a place
 abbrev pub explanation : Source → Option ℕ → List ℕ → List ℕ
 explanation s None what = s.name.now ++ (codes ": " ++ what)
 explanation s (Some place) what =
-    told_at s (usize_sum s.start place) (marked_bytes s.format.now place) what
+    told_at s (usize_sum s.start place) (marked_bytes s.format.now place)
+    (what ++ note_of s.start place)
 
 -- the explanation of an error
 abbrev pub explanation_of : Source → Answer → List ℕ

@@ -1,9 +1,9 @@
 //! A line of a text, shown with marks under some of its characters.
-ghost use Rattle.std.specs.Prelude.{◌≡◌, ◌<◌, ◌+◌, ◌-◌, ◌++◌, length, take, drop, map, replicate, max};
+ghost use Rattle.std.specs.Prelude.{◌≡◌, ◌<◌, ◌+◌, ◌-◌, ◌++◌, ◌∷◌, length, take, drop, map, replicate};
 ghost use Rattle.std.specs.Prelude.{IfOk, encode_utf8_all, string_bytes};
 ghost use Rattle.std.specs.Str.{chars};
-ghost use Rattle.interpolator.specs.Excerpts.{excerpt_of, first_shown, dots, blank};
-ghost use Rattle.interpolator.specs.Excerpts.{gap, mark, picture};
+ghost use Rattle.interpolator.specs.Excerpts.{excerpt_of, first_shown, dots, under};
+ghost use Rattle.interpolator.specs.Excerpts.{gap, mark, picture, side_mark, space};
 
 use std::alloc::{AllocError, Global};
 
@@ -32,23 +32,25 @@ fn split_after(text: &str, count: usize) -> (&str, &str)
     (text, "")
 }
 
-/// What is written under a character that is not marked.
-fn blank_of(c: char) -> char
-    ensures blank { result ≡ blank c }
+/// What stands under a character of a line: a tab under a tab, else this sign.
+fn sign_under(c: char, sign: char) -> char
+    requires { sign < 128 }
+    ensures sign { result ≡ under sign c }
     ensures ascii { result < 128 }
 {
-    if c == '\t' { '\t' } else { ' ' }
+    if c == '\t' { '\t' } else { sign }
 }
 
-/// The blanks under a text.
-fn blanks(alloc: Global, text: &str) -> Result<String, AllocError>
-    ensures { IfOk result (λ under. string_bytes under ≡ map blank (chars text.now)) }
+/// What stands under a text: this sign under each character, but a tab under a tab.
+fn signs_under(alloc: Global, text: &str, sign: char) -> Result<String, AllocError>
+    requires { sign < 128 }
+    ensures { IfOk result (λ signs. string_bytes signs ≡ map (under sign) (chars text.now)) }
 {
-    let mut under = String::new(alloc);
+    let mut signs = String::new(alloc);
     for c in text.chars() {
-        under.push(blank_of(c))?;
+        signs.push(sign_under(c, sign))?;
     }
-    Ok(under)
+    Ok(signs)
 }
 
 /// A text of `count` copies of a character.
@@ -70,39 +72,50 @@ fn dots(cut: bool) -> &'static str
     if cut { ".." } else { "" }
 }
 
-/// What is written under it.
-fn dot_blanks(cut: bool) -> &'static str
-    ensures { result.now ≡ map blank (dots cut) }
+/// What stands under it.
+fn dot_spaces(cut: bool) -> &'static str
+    ensures { result.now ≡ map (under space) (dots cut) }
 {
     if cut { "  " } else { "" }
 }
 
-/// A line as it is shown, of its parts.
+/// A line as it is shown, of its parts: what is before the marked characters, the marked ones before
+/// the one around which the line is cut, the marked ones from that on, and what is after them.
 fn shown_line(
     alloc: Global,
     cut: (bool, bool),
     before: &str,
+    marked_before: &str,
     marked: &str,
     after: &str,
 ) -> Result<String, AllocError>
-    ensures { IfOk result (λ shown. string_bytes shown ≡ dots cut.0 ++ (before.now ++ (marked.now
-        ++ (after.now ++ dots cut.1)))) }
+    ensures { IfOk result (λ shown. string_bytes shown ≡ dots cut.0 ++ (before.now
+        ++ (marked_before.now ++ (marked.now ++ (after.now ++ dots cut.1))))) }
 {
     let (left, right) = (dots(cut.0), dots(cut.1));
-    let shown = format!(in alloc; "{left}{before}{marked}{after}{right}")?;
+    let shown = format!(in alloc; "{left}{before}{marked_before}{marked}{after}{right}")?;
     Ok(shown)
 }
 
-/// The marks under a line that is shown.
-fn marks_under(alloc: Global, cut: bool, before: &str, marked: &str) -> Result<String, AllocError>
-    ensures { IfOk result (λ marks. string_bytes marks ≡ map blank (dots cut)
-        ++ (map blank (chars before.now) ++ replicate (max 1 (length (chars marked.now))) mark)) }
+/// What stands under a line that is shown.
+fn marks_under(
+    alloc: Global,
+    cut: bool,
+    before: &str,
+    marked_before: &str,
+    marked: &str,
+) -> Result<String, AllocError>
+    ensures { IfOk result (λ marks. string_bytes marks ≡ map (under space) (dots cut)
+        ++ (map (under space) (chars before.now)
+        ++ (map (under side_mark) (chars marked_before.now)
+        ++ (mark ∷ map (under side_mark) (drop 1 (chars marked.now)))))) }
 {
-    let left = dot_blanks(cut);
-    let under = blanks(alloc, before)?;
-    let count = count_of(marked).max(1);
-    let marks = copies(alloc, '^', count)?;
-    let marks = format!(in alloc; "{left}{under}{marks}")?;
+    let left = dot_spaces(cut);
+    let spaces = signs_under(alloc, before, ' ')?;
+    let ahead = signs_under(alloc, marked_before, '~')?;
+    let (_, rest) = split_after(marked, 1);
+    let behind = signs_under(alloc, rest, '~')?;
+    let marks = format!(in alloc; "{left}{spaces}{ahead}^{behind}")?;
     Ok(marks)
 }
 
@@ -133,8 +146,8 @@ fn gap(alloc: Global, number: usize) -> Result<String, AllocError>
     Ok(gap)
 }
 
-/// The line of this number, cut around one of its characters, with marks under those of the indexes
-/// `marked.0` up to `marked.1`, counted from 0.
+/// The line of this number, cut around one of its characters, with `^` under that one and `~` under
+/// the others of those of the indexes `marked.0` up to `marked.1`, counted from 0.
 pub(crate) fn draw(
     alloc: Global,
     number: usize,
@@ -149,12 +162,13 @@ pub(crate) fn draw(
     let left = first_shown(count, around);
     let (_, rest) = split_after(line, left);
     let (shown, _) = split_after(rest, MOST_SHOWN);
+    let (front, back) = split_after(shown, around.saturating_sub(left));
     let from = marked.0.saturating_sub(left);
-    let (before, rest) = split_after(shown, from);
-    let (marked, after) = split_after(rest, marked.1.saturating_sub(left).saturating_sub(from));
+    let (before, marked_before) = split_after(front, from);
+    let (marked, after) = split_after(back, marked.1.saturating_sub(around));
     let cut = (0 < left, MOST_SHOWN < count.saturating_sub(left));
-    let shown = shown_line(alloc, cut, before, marked, after)?;
-    let marks = marks_under(alloc, cut.0, before, marked)?;
+    let shown = shown_line(alloc, cut, before, marked_before, marked, after)?;
+    let marks = marks_under(alloc, cut.0, before, marked_before, marked)?;
     let gap = gap(alloc, number)?;
     let drawn = format!(in alloc; "{gap} |\n{number} | {shown}\n{gap} | {marks}")?;
     Ok(drawn)

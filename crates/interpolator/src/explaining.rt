@@ -1,7 +1,7 @@
 //! Faults as a compiler shows them.
 ghost use Rattle.std.specs.Prelude.{◌≡◌, ◌<◌, ◌++◌, codes, IfErr, IfOk, string_bytes};
 ghost use Rattle.interpolator.specs.Explained.{before_in_line, explanation_of, head as head_of};
-ghost use Rattle.interpolator.specs.Explained.{line_of, marked_bytes, told_at, told_in};
+ghost use Rattle.interpolator.specs.Explained.{line_of, marked_bytes, note_of, told_at, told_in};
 ghost use Rattle.interpolator_syntax.specs.Faults.{answer_of, no_memory};
 
 use crate::excerpt::{count_of, draw};
@@ -40,7 +40,7 @@ pub struct Source<'a> {
 /// greeting.txt:1:8: error while parsing input: Format spec at 7 is nether closed with a `}`
 ///   |
 /// 1 | Hello {name
-///   |       ^^^^^
+///   |       ~^~~~
 /// ```
 ///
 /// # Errors
@@ -69,19 +69,20 @@ pub fn explain(alloc: Global, name: &str, text: &str, error: &Error) -> Result<S
 /// Shows a fault of a format as a compiler does: the name of the text, the line and the column of
 /// the fault, what it is, and the line with marks under the argument that has the fault's place.
 ///
-/// The innermost argument that has the place is marked from its opening brace to its end, as far as
-/// it is in the line; if no argument has it, there is one mark, at the place. Before the marks
-/// there is a tab under each tab and a space under any other character. A line of more than 120
-/// characters is cut around the place, with `..` where it is cut. A fault without a place is shown
-/// with the name alone. The text that is returned has no newline at its end.
+/// In the column that is named stands `^`, and `~` under the rest of the innermost argument that has
+/// the place, as far as it is in the line; if no argument has it, `^` stands alone. Before the marks
+/// there is a space under each character. Under a tab is a tab, if not `^`. A line of more than 120
+/// characters is cut around the place, with `..` where it is cut. If the format does not begin the
+/// text, a note says that the place in the fault's text counts the format's bytes. A fault without
+/// a place is shown with the name alone. The text that is returned has no newline at its end.
 ///
 /// The format is read again, and memory is taken for that.
 ///
 /// ```text
-/// messages.txt:3:19: error while parsing input: Format spec at 7 is nether closed with a `}`
+/// messages.txt:3:31: specified value not in context `nme` at 19 (byte 19 of the format)
 ///   |
-/// 3 | greeting = Hello {name, you
-///   |                  ^^^^^^^^^^
+/// 3 | greeting = Bonjour {nom}, et {nme}!
+///   |                              ~^~~~
 /// ```
 ///
 /// # Errors
@@ -101,6 +102,8 @@ pub fn explain_in(alloc: Global, source: &Source<'_>, error: &Error) -> Result<S
         Some(place) => {
             let marked = marked_bytes(alloc, source.format, place)?;
             let at = source.start.saturating_add(place);
+            let note = note(alloc, source.start, place)?;
+            let what = format!(in alloc; "{what}{note}")?;
             let told = told_at(alloc, source, at, marked, what.as_str())?;
             Ok(told)
         }
@@ -114,6 +117,18 @@ fn without_place(alloc: Global, name: &str, what: &str) -> Result<String, AllocE
 {
     let told = format!(in alloc; "{name}: {what}")?;
     Ok(told)
+}
+
+/// A note on where the place that a fault's text names counts from; empty if the format begins its
+/// text.
+fn note(alloc: Global, start: usize, place: usize) -> Result<String, AllocError>
+    ensures { IfOk result (λ note. string_bytes note ≡ note_of start place) }
+{
+    if start == 0 {
+        return Ok(String::new(alloc));
+    }
+    let note = format!(in alloc; " (byte {place} of the format)")?;
+    Ok(note)
 }
 
 /// The bytes of a format that are marked for a place.
