@@ -39,11 +39,11 @@ all_cases() {
     message 'Hello Zoë!' m.txt hello name=Zoë
     message 'Bye,   Ann.' m.txt bye name=Ann x=1
     message '2=c=d' m.txt two a=1 b=c=d a=2
-    told "$(printf '%s\n' 'm.txt:3:16: specified value not in context `name` at 7' \
-        '  |' '3 | hello = Hello {name}!' '  |               ^^^^^^')" m.txt hello
+    told "$(printf '%s\n' 'm.txt:3:16: specified value not in context `name` at 7 (byte 7 of the format)' \
+        '  |' '3 | hello = Hello {name}!' '  |               ~^~~~~')" m.txt hello
     told "$(printf '%s\n' \
-        'm.txt:5:20: trait `Iter` not implemented, used by format argument at 12' \
-        '  |' '5 | list = {x:i#({:?})#}' '  |        ^^^^^^^^^^^^^')" m.txt list x=1
+        'm.txt:5:20: trait `Iter` not implemented, used by format argument at 12 (byte 12 of the format)' \
+        '  |' '5 | list = {x:i#({:?})#}' '  |        ~~~~~~~~~~~~^')" m.txt list x=1
     told 'm.txt: no message `gone`' m.txt gone
     told 'm.txt: no message `# greetings`' m.txt '# greetings'
     wrong 'bad word: name' m.txt hello name
@@ -57,30 +57,30 @@ all_cases() {
     printf '%s\n' 'a = {x:>5}' 'b = é {x:?y}' 'no equals' 'c = {h:i({z)}' '  d = {q:+i}' \
         'e={x:+#' >broken.txt
     told "$(printf '%s\n' \
-        'broken.txt:2:11: error while parsing input: Expected `}` at 7' \
-        '  |' '2 | b = é {x:?y}' '  |       ^^^^^^' \
+        'broken.txt:2:11: error while parsing input: Expected `}` at 7 (byte 7 of the format)' \
+        '  |' '2 | b = é {x:?y}' '  |       ~~~~^~' \
         'broken.txt:3:1: no `=`' \
         '  |' '3 | no equals' '  | ^' \
-        'broken.txt:4:11: error while parsing input: Format spec at 6 is nether closed with a `}`' \
-        '  |' '4 | c = {h:i({z)}' '  |          ^^' \
-        'broken.txt:5:12: error while parsing input: Width, precision, `-`, `+` and `#` are not supported for `i` at 5' \
-        '  |' '5 |   d = {q:+i}' '  |       ^^^^^^' \
-        'broken.txt:6:4: error while parsing input: Format spec at 1 is nether closed with a `}`' \
-        '  |' '6 | e={x:+#' '  |   ^^^^^')" \
+        'broken.txt:4:11: error while parsing input: Format spec at 6 is nether closed with a `}` (byte 6 of the format)' \
+        '  |' '4 | c = {h:i({z)}' '  |          ~^' \
+        'broken.txt:5:12: error while parsing input: Width, precision, `-`, `+` and `#` are not supported for `i` at 5 (byte 5 of the format)' \
+        '  |' '5 |   d = {q:+i}' '  |       ~~~~~^' \
+        'broken.txt:6:4: error while parsing input: Format spec at 1 is nether closed with a `}` (byte 1 of the format)' \
+        '  |' '6 | e={x:+#' '  |   ~^~~~')" \
         broken.txt a x=1
 
     printf '%s\n' 'a = {q:+i}, {r:+i}{z' 'b(n:) = {m}{n:i}{n}' 'c = {x}' >faults.txt
     told "$(printf '%s\n' \
-        'faults.txt:1:10: error while parsing input: Width, precision, `-`, `+` and `#` are not supported for `i` at 5' \
-        '  |' '1 | a = {q:+i}, {r:+i}{z' '  |     ^^^^^^' \
-        'faults.txt:1:18: error while parsing input: Width, precision, `-`, `+` and `#` are not supported for `i` at 13' \
-        '  |' '1 | a = {q:+i}, {r:+i}{z' '  |             ^^^^^^' \
-        'faults.txt:1:20: error while parsing input: Format spec at 15 is nether closed with a `}`' \
-        '  |' '1 | a = {q:+i}, {r:+i}{z' '  |                   ^^' \
-        'faults.txt:2:10: specified value not in context `m` at 1' \
-        '  |' '2 | b(n:) = {m}{n:i}{n}' '  |         ^^^' \
-        'faults.txt:2:16: trait `Iter` not implemented, used by format argument at 7' \
-        '  |' '2 | b(n:) = {m}{n:i}{n}' '  |            ^^^^^')" \
+        'faults.txt:1:10: error while parsing input: Width, precision, `-`, `+` and `#` are not supported for `i` at 5 (byte 5 of the format)' \
+        '  |' '1 | a = {q:+i}, {r:+i}{z' '  |     ~~~~~^' \
+        'faults.txt:1:18: error while parsing input: Width, precision, `-`, `+` and `#` are not supported for `i` at 13 (byte 13 of the format)' \
+        '  |' '1 | a = {q:+i}, {r:+i}{z' '  |             ~~~~~^' \
+        'faults.txt:1:20: error while parsing input: Format spec at 15 is nether closed with a `}` (byte 15 of the format)' \
+        '  |' '1 | a = {q:+i}, {r:+i}{z' '  |                   ~^' \
+        'faults.txt:2:10: specified value not in context `m` at 1 (byte 1 of the format)' \
+        '  |' '2 | b(n:) = {m}{n:i}{n}' '  |         ~^~' \
+        'faults.txt:2:16: trait `Iter` not implemented, used by format argument at 7 (byte 7 of the format)' \
+        '  |' '2 | b(n:) = {m}{n:i}{n}' '  |            ~~~~^')" \
         faults.txt c x=1
 
     printf '%s\n' 'a(x[y:) = 1' 'b(x]) = 1' 'c(x)y = 1' 'd(x)(y) = 1' 'e(x, [] , :) = 1' \
@@ -96,10 +96,10 @@ all_cases() {
 
     printf '%s\n' 'é = {x' 'ok = {x}' 'ü = é{x}{y' >accents.txt
     told "$(printf '%s\n' \
-        'accents.txt:1:6: error while parsing input: Format spec at 1 is nether closed with a `}`' \
-        '  |' '1 | é = {x' '  |     ^^' \
-        'accents.txt:3:10: error while parsing input: Format spec at 6 is nether closed with a `}`' \
-        '  |' '3 | ü = é{x}{y' '  |         ^^')" \
+        'accents.txt:1:6: error while parsing input: Format spec at 1 is nether closed with a `}` (byte 1 of the format)' \
+        '  |' '1 | é = {x' '  |     ~^' \
+        'accents.txt:3:10: error while parsing input: Format spec at 6 is nether closed with a `}` (byte 6 of the format)' \
+        '  |' '3 | ü = é{x}{y' '  |         ~^')" \
         accents.txt ok x=1
 
     printf '%s\n' 'hi( name ) = Hi {name:>4}' 'none() = nothing' \
@@ -120,18 +120,18 @@ all_cases() {
         'd(n:, l[],) = {n}' 'e(n = {n}' 'f(n:x) = {n}' \
         'g(n, m, n:) = {n}{m}' >kinds.txt
     told "$(printf '%s\n' \
-        'kinds.txt:1:18: trait `LowerHex` not implemented, used by format argument at 7' \
-        '  |' '1 | a(name) = {name:x}' '  |           ^^^^^^^^' \
-        'kinds.txt:2:16: specified value not in context `m` at 7' \
-        '  |' '2 | b(n:) = {n:x} {m}' '  |               ^^^' \
-        'kinds.txt:3:18: trait `LowerHex` not implemented, used by format argument at 8' \
-        '  |' '3 | c(l[]) = {l:i({:x})}' '  |               ^^^^' \
+        'kinds.txt:1:18: trait `LowerHex` not implemented, used by format argument at 7 (byte 7 of the format)' \
+        '  |' '1 | a(name) = {name:x}' '  |           ~~~~~~~^' \
+        'kinds.txt:2:16: specified value not in context `m` at 7 (byte 7 of the format)' \
+        '  |' '2 | b(n:) = {n:x} {m}' '  |               ~^~' \
+        'kinds.txt:3:18: trait `LowerHex` not implemented, used by format argument at 8 (byte 8 of the format)' \
+        '  |' '3 | c(l[]) = {l:i({:x})}' '  |               ~~~^' \
         'kinds.txt:4:11: declarations are `(NAME, NAME:, NAME[])`, each name once' \
         '  |' '4 | d(n:, l[],) = {n}' '  |           ^' \
         'kinds.txt:5:2: declarations are `(NAME, NAME:, NAME[])`, each name once' \
         '  |' '5 | e(n = {n}' '  |  ^' \
-        'kinds.txt:6:11: specified value not in context `n` at 1' \
-        '  |' '6 | f(n:x) = {n}' '  |          ^^^' \
+        'kinds.txt:6:11: specified value not in context `n` at 1 (byte 1 of the format)' \
+        '  |' '6 | f(n:x) = {n}' '  |          ~^~' \
         'kinds.txt:7:9: declarations are `(NAME, NAME:, NAME[])`, each name once' \
         '  |' '7 | g(n, m, n:) = {n}{m}' '  |         ^')" \
         kinds.txt a name=Ann
@@ -139,16 +139,16 @@ all_cases() {
     message 'Hello Ann!' mark.txt hello name=Ann
     printf '\xef\xbb\xbf%s\n' 'hello = Hello {name' >mark.txt
     told "$(printf '%s\n' \
-        'mark.txt:1:16: error while parsing input: Format spec at 7 is nether closed with a `}`' \
-        '  |' '1 | hello = Hello {name' '  |               ^^^^^')" \
+        'mark.txt:1:16: error while parsing input: Format spec at 7 is nether closed with a `}` (byte 7 of the format)' \
+        '  |' '1 | hello = Hello {name' '  |               ~^~~~')" \
         mark.txt hello name=Ann
     printf '%s\n' 'é = first' '# é = none' 'bye = Bye' '  é(x) = {x' ' = no key' '(n:) = {n}' \
         'greeting(name count) = {name}' 'cart(n :) = {n}' 'bye=Bye' '   = ' >keys.txt
     told "$(printf '%s\n' \
         'keys.txt:4:3: line 1 has the key `é` too' \
         '  |' '4 |   é(x) = {x' '  |   ^' \
-        'keys.txt:4:11: error while parsing input: Format spec at 1 is nether closed with a `}`' \
-        '  |' '4 |   é(x) = {x' '  |          ^^' \
+        'keys.txt:4:11: error while parsing input: Format spec at 1 is nether closed with a `}` (byte 1 of the format)' \
+        '  |' '4 |   é(x) = {x' '  |          ~^' \
         'keys.txt:5:2: no key' '  |' '5 |  = no key' '  |  ^' \
         'keys.txt:6:1: no key' '  |' '6 | (n:) = {n}' '  | ^' \
         'keys.txt:7:10: declarations are `(NAME, NAME:, NAME[])`, each name once' \
@@ -162,11 +162,11 @@ all_cases() {
     message 'Hallo Zoë!' --fallback m.txt de.txt hello name=Zoë
     message 'Bye,   Ann.' --fallback m.txt de.txt bye name=Ann
     told 'de.txt: no message `gone`'$'\n''m.txt: no message `gone`' --fallback m.txt de.txt gone
-    told "$(printf '%s\n' 'de.txt:1:16: specified value not in context `name` at 7' \
-        '  |' '1 | hello = Hallo {name}!' '  |               ^^^^^^')" \
+    told "$(printf '%s\n' 'de.txt:1:16: specified value not in context `name` at 7 (byte 7 of the format)' \
+        '  |' '1 | hello = Hallo {name}!' '  |               ~^~~~~')" \
         --fallback m.txt de.txt hello
-    told "$(printf '%s\n' 'mark.txt:1:16: error while parsing input: Format spec at 7 is nether closed with a `}`' \
-        '  |' '1 | hello = Hello {name' '  |               ^^^^^')" \
+    told "$(printf '%s\n' 'mark.txt:1:16: error while parsing input: Format spec at 7 is nether closed with a `}` (byte 7 of the format)' \
+        '  |' '1 | hello = Hello {name' '  |               ~^~~~')" \
         --fallback mark.txt m.txt hello name=Zoë
     unread 'none.txt: No such file or directory (os error 2)' --fallback none.txt m.txt hello
     wrong "$usage" --fallback m.txt
@@ -176,8 +176,8 @@ all_cases() {
     printf '%s\n' 'x = 1' 'y' >one.txt
     printf '%s\n' 'hello = {' >two.txt
     faults="$(printf '%s\n' 'one.txt:2:1: no `=`' '  |' '2 | y' '  | ^' \
-        'two.txt:1:10: error while parsing input: Format spec at 1 is nether closed with a `}`' \
-        '  |' '1 | hello = {' '  |         ^')"
+        'two.txt:1:10: error while parsing input: Format spec at 1 is nether closed with a `}` (byte 1 of the format)' \
+        '  |' '1 | hello = {' '  |         ~^')"
     told "$faults" --check one.txt m.txt two.txt
     case_of file file 3 '' \
         'none.txt: No such file or directory (os error 2)'$'\n'"$faults"$'\n' \

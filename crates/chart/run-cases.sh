@@ -61,7 +61,7 @@ fault_cases() {
     case_of file file 1 '' $'t:1:8: 2 numbers, but at least 3 are drawn\n' f t
     printf '%s' $'é\n {q}' >f
     case_of file file 1 '' \
-        $'f:2:3: specified value not in context `q` at 5\n  |\n2 |  {q}\n  |  ^^^\n' f t
+        $'f:2:3: specified value not in context `q` at 5\n  |\n2 |  {q}\n  |  ~^~\n' f t
 }
 
 # Wrong use, unreadable files and refused writes.

@@ -35,14 +35,14 @@ all_cases() {
     letters '2' '{a}' $'a,a\n1,2\n'
     letters '[]' '[{a}]' $'a\n\n'
     letters '' '[{a}]' $'a,b'
-    fault $'t:1:2: specified value not in context `a` at 1\n  |\n1 | {a}\n  | ^^^' '{a}' ''
-    fault $'t:3:4: specified value not in context `q` at 25\n  |\n3 | é {q}\n  |   ^^^' \
+    fault $'t:1:2: specified value not in context `a` at 1\n  |\n1 | {a}\n  | ~^~' '{a}' ''
+    fault $'t:3:4: specified value not in context `q` at 25\n  |\n3 | é {q}\n  |   ~^~' \
         $'Dear\n  é {name:>8},\né {q}' $'name\nAnn\nZoë\n'
-    fault $'t:2:4: error while parsing input: Expected `}` at 5\n  |\n2 | {a:y\n  | ^^^^' \
+    fault $'t:2:4: error while parsing input: Expected `}` at 5\n  |\n2 | {a:y\n  | ~~~^' \
         $'a\n{a:y' $'a\n1\n'
     fault "$(printf '%s\n' \
         't:1:9: trait `LowerHex` not implemented, used by format argument at 8' \
-        '  |' '1 | {b} {a:x}' '  |     ^^^^^')" '{b} {a:x}' $'a,b\n1\n'
+        '  |' '1 | {b} {a:x}' '  |     ~~~~^')" '{b} {a:x}' $'a,b\n1\n'
     fault 'r:3: another number of fields than line 1 has' '{a}' $'a,b\n1,2\n3\n'
     fault 'r:2: another number of fields than line 1 has' '{a}' $'a\n1,2\n'
     case_of file file 2 '' ''

@@ -48,7 +48,7 @@ fn faults_are_shown(report: &mut Report) -> Result<(), Error> {
         "{a:i({:?})}",
         &Error::MissingTraitImpl(Trait::Debug, 8),
         "f:1:9: trait `Debug` not implemented, used by format argument at 8\n  |\n\
-         1 | {a:i({:?})}\n  |      ^^^^",
+         1 | {a:i({:?})}\n  |      ~~~^",
     );
     check_shown(
         report,
@@ -64,13 +64,26 @@ fn faults_are_shown(report: &mut Report) -> Result<(), Error> {
         "f:1:4: error while formatting at 3: an error occurred when formatting an argument\n  |\n\
          1 | ab \n  |    ^",
     );
+    check_shown(
+        report,
+        "{a:\t>5y}",
+        &Error::Parse(ParseError::Expected("}", 6)),
+        "f:1:7: error while parsing input: Expected `}` at 6\n  |\n\
+         1 | {a:\t>5y}\n  | ~~~\t~~^~",
+    );
+    check_shown(
+        report,
+        "{a:\n>5y}",
+        &Error::Parse(ParseError::Expected("}", 6)),
+        "f:2:3: error while parsing input: Expected `}` at 6\n  |\n2 | >5y}\n  | ~~^~",
+    );
     check_shown(report, "x", &Error::NoMemory, "f: out of memory");
     let name = String::from_str(report.alloc, "q")?;
     check_shown(
         report,
         "x\né{q}\n",
         &Error::MissingValue(name, 5),
-        "f:2:3: specified value not in context `q` at 5\n  |\n2 | é{q}\n  |  ^^^",
+        "f:2:3: specified value not in context `q` at 5\n  |\n2 | é{q}\n  |  ~^~",
     );
     Ok(())
 }
@@ -87,7 +100,8 @@ fn line_of_a_file(report: &mut Report) {
     let error = Error::Parse(ParseError::FormatSpecUnclosed(7));
     let told = explain_in(report.alloc, &source, &error);
     let wanted = "messages.txt:13:19: error while parsing input: Format spec at 7 is nether closed \
-                  with a `}`\n   |\n13 | greeting = Hello {name, you\n   |                  ^^^^^^^^^^";
+                  with a `}` (byte 7 of the format)\n   |\n13 | greeting = Hello {name, you\n   \
+                  |                  ~^~~~~~~~~";
     report.made("a line of a file", (wanted, ""), told);
 }
 
@@ -99,7 +113,7 @@ fn long_line(report: &mut Report) -> Result<(), Error> {
     let spaces = " ".repeat(alloc, 59)?;
     let wanted = format!(in alloc;
         "f:1:132: error while parsing input: Format spec at 131 is nether closed with a `}}`\n  |\n\
-         1 | ..{shown}{{x\n  |   {spaces}^^"
+         1 | ..{shown}{{x\n  |   {spaces}~^"
     )?;
     let error = Error::Parse(ParseError::FormatSpecUnclosed(131));
     check_shown(report, text.as_str(), &error, wanted.as_str());
