@@ -4,6 +4,7 @@ pub mod EndingLemmas
 pub mod EscapeLemmas
 pub mod ExcerptLemmas
 pub mod NamedValueLemmas
+pub mod NamingLemmas
 pub mod PartLemmas
 pub mod PositionLemmas
 pub mod SamplePlaceLemmas

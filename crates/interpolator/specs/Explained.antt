@@ -1,15 +1,17 @@
--- A fault as a compiler shows it: where it is, what it is, and the line with `^` under its place and
--- `~` under the rest of its argument.
-use Rattle.std.specs.Prelude.{ℕ, ◌+◌, ◌-◌, ◌^◌, ◌==◌, min, nat_lt, if◌then◌else◌, List, []}
+-- A fault as a compiler shows it: where it is, what it is, and the line with `^` under its place
+-- and `~` under the rest of its argument.
+use Rattle.std.specs.Prelude.{ℕ, ◌+◌, ◌-◌, ◌^◌, ◌==◌, min, nat_lt, if◌then◌else◌, List, [], ◌∷◌}
 use Rattle.std.specs.Prelude.{◌++◌, length, get_or, codes, Option, None, Some, unwrap_or}
+use Rattle.std.specs.Borrow.{Bor}
 use Rattle.std.specs.Fmt.{decimal}
 use Rattle.std.specs.Str.{chars}
 use Rattle.std.specs.Str.Lines.{lines}
 use Rattle.interpolator_syntax.specs.At.{outermost}
-use Rattle.interpolator_syntax.specs.Faults.{Answer, answer_place}
+use Rattle.interpolator_syntax.specs.Faults.{Answer, answer_place, fault, missing_value}
 use Rattle.interpolator_syntax.specs.FaultTexts.{answer_text}
 use Rattle.interpolator_syntax.specs.Nodes.{as_forest, nodes}
-use Rattle.interpolator.specs.Excerpts.{Excerpt, excerpt_of, picture}
+use Rattle.interpolator.specs.Excerpts.{Excerpt, excerpt_of, gap, picture}
+use Rattle.interpolator.specs.Naming.{told_names}
 use Rattle.interpolator.specs.Positions.{line_at, column_at, position_text}
 use Rattle.interpolator_pieces.specs.NodePlaces.{argument_among}
 use Rattle.interpolator.specs.declared.explaining.Source.{Source}
@@ -55,10 +57,14 @@ abbrev pub head : List ℕ → (number column : ℕ) → List ℕ → List ℕ
 head name number column what =
     name ++ (codes ":" ++ (position_text number column ++ (codes ": " ++ what)))
 
+-- the number of the line that has a byte of the text
+abbrev pub number_at : Source → (at : ℕ) → ℕ
+number_at s at = usize_sum s.first_line (line_at s.text.now at - 1)
+
 -- what is reported at a byte of the text, with this line
 abbrev pub told_in : Source → (line : List ℕ) → (at : ℕ) → ℕ × ℕ → List ℕ → List ℕ
 told_in s line at marked what =
-    let number = usize_sum s.first_line (line_at s.text.now at - 1) in
+    let number = number_at s at in
     head s.name.now number (column_at s.text.now at) what
     ++ (codes "\n" ++ picture number (excerpt_in s (chars line) at marked))
 
@@ -81,3 +87,15 @@ explanation s (Some place) what =
 -- the explanation of an error
 abbrev pub explanation_of : Source → Answer → List ℕ
 explanation_of s answer = explanation s (answer_place answer) (answer_text answer)
+
+-- the line that tells the names where a name is missing; empty if there are none
+abbrev pub names_line : Source → (place : ℕ) → (name : List ℕ) → List (Bor (List ℕ)) → List ℕ
+names_line s place name [] = []
+names_line s place name (n ∷ ns) =
+    codes "\n" ++ (gap (number_at s (usize_sum s.start place))
+    ++ (codes " = " ++ told_names name (n ∷ ns)))
+
+-- what comes after the explanation of an error: the names, if one is missing
+abbrev pub names_after : Source → Answer → List (Bor (List ℕ)) → List ℕ
+names_after s (fault (missing_value name place)) names = names_line s place name names
+names_after s _ names = []

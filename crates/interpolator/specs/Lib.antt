@@ -13,6 +13,7 @@ pub use Rattle.interpolator_eval.specs.SlotNames
 pub mod Seams
 pub mod Positions
 pub mod Excerpts
+pub mod Naming
 pub mod Explained
 pub use Rattle.interpolator_eval.specs.Contexts
 pub use Rattle.interpolator_eval.specs.NameMaps

@@ -1,6 +1,6 @@
 //! A line of a text, shown with marks under some of its characters.
-ghost use Rattle.std.specs.Prelude.{◌≡◌, ◌<◌, ◌+◌, ◌-◌, ◌++◌, ◌∷◌, length, take, drop, map, replicate};
-ghost use Rattle.std.specs.Prelude.{IfOk, encode_utf8_all, string_bytes};
+ghost use Rattle.std.specs.Prelude.{◌≡◌, ◌<◌, ◌+◌, ◌-◌, ◌++◌, ◌∷◌, length, take, drop, map};
+ghost use Rattle.std.specs.Prelude.{replicate, IfOk, encode_utf8_all, string_bytes};
 ghost use Rattle.std.specs.Str.{chars};
 ghost use Rattle.interpolator.specs.Excerpts.{excerpt_of, first_shown, dots, under};
 ghost use Rattle.interpolator.specs.Excerpts.{gap, mark, picture, side_mark, space};
@@ -79,8 +79,8 @@ fn dot_spaces(cut: bool) -> &'static str
     if cut { "  " } else { "" }
 }
 
-/// A line as it is shown, of its parts: what is before the marked characters, the marked ones before
-/// the one around which the line is cut, the marked ones from that on, and what is after them.
+/// A line as it is shown, of its parts: what is before the marked characters, the marked ones
+/// before the one around which the line is cut, the marked ones from that on, and what is after.
 fn shown_line(
     alloc: Global,
     cut: (bool, bool),
@@ -138,7 +138,7 @@ pub(crate) fn count_of(text: &str) -> usize
 }
 
 /// Spaces as wide as a number.
-fn gap(alloc: Global, number: usize) -> Result<String, AllocError>
+pub(crate) fn gap(alloc: Global, number: usize) -> Result<String, AllocError>
     ensures { IfOk result (λ spaces. string_bytes spaces ≡ gap number) }
 {
     let digits = format!(in alloc; "{number}")?;

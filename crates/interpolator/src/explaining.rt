@@ -1,10 +1,13 @@
 //! Faults as a compiler shows them.
 ghost use Rattle.std.specs.Prelude.{◌≡◌, ◌<◌, ◌++◌, codes, IfErr, IfOk, string_bytes};
+ghost use Rattle.std.specs.Str.{chars};
 ghost use Rattle.interpolator.specs.Explained.{before_in_line, explanation_of, head as head_of};
-ghost use Rattle.interpolator.specs.Explained.{line_of, marked_bytes, note_of, told_at, told_in};
+ghost use Rattle.interpolator.specs.Explained.{line_of, marked_bytes, names_after, names_line};
+ghost use Rattle.interpolator.specs.Explained.{note_of, told_at, told_in};
 ghost use Rattle.interpolator_syntax.specs.Faults.{answer_of, no_memory};
 
-use crate::excerpt::{count_of, draw};
+use crate::excerpt::{count_of, draw, gap};
+use crate::naming::told_names;
 use crate::position::Position;
 use crate::template::Template;
 use interpolator_syntax::Error;
@@ -69,11 +72,11 @@ pub fn explain(alloc: Global, name: &str, text: &str, error: &Error) -> Result<S
 /// Shows a fault of a format as a compiler does: the name of the text, the line and the column of
 /// the fault, what it is, and the line with marks under the argument that has the fault's place.
 ///
-/// In the column that is named stands `^`, and `~` under the rest of the innermost argument that has
-/// the place, as far as it is in the line; if no argument has it, `^` stands alone. Before the marks
-/// there is a space under each character. Under a tab is a tab, if not `^`. A line of more than 120
-/// characters is cut around the place, with `..` where it is cut. If the format does not begin the
-/// text, a note says that the place in the fault's text counts the format's bytes. A fault without
+/// In the column that is named stands `^`, and `~` under the rest of the innermost argument that
+/// has the place, as far as it is in the line; if no argument has it, `^` stands alone. Before the
+/// marks there is a space under each character, and under a tab a tab, unless it is `^`. A line of
+/// more than 120 characters is cut around the place, with `..` where it is cut. If the format does
+/// not begin the text, a note says which byte of the format the fault's text names. A fault without
 /// a place is shown with the name alone. The text that is returned has no newline at its end.
 ///
 /// The format is read again, and memory is taken for that.
@@ -108,6 +111,68 @@ pub fn explain_in(alloc: Global, source: &Source<'_>, error: &Error) -> Result<S
             Ok(told)
         }
     }
+}
+
+/// Shows a fault of a format as [`explain_in`] does, and for a `MissingValue` the names that there
+/// are, on a line below: first the one that may be meant, if there is one, and then all of them. It
+/// is the first that is at most one slip away from the missing one: a character inserted, left out
+/// or replaced, or two neighbours swapped. For any other fault, and if there are no names, there is
+/// no such line.
+///
+/// ```text
+/// explain_with_names(alloc, &source, &error, &["nom", "name"])?
+/// // messages.txt:3:31: specified value not in context `nme` at 19 (byte 19 of the format)
+/// //   |
+/// // 3 | greeting = Bonjour {nom}, et {nme}!
+/// //   |                              ~^~~~
+/// //   = did you mean `name`? names: `nom`, `name`
+/// ```
+///
+/// # Errors
+///
+/// `NoMemory`.
+pub fn explain_with_names(
+    alloc: Global,
+    source: &Source<'_>,
+    error: &Error,
+    names: &[&str],
+) -> Result<String, Error>
+    ensures told { IfOk result (λ told. string_bytes told
+        ≡ explanation_of source.now (answer_of error.now)
+        ++ names_after source.now (answer_of error.now) names.now) }
+    ensures refused { IfErr result (λ error. answer_of error ≡ no_memory) }
+{
+    let told = explain_in(alloc, source, error)?;
+    match error {
+        Error::MissingValue(name, place) => {
+            let line = names_line(alloc, source, *place, name.as_str(), names)?;
+            let told = format!(in alloc; "{told}{line}")?;
+            Ok(told)
+        }
+        _ => Ok(told),
+    }
+}
+
+/// The line that tells the names where a name is missing; empty if there are none.
+fn names_line(
+    alloc: Global,
+    source: &Source<'_>,
+    place: usize,
+    name: &str,
+    names: &[&str],
+) -> Result<String, AllocError>
+    ensures { IfOk result (λ line. string_bytes line
+        ≡ names_line source.now place (chars name.now) names.now) }
+{
+    let Some((_, _)) = names.split_first() else {
+        return Ok(String::new(alloc));
+    };
+    let position = Position::of(source.text, source.start.saturating_add(place));
+    let number = source.first_line.saturating_add(position.line - 1);
+    let gap = gap(alloc, number)?;
+    let told = told_names(alloc, name, names)?;
+    let line = format!(in alloc; "\n{gap} = {told}")?;
+    Ok(line)
 }
 
 /// What is reported without a place.

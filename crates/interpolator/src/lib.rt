@@ -27,6 +27,7 @@ mod explaining;
 mod interpolate;
 mod macros;
 pub mod made;
+mod naming;
 mod or;
 mod owned_view;
 mod parts;
@@ -37,7 +38,7 @@ mod views;
 
 pub use choice::first_if;
 pub use escaping::escape;
-pub use explaining::{Source, explain, explain_in};
+pub use explaining::{Source, explain, explain_in, explain_with_names};
 pub use interpolate::Interpolate;
 pub use interpolator_eval::{
     Context, ContextMap, Formattable, NameMap, Pairs, Tally, chosen, is_name, items_of, rows_of,

@@ -1,6 +1,6 @@
 //! Laws of what is shown of a line: which characters, and which of them are marked.
-ghost use Rattle.std.specs.Prelude.{◌≡◌, ◌≤◌, ◌+◌, ◌-◌, ◌++◌, ◌∷◌, ℕ, List, drop, length, map, take};
-ghost use Rattle.std.specs.Prelude.{encode_utf8_all};
+ghost use Rattle.std.specs.Prelude.{◌≡◌, ◌≤◌, ◌+◌, ◌-◌, ◌++◌, ◌∷◌, ℕ, List, drop, length};
+ghost use Rattle.std.specs.Prelude.{map, take, encode_utf8_all};
 ghost use Rattle.interpolator.specs.Excerpts.{Excerpt, before_marks, dots, excerpt_of, first_shown};
 ghost use Rattle.interpolator.specs.Excerpts.{mark, marks_under, most_shown, shown_characters};
 ghost use Rattle.interpolator.specs.Excerpts.{shown_line, side_mark, under};

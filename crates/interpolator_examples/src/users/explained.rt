@@ -3,10 +3,20 @@
 use crate::page::Page;
 use interpolator::{
     Error, Formattable, Interpolate, Pairs, Source, Template, check, explain, explain_in,
+    explain_with_names,
 };
 use std::alloc::Global;
 
-/// What is wrong with a letter that may use the names `name` and `city`; empty if nothing is.
+/// What is wrong with a greeting; empty if nothing is.
+fn greeting_fault(alloc: Global, greeting: &str) -> Result<String, Error> {
+    match check(alloc, greeting) {
+        Ok(()) => Ok(String::new(alloc)),
+        Err(error) => explain(alloc, "greeting.txt", greeting, &error),
+    }
+}
+
+/// What is wrong with a letter that may use the names `name` and `city`; empty if nothing is. Of a
+/// name that is missing, it tells these names.
 fn letter_fault(alloc: Global, letter: &str) -> Result<String, Error> {
     let template = Template::parse(alloc, letter)?;
     let sample = Pairs(&[
@@ -15,7 +25,16 @@ fn letter_fault(alloc: Global, letter: &str) -> Result<String, Error> {
     ]);
     match sample.check_template(alloc, &template) {
         Ok(()) => Ok(String::new(alloc)),
-        Err(error) => explain(alloc, "letter.txt", letter, &error),
+        Err(error) => {
+            let source = Source {
+                name: "letter.txt",
+                first_line: 1,
+                text: letter,
+                start: 0,
+                format: letter,
+            };
+            explain_with_names(alloc, &source, &error, &["name", "city"])
+        }
     }
 }
 
@@ -53,5 +72,7 @@ pub fn show(page: &mut Page) {
     let alloc = page.alloc;
     let letter = letter_fault(alloc, "Hello {name},\nhow is {town}?");
     page.put_made("letter_fault", letter);
+    page.put_made("letter_fault", letter_fault(alloc, "Hello {naem}"));
+    page.put_made("explain", greeting_fault(alloc, "Hello {name"));
     page.put_made("file_faults", file_faults(alloc, FILE));
 }
