@@ -1,6 +1,7 @@
 -- The first characters of a text, read one after the other.
 use Rattle.std.proofs.Common.{◌≡◌, ℕ, suc, ◌<◌, ◌≤◌, ◌+◌, ◌-◌, Bool, true, false, List, []}
-use Rattle.std.proofs.Common.{◌∷◌, ◌++◌, length, take, drop, refl, sym, ◌∙◌, ap, arith, append_assoc}
+use Rattle.std.proofs.Common.{◌∷◌, ◌++◌, length, take, drop, refl, sym, ◌∙◌}
+use Rattle.std.proofs.Common.{ap, arith, append_assoc}
 use Rattle.std.proofs.Common.{length-append, map}
 use Rattle.std.specs.Prelude.{encode_utf8, if◌then◌else◌, ◌==◌}
 use Rattle.std.specs.Char.{len_utf8}

@@ -3,6 +3,7 @@ pub mod DeepLemmas
 pub mod EndingLemmas
 pub mod EscapeLemmas
 pub mod ExcerptLemmas
+pub mod LentLemmas
 pub mod NamedValueLemmas
 pub mod NamingLemmas
 pub mod PartLemmas

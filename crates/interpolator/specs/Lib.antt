@@ -20,4 +20,5 @@ pub use Rattle.interpolator_eval.specs.NameMaps
 pub mod Escaping
 pub use Rattle.interpolator_eval.specs.Rows
 pub mod NamedValues
+pub mod Lent
 pub mod OwnedViews

@@ -25,6 +25,7 @@ mod escaping;
 mod excerpt;
 mod explaining;
 mod interpolate;
+mod lent;
 mod macros;
 pub mod made;
 mod naming;

@@ -9,7 +9,7 @@
 //!   and `float` fill those that the calls of `Formattable` with these names fill.
 //! - `name:i = items` or `name:iter = items` stands for a list, a slice of `Formattable`s.
 //!
-//! Values go by `View::from`, so that several kinds mix.
+//! Values go by `View::from`, so that several kinds mix; `context!` borrows values of one type.
 
 /// A context of at most sixteen names, a [`Values`](crate::Values), which takes no memory.
 ///
@@ -23,102 +23,132 @@
 #[macro_export]
 macro_rules! values {
     ($($named:tt)*) => {
-        $crate::read_values!([] $($named)*)
+        $crate::read_values!(values [] $($named)*)
     };
 }
 
-/// Reads the names of [`values!`](crate::values) one by one.
+/// A [`ContextMap`](crate::ContextMap) of these names, which borrows the values: they are of one
+/// type, as [`View`](crate::View)s are.
+///
+/// If a name occurs more than once, all of its slots are filled; of a slot that is filled twice,
+/// the last value counts.
+///
+/// ```text
+/// let (name, apples) = (View::from("Ann"), View::from(3u8));
+/// let map = context!(in alloc; name, n:integer = apples, name:? = apples)?;
+/// map.format(alloc, "{name} has {n:>2}, {name:?}")?    // Ann has  3, 3
+/// ```
+///
+/// # Errors
+///
+/// `NoMemory`.
+#[macro_export]
+macro_rules! context {
+    (in $alloc:expr; $($named:tt)*) => {
+        $crate::read_values!(context [$crate::made::no_names($alloc)] $($named)*)
+    };
+    ($($other:tt)*) => {
+        compile_error!("`context!` takes an allocator first: `context!(in alloc; name, n = m)?`")
+    };
+}
+
+/// Reads the names of [`values!`](crate::values) and of [`context!`](crate::context) one by one.
 #[macro_export]
 macro_rules! read_values {
-    ([$($made:expr),*]) => {
+    (values [$($made:expr),*]) => {
         $crate::values_of!($($made),*)
     };
-    ([$($made:expr),*] $name:ident $($rest:tt)*) => {
-        $crate::read_values!(@traits [$($made),*] $name [] $($rest)*)
+    (context [$($made:expr),*]) => {
+        $crate::lent_to!($($made),*)
     };
-    (@traits [$($made:expr),*] $name:ident [] : i = $items:expr $(, $($rest:tt)*)?) => {
+    ($to:ident [$($made:expr),*] $name:ident $($rest:tt)*) => {
+        $crate::read_values!(@traits $to [$($made),*] $name [] $($rest)*)
+    };
+    (@traits $to:ident [$($made:expr),*] $name:ident [] : i = $items:expr $(, $($rest:tt)*)?) => {
         $crate::read_values!(
-            [$($made,)* $crate::made::named_list(stringify!($name), $items)] $($($rest)*)?
+            $to [$($made,)* $crate::list_of!($to $name $items)] $($($rest)*)?
         )
     };
-    (@traits [$($made:expr),*] $name:ident [] : iter = $items:expr $(, $($rest:tt)*)?) => {
+    (
+        @traits $to:ident [$($made:expr),*] $name:ident [] : iter = $items:expr $(, $($rest:tt)*)?
+    ) => {
         $crate::read_values!(
-            [$($made,)* $crate::made::named_list(stringify!($name), $items)] $($($rest)*)?
+            $to [$($made,)* $crate::list_of!($to $name $items)] $($($rest)*)?
         )
     };
-    (@traits $made:tt $name:ident [$($slot:ident)*] : ? $($rest:tt)*) => {
-        $crate::read_values!(@traits $made $name [$($slot)* Debug] $($rest)*)
+    (@traits $to:ident $made:tt $name:ident [$($slot:ident)*] : ? $($rest:tt)*) => {
+        $crate::read_values!(@traits $to $made $name [$($slot)* Debug] $($rest)*)
     };
-    (@traits $made:tt $name:ident [$($slot:ident)*] : debug $($rest:tt)*) => {
-        $crate::read_values!(@traits $made $name [$($slot)* Debug] $($rest)*)
+    (@traits $to:ident $made:tt $name:ident [$($slot:ident)*] : debug $($rest:tt)*) => {
+        $crate::read_values!(@traits $to $made $name [$($slot)* Debug] $($rest)*)
     };
-    (@traits $made:tt $name:ident [$($slot:ident)*] : x $($rest:tt)*) => {
-        $crate::read_values!(@traits $made $name [$($slot)* LowerHex] $($rest)*)
+    (@traits $to:ident $made:tt $name:ident [$($slot:ident)*] : x $($rest:tt)*) => {
+        $crate::read_values!(@traits $to $made $name [$($slot)* LowerHex] $($rest)*)
     };
-    (@traits $made:tt $name:ident [$($slot:ident)*] : lower_hex $($rest:tt)*) => {
-        $crate::read_values!(@traits $made $name [$($slot)* LowerHex] $($rest)*)
+    (@traits $to:ident $made:tt $name:ident [$($slot:ident)*] : lower_hex $($rest:tt)*) => {
+        $crate::read_values!(@traits $to $made $name [$($slot)* LowerHex] $($rest)*)
     };
-    (@traits $made:tt $name:ident [$($slot:ident)*] : X $($rest:tt)*) => {
-        $crate::read_values!(@traits $made $name [$($slot)* UpperHex] $($rest)*)
+    (@traits $to:ident $made:tt $name:ident [$($slot:ident)*] : X $($rest:tt)*) => {
+        $crate::read_values!(@traits $to $made $name [$($slot)* UpperHex] $($rest)*)
     };
-    (@traits $made:tt $name:ident [$($slot:ident)*] : upper_hex $($rest:tt)*) => {
-        $crate::read_values!(@traits $made $name [$($slot)* UpperHex] $($rest)*)
+    (@traits $to:ident $made:tt $name:ident [$($slot:ident)*] : upper_hex $($rest:tt)*) => {
+        $crate::read_values!(@traits $to $made $name [$($slot)* UpperHex] $($rest)*)
     };
-    (@traits $made:tt $name:ident [$($slot:ident)*] : o $($rest:tt)*) => {
-        $crate::read_values!(@traits $made $name [$($slot)* Octal] $($rest)*)
+    (@traits $to:ident $made:tt $name:ident [$($slot:ident)*] : o $($rest:tt)*) => {
+        $crate::read_values!(@traits $to $made $name [$($slot)* Octal] $($rest)*)
     };
-    (@traits $made:tt $name:ident [$($slot:ident)*] : octal $($rest:tt)*) => {
-        $crate::read_values!(@traits $made $name [$($slot)* Octal] $($rest)*)
+    (@traits $to:ident $made:tt $name:ident [$($slot:ident)*] : octal $($rest:tt)*) => {
+        $crate::read_values!(@traits $to $made $name [$($slot)* Octal] $($rest)*)
     };
-    (@traits $made:tt $name:ident [$($slot:ident)*] : b $($rest:tt)*) => {
-        $crate::read_values!(@traits $made $name [$($slot)* Binary] $($rest)*)
+    (@traits $to:ident $made:tt $name:ident [$($slot:ident)*] : b $($rest:tt)*) => {
+        $crate::read_values!(@traits $to $made $name [$($slot)* Binary] $($rest)*)
     };
-    (@traits $made:tt $name:ident [$($slot:ident)*] : binary $($rest:tt)*) => {
-        $crate::read_values!(@traits $made $name [$($slot)* Binary] $($rest)*)
+    (@traits $to:ident $made:tt $name:ident [$($slot:ident)*] : binary $($rest:tt)*) => {
+        $crate::read_values!(@traits $to $made $name [$($slot)* Binary] $($rest)*)
     };
-    (@traits $made:tt $name:ident [$($slot:ident)*] : e $($rest:tt)*) => {
-        $crate::read_values!(@traits $made $name [$($slot)* LowerExp] $($rest)*)
+    (@traits $to:ident $made:tt $name:ident [$($slot:ident)*] : e $($rest:tt)*) => {
+        $crate::read_values!(@traits $to $made $name [$($slot)* LowerExp] $($rest)*)
     };
-    (@traits $made:tt $name:ident [$($slot:ident)*] : lower_exp $($rest:tt)*) => {
-        $crate::read_values!(@traits $made $name [$($slot)* LowerExp] $($rest)*)
+    (@traits $to:ident $made:tt $name:ident [$($slot:ident)*] : lower_exp $($rest:tt)*) => {
+        $crate::read_values!(@traits $to $made $name [$($slot)* LowerExp] $($rest)*)
     };
-    (@traits $made:tt $name:ident [$($slot:ident)*] : E $($rest:tt)*) => {
-        $crate::read_values!(@traits $made $name [$($slot)* UpperExp] $($rest)*)
+    (@traits $to:ident $made:tt $name:ident [$($slot:ident)*] : E $($rest:tt)*) => {
+        $crate::read_values!(@traits $to $made $name [$($slot)* UpperExp] $($rest)*)
     };
-    (@traits $made:tt $name:ident [$($slot:ident)*] : upper_exp $($rest:tt)*) => {
-        $crate::read_values!(@traits $made $name [$($slot)* UpperExp] $($rest)*)
+    (@traits $to:ident $made:tt $name:ident [$($slot:ident)*] : upper_exp $($rest:tt)*) => {
+        $crate::read_values!(@traits $to $made $name [$($slot)* UpperExp] $($rest)*)
     };
-    (@traits $made:tt $name:ident [$($slot:ident)*] : debug_display $($rest:tt)*) => {
-        $crate::read_values!(@traits $made $name [$($slot)* Debug Display] $($rest)*)
+    (@traits $to:ident $made:tt $name:ident [$($slot:ident)*] : debug_display $($rest:tt)*) => {
+        $crate::read_values!(@traits $to $made $name [$($slot)* Debug Display] $($rest)*)
     };
-    (@traits $made:tt $name:ident [$($slot:ident)*] : float $($rest:tt)*) => {
+    (@traits $to:ident $made:tt $name:ident [$($slot:ident)*] : float $($rest:tt)*) => {
         $crate::read_values!(
-            @traits $made $name [$($slot)* Debug Display LowerExp UpperExp] $($rest)*
+            @traits $to $made $name [$($slot)* Debug Display LowerExp UpperExp] $($rest)*
         )
     };
-    (@traits $made:tt $name:ident [$($slot:ident)*] : integer $($rest:tt)*) => {
+    (@traits $to:ident $made:tt $name:ident [$($slot:ident)*] : integer $($rest:tt)*) => {
         $crate::read_values!(
-            @traits $made $name
+            @traits $to $made $name
             [$($slot)* Debug Display Binary Octal LowerHex UpperHex LowerExp UpperExp] $($rest)*
         )
     };
-    (@traits $made:tt $name:ident [$($slot:ident)*] : display $($rest:tt)*) => {
-        $crate::read_values!(@traits $made $name [$($slot)* Display] $($rest)*)
+    (@traits $to:ident $made:tt $name:ident [$($slot:ident)*] : display $($rest:tt)*) => {
+        $crate::read_values!(@traits $to $made $name [$($slot)* Display] $($rest)*)
     };
-    (@traits $made:tt $name:ident [$($slot:ident)*] : $($rest:tt)*) => {
-        $crate::read_values!(@traits $made $name [$($slot)* Display] $($rest)*)
+    (@traits $to:ident $made:tt $name:ident [$($slot:ident)*] : $($rest:tt)*) => {
+        $crate::read_values!(@traits $to $made $name [$($slot)* Display] $($rest)*)
     };
-    (@traits $made:tt $name:ident [] $($rest:tt)*) => {
-        $crate::read_values!(@traits $made $name [Display] $($rest)*)
+    (@traits $to:ident $made:tt $name:ident [] $($rest:tt)*) => {
+        $crate::read_values!(@traits $to $made $name [Display] $($rest)*)
     };
-    (@traits [$($made:expr),*] $name:ident $slots:tt = $value:expr $(, $($rest:tt)*)?) => {
+    (@traits $to:ident [$($made:expr),*] $name:ident $slots:tt = $value:expr $(, $($rest:tt)*)?) => {
         $crate::read_values!(
-            [$($made,)* $crate::named_of!($name $slots $value)] $($($rest)*)?
+            $to [$($made,)* $crate::named_of!($to $name $slots $value)] $($($rest)*)?
         )
     };
-    (@traits [$($made:expr),*] $name:ident $slots:tt $(, $($rest:tt)*)?) => {
+    (@traits $to:ident [$($made:expr),*] $name:ident $slots:tt $(, $($rest:tt)*)?) => {
         $crate::read_values!(
-            [$($made,)* $crate::named_of!($name $slots $name)] $($($rest)*)?
+            $to [$($made,)* $crate::named_of!($to $name $slots $name)] $($($rest)*)?
         )
     };
     ($($other:tt)*) => {
@@ -129,12 +159,36 @@ macro_rules! read_values {
 /// A value under a name, in the slots of these traits.
 #[macro_export]
 macro_rules! named_of {
-    ($name:ident [$($slot:ident)*] $value:expr) => {
+    (values $name:ident [$($slot:ident)*] $value:expr) => {
         $crate::made::named_value(
             stringify!($name),
             $crate::View::from($value),
             &[$($crate::Trait::$slot),*],
         )
+    };    (context $name:ident [$($slot:ident)*] $value:expr) => {
+        $crate::made::lent_value(stringify!($name), &$value, &[$($crate::Trait::$slot),*])
+    };
+}
+
+/// A map with what is lent added to it.
+#[macro_export]
+macro_rules! lent_to {
+    ($map:expr) => {
+        $map
+    };
+    ($map:expr, $lent:expr $(, $more:expr)*) => {
+        $crate::lent_to!($crate::made::and_lent($map, $lent) $(, $more)*)
+    };
+}
+
+/// A list under a name.
+#[macro_export]
+macro_rules! list_of {
+    (values $name:ident $items:expr) => {
+        $crate::made::named_list(stringify!($name), $items)
+    };
+    (context $name:ident $items:expr) => {
+        $crate::made::lent_list(stringify!($name), $items)
     };
 }
 

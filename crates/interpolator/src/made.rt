@@ -2,6 +2,7 @@
 ghost use Rattle.std.specs.Prelude.{◌≡◌, MatchResult, None, Some};
 ghost use Rattle.interpolator_syntax.specs.Faults.{result_answer, fault, fmt};
 
+pub use crate::lent::{Lent, and_lent, lent_list, lent_value, no_names};
 pub use crate::values::{
     named_list, named_value, values_0, values_1, values_2, values_3, values_4, values_5, values_6,
     values_7, values_8, values_9, values_10, values_11, values_12, values_13, values_14, values_15,

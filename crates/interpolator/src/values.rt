@@ -73,15 +73,26 @@ fn and_slot<'a, V>(slots: Formattable<'a, V>, filled: Trait, value: &'a V) -> Fo
     }
 }
 
-/// A value in the slots of these traits.
-fn in_slots<'a, V>(traits: &[Trait], value: &'a V) -> Formattable<'a, V>
-    ensures { slots_of result ≡ with_traits traits.now empty_slots value.now }
+/// Fills the slots of these traits too.
+pub(crate) fn and_slots<'a, V>(
+    before: Formattable<'a, V>,
+    traits: &[Trait],
+    value: &'a V,
+) -> Formattable<'a, V>
+    ensures { slots_of result ≡ with_traits traits.now (slots_of before.entry) value.now }
 {
-    let mut slots = no_slots(value);
+    let mut slots = before;
     for filled in traits {
         slots = and_slot(slots, *filled, value);
     }
     slots
+}
+
+/// A value in the slots of these traits.
+fn in_slots<'a, V>(traits: &[Trait], value: &'a V) -> Formattable<'a, V>
+    ensures { slots_of result ≡ with_traits traits.now empty_slots value.now }
+{
+    and_slots(no_slots(value), traits, value)
 }
 
 impl<'a> NamedValue<'a> {

@@ -2,7 +2,9 @@
 
 use crate::given::padded;
 use crate::report::Report;
-use interpolator::{Error, ParseError, Position, Source, Template, Trait, explain, explain_in};
+use interpolator::{
+    Error, ParseError, Position, Source, Template, Trait, explain, explain_in, explain_with_names,
+};
 use std::fmt;
 
 /// A place, its line and its column in the text `a\né{x}\n\nb`, by hand.
@@ -120,11 +122,47 @@ fn long_line(report: &mut Report) -> Result<(), Error> {
     Ok(())
 }
 
+/// A missing name, the names that there are, and the line that tells them, by hand.
+#[rattlefmt::skip]
+const NAMES: [(&str, &[&str], &str); 8] = [
+    ("nme", &["n", "name", "nm"], "\n  = did you mean `name`? names: `n`, `name`, `nm`"),
+    ("naame", &["name"], "\n  = did you mean `name`? names: `name`"),
+    ("näme", &["name"], "\n  = did you mean `name`? names: `name`"),
+    ("anme", &["name"], "\n  = did you mean `name`? names: `name`"),
+    ("é", &["", "e"], "\n  = did you mean ``? names: ``, `e`"),
+    ("nmae", &["naem", "nam", "n"], "\n  = names: `naem`, `nam`, `n`"),
+    ("city", &["name"], "\n  = names: `name`"),
+    ("name", &[], ""),
+];
+
+fn names_are_told(report: &mut Report) -> Result<(), Error> {
+    let alloc = report.alloc;
+    let source = Source {
+        name: "f",
+        first_line: 1,
+        text: "{q}",
+        start: 0,
+        format: "{q}",
+    };
+    for (missing, names, line) in NAMES {
+        let error = Error::MissingValue(String::from_str(alloc, missing)?, 1);
+        let wanted = format!(in alloc;
+            "f:1:2: specified value not in context `{missing}` at 1\n  |\n1 | {{q}}\n  | ~^~{line}"
+        )?;
+        let told = explain_with_names(alloc, &source, &error, names);
+        report.made(missing, (wanted.as_str(), ""), told);
+    }
+    let told = explain_with_names(alloc, &source, &Error::NoMemory, &["name"]);
+    report.made("no name is missing", ("f: out of memory", ""), told);
+    Ok(())
+}
+
 pub fn run(report: &mut Report) -> Result<(), Error> {
     report.begin("explained");
     lines_and_columns(report);
     arguments_at_places(report)?;
     faults_are_shown(report)?;
     line_of_a_file(report);
+    names_are_told(report)?;
     long_line(report)
 }

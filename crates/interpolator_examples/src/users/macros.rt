@@ -1,7 +1,9 @@
 //! Formats with named values in one call, by the macros.
 
 use crate::page::Page;
-use interpolator::{Error, TextBuffer, iformat, iwrite, iwriteln};
+use interpolator::{
+    Error, Interpolate, TextBuffer, View, context, iformat, items_of, iwrite, iwriteln, list,
+};
 use std::alloc::Global;
 
 /// The text of a format.
@@ -21,11 +23,23 @@ fn receipt(alloc: Global, layout: &str, rows: &[(&str, u32)]) -> Result<String, 
     Ok(out.into_string())
 }
 
+/// A map of names and views, which is kept, and one slot more of a name that it has.
+fn mapped(alloc: Global, name: &str, apples: u32, format: &str) -> Result<String, Error> {
+    let cells = list![apples, name];
+    let items = items_of(alloc, &cells)?;
+    let (name, apples) = (View::from(name), View::from(apples));
+    let map = context!(in alloc; name, n:integer = apples, name:? = apples, l:i = &items)?;
+    map.format(alloc, format)
+}
+
 pub fn show(page: &mut Page) {
     let alloc = page.alloc;
     page.put_made("iformat", pair(alloc));
     page.put_made("iformat", iformat!(in alloc; "no names"));
     page.put_made("iformat", iformat!(in alloc; "{a}{b}", a = 'x'));
+    let format = "{name} has {n:>3}, {name:?}: {l:i({})(, )}";
+    page.put_made("context", mapped(alloc, "Ann", 12, format));
+    page.put_made("context", mapped(alloc, "Ann", 12, "{name:x}"));
     let rows = [("bread", 7), ("crème", 1234)];
     page.put_made("receipt", receipt(alloc, "{item:<6}{n:>5}", &rows));
     page.put_made("receipt", receipt(alloc, "{item}{n", &rows));
