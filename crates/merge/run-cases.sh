@@ -1,13 +1,17 @@
 #!/usr/bin/env bash
 # Runs the built program on templates and tables, and compares what it writes to both streams and its
-# status with what docs/DEFINITIONS.md says of each letter, worked out by hand.
+# status with what docs/DEFINITIONS.md says of each letter, and RFC 4180 of each field, worked out by
+# hand. Then it runs the line of docs/USING.md.
 #
 # usage: run-cases.sh [PROGRAM..]
 set -u
 
+usage='usage: merge TEMPLATE TABLE'
+stray='a stray quote: write the field in quotes, and double those in it'
+unclosed='a quote that this line does not close'
 here=$(cd "$(dirname "$0")" && pwd)
 name=merge
-wanted=20
+wanted=44
 . "$here/../../.ci/cases.sh"
 
 # files TEMPLATE TABLE: what stands in the files `t` and `r`.
@@ -28,13 +32,23 @@ fault() {
     case_of file file 1 '' "$1"$'\n' t r
 }
 
-all_cases() {
+letter_cases() {
     letters $'1;\n2;\n' $'{a};\n' $'a,b\n1,x\n2,\n'
     letters '<é|  7>' '<{a}|{b:>3}>' $'a,b\r\né,7\r\n'
     letters '"{x}"' '{a:?}' $'a\n{x}'
-    letters '2' '{a}' $'a,a\n1,2\n'
     letters '[]' '[{a}]' $'a\n\n'
     letters '' '[{a}]' $'a,b'
+    letters '' 'Dear' ''
+    letters '<1>' '<{a}>' $'\xef\xbb\xbfa,b\n1,2\n'
+    letters '<1>' $'\xef\xbb\xbf<{a}>' $'a\n1\n'
+    letters '<1| 2>' '<{a}|{b b}>' $' a, b b\n1, 2\n'
+    letters '<bread, white|7>' '<{item}|{n}>' $'item,n\n"bread, white",7\n'
+    letters '<a "b" c|>' '<{x}|{y}>' $'x,y\n"a ""b"" c",""\n'
+    letters '<">' '<{a, b}>' $'"a, b"\n""""\n'
+    letters '<é>< >' '<{a}>' $'"a"\r\n"é"\r\n" "\r\n'
+}
+
+template_cases() {
     fault $'t:1:2: specified value not in context `a` at 1\n  |\n1 | {a}\n  | ~^~' '{a}' ''
     fault $'t:3:4: specified value not in context `q` at 25\n  |\n3 | é {q}\n  |   ~^~' \
         $'Dear\n  é {name:>8},\né {q}' $'name\nAnn\nZoë\n'
@@ -43,18 +57,62 @@ all_cases() {
     fault "$(printf '%s\n' \
         't:1:9: trait `LowerHex` not implemented, used by format argument at 8' \
         '  |' '1 | {b} {a:x}' '  |     ~~~~^')" '{b} {a:x}' $'a,b\n1\n'
-    fault 'r:3: another number of fields than line 1 has' '{a}' $'a,b\n1,2\n3\n'
-    fault 'r:2: another number of fields than line 1 has' '{a}' $'a\n1,2\n'
-    case_of file file 2 '' ''
-    case_of file file 2 '' '' t
-    case_of file file 2 '' '' t none
-    case_of file file 2 '' '' t r r
+}
+
+table_cases() {
+    fault 'r:3: 1 field, but line 1 has 2' '{a}' $'a,b\n1,2\n3\n'
+    fault 'r:2: 2 fields, but line 1 has 1' '{a}' $'a\n1,2\n'
+    fault $'r:2: 1 field, but line 1 has 2\nr:4: 3 fields, but line 1 has 2\nr:5: 1 field, but line 1 has 2' \
+        '{a}' $'a,b\n1\n1,2\n1,2,3\n\n'
+    fault 'r:1: column 2 has the name of an earlier column' '{a}' $'a,a\n1,2\n'
+    fault $'r:1: column 3 has the name of an earlier column\nr:3: 1 field, but line 1 has 3' '{a}' \
+        $'a,b, a\n1,2,3\n4\n'
+    fault "r:2: $unclosed" '{a}' $'a,b\n"1,2\n'
+    fault "r:2: $unclosed"$'\n'"r:3: $stray" '{a}' $'a\n"1\n2"\n'
+    fault "r:2: $stray" '{a}' $'a,b\n5" pipe,2\n'
+    fault "r:2: $stray" '{a}' $'a,b\n"5"" pipe" ,2\n'
+    fault "r:2: $stray" '{a}' $'a,b\n1, "2"\n'
+    fault "r:1: $stray" '{a}' $'a, "b"\n1,2\n'
+    fault "r:1: $unclosed" '{a}' $'a,"b\n1,2\n'
+}
+
+# Wrong use, unreadable files and refused writes.
+other_cases() {
+    case_of file file 2 '' "$usage"$'\n'
+    case_of file file 2 '' "$usage"$'\n' t
+    case_of file file 2 '' "$usage"$'\n' t r r
+    case_of file file 2 '' "$usage"$'\n' -t r
+    case_of file file 2 '' "$usage"$'\n' t --help
+    case_of file file 3 '' $'none: No such file or directory (os error 2)\n' none r
+    case_of file file 3 '' $'none: No such file or directory (os error 2)\n' t none
+    printf 'a\n\xff\n' >b
+    case_of file file 3 '' $'b: stream did not contain valid UTF-8\n' t b
+    case_of file file 3 '' $'b: stream did not contain valid UTF-8\n' b r
     files '{a}' $'a\n1\n'
     case_of closed file 3 '' '' t r
     case_of full file 3 '' '' t r
     files '{q}' $'a\n1\n'
     case_of file closed 3 '' '' t r
     case_of file full 3 '' '' t r
+    case_of file full 3 '' '' t
+}
+
+# The line of USING, in the folder that it names.
+using_case() {
+    local line text
+    line=$(grep -o "crates/$name\` (there \`rt run -- [^\`]*" "$here/../../docs/USING.md")
+    text=$(held "$here/stdout")
+    cd "$here" || exit 1
+    eval "case_of file file 0 \"\${text%x}\" '' ${line##*rt run -- }"
+    cd "$room" || exit 1
+}
+
+all_cases() {
+    letter_cases
+    template_cases
+    table_cases
+    other_cases
+    using_case
 }
 
 run_cases "$@"

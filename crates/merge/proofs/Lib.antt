@@ -1,1 +1,3 @@
+pub mod CsvLemmas
 pub mod LetterLemmas
+pub mod TableLemmas

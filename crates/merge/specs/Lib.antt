@@ -1,3 +1,4 @@
 -- What the letters of a template and a table are.
+pub mod Csv
 pub mod Letters
-pub mod Values
+pub mod Table

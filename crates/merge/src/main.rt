@@ -1,75 +1,163 @@
 //! `merge TEMPLATE TABLE`: a letter for each row of the table.
 //!
-//! The template is checked with the names of the table before the first letter. A fault is shown in
-//! its line, as a compiler does. A row with more or fewer fields than there are names is reported
-//! with its line. In both cases no letter is written.
+//! The first line of the table names its columns; white space around a name does not count. The
+//! other lines have a field for each name. Fields are as RFC 4180 has them, but within one line: a
+//! field with a comma or a quote in it stands in quotes, and a quote in it is doubled. A field that
+//! goes on in the next line is not served: its line is reported as one that does not close a quote.
+//! A blank line has one field, which is empty, so it is reported in a table of two columns or more.
+//! Lines end with a newline, or a carriage return and a newline. A byte order mark at the head of
+//! either file is skipped.
+//!
+//! The template is checked with the names before the first letter, and its fault is shown in its
+//! line, as a compiler does. All lines of the table that have a fault are reported. In both cases
+//! no letter is written. The status is 0 if the letters are written, 1 after a fault of the
+//! template or of the table, 2 after wrong use, and 3 after a refused write or for a file that
+//! cannot be read.
 #![tactic(auto)]
 
+mod csv;
 mod letters;
+mod table;
 
 use interpolator::{Error, explain};
 use letters::{Fault, merged};
 use std::alloc::Global;
 use std::process::ExitCode;
 use std::{env, fs, io};
+use table::{LineFault, Trouble};
 
-/// The files and their texts.
-#[derive(Drop)]
-struct Request {
-    words: Vec<String>,
-    template: String,
-    table: String,
+const WRITTEN: u8 = 0;
+
+const FAULT: u8 = 1;
+
+const BAD_USE: u8 = 2;
+
+/// The status of a refused write, and of a file that cannot be read.
+const REFUSED: u8 = 3;
+
+/// The files of the command line, and their texts.
+#[derive(Clone, Copy)]
+struct Files<'a> {
+    template_name: &'a str,
+    template: &'a str,
+    table_name: &'a str,
+    table: &'a str,
 }
 
-/// Why there are no letters: a fault of the template, shown in its line, or a line of the table.
-fn told(alloc: Global, asked: &Request, fault: &Fault) -> Result<String, Error> {
-    let [template, table] = asked.words.as_slice() else {
-        return Ok(String::new(alloc));
+/// The fault of a line, as a line of text, in a table whose first line has so many names.
+fn told_line(alloc: Global, table: &str, fault: LineFault, wanted: usize) -> Result<String, Error> {
+    let line = fault.line;
+    let told = match fault.trouble {
+        Trouble::Unclosed => format!(in alloc;
+            "{table}:{line}: a quote that this line does not close\n"
+        )?,
+        Trouble::Stray => format!(in alloc;
+            "{table}:{line}: a stray quote: write the field in quotes, and double those in it\n"
+        )?,
+        Trouble::Fields(count) => {
+            let noun = if count == 1 { "field" } else { "fields" };
+            format!(in alloc; "{table}:{line}: {count} {noun}, but line 1 has {wanted}\n")?
+        }
+        Trouble::Twice(column) => format!(in alloc;
+            "{table}:{line}: column {column} has the name of an earlier column\n"
+        )?,
     };
+    Ok(told)
+}
+
+/// The faults of a table, a line for each.
+fn told_lines(alloc: Global, files: Files<'_>, faults: &[LineFault]) -> Result<String, Error> {
+    let header = csv::read_line(alloc, files.table.lines().next().unwrap_or(""))?;
+    let wanted = header.count();
+    let mut told = String::new(alloc);
+    for fault in faults {
+        let line = told_line(alloc, files.table_name, *fault, wanted)?;
+        told.push_str(line.as_str())?;
+    }
+    Ok(told)
+}
+
+/// Why there are no letters: a fault of the template, shown in its line, or lines of the table.
+fn told(alloc: Global, files: Files<'_>, fault: &Fault) -> Result<String, Error> {
     match fault {
         Fault::Template(Error::NoMemory) => Err(Error::NoMemory),
         Fault::Template(error) => {
-            explain(alloc, template.as_str(), asked.template.as_str(), error)
-        }
-        Fault::Fields(row) => {
-            let told = format!(in alloc;
-                "{table}:{row}: another number of fields than line 1 has"
-            )?;
+            let mut told = explain(alloc, files.template_name, files.template, error)?;
+            told.push('\n')?;
             Ok(told)
         }
+        Fault::Table(faults) => told_lines(alloc, files, faults.as_slice()),
     }
 }
 
-fn read_files(rt: &HostRuntime) -> io::Result<Request> {
+/// The text without the byte order mark at its head.
+fn without_mark(text: &str) -> &str {
+    text.strip_prefix('\u{feff}').unwrap_or(text)
+}
+
+/// The words after the program's name.
+fn arguments(rt: &HostRuntime) -> io::Result<Vec<String>> {
     let words = env::args(rt)?.skip(1).collect::<Vec<String>>(rt.alloc())?;
-    let [template, table] = words.as_slice() else {
-        return Err(io::Error::from(io::ErrorKind::InvalidInput));
+    Ok(words)
+}
+
+/// Whether a word looks like a flag, of which there are none.
+fn is_flag(word: &str) -> bool {
+    word.starts_with('-')
+}
+
+/// The usage, on standard error.
+fn usage(rt: &HostRuntime) -> ExitCode {
+    ended(eprintln!(rt; "usage: merge TEMPLATE TABLE"), BAD_USE)
+}
+
+/// The status of a run that ends with this write.
+fn ended(written: io::Result<()>, status: u8) -> ExitCode {
+    match written {
+        Ok(()) => ExitCode::from(status),
+        Err(_) => ExitCode::from(REFUSED),
+    }
+}
+
+/// Writes the letters of a template and a table, or why there are none.
+fn write_letters(rt: &HostRuntime, files: Files<'_>) -> ExitCode {
+    match merged(rt.alloc(), files.template, files.table) {
+        Ok(letters) => ended(rt.print(letters.as_str()), WRITTEN),
+        Err(fault) => match told(rt.alloc(), files, &fault) {
+            Ok(told) => ended(eprint!(rt; "{told}"), FAULT),
+            Err(_) => ended(eprintln!(rt; "{}", Error::NoMemory), FAULT),
+        },
+    }
+}
+
+/// Merges two files.
+fn merge(rt: &HostRuntime, template_name: &str, table_name: &str) -> ExitCode {
+    let template = match fs::read_to_string(rt, template_name) {
+        Ok(text) => text,
+        Err(error) => return ended(eprintln!(rt; "{template_name}: {error}"), REFUSED),
     };
-    let template = fs::read_to_string(rt, template.as_str())?;
-    let table = fs::read_to_string(rt, table.as_str())?;
-    Ok(Request {
-        words,
-        template,
-        table,
-    })
+    let table = match fs::read_to_string(rt, table_name) {
+        Ok(text) => text,
+        Err(error) => return ended(eprintln!(rt; "{table_name}: {error}"), REFUSED),
+    };
+    let files = Files {
+        template_name,
+        template: without_mark(template.as_str()),
+        table_name,
+        table: without_mark(table.as_str()),
+    };
+    write_letters(rt, files)
 }
 
 fn main(rt: HostRuntime) -> ExitCode {
-    let Ok(asked) = read_files(&rt) else {
-        return ExitCode::from(2);
+    let Ok(words) = arguments(&rt) else {
+        return usage(&rt);
     };
-    let answer = match merged(rt.alloc(), asked.template.as_str(), asked.table.as_str()) {
-        Ok(letters) => match rt.print(letters.as_str()) {
-            Ok(()) => return ExitCode::SUCCESS,
-            Err(_) => return ExitCode::from(3),
-        },
-        Err(fault) => match told(rt.alloc(), &asked, &fault) {
-            Ok(told) => eprintln!(&rt; "{told}"),
-            Err(_) => eprintln!(&rt; "{}", Error::NoMemory),
-        },
+    let [template, table] = words.as_slice() else {
+        return usage(&rt);
     };
-    match answer {
-        Ok(()) => ExitCode::from(1),
-        Err(_) => ExitCode::from(3),
+    if is_flag(template.as_str()) || is_flag(table.as_str()) {
+        return usage(&rt);
     }
+    merge(&rt, template.as_str(), table.as_str())
 }

@@ -1,0 +1,144 @@
+//! The names and the fields of a table, and the faults of its lines.
+
+ghost use Rattle.std.specs.Prelude.{◌≡◌, ◌++◌, [], Decides, IfOk, length, map, string_bytes};
+ghost use Rattle.std.specs.Str.{trim};
+ghost use Rattle.merge.specs.Csv.{reading_of};
+ghost use Rattle.merge.specs.Table.{count_trouble, header_of, is_among, quote_trouble};
+ghost use Rattle.merge.specs.Table.{repeat_trouble, repeats, trouble_in, with_line};
+
+use crate::csv::{Part, Reading};
+use std::alloc::{AllocError, Global};
+
+/// What is wrong with a line.
+#[derive(Clone, Copy, Debug)]
+pub enum Trouble {
+    /// It does not close a quote.
+    Unclosed,
+    /// It has a quote where none may be.
+    Stray,
+    /// It has this many fields, and not as many as there are names.
+    Fields(usize),
+    /// It gives the column of this number, from 1, the name of an earlier one.
+    Twice(usize),
+}
+
+/// A line, by its number from 1, and what is wrong with it.
+#[derive(Clone, Copy, Debug)]
+pub struct LineFault {
+    pub line: usize,
+    pub trouble: Trouble,
+}
+
+/// What is wrong with the quotes of a line.
+pub fn quote_trouble(reading: &Reading) -> Option<Trouble>
+    ensures { result ≡ quote_trouble reading.now.part }
+{
+    match reading.part {
+        Part::Quoted => Some(Trouble::Unclosed),
+        Part::Stray => Some(Trouble::Stray),
+        Part::Start | Part::Plain | Part::Closed => None,
+    }
+}
+
+/// What is wrong with the number of fields of a line, if there are so many names.
+fn count_trouble(count: usize, names: usize) -> Option<Trouble>
+    ensures { result ≡ count_trouble count names }
+{
+    if count == names {
+        return None;
+    }
+    Some(Trouble::Fields(count))
+}
+
+/// What is wrong with a line, if there are so many names.
+pub fn trouble_in(reading: &Reading, names: usize) -> Option<Trouble>
+    ensures { result ≡ trouble_in names (reading_of reading.now) }
+{
+    match quote_trouble(reading) {
+        Some(trouble) => Some(trouble),
+        None => count_trouble(reading.count(), names),
+    }
+}
+
+/// The first line of a table, which names its columns.
+pub fn header_of(table: &str) -> &str
+    ensures { result.now ≡ header_of table.now }
+{
+    table.lines().next().unwrap_or("")
+}
+
+/// The fields as texts.
+pub fn texts_of(alloc: Global, fields: &[String]) -> Result<Vec<&str>, AllocError>
+    ensures { IfOk result (λ texts.
+        map (λ x. x.now) texts.items ≡ map (λ field. string_bytes field) fields.now) }
+{
+    let mut texts = Vec::with_capacity(alloc, fields.len())?;
+    for field in fields.iter() {
+        texts.push(field.as_str())?;
+    }
+    Ok(texts)
+}
+
+/// The fields as names, without white space around them.
+pub fn names_of(alloc: Global, fields: &[String]) -> Result<Vec<&str>, AllocError>
+    ensures { IfOk result (λ names.
+        map (λ x. x.now) names.items ≡ map trim (map (λ field. string_bytes field) fields.now)) }
+{
+    let mut names = Vec::with_capacity(alloc, fields.len())?;
+    for field in fields.iter() {
+        names.push(field.as_str().trim())?;
+    }
+    Ok(names)
+}
+
+/// Whether a name is among others.
+fn is_among(names: &[&str], name: &str) -> bool
+    ensures { result ≡ is_among (map (λ x. x.now) names.now) name.now }
+{
+    names.contains(&name)
+}
+
+/// What is wrong with a name that comes after others.
+fn repeat_trouble(before: &[&str], name: &str) -> Option<Trouble>
+    ensures { result ≡ repeat_trouble (map (λ x. x.now) before.now) name.now }
+{
+    if is_among(before, name) {
+        return Some(Trouble::Twice(before.len() + 1));
+    }
+    None
+}
+
+/// Appends a line, if anything is wrong with it.
+pub fn push_fault(
+    faults: &mut Vec<LineFault>,
+    line: usize,
+    trouble: Option<Trouble>,
+) -> Result<(), AllocError>
+    ensures { IfOk result (λ _. faults.new.items ≡ faults.old.items ++ with_line line trouble) }
+{
+    match trouble {
+        Some(trouble) => {
+            faults.push(LineFault { line, trouble })?;
+            Ok(())
+        }
+        None => Ok(()),
+    }
+}
+
+/// The faults of the first line: the names that it has twice.
+pub fn repeats_of(alloc: Global, names: &[&str]) -> Result<Vec<LineFault>, AllocError>
+    ensures { IfOk result (λ faults. faults.items ≡ repeats (map (λ x. x.now) names.now)) }
+{
+    let mut faults = Vec::new(alloc);
+    for (before, name) in names.iter().enumerate() {
+        push_fault(&mut faults, 1, repeat_trouble(&names[..before], name))?;
+    }
+    Ok(faults)
+}
+
+/// Whether there are no faults.
+pub fn is_clean(faults: &[LineFault]) -> bool
+    ensures { Decides result (faults.now ≡ []) }
+{
+    faults.is_empty()
+}
