@@ -10,7 +10,7 @@ here=$(cd "$(dirname "$0")" && pwd)
 name=catalogue
 usage='usage: catalogue [--fallback FILE] FILE KEY [NAME=TEXT | NAME:=NUMBER | NAME[]=ITEM,ITEM..]'
 usage+=' | catalogue --check FILE..'
-wanted=59
+wanted=76
 . "$here/../../.ci/cases.sh"
 
 # message WANTED WORD..: a message, which goes to standard output, with status 0.
@@ -168,6 +168,36 @@ all_cases() {
     told "$(printf '%s\n' 'mark.txt:1:16: error while parsing input: Format spec at 7 is nether closed with a `}` (byte 7 of the format)' \
         '  |' '1 | hello = Hello {name' '  |               ~^~~~')" \
         --fallback mark.txt m.txt hello name=Zoë
+    printf '%s\n' '# Korb' '' 'plural: n == 0 ? zero : n == 1 ? one : other' 'cart.zero = leer' \
+        'cart.one = ein Artikel' 'cart.other(n:) = {n} Artikel' 'box.other = {n} Kisten' \
+        'one = eins' >forms.txt
+    message 'leer' forms.txt cart n:=0
+    message 'ein Artikel' forms.txt cart n:=7 n:=1
+    message '2 Artikel' forms.txt cart n:=2
+    message '-1 Artikel' forms.txt cart n:=-1
+    message 'eins' forms.txt one
+    message 'ein Artikel' forms.txt cart.one
+    told 'forms.txt:4: `cart` wants `n:=NUMBER`' forms.txt cart
+    told 'forms.txt:4: `cart` wants `n:=NUMBER`' forms.txt cart n:=1 n=1
+    told 'forms.txt: no message `box` or `box.one`' forms.txt box n:=1
+    told 'forms.txt: no message `gone` or `gone.zero`' forms.txt gone
+    wrong 'bad word: x' forms.txt cart n:=1 x
+    printf '\xef\xbb\xbf%s\r\n%s\r\n%s\r\n' 'plural: m == 1 ? one : other' 'cart.one = an item' \
+        'box.one = a box' >one_form.txt
+    message 'an item' one_form.txt cart m:=1
+    told 'one_form.txt: no message `cart` or `cart.other`' one_form.txt cart m:=2
+    message 'a box' --fallback one_form.txt forms.txt box n:=1 m:=1
+    told 'forms.txt:4: `cart` wants `n:=NUMBER`' --fallback forms.txt m.txt cart
+    case_of file file 0 '' '' --check forms.txt one_form.txt
+    printf '%s\n' 'plural: é == 1 ? one : n = 2 ? two : n == 3 ? three' 'a = 1' 'plural: other' \
+        'b == 1 ? c : d' >rules.txt
+    told "$(printf '%s\n' \
+        'rules.txt:1:24: a rule is `NAME == NUMBER ? FORM : .. : FORM`' \
+        '  |' '1 | plural: é == 1 ? one : n = 2 ? two : n == 3 ? three' \
+        '  |                        ^' \
+        'rules.txt:3:1: a rule stands once, before all messages' \
+        '  |' '3 | plural: other' '  | ^')" \
+        --check rules.txt
     unread 'none.txt: No such file or directory (os error 2)' --fallback none.txt m.txt hello
     wrong "$usage" --fallback m.txt
     wrong "$usage" --fallback m.txt de.txt

@@ -5,11 +5,11 @@ use Rattle.std.proofs.lemmas.List.{map-append, take_more}
 use Rattle.std.proofs.lemmas.List.Folds.{concat-append}
 use Rattle.std.specs.List.{concat}
 use Rattle.std.specs.Option.{option_map, option_or}
-use Rattle.catalogue.specs.Declarations.{Declared}
-use Rattle.catalogue.specs.Messages.{as_file, found_among, found_in, line_under, line_with_format}
-use Rattle.catalogue.specs.Messages.{lines_of, with_format}
+use Rattle.catalogue.specs.Messages.{Known, as_file, found_among, found_in, line_with_format}
+use Rattle.catalogue.specs.Messages.{with_format, with_lack}
+use Rattle.catalogue.specs.declared.entries.Object.{Object}
 use Rattle.catalogue.specs.declared.files.File.{File}
-use Rattle.catalogue.proofs.MessageLemmas.{map_or}
+use Rattle.catalogue.proofs.FirstLemmas.{given_more, map_or}
 
 -- what some things are made into, and one more
 made_next : {A B : Type 0} (g : A → B) (xs : List A) (i : ℕ) (x : A) → i < length xs
@@ -30,44 +30,27 @@ joined_next f g xs i x before more new within here so_far one pushed =
     ∙ (concat-append (map f front) (f (g x) ∷ [])
     ∙ ap (λ y. concat (map f front) ++ y) (append-nil (f (g x))))))))
 
+-- the line that is found in a file, with its name, and with what its form lacks
+pub in_file : (name : List ℕ) (lacks : Option (List ℕ)) (o : Option (ℕ × List ℕ))
+    → option_map (with_lack lacks) (option_map (with_format name) o)
+    ≡ option_map line_with_format (option_map (λ one. (name, one.0, one.1, lacks)) o)
+in_file name lacks None = refl
+in_file name lacks (Some one) = refl
+
 -- the line of a key among some files and one more
-or_none : {A : Type 0} (o : Option A) → option_or o None ≡ o
-or_none None = refl
-or_none (Some x) = refl
-
-or_assoc : {A : Type 0} (a b c : Option A)
-    → option_or a (option_or b c) ≡ option_or (option_or a b) c
-or_assoc None b c = refl
-or_assoc (Some x) b c = refl
-
-found_more : (key : List ℕ) (files : List (List ℕ × List ℕ)) (file : List ℕ × List ℕ)
-    → found_among key (files ++ (file ∷ []))
-    ≡ option_or (found_among key files) (found_in key file)
-found_more key [] file = or_none (found_in key file)
-found_more key (f ∷ files) file =
-    ap (λ o. option_or (found_in key f) o) (found_more key files file)
-    ∙ or_assoc (found_in key f) (found_among key files) (found_in key file)
-
--- the line that is found in a file, with its name
-in_file : (name : List ℕ) (o : Option (ℕ × List ℕ))
-    → option_map line_with_format (option_map (λ one. (name, one.0, one.1)) o)
-    ≡ option_map (with_format name) o
-in_file name None = refl
-in_file name (Some one) = refl
-
-pub found_after : {A : Type 0} (key : List ℕ) (files : List File) (i : ℕ) (file : File)
-    → i < length files → file ≡ get_or files i file
-    → (f : A → List ℕ × ℕ × List ℕ × List ℕ × Declared) (before one : Option A)
+pub found_after : {A : Type 0} (objects : List Object) (key : List ℕ) (files : List File) (i : ℕ)
+    (file : File) → i < length files → file ≡ get_or files i file
+    → (f : A → Known) (before one : Option A)
     → option_map f before
-    ≡ option_map line_with_format (found_among key (map as_file (take i files)))
-    → option_map f one
-    ≡ option_map (with_format (as_file file).0) (line_under key (lines_of (as_file file).1))
+    ≡ option_map line_with_format (found_among objects key (map as_file (take i files)))
+    → option_map f one ≡ option_map line_with_format (found_in objects key (as_file file))
     → option_map f (option_or before one)
-    ≡ option_map line_with_format (found_among key (map as_file (take (i + 1) files)))
-found_after key files i file within here f before one so_far this =
+    ≡ option_map line_with_format (found_among objects key (map as_file (take (i + 1) files)))
+found_after objects key files i file within here f before one so_far this =
     let front = map as_file (take i files) in
+    let found = found_in objects key in
     map_or f before one
-    ∙ (rw (so_far, this, ← in_file (as_file file).0 (line_under key (lines_of (as_file file).1)))
-    (sym (map_or line_with_format (found_among key front) (found_in key (as_file file))
-    ) ∙ ap (option_map line_with_format) (sym (ap (found_among key)
-    (made_next as_file files i file within here) ∙ found_more key front (as_file file)))))
+    ∙ (rw (so_far, this)
+    (sym (map_or line_with_format (found_among objects key front) (found (as_file file)))
+    ∙ ap (option_map line_with_format) (sym (ap (found_among objects key)
+    (made_next as_file files i file within here) ∙ given_more found front (as_file file)))))

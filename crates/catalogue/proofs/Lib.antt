@@ -12,3 +12,5 @@ pub mod PickLemmas
 pub mod ToldLemmas
 pub mod FileLemmas
 pub mod KeyLemmas
+pub mod RuleLemmas
+pub mod FirstLemmas

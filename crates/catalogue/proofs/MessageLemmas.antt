@@ -8,6 +8,7 @@ use Rattle.std.specs.Option.{option_map, option_or}
 use Rattle.std.proofs.lemmas.List.{get_or_default, length-map, map-append, take_more}
 use Rattle.std.proofs.lemmas.List.Folds.{find-append}
 use Rattle.std.proofs.lemmas.Slice.Zip.{all_zipped_more}
+use Rattle.catalogue.proofs.FirstLemmas.{map_or}
 use Rattle.catalogue.specs.Declarations.{Declared, nothing, these, broken}
 use Rattle.catalogue.specs.Keys.{as_keys}
 use Rattle.catalogue.specs.Messages.{IsSoundOver, is_under, key_with, keys_in, line_under, numbered}
@@ -87,12 +88,6 @@ told_fault (fault f) o place has (inl e) = cc
 told_fault (fault f) None place has (inr e) = cc
 told_fault (fault f) (Some g) place has (inr e) =
     (f, refl, ap {B = Option Fault} (λ x. Some x) (same_fault g f (sym e)))
-
--- one of two, seen as another
-pub map_or : {A B : Type 0} (g : A → B) (before one : Option A)
-    → option_map g (option_or before one) ≡ option_or (option_map g before) (option_map g one)
-map_or g None one = refl
-map_or g (Some x) one = refl
 
 -- a line with a message, if it has the key
 format_of_one : {B : Type 0} (g : ℕ × List ℕ → B) (b : Bool) (one : ℕ × List ℕ)

@@ -6,6 +6,7 @@ use Rattle.std.specs.Str.{bytes_eq, trim}
 use Rattle.std.specs.Borrow.{Bor}
 use Rattle.std.specs.Option.{option_or}
 use Rattle.std.proofs.lemmas.List.{map-append}
+use Rattle.catalogue.proofs.FirstLemmas.{or_assoc, or_none}
 use Rattle.catalogue.specs.Declarations.{as_declaration, begin_of, broken_by, is_among}
 use Rattle.catalogue.specs.declared.declarations.Declaration.{Declaration}
 use Rattle.catalogue.specs.Declarations.{after_part, as_list, broken_at, broken_from, declarations}
@@ -23,20 +24,11 @@ after_more : (place : ℕ) (parts : List (List ℕ)) (part : List ℕ)
 after_more place [] part = refl
 after_more place (x ∷ parts) part = after_more (after_part place x) parts part
 
--- one of the last is one of the rest
-or_nothing : (o : Option ℕ) → option_or o None ≡ o
-or_nothing None = refl
-or_nothing (Some n) = refl
-
-or_assoc : (a b c : Option ℕ) → option_or a (option_or b c) ≡ option_or (option_or a b) c
-or_assoc None b c = refl
-or_assoc (Some n) b c = refl
-
 -- the first that is broken among one more
 broken_more : (place : ℕ) (seen : List (List ℕ × Kind)) (parts : List (List ℕ)) (part : List ℕ)
     → broken_from place seen (parts ++ (part ∷ [])) ≡ option_or (broken_from place seen parts)
     (broken_at (after_all place parts) (seen ++ declarations parts) part)
-broken_more place seen [] part = or_nothing (broken_at place seen part)
+broken_more place seen [] part = or_none (broken_at place seen part)
     ∙ ap (λ s. broken_at place s part) (sym (append-nil seen))
 broken_more place seen (x ∷ parts) part =
     ap (λ (o : Option ℕ). option_or (broken_at place seen x) o)

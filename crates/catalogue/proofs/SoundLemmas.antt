@@ -1,7 +1,8 @@
 -- Lines of which nothing is reported are sound, and so is the one that is found.
 use Rattle.std.proofs.Common.{◌≡◌, ◌∙◌, refl, sym, ap, subst, ℕ, ◌+◌, ◌==◌, Bool, true, false, cond}
 use Rattle.std.proofs.Common.{List, [], ◌∷◌, ◌++◌, Option, None, Some, inl, inr, ◌&&◌, not, reverse}
-use Rattle.std.proofs.Common.{arith, codes, eq-eqb, length, length-append, ltb-true, unwrap_or}
+use Rattle.std.proofs.Common.{arith, codes, eq-eqb, eqb-true, is_some, length, length-append}
+use Rattle.std.proofs.Common.{ltb-true, unwrap_or}
 use Rattle.std.proofs.lemmas.List.{reverse-append}
 use Rattle.std.proofs.lemmas.List.Elements.{All-append, All-cons, All-head, All-nil, All-tail}
 use Rattle.std.specs.List.{All, find}
@@ -12,7 +13,11 @@ use Rattle.catalogue.specs.Keys.{IsNew, as_keys, number_of, told_of_key, what_is
 use Rattle.catalogue.specs.Messages.{AreSound, IsSound, IsSoundOver, declared_of, format_of}
 use Rattle.catalogue.specs.Messages.{head_of, is_passed_over, is_under, key_of, key_with, line_under}
 use Rattle.catalogue.specs.Messages.{told_of_line, told_of_lines, told_of_message, IsSoundFile}
-use Rattle.catalogue.specs.Messages.{found_among, lines_of, told_of_file, told_of_files}
+use Rattle.catalogue.specs.Messages.{FoundLine, found_among, lines_of, plain_lines, sought}
+use Rattle.catalogue.specs.Messages.{told_of_file, told_of_files, told_of_rule, what_is_a_rule}
+use Rattle.catalogue.specs.Messages.{what_is_before}
+use Rattle.catalogue.specs.Rules.{broken_in, rule_in}
+use Rattle.catalogue.specs.declared.entries.Object.{Object}
 use Rattle.catalogue.specs.Words.{is_equals}
 use Rattle.catalogue.proofs.MessageLemmas.{clean_message, some_told}
 
@@ -54,12 +59,23 @@ not_passed : (passed has same : Bool) → ((not passed && has) && same) ≡ true
 not_passed true has same h e = no_bool h
 not_passed false has same h e = no_bool e
 
+-- and has no rule
+not_ruled : (passed ruled has same : Bool) → ((not passed && (not ruled && has)) && same) ≡ true
+    → ruled ≡ true → ⊥
+not_ruled true ruled has same h e = no_bool h
+not_ruled false true has same h e = no_bool h
+not_ruled false false has same h e = no_bool e
+
 -- a sound line with a message is sound over what it declares
 sound_under : (key line : List ℕ) (keys : List (ℕ × List ℕ)) → is_under key line ≡ true
     → IsSound keys line → IsSoundOver (declared_of line) (format_of line)
 sound_under key line keys h (inl e) =
-    absurd (not_passed (is_passed_over line) (has is_equals line) (bytes_eq (key_of line) key) h e)
-sound_under key line keys h (inr s) = s.2
+    absurd (not_passed (is_passed_over line) (not (is_some (rule_in line)) && has is_equals line)
+    (bytes_eq (key_of line) key) h e)
+sound_under key line keys h (inr (inl r)) =
+    absurd (not_ruled (is_passed_over line) (is_some (rule_in line)) (has is_equals line)
+    (bytes_eq (key_of line) key) h (ap is_some r.ruled))
+sound_under key line keys h (inr (inr s)) = s.2
 
 -- the line of a key is sound over what it declares
 sound_found : (key : List ℕ) (ls : List (ℕ × List ℕ)) (one : ℕ × List ℕ) → AreSound [] ls
@@ -85,24 +101,43 @@ clean_key file number line head key keys false (Some n) b f e = absurd (omega (
   some_told file number line (begin_of 0 head) (what_is_again n key),
 ))
 
+-- no keys
+no_keys : (keys : List (ℕ × List ℕ)) → (length keys == 0) ≡ true → keys ≡ []
+no_keys [] e = refl
+no_keys (key ∷ keys) e = absurd (omega (arith, eqb-true _ _ e))
+
+-- nor of a rule only if it is whole, and comes first
+clean_rule : (file : List ℕ) (keys : List (ℕ × List ℕ)) (number : ℕ) (line rule : List ℕ)
+    (first : Bool) (o : Option ℕ) → (length keys == 0) ≡ first → broken_in rule ≡ o
+    → length (told_of_rule file keys number line rule) ≡ 0 → (keys ≡ []) × (broken_in rule ≡ None)
+clean_rule file keys number line rule true None f b e = (no_keys keys f, b)
+clean_rule file keys number line rule true (Some place) f b e =
+    absurd (omega (arith, rw (f, b) at e, some_told file number line place what_is_a_rule))
+clean_rule file keys number line rule false o f b e =
+    absurd (omega (arith, rw f at e, some_told file number line 0 what_is_before))
+
 -- nor of a line only if it is sound
 clean_line : (file : List ℕ) (keys : List (ℕ × List ℕ)) (number : ℕ) (line : List ℕ)
-    (passed cut : Bool) → is_passed_over line ≡ passed → has is_equals line ≡ cut
+    (passed : Bool) (ruled : Option (List ℕ)) (cut : Bool) → is_passed_over line ≡ passed
+    → rule_in line ≡ ruled → has is_equals line ≡ cut
     → length (told_of_line file keys number line) ≡ 0 → IsSound keys line
-clean_line file keys number line true cut p h e = inl p
-clean_line file keys number line false true p h e =
+clean_line file keys number line true ruled cut p r h e = inl p
+clean_line file keys number line false (Some rule) cut p r h e =
+    let both = clean_rule file keys number line rule _ _ refl refl (rw (p, r) at e) in
+    inr (inl (record { rule = rule; ruled = r; first = both.0; whole = both.1 }))
+clean_line file keys number line false None true p r h e =
     let of_key = told_of_key file number line (head_of line) (key_of line) keys in
     let of_message = told_of_message file number line (declared_of line) (format_of line) in
     let both : length of_key + length of_message ≡ 0 =
-    sym (length-append of_key of_message) ∙ (rw (p, h) at e) in
-    inr (
+    sym (length-append of_key of_message) ∙ (rw (p, r, h) at e) in
+    inr (inr (
       ltb-true _ _ h,
       clean_key file number line (head_of line) (key_of line) keys _ _ refl refl
           (omega (arith, both)),
       clean_message file number line (format_of line) (declared_of line) (omega (arith, both)),
-    )
-clean_line file keys number line false false p h e =
-    absurd (omega (arith, rw (p, h) at e, some_told file number line 0 (codes "no `=`")))
+    ))
+clean_line file keys number line false None false p r h e =
+    absurd (omega (arith, rw (p, r, h) at e, some_told file number line 0 (codes "no `=`")))
 
 -- nor of lines
 clean_lines : (file : List ℕ) (keys ls : List (ℕ × List ℕ))
@@ -111,7 +146,7 @@ clean_lines file keys [] e = tt
 clean_lines file keys (one ∷ rest) e =
     let more = keys ++ as_keys one.0 (key_with one.1) in
     let both = length-append (told_of_line file keys one.0 one.1) (told_of_lines file more rest) in (
-      clean_line file keys one.0 one.1 _ _ refl refl (omega (arith, e, both)),
+      clean_line file keys one.0 one.1 _ _ _ refl refl refl (omega (arith, e, both)),
       clean_lines file more rest (omega (arith, e, both)),
     )
 
@@ -126,23 +161,24 @@ clean_files (file ∷ files) e =
     (clean_files files (omega (arith, e, both)))
 
 -- what is found in a file, or else in others, is sound over what it declares
-sound_in : (key : List ℕ) (file : List ℕ × List ℕ) (o : Option (ℕ × List ℕ))
-    (rest : Option (List ℕ × ℕ × List ℕ)) (one : List ℕ × ℕ × List ℕ) → IsSoundFile file
+sound_in : (key : List ℕ) (lacks : Option (List ℕ)) (file : List ℕ × List ℕ)
+    (o : Option (ℕ × List ℕ)) (rest : Option FoundLine) (one : FoundLine) → IsSoundFile file
     → line_under key (lines_of file.1) ≡ o
     → (rest ≡ Some one → IsSoundOver (declared_of one.2) (format_of one.2))
-    → option_or (option_map (λ x. (file.0, x.0, x.1)) o) rest ≡ Some one
+    → option_or (option_map (λ x. (file.0, x.0, x.1, lacks)) o) rest ≡ Some one
     → IsSoundOver (declared_of one.2) (format_of one.2)
-sound_in key file None rest one sound is next e = next e
-sound_in key file (Some x) rest one sound is next e =
-    let same = ap (λ (y : List ℕ × ℕ × List ℕ). y.2) (ap (λ o. unwrap_or o one) e) in
+sound_in key lacks file None rest one sound is next e = next e
+sound_in key lacks file (Some x) rest one sound is next e =
+    let same = ap (λ (y : FoundLine). y.2) (ap (λ o. unwrap_or o one) e) in
     subst (λ l. IsSoundOver (declared_of l) (format_of l)) same
     (sound_found key (lines_of file.1) x sound is)
 
-pub sound_among : (key : List ℕ) (files : List (List ℕ × List ℕ)) (one : List ℕ × ℕ × List ℕ)
-    → All IsSoundFile files → found_among key files ≡ Some one
+pub sound_among : (objects : List Object) (key : List ℕ) (files : List (List ℕ × List ℕ))
+    (one : FoundLine) → All IsSoundFile files → found_among objects key files ≡ Some one
     → IsSoundOver (declared_of one.2) (format_of one.2)
-sound_among key [] one h e = absurd (cc)
-sound_among key (file ∷ files) one h e =
-    sound_in key file (line_under key (lines_of file.1)) (found_among key files) one
-    (All-head IsSoundFile file files h) refl
-    (sound_among key files one (All-tail IsSoundFile file files h)) e
+sound_among objects key [] one h e = absurd (cc)
+sound_among objects key (file ∷ files) one h e =
+    let its = sought objects key (plain_lines file.1) in
+    sound_in its.0 its.1 file (line_under its.0 (lines_of file.1)) (found_among objects key files)
+    one (All-head IsSoundFile file files h) refl
+    (sound_among objects key files one (All-tail IsSoundFile file files h)) e

@@ -7,3 +7,5 @@ pub mod Words
 pub mod Picks
 pub mod Reports
 pub mod Keys
+pub mod Rules
+pub mod Forms

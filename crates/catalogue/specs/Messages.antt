@@ -1,13 +1,14 @@
 -- What a file of messages means: its lines, their keys and formats, and a message. Texts are bytes.
 use Rattle.std.specs.Prelude.{◌≡◌, ◌⊎◌, ℕ, Bool, true, not, ◌==◌, ◌&&◌, ◌||◌, ◌<◌, ◌-◌}
 use Rattle.std.specs.Prelude.{⊤, List, [], ◌∷◌, ◌++◌, map, take, drop, length, codes, string_bytes}
-use Rattle.std.specs.Prelude.{if◌then◌else◌, Option, None, Some, IsSome, Ok}
-use Rattle.std.specs.List.{All, AllZip, concat, enumerate_from, find}
-use Rattle.std.specs.Option.{option_map, option_or}
+use Rattle.std.specs.Prelude.{if◌then◌else◌, Option, None, Some, IsSome, Result, Ok, Err, is_some}
+use Rattle.std.specs.List.{All, AllZip, concat, enumerate_from, find, list_any}
+use Rattle.std.specs.Option.{option_map}
 use Rattle.std.specs.List.{before_first, after_first, slice_index}
 use Rattle.std.specs.Str.{bytes_eq, chars, trim, trim_start}
 use Rattle.std.specs.Str.Lines.{lines}
 use Rattle.std.specs.declared.string.String.{String}
+use Rattle.std.specs.declared.vec.Vec.{Vec}
 use Rattle.interpolator.specs.At.{outermost}
 use Rattle.interpolator.specs.Contexts.{found_by_pairs}
 use Rattle.interpolator.specs.Faults.{Answer as Reply, Fault, fault}
@@ -19,11 +20,14 @@ use Rattle.interpolator.specs.Meaning.Outcomes.{Formats}
 use Rattle.catalogue.specs.Declarations.{Declared, nothing, these, broken, declared_in, has, key_in}
 use Rattle.catalogue.specs.Entries.{Holds, Pair}
 use Rattle.catalogue.specs.Examples.{faults_of, reply_counts, view_shows}
+use Rattle.catalogue.specs.Forms.{Chosen, choice_with, first_given, key_by, or_form, rule_of}
 use Rattle.catalogue.specs.Keys.{IsNew, as_keys, told_of_key}
 use Rattle.catalogue.specs.Picks.{ArePicked, IsLacking, told_of_lacking}
 use Rattle.catalogue.specs.Reports.{lent, told_at}
+use Rattle.catalogue.specs.Rules.{broken_in, rule_head, rule_in}
 use Rattle.catalogue.specs.Words.{Gives, HasEquals, IsFirstBad, is_equals}
 use Rattle.catalogue.specs.declared.declarations.Kind.{Kind}
+use Rattle.catalogue.specs.declared.declarations.Kind.TheVariants as kinds
 use Rattle.catalogue.specs.declared.entries.Object.{Object}
 use Rattle.catalogue.specs.declared.files.File.{File}
 use Rattle.catalogue.specs.declared.messages.Answer.{Answer}
@@ -59,23 +63,40 @@ IsSoundOver nothing format = faults_of nothing format ≡ []
 IsSoundOver (these declared) format = faults_of (these declared) format ≡ []
 IsSoundOver (broken place) format = ⊥
 
--- a line is sound after others with these keys: it is skipped, or it has a key that is not among
--- them, nothing in its head is broken, and its format has no fault
-abbrev pub IsSound : List (ℕ × List ℕ) → List ℕ → Type 0
-IsSound keys line = (is_passed_over line ≡ true)
-    ⊎ (HasEquals line × IsNew keys (key_of line) × IsSoundOver (declared_of line) (format_of line))
+-- a line has a rule that is whole, before any rule or message
+pub record IsRule (keys : List (ℕ × List ℕ)) (line : List ℕ) : Type 0 where
+  pub rule : List ℕ
+  pub ruled : rule_in line ≡ Some rule
+  pub first : keys ≡ []
+  pub whole : broken_in rule ≡ None
 
--- whether a line has a message: it is not skipped, and has an `=`
+-- a line has a key that is not among these, nothing in its head is broken, and its format has no
+-- fault
+abbrev pub IsSoundMessage : List (ℕ × List ℕ) → List ℕ → Type 0
+IsSoundMessage keys line =
+    HasEquals line × IsNew keys (key_of line) × IsSoundOver (declared_of line) (format_of line)
+
+-- a line is sound after others with these keys: it is skipped, or has a rule or a message
+abbrev pub IsSound : List (ℕ × List ℕ) → List ℕ → Type 0
+IsSound keys line =
+    (is_passed_over line ≡ true) ⊎ IsRule keys line ⊎ IsSoundMessage keys line
+
+-- whether a line has a message: it is not skipped, has no rule, and has an `=`
 abbrev pub has_message : List ℕ → Bool
-has_message line = not (is_passed_over line) && has is_equals line
+has_message line =
+    not (is_passed_over line) && (not (is_some (rule_in line)) && has is_equals line)
 
 -- whether it has one under a key
 abbrev pub is_under : List ℕ → List ℕ → Bool
 is_under key line = has_message line && bytes_eq (key_of line) key
 
--- the key of a line, if it has a message
+-- what a line puts among the keys: `plural:` if it has a rule, or the key of its message
+abbrev pub key_without_rule : List ℕ → Option (List ℕ) → Option (List ℕ)
+key_without_rule line (Some rule) = Some rule_head
+key_without_rule line None = if has is_equals line then Some (key_of line) else None
+
 abbrev pub key_with : List ℕ → Option (List ℕ)
-key_with line = if has_message line then Some (key_of line) else None
+key_with line = if is_passed_over line then None else key_without_rule line (rule_in line)
 
 -- the keys of lines, each with its line's number
 abbrev pub keys_in : List (ℕ × List ℕ) → List (ℕ × List ℕ)
@@ -100,9 +121,12 @@ without_mark text = if bytes_eq (take 3 text) mark then drop 3 text else text
 abbrev pub numbered : List (List ℕ) → List (ℕ × List ℕ)
 numbered some_lines = enumerate_from 1 some_lines
 
--- the lines of a file, each with its number
+-- the lines of a file, and each with its number
+abbrev pub plain_lines : List ℕ → List (List ℕ)
+plain_lines text = lines (without_mark text)
+
 abbrev pub lines_of : List ℕ → List (ℕ × List ℕ)
-lines_of text = numbered (lines (without_mark text))
+lines_of text = numbered (plain_lines text)
 
 -- the line of a key, with its number
 abbrev pub line_under : List ℕ → List (ℕ × List ℕ) → Option (ℕ × List ℕ)
@@ -112,22 +136,50 @@ line_under key some_lines = find (λ one. is_under key one.1) some_lines
 abbrev pub with_format : List ℕ → ℕ × List ℕ → List ℕ × ℕ × List ℕ × List ℕ × Declared
 with_format file one = (file, one.0, one.1, format_of one.1, declared_of one.1)
 
-abbrev pub line_with_format : List ℕ × ℕ × List ℕ → List ℕ × ℕ × List ℕ × List ℕ × Declared
-line_with_format one = with_format one.0 (one.1, one.2)
+-- the form of a key that is looked up in some lines, if none of them has the key itself
+abbrev pub has_key : List ℕ → List (List ℕ) → Bool
+has_key key some_lines = list_any (is_under key) some_lines
+
+abbrev pub choice_for : List Object → List ℕ → List (List ℕ) → Option Chosen
+choice_for objects key some_lines =
+    if has_key key some_lines then None else choice_with objects (rule_of some_lines)
+
+-- the key that is looked up in some lines: the key itself, or the form of it that their rule chooses
+-- by the numbers of objects; and the name of a number that is missing for that
+abbrev pub sought : List Object → List ℕ → List (List ℕ) → List ℕ × Option (List ℕ)
+sought objects key some_lines = key_by key (choice_for objects key some_lines)
+
+-- a line that was found: the name of its file, its number, its text, and the name of a number that
+-- is missing to choose its form
+abbrev pub FoundLine : Type 0
+FoundLine = List ℕ × ℕ × List ℕ × Option (List ℕ)
+
+-- what is known of it: besides these, its format and what it declares
+abbrev pub Known : Type 0
+Known = List ℕ × ℕ × List ℕ × List ℕ × Declared × Option (List ℕ)
+
+abbrev pub with_lack : Option (List ℕ) → List ℕ × ℕ × List ℕ × List ℕ × Declared → Known
+with_lack lacks one = (one.0, one.1, one.2, one.3, one.4, lacks)
+
+abbrev pub line_with_format : FoundLine → Known
+line_with_format one = with_lack one.3 (with_format one.0 (one.1, one.2))
 
 -- a file: its name and its text
 abbrev pub as_file : File → List ℕ × List ℕ
 as_file file = (string_bytes file.name, string_bytes file.text)
 
--- the line of a key in a file, with the file's name and the line's number
-abbrev pub found_in : List ℕ → List ℕ × List ℕ → Option (List ℕ × ℕ × List ℕ)
-found_in key file =
-    option_map (λ one. (file.0, one.0, one.1)) (line_under key (lines_of file.1))
+-- the line of a key in a file with this name, or that of its form
+abbrev pub named_line : List ℕ → List ℕ × Option (List ℕ) → List (ℕ × List ℕ) → Option FoundLine
+named_line name key some_lines =
+    option_map (λ one. (name, one.0, one.1, key.1)) (line_under key.0 some_lines)
 
--- the line of a key in the first of some files that has it
-abbrev pub found_among : List ℕ → List (List ℕ × List ℕ) → Option (List ℕ × ℕ × List ℕ)
-found_among key [] = None
-found_among key (file ∷ files) = option_or (found_in key file) (found_among key files)
+abbrev pub found_in : List Object → List ℕ → List ℕ × List ℕ → Option FoundLine
+found_in objects key file =
+    named_line file.0 (sought objects key (plain_lines file.1)) (lines_of file.1)
+
+-- the line of a key, or of its form, in the first of some files that has it
+abbrev pub found_among : List Object → List ℕ → List (List ℕ × List ℕ) → Option FoundLine
+found_among objects key files = first_given (found_in objects key) files
 
 -- the lines of a file are sound
 abbrev pub IsSoundFile : List ℕ × List ℕ → Type 0
@@ -175,15 +227,39 @@ told_of_message file number line (these declared) format =
 told_of_message file number line (broken place) format =
     told_at file number line place what_is_declared
 
--- what is reported of a line, by the keys of those before: nothing, if it is sound; else that it
--- has no `=`, or what is wrong with its key and its message
-abbrev pub told_of_line : List ℕ → List (ℕ × List ℕ) → ℕ → List ℕ → List ℕ
-told_of_line file keys number line =
-    if is_passed_over line then []
-    else (if has is_equals line
+-- what is reported of a rule: that another rule or a message is before it, or where it is broken
+abbrev pub what_is_a_rule : List ℕ
+what_is_a_rule = codes "a rule is `NAME == NUMBER ? FORM : .. : FORM`"
+
+abbrev pub what_is_before : List ℕ
+what_is_before = codes "a rule stands once, before all messages"
+
+abbrev pub told_of_broken : List ℕ → ℕ → (line : List ℕ) → Option ℕ → List ℕ
+told_of_broken file number line None = []
+told_of_broken file number line (Some place) = told_at file number line place what_is_a_rule
+
+abbrev pub told_of_rule : List ℕ → List (ℕ × List ℕ) → ℕ → (line rule : List ℕ) → List ℕ
+told_of_rule file keys number line rule =
+    if length keys == 0 then told_of_broken file number line (broken_in rule)
+    else told_at file number line 0 what_is_before
+
+-- what is reported of a line that has no rule: that it has no `=`, or what is wrong with its key and
+-- its message
+abbrev pub told_of_plain : List ℕ → List (ℕ × List ℕ) → ℕ → List ℕ → List ℕ
+told_of_plain file keys number line =
+    if has is_equals line
     then told_of_key file number line (head_of line) (key_of line) keys
     ++ told_of_message file number line (declared_of line) (format_of line)
-    else told_at file number line 0 (codes "no `=`"))
+    else told_at file number line 0 (codes "no `=`")
+
+-- what is reported of a line, by the keys of those before: nothing, if it is sound
+abbrev pub told_by_rule : List ℕ → List (ℕ × List ℕ) → ℕ → List ℕ → Option (List ℕ) → List ℕ
+told_by_rule file keys number line (Some rule) = told_of_rule file keys number line rule
+told_by_rule file keys number line None = told_of_plain file keys number line
+
+abbrev pub told_of_line : List ℕ → List (ℕ × List ℕ) → ℕ → List ℕ → List ℕ
+told_of_line file keys number line =
+    if is_passed_over line then [] else told_by_rule file keys number line (rule_in line)
 
 -- what is reported of the lines of a file, after others with these keys, in their order
 abbrev pub told_of_lines : List ℕ → List (ℕ × List ℕ) → List (ℕ × List ℕ) → List ℕ
@@ -198,12 +274,13 @@ told_of_file file = told_of_lines file.0 [] (lines_of file.1)
 abbrev pub told_of_files : List (List ℕ × List ℕ) → List ℕ
 told_of_files files = concat (map told_of_file files)
 
--- what is reported of a key that a file does not have, and several
-abbrev pub told_absent : List ℕ → List ℕ × List ℕ → List ℕ
-told_absent key file = file.0 ++ (codes ": no message `" ++ (key ++ codes "`\n"))
+-- what is reported of a key that a file does not have, nor its form, and several
+abbrev pub told_absent : List Object → List ℕ → List ℕ × List ℕ → List ℕ
+told_absent objects key file = file.0 ++ (codes ": no message `" ++ (key ++ (codes "`"
+    ++ (or_form key (choice_with objects (rule_of (plain_lines file.1))) ++ codes "\n"))))
 
-abbrev pub told_of_absent : List ℕ → List (List ℕ × List ℕ) → List ℕ
-told_of_absent key files = concat (map (told_absent key) files)
+abbrev pub told_of_absent : List Object → List ℕ → List (List ℕ × List ℕ) → List ℕ
+told_of_absent objects key files = concat (map (told_absent objects key) files)
 
 -- pairs of a context hold what some objects do
 abbrev pub HoldAll : List Object → List Pair → Type 0
@@ -265,23 +342,45 @@ Replies file number line key format declared objects (Faults told) =
     ⊎ IsMadeOver file number line format declared objects (Faults told)
 Replies file number line key format declared objects (BadWord word) = ⊥
 
+-- what the line that is found comes to: that the number is missing which chooses its form, or what
+-- its message does
+abbrev pub RepliesFor : Option (List ℕ) → List ℕ → ℕ → (line key format : List ℕ) → Declared
+    → List Object → Answer → Type 0
+RepliesFor None file number line key format declared objects answer =
+    Replies file number line key format declared objects answer
+RepliesFor (Some name) file number line key format declared objects (Faults told) =
+    string_bytes told ≡ told_of_lacking file number key (name, kinds.Number)
+RepliesFor (Some name) file number line key format declared objects (Message message) = ⊥
+RepliesFor (Some name) file number line key format declared objects (BadWord word) = ⊥
+
 -- each word gives an object
 abbrev pub GiveValues : {Y : Type 0} → List (String Y) → List Object → Type 0
 GiveValues words objects =
     AllZip (λ word object. Gives (string_bytes word) object) words objects
 
+-- the objects of what words give: none, if a word gives nothing
+abbrev pub given : {X Z : Type 0} → Result (Vec Object Z) X → List Object
+given (Ok objects) = objects.items
+given (Err bad) = []
+
+-- what words give, and nothing if one of them gives nothing
+abbrev pub MayGive : {Y : Type 0} → List (String Y) → List Object → Type 0
+MayGive words objects = GiveValues words objects
+    ⊎ ((objects ≡ []) × (bad : List ℕ) × IsFirstBad words bad)
+
 module _ {Y : Type 0} (files : List (List ℕ × List ℕ)) (key : List ℕ) (words : List (String Y))
   where
     -- the message under a key, with words: every file is sound, and the format of the line of the key,
-    -- in the first file that has it, was made with what is picked of what the words give
+    -- or of its form, in the first file that has it, was made with what is picked of what the words
+    -- give
     pub record IsMessage {Z : Type 0} (message : String Z) : Type 0 where
       pub sound : All IsSoundFile files
       pub file : List ℕ
       pub number : ℕ
       pub line : List ℕ
-      pub under : found_among key files ≡ Some (file, number, line)
       pub values : List Object
       pub given : GiveValues words values
+      pub under : found_among values key files ≡ Some (file, number, line, None)
       pub picked : List Object
       pub are : ArePicked (declared_of line) values picked
       pub made : IsMade (format_of line) picked message
@@ -291,17 +390,32 @@ module _ {Y : Type 0} (files : List (List ℕ × List ℕ)) (key : List ℕ) (wo
       pub some : 0 < length told
       pub all : told ≡ told_of_files files
 
-    -- every file is sound, and none has the key
+    -- every file is sound, and none has the key, or its form
     pub record OfKey (told : List ℕ) : Type 0 where
       pub sound : All IsSoundFile files
-      pub none : found_among key files ≡ None
-      pub says : told ≡ told_of_absent key files
+      pub values : List Object
+      pub given : MayGive words values
+      pub none : found_among values key files ≡ None
+      pub says : told ≡ told_of_absent values key files
 
     -- every file is sound, one has the key, and this is the first word that gives nothing
     pub record OfWord (word : List ℕ) : Type 0 where
       pub sound : All IsSoundFile files
-      pub under : IsSome (found_among key files)
+      pub under : IsSome (found_among [] key files)
       pub first : IsFirstBad words word
+
+    -- every file is sound, and the words give no number of the name by which the form of the key is
+    -- chosen
+    pub record OfForm (told : List ℕ) : Type 0 where
+      pub sound : All IsSoundFile files
+      pub file : List ℕ
+      pub number : ℕ
+      pub line : List ℕ
+      pub name : List ℕ
+      pub values : List Object
+      pub given : GiveValues words values
+      pub under : found_among values key files ≡ Some (file, number, line, Some name)
+      pub says : told ≡ told_of_lacking file number key (name, kinds.Number)
 
     -- every file is sound, and the words give no value of the name and the kind of a declaration of
     -- the line of the key
@@ -310,9 +424,9 @@ module _ {Y : Type 0} (files : List (List ℕ × List ℕ)) (key : List ℕ) (wo
       pub file : List ℕ
       pub number : ℕ
       pub line : List ℕ
-      pub under : found_among key files ≡ Some (file, number, line)
       pub values : List Object
       pub given : GiveValues words values
+      pub under : found_among values key files ≡ Some (file, number, line, None)
       pub lacks : IsToldLacking file number key (declared_of line) values told
 
     -- every file is sound, and the format of the line of the key, which declares nothing, has a
@@ -322,16 +436,17 @@ module _ {Y : Type 0} (files : List (List ℕ × List ℕ)) (key : List ℕ) (wo
       pub file : List ℕ
       pub number : ℕ
       pub line : List ℕ
-      pub under : found_among key files ≡ Some (file, number, line)
       pub plain : declared_of line ≡ nothing
       pub values : List Object
       pub given : GiveValues words values
+      pub under : found_among values key files ≡ Some (file, number, line, None)
       pub faulty : IsToldOf file number line (format_of line) values told
 
     -- the answer: the message; a word that gives nothing; or what is wrong with the lines, else the
-    -- key, a value that is missing, or the message, if its line declares nothing
+    -- key, the number of its form, a value that is missing, or the message, if its line declares
+    -- nothing
     abbrev pub Answers : Answer → Type 0
     Answers (Message message) = IsMessage message
     Answers (BadWord word) = OfWord (string_bytes word)
     Answers (Faults told) = OfLines (string_bytes told) ⊎ OfKey (string_bytes told)
-        ⊎ OfValue (string_bytes told) ⊎ OfMessage (string_bytes told)
+        ⊎ OfForm (string_bytes told) ⊎ OfValue (string_bytes told) ⊎ OfMessage (string_bytes told)

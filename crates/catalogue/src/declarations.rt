@@ -92,7 +92,7 @@ fn has_space(text: &str) -> bool
 }
 
 /// Whether a text can be a declared name: it is not empty, and has no white space.
-fn is_name(text: &str) -> bool
+pub fn is_name(text: &str) -> bool
     ensures { result ≡ is_name text.now }
 {
     !text.is_empty() && !has_space(text)
@@ -114,7 +114,7 @@ pub fn begin_of(place: usize, part: &str) -> usize
 }
 
 /// Where the part after this one is, with a comma between.
-fn after_part(place: usize, part: &str) -> usize
+pub fn after_part(place: usize, part: &str) -> usize
     ensures { result ≡ after_part place part.now }
 {
     place.saturating_add(part.len()).saturating_add(1)
@@ -193,6 +193,16 @@ fn declared_after<'a>(
         return Ok(Heading::Broken(opened));
     }
     declared_between(alloc, opened.saturating_add(1), inner)
+}
+
+/// The key in a line's head, before its first `(`.
+pub fn key_in(head: &str) -> &str
+    ensures { result.now ≡ key_in head.now }
+{
+    match head.split_once('(') {
+        Some((key, _)) => key.trim(),
+        None => head.trim(),
+    }
 }
 
 /// The key of a line's head, and what it declares.

@@ -8,6 +8,14 @@
 //! same key. Blank lines, and lines that begin with `#`, are skipped. Each fault is shown in its line,
 //! with the file, the line and the column; if there is any, no message is written.
 //!
+//! A line that begins with `plural:` is the rule of its file, as
+//! `plural: n == 0 ? zero : n == 1 ? one : other`. It stands once, before all messages. If the file
+//! has no line of the key `cart`, `catalogue FILE cart n:=1` writes the message of `cart.one`: the
+//! form is that of the first test whose number is the one of the word with its name, or else the last
+//! one. A test compares a name with a whole number of 64 bits: a rule of `n % 10`, or of numbers
+//! between two, cannot be written. A number that is missing is reported, and so is a form; a check
+//! tells what is wrong with the rule, and not whether each key has every form.
+//!
 //! The status is 0 after a message, or a check without a fault; 1 after a fault, 2 after a wrong use or
 //! a bad word, and 3 if a file cannot be read or the output cannot be written.
 #![tactic(auto)]
@@ -16,10 +24,13 @@ mod declarations;
 mod entries;
 mod examples;
 mod files;
+mod forms;
 mod keys;
+mod lines;
 mod messages;
 mod picks;
 mod reports;
+mod rules;
 mod words;
 
 use files::File;

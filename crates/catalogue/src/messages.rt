@@ -1,44 +1,48 @@
 //! The messages of a file, which are all checked, and the one under a key.
 
-ghost use Rattle.std.specs.Prelude.{◌≡◌, ◌<◌, ℕ, List, [], IfOk, IfErr, IfSome, MatchOption};
+ghost use Rattle.std.specs.Prelude.{◌≡◌, ◌<◌, ℕ, List, [], IfOk, IfErr};
 ghost use Rattle.std.specs.Prelude.{length, map, None, Some, if◌then◌else◌, string_bytes};
 ghost use Rattle.std.specs.List.{All, AllZip};
 ghost use Rattle.std.specs.Option.{option_map};
-ghost use Rattle.std.specs.Str.{bytes_eq};
 ghost use Rattle.std.specs.Str.Lines.{lines};
 ghost use Rattle.interpolator.specs.Faults.{answer_of, no_memory};
 ghost use Rattle.catalogue.specs.Declarations.{Declared, declared_by};
 ghost use Rattle.catalogue.specs.Keys.{as_key, told_of_key};
-ghost use Rattle.catalogue.specs.Messages.{is_passed_over, is_under, head_of, format_of, key_with};
-ghost use Rattle.catalogue.specs.Messages.{line_under, lines_of, numbered, without_mark};
-ghost use Rattle.catalogue.specs.Messages.{IsSoundFile, as_file, found_among, line_with_format};
-ghost use Rattle.catalogue.specs.Messages.{told_of_absent, told_of_file, told_of_files};
-ghost use Rattle.catalogue.specs.Messages.{told_of_fault, told_of_message};
+ghost use Rattle.catalogue.specs.Messages.{is_under, key_with, line_under, lines_of, numbered};
+ghost use Rattle.catalogue.specs.Messages.{IsSoundFile, as_file, found_among, found_in, given};
+ghost use Rattle.catalogue.specs.Messages.{Known, line_with_format, with_format, with_lack};
+ghost use Rattle.catalogue.specs.Messages.{told_absent, told_of_absent, told_of_file, told_of_files};
+ghost use Rattle.catalogue.specs.Messages.{told_of_fault, told_of_message, told_of_rule};
 ghost use Rattle.catalogue.specs.Messages.{told_of_line, told_of_lines, told_of_replies};
 ghost use Rattle.catalogue.specs.Messages.{told_of_faults, told_of_reply};
-ghost use Rattle.catalogue.specs.Messages.{with_format, IsMadeOrTold, Replies, Answers};
+ghost use Rattle.catalogue.specs.Messages.{IsMadeOrTold, Replies, RepliesFor, Answers};
 ghost use Rattle.catalogue.specs.Examples.{faults_of};
 ghost use Rattle.catalogue.specs.Entries.{Lends};
 ghost use Rattle.catalogue.specs.Reports.{told_at};
-ghost use Rattle.catalogue.specs.Words.{HasEquals};
 ghost use Rattle.catalogue.specs.declared.entries.Object.{Object};
 
-use crate::declarations::{Heading, heading_of};
+use crate::declarations::{Declaration, Heading, Kind, heading_of};
 use crate::entries::{Entry, Object, pairs_of};
 use crate::examples::{counts, faults_of};
 use crate::files::File;
+use crate::forms::{choice_in, or_form};
 use crate::keys::{Key, add, told_of_key};
+use crate::lines::{is_key, is_passed_over, line_of, sought, without_mark};
 use crate::picks::{Picked, picks_of, told_of_lacking};
 use crate::reports::told_at;
+use crate::rules::{HEAD, broken_in, rule_in};
 use crate::words::objects_of;
 use interpolator::{Error, Formattable, Interpolate, Pairs, Source, Template, explain_in};
 use std::alloc::Global;
 
-/// The byte order mark, which some editors write at the head of a file.
-const MARK: &str = "\u{feff}";
-
 /// What is reported of a broken declaration.
 const WHAT_IS_DECLARED: &str = "declarations are `(NAME, NAME:, NAME[])`, each name once";
+
+/// What is reported of a broken rule.
+const WHAT_IS_A_RULE: &str = "a rule is `NAME == NUMBER ? FORM : .. : FORM`";
+
+/// What is reported of a rule that comes too late.
+const WHAT_IS_BEFORE: &str = "a rule stands once, before all messages";
 
 /// What the program prints.
 #[derive(Drop)]
@@ -60,9 +64,12 @@ struct Found<'a> {
     text: &'a str,
     template: Template,
     heading: Heading<'a>,
+    /// The name of a number that is missing to choose the form of the key.
+    lacks: Option<&'a str>,
 }
 
-/// What is wrong with a line, its own key, and the line itself if it has the key that is looked up.
+/// What is wrong with a line, its own key, or `plural:` for a rule, and the line itself if it has the
+/// key that is looked up.
 #[derive(Drop)]
 struct Line<'a> {
     told: String,
@@ -190,35 +197,27 @@ fn told_of_message(
     told_of_format(alloc, file, number, line, template, heading)
 }
 
-/// The head and the format of a line, if it has an `=`.
-fn line_of(text: &str) -> Option<(&str, &str)>
-    ensures none { MatchOption result (¬ HasEquals text.now) (λ _. HasEquals text.now) }
-    ensures head { IfSome result (λ line. line.0.now ≡ head_of text.now) }
-    ensures format { IfSome result (λ line. line.1.now ≡ format_of text.now) }
+/// Reports what is wrong with the rule of a line, after others with these keys: it comes after
+/// another rule or a message, or is broken.
+fn told_of_rule(
+    alloc: Global,
+    file: &str,
+    number: usize,
+    line: &str,
+    rule: &str,
+    keys: &[Key<'_>],
+) -> Result<String, Error>
+    ensures told { IfOk result (λ told. string_bytes told
+        ≡ told_of_rule file.now (map as_key keys.now) number line.now rule.now) }
+    ensures refused { IfErr result (λ error. answer_of error ≡ no_memory) }
 {
-    let (head, format) = text.split_once('=')?;
-    Some((head, format.trim_start()))
-}
-
-/// Whether a line's key is the one that is looked up.
-fn is_key(its_key: &str, key: &str) -> bool
-    ensures { result ≡ bytes_eq its_key.now key.now }
-{
-    its_key == key
-}
-
-/// Whether a line is blank or a comment.
-fn is_passed_over(line: &str) -> bool
-    ensures { result ≡ is_passed_over line.now }
-{
-    line.trim().is_empty() || line.starts_with('#')
-}
-
-/// A text without a byte order mark at its head.
-fn without_mark(text: &str) -> &str
-    ensures { result.now ≡ without_mark text.now }
-{
-    text.strip_prefix(MARK).unwrap_or(text)
+    if !keys.is_empty() {
+        return told_at(alloc, file, number, line, 0, WHAT_IS_BEFORE);
+    }
+    match broken_in(rule) {
+        Some(place) => told_at(alloc, file, number, line, place, WHAT_IS_A_RULE),
+        None => Ok(String::new(alloc)),
+    }
 }
 
 /// Checks a line, after others with these keys.
@@ -248,6 +247,14 @@ fn checked_line<'a>(
             found: None,
         });
     }
+    if let Some(rule) = rule_in(text) {
+        let told = told_of_rule(alloc, file, number, text, rule, keys)?;
+        return Ok(Line {
+            told,
+            key: Some(HEAD),
+            found: None,
+        });
+    }
     let Some((head, format)) = line_of(text) else {
         let told = told_at(alloc, file, number, text, 0, "no `=`")?;
         return Ok(Line {
@@ -274,6 +281,7 @@ fn checked_line<'a>(
         text,
         template,
         heading,
+        lacks: None,
     });
     Ok(Line {
         told,
@@ -327,21 +335,94 @@ fn checked_file<'a>(alloc: Global, file: &'a File, key: &str) -> Result<Verdict<
     checked_lines(alloc, file.name.as_str(), text, key)
 }
 
-/// Checks some files, and finds the line of the key in the first that has it.
-fn checked<'a>(alloc: Global, files: &'a [File], key: &str) -> Result<Verdict<'a>, Error>
+/// A line that was found under a key, of whose form the number is missing, if one is.
+fn lacking<'a>(found: Option<Found<'a>>, lacks: Option<&'a str>) -> Option<Found<'a>>
+    ensures { option_map {U = Known} (λ one. (
+      one.file.now,
+      one.number,
+      one.text.now,
+      one.template,
+      declared_by one.heading,
+      option_map (λ name. name.now) one.lacks,
+    )) result
+        ≡ option_map (with_lack (option_map (λ name. name.now) lacks.entry))
+        (option_map {U = List ℕ × ℕ × List ℕ × List ℕ × Declared} (λ one. (
+          one.file.now,
+          one.number,
+          one.text.now,
+          one.template,
+          declared_by one.heading,
+        )) found.entry) }
+{
+    let Found {
+        file,
+        number,
+        text,
+        template,
+        heading,
+        lacks: _,
+    } = found?;
+    Some(Found {
+        file,
+        number,
+        text,
+        template,
+        heading,
+        lacks,
+    })
+}
+
+/// Checks a file, and finds the line of a key, or of its form that the file's rule chooses by the
+/// numbers of objects.
+fn checked_for<'a>(
+    alloc: Global,
+    file: &'a File,
+    key: &str,
+    objects: &[Object<'_>],
+) -> Result<Verdict<'a>, Error>
+    ensures told { IfOk result (λ verdict.
+        string_bytes verdict.told ≡ told_of_file (as_file file.now)) }
+    ensures found { IfOk result (λ verdict. option_map {U = Known} (λ one. (
+      one.file.now,
+      one.number,
+      one.text.now,
+      one.template,
+      declared_by one.heading,
+      option_map (λ name. name.now) one.lacks,
+    )) verdict.found ≡ option_map line_with_format
+        (found_in objects.now key.now (as_file file.now))) }
+    ensures refused { IfErr result (λ error. answer_of error ≡ no_memory) }
+{
+    let wanted = sought(alloc, objects, key, without_mark(file.text.as_str()))?;
+    let Verdict { told, found } = checked_file(alloc, file, wanted.key.as_str())?;
+    let found = lacking(found, wanted.lacks);
+    Ok(Verdict { told, found })
+}
+
+/// Checks some files, and finds the line of the key, or of its form, in the first that has it.
+fn checked<'a>(
+    alloc: Global,
+    files: &'a [File],
+    key: &str,
+    objects: &[Object<'_>],
+) -> Result<Verdict<'a>, Error>
     ensures told { IfOk result (λ verdict.
         string_bytes verdict.told ≡ told_of_files (map as_file files.now)) }
-    ensures found { IfOk result (λ verdict. option_map
-        {U = List ℕ × ℕ × List ℕ × List ℕ × Declared}
-        (λ one. (one.file.now, one.number, one.text.now, one.template, declared_by one.heading))
-        verdict.found ≡ option_map line_with_format
-        (found_among key.now (map as_file files.now))) }
+    ensures found { IfOk result (λ verdict. option_map {U = Known} (λ one. (
+      one.file.now,
+      one.number,
+      one.text.now,
+      one.template,
+      declared_by one.heading,
+      option_map (λ name. name.now) one.lacks,
+    )) verdict.found ≡ option_map line_with_format
+        (found_among objects.now key.now (map as_file files.now))) }
     ensures refused { IfErr result (λ error. answer_of error ≡ no_memory) }
 {
     let mut told = String::new(alloc);
     let mut found = None;
     for file in files {
-        let of_file = checked_file(alloc, file, key)?;
+        let of_file = checked_for(alloc, file, key, objects)?;
         told.push_str(of_file.told.as_str())?;
         found = found.or(of_file.found);
     }
@@ -361,20 +442,42 @@ pub fn check(alloc: Global, files: &[File]) -> Result<String, Error>
         length (string_bytes told) ≡ 0 → All IsSoundFile (map as_file files.now)) }
     ensures refused { IfErr result (λ error. answer_of error ≡ no_memory) }
 {
-    let verdict = checked(alloc, files, "")?;
+    let verdict = checked(alloc, files, "", &[])?;
     Ok(verdict.told)
 }
 
-/// Reports that no file has a message under a key, for each of them.
-fn told_of_absent(alloc: Global, files: &[File], key: &str) -> Result<String, Error>
+/// Reports that a file has no message under a key, nor under its form.
+fn told_absent(
+    alloc: Global,
+    file: &File,
+    key: &str,
+    objects: &[Object<'_>],
+) -> Result<String, Error>
     ensures told { IfOk result (λ told.
-        string_bytes told ≡ told_of_absent key.now (map as_file files.now)) }
+        string_bytes told ≡ told_absent objects.now key.now (as_file file.now)) }
+    ensures refused { IfErr result (λ error. answer_of error ≡ no_memory) }
+{
+    let choice = choice_in(objects, without_mark(file.text.as_str()));
+    let form = or_form(alloc, key, choice)?;
+    let name = file.name.as_str();
+    let told = format!(in alloc; "{name}: no message `{key}`{form}\n")?;
+    Ok(told)
+}
+
+/// Reports that no file has a message under a key, nor under its form, for each of them.
+fn told_of_absent(
+    alloc: Global,
+    files: &[File],
+    key: &str,
+    objects: &[Object<'_>],
+) -> Result<String, Error>
+    ensures told { IfOk result (λ told.
+        string_bytes told ≡ told_of_absent objects.now key.now (map as_file files.now)) }
     ensures refused { IfErr result (λ error. answer_of error ≡ no_memory) }
 {
     let mut told = String::new(alloc);
     for file in files {
-        let name = file.name.as_str();
-        let more = format!(in alloc; "{name}: no message `{key}`\n")?;
+        let more = told_absent(alloc, file, key, objects)?;
         told.push_str(more.as_str())?;
     }
     Ok(told)
@@ -430,15 +533,55 @@ fn message(
     }
 }
 
-/// The message under a key in the first file that has the key, with the values of words `NAME=TEXT`,
-/// `NAME:=NUMBER` and `NAME[]=ITEM,ITEM..`; or all that is wrong with the files, or else with the key,
-/// the words or the message.
+/// What the line that was found comes to: the number that is missing to choose its form, or its
+/// message.
+fn reply(
+    alloc: Global,
+    key: &str,
+    found: &Found<'_>,
+    objects: &[Object<'_>],
+) -> Result<Answer, Error>
+    ensures replies { IfOk result (λ answer. RepliesFor
+        (option_map (λ name. name.now) found.now.lacks) found.now.file.now found.now.number
+        found.now.text.now key.now found.now.template (declared_by found.now.heading)
+        objects.now answer) }
+    ensures refused { IfErr result (λ error. answer_of error ≡ no_memory) }
+{
+    let Some(name) = found.lacks else {
+        return message(alloc, key, found, objects);
+    };
+    let lacking = Declaration {
+        name,
+        kind: Kind::Number,
+    };
+    let told = told_of_lacking(alloc, found.file, found.number, key, &lacking)?;
+    Ok(Answer::Faults(told))
+}
+
+/// The objects that words give; none, if a word gives nothing.
+fn given<'o, 'a>(objects: &'o Result<Vec<Object<'a>>, &'a str>) -> &'o [Object<'a>]
+    ensures { result.now ≡ given objects.now }
+{
+    match objects {
+        Ok(objects) => objects.as_slice(),
+        Err(_) => &[],
+    }
+}
+
+/// The message under a key, or under its form, in the first file that has it, with the values of
+/// words `NAME=TEXT`, `NAME:=NUMBER` and `NAME[]=ITEM,ITEM..`; or all that is wrong with the files, or
+/// else with the key, the words or the message.
 ///
 /// There is a message only if every line of every file but blank ones and comments is sound: it has
 /// an `=` and a key that no line before it has, its declarations are whole, and its format has no
 /// fault, by itself or with examples of what the line declares. Else all faults of each line are
 /// reported. A byte order mark at the head of a file is skipped. Of two words with one name the last
 /// counts.
+///
+/// A line before all messages may be a rule, `plural: n == 0 ? zero : n == 1 ? one : other`. Then the
+/// key `cart` in a file that has no line of it is `cart.one` if the number of the last word of the
+/// name `n` is 1, and so on: the form is that of the first test that holds, or else the last one. If
+/// there is no such number, that is reported.
 ///
 /// The format of a line that declares names gets the words of these names, in any order, and no
 /// others. If one of them is missing, or of another kind, that is reported; else the message has no
@@ -452,16 +595,18 @@ pub fn look_up(alloc: Global, files: &[File], key: &str, words: &[String]) -> Re
         Answers (map as_file files.now) key.now words.now answer) }
     ensures refused { IfErr result (λ error. answer_of error ≡ no_memory) }
 {
-    let Verdict { told, found } = checked(alloc, files, key)?;
+    let values = objects_of(alloc, words)?;
+    let objects = given(&values);
+    let Verdict { told, found } = checked(alloc, files, key, objects)?;
     if !told.is_empty() {
         return Ok(Answer::Faults(told));
     }
     let Some(found) = found else {
-        let absent = told_of_absent(alloc, files, key)?;
+        let absent = told_of_absent(alloc, files, key, objects)?;
         return Ok(Answer::Faults(absent));
     };
-    match objects_of(alloc, words)? {
-        Ok(objects) => message(alloc, key, &found, objects.as_slice()),
+    match &values {
+        Ok(_) => reply(alloc, key, &found, objects),
         Err(word) => {
             let bad = String::from_str(alloc, word)?;
             Ok(Answer::BadWord(bad))

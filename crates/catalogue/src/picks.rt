@@ -23,7 +23,7 @@ pub enum Picked<'a> {
 }
 
 /// The last object with a name.
-fn last_named<'o, 'a>(objects: &'o [Object<'a>], name: &str) -> Option<&'o Object<'a>>
+pub fn last_named<'o, 'a>(objects: &'o [Object<'a>], name: &str) -> Option<&'o Object<'a>>
     ensures { option_copied result ≡ last_named objects.now name.now }
 {
     objects.iter().rev().find(|object| object.name == name)
