@@ -86,7 +86,7 @@ enum {
   INTERPOLATOR_SIGNED32,
   INTERPOLATOR_SIGNED64,
   INTERPOLATOR_SIGNED128,   /* `number` * 2^64 + `natural`: the halves of an __int128 */
-  INTERPOLATOR_LIST,        /* the items from `first` up to, and without, `end` */
+  INTERPOLATOR_LIST,        /* the items from `first` up to, and without, `end`; `lent` for what is no list */
   INTERPOLATOR_LENT         /* the text of `lent` that has the request; without one, MISSING_TRAIT */
 };
 
@@ -106,12 +106,12 @@ enum {
 typedef struct {
   interpolator_bytes name;       /* UTF-8, else no format finds it; of an item it is not read */
   interpolator_bytes text;       /* TEXT and PLAIN */
-  const interpolator_lent *lent; /* LENT: texts, each for a request of its own; the first counts */
+  const interpolator_lent *lent; /* LENT and LIST: texts, each for a request of its own; the first counts */
   size_t lent_count;
   uint32_t kind;                 /* INTERPOLATOR_TEXT .. INTERPOLATOR_LENT */
   uint32_t slots;                /* a mask of its slots; 0 for those of its kind: DISPLAY and DEBUG of
-                                    TEXT, PLAIN, TRUTH and CHARACTER, all eight of any other. A LIST
-                                    has none but its items, whatever the mask is. */
+                                    TEXT, PLAIN, TRUTH and CHARACTER, none of LIST, all eight of any
+                                    other. A LIST has its items besides, whatever the mask is. */
   int64_t number;
   uint64_t natural;
   uint64_t upper;
@@ -129,16 +129,36 @@ enum {
   INTERPOLATOR_UNSUPPORTED,   /* the format has the option `p` */
   INTERPOLATOR_NO_MEMORY,     /* memory was refused; by interpolator_write also that a list under a
                                  width has more bytes than the room */
-  INTERPOLATOR_NOT_UTF8,      /* the format, a column's name or a source's name is not UTF-8 */
+  INTERPOLATOR_NOT_UTF8,      /* the format, a column's name or a source is not UTF-8 */
   INTERPOLATOR_LISTS,         /* a list does not lie as it should: see "Lists" */
   INTERPOLATOR_FULL,          /* the room is too small for what the format means */
   INTERPOLATOR_TABLE          /* there are not as many cells as columns times rows */
 };
 
+/* How a format is broken: `detail & 15` of PARSE. */
+enum {
+  INTERPOLATOR_UNCLOSED = 1,         /* the format ends within an argument, which begins before `place` */
+  INTERPOLATOR_EXPECTED_BRACE = 2,   /* a `}` should be at `place` */
+  INTERPOLATOR_EXPECTED_BRACKET = 3, /* a `(` should be at `place` */
+  INTERPOLATOR_BAD_WIDTH = 4,        /* the width at `place` is no number: see below */
+  INTERPOLATOR_BAD_PRECISION = 5,    /* likewise the precision */
+  INTERPOLATOR_BAD_FILL = 6,         /* a `{` at `place` cannot fill */
+  INTERPOLATOR_BAD_LIST = 7,         /* a list has a precision, a sign, `#` or the flag `0` */
+  INTERPOLATOR_BAD_RANGE = 8         /* the bound of a range at `place` is no number */
+};
+
+/* Why a width, a precision or a bound is no number: `detail >> 4` of these three, else 0. */
+enum {
+  INTERPOLATOR_EMPTY = 1,         /* there is no digit */
+  INTERPOLATOR_INVALID_DIGIT = 2, /* a `-` is alone, or where it may not be */
+  INTERPOLATOR_TOO_GREAT = 3,
+  INTERPOLATOR_TOO_SMALL = 4
+};
+
 /* What a call returns. */
 typedef struct {
   uint32_t code;   /* of the enum above */
-  uint32_t detail; /* of MISSING_TRAIT the trait; else 0 */
+  uint32_t detail; /* of MISSING_TRAIT the trait; of PARSE how the format is broken; else 0 */
   size_t place;    /* of the codes 1 to 5, and of FULL: the byte of the format at which it is */
   size_t length;   /* bytes of the text; arguments; see each call */
   size_t message;  /* bytes of the sentence that says what is wrong; 0 if there is none */
@@ -202,18 +222,52 @@ interpolator_answer interpolator_check(
     const interpolator_field *items, size_t item_count,
     char *room, size_t room_length);
 
-/* The fault that interpolator_check finds, as a compiler shows it: `name`:line:column, what it is,
- * and the line of the format with its argument marked. `first_line` is the line of the file `name`
- * that the format begins at.
+/* The first fault that a format has by itself, at every depth of groups, whatever the values are.
  *
- * OK: there is no fault, and nothing is written.
- * 1 to 5: the fault, at `place`. The room holds the picture of `message` bytes, without a newline at
- * its end, if it fits. */
-interpolator_answer interpolator_explain(
-    const char *name, size_t name_length, size_t first_line,
+ * OK: there is none. PARSE or UNSUPPORTED: it is at `place`; the room holds its sentence as by
+ * interpolator_format. */
+interpolator_answer interpolator_check_alone(
+    const char *format, size_t format_length,
+    char *room, size_t room_length);
+
+/* A fault: its code (1 to 5), detail and place are those of an interpolator_answer. */
+typedef struct {
+  uint32_t code;
+  uint32_t detail;
+  size_t place;
+} interpolator_fault;
+
+/* All faults that a format has by itself or over a row of examples, in order; interpolator_check finds
+ * the first of them.
+ *
+ * OK: `length` is how many there are. The array begins with as many of them as it has places for. */
+interpolator_answer interpolator_faults(
     const char *format, size_t format_length,
     const interpolator_field *fields, size_t field_count,
     const interpolator_field *items, size_t item_count,
+    interpolator_fault *faults, size_t fault_count);
+
+/* Where a format is: a text, such as a file or a line of one, and where the format begins in it. */
+typedef struct {
+  interpolator_bytes name; /* what the text is called, such as the name of a file; UTF-8 */
+  interpolator_bytes text; /* UTF-8 */
+  size_t first_line;       /* the number of the text's first line: 1 for a whole file */
+  size_t start;            /* the byte of the text at which the format begins */
+} interpolator_source;
+
+/* One of the faults that interpolator_faults finds, as a compiler shows it: the source's name, line and
+ * column, what it is, and the line with its argument marked. `which` is its number; that of the first
+ * is 0.
+ *
+ * OK: there are no more than `which` faults, and nothing is written.
+ * 1 to 5: the fault, at `place`. The room holds the picture of `message` bytes, without a newline at
+ * its end, if it fits. */
+interpolator_answer interpolator_explain(
+    const interpolator_source *source,
+    const char *format, size_t format_length,
+    const interpolator_field *fields, size_t field_count,
+    const interpolator_field *items, size_t item_count,
+    size_t which,
     char *room, size_t room_length);
 
 /* A table: the format is read and prepared once over the columns, of which each has a name and an
@@ -266,7 +320,7 @@ uint32_t interpolator_version(void);
 
 /* The sizes of the structs, and the offsets of some members, that the library was built with. */
 typedef struct {
-  size_t request, lent, field, answer, argument, cost_answer;
+  size_t request, lent, field, answer, argument, cost_answer, fault, source;
   size_t request_width, lent_text, field_kind, field_number, field_first;
   size_t answer_place, argument_request, argument_item;
 } interpolator_sizes;
@@ -282,6 +336,7 @@ static inline int interpolator_agrees(void) {
       && of.field == sizeof(interpolator_field) && of.answer == sizeof(interpolator_answer)
       && of.argument == sizeof(interpolator_argument)
       && of.cost_answer == sizeof(interpolator_cost_answer)
+      && of.fault == sizeof(interpolator_fault) && of.source == sizeof(interpolator_source)
       && of.request_width == offsetof(interpolator_request, width)
       && of.lent_text == offsetof(interpolator_lent, text)
       && of.field_kind == offsetof(interpolator_field, kind)
@@ -365,6 +420,17 @@ static inline interpolator_field interpolator_character(const char *name, uint32
   interpolator_field field = interpolator_of(name, INTERPOLATOR_CHARACTER);
   field.natural = code;
   return field;
+}
+
+/* A format that is a text by itself, or begins at a line of a file. */
+static inline interpolator_source interpolator_whole(
+    const char *name, size_t first_line, const char *format, size_t format_length) {
+  interpolator_source source;
+  source.name = interpolator_string(name);
+  source.text = interpolator_span(format, format_length);
+  source.first_line = first_line;
+  source.start = 0;
+  return source;
 }
 
 /* The items from `first` up to `end` of the array of items. */

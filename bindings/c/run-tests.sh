@@ -46,7 +46,7 @@ names_are_known() {
     given=$(nm -g --defined-only "$archive" | awk 'NF == 3 {print $3}' | sort | tr '\n' ' ')
     wanted=$(nm -g --undefined-only "$archive" | awk 'NF == 2 {print $2}' | sort -u | tr '\n' ' ')
     echo "gives $given; wants $wanted"
-    [[ $given == 'interpolator_arguments interpolator_check interpolator_cost interpolator_explain interpolator_format interpolator_layout interpolator_rows interpolator_version interpolator_write ' ]] &&
+    [[ $given == 'interpolator_arguments interpolator_check interpolator_check_alone interpolator_cost interpolator_explain interpolator_faults interpolator_format interpolator_layout interpolator_rows interpolator_version interpolator_write ' ]] &&
         [[ $(printf '%s\n' $wanted | grep -vxE 'rattle_(alloc|realloc|dealloc)|mem(cpy|move|set|cmp)|bcmp|__u(div|mod)ti3' | wc -l) -eq 0 ]]
 }
 

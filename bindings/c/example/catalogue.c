@@ -21,8 +21,9 @@ int main(int words, char **word) {
   row(fields, word[2], atoi(word[3]));
   while (fgets(line, sizeof line, file)) {
     size_t length = strcspn(line, "\n");
-    interpolator_answer got = interpolator_explain(word[1], strlen(word[1]), ++number, line, length,
-                                                   example, 2, NULL, 0, room, sizeof room);
+    interpolator_source source = interpolator_whole(word[1], ++number, line, length);
+    interpolator_answer got =
+        interpolator_explain(&source, line, length, example, 2, NULL, 0, 0, room, sizeof room);
     if (got.code != INTERPOLATOR_OK) {
       wrong++;
       fprintf(stderr, "%.*s\n", got.message <= sizeof room ? (int)got.message : 0, room);

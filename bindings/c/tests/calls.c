@@ -97,6 +97,10 @@ static void lists(void) {
   items[5] = interpolator_text("", "b");
   WANT(is_text(formatted("{l:i#({:i({})(,)})#(;)}", &l, 1, items, 6), "1,2;a,b"));
   WANT(formatted("{l}", &l, 1, items, 6).code == INTERPOLATOR_MISSING_TRAIT);
+  l.slots = INTERPOLATOR_SLOT_DISPLAY | INTERPOLATOR_SLOT_DEBUG; /* of which no text is lent */
+  WANT(is_fault(formatted("{l}", &l, 1, items, 6), INTERPOLATOR_MISSING_TRAIT, 2));
+  WANT(is_text(formatted("{l:i(x)}", &l, 1, items, 6), "xx"));
+  l.slots = 0;
   items[1].end = 7; /* past the array */
   WANT(formatted("", &l, 1, items, 6).code == INTERPOLATOR_LISTS);
   items[1] = interpolator_list("", 5, 4); /* ends before it begins */
@@ -157,6 +161,29 @@ static void lent(void) {
   WANT(asked[0].join_first == 13 && asked[0].join_end == 15);
 }
 
+/* A list, which has texts for its other slots. */
+static void lending_lists(void) {
+  interpolator_field l = interpolator_list("l", 0, 2), items[2];
+  interpolator_lent texts[2];
+  interpolator_argument asked[4];
+  WANT(interpolator_arguments("{l:?}{l:>9}{l:i(,{})}", 21, asked, 4).length == 4);
+  texts[0].request = asked[0].request;
+  texts[0].text = interpolator_string("[1, 2]");
+  texts[1].request = asked[1].request;
+  texts[1].text = interpolator_string("   1 and 2");
+  l.lent = texts;
+  l.lent_count = 2;
+  l.slots = INTERPOLATOR_SLOT_DEBUG | INTERPOLATOR_SLOT_DISPLAY;
+  items[0] = interpolator_int("", 1);
+  items[1] = interpolator_int("", 2);
+  WANT(is_text(formatted("{l:?}{l:>9}{l:i(,{})}", &l, 1, items, 2), "[1, 2]   1 and 2,1,2"));
+  WANT(is_fault(formatted("{l}", &l, 1, items, 2), INTERPOLATOR_MISSING_TRAIT, 2));
+  WANT(is_fault(formatted("{l:x}", &l, 1, items, 2), INTERPOLATOR_MISSING_TRAIT, 4));
+  l.slots = INTERPOLATOR_SLOT_DEBUG; /* the mask says which of the texts count */
+  WANT(is_text(formatted("{l:?}", &l, 1, items, 2), "[1, 2]"));
+  WANT(is_fault(formatted("{l:>9}", &l, 1, items, 2), INTERPOLATOR_MISSING_TRAIT, 5));
+}
+
 static void writes(void) {
   interpolator_field f = interpolator_text("name", "Ann");
   interpolator_answer got;
@@ -180,9 +207,69 @@ static void checking(void) {
   WANT(got.code == INTERPOLATOR_OK && got.message == 0);
   got = interpolator_check("{guests:i()({nobody})}", 22, f, 2, &item, 1, room, sizeof room);
   WANT(got.code == INTERPOLATOR_MISSING_VALUE && got.place == 13); /* in a join, over one item */
+}
+
+/* How formats are broken, by themselves. */
+static void broken(void) {
+  static const struct {
+    const char *format;
+    uint32_t detail, number;
+    size_t place;
+  } all[] = {
+      {"a{name", INTERPOLATOR_UNCLOSED, 0, 2},
+      {"{x:y}", INTERPOLATOR_EXPECTED_BRACE, 0, 3},
+      {"{h:i###a", INTERPOLATOR_EXPECTED_BRACKET, 0, 7},
+      {"{x:18446744073709551616}", INTERPOLATOR_BAD_WIDTH, INTERPOLATOR_TOO_GREAT, 3},
+      {"{x:.-5}", INTERPOLATOR_BAD_PRECISION, INTERPOLATOR_INVALID_DIGIT, 4},
+      {"{x:{<5}", INTERPOLATOR_BAD_FILL, 0, 3},
+      {"{q:+i}", INTERPOLATOR_BAD_LIST, 0, 5},
+      {"{h:i-9223372036854775809}", INTERPOLATOR_BAD_RANGE, INTERPOLATOR_TOO_SMALL, 4},
+  };
+  size_t k;
+  for (k = 0; k < sizeof all / sizeof *all; k++) {
+    interpolator_answer got;
+    memset(room, 'Z', sizeof room);
+    got = interpolator_check_alone(all[k].format, strlen(all[k].format), room, sizeof room);
+    WANT(is_fault(got, INTERPOLATOR_PARSE, all[k].place));
+    WANT((got.detail & 15) == all[k].detail && got.detail >> 4 == all[k].number);
+  }
+  WANT(interpolator_check_alone("{any:x}{l:i({})}", 16, NULL, 0).code == INTERPOLATOR_OK);
+  WANT(interpolator_check_alone("{x:p}", 5, NULL, 0).code == INTERPOLATOR_UNSUPPORTED);
+  WANT(interpolator_check_alone("\xff", 1, NULL, 0).code == INTERPOLATOR_NOT_UTF8);
+}
+
+/* All faults of a format, and how a compiler shows each. */
+static void faults(void) {
+  static const char line[] = "bye = Hello {nane}, {name:x}{name:?!";
+  interpolator_source source = {{"messages.txt", 12}, {line, sizeof line - 1}, 7, 6};
+  const char *format = line + 6;
+  size_t length = sizeof line - 7;
+  interpolator_field f = interpolator_text("name", "Ann");
+  interpolator_fault all[4];
+  interpolator_answer got = interpolator_faults(format, length, &f, 1, NULL, 0, all, 4);
+  WANT(got.code == INTERPOLATOR_OK && got.length == 3);
+  WANT(all[0].code == INTERPOLATOR_MISSING_VALUE && all[0].detail == 0 && all[0].place == 7);
+  WANT(all[1].code == INTERPOLATOR_MISSING_TRAIT && all[1].detail == INTERPOLATOR_LOWER_HEX && all[1].place == 21);
+  WANT(all[2].code == INTERPOLATOR_PARSE && all[2].detail == INTERPOLATOR_EXPECTED_BRACE && all[2].place == 29);
+  all[1].place = 99;
+  got = interpolator_faults(format, length, &f, 1, NULL, 0, all, 1);
+  WANT(got.code == INTERPOLATOR_OK && got.length == 3 && all[1].place == 99);
+  WANT(interpolator_faults("Hello {name}", 12, &f, 1, NULL, 0, NULL, 0).length == 0);
+  WANT(interpolator_faults("\xff", 1, &f, 1, NULL, 0, NULL, 0).code == INTERPOLATOR_NOT_UTF8);
   memset(room, 'Z', sizeof room);
-  got = interpolator_explain("messages.txt", 12, 7, "Hello\n{name:x}!", 15, f, 2, &item, 1, room, sizeof room);
-  WANT(got.code == INTERPOLATOR_MISSING_TRAIT && got.place == 13);
+  got = interpolator_explain(&source, format, length, &f, 1, NULL, 0, 1, room, sizeof room);
+  WANT(got.code == INTERPOLATOR_MISSING_TRAIT && got.place == 21 && room[got.message] == 'Z');
+  room[got.message] = 0;
+  WANT(strcmp(room,
+              "messages.txt:7:28: trait `LowerHex` not implemented, used by format argument at 21\n"
+              "  |\n7 | bye = Hello {nane}, {name:x}{name:?!\n  |                     ^^^^^^^^") == 0);
+  got = interpolator_explain(&source, format, length, &f, 1, NULL, 0, 3, room, sizeof room);
+  WANT(got.code == INTERPOLATOR_OK && got.message == 0);
+  source.name = interpolator_string("\xff");
+  got = interpolator_explain(&source, format, length, &f, 1, NULL, 0, 0, room, sizeof room);
+  WANT(got.code == INTERPOLATOR_NOT_UTF8);
+  source = interpolator_whole("messages.txt", 7, "Hello\n{name:x}!", 15);
+  got = interpolator_explain(&source, "Hello\n{name:x}!", 15, &f, 1, NULL, 0, 0, room, sizeof room);
   room[got.message] = 0;
   WANT(strcmp(room,
               "messages.txt:8:8: trait `LowerHex` not implemented, used by format argument at 13\n"
@@ -230,8 +317,11 @@ int main(void) {
   lists();
   depths();
   lent();
+  lending_lists();
   writes();
   checking();
+  broken();
+  faults();
   costs();
   tables();
   printf("calls: %lu checks, %lu failed\n", checks, failures);

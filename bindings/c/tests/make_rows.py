@@ -14,6 +14,8 @@ SLOTS["debug_display"] = SLOTS["debug"] | SLOTS["display"]
 SLOTS["integer"] = 255
 SLOTS["float"] = SLOTS["debug"] | SLOTS["display"] | SLOTS["lower_exp"] | SLOTS["upper_exp"]
 CODES = {"MissingTraitImpl": 1, "Fmt": 2, "Parse": 3, "MissingValue": 4, "UnsupportedOption": 5, "NoMemory": 6}
+BROKEN = {"FormatSpecUnclosed": 1, "InvalidWidth": 4, "InvalidPrecision": 5, "Fill": 6, "Iter": 7, "RangeBound": 8}
+NUMBERS = {"Empty": 1, "InvalidDigit": 2, "PosOverflow": 3, "NegOverflow": 4}
 SIGNED = {"i8": 6, "i16": 7, "i32": 8, "i64": 9, "i128": 10}
 # the longest text of a row that a compiler has to take as one string
 LONGEST = 4000
@@ -113,15 +115,20 @@ def value(words):
 
 
 def fault_from(words):
-    """The code and the place of a fault; 0, 0 for `ok`."""
-    kind = words.pop(0)[1]
+    """The code, the detail and the place of a fault; zeros for `ok`."""
+    kind, *rest = [word[1] for word in words]
     if kind == "ok":
-        return (0, 0)
+        return (0, 0, 0)
     if kind not in CODES:
         raise LeftOut("no fault of a format")
-    code = CODES[kind]
-    numbers = [int(word[1]) for word in words if word[0] == "word" and word[1].isdigit()]
-    return (code, numbers[-1] if numbers else 0)
+    detail = 0
+    if kind == "MissingTraitImpl":
+        detail = TRAITS.index(rest[0])
+    elif kind == "Parse" and rest[0] == "Expected":
+        detail = {"}": 2, "(": 3}[rest[1]]
+    elif kind == "Parse":
+        detail = BROKEN[rest[0]] + 16 * NUMBERS.get(rest[1], 0)
+    return (CODES[kind], detail, int(rest[-1]) if rest else 0)
 
 
 class Table:
@@ -205,8 +212,10 @@ def main(files):
                     row[key] = text_from(words).encode()
                     if words or len(row[key]) > LONGEST:
                         raise LeftOut(key)
-                elif key in ("fault", "sample"):
+                elif key in ("fault", "sample", "check"):
                     row[key] = fault_from(words)
+                elif key == "faults":
+                    row[key] = int(words[0][1])
                 elif key == "bytes":
                     row[key] = min(int(words[0][1]), 1 << 16)
                 elif key in ("room", "line"):
@@ -224,14 +233,13 @@ def main(files):
     print("static const row rows[] = {")
     for file, row, context in rows:
         table = contexts[context]
-        code, place = row.get("fault", (0, 0))
-        sample = row.get("sample", (-1, 0))
         text = row.get("text", b"")
         arguments = row.get("arguments")
-        print("{%s, {%s, %d}, fields_%d, %d, items_%d, %d, %d, {%s, %d}, %d, %d, %d, %d, %d, %d, {%s}}," % (
+        faults = [row.get("fault", (0, 0, 0)), row.get("sample", (-1, 0, 0)), row.get("check", (-1, 0, 0))]
+        print("{%s, {%s, %d}, fields_%d, %d, items_%d, %d, %d, {%s, %d}, %s, %d, %d, %d, {%s}}," % (
             literal(("%s: %s" % (file, row["name"])).encode()), literal(row["format"]), len(row["format"]),
             context, len(table.fields), context, len(table.items), int("text" in row), literal(text), len(text),
-            code, place, row.get("bytes", -1), sample[0], sample[1],
+            ", ".join("{%d, %d, %d}" % fault for fault in faults), row.get("faults", -1), row.get("bytes", -1),
             len(arguments) if arguments is not None else -1, ",".join(map(str, arguments or [0]))))
     print("};")
 

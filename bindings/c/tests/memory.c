@@ -58,7 +58,13 @@ static uint32_t check(void) {
 }
 static uint32_t explain(void) {
   const char *of = "{name} {nobody}";
-  return interpolator_explain("f", 1, 1, of, strlen(of), fields, 2, items, 4, room, sizeof room).code;
+  interpolator_source source = interpolator_whole("f", 1, of, strlen(of));
+  return interpolator_explain(&source, of, strlen(of), fields, 2, items, 4, 0, room, sizeof room).code;
+}
+static uint32_t check_alone(void) { return interpolator_check_alone("{name:5 }", 9, room, sizeof room).code; }
+static uint32_t faults(void) {
+  interpolator_fault found[2];
+  return interpolator_faults("{nobody}{nothing}", 17, fields, 2, items, 4, found, 2).code;
 }
 static uint32_t rows(void) {
   size_t ends[2];
@@ -77,7 +83,8 @@ static const struct {
 } all[] = {
     {"format", format_text, INTERPOLATOR_OK},      {"format, a fault", format_fault, INTERPOLATOR_MISSING_VALUE},
     {"write", write, INTERPOLATOR_MISSING_VALUE},  {"check", check, INTERPOLATOR_MISSING_VALUE},
-    {"explain", explain, INTERPOLATOR_MISSING_VALUE}, {"rows", rows, INTERPOLATOR_OK},
+    {"explain", explain, INTERPOLATOR_MISSING_VALUE}, {"check_alone", check_alone, INTERPOLATOR_PARSE},
+    {"faults", faults, INTERPOLATOR_OK},           {"rows", rows, INTERPOLATOR_OK},
     {"cost", cost, INTERPOLATOR_OK},               {"arguments", arguments, INTERPOLATOR_OK},
 };
 

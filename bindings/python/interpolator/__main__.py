@@ -14,7 +14,7 @@ _DESCRIPTION = """\
 Checks each message of some files. A line is `key = format`, or
 `key(name, count:, items[]) = format`, which declares that the format is given a text `name`, a
 number `count` and a list of texts `items`. Blank lines, and those that begin with `#`, are skipped.
-The first fault of each argument of a message is shown in its line.
+Each fault is shown in its line.
 """
 
 _STATUS = """\

@@ -89,6 +89,15 @@ class Answer(ctypes.Structure):
     ]
 
 
+class Source(ctypes.Structure):
+    _fields_ = [
+        ("name", Bytes),
+        ("text", Bytes),
+        ("first_line", ctypes.c_size_t),
+        ("start", ctypes.c_size_t),
+    ]
+
+
 class CostAnswer(ctypes.Structure):
     _fields_ = [
         ("code", ctypes.c_uint32),
@@ -115,8 +124,8 @@ class Sizes(ctypes.Structure):
     _fields_ = [
         (name, ctypes.c_size_t)
         for name in (
-            "request", "lent", "field", "answer", "argument", "cost_answer", "request_width",
-            "lent_text", "field_kind", "field_number", "field_first", "answer_place",
+            "request", "lent", "field", "answer", "argument", "cost_answer", "fault", "source",
+            "request_width", "lent_text", "field_kind", "field_number", "field_first", "answer_place",
             "argument_request", "argument_item",
         )
     ]
@@ -131,6 +140,7 @@ def _layout() -> Dict[str, int]:
         "answer": ctypes.sizeof(Answer),
         "argument": ctypes.sizeof(Argument),
         "cost_answer": ctypes.sizeof(CostAnswer),
+        "source": ctypes.sizeof(Source),
         "request_width": Request.width.offset,
         "lent_text": Lent.text.offset,
         "field_kind": Field.kind.offset,
@@ -168,7 +178,9 @@ def _declare(library: ctypes.CDLL) -> None:
     calls: Dict[str, Any] = {
         "interpolator_format": (Answer, text + fields + fields + room),
         "interpolator_check": (Answer, text + fields + fields + room),
-        "interpolator_explain": (Answer, text + [size] + text + fields + fields + room),
+        "interpolator_check_alone": (Answer, text + room),
+        "interpolator_explain": (
+            Answer, [ctypes.POINTER(Source)] + text + fields + fields + [size] + room),
         "interpolator_rows": (
             Answer, text + fields + fields + [ctypes.POINTER(size), size] + room),
         "interpolator_cost": (CostAnswer, text + [size, size]),

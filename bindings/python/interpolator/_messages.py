@@ -5,9 +5,9 @@ from __future__ import annotations
 
 from typing import Dict, Iterator, List, NamedTuple, Optional, Tuple, Union
 
-from ._faults import FormatError
-from ._pictures import draw, is_cut, lines_of, marks_in
-from ._templates import Template
+from ._faults import Code
+from ._templates import Source, Template
+from ._values import ItemsOnly
 
 # The characters that count as white space in names and around keys.
 _WHITE_SPACE = (
@@ -18,7 +18,10 @@ _WHITE_SPACE = (
 _BROKEN = "declarations are `(NAME, NAME:, NAME[])`, each name once"
 
 # An example of a text, a number and a list of texts.
-Example = Union[str, int, List[str]]
+Example = Union[str, int, ItemsOnly]
+
+# What is wrong with a format whatever its values are.
+_ITS_OWN = (Code.PARSE, Code.UNSUPPORTED)
 
 
 class _Heading(NamedTuple):
@@ -33,7 +36,7 @@ class _Heading(NamedTuple):
 
 def faults_in(name: str, text: str) -> Iterator[str]:
     r"""What is wrong with each line of a file of messages: `NAME:LINE:COLUMN: ..`, and for a fault
-    of a format also the line with its argument marked. Of each argument the first fault is shown.
+    of a format also the line with its argument marked.
 
     >>> lines = ["# greetings", "hi = Hi {name, you", "bye(name) = Bye {nane}, {name:x}."]
     >>> for told in faults_in("m.txt", "\n".join(lines)):
@@ -56,6 +59,17 @@ def faults_in(name: str, text: str) -> Iterator[str]:
             yield from _faults_of_line(name, number, line)
 
 
+def lines_of(text: str) -> List[str]:
+    r"""The lines of a text, without their ends, each a newline or a carriage return before one.
+
+    >>> lines_of("a\r\nb\x85c\n\nd\r")
+    ['a', 'b\x85c', '', 'd\r']
+    """
+    *ended, last = text.split("\n")
+    lines = [line[:-1] if line.endswith("\r") else line for line in ended]
+    return lines + [last] if last else lines
+
+
 def _faults_of_line(name: str, number: int, line: str) -> Iterator[str]:
     """What is wrong with a line that has to have a message."""
     head, equals, rest = line.partition("=")
@@ -66,52 +80,10 @@ def _faults_of_line(name: str, number: int, line: str) -> Iterator[str]:
         yield f"{name}:{number}:{heading.broken + 1}: {_BROKEN}"
     else:
         format = rest.lstrip(_WHITE_SPACE)
-        start = len(line) - len(format)
-        for error, (first, end) in _faults_of(format, heading.examples):
-            marked = (start + first, start + end)
-            yield draw(name, number, line, start + error.index, marked, error.message)
-
-
-def _faults_of(
-    format: str, examples: Optional[Dict[str, Example]]
-) -> Iterator[Tuple[FormatError, Tuple[int, int]]]:
-    """The first fault of each argument of a format, and which of its characters are the
-    argument's.
-
-    An argument that has a fault is then taken for a text of the same length, which changes nothing
-    for the others.
-    """
-    while True:
-        error = _fault_of(format, examples)
-        if error is None:
-            return
-        first, end = marks_in(error.picture, len(format), error.index)
-        yield error, (first, end)
-        if is_cut(len(format), error.index, (first, end)):
-            # where the argument begins and ends is not known
-            return
-        format = format[:first] + _filler(format[first:end]) + format[end:]
-
-
-def _fault_of(format: str, examples: Optional[Dict[str, Example]]) -> Optional[FormatError]:
-    """The first fault of a format, by itself or over an example of what is declared."""
-    template = Template(format)
-    try:
-        if examples is None:
-            template.check_alone()
-        else:
-            template.check_map(examples)
-    except FormatError as error:
-        return error
-    return None
-
-
-def _filler(text: str) -> str:
-    """Characters without a meaning in formats, each of as many bytes as the one that it replaces."""
-    return "".join(_FILLERS[len(c.encode()) - 1] for c in text)
-
-
-_FILLERS = "x\xe9\u65e5\U0001f600"
+        source = Source(name, line, number, len(line) - len(format))
+        for error in Template(format).faults_in(source, heading.examples):
+            if heading.examples is not None or error.code in _ITS_OWN:
+                yield error.picture
 
 
 def _heading_of(head: str) -> _Heading:
@@ -152,6 +124,6 @@ def _declared(text: str) -> Optional[Tuple[str, Example]]:
     else:
         name, opened, rest = text.partition("[")
         if opened:
-            example = ["a"]
+            example = ItemsOnly(["a"])
             rest = "" if rest == "]" else "?"
     return (name, example) if name and not rest else None

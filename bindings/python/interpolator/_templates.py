@@ -3,17 +3,17 @@
 from __future__ import annotations
 
 import ctypes
+import itertools
 from collections.abc import Mapping
 from dataclasses import dataclass
 from typing import (
-    Any, Callable, Dict, Iterable, List, NamedTuple, Optional, Sequence, Tuple, Union,
+    Any, Callable, Dict, Iterable, Iterator, List, NamedTuple, Optional, Sequence, Tuple, Union,
 )
 
 from . import _library as c
 from ._faults import PLACED, SENTENCES, Code, FormatError, fault
-from ._pictures import draw_in
 from ._requests import PLAIN_DISPLAY, Request, Trait, request_of
-from ._values import UNUSED, Fields, Uses, encoded, is_list
+from ._values import UNUSED, Fields, Uses, bytes_of, encoded, is_list
 
 # What a format is called in the picture of its fault.
 NAME = "<format>"
@@ -129,15 +129,42 @@ class Template:
     def check_alone(self) -> None:
         """Raises the first fault that the format has by itself, whatever the values are.
 
-        A name that is used both as a value and as a list counts as one, too, since no value of
-        Python is both.
-
         >>> Template("{name}").check_alone()
         >>> Template("{name").check_alone()
         Traceback (most recent call last):
         interpolator.BrokenFormat: error while parsing input: Format spec at 1 is nether closed with a `}`
         """
-        self.check_map({name: _anything(uses) for name, uses in self._reading().uses.items()})
+        given = (self._bytes, len(self._bytes))
+        answer, room, length = _with_room(_library.interpolator_check_alone, given, 256)
+        if answer.code:
+            raise self._fault(answer, ctypes.string_at(room, length).decode(), Fields())
+
+    def faults(self, examples: Optional[Mapping[str, Any]] = None) -> List[FormatError]:
+        """All faults that the format has, by itself or with these examples, in order: of them `check`
+        raises the first.
+
+        >>> for error in Template("{nane} {name:x} {name").faults({"name": "Ann"}):
+        ...     print(error)
+        specified value not in context `nane` at 1
+        trait `LowerHex` not implemented, used by format argument at 14
+        error while parsing input: Format spec at 17 is nether closed with a `}`
+        """
+        return list(self.faults_in(Source(NAME, self.text), examples))
+
+    def faults_in(
+        self, source: "Source", examples: Optional[Mapping[str, Any]] = None
+    ) -> Iterator[FormatError]:
+        """The same, with pictures of a text in which the format begins."""
+        fields = self._fields_of(examples or {}, are_examples=True)
+        for which in itertools.count():
+            code, answer, picture = self._explained(fields, source, which)
+            if not code:
+                return
+            if code not in PLACED:
+                raise self._fault(answer, picture, fields)
+            index = self._index(answer.place)
+            message = source.message_of(picture)
+            yield fault(Code(code), message, answer.place, index, picture, answer.detail)
 
     def explain(
         self,
@@ -145,9 +172,12 @@ class Template:
         *,
         name: str = NAME,
         first_line: int = 1,
+        text: Optional[str] = None,
+        start: int = 0,
     ) -> Optional[str]:
         """The first fault that the format has with these examples, as a compiler shows it; None
-        without a fault. `first_line` is the line of the file `name` that the format begins at.
+        without a fault. `first_line` is the line of the file `name` that the format begins at; or
+        that of a `text`, such as a line of the file, in which the format begins at an index.
 
         >>> print(Template("Hello {name").explain(name="hello.txt", first_line=3))
         hello.txt:3:8: error while parsing input: Format spec at 7 is nether closed with a `}`
@@ -156,7 +186,8 @@ class Template:
           |       ^^^^^
         """
         fields = self._fields_of(examples or {}, are_examples=True)
-        code, answer, picture = self._explained(fields, name, first_line)
+        source = Source(name, self.text if text is None else text, first_line, start)
+        code, answer, picture = self._explained(fields, source, 0)
         if code in PLACED:
             return picture
         if code:
@@ -255,21 +286,24 @@ class Template:
         return fields
 
     def _call(
-        self, call: Callable[..., c.Answer], fields: Fields, *before: Any
+        self,
+        call: Callable[..., c.Answer],
+        fields: Fields,
+        before: Tuple[Any, ...] = (),
+        after: Tuple[Any, ...] = (),
     ) -> Tuple[int, c.Answer, str]:
         """Calls a function over fields, and returns its code, its answer, and its text or
         sentence."""
         row, items = fields.fields(), fields.items()
-        given = (*before, self._bytes, len(self._bytes), row, len(row), items, len(items))
+        given = (*before, self._bytes, len(self._bytes), row, len(row), items, len(items), *after)
         answer, room, length = _with_room(call, given, len(self._bytes) + 256)
         return answer.code, answer, ctypes.string_at(room, length).decode()
 
     def _explained(
-        self, fields: Fields, name: str, first_line: int
+        self, fields: Fields, source: "Source", which: int
     ) -> Tuple[int, c.Answer, str]:
-        called = encoded(name)
-        before = (called, len(called), _count(first_line))
-        return self._call(_library.interpolator_explain, fields, *before)
+        before = (ctypes.byref(source.struct()),)
+        return self._call(_library.interpolator_explain, fields, before, (which,))
 
     def _rows(
         self, names: List[str], examples: Fields, table: Fields, count: int
@@ -302,23 +336,24 @@ class Template:
         if code not in PLACED:
             return fault(code, message, picture=f"{NAME}: {message}")
         index = self._index(answer.place)
-        picture = self._picture(answer, index, message, [fields] + ([row] if row else []))
+        picture = self._picture(answer, message, [fields] + ([row] if row else []))
         found = fault(code, message, answer.place, index, picture, answer.detail)
         if code == Code.FMT:
             found.__cause__ = self._cause(answer, fields, table)
         return found
 
-    def _picture(
-        self, answer: c.Answer, index: int, message: str, candidates: List[Fields]
-    ) -> str:
-        """The picture of a fault. The library draws that of the first one over the values as
-        examples, which a format may have in a group that it does not write; then one character is
-        marked."""
+    def _picture(self, answer: c.Answer, message: str, candidates: List[Fields]) -> str:
+        """The picture of a fault: that of one of the faults over the values as examples, among which
+        it is."""
+        source = Source(NAME, self.text)
         for fields in candidates:
-            code, explained, picture = self._explained(fields, NAME, 1)
-            if (code, explained.place) == (answer.code, answer.place):
-                return picture
-        return draw_in(NAME, 1, self.text, index, (index, index), message)
+            for which in itertools.count():
+                code, explained, picture = self._explained(fields, source, which)
+                if (code, explained.place) == (answer.code, answer.place):
+                    return picture
+                if code not in PLACED:
+                    break
+        return f"{NAME}: {message}"
 
     def _cause(
         self, answer: c.Answer, fields: Fields, table: Optional[Fields]
@@ -332,6 +367,29 @@ class Template:
         if cause is None and table is not None:
             cause = table.failure(uses, request, answer.row)
         return cause
+
+
+class Source:
+    """A text, in which a format begins at an index."""
+
+    __slots__ = ("name", "_text", "_first_line", "_start")
+
+    def __init__(self, name: str, text: str, first_line: int = 1, start: int = 0) -> None:
+        self.name = name
+        self._text = encoded(text)
+        self._first_line = _count(first_line)
+        self._start = len(encoded(text[:start]))
+
+    def struct(self) -> c.Source:
+        """The source as the library takes it."""
+        name = bytes_of(self.name)
+        text = c.Bytes(self._text, len(self._text))
+        return c.Source(name=name, text=text, first_line=self._first_line, start=self._start)
+
+    def message_of(self, picture: str) -> str:
+        """What a picture says, between the place and the three lines with the marks."""
+        head = picture.rsplit("\n", 3)[0]
+        return head[len(self.name) + 1 :].partition(": ")[2]
 
 
 class _Read:
@@ -377,12 +435,6 @@ class _Read:
             # items that are displayed plainly
             return found[0].items, PLAIN_DISPLAY
         return found
-
-
-def _anything(uses: Uses) -> Any:
-    """An example that has all that a format uses of it: a number has a text under each trait, and
-    the items of an empty list miss nothing."""
-    return [] if uses.items is not None and not uses.requests else 0
 
 
 def _count(number: int) -> int:
@@ -466,6 +518,11 @@ def explain(
     """The first fault that a format has with these examples, as a compiler shows it: see
     `Template.explain`."""
     return Template(text).explain(examples, name=name, first_line=first_line)
+
+
+def faults(text: str, examples: Optional[Mapping[str, Any]] = None, /) -> List[FormatError]:
+    """All faults that a format has with these examples: see `Template.faults`."""
+    return Template(text).faults(examples)
 
 
 def rows(

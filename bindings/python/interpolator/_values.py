@@ -103,6 +103,9 @@ class Uses:
 
 UNUSED = Uses()
 
+# The slots of a list as a whole.
+_WHOLE = 1 << Trait.DISPLAY | 1 << Trait.DEBUG
+
 
 def encoded(text: str) -> bytes:
     """A text in UTF-8. A lone surrogate makes bytes that are not UTF-8: the library says so."""
@@ -116,6 +119,10 @@ def bytes_of(text: str) -> c.Bytes:
 
 
 NOT_UTF8 = b"\xff"
+
+
+class ItemsOnly(List[Any]):
+    """A list that is written by `{name:i}` alone, as an example of a list in any language."""
 
 
 def is_list(value: Any) -> bool:
@@ -192,7 +199,11 @@ class Fields:
 
     def _field(self, value: Any, uses: Uses, level: int) -> c.Field:
         if is_list(value):
+            texts = None if isinstance(value, ItemsOnly) else self._texts(value, uses, _WHOLE)
             field = c.Field(kind=c.LIST)
+            if texts:
+                field.lent, field.lent_count = texts, len(texts)
+                field.slots = sum({1 << lent.request.slot for lent in texts})
             # the items of a list that is not written as one are left out
             items = () if uses.items is None else value
             self._lists.append((field, items, uses.items or UNUSED, level + 1))
@@ -208,6 +219,11 @@ class Fields:
 
     def _lent(self, value: Any, uses: Uses, mask: int) -> c.Field:
         """A value that Python makes the texts of."""
+        texts = self._texts(value, uses, mask)
+        return c.Field(kind=c.LENT, lent=texts, lent_count=len(texts))
+
+    def _texts(self, value: Any, uses: Uses, mask: int) -> "ctypes.Array[c.Lent]":
+        """The texts that Python makes of a value, one for each request."""
         wanted = [r for r in uses.requests if r.trait != Trait.LIST]
         wanted = [r for r in wanted if not mask or mask >> r.trait & 1]
         texts = (c.Lent * len(wanted))()
@@ -215,7 +231,7 @@ class Fields:
             text = self._text_for(value, request, uses)
             lent.request = struct_of(request)
             lent.text = c.Bytes(text, len(text))
-        return c.Field(kind=c.LENT, lent=texts, lent_count=len(wanted))
+        return texts
 
     def _text_for(self, value: Any, request: Request, uses: Uses) -> bytes:
         """The text of a value for a request; of a value that fails, bytes that are no text."""

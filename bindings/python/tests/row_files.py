@@ -7,6 +7,7 @@ from pathlib import Path
 from typing import Any, Dict, Iterator, List, NamedTuple, Optional, Set, Tuple
 
 from interpolator import Character, Integer, Only, Plain
+from interpolator._values import ItemsOnly
 
 FOLDER = Path(__file__).resolve().parents[3] / "crates" / "interpolator_vectors" / "data"
 
@@ -102,7 +103,7 @@ def value_of(words: List[str]) -> Any:
         else:
             found.append((slots_of(word), view_of(words)))
     if items is not None and not found:
-        return items
+        return ItemsOnly(items)
     if items is None and len(found) == 1:
         slots, view = found[0]
         return Only(view, *slots)

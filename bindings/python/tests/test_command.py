@@ -108,7 +108,6 @@ kinds.txt:9:11: {broken}
         self.assertEqual(1, status)
 
     def test_several_faults_of_a_message(self) -> None:
-        # after a list without a value, its groups are not looked at
         status, out, _ = self.checked(
             "many.txt", "m(n:, l[]) = é{é} {l:i({:b}{n}{m})({k})}{n:e}{k:i({j})}{n:i}{l}{z")
         line = "1 | m(n:, l[]) = é{é} {l:i({:b}{n}{m})({k})}{n:e}{k:i({j})}{n:i}{l}{z\n"
@@ -119,6 +118,7 @@ kinds.txt:9:11: {broken}
             ("specified value not in context `m` at 20", 32, 31, 3),
             ("specified value not in context `k` at 25", 37, 36, 3),
             ("specified value not in context `k` at 35", 47, 46, 10),
+            ("specified value not in context `j` at 40", 52, 51, 3),
             ("trait `Iter` not implemented, used by format argument at 48", 60, 56, 5),
             ("trait `Display` not implemented, used by format argument at 51", 63, 61, 3),
             ("error while parsing input: Format spec at 53 is nether closed with a `}`", 65, 64, 2),

@@ -106,7 +106,33 @@ class Checks(unittest.TestCase):
         self.assertRaises(UnsupportedOption, check_alone, "{a:p}")
 
 
+    def test_all_faults(self) -> None:
+        text = "é{nane}{name:x}{l:i({:b})}{q"
+        found = interpolator.faults(text, {"name": "Ann", "l": ["a"]})
+        self.assertEqual(
+            [("MISSING_VALUE", 3, 2), ("MISSING_TRAIT", 15, 14), ("MISSING_TRAIT", 24, 23),
+             ("PARSE", 28, 27)],
+            [(error.code.name, error.place, error.index) for error in found])
+        self.assertEqual("specified value not in context `nane` at 3", found[0].message)
+        self.assertEqual([], interpolator.faults("{name}", {"name": "Ann"}))
+        self.assertRaises(NotUtf8, interpolator.faults, "\ud800")
+
+    def test_a_message_of_several_lines(self) -> None:
+        (found,) = interpolator.faults("{a\n}")
+        self.assertEqual("specified value not in context `a\n` at 1", found.message)
+
+
 class Pictures(unittest.TestCase):
+    def test_of_a_line(self) -> None:
+        line = "é = Hello {name:x}"
+        self.assertEqual(
+            "m.txt:3:18: trait `LowerHex` not implemented, used by format argument at 13\n"
+            "  |\n"
+            "3 | é = Hello {name:x}\n"
+            "  |           ^^^^^^^^",
+            Template(line[4:]).explain(
+                {"name": "Ann"}, name="m.txt", first_line=3, text=line, start=4))
+
     def test_of_a_fault(self) -> None:
         with self.assertRaises(FormatError) as raised:
             format("one\n\tGrüße, {name:y}!", name="Ann")
@@ -136,7 +162,7 @@ class Pictures(unittest.TestCase):
             "<format>:2:3: specified value not in context `x` at 11\n"
             "  |\n"
             "2 |  {x}\n"
-            "  |   ^", raised.exception.picture)
+            "  |  ^^^", raised.exception.picture)
 
     def test_without_a_place(self) -> None:
         with self.assertRaises(NotUtf8) as raised:

@@ -142,8 +142,11 @@ class Lists(unittest.TestCase):
 
         self.assertEqual("1.50, 2.50", format("{p:i({:.2})(, )}", p=Point(1.5, 2.5)))
 
-    def test_a_list_has_no_text(self) -> None:
-        self.assertRaises(MissingTrait, format, "{l}", l=[1])
+    def test_a_list_as_a_whole(self) -> None:
+        self.assertEqual("[1, 'a']|[1, 'a']", format("{l}|{l:?}", l=[1, "a"]))
+        self.assertEqual("    (1, 2)|12", format("{l:>10}|{l:i}", l=(1, 2)))
+        self.assertEqual("[1] [2]", format("{l:i({:?})( )}", l=[[1], [2]]))
+        self.assertRaises(MissingTrait, format, "{l:x}", l=[1])
         self.assertRaises(MissingTrait, format, "{n:i}", n=1)
 
     def test_lists_as_deep_as_the_format_looks(self) -> None:

@@ -2,7 +2,7 @@
 use std::fmt::{self, Display};
 use std::num::ParseIntError;
 
-use crate::sys::{code, Answer};
+use crate::sys::{broken, code, Fault};
 
 /// What a call returns.
 pub type Result<T = (), E = Error> = std::result::Result<T, E>;
@@ -103,14 +103,15 @@ impl Error {
         Error::Fmt(fmt::Error, 0)
     }
 
-    /// The fault that a call returned, whose sentence this is.
-    pub(crate) fn of(answer: &Answer, format: &str, sentence: &str) -> Self {
-        match answer.code {
-            code::MISSING_TRAIT => Error::MissingTraitImpl(missing(answer.detail), answer.place),
-            code::FMT => Error::Fmt(fmt::Error, answer.place),
-            code::PARSE => Error::Parse(ParseError::of(sentence, answer.place)),
-            code::MISSING_VALUE => Error::MissingValue(name_at(format, answer.place), answer.place),
-            code::UNSUPPORTED => Error::UnsupportedOption("p", "pointer", answer.place),
+    /// The fault of a format that a call returned.
+    pub(crate) fn of(fault: Fault, format: &str) -> Self {
+        let place = fault.place;
+        match fault.code {
+            code::MISSING_TRAIT => Error::MissingTraitImpl(missing(fault.detail), place),
+            code::FMT => Error::Fmt(fmt::Error, place),
+            code::PARSE => Error::Parse(ParseError::of(fault.detail, place)),
+            code::MISSING_VALUE => Error::MissingValue(name_at(format, place), place),
+            code::UNSUPPORTED => Error::UnsupportedOption("p", "pointer", place),
             _ => Error::refused(),
         }
     }
@@ -130,27 +131,18 @@ impl ParseError {
         }
     }
 
-    /// The fault that a sentence of the library states.
-    fn of(sentence: &str, place: usize) -> Self {
-        let stated = sentence.strip_prefix("error while parsing input: ");
-        let stated = stated.unwrap_or(sentence);
-        let begins = |beginning: &str| stated.starts_with(beginning);
-        if begins("Expected `(`") {
-            ParseError::Expected("(", place)
-        } else if begins("Expected") {
-            ParseError::Expected("}", place)
-        } else if begins("Unable to parse width") {
-            ParseError::InvalidWidth(number_error(stated), place)
-        } else if begins("Unable to parse precision") {
-            ParseError::InvalidPrecision(number_error(stated), place)
-        } else if begins("Unable to parse range bound") {
-            ParseError::RangeBound(number_error(stated), place)
-        } else if begins("Fill") {
-            ParseError::Fill(place)
-        } else if begins("Width") {
-            ParseError::Iter(place)
-        } else {
-            ParseError::FormatSpecUnclosed(place)
+    /// The fault of that number.
+    fn of(detail: u32, place: usize) -> Self {
+        let number = || number_error(detail >> 4);
+        match detail & 15 {
+            broken::EXPECTED_BRACE => ParseError::Expected("}", place),
+            broken::EXPECTED_BRACKET => ParseError::Expected("(", place),
+            broken::WIDTH => ParseError::InvalidWidth(number(), place),
+            broken::PRECISION => ParseError::InvalidPrecision(number(), place),
+            broken::FILL => ParseError::Fill(place),
+            broken::LIST => ParseError::Iter(place),
+            broken::RANGE => ParseError::RangeBound(number(), place),
+            _ => ParseError::FormatSpecUnclosed(place),
         }
     }
 }
@@ -170,16 +162,13 @@ fn name_at(format: &str, place: usize) -> String {
     after[..end].to_string()
 }
 
-/// std's fault of a number, by the text with which a sentence ends.
-fn number_error(stated: &str) -> ParseIntError {
-    let example = if stated.ends_with("empty string") {
-        ""
-    } else if stated.ends_with("too large to fit in target type") {
-        "128"
-    } else if stated.ends_with("too small to fit in target type") {
-        "-129"
-    } else {
-        "-"
+/// std's fault of a number, by the library's number for it.
+fn number_error(number: u32) -> ParseIntError {
+    let example = match number {
+        1 => "",
+        3 => "128",
+        4 => "-129",
+        _ => "-",
     };
     match example.parse::<i8>() {
         Err(error) => error,

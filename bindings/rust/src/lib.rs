@@ -48,7 +48,7 @@ pub use formattable::Formattable;
 pub use table::{rows, Rows, RowsError};
 
 use row::Row;
-use sys::{code, Answer};
+use sys::{code, Answer, Bytes};
 
 /// Where a format finds the values of its names.
 ///
@@ -205,9 +205,55 @@ pub fn write(
 /// ```
 pub fn check(format: &str, context: &(impl Context + ?Sized)) -> Result<()> {
     let row = Row::of(format, &context)?;
-    let mut room = quick::room_for(format);
-    let answer = row.lend(|fields, items| sys::check(format, fields, items, &mut room));
-    outcome(&answer, format, &room)
+    let answer = row.lend(|fields, items| sys::check(format, fields, items));
+    outcome(&answer, format)
+}
+
+/// Checks a format by itself, and returns its first fault, whatever the values are.
+///
+/// ```
+/// use interpolator::{check_alone, Error, ParseError};
+///
+/// assert_eq!(check_alone("Hello {name:x}"), Ok(()));
+/// let fault = Error::Parse(ParseError::FormatSpecUnclosed(7));
+/// assert_eq!(check_alone("Hello {name"), Err(fault));
+/// ```
+pub fn check_alone(format: &str) -> Result<()> {
+    outcome(&sys::check_alone(format), format)
+}
+
+/// Returns all faults of a format against an example, of which [`check`] returns the first.
+///
+/// ```
+/// use interpolator::{faults, Error, Formattable, Trait};
+/// use std::collections::HashMap;
+///
+/// let example = HashMap::from([("name", Formattable::display(&"Ann"))]);
+/// assert_eq!(faults("Hello {nome}, {name:x}", &example), [
+///     Error::MissingValue("nome".to_string(), 7),
+///     Error::MissingTraitImpl(Trait::LowerHex, 21),
+/// ]);
+/// ```
+pub fn faults(format: &str, context: &(impl Context + ?Sized)) -> Vec<Error> {
+    let row = match Row::of(format, &context) {
+        Ok(row) => row,
+        Err(error) => return vec![error],
+    };
+    let mut faults = Vec::new();
+    row.lend(|fields, items| {
+        let mut answer = sys::faults(format, fields, items, &mut faults);
+        if answer.length > faults.capacity() {
+            faults.reserve_exact(answer.length);
+            answer = sys::faults(format, fields, items, &mut faults);
+        }
+        match answer.code {
+            code::OK => faults
+                .iter()
+                .map(|fault| Error::of(*fault, format))
+                .collect(),
+            _ => vec![Error::refused()],
+        }
+    })
 }
 
 /// Returns the fault that [`check`] finds, as a compiler shows it, or none if there is none.
@@ -233,20 +279,89 @@ pub fn explain(
     format: &str,
     context: &(impl Context + ?Sized),
 ) -> Option<String> {
-    let row = match Row::of(format, &context) {
-        Ok(row) => row,
-        Err(error) => return Some(format!("{name}: {error}")),
+    let source = Source {
+        name,
+        first_line,
+        text: format,
+        start: 0,
     };
-    let mut room = quick::room_for(format);
+    pictures(&source, format, &context, 1).pop()
+}
+
+/// Where a format is: a text, such as a file or a line of one, and the byte of it at which the format
+/// begins.
+#[derive(Debug, Clone, Copy, PartialEq, Eq)]
+pub struct Source<'a> {
+    /// What the text is called, such as the name of a file.
+    pub name: &'a str,
+    /// The number of the text's first line: 1 for a whole file.
+    pub first_line: usize,
+    /// The text.
+    pub text: &'a str,
+    /// The byte of the text at which the format begins.
+    pub start: usize,
+}
+
+/// Returns all faults of a format against an example, as [`faults`] does, each as a compiler shows it.
+///
+/// ```
+/// use interpolator::{explain_in, Formattable, Source};
+/// use std::collections::HashMap;
+///
+/// let example = HashMap::from([("name", Formattable::display(&"Ann"))]);
+/// let line = "bye = Bye {nome} and {name:x}";
+/// let source = Source { name: "messages.txt", first_line: 7, text: line, start: 6 };
+/// let pictures = explain_in(&source, &line[6..], &example);
+/// assert_eq!(pictures.len(), 2);
+/// assert!(pictures[1].starts_with("messages.txt:7:29: "));
+/// assert!(pictures[1].ends_with("\
+///   |
+/// 7 | bye = Bye {nome} and {name:x}
+///   |                      ^^^^^^^^"));
+/// ```
+pub fn explain_in(
+    source: &Source<'_>,
+    format: &str,
+    context: &(impl Context + ?Sized),
+) -> Vec<String> {
+    pictures(source, format, &context, usize::MAX)
+}
+
+/// The pictures of so many faults at most.
+fn pictures(source: &Source<'_>, format: &str, context: &dyn Context, most: usize) -> Vec<String> {
+    let row = match Row::of(format, context) {
+        Ok(row) => row,
+        Err(error) => return vec![format!("{}: {error}", source.name)],
+    };
+    let source = sys::Source {
+        name: Bytes::of(source.name.as_bytes()),
+        text: Bytes::of(source.text.as_bytes()),
+        first_line: source.first_line,
+        start: source.start,
+    };
     row.lend(|fields, items| {
-        let explain =
-            |room: &mut String| sys::explain(name, first_line, format, fields, items, room);
-        let mut answer = explain(&mut room);
-        if answer.message > room.capacity() {
-            room.reserve_exact(answer.message);
-            answer = explain(&mut room);
+        let mut pictures = Vec::new();
+        while pictures.len() < most {
+            let which = pictures.len();
+            let explain =
+                |room: &mut String| sys::explain(&source, format, fields, items, which, room);
+            let mut room = quick::room_for(format);
+            let mut answer = explain(&mut room);
+            if answer.message > room.capacity() {
+                room.reserve_exact(answer.message);
+                answer = explain(&mut room);
+            }
+            match answer.code {
+                code::OK => return pictures,
+                code::MISSING_TRAIT..=code::UNSUPPORTED => pictures.push(room),
+                // Memory was refused, or lists lie too deep: so it is for each of them.
+                _ => {
+                    pictures.push(room);
+                    return pictures;
+                }
+            }
         }
-        (answer.code != code::OK).then_some(room)
+        pictures
     })
 }
 
@@ -297,11 +412,11 @@ pub fn cost(format: &str, limits: Limits) -> Cost {
     }
 }
 
-/// What a call returned, whose sentence is in the room.
-fn outcome(answer: &Answer, format: &str, room: &str) -> Result<()> {
+/// What a call returned.
+fn outcome(answer: &Answer, format: &str) -> Result<()> {
     match answer.code {
         code::OK => Ok(()),
-        _ => Err(Error::of(answer, format, room)),
+        _ => Err(Error::of(answer.fault(), format)),
     }
 }
 
@@ -323,7 +438,7 @@ fn whole(format: &str, row: &Row<'_, '_>) -> Result<String> {
             }
             answer = sys::format(format, fields, items, &mut room);
         }
-        outcome(&answer, format, &room).map(|()| room)
+        outcome(&answer, format).map(|()| room)
     })
 }
 

@@ -229,6 +229,18 @@ pub(crate) mod code {
     pub(crate) const FULL: u32 = 9;
 }
 
+/// How a format is broken: the lower four bits of a fault's detail. Above them is what is wrong with a
+/// number.
+pub(crate) mod broken {
+    pub(crate) const EXPECTED_BRACE: u32 = 2;
+    pub(crate) const EXPECTED_BRACKET: u32 = 3;
+    pub(crate) const WIDTH: u32 = 4;
+    pub(crate) const PRECISION: u32 = 5;
+    pub(crate) const FILL: u32 = 6;
+    pub(crate) const LIST: u32 = 7;
+    pub(crate) const RANGE: u32 = 8;
+}
+
 /// What a call returns.
 #[repr(C)]
 #[derive(Clone, Copy, Debug)]
@@ -239,6 +251,36 @@ pub(crate) struct Answer {
     pub(crate) length: usize,
     pub(crate) message: usize,
     pub(crate) row: usize,
+}
+
+/// A fault of a format.
+#[repr(C)]
+#[derive(Clone, Copy)]
+pub(crate) struct Fault {
+    pub(crate) code: u32,
+    pub(crate) detail: u32,
+    pub(crate) place: usize,
+}
+
+impl Answer {
+    /// The fault that it says.
+    pub(crate) fn fault(&self) -> Fault {
+        Fault {
+            code: self.code,
+            detail: self.detail,
+            place: self.place,
+        }
+    }
+}
+
+/// Where a format is.
+#[repr(C)]
+#[derive(Clone, Copy)]
+pub(crate) struct Source<'a> {
+    pub(crate) name: Bytes<'a>,
+    pub(crate) text: Bytes<'a>,
+    pub(crate) first_line: usize,
+    pub(crate) start: usize,
 }
 
 /// What `interpolator_cost` returns.
@@ -266,7 +308,7 @@ pub(crate) struct Argument {
 }
 
 mod library {
-    use super::{Answer, Argument, CostAnswer, Field};
+    use super::{Answer, Argument, CostAnswer, Fault, Field, Source};
 
     extern "C" {
         pub(super) fn interpolator_format(
@@ -304,16 +346,33 @@ mod library {
             room_length: usize,
         ) -> Answer;
 
-        pub(super) fn interpolator_explain(
-            name: *const u8,
-            name_length: usize,
-            first_line: usize,
+        pub(super) fn interpolator_check_alone(
+            format: *const u8,
+            format_length: usize,
+            room: *mut u8,
+            room_length: usize,
+        ) -> Answer;
+
+        pub(super) fn interpolator_faults(
             format: *const u8,
             format_length: usize,
             fields: *const Field<'_>,
             field_count: usize,
             items: *const Field<'_>,
             item_count: usize,
+            faults: *mut Fault,
+            fault_count: usize,
+        ) -> Answer;
+
+        pub(super) fn interpolator_explain(
+            source: *const Source<'_>,
+            format: *const u8,
+            format_length: usize,
+            fields: *const Field<'_>,
+            field_count: usize,
+            items: *const Field<'_>,
+            item_count: usize,
+            which: usize,
             room: *mut u8,
             room_length: usize,
         ) -> Answer;
@@ -423,15 +482,10 @@ pub(crate) fn write(
     answer
 }
 
-/// The first fault with a row of examples, with its sentence in the room if its capacity is enough.
-pub(crate) fn check(
-    format: &str,
-    fields: &[Field<'_>],
-    items: &[Field<'_>],
-    room: &mut String,
-) -> Answer {
-    // SAFETY: as in `format`.
-    let answer = unsafe {
+/// The first fault with a row of examples.
+pub(crate) fn check(format: &str, fields: &[Field<'_>], items: &[Field<'_>]) -> Answer {
+    // SAFETY: as in `format`; the room is empty.
+    unsafe {
         library::interpolator_check(
             format.as_ptr(),
             format.len(),
@@ -439,36 +493,65 @@ pub(crate) fn check(
             fields.len(),
             items.as_ptr(),
             items.len(),
-            room.as_mut_ptr(),
-            room.capacity(),
+            ptr::null_mut(),
+            0,
         )
-    };
-    // SAFETY: the header says so of the sentence's length, which is 0 without a fault.
-    unsafe { settle(room, answer.message) };
-    answer
+    }
 }
 
-/// The picture of the first fault with a row of examples, in the room if its capacity is enough.
-pub(crate) fn explain(
-    name: &str,
-    first_line: usize,
+/// The first fault of a format by itself.
+pub(crate) fn check_alone(format: &str) -> Answer {
+    // SAFETY: as in `check`.
+    unsafe { library::interpolator_check_alone(format.as_ptr(), format.len(), ptr::null_mut(), 0) }
+}
+
+/// The faults with a row of examples, as many as the capacity takes; and how many there are.
+pub(crate) fn faults(
     format: &str,
     fields: &[Field<'_>],
     items: &[Field<'_>],
-    room: &mut String,
+    faults: &mut Vec<Fault>,
 ) -> Answer {
-    // SAFETY: as in `format`.
+    // SAFETY: as in `format`; the array is the capacity of a Vec that nothing else borrows.
     let answer = unsafe {
-        library::interpolator_explain(
-            name.as_ptr(),
-            name.len(),
-            first_line,
+        library::interpolator_faults(
             format.as_ptr(),
             format.len(),
             fields.as_ptr(),
             fields.len(),
             items.as_ptr(),
             items.len(),
+            faults.as_mut_ptr(),
+            faults.capacity(),
+        )
+    };
+    // SAFETY: the header says that the array begins with so many of them, and `length` is 0 if the
+    // code is another.
+    unsafe { faults.set_len(answer.length.min(faults.capacity())) };
+    answer
+}
+
+/// The picture of the fault of that number with a row of examples, in the room if its capacity is
+/// enough.
+pub(crate) fn explain(
+    source: &Source<'_>,
+    format: &str,
+    fields: &[Field<'_>],
+    items: &[Field<'_>],
+    which: usize,
+    room: &mut String,
+) -> Answer {
+    // SAFETY: as in `format`; the source is borrowed.
+    let answer = unsafe {
+        library::interpolator_explain(
+            source,
+            format.as_ptr(),
+            format.len(),
+            fields.as_ptr(),
+            fields.len(),
+            items.as_ptr(),
+            items.len(),
+            which,
             room.as_mut_ptr(),
             room.capacity(),
         )
@@ -549,6 +632,8 @@ mod tests {
         answer: usize,
         argument: usize,
         cost_answer: usize,
+        fault: usize,
+        source: usize,
         request_width: usize,
         lent_text: usize,
         field_kind: usize,
@@ -573,6 +658,8 @@ mod tests {
             answer: size_of::<Answer>(),
             argument: size_of::<Argument>(),
             cost_answer: size_of::<CostAnswer>(),
+            fault: size_of::<Fault>(),
+            source: size_of::<Source<'_>>(),
             request_width: offset_of!(Request, width),
             lent_text: offset_of!(Lent<'_>, text),
             field_kind: offset_of!(Field<'_>, kind),

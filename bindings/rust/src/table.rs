@@ -130,7 +130,7 @@ pub fn rows(
         }
         match answer.code {
             code::OK => Ok(Rows { text: room, ends }),
-            _ => Err(fault(answer.row, Error::of(&answer, format, &room))),
+            _ => Err(fault(answer.row, Error::of(answer.fault(), format))),
         }
     })
 }

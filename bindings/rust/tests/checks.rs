@@ -3,7 +3,8 @@ mod common;
 
 use common::map;
 use interpolator::{
-    check, cost, explain, rows, Error, Formattable, Limits, ParseError, RowsError, Trait,
+    check, check_alone, cost, explain, explain_in, faults, rows, Error, Formattable, Limits,
+    ParseError, RowsError, Source, Trait,
 };
 use std::fmt;
 
@@ -43,6 +44,68 @@ fn checks_look_at_all_of_a_format() {
         Err(ParseError::FormatSpecUnclosed(8).into())
     );
     assert_eq!(check("", &example), Ok(()));
+}
+
+#[test]
+fn a_format_by_itself() {
+    assert_eq!(check_alone("{any:x}{l:i({})}"), Ok(()));
+    assert_eq!(
+        check_alone("{x:y}"),
+        Err(ParseError::Expected("}", 3).into())
+    );
+    assert_eq!(
+        check_alone("{h:i###a"),
+        Err(ParseError::Expected("(", 7).into())
+    );
+    assert_eq!(
+        check_alone("{x:p}"),
+        Err(Error::UnsupportedOption("p", "pointer", 3))
+    );
+}
+
+#[test]
+fn all_faults_in_order() {
+    let example = map(&[("name", Formattable::display(&"Ann"))]);
+    assert_eq!(
+        faults("{name:x}{q:i({name:y})}{", &example),
+        [
+            Error::MissingTraitImpl(Trait::LowerHex, 7),
+            Error::MissingValue("q".to_string(), 9),
+            ParseError::Expected("}", 19).into(),
+            ParseError::FormatSpecUnclosed(24).into(),
+        ]
+    );
+    assert_eq!(faults("{name}", &example), []);
+    let many = "{q}".repeat(100);
+    assert_eq!(faults(&many, &example).len(), 100);
+}
+
+#[test]
+fn explanations_of_a_line() {
+    let example = map(&[("name", Formattable::display(&"Ann"))]);
+    let line = "é = {name:x} {q}";
+    let source = Source {
+        name: "m.txt",
+        first_line: 7,
+        text: line,
+        start: 5,
+    };
+    assert_eq!(
+        explain_in(&source, &line[5..], &example),
+        [
+            "\
+m.txt:7:12: trait `LowerHex` not implemented, used by format argument at 7
+  |
+7 | é = {name:x} {q}
+  |     ^^^^^^^^",
+            "\
+m.txt:7:15: specified value not in context `q` at 10
+  |
+7 | é = {name:x} {q}
+  |              ^^^"
+        ]
+    );
+    assert!(explain_in(&source, "{name}", &example).is_empty());
 }
 
 #[test]

@@ -158,6 +158,30 @@ fn what_a_list_may_not_be() {
 }
 
 #[test]
+fn a_list_with_other_slots() {
+    let list = [Formattable::display(&1), Formattable::display(&2)];
+    let both = Formattable::iter(&list).and_display(&"all").and_debug(&2.5);
+    let pairs = [("x", both)];
+    assert_eq!(
+        text("{x:i({})(,)} {x:>5} {x:.3?}", &pairs),
+        "1,2   all 2.500"
+    );
+    assert_eq!(text("{x}", &pairs), "all");
+    assert_eq!(
+        fault("{x:i}{x:b}", &map(&pairs)),
+        ("12".to_string(), Error::MissingTraitImpl(Trait::Binary, 9))
+    );
+    let nested = [both];
+    assert_eq!(
+        text(
+            "{o:i#({}={:i({})(+)})#}",
+            &[("o", Formattable::iter(&nested))]
+        ),
+        "all=1+2"
+    );
+}
+
+#[test]
 fn a_long_list() {
     let numbers: Vec<u32> = (0..10_000).collect();
     let halves: Vec<f64> = numbers

@@ -1,7 +1,7 @@
 -- What is told of what was written, and of a whole text.
-use Rattle.std.proofs.Common.{◌≡◌, ◌⊎◌, inl, inr, ◌∙◌, sym, ap, refl, subst, List, [], ℕ, Option, None, Some}
+use Rattle.std.proofs.Common.{arith, ◌≡◌, ◌⊎◌, inl, inr, ◌∙◌, sym, ap, refl, subst, List, [], ◌∷◌, ℕ, Option, None, Some}
 use Rattle.std.proofs.Common.{option_map, Bool, true, false, map, Result, Ok, Err, length, ◌≤◌}
-use Rattle.std.specs.Prelude.{MatchResult, encode_utf8_all, string_bytes, ◌&&◌, ◌++◌}
+use Rattle.std.specs.Prelude.{IsSomeAnd, MatchOption, MatchResult, encode_utf8_all, string_bytes, ◌&&◌, ◌++◌, ◌==◌}
 use Rattle.std.specs.Str.{chars, is_utf8, IsUtf8}
 use Rattle.std.specs.declared.string.String.{String}
 use Rattle.std.proofs.lemmas.Str.{encodes-chars}
@@ -16,9 +16,9 @@ use Rattle.interpolator_border.specs.declared.answer.Answer.{Answer as Told_answ
 use Rattle.interpolator_border.specs.declared.answer.Failure.{Failure}
 use Rattle.interpolator_border.specs.declared.answer.Failure.TheVariants as failure
 use Rattle.interpolator_border.specs.declared.field.Field.{Field}
-use Rattle.interpolator_border.specs.Answers.{FormatAnswers, Means, ToldBy, WritesRow}
+use Rattle.interpolator_border.specs.Answers.{FormatAnswers, Means, ToldBy, WritesKnown, WritesRow}
 use Rattle.interpolator_border.specs.Answers.{code_of_answer}
-use Rattle.interpolator_border.specs.Answers.{row_means, FailsBy, Faulty, ToldFailure}
+use Rattle.interpolator_border.specs.Answers.{row_means, FailsBy, ToldFailure}
 use Rattle.interpolator_border.specs.Answers.{Told, TellsFault, TellsResult, WriteAnswers, text_answer}
 use Rattle.interpolator_border.specs.Fields.{all_lie_within, field_slots, lie_in_levels}
 use Rattle.interpolator_border.specs.Fields.{lists_lie}
@@ -30,17 +30,35 @@ module _ {fields items : List Field} {format : List ℕ} where
   means_more more w =
       record { trees = w.trees; are = w.are; holds = more (row_means fields w.trees format) w.holds }
 
--- once all items are known, a row is written as it is by what they stand for
-pub written_known : (lie : Bool) (fields items : List Field) (format : List ℕ) (old new : Written)
-    (trees : List (Slots Field)) (written : Result (Unit {0}) Error)
-    (result : Result (Unit {0}) Failure) → trees ≡ map (field_slots trees) items
+-- what was written up to what was returned
+pub by_returned : (fields : List Field) (trees : List (Slots Field)) (format : List ℕ)
+    (old new : Written) (written : Result (Unit {0}) Error) (result : Result (Unit {0}) Failure)
     → Outcome (row_means fields trees format) old new (result_answer written)
     → MatchResult written (λ ok. result ≡ Ok ok) (λ e. result ≡ Err (failure.Fault e))
+    → WritesKnown fields trees format old new result
+by_returned fields trees format old new (Ok ok) result outcome is = rw is outcome
+by_returned fields trees format old new (Err e) result outcome is = rw is outcome
+
+-- once all items are known, a row is written as it is by what they stand for
+pub written_known : (lie : Bool) (fields items : List Field) (format : List ℕ) (old new : Written)
+    (trees : List (Slots Field)) (result : Result (Unit {0}) Failure)
+    → trees ≡ map (field_slots trees) items → WritesKnown fields trees format old new result
     → WritesRow lie fields items format old new result
-written_known lie fields items format old new trees (Ok ok) result are outcome is =
-    rw is (record { trees = trees; are = are; holds = outcome })
-written_known lie fields items format old new trees (Err e) result are outcome is =
-    rw is (inr (record { trees = trees; are = are; holds = outcome }))
+written_known lie fields items format old new trees (Ok ok) are wrote =
+    record { trees = trees; are = are; holds = wrote }
+written_known lie fields items format old new trees (Err failure.NotUtf8) are wrote = wrote
+written_known lie fields items format old new trees (Err failure.Table) are wrote = wrote
+written_known lie fields items format old new trees (Err failure.Lists) are wrote = absurd wrote
+written_known lie fields items format old new trees (Err (failure.Fault e)) are wrote =
+    inr (record { trees = trees; are = are; holds = wrote })
+
+-- without items all are known
+pub none_known : (lie : Bool) (fields items : List Field) (format : List ℕ) (old new : Written)
+    (result : Result (Unit {0}) Failure) → (length items == 0) ≡ true
+    → WritesKnown fields [] format old new result → WritesRow lie fields items format old new result
+none_known lie fields [] format old new result none wrote =
+    written_known lie fields [] format old new [] result refl wrote
+none_known lie fields (x ∷ items) format old new result none wrote = absurd (grind (arith, none))
 
 -- ---- a writer that was empty
 
@@ -76,26 +94,23 @@ fails m new a goes_on (inr (inr wants)) = inl (same_answer wants.told)
 
 -- ---- a fault that is told
 
-pub record Which (o : Option Fault) (a : Answer) : Type 0 where
-  pub f : Fault
-  pub is : o ≡ Some f
-  pub told : a ≡ fault f
-
-pub which_fault : (o : Option Fault) (a : Answer) → Some a ≡ option_map fault o → Which o a
-which_fault None a e = cc
-which_fault (Some f) a e = record { f = f; is = refl; told = cc }
-
+-- memory was wanted is told
 pub out_of_memory : (written : ℕ) (old new : List ℕ) (answer : Told_answer) (a : Answer)
     → a ≡ no_memory → ToldBy a written old new answer → answer.code ≡ 6
 out_of_memory written old new answer a e (inl told) = told.0
 out_of_memory written old new answer a e (inr told) =
     ap (λ t. t.code) told.0 ∙ ap code_of_answer e
 
-faulty : (m : Meaning) (old new : List ℕ) (answer : Told_answer) (a : Answer)
-    → Some a ≡ option_map fault m.fault → ToldBy a 0 old new answer → Faulty m old new answer
-faulty m old new answer a is told =
-    let w = which_fault m.fault a is in
-    record { f = w.f; is = w.is; told = subst (λ b. ToldBy b 0 old new answer) w.told told }
+-- what holds of an answer that is that of a fault, holds of the fault
+pub some_fault : (P : Answer → Type 0) (found : Option Fault) (a : Answer)
+    → Some a ≡ option_map fault found → P a → IsSomeAnd found (λ f. P (fault f))
+some_fault P None a is holds = absurd (none_some (sym is))
+some_fault P (Some f) a is holds = subst P (same_answer is) holds
+
+pub if_fault : (P : Answer → Type 0) (None_holds : Type 0) (found : Option Fault) (a : Answer)
+    → Some a ≡ option_map fault found → P a → MatchOption found None_holds (λ f. P (fault f))
+if_fault P None_holds None a is holds = absurd (none_some (sym is))
+if_fault P None_holds (Some f) a is holds = subst P (same_answer is) holds
 
 module _ (fields items : List Field) (format old new : List ℕ) (answer : Told_answer) where
   -- why there is no text is told
@@ -107,7 +122,11 @@ module _ (fields items : List Field) (format old new : List ℕ) (answer : Told_
   format_fails (failure.Fault e) (inl wants) told =
       inr (inl (out_of_memory 0 old new answer (answer_of e) wants told))
   format_fails (failure.Fault e) (inr fails) told =
-      inl (fails.0, means_more (λ m is. inr (faulty m old new answer (answer_of e) is told)) fails.1)
+      inl (
+        fails.0,
+        means_more (λ m is.
+            if_fault (λ a. ToldBy a 0 old new answer) _ m.fault (answer_of e) is told) fails.1,
+      )
 
 -- ---- a text that was written into a room
 
@@ -243,7 +262,7 @@ text_told fields items format old new bytes s answer made is utf8 put told =
       means_more (λ m holds.
           let e : encode_utf8_all (text_of m.text) ≡ bytes =
           ap encode_utf8_all (sym holds.1) ∙ encodes-chars (string_bytes s) utf8 ∙ sym is in
-          inl (record { no_fault = holds.0; told = rw e told; put = rw e put })) made.1,
+          rw holds.0 (rw e told, rw e put)) made.1,
     )
 
 -- what was made by a bounded writer is told, and put into the room

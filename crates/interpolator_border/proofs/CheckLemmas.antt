@@ -1,24 +1,34 @@
 -- What is told of a format that was checked.
 use Rattle.std.proofs.Common.{◌≡◌, inl, inr, ◌∙◌, sym, ap, refl, subst, List, [], ◌∷◌, ℕ, None}
-use Rattle.std.proofs.Common.{Some, Bool, true, false, map, Result, Ok, Err, length}
-use Rattle.std.specs.Prelude.{MatchResult}
+use Rattle.std.proofs.Common.{Some, Option, Bool, true, map, option_map, Result, Ok, Err, length}
+use Rattle.std.specs.Prelude.{MatchOption, slice_get}
 use Rattle.std.specs.Str.{is_utf8}
-use Rattle.interpolator_syntax.specs.Faults.{Answer, Fault, fault, no_memory, answer_of, result_answer}
+use Rattle.std.specs.declared.vec.Vec.{Vec}
+use Rattle.std.proofs.lemmas.List.{length-map}
+use Rattle.std.proofs.lemmas.Option.{slice_get-map, slice_get_past, slice_get_read}
+use Rattle.std.specs.Borrow.{Bor}
+use Rattle.std.specs.Option.{option_copied}
+use Rattle.std.specs.Slice.{IsItemAt}
+use Rattle.interpolator_syntax.specs.Faults.{Answer, Fault, fault, no_memory, answer_of}
 use Rattle.interpolator_syntax.specs.declared.error.Error.{Error}
 use Rattle.interpolator_eval.specs.Slots.{Slots}
 use Rattle.interpolator.specs.Template.NodeChecks.{first_fault}
-use Rattle.interpolator.specs.Template.Collecting.{AnswersFirst}
 use Rattle.interpolator_border.specs.declared.answer.Answer.{Answer as Told_answer}
 use Rattle.interpolator_border.specs.declared.answer.Failure.{Failure}
 use Rattle.interpolator_border.specs.declared.answer.Failure.TheVariants as failure
+use Rattle.interpolator_border.specs.declared.explaining.Source.{Source}
+use Rattle.interpolator_border.specs.declared.fault.Fault.{Fault as Fault_numbers}
 use Rattle.interpolator_border.specs.declared.field.Field.{Field}
-use Rattle.interpolator_border.specs.Answers.{Told, ToldBy, ToldFailure, code_of_answer, fault_answer}
-use Rattle.interpolator_border.specs.Checks.{CheckAnswers, Checked, CheckedBytes, ExplainAnswers}
-use Rattle.interpolator_border.specs.Checks.{Faults, PictureMade, Pictured}
-use Rattle.interpolator_border.specs.Checks.{row_faults}
+use Rattle.interpolator_border.specs.Answers.{FillsFront, Told, ToldAside, ToldBy, ToldFailure}
+use Rattle.interpolator_border.specs.Answers.{code_of_answer, failure_code, fault_answer}
+use Rattle.interpolator_border.specs.Answers.{fault_numbers, text_answer}
+use Rattle.interpolator_border.specs.Checks.{AloneAnswers, AreFaults, CheckAnswers, CheckedAlone}
+use Rattle.interpolator_border.specs.Checks.{ExplainAnswers, Faults, FaultsAnswers, Finds, FindsBytes}
+use Rattle.interpolator_border.specs.Checks.{FindsKnown, FoundAt, IsFaultAt, PictureMade, Pictured}
+use Rattle.interpolator_border.specs.Checks.{TellsPicture, ToldPicture, alone_fault, row_faults}
 use Rattle.interpolator_border.specs.Fields.{all_lie_within, field_slots, lie_in_levels}
 use Rattle.interpolator_border.specs.Fields.{lists_lie}
-use Rattle.interpolator_border.proofs.AnswerLemmas.{lies_as, out_of_memory}
+use Rattle.interpolator_border.proofs.AnswerLemmas.{if_fault, lies_as, out_of_memory}
 
 module _ {fields items : List Field} {format : List ℕ} where
   -- what holds of the faults
@@ -27,112 +37,182 @@ module _ {fields items : List Field} {format : List ℕ} where
   faults_more more w =
       record { trees = w.trees; are = w.are; holds = more (row_faults fields w.trees format) w.holds }
 
--- once all items are known, a row is checked as it is by what they stand for
-pub checked_known : (lie : Bool) (fields items : List Field) (format : List ℕ)
-    (trees : List (Slots Field)) (checked : Result (Unit {0}) Error)
-    (result : Result (Unit {0}) Failure) → trees ≡ map (field_slots trees) items
-    → AnswersFirst (row_faults fields trees format) (result_answer checked)
-    → MatchResult checked (λ ok. result ≡ Ok ok) (λ e. result ≡ Err (failure.Fault e))
-    → Checked lie fields items format result
-checked_known lie fields items format trees (Ok ok) result are first is =
-    rw is (record { trees = trees; are = are; holds = first })
-checked_known lie fields items format trees (Err e) result are first is =
-    rw is (inr (record { trees = trees; are = are; holds = first }))
+-- once all items are known, the faults are those over what they stand for
+pub found_known : {Z : Type 0} (lie : Bool) (fields items : List Field) (format : List ℕ)
+    (trees : List (Slots Field)) (result : Result (Vec Error Z) Failure)
+    → trees ≡ map (field_slots trees) items → FindsKnown fields trees format result
+    → Finds lie fields items format result
+found_known lie fields items format trees (Ok found) are finds =
+    record { trees = trees; are = are; holds = finds }
+found_known lie fields items format trees (Err failure.NotUtf8) are finds = finds
+found_known lie fields items format trees (Err failure.Table) are finds = finds
+found_known lie fields items format trees (Err failure.Lists) are finds = absurd finds
+found_known lie fields items format trees (Err (failure.Fault e)) are finds = finds
 
-module _ (fields items : List Field) (format : List ℕ) where
-  -- the same of a format that is given by its bytes
-  pub checked_bytes : (result : Result (Unit {0}) Failure) → is_utf8 format ≡ true
-      → Checked (lists_lie fields items) fields items format result
-      → CheckedBytes fields items format result
-  checked_bytes (Ok ok) utf8 checked = (utf8, checked)
-  checked_bytes (Err failure.NotUtf8) utf8 checked = absurd checked
-  checked_bytes (Err failure.Table) utf8 checked = absurd checked
-  checked_bytes (Err failure.Lists) utf8 checked = (utf8, checked)
-  checked_bytes (Err (failure.Fault e)) utf8 checked = (utf8, checked)
+-- the faults over a row whose lists lie as they should, of a format that is given by its bytes
+module _ {Z : Type 0} (fields items : List Field) (format : List ℕ) (utf8 : is_utf8 format ≡ true) where
+  by_bytes : (result : Result (Vec Error Z) Failure)
+      → Finds (lists_lie fields items) fields items format result
+      → FindsBytes fields items format result
+  by_bytes (Ok found) finds = (utf8, finds)
+  by_bytes (Err failure.NotUtf8) finds = absurd finds
+  by_bytes (Err failure.Table) finds = (utf8, finds)
+  by_bytes (Err failure.Lists) finds = (utf8, finds)
+  by_bytes (Err (failure.Fault e)) finds = (utf8, finds)
 
-  module _ (old new : List ℕ) (answer : Told_answer) where
-    by_answer : (a : Answer) → is_utf8 format ≡ true
-        → Faults fields items format (λ fs. AnswersFirst fs (Some a)) → ToldBy a 0 old new answer
-        → CheckAnswers fields items format old new answer
-    by_answer (fault f) utf8 faults told =
-        inl (utf8, faults_more (λ fs first. inr (record { f = f; first = first; told = told })) faults)
-    by_answer no_memory utf8 faults told =
-        inr (inl (out_of_memory 0 old new answer no_memory refl told))
+  pub row_found : (text template : List ℕ) (result : Result (Vec Error Z) Failure)
+      → text ≡ format → template ≡ text → all_lie_within fields items ≡ true
+      → Finds (lie_in_levels 64 items (length items)) fields items template result
+      → FindsBytes fields items format result
+  row_found text template result is same within finds =
+      by_bytes result (subst (λ lie. Finds lie fields items format result)
+      (lies_as (all_lie_within fields items) (lie_in_levels 64 items (length items)) within)
+      (subst (λ t. Finds (lie_in_levels 64 items (length items)) fields items t result)
+      (same ∙ is) finds))
 
-    -- why no fault is known to be none is told
-    pub check_fails : (why : Failure) → CheckedBytes fields items format (Err why)
-        → ToldFailure why old new answer → CheckAnswers fields items format old new answer
-    check_fails failure.NotUtf8 checked told = inr (inr (inl (told, checked)))
-    check_fails failure.Lists checked told = inr (inr (inr (told, checked.1)))
-    check_fails failure.Table checked told = absurd checked.1
-    check_fails (failure.Fault e) (utf8, inl wants) told =
-        inr (inl (out_of_memory 0 old new answer (answer_of e) wants told))
-    check_fails (failure.Fault e) (utf8, inr faults) told =
-        by_answer (answer_of e) utf8 faults told
+-- ---- what is told
 
-    -- ---- with a picture
+fault_same : (x : Option Error) (y : Option Fault) → option_map answer_of x ≡ option_map fault y
+    → (which : ℕ) (fs : List Fault) → slice_get fs which ≡ y → IsFaultAt fs which x
+fault_same None None same which fs is = is
+fault_same None (Some f) same which fs is = cc
+fault_same (Some e) y same which fs is = rw is same
 
-    module _ (name : List ℕ) (first_line : ℕ) where
-      pictured_by : (a : Answer) (picture : List ℕ) → is_utf8 format ≡ true
-          → Faults fields items format (λ fs. AnswersFirst fs (Some a))
-          → Pictured name first_line format a picture
-          → answer ≡ record (fault_answer a 0) { message = length picture } → Told picture old new
-          → ExplainAnswers name first_line fields items format old new answer
-      pictured_by (fault f) picture utf8 faults of_fault told put =
-          inl (
-            utf8,
-            faults_more (λ fs first. inr (record {
-              f = f;
-              first = first;
-              picture = picture;
-              of_fault = of_fault;
-              told = told;
-              put = put;
-            })) faults,
-          )
-      pictured_by no_memory picture utf8 faults of_fault told put =
-          inr (inl (inl (ap (λ t. t.code) told)))
+-- what a slice has at an index, as a copy
+got : {X : Type 0} (xs : List X) (k : ℕ) (found : Option (Bor X)) → IsItemAt xs k found
+    → option_copied found ≡ slice_get xs k
+got xs k None at = sym (slice_get_past xs k at.3)
+got xs k (Some x) at = sym (slice_get_read xs (length xs) k x.now refl at.3.0 at.1)
 
-      -- the first fault is told with its picture
-      pub explains : (e : Error) (picture : List ℕ)
-          → CheckedBytes fields items format (Err (failure.Fault e))
-          → Pictured name first_line format (answer_of e) picture
-          → answer ≡ record (fault_answer (answer_of e) 0) { message = length picture }
-          → Told picture old new
-          → ExplainAnswers name first_line fields items format old new answer
-      explains e picture (utf8, inl wants) of_fault told put =
-          inr (inl (inl (ap (λ t. t.code) told ∙ ap code_of_answer wants)))
-      explains e picture (utf8, inr faults) of_fault told put =
-          pictured_by (answer_of e) picture utf8 faults of_fault told put
+-- what is at a number among errors that are faults
+pub fault_there : (errors : List Error) (which : ℕ) (found : Option (Bor Error))
+    → IsItemAt errors which found → FoundAt errors which (option_copied found)
+fault_there errors which found at fs are =
+    fault_same (option_copied found) (slice_get fs which)
+    (ap (option_map answer_of) (got errors which found at) ∙ sym (slice_get-map answer_of errors which)
+    ∙ ap (λ xs. slice_get xs which) are ∙ slice_get-map fault fs which) which fs refl
 
-      -- why there is no picture is told
-      pub picture_fails : (Z : Type 0) (e : Error) (a : Answer) (why : Failure)
-          → CheckedBytes fields items format (Err (failure.Fault e))
-          → PictureMade name first_line format a {Z = Z} (Err why) → ToldFailure why old new answer
-          → ExplainAnswers name first_line fields items format old new answer
-      picture_fails Z e a failure.NotUtf8 checked (inl no_name) told =
-          inr (inr (told, no_name))
-      picture_fails Z e a failure.NotUtf8 checked (inr no_format) told =
-          absurd (let both : true ≡ false = sym checked.0 ∙ no_format in cc)
-      picture_fails Z e a failure.Lists checked none told = absurd none
-      picture_fails Z e a failure.Table checked none told = absurd none
-      picture_fails Z e a (failure.Fault wrong) checked none told =
-          inr (inl (inl (out_of_memory 0 old new answer (answer_of wrong) none told)))
-
--- a row whose lists lie as they should
-pub row_checked : (fields items : List Field) (format text template : List ℕ)
-    (result : Result (Unit {0}) Failure) → text ≡ format → is_utf8 format ≡ true
-    → template ≡ text → all_lie_within fields items ≡ true
-    → Checked (lie_in_levels 64 items (length items)) fields items template result
-    → CheckedBytes fields items format result
-row_checked fields items format text template result is utf8 same within checked =
-    checked_bytes fields items format result utf8
-    (subst (λ lie. Checked lie fields items format result)
-    (lies_as (all_lie_within fields items) (lie_in_levels 64 items (length items)) within)
-    (subst (λ t. Checked (lie_in_levels 64 items (length items)) fields items t result)
-    (same ∙ is) checked))
+pub at_first : (fs : List Fault) → slice_get fs 0 ≡ first_fault fs
+at_first [] = refl
+at_first (f ∷ fs) = refl
 
 -- no first fault, so none
-pub none_first : (fs : List Fault) → first_fault fs ≡ None → fs ≡ []
+pub none_first : (fs : List Fault) → slice_get fs 0 ≡ None → fs ≡ []
 none_first [] none = refl
 none_first (f ∷ fs) none = cc
+
+module _ (fields items : List Field) (format : List ℕ) where
+  -- why the faults are not known is told, with a sentence or without
+  pub find_fails : (Z : Type 0) (old new : List ℕ) (answer : Told_answer) (why : Failure)
+      → FindsBytes fields items format {Z = Z} (Err why) → ToldFailure why old new answer
+      → ToldAside fields items format answer
+  find_fails Z old new answer failure.NotUtf8 finds told = inr (inl (told, finds))
+  find_fails Z old new answer failure.Lists finds told = inr (inr (told, finds.1))
+  find_fails Z old new answer failure.Table finds told = absurd finds.1
+  find_fails Z old new answer (failure.Fault e) finds told =
+      inl (out_of_memory 0 old new answer (answer_of e) finds.1 told)
+
+  pub find_coded : (Z : Type 0) (answer : Told_answer) (why : Failure)
+      → FindsBytes fields items format {Z = Z} (Err why) → answer.code ≡ failure_code why
+      → ToldAside fields items format answer
+  find_coded Z answer failure.NotUtf8 finds told = inr (inl (told, finds))
+  find_coded Z answer failure.Lists finds told = inr (inr (told, finds.1))
+  find_coded Z answer failure.Table finds told = absurd finds.1
+  find_coded Z answer (failure.Fault e) finds told = inl (told ∙ ap code_of_answer finds.1)
+
+  module _ (errors : List Error) (utf8 : is_utf8 format ≡ true)
+      (finds : Faults fields items format (AreFaults errors)) (answer : Told_answer) where
+    -- all faults are told in numbers
+    pub faults_told : (told old new : List Fault_numbers)
+        → told ≡ map fault_numbers (map answer_of errors) → FillsFront told old new
+        → answer ≡ text_answer (length told) → FaultsAnswers fields items format old new answer
+    faults_told told old new is fills counted =
+        inl (
+          utf8,
+          faults_more (λ fs are.
+              let same = is ∙ ap (map fault_numbers) are in (
+                counted ∙ ap (λ xs. text_answer (length xs)) same ∙ ap text_answer
+                    (length-map (map fault fs) fault_numbers ∙ length-map fs fault),
+                subst (λ xs. FillsFront xs old new) same fills,
+              )) finds,
+        )
+
+    module _ (old new : List ℕ) where
+      -- the first fault is told, or there is none
+      pub first_told : (e : Error) → FoundAt errors 0 (Some e) → ToldBy (answer_of e) 0 old new answer
+          → CheckAnswers fields items format old new answer
+      first_told e at told =
+          inl (
+            utf8,
+            faults_more (λ fs are.
+                if_fault (λ a. ToldBy a 0 old new answer) _ (first_fault fs) (answer_of e)
+                (at fs are ∙ ap (option_map fault) (at_first fs)) told) finds,
+          )
+
+      pub none_told : FoundAt errors 0 None → answer ≡ text_answer 0 → new ≡ old
+          → CheckAnswers fields items format old new answer
+      none_told at told same =
+          inl (
+            utf8,
+            faults_more (λ fs are. rw (sym (at_first fs) ∙ at fs are) (told, same)) finds,
+          )
+
+      module _ (of : Source) (which : ℕ) where
+        -- a fault is told with its picture, or there is none of that number
+        pub explains : (e : Error) → FoundAt errors which (Some e)
+            → TellsPicture of format (answer_of e) old new answer
+            → ExplainAnswers of fields items which format old new answer
+        explains e at (inl told) =
+            inl (
+              utf8,
+              faults_more (λ fs are.
+                  if_fault (ToldPicture of format old new answer) _ (slice_get fs which)
+                  (answer_of e) (at fs are) told) finds,
+            )
+        explains e at (inr (inl wants)) = inr (inl (inl wants))
+        explains e at (inr (inr (told, inl no_text))) = inr (inr (told, no_text))
+        explains e at (inr (inr (told, inr no_format))) = inr (inl (inr (inl (told, no_format))))
+
+        pub not_found : FoundAt errors which None → answer ≡ text_answer 0 → new ≡ old
+            → ExplainAnswers of fields items which format old new answer
+        not_found at told same =
+            inl (utf8, faults_more (λ fs are. rw (at fs are) (told, same)) finds)
+
+-- the first fault of a format by itself is told, or why it is not known
+pub alone_fails : (format old new : List ℕ) (answer : Told_answer) (why : Failure)
+    → CheckedAlone format (Err why) → ToldFailure why old new answer
+    → AloneAnswers format old new answer
+alone_fails format old new answer failure.NotUtf8 checked told = inr (inr (told, checked))
+alone_fails format old new answer failure.Lists checked told = absurd checked
+alone_fails format old new answer failure.Table checked told = absurd checked
+alone_fails format old new answer (failure.Fault e) (inl wants) told =
+    inr (inl (out_of_memory 0 old new answer (answer_of e) wants told))
+alone_fails format old new answer (failure.Fault e) (inr checked) told =
+    inl (
+      checked.0,
+      if_fault (λ a. ToldBy a 0 old new answer) _ (alone_fault format) (answer_of e) checked.1
+          told,
+    )
+
+-- a picture is told
+pub picture_told : (of : Source) (format old new picture made : List ℕ) (answer : Told_answer)
+    (a : Answer) → Pictured of format a made → picture ≡ made
+    → answer ≡ record (fault_answer a 0) { message = length picture } → Told picture old new
+    → TellsPicture of format a old new answer
+picture_told of format old new picture made answer a of_fault is told put =
+    inl (record {
+      picture = picture;
+      of_fault = subst (Pictured of format a) (sym is) of_fault;
+      told = told;
+      put = put;
+    })
+
+-- why there is no picture is told
+pub picture_fails : (Z : Type 0) (of : Source) (format old new : List ℕ) (answer : Told_answer)
+    (a : Answer) (why : Failure) → PictureMade of format a {Z = Z} (Err why)
+    → ToldFailure why old new answer → TellsPicture of format a old new answer
+picture_fails Z of format old new answer a failure.NotUtf8 made told = inr (inr (told, made))
+picture_fails Z of format old new answer a failure.Lists made told = absurd made
+picture_fails Z of format old new answer a failure.Table made told = absurd made
+picture_fails Z of format old new answer a (failure.Fault e) made told =
+    inr (inl (out_of_memory 0 old new answer (answer_of e) made told))

@@ -6,10 +6,10 @@ use Rattle.std.specs.List.{list_any}
 use Rattle.std.proofs.Common.{get_or, ◌<◌}
 use Rattle.std.proofs.lemmas.List.{take_more, length-take-le}
 use Rattle.std.proofs.lemmas.List.{drop-drop, drop-map, drop_all, take_all, length-map}
-use Rattle.interpolator_eval.specs.Slots.{Slots, empty_slots, with_iter}
+use Rattle.interpolator_eval.specs.Slots.{Slots, with_iter}
 use Rattle.interpolator_border.specs.declared.field.Field.{Field}
 use Rattle.interpolator_border.specs.Fields.{after_last, begins_before, field_slots, lie_in_levels}
-use Rattle.interpolator_border.specs.Fields.{settled, value_slots}
+use Rattle.interpolator_border.specs.Fields.{masked_slots, settled, value_slots}
 
 -- ---- the item after the last list that begins before a place
 
@@ -97,13 +97,13 @@ or_false false b none = (refl, none)
 
 module _ (from : ℕ) (xs ys : List (Slots Field)) (same : drop from xs ≡ drop from ys) where
   by_kind : (item : Field) (is_list : Bool) → (is_list && nat_lt item.first from) ≡ false
-      → (if is_list then with_iter empty_slots (drop item.first (take item.end xs))
+      → (if is_list then with_iter (masked_slots item.slots item) (drop item.first (take item.end xs))
       else value_slots item)
-      ≡ (if is_list then with_iter empty_slots (drop item.first (take item.end ys))
+      ≡ (if is_list then with_iter (masked_slots item.slots item) (drop item.first (take item.end ys))
       else value_slots item)
   by_kind item true late =
       let after : from ≤ item.first = grind (arith, late) in
-      ap (with_iter empty_slots) (same_cut from item.first item.end xs ys after same)
+      ap (with_iter (masked_slots item.slots item)) (same_cut from item.first item.end xs ys after same)
   by_kind item false late = refl
 
   same_all : (items : List Field) → list_any (begins_before from) items ≡ false

@@ -1,9 +1,13 @@
 -- What is told of a table.
 use Rattle.std.proofs.Common.{arith, ◌≡◌, ◌⊎◌, inl, inr, ◌∙◌, sym, ap, refl, subst, List, ℕ, zero, suc}
-use Rattle.std.proofs.Common.{Some, true, Err, length, ◌+◌}
+use Rattle.std.proofs.Common.{[], map, Option, Result, Some, true, Err, length, ◌+◌}
 use Rattle.std.proofs.Common.{◌*◌, ◌<◌, ◌≤◌}
+use Rattle.std.proofs.Math.Path.{fun_ext}
+use Rattle.std.specs.Prelude.{slice_get}
 use Rattle.std.proofs.lemmas.Nat.{mul-le}
-use Rattle.std.proofs.lemmas.List.{length-append}
+use Rattle.std.proofs.lemmas.List.{length-map}
+use Rattle.std.proofs.lemmas.Option.{slice_get-map}
+use Rattle.interpolator_render.specs.Written.{Buffered}
 use Rattle.std.specs.Borrow.{Bor}
 use Rattle.std.specs.Str.{chars, is_utf8, IsUtf8}
 use Rattle.std.specs.Prelude.{encode_utf8_all}
@@ -11,7 +15,10 @@ use Rattle.std.proofs.lemmas.Str.{encodes-chars}
 use Rattle.interpolator_syntax.specs.At.{outermost}
 use Rattle.interpolator_syntax.specs.Faults.{Answer, Fault, fault, no_memory, answer_of}
 use Rattle.interpolator_eval.specs.Contexts.{found_by_pairs}
+use Rattle.interpolator_eval.specs.Slots.{slots_of}
 use Rattle.interpolator_eval.specs.declared.slots.Formattable.{Formattable}
+use Rattle.interpolator.specs.Prepared.Rows.{PreparedFormat, row_at}
+use Rattle.interpolator_syntax.specs.declared.error.Error.{Error}
 use Rattle.interpolator.specs.Template.NodeSamples.{faults_over}
 use Rattle.interpolator.specs.Template.Collecting.{AnswersFirst}
 use Rattle.interpolator_border.specs.declared.answer.Answer.{Answer as Told_answer}
@@ -19,47 +26,54 @@ use Rattle.interpolator_border.specs.declared.answer.Failure.{Failure}
 use Rattle.interpolator_border.specs.declared.answer.Failure.TheVariants as failure
 use Rattle.interpolator_border.specs.declared.field.Field.{Field}
 use Rattle.interpolator_border.specs.declared.table.RowFault.{RowFault}
-use Rattle.interpolator_border.specs.Answers.{Told, ToldBy, ToldFailure, fault_answer}
-use Rattle.interpolator_border.specs.Answers.{text_answer}
-use Rattle.interpolator_syntax.specs.FaultTexts.{answer_text}
-use Rattle.interpolator_border.specs.Fields.{field_shows}
-use Rattle.interpolator_border.specs.Tables.{ColumnFaults, FailsIn, Prepares, RowsAnswers}
-use Rattle.interpolator_border.specs.Tables.{AllRows, Faultless, Pairs, TellsRows}
-use Rattle.interpolator_border.specs.Tables.{rows_ends, rows_text}
-use Rattle.interpolator_border.proofs.AnswerLemmas.{out_of_memory, which_fault}
+use Rattle.interpolator_border.specs.Answers.{Told, ToldBy, ToldFailure, text_answer}
+use Rattle.interpolator_border.specs.Fields.{field_shows, field_slots}
+use Rattle.interpolator_border.specs.Tables.{Appended, ColumnFaults, FailsIn, Prepares, RowsAnswers, cell_at}
+use Rattle.interpolator_border.specs.Tables.{AllRows, Faultless, Pairs, TellsRows, ToldInRow}
+use Rattle.interpolator_border.specs.Tables.{column_names, rows_ends, rows_text, row_means, values_mean}
+use Rattle.interpolator_border.proofs.AnswerLemmas.{out_of_memory, some_fault}
 
-module _ (names : List (List ℕ)) (format : List ℕ) (width : ℕ) (values : List (Formattable Field)) where
-  -- one end for each row
-  pub ends_count : (count : ℕ) → length (rows_ends names format width values count) ≡ count
-  ends_count zero = refl
-  ends_count (suc row) =
-      length-append (rows_ends names format width values row) _
-      ∙ ap (λ n. n + 1) (ends_count row) ∙ omega arith
+-- what values stand for at each position is what their cells do
+pub row_appended : (names : List (List ℕ)) (format : List ℕ) (values : List (Formattable Field))
+    (cells : List Field) (old new : Buffered) (result : Result ℕ Error)
+    → map slots_of values ≡ map (field_slots []) cells
+    → Appended (values_mean names format (row_at values)) old new result
+    → Appended (values_mean names format (cell_at cells)) old new result
+row_appended names format values cells old new result are appended =
+    subst (λ value_at. Appended (values_mean names format value_at) old new result)
+    (fun_ext (λ k. sym (slice_get-map slots_of values k) ∙ ap (λ xs. slice_get xs k) are
+    ∙ slice_get-map (field_slots []) cells k)) appended
 
+-- there are as many values as cells
+pub as_many : (values : List (Formattable Field)) (cells : List Field)
+    → map slots_of values ≡ map (field_slots []) cells → length values ≡ length cells
+as_many values cells are =
+    sym (length-map values slots_of) ∙ ap length are ∙ length-map cells (field_slots [])
+
+module _ (names : List (List ℕ)) (format : List ℕ) (width : ℕ) (cells : List Field) where
   -- a fault of a row is told
   pub row_fails : (wrong : RowFault) (ends_old ends_new : List ℕ) (old new : List ℕ)
-      (told answer : Told_answer) → FailsIn names format width values wrong
+      (told answer : Told_answer) → FailsIn names format width cells wrong
       → ToldBy (answer_of wrong.error) 0 old new told → answer ≡ record told { row = wrong.row }
-      → TellsRows names format width values ends_old ends_new old new answer
+      → TellsRows names format width cells ends_old ends_new old new answer
   row_fails wrong ends_old ends_new old new told answer (inl wants) tells is =
       inr (inr (ap (λ t. t.code) is
       ∙ out_of_memory 0 old new told (answer_of wrong.error) wants tells))
   row_fails wrong ends_old ends_new old new told answer (inr fails) tells is =
-      let w = which_fault _ (answer_of wrong.error) fails.1 in
       inr (inl (record {
-        f = w.f;
         row = wrong.row;
         before = fails.0;
-        is = w.is;
-        told = by_sentence w.f
-            (subst (λ b. ToldBy b 0 old new told) w.told tells);
+        fails = some_fault (λ a. ToldInRow a wrong.row old new answer) _ (answer_of wrong.error)
+            fails.1 (in_row (answer_of wrong.error) tells);
       }))
     where
-      by_sentence : (f : Fault) → ToldBy (fault f) 0 old new told
-          → (answer.code ≡ 6) ⊎ ((answer ≡ record (fault_answer (fault f) 0) { row = wrong.row })
-          × Told (answer_text (fault f)) old new)
-      by_sentence f (inl none) = inl (ap (λ t. t.code) is ∙ none.0)
-      by_sentence f (inr told) = inr (is ∙ ap {A = Told_answer} {B = Told_answer} (λ t. record t { row = wrong.row }) told.0, told.1)
+      in_row : (a : Answer) → ToldBy a 0 old new told → ToldInRow a wrong.row old new answer
+      in_row a (inl none) = inl (ap (λ t. t.code) is ∙ none.0)
+      in_row a (inr told) =
+          inr (
+            is ∙ ap {A = Told_answer} {B = Told_answer} (λ t. record t { row = wrong.row }) told.0,
+            told.1,
+          )
 
 module _ (columns cells : List Field) (format : List ℕ) (ends_old ends_new old new : List ℕ)
     (answer : Told_answer) where
@@ -72,7 +86,7 @@ module _ (columns cells : List Field) (format : List ℕ) (ends_old ends_new old
         record {
           pairs = faults.pairs;
           are = faults.are;
-          holds = record { f = f; first = faults.holds; told = told };
+          holds = rw faults.holds told;
         },
       ))
   by_answer no_memory utf8 faults told =
@@ -121,22 +135,36 @@ column_faults columns format text template pairs made a is utf8 same by are (inr
 
 -- all rows are written
 pub all_rows : (names : List (List ℕ)) (format : List ℕ) (width : ℕ)
-    (values : List (Formattable Field)) (count : ℕ) (text ends bytes again old new : List ℕ)
-    (answer : Told_answer) → Faultless names format width values count
-    → text ≡ rows_text names format width values count
-    → ends ≡ rows_ends names format width values count → chars bytes ≡ text → IsUtf8 bytes
-    → chars again ≡ text → IsUtf8 again → Told bytes old new
-    → answer ≡ text_answer (length again)
-    → AllRows names format width values count ends old new answer
-all_rows names format width values count text ends bytes again old new answer faultless is ends_are
-    by utf8 by_again utf8_again put told =
-    let whole : bytes ≡ encode_utf8_all (rows_text names format width values count) =
+    (cells : List Field) (count : ℕ) (text ends bytes old new : List ℕ)
+    (answer : Told_answer) → Faultless names format width cells count
+    → text ≡ rows_text names format width cells count
+    → ends ≡ rows_ends names format width cells count → chars bytes ≡ text → IsUtf8 bytes
+    → Told bytes old new → answer ≡ text_answer (length bytes)
+    → AllRows names format width cells count ends old new answer
+all_rows names format width cells count text ends bytes old new answer faultless is ends_are by utf8
+    put told =
+    let whole : bytes ≡ encode_utf8_all (rows_text names format width cells count) =
     sym (ap encode_utf8_all (sym (by ∙ is)) ∙ encodes-chars bytes utf8) in
-    let counted : again ≡ encode_utf8_all (rows_text names format width values count) =
-    sym (ap encode_utf8_all (sym (by_again ∙ is)) ∙ encodes-chars again utf8_again) in
     record {
       faultless = faultless;
       ends_are = ends_are;
-      told = told ∙ ap (λ b. text_answer (length b)) counted;
+      told = told ∙ ap (λ b. text_answer (length b)) whole;
       put = subst (λ b. Told b old new) whole put;
     }
+
+-- all rows of cells are told, by the format and the columns
+pub rows_told : (columns cells : List Field) (format : List ℕ) (line : PreparedFormat)
+    (values : List (Formattable Field)) (width : ℕ) (ends_old ends_new old new : List ℕ)
+    (answer : Told_answer) → is_utf8 format ≡ true
+    → line ≡ record { text = format; names = column_names columns } → width ≡ length values
+    → map slots_of values ≡ map (field_slots []) columns
+    → TellsRows line.names line.text width cells ends_old ends_new old new answer
+    → RowsAnswers columns cells format ends_old ends_new old new answer
+rows_told columns cells format line values width ends_old ends_new old new answer utf8 is wide are
+    told =
+    inl (
+      utf8,
+      subst (λ w. TellsRows (column_names columns) format w cells ends_old ends_new old new answer)
+          (wide ∙ as_many values columns are)
+          (subst (λ l. TellsRows l.names l.text width cells ends_old ends_new old new answer) is told),
+    )

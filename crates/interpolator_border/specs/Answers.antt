@@ -1,12 +1,15 @@
 -- What a caller that is not Rattle is told.
-use Rattle.std.specs.Prelude.{◌≡◌, ◌≤◌, ◌⊎◌, ◌<◌, ℕ, List, None, Some, Option, length, take, drop}
-use Rattle.std.specs.Prelude.{Bool, Result, Ok, Err, MatchResult, string_bytes, true, false, option_map, []}
-use Rattle.std.specs.Prelude.{encode_utf8_all, unwrap_or}
-use Rattle.std.specs.Str.{chars, is_utf8}
+use Rattle.std.specs.Prelude.{◌≡◌, ◌≤◌, ◌⊎◌, ◌<◌, ◌+◌, ◌++◌, ℕ, List, None, Some, Option, length, take, drop}
+use Rattle.std.specs.Prelude.{Bool, Result, Ok, Err, MatchOption, MatchResult, string_bytes, true, false, option_map, []}
+use Rattle.std.specs.Prelude.{encode_utf8_all, unwrap_or, codes, if◌then◌else◌}
+use Rattle.std.specs.Str.{bytes_eq, chars, is_utf8}
 use Rattle.std.specs.declared.string.String.{String}
 use Rattle.interpolator_syntax.specs.Faults.{Answer, Fault, fault, no_memory, answer_of, answer_place}
 use Rattle.interpolator_syntax.specs.Faults.{missing_trait_impl, fmt, parse, missing_value}
-use Rattle.interpolator_syntax.specs.Faults.{unsupported_option}
+use Rattle.interpolator_syntax.specs.Faults.{unsupported_option, ParseFault, unclosed, expected}
+use Rattle.interpolator_syntax.specs.Faults.{invalid_width, invalid_precision, fill, iter, range_bound}
+use Rattle.interpolator_syntax.specs.declared.error.NumberError.{NumberError}
+use Rattle.interpolator_syntax.specs.declared.error.NumberError.TheVariants as numbers
 use Rattle.interpolator_syntax.specs.FaultTexts.{answer_text}
 use Rattle.interpolator_syntax.specs.At.{outermost, text_of}
 use Rattle.interpolator_render.specs.Written.{Written}
@@ -19,6 +22,7 @@ use Rattle.interpolator_border.specs.Fields.{AreTrees, field_shows, found_in, li
 use Rattle.interpolator_border.specs.declared.answer.Answer.{Answer as Told_answer}
 use Rattle.interpolator_border.specs.declared.answer.Failure.{Failure}
 use Rattle.interpolator_border.specs.declared.answer.Failure.TheVariants as failure
+use Rattle.interpolator_border.specs.declared.fault.Fault.{Fault as Fault_numbers}
 use Rattle.interpolator_border.specs.declared.field.Field.{Field}
 
 -- ---- faults
@@ -36,15 +40,45 @@ abbrev pub code_of_answer : Answer → ℕ
 code_of_answer (fault f) = code_of_fault f
 code_of_answer no_memory = 6
 
--- the number of a missing trait
+-- 16 times the number of what is wrong with a number
+abbrev pub number_code : NumberError → ℕ
+number_code numbers.Empty = 16
+number_code numbers.InvalidDigit = 32
+number_code numbers.PosOverflow = 48
+number_code numbers.NegOverflow = 64
+
+-- the number of the text that should be there
+abbrev pub expected_code : List ℕ → ℕ
+expected_code text = if bytes_eq text (codes "(") then 3 else 2
+
+-- how a format is broken, in a number
+abbrev pub parse_code : ParseFault → ℕ
+parse_code (unclosed _) = 1
+parse_code (expected text _) = expected_code text
+parse_code (invalid_width kind _) = 4 + number_code kind
+parse_code (invalid_precision kind _) = 5 + number_code kind
+parse_code (fill _) = 6
+parse_code (iter _) = 7
+parse_code (range_bound kind _) = 8 + number_code kind
+
+-- the number of a missing trait, or how the format is broken
 abbrev pub detail_of_fault : Fault → ℕ
 detail_of_fault (missing_trait_impl t _) = slot_code t
+detail_of_fault (parse f) = parse_code f
 detail_of_fault _ = 0
 
 -- the same of an answer
 abbrev pub detail_of_answer : Answer → ℕ
 detail_of_answer (fault f) = detail_of_fault f
 detail_of_answer no_memory = 0
+
+-- a fault in numbers
+abbrev pub fault_numbers : Answer → Fault_numbers
+fault_numbers a = record {
+  code = code_of_answer a;
+  detail = detail_of_answer a;
+  place = unwrap_or (answer_place a) 0;
+}
 
 -- what is told of a fault, with so many bytes before it
 abbrev pub fault_answer : Answer → ℕ → Told_answer
@@ -62,7 +96,11 @@ abbrev pub text_answer : ℕ → Told_answer
 text_answer written =
     record { code = 0; detail = 0; place = 0; length = written; message = 0; row = 0 }
 
--- ---- rooms
+-- ---- rooms and places
+
+-- as many as there are places for, and no other place is changed
+abbrev pub FillsFront : {A : Type 0} → (told old new : List A) → Type 0
+FillsFront told old new = new ≡ take (length old) told ++ drop (length told) old
 
 -- a text lies at the front of the room, if it fits, and nothing else in the room is changed
 abbrev pub Told : List ℕ → List ℕ → List ℕ → Type 0
@@ -77,6 +115,17 @@ abbrev pub ToldBy : Answer → ℕ → List ℕ → List ℕ → Told_answer →
 ToldBy a written old new answer =
     ((answer.code ≡ 6) × (answer.length ≡ written))
     ⊎ ((answer ≡ fault_answer a written) × Told (answer_text a) old new)
+
+-- a fault alone, and its sentence in the room if it fits there
+abbrev pub ToldAlone : (old new : List ℕ) → Told_answer → Fault → Type 0
+ToldAlone old new answer f = ToldBy (fault f) 0 old new answer
+
+-- the code of why there is no text
+abbrev pub failure_code : Failure → ℕ
+failure_code failure.NotUtf8 = 7
+failure_code failure.Lists = 8
+failure_code failure.Table = 10
+failure_code (failure.Fault e) = code_of_answer (answer_of e)
 
 -- why there is no text
 abbrev pub ToldFailure : Failure → List ℕ → List ℕ → Told_answer → Type 0
@@ -106,6 +155,15 @@ ToldAside fields items format answer =
     ⊎ ((answer.code ≡ 8) × (lists_lie fields items ≡ false))
 
 -- ---- what was written
+
+-- a row whose items stand for these was written up to what was told
+abbrev pub WritesKnown : List Field → List (Slots Field) → List ℕ → (old new : Written)
+    → Result (Unit {0}) Failure → Type 0
+WritesKnown fields trees format old new (Ok _) =
+    Outcome (row_means fields trees format) old new None
+WritesKnown fields trees format old new (Err (failure.Fault e)) =
+    Outcome (row_means fields trees format) old new (Some (answer_of e))
+WritesKnown fields trees format old new (Err _) = ⊥
 
 -- a row was written up to what was told; or lists lie where they may not, or memory was wanted for
 -- them, and nothing was written
@@ -180,22 +238,15 @@ FormatsRow fields items format result = MatchResult result
     × (chars (string_bytes s) ≡ text_of m.text)))
     (λ why. FailsBy fields items format why)
 
--- the text is whole, and in the room if it fits there
-pub record Whole (m : Meaning) (old new : List ℕ) (answer : Told_answer) : Type 0 where
-  pub no_fault : m.fault ≡ None
-  pub told : answer ≡ text_answer (length (encode_utf8_all (text_of m.text)))
-  pub put : Told (encode_utf8_all (text_of m.text)) old new
-
--- the format's fault, with its sentence
-pub record Faulty (m : Meaning) (old new : List ℕ) (answer : Told_answer) : Type 0 where
-  pub f : Fault
-  pub is : m.fault ≡ Some f
-  pub told : ToldBy (fault f) 0 old new answer
+-- a text is told, and in the room if it fits there
+abbrev pub ToldText : List ℕ → (old new : List ℕ) → Told_answer → Type 0
+ToldText text old new answer = (answer ≡ text_answer (length text)) × Told text old new
 
 -- the text of a format over a row, or its fault; or why there is none
 abbrev pub FormatAnswers : (fields items : List Field) → List ℕ → List ℕ → List ℕ
     → Told_answer → Type 0
 FormatAnswers fields items format old new answer =
     ((is_utf8 format ≡ true)
-    × Means fields items format (λ m. Whole m old new answer ⊎ Faulty m old new answer))
+    × Means fields items format (λ m. MatchOption m.fault
+    (ToldText (encode_utf8_all (text_of m.text)) old new answer) (ToldAlone old new answer)))
     ⊎ ToldAside fields items format answer

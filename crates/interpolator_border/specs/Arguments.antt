@@ -1,5 +1,5 @@
 -- The arguments of a format, as they are told.
-use Rattle.std.specs.Prelude.{◌≡◌, ◌⊎◌, ℕ, ◌+◌, List, ◌++◌, map, length, take, drop, true, false}
+use Rattle.std.specs.Prelude.{◌≡◌, ◌⊎◌, ℕ, ◌+◌, List, map, length, true, false}
 use Rattle.std.specs.Prelude.{Option, None, Some}
 use Rattle.std.specs.Str.{chars, is_utf8}
 use Rattle.interpolator_render.specs.Lengths.{usize_count}
@@ -11,7 +11,7 @@ use Rattle.interpolator_syntax.specs.At.{outermost}
 use Rattle.interpolator_syntax.specs.Groups.{Group}
 use Rattle.interpolator_syntax.specs.SpecTexts.{Kind, of_value, of_list}
 use Rattle.interpolator.specs.Template.AllArguments.{arguments_of}
-use Rattle.interpolator_border.specs.Answers.{text_answer}
+use Rattle.interpolator_border.specs.Answers.{FillsFront, text_answer}
 use Rattle.interpolator_border.specs.Requests.{request_of}
 use Rattle.interpolator_border.specs.declared.answer.Answer.{Answer as Told_answer}
 use Rattle.interpolator_border.specs.declared.argument.Argument.{Argument as Told_argument}
@@ -54,10 +54,6 @@ told_argument x = record {
 -- those of a format
 abbrev pub told_arguments : List ℕ → List Told_argument
 told_arguments format = map told_argument (arguments_of (outermost (chars format)))
-
--- as many as there are places for, and no other place is changed
-abbrev pub FillsFront : List Told_argument → List Told_argument → List Told_argument → Type 0
-FillsFront told old new = new ≡ take (length old) told ++ drop (length told) old
 
 -- the arguments, and how many they are; or memory was wanted, or the format is not UTF-8
 abbrev pub ArgumentAnswers : List ℕ → (old new : List Told_argument) → Told_answer → Type 0

@@ -70,6 +70,7 @@ field_shows field t spec =
     else if field.kind == 1 then text_shows plain_text field.text.now
     else if field.kind == 2 then truth_value (not (field.natural == 0))
     else if field.kind == 3 then character_shows field.natural
+    else if field.kind == 11 then lent_shows field.lent.now t spec
     else if field.kind == 12 then lent_shows field.lent.now t spec
     else number_shows field
 
@@ -103,10 +104,11 @@ abbrev pub value_slots : Field → Slots Field
 value_slots field = if field.slots == 0 then kind_slots field else masked_slots field.slots field
 
 -- what a field stands for, by what the items stand for: a list for those from its first up to its
--- end, and any other for its slots
+-- end and for the slots of its mask, and any other for its slots
 abbrev pub field_slots : List (Slots Field) → Field → Slots Field
 field_slots trees field =
-    if field.kind == 11 then with_iter empty_slots (drop field.first (take field.end trees))
+    if field.kind == 11
+    then with_iter (masked_slots field.slots field) (drop field.first (take field.end trees))
     else value_slots field
 
 -- each item stands for what its field says, lists included

@@ -1,26 +1,26 @@
 -- A table: a format over each of its rows.
 use Rattle.std.specs.Prelude.{◌≡◌, ◌≢◌, ◌⊎◌, ⊤, ℕ, zero, suc, ◌*◌, List, [], ◌∷◌, ◌++◌}
-use Rattle.std.specs.Prelude.{map, length, take, drop, None, Some, true, false, option_map}
-use Rattle.std.specs.Prelude.{Bool, Result, MatchResult, Ok, Err, encode_utf8_all}
+use Rattle.std.specs.Prelude.{map, length, take, drop, slice_get, None, Some, true, false, option_map, Option}
+use Rattle.std.specs.Prelude.{Bool, Result, MatchResult, IsSomeAnd, Ok, Err, encode_utf8_all}
 use Rattle.std.specs.List.{list_all}
 use Rattle.std.specs.Str.{chars, is_utf8}
 use Rattle.std.specs.Borrow.{Bor}
 use Rattle.std.specs.declared.vec.Vec.{Vec}
 use Rattle.interpolator_render.specs.Written.{Buffered, byte_count}
 use Rattle.interpolator_syntax.specs.At.{outermost, text_of}
-use Rattle.interpolator_syntax.specs.Faults.{Fault, fault, no_memory, answer_of}
+use Rattle.interpolator_syntax.specs.Faults.{Answer, Fault, fault, no_memory, answer_of}
 use Rattle.interpolator_syntax.specs.FaultTexts.{answer_text}
 use Rattle.interpolator_syntax.specs.declared.error.Error.{Error}
 use Rattle.interpolator_eval.specs.Contexts.{found_by_pairs}
 use Rattle.interpolator_eval.specs.Meaning.Environments.{environment}
 use Rattle.interpolator_eval.specs.Meaning.Meanings.{Meaning, means}
-use Rattle.interpolator_eval.specs.Slots.{slots_of}
+use Rattle.interpolator_eval.specs.Slots.{Slots, slots_of}
 use Rattle.interpolator_eval.specs.declared.slots.Formattable.{Formattable}
-use Rattle.interpolator.specs.Prepared.Rows.{PreparedFormat, found_by_row, pair_names, row_at}
+use Rattle.interpolator.specs.Prepared.Rows.{PreparedFormat, found_by_row, pair_names}
 use Rattle.interpolator.specs.Template.NodeChecks.{first_fault}
 use Rattle.interpolator.specs.Template.NodeSamples.{faults_over}
 use Rattle.interpolator.specs.Template.Collecting.{AnswersFirst}
-use Rattle.interpolator_border.specs.Answers.{Told, ToldBy, fault_answer, text_answer}
+use Rattle.interpolator_border.specs.Answers.{Told, ToldAlone, fault_answer, text_answer}
 use Rattle.interpolator_border.specs.Fields.{all_within, field_shows, field_slots}
 use Rattle.interpolator_border.specs.declared.answer.Answer.{Answer as Told_answer}
 use Rattle.interpolator_border.specs.declared.answer.Failure.{Failure}
@@ -72,9 +72,13 @@ Prepares columns format (Err _) = ⊥
 -- ---- the rows
 
 -- what a format means over the values of a row, in the order of names
-abbrev pub values_mean : List (List ℕ) → List ℕ → List (Formattable Field) → Meaning
-values_mean names format row =
-    means field_shows (environment (found_by_row names (row_at row))) (outermost (chars format))
+abbrev pub values_mean : List (List ℕ) → List ℕ → (value_at : ℕ → Option (Slots Field)) → Meaning
+values_mean names format value_at =
+    means field_shows (environment (found_by_row names value_at)) (outermost (chars format))
+
+-- what the cells of a row stand for at each position, where a list has no items
+abbrev pub cell_at : List Field → ℕ → Option (Slots Field)
+cell_at cells k = option_map (field_slots []) (slice_get cells k)
 
 -- a row was appended, and where it ends; or its fault, or memory was wanted
 abbrev pub Appended : Meaning → (old new : Buffered) → Result ℕ Error → Type 0
@@ -84,10 +88,10 @@ Appended m old new (Ok end) =
 Appended m old new (Err e) =
     (answer_of e ≡ no_memory) ⊎ (Some (answer_of e) ≡ option_map fault m.fault)
 
-module _ (names : List (List ℕ)) (format : List ℕ) (width : ℕ) (values : List (Formattable Field)) where
+module _ (names : List (List ℕ)) (format : List ℕ) (width : ℕ) (cells : List Field) where
   -- what the format means over a row
   abbrev pub row_means : ℕ → Meaning
-  row_means row = values_mean names format (take width (drop (row * width) values))
+  row_means row = values_mean names format (cell_at (take width (drop (row * width) cells)))
 
   -- the text of so many rows
   abbrev pub rows_text : ℕ → List ℕ
@@ -110,46 +114,39 @@ module _ (names : List (List ℕ)) (format : List ℕ) (width : ℕ) (values : L
       (answer_of wrong.error ≡ no_memory) ⊎ (Faultless wrong.row
       × (Some (answer_of wrong.error) ≡ option_map fault (row_means wrong.row).fault))
 
-  -- the rows were appended, and where each ends; or the first fault of one
-  abbrev pub MadeRows : {Z : Type 0} → (count : ℕ) → Buffered → Result (Vec ℕ Z) RowFault → Type 0
-  MadeRows count new result = MatchResult result
-      (λ ends. Faultless count × (new.text ≡ rows_text count) × (ends.items ≡ rows_ends count))
-      FailsIn
+  -- so many rows were appended, and it is told where each ends; or the first fault of one
+  abbrev pub MadeRows : (count : ℕ) → Buffered → (ends : List ℕ) → Result (Unit {0}) RowFault
+      → Type 0
+  MadeRows count new ends result = MatchResult result
+      (λ _. Faultless count × (new.text ≡ rows_text count) × (ends ≡ rows_ends count)) FailsIn
 
--- values that stand for the cells, where a list has no items
-pub record Values (cells : List Field) (P : List (Formattable Field) → Type 0) : Type 0 where
-  pub values : List (Formattable Field)
-  pub are : map slots_of values ≡ map (field_slots []) cells
-  pub holds : P values
+-- a fault after so many rows, and its sentence in the room if it fits there; or that memory was wanted
+-- for the sentence
+abbrev pub ToldInRow : Answer → (row : ℕ) → (old new : List ℕ) → Told_answer → Type 0
+ToldInRow a row old new answer =
+    (answer.code ≡ 6)
+    ⊎ ((answer ≡ record (fault_answer a 0) { row = row }) × Told (answer_text a) old new)
 
-module _ (names : List (List ℕ)) (format : List ℕ) (width : ℕ) (values : List (Formattable Field)) where
+module _ (names : List (List ℕ)) (format : List ℕ) (width : ℕ) (cells : List Field) where
   -- all rows are written: their texts one after the other, and where each ends
   pub record AllRows (count : ℕ) (ends old new : List ℕ) (answer : Told_answer) : Type 0 where
-    pub faultless : Faultless names format width values count
-    pub ends_are : ends ≡ rows_ends names format width values count
-    pub told : answer ≡ text_answer (byte_count (rows_text names format width values count))
-    pub put : Told (encode_utf8_all (rows_text names format width values count)) old new
+    pub faultless : Faultless names format width cells count
+    pub ends_are : ends ≡ rows_ends names format width cells count
+    pub told : answer ≡ text_answer (byte_count (rows_text names format width cells count))
+    pub put : Told (encode_utf8_all (rows_text names format width cells count)) old new
 
   -- a fault of a row, before which are none, is told with its sentence
   pub record OneRowFails (old new : List ℕ) (answer : Told_answer) : Type 0 where
-    pub f : Fault
     pub row : ℕ
-    pub before : Faultless names format width values row
-    pub is : (row_means names format width values row).fault ≡ Some f
-    pub told : (answer.code ≡ 6) ⊎ ((answer ≡ record (fault_answer (fault f) 0) { row = row })
-        × Told (answer_text (fault f)) old new)
+    pub before : Faultless names format width cells row
+    pub fails : IsSomeAnd (row_means names format width cells row).fault
+        (λ f. ToldInRow (fault f) row old new answer)
 
   -- all rows are written, or a fault of one is told, or memory was wanted
   abbrev pub TellsRows : (ends_old ends_new : List ℕ) → (old new : List ℕ) → Told_answer → Type 0
   TellsRows ends_old ends_new old new answer =
       AllRows (length ends_old) ends_new old new answer
       ⊎ (OneRowFails old new answer ⊎ (answer.code ≡ 6))
-
--- the first fault over the columns is told with its sentence
-pub record ColumnsFail (old new : List ℕ) (answer : Told_answer) (fs : List Fault) : Type 0 where
-  pub f : Fault
-  pub first : first_fault fs ≡ Some f
-  pub told : ToldBy (fault f) 0 old new answer
 
 -- why no row is written
 abbrev pub RowsAside : (columns cells : List Field) → List ℕ → (count : ℕ) → Told_answer → Type 0
@@ -163,7 +160,8 @@ RowsAside columns cells format count answer =
 abbrev pub RowsAnswers : (columns cells : List Field) → List ℕ → (ends_old ends_new : List ℕ)
     → (old new : List ℕ) → Told_answer → Type 0
 RowsAnswers columns cells format ends_old ends_new old new answer =
-    ((is_utf8 format ≡ true) × Values cells (λ values.
-    TellsRows (column_names columns) format (length columns) values ends_old ends_new old new answer))
-    ⊎ (((is_utf8 format ≡ true) × ColumnFaults columns format (ColumnsFail old new answer))
+    ((is_utf8 format ≡ true)
+    × TellsRows (column_names columns) format (length columns) cells ends_old ends_new old new answer)
+    ⊎ (((is_utf8 format ≡ true) × ColumnFaults columns format (λ fs.
+    IsSomeAnd (first_fault fs) (ToldAlone old new answer)))
     ⊎ RowsAside columns cells format (length ends_old) answer)

@@ -1,15 +1,12 @@
 //! What a call returns.
 ghost use Rattle.std.specs.Prelude.{◌≡◌, ◌<◌, length};
-ghost use Rattle.interpolator_border.specs.Answers.{Told, ToldBy, ToldFailure, code_of_answer};
-ghost use Rattle.interpolator_border.specs.Answers.{detail_of_answer, fault_answer, text_answer};
+ghost use Rattle.interpolator_border.specs.Answers.{FillsFront, Told, ToldBy, ToldFailure};
+ghost use Rattle.interpolator_border.specs.Answers.{failure_code, fault_answer, text_answer};
 ghost use Rattle.interpolator_syntax.specs.Faults.{answer_of};
 
-use crate::request::slot_code;
+use crate::fault::{NO_MEMORY, code_of, fault_numbers};
 use interpolator::Error;
 use std::alloc::Global;
-
-/// The code of a refusal of memory.
-pub(crate) const NO_MEMORY: u32 = 6;
 
 /// The code of a format that is not UTF-8.
 pub(crate) const NOT_UTF8: u32 = 7;
@@ -29,7 +26,7 @@ const TABLE: u32 = 10;
 pub struct Answer {
     /// 0 if all went well, or what is wrong.
     pub code: u32,
-    /// The number of a missing trait; else 0.
+    /// The number of a missing trait, or how a format is broken; else 0.
     pub detail: u32,
     /// The place of a fault, in bytes of the format.
     pub place: usize,
@@ -54,31 +51,6 @@ pub(crate) enum Failure {
     Fault(Error),
 }
 
-/// The code of a fault.
-pub(crate) fn code_of(error: &Error) -> u32
-    ensures code { result ≡ code_of_answer (answer_of error.now) }
-    ensures some { 0 < result }
-{
-    match error {
-        Error::MissingTraitImpl(_, _) => 1,
-        Error::Fmt(_, _) => 2,
-        Error::Parse(_) => 3,
-        Error::MissingValue(_, _) => 4,
-        Error::UnsupportedOption(_, _, _) => 5,
-        Error::NoMemory => NO_MEMORY,
-    }
-}
-
-/// The number of a missing trait.
-fn detail_of(error: &Error) -> u32
-    ensures { result ≡ detail_of_answer (answer_of error.now) }
-{
-    match error {
-        Error::MissingTraitImpl(t, _) => slot_code(*t),
-        _ => 0,
-    }
-}
-
 /// Copies a text to the front of the room, if it fits.
 pub(crate) fn put(room: &mut [u8], text: &[u8])
     ensures { Told text.now room.old room.new }
@@ -87,6 +59,15 @@ pub(crate) fn put(room: &mut [u8], text: &[u8])
         let (front, _) = room.split_at_mut(text.len());
         front.copy_from_slice(text);
     }
+}
+
+/// Puts what is told into the places, as much as there is of both.
+pub(crate) fn put_front<T: Copy>(told: &[T], places: &mut [T])
+    ensures { FillsFront told.now places.old places.new }
+{
+    let count = told.len().min(places.len());
+    let (front, _) = places.split_at_mut(count);
+    front.copy_from_slice(&told[..count]);
 }
 
 /// All went well, and so many bytes are the text's.
@@ -132,12 +113,15 @@ fn coded(code: u32, sentence: &str, room: &mut [u8]) -> Answer
 
 /// The answer of a fault, with so many bytes before it and a sentence of so many.
 fn fault_answer(error: &Error, length: usize, message: usize) -> Answer
-    ensures { result ≡ record (fault_answer (answer_of error.now) length) { message = message } }
+    ensures told { result
+        ≡ record (fault_answer (answer_of error.now) length) { message = message } }
+    ensures some { 0 < result.code }
 {
+    let fault = fault_numbers(error);
     Answer {
-        code: code_of(error),
-        detail: detail_of(error),
-        place: error.place().unwrap_or(0),
+        code: fault.code,
+        detail: fault.detail,
+        place: fault.place,
         length,
         message,
         row: 0,
@@ -171,6 +155,18 @@ pub(crate) fn told_failure(alloc: Global, failure: &Failure, room: &mut [u8]) ->
         Failure::Lists => coded(LISTS, "a list lies where it may not", room),
         Failure::Table => coded(TABLE, "not as many cells as columns times rows", room),
         Failure::Fault(error) => told_fault(alloc, error, 0, room),
+    }
+}
+
+/// The code of why there is no text.
+pub(crate) fn failure_code(failure: &Failure) -> u32
+    ensures { result ≡ failure_code failure.now }
+{
+    match failure {
+        Failure::NotUtf8 => NOT_UTF8,
+        Failure::Lists => LISTS,
+        Failure::Table => TABLE,
+        Failure::Fault(error) => code_of(error),
     }
 }
 

@@ -6,12 +6,13 @@ ghost use Rattle.interpolator_render.specs.Written.{byte_count};
 ghost use Rattle.interpolator_syntax.specs.Arguments.{argument_of};
 ghost use Rattle.interpolator_syntax.specs.Faults.{answer_of, no_memory};
 ghost use Rattle.interpolator_syntax.specs.Groups.{group_of};
-ghost use Rattle.interpolator_border.specs.Arguments.{ArgumentAnswers, FillsFront, group_end};
+ghost use Rattle.interpolator_border.specs.Arguments.{ArgumentAnswers, group_end};
 ghost use Rattle.interpolator_border.specs.Arguments.{group_first, told_argument, told_arguments};
 ghost use Rattle.interpolator_border.specs.Requests.{request_of};
 
-use crate::answer::{Answer, NO_MEMORY, NOT_UTF8, bare, well};
+use crate::answer::{Answer, NOT_UTF8, bare, put_front, well};
 use crate::bytes::text_of;
+use crate::fault::NO_MEMORY;
 use crate::request::{Request, request_of};
 use interpolator::{Argument as Parsed, Error, Group, Kind, Template, Trait};
 use std::alloc::{AllocError, Global};
@@ -120,15 +121,6 @@ fn told_arguments(alloc: Global, arguments: &[Parsed<'_>]) -> Result<Vec<Argumen
         told.push(told_argument(argument))?;
     }
     Ok(told)
-}
-
-/// Puts the arguments into the places, as many as there are of both.
-fn put_front(told: &[Argument], places: &mut [Argument])
-    ensures { FillsFront told.now places.old places.new }
-{
-    let count = told.len().min(places.len());
-    let (front, _) = places.split_at_mut(count);
-    front.copy_from_slice(&told[..count]);
 }
 
 /// The arguments of a text, in numbers.

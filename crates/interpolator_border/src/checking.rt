@@ -1,11 +1,17 @@
 //! A format that is checked before it is used.
 ghost use Rattle.std.specs.Prelude.{◌≡◌, drop, map};
+ghost use Rattle.std.specs.Option.{option_copied};
 ghost use Rattle.interpolator_eval.specs.Slots.{slots_of};
-ghost use Rattle.interpolator_border.specs.Checks.{CheckAnswers, Checked, CheckedBytes, NeverFails};
+ghost use Rattle.interpolator_border.specs.Checks.{AloneAnswers, CheckAnswers, CheckedAlone};
+ghost use Rattle.interpolator_border.specs.Checks.{FaultsAnswers, Finds, FindsBytes, FindsKnown};
+ghost use Rattle.interpolator_border.specs.Checks.{FoundAt, NeverFails};
 ghost use Rattle.interpolator_border.specs.Fields.{field_slots, lie_in_levels, lists_lie};
 
-use crate::answer::{Answer, Failure, told_failure, well};
+use crate::answer::{
+    Answer, Failure, bare, failure_code, put_front, told_failure, told_fault, well,
+};
 use crate::bytes::text_of;
+use crate::fault::{Fault, NO_MEMORY, all_numbers};
 use crate::field::Field;
 use crate::levels::{LEVELS, all_lie_within, next_level, settled};
 use crate::row::Row;
@@ -14,10 +20,10 @@ use interpolator::{Error, Formattable, Template};
 use interpolator_laws::samples::a_checked_format_means_no_fault;
 use std::alloc::Global;
 
-/// The first fault of a format over a row of examples, if what the items stand for is known from
-/// the item `left` on.
-#[tactic(auto, using(crate::proofs::CheckLemmas::checked_known, crate::proofs::LevelLemmas::next_known, crate::proofs::LevelLemmas::lie_no_deeper,))]
-fn check_levels<'a>(
+/// The faults of a format over a row of examples, if what the items stand for is known from the item
+/// `left` on.
+#[tactic(auto, using(crate::proofs::CheckLemmas::found_known, crate::proofs::LevelLemmas::next_known, crate::proofs::LevelLemmas::lie_no_deeper,))]
+fn find_levels<'a>(
     alloc: Global,
     template: &Template,
     fields: &'a [Field<'a>],
@@ -25,18 +31,13 @@ fn check_levels<'a>(
     known: &'a [Formattable<'a, Field<'a>>],
     left: usize,
     levels: u32,
-) -> Result<(), Failure>
+) -> Result<Vec<Error>, Failure>
     requires known { let trees = map slots_of known.now in
         drop left trees ≡ drop left (map (field_slots trees) items.now) }
-    ensures { Checked (lie_in_levels levels items.now left) fields.now items.now template.now
-        result }
+    ensures { Finds (lie_in_levels levels items.now left) fields.now items.now template.now result }
 {
     if left == 0 {
-        let row = Row {
-            fields,
-            items: known,
-        };
-        return failing(template.check_in(alloc, &row));
+        return find_known(alloc, template, fields, known);
     }
     if levels == 0 {
         return Err(Failure::Lists);
@@ -44,21 +45,40 @@ fn check_levels<'a>(
     match next_level(alloc, items, known) {
         Ok(level) => {
             let rest = settled(left, items);
-            check_levels(alloc, template, &*fields, &*items, &level, rest, levels - 1)
+            find_levels(alloc, template, &*fields, &*items, &level, rest, levels - 1)
         }
         Err(_) => Err(Failure::Fault(Error::NoMemory)),
     }
 }
 
-/// The first fault of a format over a row of examples, unless a list lies where it may not.
-#[tactic(auto, using(crate::proofs::AnswerLemmas::none_lies, crate::proofs::CheckLemmas::row_checked, crate::proofs::LevelLemmas::nothing_known,))]
-pub(crate) fn check_row<'a>(
+/// The faults of a format over a row of examples whose items stand for these.
+fn find_known<'a>(
+    alloc: Global,
+    template: &Template,
+    fields: &'a [Field<'a>],
+    known: &'a [Formattable<'a, Field<'a>>],
+) -> Result<Vec<Error>, Failure>
+    ensures { FindsKnown fields.now (map slots_of known.now) template.now result }
+{
+    let row = Row {
+        fields,
+        items: known,
+    };
+    match template.faults_in(alloc, &row) {
+        Ok(found) => Ok(found),
+        Err(error) => Err(Failure::Fault(error)),
+    }
+}
+
+/// The faults of a format over a row of examples, unless a list lies where it may not.
+#[tactic(auto, using(crate::proofs::AnswerLemmas::none_lies, crate::proofs::CheckLemmas::row_found, crate::proofs::LevelLemmas::nothing_known,))]
+pub(crate) fn find_faults<'a>(
     alloc: Global,
     format: &[u8],
     fields: &'a [Field<'a>],
     items: &'a [Field<'a>],
-) -> Result<(), Failure>
-    ensures { CheckedBytes fields.now items.now format.now result }
+) -> Result<Vec<Error>, Failure>
+    ensures { FindsBytes fields.now items.now format.now result }
 {
     let Some(text) = text_of(format) else {
         return Err(Failure::NotUtf8);
@@ -67,13 +87,21 @@ pub(crate) fn check_row<'a>(
         return Err(Failure::Lists);
     }
     match Template::parse(alloc, text) {
-        Ok(template) => { check_levels(alloc, &template, fields, items, &[], items.len(), LEVELS) }
+        Ok(template) => find_levels(alloc, &template, fields, items, &[], items.len(), LEVELS),
         Err(error) => Err(Failure::Fault(error)),
     }
 }
 
+/// The fault of that number, from 0 on.
+pub(crate) fn fault_at(found: &[Error], which: usize) -> Option<&Error>
+    ensures { FoundAt found.now which (option_copied result) }
+{
+    found.get(which)
+}
+
 /// The first fault that a format has by itself or over a row of examples. After code 0 no row that
 /// resembles the examples makes a fault.
+#[tactic(auto, using(crate::proofs::CheckLemmas::first_told, crate::proofs::CheckLemmas::none_told, crate::proofs::CheckLemmas::find_fails,))]
 pub fn check<'a>(
     alloc: Global,
     format: &[u8],
@@ -85,7 +113,58 @@ pub fn check<'a>(
     ensures never_fails { result.code ≡ 0 → NeverFails fields.now items.now format.now }
 {
     a_checked_format_means_no_fault::<Field<'a>, Field<'a>>();
-    match check_row(alloc, format, fields, items) {
+    match find_faults(alloc, format, fields, items) {
+        Ok(found) => match fault_at(&found, 0) {
+            Some(error) => told_fault(alloc, error, 0, room),
+            None => well(0),
+        },
+        Err(failure) => told_failure(alloc, &failure, room),
+    }
+}
+
+/// All faults that a format has by itself or over a row of examples. The places get as many as there
+/// are of both.
+#[tactic(auto, using(crate::proofs::CheckLemmas::faults_told, crate::proofs::CheckLemmas::find_coded))]
+pub fn faults<'a>(
+    alloc: Global,
+    format: &[u8],
+    fields: &'a [Field<'a>],
+    items: &'a [Field<'a>],
+    places: &mut [Fault],
+) -> Answer
+    ensures { FaultsAnswers fields.now items.now format.now places.old places.new result }
+{
+    match find_faults(alloc, format, fields, items) {
+        Ok(found) => match all_numbers(alloc, &found) {
+            Ok(told) => {
+                put_front(&told, places);
+                well(told.len())
+            }
+            Err(_) => bare(NO_MEMORY),
+        },
+        Err(failure) => bare(failure_code(&failure)),
+    }
+}
+
+/// The first fault that a format has by itself.
+fn check_text(alloc: Global, format: &[u8]) -> Result<(), Failure>
+    ensures { CheckedAlone format.now result }
+{
+    let Some(text) = text_of(format) else {
+        return Err(Failure::NotUtf8);
+    };
+    match Template::parse(alloc, text) {
+        Ok(template) => failing(template.check()),
+        Err(error) => Err(Failure::Fault(error)),
+    }
+}
+
+/// The first fault that a format has by itself, whatever the values are.
+#[tactic(auto, using(crate::proofs::CheckLemmas::alone_fails))]
+pub fn check_alone(alloc: Global, format: &[u8], room: &mut [u8]) -> Answer
+    ensures { AloneAnswers format.now room.old room.new result }
+{
+    match check_text(alloc, format) {
         Ok(()) => well(0),
         Err(failure) => told_failure(alloc, &failure, room),
     }

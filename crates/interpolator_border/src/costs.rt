@@ -2,8 +2,9 @@
 ghost use Rattle.std.specs.Prelude.{◌≡◌};
 ghost use Rattle.interpolator_border.specs.Costs.{CostAnswers};
 
-use crate::answer::{NO_MEMORY, NOT_UTF8};
+use crate::answer::NOT_UTF8;
 use crate::bytes::text_of;
+use crate::fault::NO_MEMORY;
 use interpolator::{Limits, Template};
 use std::alloc::Global;
 

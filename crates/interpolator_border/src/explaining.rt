@@ -1,66 +1,96 @@
 //! A fault as a compiler shows it.
 ghost use Rattle.interpolator_syntax.specs.Faults.{answer_of};
-ghost use Rattle.interpolator_border.specs.Checks.{ExplainAnswers, PictureMade};
+ghost use Rattle.interpolator_border.specs.Checks.{ExplainAnswers, PictureMade, TellsPicture};
 
-use crate::answer::{Answer, Failure, pictured, put, told_failure, well};
+use crate::answer::{Answer, Failure, pictured, told_failure, well};
 use crate::bytes::text_of;
-use crate::checking::check_row;
+use crate::checking::{fault_at, find_faults};
 use crate::field::Field;
-use interpolator::{Error, Source, explain_in};
+use interpolator::{Error, Source as Named, explain_in};
 use std::alloc::Global;
 
-/// The picture of a fault of a format that begins at a line of a file.
+/// Where a format is: a text, such as a file or a line of one, in which it begins.
+#[repr(C)]
+#[derive(Clone, Copy)]
+pub struct Source<'a> {
+    /// What the text is called, such as the name of a file, in UTF-8.
+    pub name: &'a [u8],
+    /// The text, in UTF-8.
+    pub text: &'a [u8],
+    /// The number of the text's first line: 1 for a whole file.
+    pub first_line: usize,
+    /// The byte of the text at which the format begins.
+    pub start: usize,
+}
+
+/// The picture of a fault of a format.
 fn picture(
     alloc: Global,
-    name: &[u8],
-    first_line: usize,
+    source: &Source<'_>,
     format: &[u8],
     error: &Error,
 ) -> Result<String, Failure>
-    ensures { PictureMade name.now first_line format.now (answer_of error.now) result }
+    ensures { PictureMade source.now format.now (answer_of error.now) result }
 {
-    let Some(name) = text_of(name) else {
+    let Some(name) = text_of(source.name) else {
         return Err(Failure::NotUtf8);
     };
-    let Some(text) = text_of(format) else {
+    let Some(text) = text_of(source.text) else {
         return Err(Failure::NotUtf8);
     };
-    let source = Source {
+    let Some(format) = text_of(format) else {
+        return Err(Failure::NotUtf8);
+    };
+    let named = Named {
         name,
-        first_line,
+        first_line: source.first_line,
         text,
-        start: 0,
-        format: text,
+        start: source.start,
+        format,
     };
-    match explain_in(alloc, &source, error) {
+    match explain_in(alloc, &named, error) {
         Ok(picture) => Ok(picture),
         Err(error) => Err(Failure::Fault(error)),
     }
 }
 
-/// The fault that [`check`](crate::check) finds, as a compiler shows it, for a format that begins
-/// at a line of a file of this name. After code 0 there is none.
-#[tactic(auto, using(crate::proofs::CheckLemmas::explains, crate::proofs::CheckLemmas::picture_fails))]
+/// Tells a fault with its picture.
+#[tactic(auto, using(crate::proofs::CheckLemmas::picture_told, crate::proofs::CheckLemmas::picture_fails,))]
+fn tell_picture(
+    alloc: Global,
+    source: &Source<'_>,
+    format: &[u8],
+    error: &Error,
+    room: &mut [u8],
+) -> Answer
+    ensures { TellsPicture source.now format.now (answer_of error.now) room.old room.new result }
+{
+    match picture(alloc, source, format, error) {
+        Ok(picture) => pictured(error, picture.as_str(), room),
+        Err(failure) => told_failure(alloc, &failure, room),
+    }
+}
+
+/// The fault of that number, from 0 on, of those that [`faults`](crate::faults) finds, as a compiler
+/// shows it. After code 0 there are not so many.
+#[tactic(auto, using(crate::proofs::CheckLemmas::explains, crate::proofs::CheckLemmas::not_found, crate::proofs::CheckLemmas::find_fails,))]
 pub fn explain<'a>(
     alloc: Global,
-    name: &[u8],
-    first_line: usize,
+    source: &Source<'_>,
     format: &[u8],
     fields: &'a [Field<'a>],
     items: &'a [Field<'a>],
+    which: usize,
     room: &mut [u8],
 ) -> Answer
-    ensures { ExplainAnswers name.now first_line fields.now items.now format.now room.old room.new
+    ensures { ExplainAnswers source.now fields.now items.now which format.now room.old room.new
         result }
 {
-    match check_row(alloc, format, fields, items) {
-        Ok(()) => well(0),
-        Err(Failure::Fault(error)) => match picture(alloc, name, first_line, format, &error) {
-            Ok(picture) => pictured(&error, picture.as_str(), room),
-            Err(failure) => told_failure(alloc, &failure, room),
+    match find_faults(alloc, format, fields, items) {
+        Ok(found) => match fault_at(&found, which) {
+            Some(error) => tell_picture(alloc, source, format, error, room),
+            None => well(0),
         },
-        Err(Failure::NotUtf8) => told_failure(alloc, &Failure::NotUtf8, room),
-        Err(Failure::Lists) => told_failure(alloc, &Failure::Lists, room),
-        Err(Failure::Table) => told_failure(alloc, &Failure::Table, room),
+        Err(failure) => told_failure(alloc, &failure, room),
     }
 }

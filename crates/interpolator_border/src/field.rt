@@ -45,7 +45,7 @@ pub(crate) const SIGNED64: u32 = 9;
 /// A signed number of 128 bits.
 pub(crate) const SIGNED128: u32 = 10;
 
-/// A list.
+/// A list, whose texts for other slots are lent.
 pub(crate) const LIST: u32 = 11;
 
 /// A value whose texts are lent.
@@ -93,6 +93,7 @@ pub struct Field<'a> {
 }
 
 /// The view of a text.
+#[inline(always)]
 fn text_view(bytes: &[u8]) -> View<'_>
     ensures { shown_by result ≡ text_shows some_text bytes.now }
 {
@@ -199,17 +200,33 @@ fn number_view<'s>(field: &'s Field<'s>) -> View<'s>
     }
 }
 
+/// The view of a field.
+#[inline(never)]
+fn field_view<'s>(field: &'s Field<'s>, t: Trait, spec: &Spec) -> View<'s>
+    ensures shown { shown_by result ≡ field_shows field.now t spec.now }
+    ensures in_range { IsInRange (shown_by result) }
+{
+    match field.kind {
+        TEXT => text_view(field.text),
+        PLAIN => plain_view(field.text),
+        TRUTH => View::Truth(field.natural != 0),
+        CHARACTER => character_view(field.natural),
+        LIST => lent_view(field.lent, t, spec),
+        LENT => lent_view(field.lent, t, spec),
+        _ => number_view(field),
+    }
+}
+
 impl<'a> Value for Field<'a> {
     ghost shows = { λ field t spec. field_shows field t spec };
 
+    /// Most fields are texts, so that these are tested where a value is written.
+    #[inline(always)]
     fn view(&self, t: Trait, spec: &Spec) -> View<'_> {
-        match self.kind {
-            TEXT => text_view(self.text),
-            PLAIN => plain_view(self.text),
-            TRUTH => View::Truth(self.natural != 0),
-            CHARACTER => character_view(self.natural),
-            LENT => lent_view(self.lent, t, spec),
-            _ => number_view(self),
+        if self.kind == TEXT {
+            text_view(self.text)
+        } else {
+            field_view(self, t, spec)
         }
     }
 }

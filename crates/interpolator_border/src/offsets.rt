@@ -3,6 +3,8 @@
 use crate::answer::Answer;
 use crate::argument::Argument;
 use crate::costs::CostAnswer;
+use crate::explaining::Source;
+use crate::fault::Fault;
 use crate::field::{Field, Lent};
 use crate::request::Request;
 
@@ -28,6 +30,10 @@ pub struct Sizes {
     pub argument: usize,
     /// The size of a [`CostAnswer`].
     pub cost_answer: usize,
+    /// The size of a [`Fault`].
+    pub fault: usize,
+    /// The size of a [`Source`].
+    pub source: usize,
     /// The offset of a request's width.
     pub request_width: usize,
     /// The offset of a lent text.
@@ -55,6 +61,8 @@ pub fn layout() -> Sizes {
         answer: size_of::<Answer>(),
         argument: size_of::<Argument>(),
         cost_answer: size_of::<CostAnswer>(),
+        fault: size_of::<Fault>(),
+        source: size_of::<Source<'static>>(),
         request_width: 8 * size_of::<u32>(),
         lent_text: size_of::<Request>(),
         field_kind: 3 * BYTES,

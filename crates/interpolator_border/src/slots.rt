@@ -1,6 +1,6 @@
 //! Which slots a field fills.
 ghost use Rattle.std.specs.Prelude.{◌≡◌, map, drop, take};
-ghost use Rattle.interpolator_eval.specs.Slots.{slots_of, empty_slots, with_iter, with_display};
+ghost use Rattle.interpolator_eval.specs.Slots.{slots_of, with_iter, with_display};
 ghost use Rattle.interpolator_eval.specs.Slots.{with_debug, with_binary, with_octal};
 ghost use Rattle.interpolator_eval.specs.Slots.{with_lower_hex};
 ghost use Rattle.interpolator_eval.specs.Slots.{with_upper_hex, with_lower_exp, with_upper_exp};
@@ -177,21 +177,32 @@ fn value_slots<'a>(field: &'a Field<'a>) -> Formattable<'a, Field<'a>>
     }
 }
 
-/// The items from one place up to another, as a list; what lies past the last item is left out.
-#[inline(always)]
-fn cut<'a>(
-    items: &'a [Formattable<'a, Field<'a>>],
+/// The items from one place up to another; what lies past the last item is left out.
+fn cut<'s, 'a>(
+    items: &'s [Formattable<'a, Field<'a>>],
     first: usize,
     end: usize,
-) -> Formattable<'a, Field<'a>>
-    ensures { slots_of result
-        ≡ with_iter empty_slots (drop first (take end (map slots_of items.now))) }
+) -> &'s [Formattable<'a, Field<'a>>]
+    ensures { map slots_of result.now ≡ drop first (take end (map slots_of items.now)) }
 {
     let front = &items[..end.min(items.len())];
-    Formattable::iter(&front[first.min(front.len())..])
+    &front[first.min(front.len())..]
 }
 
-/// What a field stands for: a list for the items that it names, and any other for its slots.
+/// The items of a list, and the slots of its mask.
+#[inline(never)]
+fn list_slots<'a>(
+    items: &'a [Formattable<'a, Field<'a>>],
+    field: &'a Field<'a>,
+) -> Formattable<'a, Field<'a>>
+    ensures { slots_of result ≡ with_iter (masked_slots field.now.slots field.now)
+        (drop field.now.first (take field.now.end (map slots_of items.now))) }
+{
+    masked_slots(field.slots, field).and_iter(cut(items, field.first, field.end))
+}
+
+/// What a field stands for: a list for the items that it names and the slots of its mask, and any
+/// other for its slots.
 #[inline(always)]
 pub(crate) fn field_slots<'a>(
     items: &'a [Formattable<'a, Field<'a>>],
@@ -200,7 +211,7 @@ pub(crate) fn field_slots<'a>(
     ensures { slots_of result ≡ field_slots (map slots_of items.now) field.now }
 {
     if field.kind == LIST {
-        cut(items, field.first, field.end)
+        list_slots(items, field)
     } else {
         value_slots(field)
     }

@@ -1,7 +1,11 @@
 //! A table: one format, read and prepared once, over each of its rows.
-ghost use Rattle.std.specs.Prelude.{◌≡◌, ◌≤◌, ◌↔◌, ◌+◌, ◌*◌, [], false, length, take, drop, IsTrue};
+ghost use Rattle.std.specs.Prelude.{◌≡◌, ◌≤◌, ◌↔◌, ◌+◌, ◌*◌, [], false, length, take, drop, map};
+ghost use Rattle.std.specs.Prelude.{IsTrue};
+ghost use Rattle.interpolator.specs.Prepared.Rows.{row_at};
+ghost use Rattle.interpolator_eval.specs.Slots.{slots_of};
+ghost use Rattle.interpolator_border.specs.Fields.{field_slots};
 ghost use Rattle.interpolator_border.specs.Tables.{Appended, MadeRows, PairsMade, Prepares};
-ghost use Rattle.interpolator_border.specs.Tables.{RowsAnswers, TellsRows, values_mean};
+ghost use Rattle.interpolator_border.specs.Tables.{RowsAnswers, TellsRows, cell_at, values_mean};
 
 use crate::answer::{Answer, Failure, put, told_failure, told_fault, well};
 use crate::bytes::text_of;
@@ -54,7 +58,17 @@ fn prepare<'a>(alloc: Global, format: &[u8], columns: &'a [Field<'a>]) -> Result
     }
 }
 
-/// Appends a row, and tells where it ends.
+/// Puts what the cells of a row stand for in place of what those of another row do.
+fn set_row<'a>(values: &mut [Formattable<'a, Field<'a>>], cells: &'a [Field<'a>])
+    requires width { length values.old ≡ length cells.now }
+    ensures values { map slots_of values.new ≡ map (field_slots []) cells.now }
+{
+    for k in 0..cells.len() {
+        values[k] = field_slots(&[], &cells[k]);
+    }
+}
+
+/// Appends a row of values, and tells where it ends.
 fn put_row<'a>(
     alloc: Global,
     out: &mut TextBuffer,
@@ -62,7 +76,8 @@ fn put_row<'a>(
     row: &'a [Formattable<'a, Field<'a>>],
 ) -> Result<usize, Error>
     requires goes_on { out.old.refused ≡ false }
-    ensures { Appended (values_mean line.now.names line.now.text row.now) out.old out.new result }
+    ensures { Appended (values_mean line.now.names line.now.text (row_at row.now)) out.old out.new
+        result }
 {
     let written = line.write(alloc, out, &Row(row));
     if out.refused() {
@@ -74,18 +89,33 @@ fn put_row<'a>(
     }
 }
 
-/// The values of a row.
-fn row_at<'a>(
-    values: &'a [Formattable<'a, Field<'a>>],
-    width: usize,
-    row: usize,
-) -> &'a [Formattable<'a, Field<'a>>]
-    requires { row * width + width ≤ length values.now }
-    ensures { result.now ≡ take width (drop (row * width) values.now) }
+/// Appends a row of cells, and tells where it ends. `values` has room for what the cells stand for.
+#[tactic(auto, using(crate::proofs::TableLemmas::row_appended, crate::proofs::TableLemmas::as_many,))]
+fn put_cells<'a>(
+    alloc: Global,
+    out: &mut TextBuffer,
+    line: &Prepared,
+    values: &mut [Formattable<'a, Field<'a>>],
+    cells: &'a [Field<'a>],
+) -> Result<usize, Error>
+    requires goes_on { out.old.refused ≡ false }
+    requires width { length values.old ≡ length cells.now }
+    ensures appended { Appended (values_mean line.now.names line.now.text (cell_at cells.now)) out.old
+        out.new result }
+    ensures width { length values.new ≡ length cells.now }
 {
-    let (_, rest) = values.split_at(row * width);
-    let (cells, _) = rest.split_at(width);
-    cells
+    set_row(values, cells);
+    put_row(alloc, out, line, values)
+}
+
+/// The cells of a row.
+fn cells_at<'a>(cells: &'a [Field<'a>], width: usize, row: usize) -> &'a [Field<'a>]
+    requires { row * width + width ≤ length cells.now }
+    ensures { result.now ≡ take width (drop (row * width) cells.now) }
+{
+    let (_, rest) = cells.split_at(row * width);
+    let (row, _) = rest.split_at(width);
+    row
 }
 
 /// A fault, and how many rows come before it.
@@ -95,64 +125,51 @@ struct RowFault {
     error: Error,
 }
 
-/// Appends the rows, and tells where each ends.
+/// Appends the rows, and tells where each ends. `values` has room for a row.
 #[tactic(auto, using(crate::proofs::TableLemmas::in_table))]
 fn put_rows<'a>(
     alloc: Global,
     out: &mut TextBuffer,
     line: &Prepared,
-    width: usize,
-    count: usize,
-    values: &'a [Formattable<'a, Field<'a>>],
-) -> Result<Vec<usize>, RowFault>
+    values: &mut [Formattable<'a, Field<'a>>],
+    cells: &'a [Field<'a>],
+    ends: &mut [usize],
+) -> Result<(), RowFault>
     requires goes_on { out.old.refused ≡ false }
     requires empty { out.old.text ≡ [] }
-    requires table { length values.now ≡ count * width }
-    ensures { MadeRows line.now.names line.now.text width values.now count out.new result }
+    requires table { length cells.now ≡ length ends.old * length values.old }
+    ensures { MadeRows line.now.names line.now.text (length values.old) cells.now (length ends.old)
+        out.new ends.new result }
 {
-    let mut ends = match Vec::with_capacity(alloc, count) {
-        Ok(ends) => ends,
-        Err(_) => return Err(in_row(0, Error::NoMemory)),
-    };
-    for row in 0..count {
-        match put_row(alloc, out, line, row_at(values, width, row)) {
-            Ok(end) => match ends.push(end) {
-                Ok(()) => {}
-                Err(_) => return Err(in_row(row, Error::NoMemory)),
-            },
-            Err(error) => return Err(in_row(row, error)),
+    let width = values.len();
+    for row in 0..ends.len() {
+        match put_cells(alloc, out, line, values, cells_at(cells, width, row)) {
+            Ok(end) => ends[row] = end,
+            Err(error) => return Err(RowFault { row, error }),
         }
     }
-    Ok(ends)
+    Ok(())
 }
 
-/// A fault of a row.
-fn in_row(row: usize, error: Error) -> RowFault
-    ensures { result ≡ record { row = row; error = error } }
-{
-    RowFault { row, error }
-}
-
-/// Formats each row of values, and copies what was made to the caller.
-#[tactic(auto, using(crate::proofs::TableLemmas::ends_count))]
+/// Formats each row of cells, and copies the texts to the caller.
 fn rows_of<'a>(
     alloc: Global,
     line: &Prepared,
-    width: usize,
-    values: &'a [Formattable<'a, Field<'a>>],
+    values: &mut [Formattable<'a, Field<'a>>],
+    cells: &'a [Field<'a>],
     ends: &mut [usize],
     room: &mut [u8],
 ) -> Answer
-    requires table { length values.now ≡ length ends.old * width }
-    ensures { TellsRows line.now.names line.now.text width values.now ends.old ends.new room.old
-        room.new result }
+    requires table { length cells.now ≡ length ends.old * length values.old }
+    ensures { TellsRows line.now.names line.now.text (length values.old) cells.now ends.old ends.new
+        room.old room.new result }
 {
     let mut out = TextBuffer::new(alloc);
-    match put_rows(alloc, &mut out, line, width, ends.len(), values) {
-        Ok(made) => {
-            ends.copy_from_slice(&made);
-            put(room, out.as_str().as_bytes());
-            well(out.as_str().len())
+    match put_rows(alloc, &mut out, line, values, cells, ends) {
+        Ok(()) => {
+            let text = out.as_str();
+            put(room, text.as_bytes());
+            well(text.len())
         }
         Err(wrong) => Answer {
             row: wrong.row,
@@ -183,8 +200,8 @@ pub fn rows<'a>(
         return told_failure(alloc, &Failure::Table, room);
     }
     match prepare(alloc, format, columns) {
-        Ok(line) => match next_level(alloc, cells, &[]) {
-            Ok(values) => rows_of(alloc, &line, columns.len(), &values, ends, room),
+        Ok(line) => match next_level(alloc, columns, &[]) {
+            Ok(mut values) => rows_of(alloc, &line, &mut values, cells, ends, room),
             Err(_) => told_failure(alloc, &Failure::Fault(Error::NoMemory), room),
         },
         Err(failure) => told_failure(alloc, &failure, room),

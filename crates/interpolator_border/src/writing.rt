@@ -4,7 +4,7 @@ ghost use Rattle.interpolator_render.specs.Bounds.{bounded_writer};
 ghost use Rattle.interpolator_border.specs.declared.answer.Failure.TheVariants.{Fault};
 ghost use Rattle.interpolator_eval.specs.Slots.{slots_of};
 ghost use Rattle.interpolator_border.specs.Answers.{TellsFault, TellsResult, WriteAnswers};
-ghost use Rattle.interpolator_border.specs.Answers.{WritesRow};
+ghost use Rattle.interpolator_border.specs.Answers.{WritesKnown, WritesRow};
 ghost use Rattle.interpolator_syntax.specs.Faults.{answer_of};
 ghost use Rattle.interpolator_border.specs.Fields.{field_slots, lie_in_levels, lists_lie};
 
@@ -34,11 +34,7 @@ pub(crate) fn write_levels<'a, W: TextWrite>(
         (W.written out.old) (W.written out.new) result }
 {
     if left == 0 {
-        let row = Row {
-            fields,
-            items: known,
-        };
-        return failing(interpolator::write(alloc, out, format, &row));
+        return write_known(alloc, out, format, fields, known);
     }
     if levels == 0 {
         return Err(Failure::Lists);
@@ -61,6 +57,25 @@ pub(crate) fn write_levels<'a, W: TextWrite>(
     }
 }
 
+/// Writes a format over a row whose items stand for these.
+#[inline(always)]
+fn write_known<'a, W: TextWrite>(
+    alloc: Global,
+    out: &mut W,
+    format: &str,
+    fields: &'a [Field<'a>],
+    known: &'a [Formattable<'a, Field<'a>>],
+) -> Result<(), Failure>
+    ensures { WritesKnown fields.now (map slots_of known.now) format.now (W.written out.old)
+        (W.written out.new) result }
+{
+    let row = Row {
+        fields,
+        items: known,
+    };
+    failing(interpolator::write(alloc, out, format, &row))
+}
+
 /// A fault as why there is no text.
 pub(crate) fn failing(written: Result<(), Error>) -> Result<(), Failure>
     ensures { MatchResult written (λ ok. result ≡ Ok ok) (λ e. result ≡ Err (Fault e)) }
@@ -72,7 +87,7 @@ pub(crate) fn failing(written: Result<(), Error>) -> Result<(), Failure>
 }
 
 /// Writes a format over a row, unless a list lies where it may not.
-#[tactic(auto, using(crate::proofs::AnswerLemmas::none_lies, crate::proofs::AnswerLemmas::row_written, crate::proofs::LevelLemmas::nothing_known,))]
+#[tactic(auto, using(crate::proofs::AnswerLemmas::none_lies, crate::proofs::AnswerLemmas::none_known, crate::proofs::AnswerLemmas::row_written, crate::proofs::LevelLemmas::nothing_known,))]
 pub(crate) fn write_row<'a, W: TextWrite>(
     alloc: Global,
     out: &mut W,
@@ -85,6 +100,9 @@ pub(crate) fn write_row<'a, W: TextWrite>(
 {
     if !all_lie_within(fields, items) {
         return Err(Failure::Lists);
+    }
+    if items.is_empty() {
+        return write_known(alloc, out, format, fields, &[]);
     }
     write_levels(alloc, out, format, fields, items, &[], items.len(), LEVELS)
 }

@@ -4,11 +4,12 @@
 ghost use Rattle.std.specs.Prelude.{◌≡◌};
 ghost use Rattle.interpolator_border.specs.Answers.{FormatAnswers, WriteAnswers};
 ghost use Rattle.interpolator_border.specs.Arguments.{ArgumentAnswers};
-ghost use Rattle.interpolator_border.specs.Checks.{CheckAnswers, ExplainAnswers, NeverFails};
+ghost use Rattle.interpolator_border.specs.Checks.{AloneAnswers, CheckAnswers, ExplainAnswers};
+ghost use Rattle.interpolator_border.specs.Checks.{FaultsAnswers, NeverFails};
 ghost use Rattle.interpolator_border.specs.Costs.{CostAnswers};
 ghost use Rattle.interpolator_border.specs.Tables.{RowsAnswers};
 
-use interpolator_border::{Answer, Argument, CostAnswer, Field, Sizes};
+use interpolator_border::{Answer, Argument, CostAnswer, Fault, Field, Sizes, Source};
 use std::alloc::Global;
 
 /// The whole text of a format over a row, or none.
@@ -56,21 +57,43 @@ pub extern "C" fn interpolator_check<'a>(
     interpolator_border::check(alloc, format, fields, items, room)
 }
 
-/// The first fault of a format over a row of examples, as a compiler shows it.
+/// The first fault of a format by itself.
 #[unsafe(no_mangle)]
-pub extern "C" fn interpolator_explain<'a>(
+pub extern "C" fn interpolator_check_alone(alloc: Global, format: &[u8], room: &mut [u8]) -> Answer
+    ensures { AloneAnswers format.now room.old room.new result }
+{
+    interpolator_border::check_alone(alloc, format, room)
+}
+
+/// All faults of a format over a row of examples.
+#[unsafe(no_mangle)]
+pub extern "C" fn interpolator_faults<'a>(
     alloc: Global,
-    name: &[u8],
-    first_line: usize,
     format: &[u8],
     fields: &'a [Field<'a>],
     items: &'a [Field<'a>],
+    faults: &mut [Fault],
+) -> Answer
+    ensures { FaultsAnswers fields.now items.now format.now faults.old faults.new result }
+{
+    interpolator_border::faults(alloc, format, fields, items, faults)
+}
+
+/// One of these faults, as a compiler shows it.
+#[unsafe(no_mangle)]
+pub extern "C" fn interpolator_explain<'a>(
+    alloc: Global,
+    source: &Source<'_>,
+    format: &[u8],
+    fields: &'a [Field<'a>],
+    items: &'a [Field<'a>],
+    which: usize,
     room: &mut [u8],
 ) -> Answer
-    ensures { ExplainAnswers name.now first_line fields.now items.now format.now room.old room.new
+    ensures { ExplainAnswers source.now fields.now items.now which format.now room.old room.new
         result }
 {
-    interpolator_border::explain(alloc, name, first_line, format, fields, items, room)
+    interpolator_border::explain(alloc, source, format, fields, items, which, room)
 }
 
 /// A format over each row of a table.

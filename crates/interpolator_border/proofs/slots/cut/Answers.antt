@@ -1,9 +1,7 @@
-use Rattle.std.proofs.Common.{◌∙◌, ap}
-use Rattle.interpolator_eval.specs.Slots.{slots_of, empty_slots, with_iter}
+use Rattle.interpolator_eval.specs.Slots.{slots_of}
 use Rattle.interpolator_eval.proofs.RowLemmas.{cut_row}
 use Rattle.interpolator_border.proofs.slots.cut.Goals as goal
 
 pub returns : goal.returns
 returns c =
-    c.iter.ensures ∙ ap (with_iter empty_slots)
-    (cut_row slots_of c.args.items.now c.args.first c.args.end _ _ c.min.ensures c.min-2.ensures)
+    cut_row slots_of c.args.items.now c.args.first c.args.end _ _ c.min.ensures c.min-2.ensures

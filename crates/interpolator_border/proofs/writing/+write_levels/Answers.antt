@@ -11,9 +11,8 @@ returns-then-left-eq0 g t c =
     let trees = map slots_of c.args.known.now in
     let known : drop c.args.left trees ≡ drop c.args.left (map (field_slots trees) c.args.items.now) =
     search rules in
-    written_known _ _ _ _ _ _ (map slots_of c.args.known.now) c.write.result _
-    (known_all c.args.left _ _ c.if-left-eq0.true known) c.write.ensures.outcome
-    c.failing.ensures
+    written_known _ _ _ _ _ _ (map slots_of c.args.known.now) c.write_known.result
+    (known_all c.args.left _ _ c.if-left-eq0.true known) c.write_known.ensures
 
 pub returns-in-Ok : goal.returns-in-Ok
 returns-in-Ok g t c =
