@@ -75,7 +75,7 @@ END
 build/messages.txt:2:26: specified value not in context `messages` at 25
   |
 2 | you have {count:>3} new {messages}
-  |                         ^^^^^^^^^^
+  |                         ~^~~~~~~~~
 END
     [[ $status -eq 1 ]]
 }

@@ -261,8 +261,9 @@ static void faults(void) {
   WANT(got.code == INTERPOLATOR_MISSING_TRAIT && got.place == 21 && room[got.message] == 'Z');
   room[got.message] = 0;
   WANT(strcmp(room,
-              "messages.txt:7:28: trait `LowerHex` not implemented, used by format argument at 21\n"
-              "  |\n7 | bye = Hello {nane}, {name:x}{name:?!\n  |                     ^^^^^^^^") == 0);
+              "messages.txt:7:28: trait `LowerHex` not implemented, used by format argument at 21 "
+              "(byte 21 of the format)\n"
+              "  |\n7 | bye = Hello {nane}, {name:x}{name:?!\n  |                     ~~~~~~~^") == 0);
   got = interpolator_explain(&source, format, length, &f, 1, NULL, 0, 3, room, sizeof room);
   WANT(got.code == INTERPOLATOR_OK && got.message == 0);
   source.name = interpolator_string("\xff");
@@ -273,7 +274,7 @@ static void faults(void) {
   room[got.message] = 0;
   WANT(strcmp(room,
               "messages.txt:8:8: trait `LowerHex` not implemented, used by format argument at 13\n"
-              "  |\n8 | {name:x}!\n  | ^^^^^^^^") == 0);
+              "  |\n8 | {name:x}!\n  | ~~~~~~~^") == 0);
 }
 
 static void costs(void) {

@@ -38,7 +38,7 @@ class FormatError(ValueError):
     <format>:1:9: specified value not in context `name` at 10
       |
     1 | Grüße, {name}!
-      |        ^^^^^^
+      |        ~^~~~~
     """
 
     code: Code

@@ -41,18 +41,18 @@ def faults_in(name: str, text: str) -> Iterator[str]:
     >>> lines = ["# greetings", "hi = Hi {name, you", "bye(name) = Bye {nane}, {name:x}."]
     >>> for told in faults_in("m.txt", "\n".join(lines)):
     ...     print(told)
-    m.txt:2:10: error while parsing input: Format spec at 4 is nether closed with a `}`
+    m.txt:2:10: error while parsing input: Format spec at 4 is nether closed with a `}` (byte 4 of the format)
       |
     2 | hi = Hi {name, you
-      |         ^^^^^^^^^^
-    m.txt:3:18: specified value not in context `nane` at 5
+      |         ~^~~~~~~~~
+    m.txt:3:18: specified value not in context `nane` at 5 (byte 5 of the format)
       |
     3 | bye(name) = Bye {nane}, {name:x}.
-      |                 ^^^^^^
-    m.txt:3:32: trait `LowerHex` not implemented, used by format argument at 19
+      |                 ~^~~~~
+    m.txt:3:32: trait `LowerHex` not implemented, used by format argument at 19 (byte 19 of the format)
       |
     3 | bye(name) = Bye {nane}, {name:x}.
-      |                         ^^^^^^^^
+      |                         ~~~~~~~^
     """
     for number, line in enumerate(lines_of(text), 1):
         if line.strip(_WHITE_SPACE) and not line.startswith("#"):

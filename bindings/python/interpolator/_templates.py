@@ -183,7 +183,7 @@ class Template:
         hello.txt:3:8: error while parsing input: Format spec at 7 is nether closed with a `}`
           |
         3 | Hello {name
-          |       ^^^^^
+          |       ~^~~~
         """
         fields = self._fields_of(examples or {}, are_examples=True)
         source = Source(name, self.text if text is None else text, first_line, start)

@@ -45,37 +45,37 @@ class Command(unittest.TestCase):
             "broken.txt", "a = {x:>5}", "b = é {x:?y}", "no equals", "c = {h:i({z)}", "  d = {q:+i}",
             "e={x:+#")
         self.assertEqual("""\
-broken.txt:2:11: error while parsing input: Expected `}` at 7
+broken.txt:2:11: error while parsing input: Expected `}` at 7 (byte 7 of the format)
   |
 2 | b = é {x:?y}
-  |       ^^^^^^
+  |       ~~~~^~
 broken.txt:3:1: no `=`
-broken.txt:4:11: error while parsing input: Format spec at 6 is nether closed with a `}`
+broken.txt:4:11: error while parsing input: Format spec at 6 is nether closed with a `}` (byte 6 of the format)
   |
 4 | c = {h:i({z)}
-  |          ^^
-broken.txt:5:12: error while parsing input: Width, precision, `-`, `+` and `#` are not supported for `i` at 5
+  |          ~^
+broken.txt:5:12: error while parsing input: Width, precision, `-`, `+` and `#` are not supported for `i` at 5 (byte 5 of the format)
   |
 5 |   d = {q:+i}
-  |       ^^^^^^
-broken.txt:6:4: error while parsing input: Format spec at 1 is nether closed with a `}`
+  |       ~~~~~^
+broken.txt:6:4: error while parsing input: Format spec at 1 is nether closed with a `}` (byte 1 of the format)
   |
 6 | e={x:+#
-  |   ^^^^^
+  |   ~^~~~
 """, out)
         self.assertEqual((1, ""), (status, err))
 
     def test_columns_count_characters(self) -> None:
         status, out, _ = self.checked("accents.txt", "é = {x", "ok = {x}", "ü = é{x}{y")
         self.assertEqual("""\
-accents.txt:1:6: error while parsing input: Format spec at 1 is nether closed with a `}`
+accents.txt:1:6: error while parsing input: Format spec at 1 is nether closed with a `}` (byte 1 of the format)
   |
 1 | é = {x
-  |     ^^
-accents.txt:3:10: error while parsing input: Format spec at 6 is nether closed with a `}`
+  |     ~^
+accents.txt:3:10: error while parsing input: Format spec at 6 is nether closed with a `}` (byte 6 of the format)
   |
 3 | ü = é{x}{y
-  |         ^^
+  |         ~^
 """, out)
         self.assertEqual(1, status)
 
@@ -86,18 +86,18 @@ accents.txt:3:10: error while parsing input: Format spec at 6 is nether closed w
             "h(n) x = {n}", "i( n[] ,\t m[) = {n:i}")
         broken = "declarations are `(NAME, NAME:, NAME[])`, each name once"
         self.assertEqual(f"""\
-kinds.txt:1:18: trait `LowerHex` not implemented, used by format argument at 7
+kinds.txt:1:18: trait `LowerHex` not implemented, used by format argument at 7 (byte 7 of the format)
   |
 1 | a(name) = {{name:x}}
-  |           ^^^^^^^^
-kinds.txt:2:16: specified value not in context `m` at 7
+  |           ~~~~~~~^
+kinds.txt:2:16: specified value not in context `m` at 7 (byte 7 of the format)
   |
 2 | b(n:) = {{n:x}} {{m}}
-  |               ^^^
-kinds.txt:3:18: trait `LowerHex` not implemented, used by format argument at 8
+  |               ~^~
+kinds.txt:3:18: trait `LowerHex` not implemented, used by format argument at 8 (byte 8 of the format)
   |
 3 | c(l[]) = {{l:i({{:x}})}}
-  |               ^^^^
+  |               ~~~^
 kinds.txt:4:11: {broken}
 kinds.txt:5:2: {broken}
 kinds.txt:6:3: {broken}

@@ -126,10 +126,11 @@ class Pictures(unittest.TestCase):
     def test_of_a_line(self) -> None:
         line = "é = Hello {name:x}"
         self.assertEqual(
-            "m.txt:3:18: trait `LowerHex` not implemented, used by format argument at 13\n"
+            "m.txt:3:18: trait `LowerHex` not implemented, used by format argument at 13 "
+            "(byte 13 of the format)\n"
             "  |\n"
             "3 | é = Hello {name:x}\n"
-            "  |           ^^^^^^^^",
+            "  |           ~~~~~~~^",
             Template(line[4:]).explain(
                 {"name": "Ann"}, name="m.txt", first_line=3, text=line, start=4))
 
@@ -140,7 +141,7 @@ class Pictures(unittest.TestCase):
             "<format>:2:15: error while parsing input: Expected `}` at 20\n"
             "  |\n"
             "2 | \tGrüße, {name:y}!\n"
-            "  | \t       ^^^^^^^^^", raised.exception.picture)
+            "  | \t       ~~~~~~^~~", raised.exception.picture)
 
     def test_of_a_check(self) -> None:
         wanted = (
@@ -148,7 +149,7 @@ class Pictures(unittest.TestCase):
             "Format spec at 7 is nether closed with a `}`\n"
             "  |\n"
             "8 | Hello {name\n"
-            "  |       ^^^^^")
+            "  |       ~^~~~")
         broken = "Hello {name"
         self.assertEqual(wanted, explain(broken, name="hello.txt", first_line=8))
         self.assertEqual(wanted, Template(broken).explain({}, name="hello.txt", first_line=8))
@@ -162,7 +163,7 @@ class Pictures(unittest.TestCase):
             "<format>:2:3: specified value not in context `x` at 11\n"
             "  |\n"
             "2 |  {x}\n"
-            "  |  ^^^", raised.exception.picture)
+            "  |  ~^~", raised.exception.picture)
 
     def test_without_a_place(self) -> None:
         with self.assertRaises(NotUtf8) as raised:

@@ -89,7 +89,7 @@ class Tables(unittest.TestCase):
             "<format>:1:8: trait `LowerHex` not implemented, used by format argument at 7\n"
             "  |\n"
             "1 | a: {a:x}\n"
-            "  |    ^^^^^", raised.exception.picture)
+            "  |    ~~~~^", raised.exception.picture)
 
     def test_traits_of_cells(self) -> None:
         self.assertRaises(MissingTrait, rows, "{a:?}", {"a": 1}, [(Only(1, "display"),)])

@@ -271,7 +271,7 @@ pub fn faults(format: &str, context: &(impl Context + ?Sized)) -> Vec<Error> {
 /// assert!(picture.ends_with("\
 ///   |
 /// 1 | Hello {name
-///   |       ^^^^^"));
+///   |       ~^~~~"));
 /// ```
 pub fn explain(
     name: &str,
@@ -317,7 +317,7 @@ pub struct Source<'a> {
 /// assert!(pictures[1].ends_with("\
 ///   |
 /// 7 | bye = Bye {nome} and {name:x}
-///   |                      ^^^^^^^^"));
+///   |                      ~~~~~~~^"));
 /// ```
 pub fn explain_in(
     source: &Source<'_>,

@@ -94,15 +94,15 @@ fn explanations_of_a_line() {
         explain_in(&source, &line[5..], &example),
         [
             "\
-m.txt:7:12: trait `LowerHex` not implemented, used by format argument at 7
+m.txt:7:12: trait `LowerHex` not implemented, used by format argument at 7 (byte 7 of the format)
   |
 7 | é = {name:x} {q}
-  |     ^^^^^^^^",
+  |     ~~~~~~~^",
             "\
-m.txt:7:15: specified value not in context `q` at 10
+m.txt:7:15: specified value not in context `q` at 10 (byte 10 of the format)
   |
 7 | é = {name:x} {q}
-  |              ^^^"
+  |              ~^~"
         ]
     );
     assert!(explain_in(&source, "{name}", &example).is_empty());
@@ -117,12 +117,12 @@ fn explanations_point_at_the_argument() {
 a.txt:4:7: specified value not in context `nome` at 13
   |
 4 | Dear {nome},
-  |      ^^^^^^"
+  |      ~^~~~~"
     );
     assert_eq!(explain("a.txt", 3, "{name}", &example), None);
     let long = "é".repeat(3_000);
     let picture = explain(&long, 1, "{nome", &example).unwrap();
-    assert!(picture.starts_with(&long) && picture.ends_with("^^^^^"));
+    assert!(picture.starts_with(&long) && picture.ends_with("~^~~~"));
 }
 
 #[test]
