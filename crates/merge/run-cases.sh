@@ -11,7 +11,7 @@ stray='a stray quote: write the field in quotes, and double those in it'
 unclosed='a quote that this line does not close'
 here=$(cd "$(dirname "$0")" && pwd)
 name=merge
-wanted=44
+wanted=45
 . "$here/../../.ci/cases.sh"
 
 # files TEMPLATE TABLE: what stands in the files `t` and `r`.
@@ -50,8 +50,10 @@ letter_cases() {
 
 template_cases() {
     fault $'t:1:2: specified value not in context `a` at 1\n  |\n1 | {a}\n  | ~^~' '{a}' ''
-    fault $'t:3:4: specified value not in context `q` at 25\n  |\n3 | é {q}\n  |   ~^~' \
+    fault $'t:3:4: specified value not in context `q` at 25\n  |\n3 | é {q}\n  |   ~^~\n  = names: `name`' \
         $'Dear\n  é {name:>8},\né {q}' $'name\nAnn\nZoë\n'
+    fault $'t:1:2: specified value not in context `nme` at 1\n  |\n1 | {nme}\n  | ~^~~~\n  = did you mean `name`? names: `item`, `name`' \
+        '{nme}' $'item, name\n1,2\n'
     fault $'t:2:4: error while parsing input: Expected `}` at 5\n  |\n2 | {a:y\n  | ~~~^' \
         $'a\n{a:y' $'a\n1\n'
     fault "$(printf '%s\n' \

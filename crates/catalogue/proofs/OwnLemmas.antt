@@ -13,7 +13,7 @@ use Rattle.interpolator.specs.Slots.{Slots}
 use Rattle.interpolator.specs.Template.NodeChecks.{IsOfText, branch_faults, end_fault, fault_list}
 use Rattle.interpolator.specs.Template.NodeChecks.{forest_faults, node_faults, own_fault}
 use Rattle.interpolator.specs.Template.NodeChecks.{text_faults}
-use Rattle.interpolator.specs.Template.NodeSamples.{asked_faults, bare_faults, fault_if}
+use Rattle.interpolator.specs.Template.NodeSamples.{asked_faults, target_faults, fault_if}
 use Rattle.interpolator.specs.Template.NodeSamples.{forest_faults_in, found_faults, item_faults_in}
 use Rattle.interpolator.specs.Template.NodeSamples.{join_faults_in, may_be_items, node_faults_in}
 use Rattle.interpolator.specs.Template.NodeSamples.{plain_faults, value_faults}
@@ -21,7 +21,8 @@ use Rattle.interpolator.specs.Views.{Shown}
 use Rattle.interpolator.specs.declared.Spec.{Spec}
 use Rattle.interpolator.specs.declared.Trait.{Trait}
 use Rattle.interpolator.specs.declared.Trait.TheVariants.{Display, Iter}
-use Rattle.interpolator.specs.Meaning.Samples.{Sample, each_of, has_no_list, may_stand, sample}
+use Rattle.interpolator.specs.Meaning.Samples.{Sample, bind_each, has_no_list, candidates_under}
+use Rattle.interpolator.specs.Meaning.Samples.{sample}
 use Rattle.interpolator.specs.Meaning.Samples.{some_failed, some_missing}
 use Rattle.interpolator_syntax.specs.Nodes.{Branch, Content, Forest, Node, Target, argument_content}
 use Rattle.interpolator_syntax.specs.Nodes.{as_forest, branch, fault_content, no_branch, no_nodes}
@@ -52,26 +53,26 @@ module _ {X : Type 0} (shows : X → Trait → Spec → Shown) where
   none_of_values t spec end ts = none_both (some_missing shows t spec ts)
       (some_failed shows t spec ts) (missing_trait_impl t end) (fmt end) refl refl
 
-  none_of_bare : (bare : Target) (spec : Spec) (end : ℕ) (ts : List (Slots X))
-      → own (bare_faults shows bare spec end ts) ≡ []
-  none_of_bare (target_value t) spec end ts = none_of_values t spec end ts
-  none_of_bare (target_list range) spec end ts =
+  none_of_target : (target : Target) (spec : Spec) (end : ℕ) (ts : List (Slots X))
+      → own (target_faults shows target spec end ts) ≡ []
+  none_of_target (target_value t) spec end ts = none_of_values t spec end ts
+  none_of_target (target_list range) spec end ts =
       none_if (list_any has_no_list ts) (missing_trait_impl Iter end) refl
 
-  none_of_found : (start : ℕ) (name : List ℕ) (bare : Target) (spec : Spec) (end : ℕ)
-      (found : Option (List (Slots X))) → own (found_faults shows start name bare spec end found) ≡ []
-  none_of_found start name bare spec end None = refl
-  none_of_found start name bare spec end (Some ts) = none_of_bare bare spec end ts
+  none_of_found : (start : ℕ) (name : List ℕ) (target : Target) (spec : Spec) (end : ℕ)
+      (found : Option (List (Slots X))) → own (found_faults shows start name target spec end found) ≡ []
+  none_of_found start name target spec end None = refl
+  none_of_found start name target spec end (Some ts) = none_of_target target spec end ts
 
   none_of_asked : (s : Sample X) (held : Content) → own (asked_faults shows s held) ≡ []
   none_of_asked s (text_content from cs) = refl
-  none_of_asked s (argument_content start name spec bare end) =
-      none_of_found start name bare spec end (may_stand s name)
+  none_of_asked s (argument_content start name spec target end) =
+      none_of_found start name target spec end (candidates_under s name)
   none_of_asked s (fault_content f) = refl
 
   none_of_plain : (held : Content) (ts : List (Slots X)) → own (plain_faults shows held ts) ≡ []
   none_of_plain (text_content from cs) ts = refl
-  none_of_plain (argument_content start name spec bare end) ts =
+  none_of_plain (argument_content start name spec target end) ts =
       none_of_values Display plain_spec end ts
   none_of_plain (fault_content f) ts = refl
 
@@ -106,7 +107,7 @@ module _ {X : Type 0} (shows : X → Trait → Spec → Shown) where
     own_of_item : (s : Sample X) (held : Content) (item : Branch)
         → own (item_faults_in shows s held item) ≡ own (branch_faults item)
     own_of_item s held no_branch = none_of_plain held (may_be_items s held)
-    own_of_item s held (branch xs) = own_of_forest (each_of s (may_be_items s held)) xs
+    own_of_item s held (branch xs) = own_of_forest (bind_each s (may_be_items s held)) xs
 
     own_of_join : (s : Sample X) (join : Branch)
         → own (join_faults_in shows s join) ≡ own (branch_faults join)

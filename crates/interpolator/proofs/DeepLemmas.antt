@@ -25,7 +25,7 @@ use Rattle.interpolator_syntax.specs.Nodes.{as_forest, group_branch, item_branch
 use Rattle.interpolator_syntax.specs.Nodes.{piece_node, token_node, nodes}
 use Rattle.interpolator_syntax.proofs.TokenLemmas.{token_shorter, scan_shorter}
 use Rattle.interpolator_syntax.proofs.NodeLemmas.{by_length, nodes_first, nodes_none}
-use Rattle.interpolator_syntax.proofs.HandedLemmas.{handed_on, scan_taken}
+use Rattle.interpolator_syntax.proofs.TokenTextLemmas.{takes_token, scan_taken}
 
 -- ---- what closes a group
 
@@ -155,7 +155,7 @@ deeper P a none after each = by_first (first_token a) refl
         subst (λ xs. P (forest_depth (as_forest xs))) (sym (nodes_first a w.1 w.0 e))
         (of_greater P _ _
         (by_token P none w.1
-        (each w.1 (token_shorter a w e) (handed_on a w e).takes) a.place w.0)
+        (each w.1 (token_shorter a w e) (takes_token a w e).takes) a.place w.0)
         (after rest (scan_shorter a _ w e refl) (scan_taken a w e)))
 
 -- in a text in which no `)` has j signs right after it, groups are nested at most j deep

@@ -6,7 +6,7 @@ use Rattle.std.specs.List.{find}
 use Rattle.std.specs.Option.{option_map}
 use Rattle.std.specs.Prelude.{cond}
 use Rattle.std.specs.Str.{bytes_eq}
-use Rattle.interpolator_eval.specs.Contexts.{held_last}
+use Rattle.interpolator_eval.specs.Contexts.{last_under}
 use Rattle.interpolator.specs.NamedValues.{named_slots, pair_of}
 use Rattle.interpolator.specs.declared.values.NamedValue.{NamedValue}
 
@@ -35,7 +35,7 @@ stands_for (Some value) = refl
 
 pub last_pair : (values : List NamedValue) (name : List ℕ)
     → option_map named_slots (find (λ value. bytes_eq name value.name.now) (reverse values))
-    ≡ held_last (map pair_of values) name
+    ≡ last_under (map pair_of values) name
 last_pair values name =
     sym (ap (λ pairs. option_map (λ pair. pair.1) (find (λ pair. bytes_eq name pair.0.now) pairs))
     (reversed pair_of values)

@@ -23,7 +23,7 @@ use Rattle.interpolator_eval.specs.Meaning.Outcomes.{Outcome}
 use Rattle.interpolator_eval.specs.Meaning.Sinks.{Writes, taken_by}
 use Rattle.interpolator.specs.declared.parts.Ending.{Ending}
 use Rattle.interpolator.specs.declared.parts.Ending.TheVariants.{Settled, Open}
-use Rattle.interpolator_eval.specs.declared.meaning.sink.Sink.{Sink}
+use Rattle.interpolator_eval.specs.declared.evaluate.sink.Sink.{Sink}
 use Rattle.interpolator_syntax.proofs.LocalityLemmas.{stands, size-append}
 use Rattle.interpolator_syntax.proofs.CaseLemmas.{none_some}
 use Rattle.interpolator_syntax.proofs.PieceLemmas.{pieces_none}

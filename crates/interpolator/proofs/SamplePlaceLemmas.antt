@@ -17,16 +17,18 @@ use Rattle.interpolator_syntax.specs.Nodes.{nodes_and, as_forest, nodes, Content
 use Rattle.interpolator_syntax.specs.Nodes.{Target, target_value, target_list}
 use Rattle.interpolator_syntax.specs.SpecTexts.{plain_spec}
 use Rattle.interpolator_eval.specs.Slots.{Slots}
-use Rattle.interpolator_eval.specs.Meaning.Samples.{Sample, sample, each_of, may_stand}
+use Rattle.interpolator_eval.specs.Meaning.Samples.{Sample, sample, bind_each, candidates_under}
 use Rattle.interpolator_eval.specs.Meaning.Samples.{has_no_list, some_missing, some_failed}
 use Rattle.interpolator_pieces.specs.NodeChecks.{fault_list, own_fault, end_fault}
-use Rattle.interpolator_pieces.specs.NodeSamples.{fault_if, may_be_items, value_faults, bare_faults}
+use Rattle.interpolator_pieces.specs.NodeSamples.{fault_if, may_be_items, value_faults}
+use Rattle.interpolator_pieces.specs.NodeSamples.{target_faults}
 use Rattle.interpolator_pieces.specs.NodeSamples.{found_faults, asked_faults, plain_faults}
 use Rattle.interpolator_pieces.specs.NodeSamples.{node_faults_in, item_faults_in, join_faults_in}
 use Rattle.interpolator_pieces.specs.NodeSamples.{forest_faults_in, faults_over}
 use Rattle.interpolator_pieces.specs.Collecting.{AnswersFirst}
 use Rattle.interpolator_syntax.proofs.CharacterLemmas.{size-chars}
-use Rattle.interpolator_syntax.proofs.TreePlaceLemmas.{HeldLies, NodeLies, BranchLies, ForestLies}
+use Rattle.interpolator_syntax.proofs.TreePlaceLemmas.{ContentLies, NodeLies, BranchLies}
+use Rattle.interpolator_syntax.proofs.TreePlaceLemmas.{ForestLies}
 use Rattle.interpolator_syntax.proofs.TreePlaceLemmas.{places_lie}
 use Rattle.interpolator_pieces.proofs.CheckPlaceLemmas.{FaultsWithin, own_within, end_within}
 
@@ -57,29 +59,29 @@ module _ (n : ℕ) where
         within_both (fault_if missing (missing_trait_impl t q)) (fault_if failed (fmt q))
         (within_if missing (missing_trait_impl t q) h) (within_if failed (fmt q) h)
 
-    bare_within : (bare : Target) (spec : Spec) (q : ℕ) (ts : List (Slots X)) → q ≤ n
-        → AllWithin (bare_faults shows bare spec q ts)
-    bare_within (target_value t) spec q ts h = value_within t spec q ts h
-    bare_within (target_list range) spec q ts h =
+    target_within : (target : Target) (spec : Spec) (q : ℕ) (ts : List (Slots X)) → q ≤ n
+        → AllWithin (target_faults shows target spec q ts)
+    target_within (target_value t) spec q ts h = value_within t spec q ts h
+    target_within (target_list range) spec q ts h =
         within_if (list_any has_no_list ts) (missing_trait_impl traits.Iter q) h
 
-    found_within : (start : ℕ) (name : List ℕ) (bare : Target) (spec : Spec) (q : ℕ)
+    found_within : (start : ℕ) (name : List ℕ) (target : Target) (spec : Spec) (q : ℕ)
         (o : Option (List (Slots X))) → start ≤ n → q ≤ n
-        → AllWithin (found_faults shows start name bare spec q o)
-    found_within start name bare spec q None s h = (s, tt)
-    found_within start name bare spec q (Some ts) s h = bare_within bare spec q ts h
+        → AllWithin (found_faults shows start name target spec q o)
+    found_within start name target spec q None s h = (s, tt)
+    found_within start name target spec q (Some ts) s h = target_within target spec q ts h
 
-    asked_within : (s : Sample X) (held : Content) → HeldLies n held
+    asked_within : (s : Sample X) (held : Content) → ContentLies n held
         → AllWithin (asked_faults shows s held)
     asked_within s (text_content from cs) h = tt
-    asked_within s (argument_content start name spec bare q) h =
-        found_within start name bare spec q (may_stand s name) h.0 h.1
+    asked_within s (argument_content start name spec target q) h =
+        found_within start name target spec q (candidates_under s name) h.0 h.1
     asked_within s (fault_content f) h = tt
 
-    plain_within : (held : Content) (ts : List (Slots X)) → HeldLies n held
+    plain_within : (held : Content) (ts : List (Slots X)) → ContentLies n held
         → AllWithin (plain_faults shows held ts)
     plain_within (text_content from cs) ts h = tt
-    plain_within (argument_content start name spec bare q) ts h =
+    plain_within (argument_content start name spec target q) ts h =
         value_within traits.Display plain_spec q ts h.1
     plain_within (fault_content f) ts h = tt
 
@@ -98,10 +100,10 @@ module _ (n : ℕ) where
           (within_both between last (join_within join s h.2)
           (by_itself last (end_within n kind held h.0)))))
 
-      item_within : (b : Branch) (s : Sample X) (held : Content) → HeldLies n held → BranchLies n b
+      item_within : (b : Branch) (s : Sample X) (held : Content) → ContentLies n held → BranchLies n b
           → AllWithin (item_faults_in shows s held b)
       item_within no_branch s held h l = plain_within held (may_be_items s held) h
-      item_within (branch xs) s held h l = forest_within xs (each_of s (may_be_items s held)) l
+      item_within (branch xs) s held h l = forest_within xs (bind_each s (may_be_items s held)) l
 
       join_within : (b : Branch) (s : Sample X) → BranchLies n b
           → AllWithin (join_faults_in shows s b)

@@ -42,7 +42,8 @@ pub use escaping::escape;
 pub use explaining::{Source, explain, explain_in, explain_with_names};
 pub use interpolate::Interpolate;
 pub use interpolator_eval::{
-    Context, ContextMap, Formattable, NameMap, Pairs, Tally, chosen, is_name, items_of, rows_of,
+    Context, ContextMap, Formattable, NameMap, Pairs, PieceCount, chosen, is_name, items_of,
+    rows_of,
 };
 pub use interpolator_pieces::{Cost, Limits, Piece, check, format, iwriteln, write};
 pub use interpolator_prepared::{Prepared, Row};

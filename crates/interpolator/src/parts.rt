@@ -193,7 +193,7 @@ pub fn write_parts<W: TextWrite, C: Context>(
         Sink::Writer(end) => {
             let _ = end;
         }
-        Sink::Aside(_) => unreachable!(),
+        Sink::Buffer(_) => unreachable!(),
     }
     answer
 }

@@ -29,7 +29,7 @@ ghost use Rattle.interpolator_syntax.specs.Nodes.{as_forest, nodes};
 ghost use Rattle.interpolator_pieces.specs.Stored.{nodes_of};
 ghost use Rattle.interpolator_pieces.specs.Visits.{Walks, text_visits};
 
-use interpolator_eval::{Context, Pairs, SampleEnvironment, Tally};
+use interpolator_eval::{Context, Pairs, PieceCount, SampleEnvironment};
 use interpolator_pieces::{
     Check, Cost, Deepest, FaultCollector, Limits, Names, Piece, Visitor, Widest, argument_among,
     collect_pieces, cost_of, format_pieces, parse_pieces, push_arguments, walk_text, write_counted,
@@ -184,8 +184,8 @@ impl Template {
     /// # Example
     ///
     /// ```text
-    /// let mut tally = Tally::<L>::open(blank);    // 0
-    /// template.write_counted(alloc, &mut out, &context, &mut tally)?;
+    /// let mut count = PieceCount::<L>::open(blank);    // 0
+    /// template.write_counted(alloc, &mut out, &context, &mut count)?;
     /// // of `{l:i({})(, )}` and three items: 1 + 3 * 1 + 2 * 1
     /// ```
     pub fn write_counted<W: TextWrite, C: Context, L: Ledger>(
@@ -193,7 +193,7 @@ impl Template {
         alloc: Global,
         out: &mut W,
         context: &C,
-        tally: &mut Tally<L>,
+        count: &mut PieceCount<L>,
     ) -> Result<(), Error>
         ensures outcome { Outcome
             (means C.Object.shows (environment (C.finds context.now)) (outermost (chars self.now)))
@@ -202,16 +202,16 @@ impl Template {
             (means C.Object.shows (cut (environment (C.finds context.now)) (asked_names a)) a)
             (W.written out.old) (W.written out.new) (result_answer result) }
         ensures place { PlaceWithin (length self.now) (result_answer result) }
-        ensures exact { IfOk result (λ _. tally.new ≡ tally.old + (text_work C.Object.shows
+        ensures exact { IfOk result (λ _. count.new ≡ count.old + (text_work C.Object.shows
             (environment (C.finds context.now)) (outermost (chars self.now))).pieces) }
-        ensures gone { tally.new ≤ tally.old + (text_work C.Object.shows
+        ensures gone { count.new ≤ count.old + (text_work C.Object.shows
             (environment (C.finds context.now)) (outermost (chars self.now))).pieces }
         ensures within { (limits : Limits)
             → IsWithin C.Object.shows limits.text limits.items (environment (C.finds context.now))
             (asked_names (outermost (chars self.now)))
-            → tally.new ≤ tally.old + (text_cost limits (outermost (chars self.now))).pieces }
+            → count.new ≤ count.old + (text_cost limits (outermost (chars self.now))).pieces }
     {
-        write_counted(alloc, out, self.text.as_str(), &self.pieces, context, tally)
+        write_counted(alloc, out, self.text.as_str(), &self.pieces, context, count)
     }
 
     /// The text that it means in the context, in a new `String`.

@@ -3,7 +3,7 @@ ghost use Rattle.std.specs.Prelude.{◌≡◌, [], ◌∷◌, map, reverse, opti
 ghost use Rattle.std.specs.List.{find};
 ghost use Rattle.std.specs.Option.{option_copied};
 ghost use Rattle.std.specs.Str.{bytes_eq, encode_utf8_all};
-ghost use Rattle.interpolator_eval.specs.Contexts.{held_last};
+ghost use Rattle.interpolator_eval.specs.Contexts.{last_under};
 ghost use Rattle.interpolator_eval.specs.Slots.{slots_of, empty_slots, with_iter};
 ghost use Rattle.interpolator.specs.NamedValues.{with_trait, with_traits, named_slots, pair_of};
 ghost use Rattle.interpolator.specs.NamedValues.{pairs_of};
@@ -145,7 +145,7 @@ impl<'a> Values<'a> {
 impl<'a> Context for Values<'a> {
     type Object = View<'a>;
 
-    ghost finds = { λ values name. held_last (pairs_of values) (encode_utf8_all name) };
+    ghost finds = { λ values name. last_under (pairs_of values) (encode_utf8_all name) };
 
     fn get(&self, key: &str) -> Option<Formattable<'_, View<'a>>> {
         match last_named(self.named(), key) {

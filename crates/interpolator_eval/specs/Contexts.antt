@@ -20,11 +20,11 @@ abbrev pub found_by_text : {X A S : Type 0} → HashMap (String A) (Formattable 
 found_by_text map name = option_map slots_of (get_by_text map (encode_utf8_all name))
 
 -- the value of the last pair whose name has these bytes
-abbrev pub held_last : {Y : Type 0} → List (Bor (List ℕ) × Y) → List ℕ → Option Y
-held_last pairs bytes =
+abbrev pub last_under : {Y : Type 0} → List (Bor (List ℕ) × Y) → List ℕ → Option Y
+last_under pairs bytes =
     option_map (λ pair. pair.1) (find (λ pair. bytes_eq bytes pair.0.now) (reverse pairs))
 
 -- the tree in the last pair of the name
 abbrev pub found_by_pairs : {X : Type 0} → List (Bor (List ℕ) × Formattable X) → List ℕ
     → Option (Slots X)
-found_by_pairs pairs name = option_map slots_of (held_last pairs (encode_utf8_all name))
+found_by_pairs pairs name = option_map slots_of (last_under pairs (encode_utf8_all name))

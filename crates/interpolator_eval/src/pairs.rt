@@ -1,7 +1,7 @@
 //! A context made of pairs of a name and its value.
 ghost use Rattle.std.specs.Prelude.{◌≡◌, ⊤, option_map};
 ghost use Rattle.std.specs.Option.{option_copied};
-ghost use Rattle.interpolator_eval.specs.Contexts.{found_by_pairs, held_last};
+ghost use Rattle.interpolator_eval.specs.Contexts.{found_by_pairs, last_under};
 
 use crate::context::Context;
 use crate::slots::Formattable;
@@ -42,7 +42,7 @@ impl<'a, V> Copy for Pairs<'a, V> {}
 // Returns the last pair of this name. It is not inlined, so that its few words stay in registers.
 #[inline(never)]
 fn last_pair<'s, 'k, T>(pairs: &'s [(&'k str, T)], name: &str) -> Option<&'s (&'k str, T)>
-    ensures { option_map (λ pair. pair.1) (option_copied result) ≡ held_last pairs.now name.now }
+    ensures { option_map (λ pair. pair.1) (option_copied result) ≡ last_under pairs.now name.now }
 {
     pairs.iter().rev().find(|pair| pair.0 == name)
 }

@@ -23,10 +23,10 @@ const SLOTS: [Trait; 9] = [
 ];
 
 // Returns the name of a trait's slot.
-fn name_of(slot: Trait) -> &'static str
-    ensures { result.now ≡ slot_name slot }
+fn name_of(wanted: Trait) -> &'static str
+    ensures { result.now ≡ slot_name wanted }
 {
-    match slot {
+    match wanted {
         Trait::Debug => "debug",
         Trait::Display => "display",
         Trait::Binary => "binary",
@@ -41,12 +41,12 @@ fn name_of(slot: Trait) -> &'static str
 
 impl<'a, V> Formattable<'a, V> {
     // Returns whether the slot is filled.
-    fn has(&self, slot: Trait) -> bool
-        ensures { result ≡ is_filled (slots_of self.now) slot }
+    fn has(&self, wanted: Trait) -> bool
+        ensures { result ≡ is_filled (slots_of self.now) wanted }
     {
-        match slot {
+        match wanted {
             Trait::Iter => self.list().is_some(),
-            _ => self.slot(slot).is_some(),
+            _ => self.slot(wanted).is_some(),
         }
     }
 }

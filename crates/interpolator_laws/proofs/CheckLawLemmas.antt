@@ -22,7 +22,7 @@ use Rattle.interpolator_eval.specs.Meaning.Meanings.{item_branch_means, forest_m
 use Rattle.interpolator_syntax.specs.Nodes.{Node, node, Branch, no_branch, branch, Forest}
 use Rattle.interpolator_syntax.specs.Nodes.{no_nodes, nodes_and, as_forest, nodes}
 use Rattle.interpolator_laws.proofs.FaultLemmas.{May, may_none, may_joined, may_plain}
-use Rattle.interpolator_laws.proofs.FaultLemmas.{may_held, in_one, one_in, none_in}
+use Rattle.interpolator_laws.proofs.FaultLemmas.{may_content, in_one, one_in, none_in}
 use Rattle.interpolator_laws.proofs.FaultLemmas.{in_first, in_second, in_third, in_fourth}
 
 -- ---- a fault of the text is among those that it has by itself
@@ -39,12 +39,12 @@ module _ {X : Type 0} (shows : X → Trait → Spec → Shown) where
         let last = fault_list (end_fault kind held) in
         let items = branch_faults item in
         let joins = branch_faults join in
-        may_held (Among (own ++ (items ++ (joins ++ last)))) (λ t q no. absurd no)
+        may_content (Among (own ++ (items ++ (joins ++ last)))) (λ t q no. absurd no)
         (λ q no. absurd no) shows e kind held (join_branch_means shows e join)
         (item_branch_means shows e item)
         (λ f h t. in_first own items joins last f (one_in (own_fault held) f h))
         (λ f h t. in_fourth own items joins last f (one_in (end_fault kind held) f h))
-        (λ start q name spec bare h n no. absurd no)
+        (λ start q name spec target h n no. absurd no)
         (λ f h t. in_third own items joins last f (join_among join e f h t))
         (λ q x f h t. in_second own items joins last f (item_among item e q x f h t))
 

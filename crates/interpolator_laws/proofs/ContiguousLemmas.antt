@@ -37,7 +37,7 @@ use Rattle.interpolator_syntax.proofs.TokenLemmas.{scan_shorter, token_shorter}
 use Rattle.interpolator_syntax.proofs.NodeLemmas.{by_length, argument_kind, nodes_first}
 use Rattle.interpolator_syntax.proofs.NodeLemmas.{nodes_none}
 use Rattle.interpolator_syntax.proofs.SplitLemmas.{texts}
-use Rattle.interpolator_syntax.proofs.HandedLemmas.{handed_on, scan_taken}
+use Rattle.interpolator_syntax.proofs.TokenTextLemmas.{takes_token, scan_taken}
 
 -- ---- groups end in front of what follows their argument
 
@@ -162,7 +162,7 @@ module _ (p : ℕ) (b : At) (start : p < b.place) (more : ShorterReach b) where
 token_inside : (a : At) (t : Token) (b : At) → first_token a ≡ Some (t, b) → ShorterReach a
     → GroupsInside (token_node nodes a.place t b)
 token_inside a argument b e more =
-    let place = (handed_on a (argument, b) e).size in
+    let place = (takes_token a (argument, b) e).size in
     let shorter = token_shorter a (argument, b) e in
     argument_inside a.place b (omega (arith, place))
     (λ c l. more c (omega (arith, l, shorter)))

@@ -19,10 +19,11 @@ use Rattle.interpolator_eval.specs.Slots.{Slots, values_of, items, slot_at}
 use Rattle.interpolator_eval.specs.Meaning.Choices.{chosen_items}
 use Rattle.interpolator_eval.specs.Meaning.Environments.{Environment, slots_under}
 use Rattle.interpolator_eval.specs.Meaning.Meanings.{Meaning, fault_alone, or_fault, chain, view_means}
-use Rattle.interpolator_eval.specs.Meaning.Meanings.{value_means, forbids_list, made_whole, padded_list}
+use Rattle.interpolator_eval.specs.Meaning.Meanings.{value_means, forbids_list, buffered_means}
+use Rattle.interpolator_eval.specs.Meaning.Meanings.{padded_list}
 use Rattle.interpolator_eval.specs.Meaning.Meanings.{items_after, items_mean, under_name, listed_means}
 use Rattle.interpolator_pieces.specs.NodeChecks.{fault_list, first_fault, own_fault, end_fault}
-use Rattle.interpolator_eval.specs.Meaning.Meanings.{and_closed, bare_means, held_means}
+use Rattle.interpolator_eval.specs.Meaning.Meanings.{and_closed, target_means, content_means}
 use Rattle.interpolator_eval.specs.Meaning.Meanings.{plain_item_means}
 use Rattle.interpolator_syntax.specs.Nodes.{Content, text_content, argument_content, fault_content, Target, target_value}
 use Rattle.interpolator_syntax.specs.Nodes.{target_list}
@@ -45,7 +46,7 @@ module _ (P : Fault → Type 0) where
   may_joined m k h j = elim m.fault as (λ o. May P (or_fault o m k)) [ Some g ↦ h | None ↦ j ]
 
   may_whole : (spec : Spec) (q : ℕ) (o : Option Fault) (cs : List ℕ)
-      → ((f : Fault) → o ≡ Some f → P f) → May P (made_whole spec q o cs)
+      → ((f : Fault) → o ≡ Some f → P f) → May P (buffered_means spec q o cs)
   may_whole spec q None cs h = may_none
   may_whole spec q (Some g) cs h = h
 
@@ -98,14 +99,14 @@ module _ (P : Fault → Type 0) where
       may_plain q x =
           may_value traits.Display plain_spec q (slot_at traits.Display (values_of x))
 
-      may_bare : (start : ℕ) (name : List ℕ) (bare : Target) (spec : Spec) (q : ℕ) (join : Meaning)
+      may_target : (start : ℕ) (name : List ℕ) (target : Target) (spec : Spec) (q : ℕ) (join : Meaning)
           (item : Slots X → Meaning)
-          → ((f : Fault) → own_fault (argument_content start name spec bare q) ≡ Some f → P f)
+          → ((f : Fault) → own_fault (argument_content start name spec target q) ≡ Some f → P f)
           → May P join → ((x : Slots X) → May P (item x)) → (found : Slots X)
-          → May P (bare_means shows bare spec q join item found)
-      may_bare start name (target_value t) spec q join item own j i found =
+          → May P (target_means shows target spec q join item found)
+      may_target start name (target_value t) spec q join item own j i found =
           may_value t spec q (slot_at t (values_of found))
-      may_bare start name (target_list range) spec q join item own j i found =
+      may_target start name (target_list range) spec q join item own j i found =
           may_listed range spec q join item own j i (items found)
 
       may_found : (start : ℕ) (name : List ℕ) (meant : Slots X → Meaning) (o : Option (Slots X))
@@ -114,33 +115,33 @@ module _ (P : Fault → Type 0) where
       may_found start name meant None missing i = may_one _ (missing refl)
       may_found start name meant (Some found) missing i = i found
 
-      may_closed : (kind : PieceKind) (start : ℕ) (name : List ℕ) (spec : Spec) (bare : Target)
+      may_closed : (kind : PieceKind) (start : ℕ) (name : List ℕ) (spec : Spec) (target : Target)
           (q : ℕ) (m : Meaning)
-          → ((f : Fault) → end_fault kind (argument_content start name spec bare q) ≡ Some f → P f)
+          → ((f : Fault) → end_fault kind (argument_content start name spec target q) ≡ Some f → P f)
           → May P m → May P (and_closed kind q m)
-      may_closed kinds.Literal start name spec bare q m last h = h
-      may_closed kinds.Doubled start name spec bare q m last h = h
-      may_closed kinds.LoneClose start name spec bare q m last h = h
-      may_closed kinds.Closed start name spec bare q m last h = h
-      may_closed kinds.Unclosed start name spec bare q m last h = may_joined _ _ h last
-      may_closed kinds.Broken start name spec bare q m last h = h
+      may_closed kinds.Literal start name spec target q m last h = h
+      may_closed kinds.Doubled start name spec target q m last h = h
+      may_closed kinds.LoneClose start name spec target q m last h = h
+      may_closed kinds.Closed start name spec target q m last h = h
+      may_closed kinds.Unclosed start name spec target q m last h = may_joined _ _ h last
+      may_closed kinds.Broken start name spec target q m last h = h
 
       -- what a piece holds
-      pub may_held : (e : Environment X) (kind : PieceKind) (held : Content) (join : Meaning)
+      pub may_content : (e : Environment X) (kind : PieceKind) (held : Content) (join : Meaning)
           (item : ℕ → Slots X → Meaning)
           → ((f : Fault) → own_fault held ≡ Some f → P f)
           → ((f : Fault) → end_fault kind held ≡ Some f → P f)
-          → ((start q : ℕ) (name : List ℕ) (spec : Spec) (bare : Target)
-          → held ≡ argument_content start name spec bare q → slots_under e name ≡ None
+          → ((start q : ℕ) (name : List ℕ) (spec : Spec) (target : Target)
+          → held ≡ argument_content start name spec target q → slots_under e name ≡ None
           → P (missing_value name start))
           → May P join → ((q : ℕ) (x : Slots X) → May P (item q x))
-          → May P (held_means shows e kind held join item)
-      may_held e kind (text_content from cs) join item own last missing j i = may_none
-      may_held e kind (argument_content start name spec bare q) join item own last missing j i =
-          may_closed kind start name spec bare q _ last
-          (may_found start name _ (slots_under e name) (missing start q name spec bare refl)
-          (may_bare start name bare spec q join (item q) own j (i q)))
-      may_held e kind (fault_content g) join item own last missing j i = own
+          → May P (content_means shows e kind held join item)
+      may_content e kind (text_content from cs) join item own last missing j i = may_none
+      may_content e kind (argument_content start name spec target q) join item own last missing j i =
+          may_closed kind start name spec target q _ last
+          (may_found start name _ (slots_under e name) (missing start q name spec target refl)
+          (may_target start name target spec q join (item q) own j (i q)))
+      may_content e kind (fault_content g) join item own last missing j i = own
 
 -- ---- lists of faults
 

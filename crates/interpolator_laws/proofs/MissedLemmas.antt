@@ -16,7 +16,7 @@ use Rattle.interpolator_pieces.specs.NodeChecks.{fault_list, own_fault, end_faul
 use Rattle.interpolator_pieces.specs.NodeChecks.{branch_faults, forest_faults, IsOfText}
 use Rattle.interpolator_eval.specs.Meaning.Meanings.{node_means, join_branch_means}
 use Rattle.interpolator_eval.specs.Meaning.Meanings.{item_branch_means, forest_means}
-use Rattle.interpolator_eval.specs.Meaning.AskedNames.{context_names, held_asks, node_asks}
+use Rattle.interpolator_eval.specs.Meaning.AskedNames.{context_names, content_names, node_asks}
 use Rattle.interpolator_eval.specs.Meaning.AskedNames.{branch_asks}
 use Rattle.interpolator_eval.specs.Meaning.AskedNames.{forest_asks}
 use Rattle.interpolator_syntax.specs.Nodes.{Node, node, Branch, no_branch, branch, Forest}
@@ -24,7 +24,7 @@ use Rattle.interpolator_syntax.specs.Nodes.{no_nodes, nodes_and, as_forest, node
 use Rattle.interpolator_eval.proofs.MeaningLemmas.EqualLemmas.{bound_same}
 use Rattle.interpolator_pieces.proofs.CheckPlaceLemmas.{faults_of_text}
 use Rattle.interpolator_laws.proofs.FaultLemmas.{May, may_none, may_joined, may_plain}
-use Rattle.interpolator_laws.proofs.FaultLemmas.{may_held, one_in, in_first, in_second}
+use Rattle.interpolator_laws.proofs.FaultLemmas.{may_content, one_in, in_first, in_second}
 use Rattle.interpolator_laws.proofs.FaultLemmas.{in_third, in_fourth}
 
 -- ---- names that nothing is under
@@ -97,18 +97,18 @@ module _ {X : Type 0} (shows : X → Trait → Spec → Shown) where
         let last = fault_list (end_fault kind held) in
         let items = branch_faults item in
         let joins = branch_faults join in
-        let mine = held_asks in_item (Some held) in
+        let mine = content_names in_item (Some held) in
         let inner = branch_asks true item in
         let between = branch_asks in_item join in
         let all = mine ++ (inner ++ between) in
-        may_held (Missed e all) (no_trait e all) (not_written e all) shows e kind held
+        may_content (Missed e all) (no_trait e all) (not_written e all) shows e kind held
         (join_branch_means shows e join) (item_branch_means shows e item)
         (λ f h.
         not_missed e all f (t f (in_first own items joins last f (one_in (own_fault held) f h))))
         (λ f h.
         not_missed e all f
         (t f (in_fourth own items joins last f (one_in (end_fault kind held) f h))))
-        (λ start q name spec bare is none other place same.
+        (λ start q name spec target is none other place same.
         let this : name ≡ other = cc in
         subst (λ n. Contains all n × (slots_under e n ≡ None)) this (
           Contains-append_left mine (inner ++ between) name

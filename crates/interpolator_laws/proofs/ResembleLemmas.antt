@@ -26,25 +26,27 @@ use Rattle.interpolator_eval.specs.Meaning.Choices.{chosen_items, chosen_places}
 use Rattle.interpolator_eval.specs.Meaning.Environments.{Environment, slots_under, within, inner_or, bind}
 use Rattle.interpolator_eval.specs.Meaning.Environments.{environment}
 use Rattle.interpolator_eval.specs.Meaning.Meanings.{Meaning, or_fault, chain, view_means}
-use Rattle.interpolator_eval.specs.Meaning.Meanings.{value_means, forbids_list, made_whole, padded_list}
+use Rattle.interpolator_eval.specs.Meaning.Meanings.{value_means, forbids_list, buffered_means}
+use Rattle.interpolator_eval.specs.Meaning.Meanings.{padded_list}
 use Rattle.interpolator_eval.specs.Meaning.Meanings.{items_after, items_mean, under_name, listed_means}
 use Rattle.interpolator_eval.specs.Meaning.Meanings.{means}
 use Rattle.interpolator_eval.specs.Meaning.Resembling.{HasText, IsListOf, ResemblesSlot}
 use Rattle.interpolator_eval.specs.Meaning.Resembling.{ResemblesValues, Resembles, ResemblesSome}
 use Rattle.interpolator_eval.specs.Meaning.Resembling.{ResemblesFound, ResemblesOn}
-use Rattle.interpolator_eval.specs.Meaning.Samples.{Sample, sample, each_of, each_or, alone, may_stand}
+use Rattle.interpolator_eval.specs.Meaning.Samples.{Sample, sample, bind_each, each_or, alone}
+use Rattle.interpolator_eval.specs.Meaning.Samples.{candidates_under}
 use Rattle.interpolator_eval.specs.Meaning.Samples.{items_of_all, has_no_list, is_missing, is_failed}
 use Rattle.interpolator_eval.specs.Meaning.Samples.{slot_text, text_under, some_missing, some_failed}
 use Rattle.interpolator_pieces.specs.NodeChecks.{fault_list, own_fault, end_fault}
-use Rattle.interpolator_eval.specs.Meaning.Meanings.{and_closed, held_means, node_means}
+use Rattle.interpolator_eval.specs.Meaning.Meanings.{and_closed, content_means, node_means}
 use Rattle.interpolator_eval.specs.Meaning.Meanings.{join_branch_means, item_branch_means}
 use Rattle.interpolator_eval.specs.Meaning.Meanings.{forest_means}
-use Rattle.interpolator_eval.specs.Meaning.AskedNames.{context_names, held_asks, node_asks}
+use Rattle.interpolator_eval.specs.Meaning.AskedNames.{context_names, content_names, node_asks}
 use Rattle.interpolator_eval.specs.Meaning.AskedNames.{branch_asks, forest_asks}
 use Rattle.interpolator_pieces.specs.NodeSamples.{fault_if, may_be_items, value_faults, found_faults}
 use Rattle.interpolator_pieces.specs.NodeSamples.{asked_faults, plain_faults, node_faults_in}
 use Rattle.interpolator_pieces.specs.NodeSamples.{item_faults_in, join_faults_in, forest_faults_in}
-use Rattle.interpolator_pieces.specs.NodeSamples.{faults_over, held_pads, node_pads, branch_pads}
+use Rattle.interpolator_pieces.specs.NodeSamples.{faults_over, content_pads, node_pads, branch_pads}
 use Rattle.interpolator_pieces.specs.NodeSamples.{forest_pads, pads_a_list}
 use Rattle.interpolator_pieces.specs.StoredMeanings.{unclosed_fault_of}
 
@@ -253,30 +255,30 @@ module _ (N : Type 0) where
       allowed_by : (b : Bool) (q : ℕ) → (if b then Some (parse (iter q)) else None) ≡ None → b ≡ false
       allowed_by b q h = grind arith
 
-      fine_held : (s : Sample X) (e : Environment Y) (kind : PieceKind) (held : Content) (join : Meaning)
+      fine_content : (s : Sample X) (e : Environment Y) (kind : PieceKind) (held : Content) (join : Meaning)
           (item : ℕ → Slots Y → Meaning)
           → asked_faults shows s held ≡ [] → own_fault held ≡ None → end_fault kind held ≡ None
-          → (N → held_pads (Some held) ≡ false) → Fine join
+          → (N → content_pads (Some held) ≡ false) → Fine join
           → ((start q : ℕ) (name : List ℕ) (spec : Spec) (wanted : Target)
           → held ≡ argument_content start name spec wanted q
-          → LikeFound (slots_under e name) (may_stand s name))
+          → LikeFound (slots_under e name) (candidates_under s name))
           → ((start q : ℕ) (name : List ℕ) (spec : Spec) (wanted : Target)
           → held ≡ argument_content start name spec wanted q → (u : Slots Y) → SomeLike u (may_be_items s held)
           → Fine (item q u))
-          → Fine (held_means others e kind held join item)
-      fine_held s e kind (text_content from cs) join item none own last pads joins found each =
+          → Fine (content_means others e kind held join item)
+      fine_content s e kind (text_content from cs) join item none own last pads joins found each =
           (refl, λ n. refl)
-      fine_held s e kind (fault_content f) join item none own last pads joins found each = absurd (cc)
-      fine_held s e kind (argument_content start name spec (target_value t) q) join item none own last pads joins
+      fine_content s e kind (fault_content f) join item none own last pads joins found each = absurd (cc)
+      fine_content s e kind (argument_content start name spec (target_value t) q) join item none own last pads joins
           found each =
           fine_closed kind q _ last
-          (fine_found start name (target_value t) spec q _ (slots_under e name) (may_stand s name)
+          (fine_found start name (target_value t) spec q _ (slots_under e name) (candidates_under s name)
           (found start q name spec (target_value t) refl) none
           (λ xs u is faults like. fine_value t spec q xs u faults like))
-      fine_held s e kind (argument_content start name spec (target_list range) q) join item none own last pads
+      fine_content s e kind (argument_content start name spec (target_list range) q) join item none own last pads
           joins found each =
           fine_closed kind q _ last
-          (fine_found start name (target_list range) spec q _ (slots_under e name) (may_stand s name)
+          (fine_found start name (target_list range) spec q _ (slots_under e name) (candidates_under s name)
           (found start q name spec (target_list range) refl) none
           (λ xs u is faults like.
           fine_list range spec q join (item q) xs u (not_so _ _ faults)
@@ -331,18 +333,18 @@ module _ (N : Type 0) where
 
       outer_like : (s : Sample X) (e : Environment Y) (c : ℕ) (cs : List ℕ)
           → ResemblesFound shows others (within e.names e.finds (c ∷ cs)) (s.gives (c ∷ cs))
-          → LikeFound (slots_under e (c ∷ cs)) (may_stand s (c ∷ cs))
+          → LikeFound (slots_under e (c ∷ cs)) (candidates_under s (c ∷ cs))
       outer_like s e c cs h =
           let found = from_found (within e.names e.finds (c ∷ cs)) (s.gives (c ∷ cs)) h in
           let there = inner_named e.inner (λ name. within e.names e.finds name) c cs in
           let here = each_named s.each (λ name. option_map alone (s.gives name)) c cs in
-          subst (λ o. LikeFound o (may_stand s (c ∷ cs))) (sym there)
+          subst (λ o. LikeFound o (candidates_under s (c ∷ cs))) (sym there)
           (subst (λ p. LikeFound (within e.names e.finds (c ∷ cs)) p) (sym here) found)
 
       name_like : (in_item : Bool) (s : Sample X) (e : Environment Y) (names : List (List ℕ))
           (name : List ℕ) → Fits in_item s e names
           → ((n : List ℕ) → Contains (context_names in_item name) n → Contains names n)
-          → LikeFound (slots_under e name) (may_stand s name)
+          → LikeFound (slots_under e name) (candidates_under s name)
       name_like true s e names [] h into =
           let empty = h.empty in
           rw (empty.2, empty.3) empty.4
@@ -375,12 +377,12 @@ module _ (N : Type 0) where
             let after_asked = no_back asked (own ++ (looked ++ (between ++ last))) none in
             let after_own = no_back own (looked ++ (between ++ last)) after_asked in
             let after_item = no_back looked (between ++ last) after_own in
-            let mine = held_asks in_item (Some held) in
+            let mine = content_names in_item (Some held) in
             let inner = branch_asks true item in
             let outer = branch_asks in_item join in
-            let here = λ (n : N). neither (held_pads (Some held)) (branch_pads item || branch_pads join) (pads n) in
+            let here = λ (n : N). neither (content_pads (Some held)) (branch_pads item || branch_pads join) (pads n) in
             let groups = λ (n : N). neither (branch_pads item) (branch_pads join) (here n).1 in
-            fine_held s e kind held (join_branch_means others e join) (item_branch_means others e item)
+            fine_content s e kind held (join_branch_means others e join) (item_branch_means others e item)
             (no_front asked (own ++ (looked ++ (between ++ last))) none)
             (not_listed (own_fault held) (no_front own (looked ++ (between ++ last)) after_asked))
             (not_listed (end_fault kind held) (no_back between last after_item))
@@ -412,7 +414,7 @@ module _ (N : Type 0) where
             fine_value traits.Display plain_spec q (may_be_items s held) u
             (plain_value held start q name spec wanted (may_be_items s held) is none) like
         fine_item (branch xs) in_item s e held start q name spec wanted is none pads fits u like =
-            fine_forest xs true (each_of s (may_be_items s held)) (bind e u) none pads
+            fine_forest xs true (bind_each s (may_be_items s held)) (bind e u) none pads
             (record { outer = fits.outer; empty = (may_be_items s held, u, refl, refl, like) })
 
         fine_forest : (xs : Forest) (in_item : Bool) (s : Sample X) (e : Environment Y)

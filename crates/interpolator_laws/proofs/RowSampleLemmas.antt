@@ -25,7 +25,7 @@ use Rattle.interpolator_eval.specs.Slots.{slots_of}
 use Rattle.interpolator_eval.specs.declared.slots.Formattable.{Formattable}
 use Rattle.interpolator_eval.proofs.MeaningLemmas.EqualLemmas.{means_same}
 use Rattle.interpolator_laws.specs.SamplePairs.{PairsResemble, RowResembles}
-use Rattle.interpolator_laws.specs.Unfailing.{OnlyRefused}
+use Rattle.interpolator_eval.specs.Meaning.Outcomes.{OnlyRefused}
 use Rattle.interpolator_pieces.specs.NodeSamples.{faults_over, pads_a_list}
 use Rattle.interpolator_prepared.specs.Rows.{found_by_row, last_position, later_or_first}
 use Rattle.interpolator_prepared.specs.Rows.{pair_names, row_at}

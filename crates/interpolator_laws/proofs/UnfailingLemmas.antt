@@ -8,7 +8,7 @@ use Rattle.interpolator_syntax.specs.Faults.{Answer, fault, no_memory, answer_of
 use Rattle.interpolator_syntax.specs.declared.error.Error.{Error}
 use Rattle.interpolator_eval.specs.Meaning.Meanings.{Meaning}
 use Rattle.interpolator_eval.specs.Meaning.Outcomes.{Outcome, Formats}
-use Rattle.interpolator_laws.specs.Unfailing.{OnlyRefused}
+use Rattle.interpolator_eval.specs.Meaning.Outcomes.{OnlyRefused}
 
 module _ (m : Meaning) (old new : Written) (answer : Option Answer) (none : m.fault ≡ None) where
   pub only_refused : Outcome m old new answer → OnlyRefused new answer

@@ -1,3 +1,2 @@
 -- What only laws say.
 pub mod SamplePairs
-pub mod Unfailing

@@ -17,7 +17,7 @@ ghost use Rattle.interpolator_eval.specs.Meaning.Environments.{environment};
 ghost use Rattle.interpolator_eval.specs.Meaning.Meanings.{forest_means, means};
 ghost use Rattle.interpolator_eval.specs.Meaning.Outcomes.{Outcome};
 ghost use Rattle.interpolator_laws.specs.SamplePairs.{RowResembles};
-ghost use Rattle.interpolator_laws.specs.Unfailing.{OnlyRefused};
+ghost use Rattle.interpolator_eval.specs.Meaning.Outcomes.{OnlyRefused};
 ghost use Rattle.interpolator_prepared.specs.Programs.{program, steps_mean, text_step, value_step};
 ghost use Rattle.interpolator_prepared.specs.Rows.{found_by_row, pair_names, row_at};
 ghost use Rattle.interpolator_pieces.specs.NodeSamples.{faults_over, pads_a_list};

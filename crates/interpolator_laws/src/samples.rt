@@ -27,7 +27,7 @@ ghost use Rattle.interpolator_eval.specs.declared.slots.Formattable.{Formattable
 ghost use Rattle.interpolator_laws.specs.SamplePairs.{PairsResemble};
 ghost use Rattle.interpolator_eval.specs.Slots.{Slots, empty_slots, with_debug_display};
 ghost use Rattle.interpolator_eval.specs.Slots.{with_integer, with_iter};
-ghost use Rattle.interpolator_laws.specs.Unfailing.{OnlyRefused};
+ghost use Rattle.interpolator_eval.specs.Meaning.Outcomes.{OnlyRefused};
 ghost use Rattle.interpolator_pieces.specs.NodeSamples.{faults_over, pads_a_list};
 
 use interpolator::Template;

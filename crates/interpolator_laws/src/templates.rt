@@ -138,7 +138,7 @@ pub fn rest_of_the_pieces_is_written<W: TextWrite, C: Context>(
         Sink::Writer(end) => {
             let _ = end;
         }
-        Sink::Aside(_) => unreachable!(),
+        Sink::Buffer(_) => unreachable!(),
     }
     answer
 }

@@ -12,7 +12,7 @@ use Rattle.interpolator_syntax.specs.Faults.{result_answer, answer_of}
 use Rattle.interpolator_syntax.specs.declared.error.Error.{Error}
 use Rattle.interpolator_pieces.proofs.VisitLemmas.{collects_first, text_tells}
 use Rattle.interpolator_syntax.specs.Nodes.{Node, Content, node}
-use Rattle.interpolator_pieces.specs.Stored.{held_of, node_of}
+use Rattle.interpolator_pieces.specs.Stored.{content_of, node_of}
 use Rattle.interpolator_pieces.specs.Stored.{branch_of, node_whole}
 use Rattle.interpolator_pieces.specs.declared.piece.Form.{Form}
 use Rattle.interpolator_pieces.specs.declared.piece.Piece.{Piece}
@@ -52,7 +52,7 @@ module _ (bs : List ℕ) (x : Piece) (whole : node_whole (node_of bs x) ≡ true
       × (visit_faults (leave level (with_held held))
       ≡ fault_list (form_end_fault y.kind y.spec_end form))
 
-  piece_tells : Collects (out-Piece x).form (held_of bs x)
+  piece_tells : Collects (out-Piece x).form (content_of bs x)
   piece_tells =
       let y = out-Piece x in
       by_form bs y.place y.from y.to y.spec_end y.spec Collects (λ cs. (refl, refl))

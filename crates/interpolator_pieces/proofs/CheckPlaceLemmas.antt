@@ -17,7 +17,8 @@ use Rattle.interpolator_pieces.specs.NodeChecks.{node_faults, branch_faults, for
 use Rattle.interpolator_pieces.specs.NodeChecks.{text_faults, IsOfText}
 use Rattle.interpolator_pieces.specs.StoredMeanings.{unclosed_fault_of}
 use Rattle.interpolator_syntax.proofs.CharacterLemmas.{size-chars}
-use Rattle.interpolator_syntax.proofs.TreePlaceLemmas.{HeldLies, NodeLies, BranchLies, ForestLies}
+use Rattle.interpolator_syntax.proofs.TreePlaceLemmas.{ContentLies, NodeLies, BranchLies}
+use Rattle.interpolator_syntax.proofs.TreePlaceLemmas.{ForestLies}
 use Rattle.interpolator_syntax.proofs.TreePlaceLemmas.{places_lie}
 
 -- the place of each fault is at most n, and the fault is of a kind that a text can have
@@ -48,7 +49,7 @@ module _ (n : ℕ) where
   forbidden_within q true h = (h, tt, tt)
   forbidden_within q false h = tt
 
-  pub own_within : (held : Content) → HeldLies n held → FaultsWithin n (fault_list (own_fault held))
+  pub own_within : (held : Content) → ContentLies n held → FaultsWithin n (fault_list (own_fault held))
   own_within (text_content from cs) h = tt
   own_within (argument_content start name spec (target_value t) q) h = tt
   own_within (argument_content start name spec (target_list range) q) h =
@@ -60,10 +61,10 @@ module _ (n : ℕ) where
   unclosed_within Unclosed q h = (h, tt, tt)
   unclosed_within kind q h = tt
 
-  pub end_within : (kind : PieceKind) (held : Content) → HeldLies n held
+  pub end_within : (kind : PieceKind) (held : Content) → ContentLies n held
       → FaultsWithin n (fault_list (end_fault kind held))
   end_within kind (text_content from cs) h = tt
-  end_within kind (argument_content start name spec bare q) h = unclosed_within kind q h.1
+  end_within kind (argument_content start name spec target q) h = unclosed_within kind q h.1
   end_within kind (fault_content f) h = tt
 
   -- the faults of a tree lie in its places

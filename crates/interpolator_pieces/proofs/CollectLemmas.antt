@@ -14,15 +14,15 @@ use Rattle.interpolator_syntax.specs.Nodes.{Content, text_content, argument_cont
 use Rattle.interpolator_syntax.specs.SpecTexts.{plain_spec}
 use Rattle.interpolator_syntax.specs.declared.error.Error.{Error}
 use Rattle.interpolator_syntax.specs.declared.piece_kind.PieceKind.{PieceKind}
-use Rattle.interpolator_eval.specs.Meaning.Samples.{Sample, each_of}
+use Rattle.interpolator_eval.specs.Meaning.Samples.{Sample, bind_each}
 use Rattle.interpolator_pieces.specs.NodeChecks.{fault_list, first_fault, own_fault, form_fault}
 use Rattle.interpolator_pieces.specs.NodeChecks.{form_end_fault, stored_own_fault}
 use Rattle.interpolator_pieces.specs.NodeChecks.{stored_end_fault}
 use Rattle.interpolator_pieces.specs.NodeExtents.{node_depth, branch_depth, forest_depth}
-use Rattle.interpolator_pieces.specs.NodeSamples.{asked_of, item_of, items_of_held, value_faults}
+use Rattle.interpolator_pieces.specs.NodeSamples.{asked_of, item_of, items_of_content, value_faults}
 use Rattle.interpolator_pieces.specs.NodeSamples.{node_faults_in, join_faults_in}
 use Rattle.interpolator_pieces.specs.NodeSamples.{forest_faults_in}
-use Rattle.interpolator_pieces.specs.Stored.{part, name_part, range_of, stored_held, held_of}
+use Rattle.interpolator_pieces.specs.Stored.{part, name_part, range_of, stored_content, content_of}
 use Rattle.interpolator_pieces.specs.Stored.{node_of, nodes_of, branch_of, node_whole}
 use Rattle.interpolator_pieces.specs.StoredMeanings.{unclosed_fault_of}
 use Rattle.interpolator_pieces.specs.Collecting.{Collects, NamesMissing, AnswersFirst, kept_by}
@@ -120,16 +120,16 @@ module _ {X : Type 0} (shows : X → Trait → Spec → Shown) (s : Sample X) wh
         asked_of shows s held ++ (fault_list own ++ (item_of shows s held item
         ++ (join_faults_in shows s join ++ fault_list last)))
 
-    value_parts : (start : ℕ) (spec : Spec) (bare : Target) (own : Option Fault)
+    value_parts : (start : ℕ) (spec : Spec) (target : Target) (own : Option Fault)
         (o : Option (List ℕ))
-        → ((name : List ℕ) → own_fault (argument_content start name spec bare q) ≡ own)
-        → IsSome (option_map (λ name. argument_content start name spec bare q) o)
-        → (let held = option_map (λ name. argument_content start name spec bare q) o in
+        → ((name : List ℕ) → own_fault (argument_content start name spec target q) ≡ own)
+        → IsSome (option_map (λ name. argument_content start name spec target q) o)
+        → (let held = option_map (λ name. argument_content start name spec target q) o in
         node_faults_in shows s (node place end kind held item join)
         ≡ Parts held own (unclosed_fault_of kind q))
-    value_parts start spec bare own None e h = absurd (cc)
-    value_parts start spec bare own (Some name) e h =
-        ap (λ o. Parts (Some (argument_content start name spec bare q)) o (unclosed_fault_of kind q)) (e name)
+    value_parts start spec target own None e h = absurd (cc)
+    value_parts start spec target own (Some name) e h =
+        ap (λ o. Parts (Some (argument_content start name spec target q)) o (unclosed_fault_of kind q)) (e name)
 
     text_parts : (from : ℕ) (o : Option (List ℕ)) → IsSome (option_map (λ cs. text_content from cs) o)
         → (let held = option_map (λ cs. text_content from cs) o in
@@ -138,8 +138,8 @@ module _ {X : Type 0} (shows : X → Trait → Spec → Shown) (s : Sample X) wh
     text_parts from (Some cs) h = refl
 
     form_parts : (bs : List ℕ) (from to : ℕ) (spec : Spec) (form : Form)
-        → IsSome (stored_held bs place from to q spec form)
-        → (let held = stored_held bs place from to q spec form in
+        → IsSome (stored_content bs place from to q spec form)
+        → (let held = stored_content bs place from to q spec form in
         node_faults_in shows s (node place end kind held item join)
         ≡ Parts held (form_fault spec q form) (form_end_fault kind q form))
     form_parts bs from to spec forms.Text h = text_parts from (part bs from to) h
@@ -155,8 +155,8 @@ module _ {X : Type 0} (shows : X → Trait → Spec → Shown) (s : Sample X) wh
   module _ (bs : List ℕ) (x : Piece) where
     -- the faults of a stored piece, by its parts
     pub piece_parts : node_whole (node_of bs x) ≡ true
-        → asked_of shows s (held_of bs x) ++ (fault_list (stored_own_fault x)
-        ++ (item_of shows s (held_of bs x) (branch_of bs (out-Piece x).item)
+        → asked_of shows s (content_of bs x) ++ (fault_list (stored_own_fault x)
+        ++ (item_of shows s (content_of bs x) (branch_of bs (out-Piece x).item)
         ++ (join_faults_in shows s (branch_of bs (out-Piece x).join)
         ++ fault_list (stored_end_fault x))))
         ≡ node_faults_in shows s (node_of bs x)
@@ -167,7 +167,7 @@ module _ {X : Type 0} (shows : X → Trait → Spec → Shown) (s : Sample X) wh
         y.from y.to y.spec y.form (fits_text bs x whole).held)
 
     -- a text, or an argument that could not be read, has no fault with the sample
-    pub text_asks : (out-Piece x).form ≡ forms.Text → [] ≡ asked_of shows s (held_of bs x)
+    pub text_asks : (out-Piece x).form ≡ forms.Text → [] ≡ asked_of shows s (content_of bs x)
     text_asks form = rw form (by_part (part bs (out-Piece x).from (out-Piece x).to))
       where
         by_part : (o : Option (List ℕ))
@@ -176,32 +176,32 @@ module _ {X : Type 0} (shows : X → Trait → Spec → Shown) (s : Sample X) wh
         by_part (Some cs) = refl
 
     -- items without a format are displayed plainly
-    pub plain_item : IsSome (held_of bs x)
+    pub plain_item : IsSome (content_of bs x)
         → value_faults shows traits.Display plain_spec (out-Piece x).spec_end
-        (items_of_held s (held_of bs x))
-        ≡ item_of shows s (held_of bs x) no_branch
+        (items_of_content s (content_of bs x))
+        ≡ item_of shows s (content_of bs x) no_branch
     plain_item h =
         let y = out-Piece x in by_form y.place y.from y.to y.spec_end y.spec y.form h
       where
-        by_name : (start q : ℕ) (spec : Spec) (bare : Target) (o : Option (List ℕ))
-            → IsSome (option_map (λ name. argument_content start name spec bare q) o)
-            → (let held = option_map (λ name. argument_content start name spec bare q) o in
-            value_faults shows traits.Display plain_spec q (items_of_held s held)
+        by_name : (start q : ℕ) (spec : Spec) (target : Target) (o : Option (List ℕ))
+            → IsSome (option_map (λ name. argument_content start name spec target q) o)
+            → (let held = option_map (λ name. argument_content start name spec target q) o in
+            value_faults shows traits.Display plain_spec q (items_of_content s held)
             ≡ item_of shows s held no_branch)
-        by_name start q spec bare None h = absurd (cc)
-        by_name start q spec bare (Some name) h = refl
+        by_name start q spec target None h = absurd (cc)
+        by_name start q spec target (Some name) h = refl
 
         by_part : (from q : ℕ) (o : Option (List ℕ))
             → (let held = option_map (λ cs. text_content from cs) o in
-            value_faults shows traits.Display plain_spec q (items_of_held s held)
+            value_faults shows traits.Display plain_spec q (items_of_content s held)
             ≡ item_of shows s held no_branch)
         by_part from q None = refl
         by_part from q (Some cs) = refl
 
         by_form : (place from to q : ℕ) (spec : Spec) (form : Form)
-            → IsSome (stored_held bs place from to q spec form)
-            → (let held = stored_held bs place from to q spec form in
-            value_faults shows traits.Display plain_spec q (items_of_held s held)
+            → IsSome (stored_content bs place from to q spec form)
+            → (let held = stored_content bs place from to q spec form in
+            value_faults shows traits.Display plain_spec q (items_of_content s held)
             ≡ item_of shows s held no_branch)
         by_form place from to q spec forms.Text h = by_part from q (part bs from to)
         by_form place from to q spec forms.Plain h =
@@ -213,14 +213,14 @@ module _ {X : Type 0} (shows : X → Trait → Spec → Shown) (s : Sample X) wh
         by_form place from to q spec (forms.Broken f) h = refl
 
   branch_item : (o : Option Content) (xs : Forest) → IsSome o
-      → forest_faults_in shows (each_of s (items_of_held s o)) xs ≡ item_of shows s o (branch xs)
+      → forest_faults_in shows (bind_each s (items_of_content s o)) xs ≡ item_of shows s o (branch xs)
   branch_item None xs h = absurd (cc)
   branch_item (Some held) xs h = refl
 
   -- an item format is checked with each item that there may be
   pub item_told : (bs : List ℕ) (o : Option Content) (group : Option (Vec Piece)) (v : Vec Piece)
       (xs : List Piece) (inner : Sample X) (old new : FaultCollector) (r : Option Answer) → IsSome o
-      → group ≡ Some v → xs ≡ v.items → inner ≡ each_of s (items_of_held s o)
+      → group ≡ Some v → xs ≡ v.items → inner ≡ bind_each s (items_of_content s o)
       → Collects (forest_faults_in shows inner (as_forest (nodes_of bs xs))) old new r
       → Collects (item_of shows s o (branch_of bs group)) old new r
   item_told bs o group v xs inner old new r h is same e told =
@@ -264,13 +264,13 @@ module _ {X : Type 0} (shows : X → Trait → Spec → Shown) (s : Sample X) wh
 
   module _ (bs : List ℕ) (x : Piece) (whole : node_whole (node_of bs x) ≡ true) where
     abbrev Asked : List Fault
-    Asked = asked_of shows s (held_of bs x)
+    Asked = asked_of shows s (content_of bs x)
 
     abbrev Own : List Fault
     Own = fault_list (stored_own_fault x)
 
     abbrev Item : List Fault
-    Item = item_of shows s (held_of bs x) (branch_of bs (out-Piece x).item)
+    Item = item_of shows s (content_of bs x) (branch_of bs (out-Piece x).item)
 
     abbrev Join : List Fault
     Join = join_faults_in shows s (branch_of bs (out-Piece x).join)

@@ -35,18 +35,18 @@ use Rattle.interpolator_eval.specs.Meaning.Meanings.{listed_means, means, padded
 use Rattle.interpolator_eval.proofs.MeaningLemmas.EqualLemmas.{bound_same}
 use Rattle.interpolator_pieces.specs.NodeCosts.{piece_cost, then_cost}
 use Rattle.interpolator_pieces.specs.NodeCosts.{items_cost, padded_cost, value_cost}
-use Rattle.interpolator_pieces.specs.NodeCosts.{held_cost, node_cost, item_branch_cost}
+use Rattle.interpolator_pieces.specs.NodeCosts.{content_cost, node_cost, item_branch_cost}
 use Rattle.interpolator_pieces.specs.NodeCosts.{join_branch_cost, forest_cost, text_cost}
-use Rattle.interpolator_eval.specs.Meaning.Meanings.{and_closed, bare_means, held_means}
+use Rattle.interpolator_eval.specs.Meaning.Meanings.{and_closed, target_means, content_means}
 use Rattle.interpolator_eval.specs.Meaning.Meanings.{node_means}
 use Rattle.interpolator_eval.specs.Meaning.Meanings.{join_branch_means}
 use Rattle.interpolator_eval.specs.Meaning.Meanings.{item_branch_means, forest_means}
-use Rattle.interpolator_eval.specs.Meaning.AskedNames.{context_names, held_asks, node_asks}
+use Rattle.interpolator_eval.specs.Meaning.AskedNames.{context_names, content_names, node_asks}
 use Rattle.interpolator_eval.specs.Meaning.AskedNames.{branch_asks}
 use Rattle.interpolator_eval.specs.Meaning.AskedNames.{forest_asks}
 use Rattle.interpolator_eval.specs.Meaning.Work.{Work, no_work, piece_and, or_stop}
 use Rattle.interpolator_eval.specs.Meaning.Work.{work_after, items_work, chosen_work, listed_work}
-use Rattle.interpolator_eval.specs.Meaning.Work.{under_work, bare_work, held_work, node_work}
+use Rattle.interpolator_eval.specs.Meaning.Work.{under_work, target_work, content_work, node_work}
 use Rattle.interpolator_eval.specs.Meaning.Work.{join_branch_work, item_branch_work, forest_work}
 use Rattle.interpolator_eval.specs.Meaning.Work.{text_work}
 use Rattle.interpolator_pieces.specs.declared.cost.Cost.{Cost}
@@ -194,9 +194,9 @@ module _ {X : Type 0} (shows : X → Trait → Spec → Shown) (limits : Limits)
         (item : Slots X → Meaning) (each : Slots X → Work)
         → ((x : Slots X) → Slotted x → AtMost (item x) (each x) one) → (o : Option (Slots X))
         → Found o
-        → AtMost (under_name name start (bare_means shows what spec q join item) o)
-        (piece_and (under_work (bare_work shows what spec join joins item each) o))
-        (held_cost limits (argument_content start name spec what q) one joined_by)
+        → AtMost (under_name name start (target_means shows what spec q join item) o)
+        (piece_and (under_work (target_work shows what spec join joins item each) o))
+        (content_cost limits (argument_content start name spec what q) one joined_by)
     found_at_most what start name spec q item each i None h = grind arith
     found_at_most (target_value t) start name spec q item each i (Some found) h =
         slot_at_most t spec q (slot_at t (values_of found)) (values_within found h t)
@@ -212,21 +212,21 @@ module _ {X : Type 0} (shows : X → Trait → Spec → Shown) (limits : Limits)
   length-placed p [] = refl
   length-placed p (c ∷ cs) = omega (arith, length-placed (p + len_utf8 c) cs)
 
-  held_at_most : (e : Environment X) (kind : PieceKind) (held : Content) (in_item : Bool)
+  content_at_most : (e : Environment X) (kind : PieceKind) (held : Content) (in_item : Bool)
       (join : Meaning) (joins : Work) (joined_by one : Cost) (item : ℕ → Slots X → Meaning)
-      (each : ℕ → Slots X → Work) → Inner in_item e → Within e (held_asks in_item (Some held))
+      (each : ℕ → Slots X → Work) → Inner in_item e → Within e (content_names in_item (Some held))
       → AtMost join joins joined_by
       → ((q : ℕ) (x : Slots X) → Slotted x → AtMost (item q x) (each q x) one)
-      → AtMost (held_means shows e kind held join item)
-      (held_work shows e held join joins item each) (held_cost limits held one joined_by)
-  held_at_most e kind (text_content from cs) in_item join joins joined_by one item each b h j i =
+      → AtMost (content_means shows e kind held join item)
+      (content_work shows e held join joins item each) (content_cost limits held one joined_by)
+  content_at_most e kind (text_content from cs) in_item join joins joined_by one item each b h j i =
       omega (arith, length-placed from cs)
-  held_at_most e kind (argument_content start name spec what q) in_item join joins joined_by one item each
+  content_at_most e kind (argument_content start name spec what q) in_item join joins joined_by one item each
       b h j i =
       closed_at_most kind q _ _ _
       (found_at_most join joins joined_by one j what start name spec q (item q) (each q) (i q)
       (slots_under e name) (own_within in_item e name b h))
-  held_at_most e kind (fault_content f) in_item join joins joined_by one item each b h j i = omega arith
+  content_at_most e kind (fault_content f) in_item join joins joined_by one item each b h j i = omega arith
 
   -- ---- with its groups
 
@@ -236,10 +236,10 @@ module _ {X : Type 0} (shows : X → Trait → Spec → Shown) (limits : Limits)
         → AtMost (node_means shows e x) (node_work shows e x) (node_cost limits x)
     node_at_most (node place end kind None item join) in_item e b h = omega arith
     node_at_most (node place end kind (Some held) item join) in_item e b h =
-        let own = within_parts e (held_asks in_item (Some held))
+        let own = within_parts e (content_names in_item (Some held))
         (branch_asks true item ++ branch_asks in_item join) h in
         let groups = within_parts e (branch_asks true item) (branch_asks in_item join) own.1 in
-        held_at_most e kind held in_item (join_branch_means shows e join)
+        content_at_most e kind held in_item (join_branch_means shows e join)
         (join_branch_work shows e join) (join_branch_cost limits join)
         (item_branch_cost limits item) (item_branch_means shows e item)
         (item_branch_work shows e item) b own.0 (join_at_most join in_item e b groups.1)
@@ -326,10 +326,10 @@ module _ {X : Type 0} (shows : X → Trait → Spec → Shown) (limits : Limits)
 
   unheld_held : (e : Environment X) (kind : PieceKind) (held : Content) (join : Meaning)
       (item : ℕ → Slots X → Meaning) (one joined_by : Cost)
-      → (held_cost limits held one joined_by).buffered ≡ 0
+      → (content_cost limits held one joined_by).buffered ≡ 0
       → (joined_by.buffered ≡ 0 → Unheld join)
       → ((q : ℕ) (x : Slots X) → one.buffered ≡ 0 → Unheld (item q x))
-      → Unheld (held_means shows e kind held join item)
+      → Unheld (content_means shows e kind held join item)
   unheld_held e kind (text_content from cs) join item one joined_by h j i = λ n. refl
   unheld_held e kind (fault_content f) join item one joined_by h j i = λ n. refl
   unheld_held e kind (argument_content start name spec (target_value t) q) join item one joined_by h j i =
@@ -396,19 +396,19 @@ module _ (few many : Limits) (text : few.text ≤ many.text) (more : few.items �
   value_le : (t : Trait) (spec : Spec) → LeCost (value_cost few t spec) (value_cost many t spec)
   value_le t spec = omega (arith, written_grows t spec few.text many.text text)
 
-  held_le : (h : Content) (a b c d : Cost) → LeCost a b → LeCost c d
-      → LeCost (held_cost few h a c) (held_cost many h b d)
-  held_le (text_content from cs) a b c d i j = same_le _
-  held_le (argument_content start name spec (target_value t) q) a b c d i j = value_le t spec
-  held_le (argument_content start name spec (target_list range) q) a b c d i j =
+  content_le : (h : Content) (a b c d : Cost) → LeCost a b → LeCost c d
+      → LeCost (content_cost few h a c) (content_cost many h b d)
+  content_le (text_content from cs) a b c d i j = same_le _
+  content_le (argument_content start name spec (target_value t) q) a b c d i j = value_le t spec
+  content_le (argument_content start name spec (target_list range) q) a b c d i j =
       list_le spec.width _ _ a b c d (chosen_grows few.items many.items more range) i j
-  held_le (fault_content f) a b c d i j = same_le _
+  content_le (fault_content f) a b c d i j = same_le _
 
   mutual
     node_le : (x : Node) → LeCost (node_cost few x) (node_cost many x)
     node_le (node place end kind None item join) = same_le _
     node_le (node place end kind (Some held) item join) =
-        held_le held _ _ _ _ (item_le item) (join_le join)
+        content_le held _ _ _ _ (item_le item) (join_le join)
 
     item_le : (x : Branch) → LeCost (item_branch_cost few x) (item_branch_cost many x)
     item_le no_branch = value_le traits.Display plain_spec

@@ -17,10 +17,11 @@ use Rattle.interpolator_syntax.specs.Nodes.{Branch, Content, text_content, argum
 use Rattle.interpolator_syntax.specs.Nodes.{target_list, node, as_forest}
 use Rattle.interpolator_syntax.specs.declared.piece_kind.PieceKind.{PieceKind}
 use Rattle.interpolator_pieces.specs.NodeCosts.{no_cost, piece_cost, then_cost, items_cost}
-use Rattle.interpolator_pieces.specs.NodeCosts.{padded_cost, list_cost, value_cost, held_cost}
+use Rattle.interpolator_pieces.specs.NodeCosts.{padded_cost, list_cost, value_cost, content_cost}
 use Rattle.interpolator_pieces.specs.NodeCosts.{node_cost, item_branch_cost, join_branch_cost}
 use Rattle.interpolator_pieces.specs.NodeCosts.{forest_cost, usize_cost}
-use Rattle.interpolator_pieces.specs.Stored.{part, range_of, held_of, node_of, nodes_of, branch_of}
+use Rattle.interpolator_pieces.specs.Stored.{part, range_of, content_of, node_of, nodes_of}
+use Rattle.interpolator_pieces.specs.Stored.{branch_of}
 use Rattle.interpolator_pieces.specs.declared.cost.Cost.{Cost}
 use Rattle.interpolator_pieces.specs.declared.cost.Limits.{Limits}
 use Rattle.interpolator_pieces.specs.declared.piece.Form.TheVariants as forms
@@ -103,34 +104,34 @@ capped_padded width a b h =
 -- ---- one piece
 
 module _ (limits : Limits) where
-  capped_held : (h : Content) (item join : Cost)
-      → usize_cost (held_cost limits h (usize_cost item) (usize_cost join))
-      ≡ usize_cost (held_cost limits h item join)
-  capped_held (text_content from cs) item join = refl
-  capped_held (argument_content start name spec (target_value t) end) item join = refl
-  capped_held (argument_content start name spec (target_list range) end) item join =
+  capped_content : (h : Content) (item join : Cost)
+      → usize_cost (content_cost limits h (usize_cost item) (usize_cost join))
+      ≡ usize_cost (content_cost limits h item join)
+  capped_content (text_content from cs) item join = refl
+  capped_content (argument_content start name spec (target_value t) end) item join = refl
+  capped_content (argument_content start name spec (target_list range) end) item join =
       capped_padded spec.width _ _ (capped_items (most_chosen limits.items range) item join)
-  capped_held (fault_content f) item join = refl
+  capped_content (fault_content f) item join = refl
 
   module _ (item join : Cost) where
     abbrev told : Content → Cost
-    told h = usize_cost (held_cost limits h item join)
+    told h = usize_cost (content_cost limits h item join)
 
     -- an argument, whatever its name is
-    named_told : (within : Bool) (o : Option (List ℕ)) (start end : ℕ) (spec : Spec) (bare : Target)
-        (c : Cost) → IsSome (option_map (λ n. argument_content start n spec bare end)
+    named_told : (within : Bool) (o : Option (List ℕ)) (start end : ℕ) (spec : Spec) (target : Target)
+        (c : Cost) → IsSome (option_map (λ n. argument_content start n spec target end)
         (if within then o else None))
-        → ((name : List ℕ) → c ≡ told (argument_content start name spec bare end))
-        → option_map told (option_map (λ n. argument_content start n spec bare end)
+        → ((name : List ℕ) → c ≡ told (argument_content start name spec target end))
+        → option_map told (option_map (λ n. argument_content start n spec target end)
         (if within then o else None)) ≡ Some c
-    named_told true (Some name) start end spec bare c h k = ap Some (sym (k name))
-    named_told true None start end spec bare c h k = absurd (cc)
-    named_told false o start end spec bare c h k = absurd (cc)
+    named_told true (Some name) start end spec target c h k = ap Some (sym (k name))
+    named_told true None start end spec target c h k = absurd (cc)
+    named_told false o start end spec target c h k = absurd (cc)
 
-    module _ (bs : List ℕ) (x : Piece) (c : Cost) (h : IsSome (held_of bs x)) where
+    module _ (bs : List ℕ) (x : Piece) (c : Cost) (h : IsSome (content_of bs x)) where
       pub name_told : (out-Piece x).form ≡ forms.Plain
           → c ≡ usize_cost (value_cost limits Display plain_spec)
-          → option_map told (held_of bs x) ≡ Some c
+          → option_map told (content_of bs x) ≡ Some c
       name_told form is =
           let y = out-Piece x in
           rw form (named_told _ (part bs y.from y.to) _ _ plain_spec (target_value Display) c
@@ -138,7 +139,7 @@ module _ (limits : Limits) where
 
       pub value_told : (t : Trait) → (out-Piece x).form ≡ forms.Value t
           → c ≡ usize_cost (value_cost limits t (out-Piece x).spec)
-          → option_map told (held_of bs x) ≡ Some c
+          → option_map told (content_of bs x) ≡ Some c
       value_told t form is =
           let y = out-Piece x in
           rw form (named_told _ (part bs y.from y.to) _ _ y.spec (target_value t) c (rw form at h)
@@ -146,7 +147,7 @@ module _ (limits : Limits) where
 
       pub list_told : (range : Option (Box _)) → (out-Piece x).form ≡ forms.List range
           → c ≡ usize_cost (list_cost limits (range_of range) (out-Piece x).spec item join)
-          → option_map told (held_of bs x) ≡ Some c
+          → option_map told (content_of bs x) ≡ Some c
       list_told range form is =
           let y = out-Piece x in
           rw form (named_told _ (part bs y.from y.to) _ _ y.spec (target_list (range_of range)) c
@@ -161,17 +162,17 @@ module _ (limits : Limits) where
   grouped_told place end kind None item join i j r a b h = absurd (cc)
   grouped_told place end kind (Some held) item join i j r a b h =
       let is : told i j held ≡ r = cc in
-      sym is ∙ rw (a, b) (capped_held held (item_branch_cost limits item)
+      sym is ∙ rw (a, b) (capped_content held (item_branch_cost limits item)
       (join_branch_cost limits join))
 
   pub piece_told : (bs : List ℕ) (x : Piece) (i j r : Cost)
       → i ≡ usize_cost (item_branch_cost limits (branch_of bs (out-Piece x).item))
       → j ≡ usize_cost (join_branch_cost limits (branch_of bs (out-Piece x).join))
-      → option_map (told i j) (held_of bs x) ≡ Some r
+      → option_map (told i j) (content_of bs x) ≡ Some r
       → r ≡ usize_cost (node_cost limits (node_of bs x))
   piece_told bs x i j r a b h =
       let y = out-Piece x in
-      rw (node_of_out bs x) (grouped_told y.place y.end y.kind (held_of bs x) (branch_of bs y.item)
+      rw (node_of_out bs x) (grouped_told y.place y.end y.kind (content_of bs x) (branch_of bs y.item)
       (branch_of bs y.join) i j r a b h)
 
   -- ---- pieces in order

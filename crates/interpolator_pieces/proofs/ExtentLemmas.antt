@@ -5,7 +5,7 @@ use Rattle.std.proofs.Common.{Option, Some, None, IsSome, Result, Ok, ◌^◌}
 use Rattle.std.proofs.Math.Nat.{zero-max}
 use Rattle.std.specs.Ordering.{ord_max}
 use Rattle.std.specs.Prelude.{max}
-use Rattle.interpolator_pieces.specs.NodeExtents.{held_extent, form_extent, stored_extent}
+use Rattle.interpolator_pieces.specs.NodeExtents.{content_extent, form_extent, stored_extent}
 use Rattle.interpolator_pieces.specs.NodeExtents.{branch_depth, inner_depth}
 use Rattle.interpolator_pieces.specs.NodeExtents.{visit_extent, visit_depth}
 use Rattle.interpolator_pieces.specs.Visits.{Visit, enter, Walks, greatest, text_visits}
@@ -34,7 +34,7 @@ pub extent_entered : (level : Level) (bs : List ℕ) (x : Piece) → node_whole 
 extent_entered level bs x whole =
     let y = out-Piece x in
     let Asks : Form → Option Content → Type 0 =
-    λ form held. held_extent held ≡ form_extent y.spec form in
+    λ form held. content_extent held ≡ form_extent y.spec form in
     sym (ap (λ n. visit_extent (enter level n)) (node_of_out bs x)
     ∙ by_form bs y.place y.from y.to y.spec_end y.spec Asks (λ cs. refl) (λ name e. refl)
     (λ t name e. refl) (λ range name e. refl) (λ fault. refl) y.form (fits_text bs x whole).held)

@@ -41,7 +41,7 @@ use Rattle.interpolator_syntax.specs.Nodes.{token_node, group_branch, item_branc
 use Rattle.interpolator_pieces.specs.Reading.{taken_step, ending_kind, ending_rest}
 use Rattle.interpolator_pieces.specs.Stored.{Within, StandFor, Pushed, GroupStands}
 use Rattle.interpolator_pieces.specs.Stored.{part, name_part}
-use Rattle.interpolator_pieces.specs.Stored.{node_of, nodes_of, branch_of, stored_held, range_of}
+use Rattle.interpolator_pieces.specs.Stored.{node_of, nodes_of, branch_of, stored_content, range_of}
 use Rattle.interpolator_pieces.specs.declared.piece.Form.TheVariants as forms
 use Rattle.interpolator_pieces.specs.declared.piece.Piece.{Piece}
 use Rattle.interpolator_syntax.specs.declared.piece_kind.PieceKind as told
@@ -53,7 +53,7 @@ use Rattle.interpolator_pieces.proofs.PartLemmas.{part_lies, name_lies}
 use Rattle.interpolator_pieces.proofs.StoredLemmas.{nodes_of_push}
 use Rattle.interpolator_pieces.proofs.WithinLemmas.{within_then, after_front, front_within}
 use Rattle.interpolator_pieces.proofs.WithinLemmas.{group_stands, name_within}
-use Rattle.interpolator_syntax.proofs.HandedLemmas.{written_text, handed_on, scan_taken}
+use Rattle.interpolator_syntax.proofs.TokenTextLemmas.{written_text, takes_token, scan_taken}
 
 -- ---- what follows all of a text
 
@@ -76,14 +76,14 @@ ending_is p a x q (Some rest) e = refl
 
 -- there is a byte between the beginning and the end of a doubled brace
 pub doubled_ends : (a b : At) (c : ℕ) → first_token a ≡ Some (doubled c, b) → a.place + 1 < b.place
-doubled_ends a b c e = omega (arith, (handed_on a (doubled c, b) e).size.1)
+doubled_ends a b c e = omega (arith, (takes_token a (doubled c, b) e).size.1)
 
 module _ (bs : List ℕ) (u : IsUtf8 bs) (a : At) (w : Within (outermost (chars bs)) a) where
   written_part :
       (x : Token) (b : At) (to : ℕ) → first_token a ≡ Some (x, b)
       → to ≡ a.place + size (written_text x) → part bs a.place to ≡ Some (written_text x)
   written_part x b to e t =
-      let h = handed_on a (x, b) e in
+      let h = takes_token a (x, b) e in
       let here = within_then _ a _ w (front_within a (written_text x) h.more h.begins) in
       part_lies bs a.place (written_text x) to u here t
 
@@ -95,18 +95,18 @@ module _ (bs : List ℕ) (u : IsUtf8 bs) (a : At) (w : Within (outermost (chars 
   literals_node : (cs : List ℕ) (b : At) → first_token a ≡ Some (literals cs, b)
       → TextNode b.place Literal b.place ≡ token_node nodes a.place (literals cs) b
   literals_node cs b e =
-      rw (written_part (literals cs) b b.place e (handed_on a (literals cs, b) e).size) refl
+      rw (written_part (literals cs) b b.place e (takes_token a (literals cs, b) e).size) refl
 
   doubled_node : (c : ℕ) (b : At) → first_token a ≡ Some (doubled c, b)
       → TextNode b.place Doubled (a.place + 1) ≡ token_node nodes a.place (doubled c) b
   doubled_node c b e =
-      let one = (handed_on a (doubled c, b) e).size.0 in
+      let one = (takes_token a (doubled c, b) e).size.0 in
       rw (written_part (doubled c) b (a.place + 1) e (omega (arith, one))) refl
 
   lone_node : (b : At) → first_token a ≡ Some (lone_close, b)
       → TextNode b.place LoneClose b.place ≡ token_node nodes a.place lone_close b
   lone_node b e =
-      let one = (handed_on a (lone_close, b) e).size in
+      let one = (takes_token a (lone_close, b) e).size in
       rw (written_part lone_close b b.place e (omega (arith, one))) refl
 
 -- ---- arguments
@@ -165,13 +165,13 @@ module _ (place : ℕ) (b : At) (n : ArgumentName) (x : code_request.Request) (e
         name_end (omega (arith, name.after, start))
 
     value_held : (slot : Trait) → kind_of_request x ≡ of_value slot
-        → stored_held bs place n.place n.end.place end.place x.spec (forms.Value slot)
+        → stored_content bs place n.place n.end.place end.place x.spec (forms.Value slot)
         ≡ Some (argument_content b.place taken.name taken.spec (target_of taken.kind) end.place)
     value_held slot k = rw (taken_name, k, begins_after) refl
 
     list_held : (range : Option (Box Range)) → range_of range ≡ x.list.range
         → kind_of_request x ≡ of_list (list_of x.list)
-        → stored_held bs place n.place n.end.place end.place x.spec (forms.List range)
+        → stored_content bs place n.place n.end.place end.place x.spec (forms.List range)
         ≡ Some (argument_content b.place taken.name taken.spec (target_of taken.kind) end.place)
     list_held range r k = rw (taken_name, k, begins_after, r) refl
 
@@ -214,7 +214,7 @@ module _ (place : ℕ) (b : At) (n : ArgumentName) (x : code_request.Request) (e
     pub value_pushed :
         (slot : Trait) → kind_of_request x ≡ of_value slot
         → ((bs : List ℕ) → node_of bs piece
-        ≡ node place rest.place kind (stored_held bs place n.place n.end.place end.place x.spec
+        ≡ node place rest.place kind (stored_content bs place n.place n.end.place end.place x.spec
         (forms.Value slot)) no_branch no_branch)
         → Pushed old new (token_node nodes place argument_token b) b
     value_pushed slot k stored =
@@ -232,7 +232,7 @@ module _ (place : ℕ) (b : At) (n : ArgumentName) (x : code_request.Request) (e
         → GroupStands item (option_map group_of x.list.item)
         → GroupStands join (option_map group_of x.list.join)
         → ((bs : List ℕ) → node_of bs piece
-        ≡ node place rest.place kind (stored_held bs place n.place n.end.place end.place x.spec
+        ≡ node place rest.place kind (stored_content bs place n.place n.end.place end.place x.spec
         (forms.List range)) (branch_of bs item) (branch_of bs join))
         → Pushed old new (token_node nodes place argument_token b) b
     list_pushed range item join k r i j stored =
@@ -275,7 +275,7 @@ module _ (place : ℕ) (b : At) (n : ArgumentName) (rest : At)
     pub name_pushed :
         (old new : List Piece) (piece : Piece) → new ≡ old ++ (piece ∷ [])
         → ((bs : List ℕ) → node_of bs piece
-        ≡ node place rest.place Closed (stored_held bs place n.place n.end.place n.end.place
+        ≡ node place rest.place Closed (stored_content bs place n.place n.end.place n.end.place
         plain_spec forms.Plain) no_branch no_branch)
         → Pushed old new (token_node nodes place argument_token b) b
     name_pushed old new piece added stored =

@@ -26,11 +26,11 @@ use Rattle.interpolator_eval.specs.Meaning.Work.{forest_work, node_work, text_wo
 use Rattle.interpolator_syntax.specs.Nodes.{node, Branch}
 use Rattle.interpolator_syntax.specs.Nodes.{Content, text_content, argument_content, fault_content, Target}
 use Rattle.interpolator_syntax.specs.Nodes.{target_value, target_list, as_forest, nodes}
-use Rattle.interpolator_eval.specs.Meaning.Meanings.{and_closed, bare_means, held_means}
+use Rattle.interpolator_eval.specs.Meaning.Meanings.{and_closed, target_means, content_means}
 use Rattle.interpolator_eval.specs.Meaning.Meanings.{forest_means}
 use Rattle.interpolator_eval.specs.Meaning.Sources.{FirstAsks, asks_list, first_holds, holds_list}
 use Rattle.interpolator_eval.specs.Meaning.Sources.{unlisted_means}
-use Rattle.interpolator_pieces.specs.Stored.{may_cut, part, range_of, held_of, stored_held}
+use Rattle.interpolator_pieces.specs.Stored.{may_cut, part, range_of, content_of, stored_content}
 use Rattle.interpolator_pieces.specs.Stored.{branch_of, node_of, nodes_of, StandFor}
 use Rattle.interpolator_pieces.specs.Stored.{forest_whole, node_whole}
 use Rattle.interpolator_pieces.specs.StoredLists.{begins_list, is_list_form, stored_list}
@@ -40,7 +40,7 @@ use Rattle.interpolator_pieces.specs.StoredMeanings.{stored_part, stored_name, u
 use Rattle.interpolator_pieces.specs.StoredMeanings.{unclosed_fault_of, stored_pieces_mean}
 use Rattle.interpolator_pieces.specs.StoredMeanings.{stored_piece_means, stored_join_means}
 use Rattle.interpolator_pieces.specs.StoredMeanings.{stored_item_means}
-use Rattle.interpolator_eval.specs.declared.meaning.sink.Sink.{Sink}
+use Rattle.interpolator_eval.specs.declared.evaluate.sink.Sink.{Sink}
 use Rattle.interpolator_pieces.specs.declared.piece.Form.TheVariants as forms
 use Rattle.interpolator_pieces.specs.declared.piece.Piece.{Piece}
 use Rattle.interpolator_pieces.specs.declared.piece.Piece.TheViews.{out-Piece}
@@ -91,49 +91,49 @@ some_of f (Some x) h = refl
 
 module _ (bs : List ℕ) (x : Piece) where
   -- a text that is written
-  pub text_fits : (out-Piece x).form ≡ forms.Text → IsSome (held_of bs x)
+  pub text_fits : (out-Piece x).form ≡ forms.Text → IsSome (content_of bs x)
       → IsSome (stored_part bs x)
   text_fits form h = some_of _ (stored_part bs x) (rw form at h)
 
   -- a name, of each kind of argument
-  pub name_fits : (out-Piece x).form ≡ forms.Plain → IsSome (held_of bs x)
+  pub name_fits : (out-Piece x).form ≡ forms.Plain → IsSome (content_of bs x)
       → IsSome (stored_name bs x)
   name_fits form h = some_of _ (stored_name bs x) (rw form at h)
 
-  pub value_fits : (t : Trait) → (out-Piece x).form ≡ forms.Value t → IsSome (held_of bs x)
+  pub value_fits : (t : Trait) → (out-Piece x).form ≡ forms.Value t → IsSome (content_of bs x)
       → IsSome (stored_name bs x)
   value_fits t form h = some_of _ (stored_name bs x) (rw form at h)
 
   pub list_fits : (range : Option (Box Range)) → (out-Piece x).form ≡ forms.List range
-      → IsSome (held_of bs x) → IsSome (stored_name bs x)
+      → IsSome (content_of bs x) → IsSome (stored_name bs x)
   list_fits range form h = some_of _ (stored_name bs x) (rw form at h)
 
   pub text_held : (cs : List ℕ) → (out-Piece x).form ≡ forms.Text → Some cs ≡ stored_part bs x
-      → held_of bs x ≡ Some (text_content (out-Piece x).from cs)
+      → content_of bs x ≡ Some (text_content (out-Piece x).from cs)
   text_held cs form h = rw (form, ← h) refl
 
   pub broken_held : (f : Box ArgumentFault) → (out-Piece x).form ≡ forms.Broken f
-      → held_of bs x ≡ Some (fault_content (argument_fault_of f.value))
+      → content_of bs x ≡ Some (fault_content (argument_fault_of f.value))
   broken_held f form = rw form refl
 
   module _ (start : ℕ) (name : List ℕ) (first : start ≡ (out-Piece x).place + 1)
       (is : Some name ≡ stored_name bs x) where
     abbrev Valued : Spec → Target → Option Content
-    Valued spec bare = Some (argument_content start name spec bare (out-Piece x).spec_end)
+    Valued spec target = Some (argument_content start name spec target (out-Piece x).spec_end)
 
     begins : suc (out-Piece x).place ≡ start
     begins = sym (first ∙ add-one (out-Piece x).place)
 
     pub name_held : (out-Piece x).form ≡ forms.Plain
-        → held_of bs x ≡ Valued plain_spec (target_value traits.Display)
+        → content_of bs x ≡ Valued plain_spec (target_value traits.Display)
     name_held form = rw (form, ← is, begins) refl
 
     pub value_held : (t : Trait) → (out-Piece x).form ≡ forms.Value t
-        → held_of bs x ≡ Valued (out-Piece x).spec (target_value t)
+        → content_of bs x ≡ Valued (out-Piece x).spec (target_value t)
     value_held t form = rw (form, ← is, begins) refl
 
     pub list_held : (range : Option (Box Range)) → (out-Piece x).form ≡ forms.List range
-        → held_of bs x ≡ Valued (out-Piece x).spec (target_list (range_of range))
+        → content_of bs x ≡ Valued (out-Piece x).spec (target_list (range_of range))
     list_held range form = rw (form, ← is, begins) refl
 
 -- ---- what asks for a list
@@ -144,19 +144,19 @@ mapped_holds f None b some h = absurd (cc)
 mapped_holds f (Some a) b some h = h a
 
 module _ (bs : List ℕ) (x : Piece) where
-  asks_held : (h : Content) → held_of bs x ≡ Some h
+  asks_held : (h : Content) → content_of bs x ≡ Some h
       → asks_list (node_of bs x) ≡ holds_list (Some h)
   asks_held h is = rw (node_of_out bs x, is) refl
 
   -- a piece that fits its text asks for a list exactly if its form is a list
-  pub asks_form : IsSome (held_of bs x)
+  pub asks_form : IsSome (content_of bs x)
       → asks_list (node_of bs x) ≡ is_list_form (out-Piece x).form
   asks_form some = rw (node_of_out bs x) (by_form (out-Piece x).form some)
     where
       by_form : (f : Form)
-          → IsSome (stored_held bs (out-Piece x).place (out-Piece x).from (out-Piece x).to
+          → IsSome (stored_content bs (out-Piece x).place (out-Piece x).from (out-Piece x).to
           (out-Piece x).spec_end (out-Piece x).spec f)
-          → holds_list (stored_held bs (out-Piece x).place (out-Piece x).from (out-Piece x).to
+          → holds_list (stored_content bs (out-Piece x).place (out-Piece x).from (out-Piece x).to
           (out-Piece x).spec_end (out-Piece x).spec f)
           ≡ is_list_form f
       by_form forms.Text some = mapped_holds _ _ _ some (λ cs. refl)
@@ -166,7 +166,7 @@ module _ (bs : List ℕ) (x : Piece) where
       by_form (forms.Broken f) some = refl
 
   -- the list that it asks for, and what follows it
-  pub first_list : (xs : List Piece) → is_list_form (out-Piece x).form ≡ true → IsSome (held_of bs x)
+  pub first_list : (xs : List Piece) → is_list_form (out-Piece x).form ≡ true → IsSome (content_of bs x)
       → FirstAsks (stored_list bs (x ∷ xs)) (stored_rest bs (x ∷ xs))
       (as_forest (nodes_of bs (x ∷ xs)))
   first_list xs listed some = by_form (out-Piece x).form refl
@@ -196,20 +196,20 @@ module _ (bs : List ℕ) (x : Piece) where
 
   -- it counts as at least one piece
   pub piece_counts :
-      {X : Type 0} (shows : X → Trait → Spec → Shown) (e : Environment X) → IsSome (held_of bs x)
+      {X : Type 0} (shows : X → Trait → Spec → Shown) (e : Environment X) → IsSome (content_of bs x)
       → 1 ≤ (node_work shows e (node_of bs x)).pieces
   piece_counts shows e some =
       let y = out-Piece x in
-      rw (node_of_out bs x) (by_held (held_of bs x) some y.place y.end y.kind
+      rw (node_of_out bs x) (by_content (content_of bs x) some y.place y.end y.kind
       (branch_of bs y.item) (branch_of bs y.join))
     where
-      by_held : (o : Option Content) → IsSome o → (place end : ℕ) (kind : PieceKind)
+      by_content : (o : Option Content) → IsSome o → (place end : ℕ) (kind : PieceKind)
           (item join : Branch) → 1 ≤ (node_work shows e (node place end kind o item join)).pieces
-      by_held None some place end kind item join = absurd (cc)
-      by_held (Some (text_content from cs)) some place end kind item join = omega arith
-      by_held (Some (argument_content start name spec bare q)) some place end kind item join =
+      by_content None some place end kind item join = absurd (cc)
+      by_content (Some (text_content from cs)) some place end kind item join = omega arith
+      by_content (Some (argument_content start name spec target q)) some place end kind item join =
           omega arith
-      by_held (Some (fault_content f)) some place end kind item join = omega arith
+      by_content (Some (fault_content f)) some place end kind item join = omega arith
 
 -- the first of pieces that fit their text holds something
 pub pieces_hold : (bs : List ℕ) (xs : List Piece) → forest_whole (as_forest (nodes_of bs xs)) ≡ true
@@ -217,11 +217,11 @@ pub pieces_hold : (bs : List ℕ) (xs : List Piece) → forest_whole (as_forest 
 pieces_hold bs [] whole some = absurd (some refl)
 pieces_hold bs (x ∷ xs) whole some =
     let fits = (both (node_whole (node_of bs x)) (forest_whole (as_forest (nodes_of bs xs))) whole).0 in
-    rw (node_of_out bs x) (by_held (held_of bs x) (fits_text bs x fits).held)
+    rw (node_of_out bs x) (by_content (content_of bs x) (fits_text bs x fits).held)
   where
-    by_held : (o : Option Content) → IsSome o → is_some o ≡ true
-    by_held None some = absurd (cc)
-    by_held (Some held) some = refl
+    by_content : (o : Option Content) → IsSome o → is_some o ≡ true
+    by_content None some = absurd (cc)
+    by_content (Some held) some = refl
 
 -- the first piece, if pieces begin with a list
 pub record FirstPiece (bs : List ℕ) (x : Piece) : Type 0 where
@@ -239,7 +239,7 @@ first_piece bs (y ∷ ys) x listed is whole =
       name = by_form (out-Piece y).form refl listed (fits_text bs y fits).held;
     })
   where
-    by_form : (f : Form) → (out-Piece y).form ≡ f → is_list_form f ≡ true → IsSome (held_of bs y)
+    by_form : (f : Form) → (out-Piece y).form ≡ f → is_list_form f ≡ true → IsSome (content_of bs y)
         → IsSome (stored_name bs y)
     by_form forms.Text form listed some = absurd (cc)
     by_form forms.Plain form listed some = absurd (cc)
@@ -278,13 +278,13 @@ module _ {X W : Type 0} (shows : X → Trait → Spec → Shown) (into : W → W
     abbrev Means : Meaning
     Means = stored_piece_means shows e bs x
 
-    means_held : (h : Content) → held_of bs x ≡ Some h
-        → Means ≡ held_means shows e (out-Piece x).kind h (stored_join_means shows e bs x)
+    means_held : (h : Content) → content_of bs x ≡ Some h
+        → Means ≡ content_means shows e (out-Piece x).kind h (stored_join_means shows e bs x)
         (stored_item_means shows e bs x)
     means_held h is = rw (node_of_out bs x, is) refl
 
     -- what it holds asks for no list
-    pub unlisted : (r : Option Answer) (h : Content) → held_of bs x ≡ Some h
+    pub unlisted : (r : Option Answer) (h : Content) → content_of bs x ≡ Some h
         → holds_list (Some h) ≡ false → Writes into Means s t r
         → Writes into (unlisted_means shows e (node_of bs x)) s t r
     unlisted r h is other o =
@@ -297,24 +297,24 @@ module _ {X W : Type 0} (shows : X → Trait → Spec → Shown) (into : W → W
 
     -- a text that is written
     pub text_writes : (r : Option Answer) (from : ℕ) (cs : List ℕ)
-        → held_of bs x ≡ Some (text_content from cs)
+        → content_of bs x ≡ Some (text_content from cs)
         → Writes into (text_alone (placed_from from cs)) s t r → Writes into Means s t r
     text_writes r from cs is o =
         record { outcome = rw (means_held (text_content from cs) is) o.outcome; same = o.same }
 
     -- an argument that could not be read
-    pub fault_writes : (f : Fault) → held_of bs x ≡ Some (fault_content f)
+    pub fault_writes : (f : Fault) → content_of bs x ≡ Some (fault_content f)
         → Writes into Means s s (Some (fault f))
     fault_writes f is =
         record { outcome = rw (means_held (fault_content f) is) (ended f _); same = same_end s }
 
     -- an argument
-    module _ (start : ℕ) (name : List ℕ) (spec : Spec) (bare : Target)
-        (is : held_of bs x ≡ Some (argument_content start name spec bare (out-Piece x).spec_end)) where
+    module _ (start : ℕ) (name : List ℕ) (spec : Spec) (target : Target)
+        (is : content_of bs x ≡ Some (argument_content start name spec target (out-Piece x).spec_end)) where
       abbrev Value : Meaning
       Value =
           under_name name start
-          (bare_means shows bare spec (out-Piece x).spec_end (stored_join_means shows e bs x)
+          (target_means shows target spec (out-Piece x).spec_end (stored_join_means shows e bs x)
           (stored_item_means shows e bs x (out-Piece x).spec_end))
           (slots_under e name)
 

@@ -12,8 +12,8 @@ use Rattle.interpolator_syntax.specs.Nodes.{target_value, target_list}
 use Rattle.interpolator_syntax.specs.SpecTexts.{plain_spec}
 use Rattle.interpolator_syntax.specs.declared.argument_fault.ArgumentFault.{ArgumentFault}
 use Rattle.interpolator_syntax.specs.declared.range.Range.{Range}
-use Rattle.interpolator_pieces.specs.Stored.{node_step, node_of, nodes_of, branch_of, held_of}
-use Rattle.interpolator_pieces.specs.Stored.{stored_held, part, range_of}
+use Rattle.interpolator_pieces.specs.Stored.{node_step, node_of, nodes_of, branch_of, content_of}
+use Rattle.interpolator_pieces.specs.Stored.{stored_content, part, range_of}
 use Rattle.interpolator_syntax.specs.declared.piece_kind.PieceKind.{PieceKind}
 use Rattle.interpolator_pieces.specs.declared.piece.Form.{Form}
 use Rattle.interpolator_pieces.specs.declared.piece.Form.TheVariants as forms
@@ -38,7 +38,7 @@ at_groups :
       spec = spec;
       form = form;
     }))
-    ≡ node place end kind (stored_held bs place from to spec_end spec form) (branch_of bs item)
+    ≡ node place end kind (stored_content bs place from to spec_end spec form) (branch_of bs item)
     (branch_of bs join)
 at_groups bs None None place end kind from to spec_end spec form = refl
 at_groups bs None (Some w) place end kind from to spec_end spec form = refl
@@ -48,7 +48,7 @@ at_groups bs (Some v) (Some w) place end kind from to spec_end spec form = refl
 -- the node of a piece that was made of its parts
 pub node_of_roll :
     (bs : List ℕ) (x : Piece-F Piece) → node_of bs (roll-Piece x)
-    ≡ node x.place x.end x.kind (stored_held bs x.place x.from x.to x.spec_end x.spec x.form)
+    ≡ node x.place x.end x.kind (stored_content bs x.place x.from x.to x.spec_end x.spec x.form)
     (branch_of bs x.item) (branch_of bs x.join)
 unfolding node_of
 node_of_roll bs x =
@@ -58,7 +58,7 @@ node_of_roll bs x =
 -- the node of a piece, by its parts
 pub node_of_out :
     (bs : List ℕ) (x : Piece) → node_of bs x
-    ≡ node (out-Piece x).place (out-Piece x).end (out-Piece x).kind (held_of bs x)
+    ≡ node (out-Piece x).place (out-Piece x).end (out-Piece x).kind (content_of bs x)
     (branch_of bs (out-Piece x).item) (branch_of bs (out-Piece x).join)
 unfolding node_of
 node_of_out bs x =
@@ -98,8 +98,8 @@ module _ (bs : List ℕ) (place from to end : ℕ) (spec : Spec) (P : Form → O
   by_name form held gives true (Some name) e h = gives name e
   by_name form held gives false o e h = absurd (cc)
 
-  pub by_form : (form : Form) → IsSome (stored_held bs place from to end spec form)
-      → P form (stored_held bs place from to end spec form)
+  pub by_form : (form : Form) → IsSome (stored_content bs place from to end spec form)
+      → P form (stored_content bs place from to end spec form)
   by_form forms.Text h = by_text (part bs from to) h
   by_form forms.Plain h = by_name forms.Plain _ of_name (nat_lt place from) (part bs from to) refl h
   by_form (forms.Value t) h =

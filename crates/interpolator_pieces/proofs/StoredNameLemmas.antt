@@ -10,13 +10,13 @@ use Rattle.std.specs.declared.string.String.{String}
 use Rattle.interpolator_syntax.specs.declared.argument_fault.ArgumentFault.{ArgumentFault}
 use Rattle.interpolator_syntax.proofs.FirstByteLemmas.{ends_told}
 use Rattle.interpolator_syntax.specs.At.{At}
-use Rattle.interpolator_eval.specs.Meaning.AskedNames.{context_names, held_asks, asked_names}
+use Rattle.interpolator_eval.specs.Meaning.AskedNames.{context_names, content_names, asked_names}
 use Rattle.interpolator_pieces.specs.NodeNames.{visit_asks, name_list, name_texts}
 use Rattle.interpolator_pieces.specs.Visits.{Visit, enter, Walks, text_visits}
 use Rattle.interpolator_pieces.specs.declared.walk.Level.{Level}
 use Rattle.interpolator_pieces.proofs.VisitLemmas.{gathers, text_asks}
 use Rattle.interpolator_syntax.specs.Nodes.{Content}
-use Rattle.interpolator_pieces.specs.Stored.{part, held_of, node_of}
+use Rattle.interpolator_pieces.specs.Stored.{part, content_of, node_of}
 use Rattle.interpolator_pieces.specs.Stored.{node_whole}
 use Rattle.interpolator_pieces.specs.StoredMeanings.{stored_part}
 use Rattle.interpolator_pieces.specs.declared.piece.Form.{Form}
@@ -81,7 +81,7 @@ abbrev Asks : Option (List ℕ) → Form → Option Content → Type 0
 Asks part form held =
     NamesOne form
     → IsSome part × ((in_item : Bool) (name : List ℕ) → Some name ≡ part
-    → held_asks in_item held ≡ context_names in_item name)
+    → content_names in_item held ≡ context_names in_item name)
 
 asks_name : (part : Option (List ℕ)) (name : List ℕ) → part ≡ Some name
     → IsSome part × ((in_item : Bool) (other : List ℕ) → Some other ≡ part
@@ -93,7 +93,7 @@ asks_name (Some found) name is =
 module _ (bs : List ℕ) (x : Piece) (no_text : ¬ ((out-Piece x).form ≡ forms.Text))
     (no_fault : (fault : Box ArgumentFault) → ¬ ((out-Piece x).form ≡ forms.Broken fault))
     (whole : node_whole (node_of bs x) ≡ true) where
-  asks : Asks (stored_part bs x) (out-Piece x).form (held_of bs x)
+  asks : Asks (stored_part bs x) (out-Piece x).form (content_of bs x)
   asks =
       let y = out-Piece x in
       let found = part bs y.from y.to in
@@ -108,12 +108,12 @@ module _ (bs : List ℕ) (x : Piece) (no_text : ¬ ((out-Piece x).form ≡ forms
 
   -- and it is the name that the piece uses
   pub asked_held : (in_item : Bool) (name : List ℕ) → Some name ≡ stored_part bs x
-      → context_names in_item name ≡ held_asks in_item (held_of bs x)
+      → context_names in_item name ≡ content_names in_item (content_of bs x)
   asked_held in_item name e = sym ((asks (no_text, no_fault)).1 in_item name e)
 
 -- the name that is met when a piece is entered
 pub asked_entered : (level : Level) (bs : List ℕ) (x : Piece)
-    → held_asks level.in_item (held_of bs x) ≡ visit_asks (enter level (node_of bs x))
+    → content_names level.in_item (content_of bs x) ≡ visit_asks (enter level (node_of bs x))
 asked_entered level bs x = sym (ap (λ n. visit_asks (enter level n)) (node_of_out bs x))
 
 -- ---- the names of a text

@@ -9,7 +9,7 @@ use Rattle.std.specs.Prelude.{flat_map, max}
 use Rattle.interpolator_syntax.specs.At.{At}
 use Rattle.interpolator_syntax.specs.Nodes.{Node, node, Branch, no_branch, branch}
 use Rattle.interpolator_syntax.specs.Nodes.{Forest, no_nodes, nodes_and, as_forest, nodes}
-use Rattle.interpolator_eval.specs.Meaning.AskedNames.{held_asks, node_asks, branch_asks}
+use Rattle.interpolator_eval.specs.Meaning.AskedNames.{content_names, node_asks, branch_asks}
 use Rattle.interpolator_eval.specs.Meaning.AskedNames.{forest_asks, asked_names}
 use Rattle.interpolator_pieces.specs.NodeChecks.{node_faults, branch_faults, forest_faults}
 use Rattle.interpolator_pieces.specs.NodeChecks.{text_faults}
@@ -105,7 +105,7 @@ mutual
   node_names : (level : Level) (x : Node)
       → flat_map visit_asks (node_visits level x) ≡ node_asks level.in_item x
   node_names level (node place end kind held item join) =
-      ap (λ names. held_asks level.in_item held ++ names)
+      ap (λ names. content_names level.in_item held ++ names)
       (around visit_asks (item_of level item) (join_of level join)
       (leave level (node place end kind held item join))
       ∙ rw (branch_names (inner true level) item, branch_names (inner level.in_item level) join)

@@ -5,7 +5,7 @@ use Rattle.std.proofs.Common.{List, [], ◌∷◌, ◌++◌, length, drop, get_o
 use Rattle.std.proofs.lemmas.List.{drop_more}
 use Rattle.std.specs.Global.{Vec}
 use Rattle.interpolator_syntax.specs.Nodes.{Node, Branch, Content, node, as_forest}
-use Rattle.interpolator_pieces.specs.Stored.{held_of, node_of, nodes_of, branch_of}
+use Rattle.interpolator_pieces.specs.Stored.{content_of, node_of, nodes_of, branch_of}
 use Rattle.interpolator_pieces.specs.Stored.{node_whole, branch_whole, forest_whole}
 use Rattle.interpolator_pieces.specs.declared.piece.Piece.{Piece}
 use Rattle.interpolator_pieces.specs.declared.piece.Piece.TheViews.{out-Piece, size-Piece}
@@ -15,7 +15,7 @@ use Rattle.interpolator_pieces.proofs.StoredLemmas.{node_of_out}
 
 -- the piece holds something, and its groups fit its text too
 pub record FitsText (bs : List ℕ) (x : Piece) : Type 0 where
-  pub held : IsSome (held_of bs x)
+  pub held : IsSome (content_of bs x)
   pub item : branch_whole (branch_of bs (out-Piece x).item) ≡ true
   pub join : branch_whole (branch_of bs (out-Piece x).join) ≡ true
 
@@ -34,7 +34,7 @@ node_parts place end kind (Some x) item join h =
 pub fits_text : (bs : List ℕ) (x : Piece) → node_whole (node_of bs x) ≡ true → FitsText bs x
 fits_text bs x h =
     let y = out-Piece x in
-    let (held, item, join) = node_parts y.place y.end y.kind (held_of bs x) (branch_of bs y.item)
+    let (held, item, join) = node_parts y.place y.end y.kind (content_of bs x) (branch_of bs y.item)
     (branch_of bs y.join) (rw (node_of_out bs x) at h) in
     record { held = held; item = item; join = join }
 

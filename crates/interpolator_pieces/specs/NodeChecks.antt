@@ -49,7 +49,7 @@ stored_own_fault x = form_fault (out-Piece x).spec (out-Piece x).spec_end (out-P
 
 -- the fault that it is not closed
 abbrev pub end_fault : PieceKind → Content → Option Fault
-end_fault kind (argument_content start name spec bare end) = unclosed_fault_of kind end
+end_fault kind (argument_content start name spec target end) = unclosed_fault_of kind end
 end_fault kind _ = None
 
 -- the fault that an argument is not closed, by its form
@@ -68,9 +68,9 @@ abbrev mutual
   -- closed
   pub node_faults : Node → List Fault
   node_faults (node place end kind None item join) = []
-  node_faults (node place end kind (Some held) item join) =
-      fault_list (own_fault held) ++ (branch_faults item ++ (branch_faults join
-      ++ fault_list (end_fault kind held)))
+  node_faults (node place end kind (Some content) item join) =
+      fault_list (own_fault content) ++ (branch_faults item ++ (branch_faults join
+      ++ fault_list (end_fault kind content)))
 
   -- those of a group
   pub branch_faults : Branch → List Fault
@@ -88,9 +88,10 @@ text_faults a = forest_faults (as_forest (nodes a))
 
 -- the fault that is met when a piece is entered, or when it is left
 abbrev pub visit_faults : Visit → List Fault
-visit_faults (enter level (node place end kind (Some held) item join)) = fault_list (own_fault held)
-visit_faults (leave level (node place end kind (Some held) item join)) =
-    fault_list (end_fault kind held)
+visit_faults (enter level (node place end kind (Some content) item join)) =
+    fault_list (own_fault content)
+visit_faults (leave level (node place end kind (Some content) item join)) =
+    fault_list (end_fault kind content)
 visit_faults _ = []
 
 -- a fault of the kinds that a text has by itself
@@ -103,9 +104,9 @@ abbrev mutual
   -- a piece has this fault: by itself, in a piece of a group, or by not being closed
   pub NodeHas : Fault → Node → Type 0
   NodeHas f (node place end kind None item join) = ⊥
-  NodeHas f (node place end kind (Some held) item join) =
-      (own_fault held ≡ Some f) ⊎ BranchHas f item ⊎ BranchHas f join
-      ⊎ (end_fault kind held ≡ Some f)
+  NodeHas f (node place end kind (Some content) item join) =
+      (own_fault content ≡ Some f) ⊎ BranchHas f item ⊎ BranchHas f join
+      ⊎ (end_fault kind content ≡ Some f)
 
   -- a piece of a group has it
   pub BranchHas : Fault → Branch → Type 0

@@ -66,19 +66,19 @@ module _ (limits : Limits) where
       (padded_cost spec.width (items_cost (most_chosen limits.items range) item join))
 
   -- what a piece holds, by the costs of an item and of the join
-  abbrev pub held_cost : Content → (item join : Cost) → Cost
-  held_cost (text_content from cs) item join = piece_cost (length cs)
-  held_cost (argument_content start name spec (target_value t) end) item join = value_cost t spec
-  held_cost (argument_content start name spec (target_list range) end) item join =
+  abbrev pub content_cost : Content → (item join : Cost) → Cost
+  content_cost (text_content from cs) item join = piece_cost (length cs)
+  content_cost (argument_content start name spec (target_value t) end) item join = value_cost t spec
+  content_cost (argument_content start name spec (target_list range) end) item join =
       list_cost range spec item join
-  held_cost (fault_content f) item join = piece_cost 0
+  content_cost (fault_content f) item join = piece_cost 0
 
   abbrev mutual
     -- a piece, with those of its groups
     pub node_cost : Node → Cost
     node_cost (node place end kind None item join) = no_cost
-    node_cost (node place end kind (Some held) item join) =
-        held_cost held (item_branch_cost item) (join_branch_cost join)
+    node_cost (node place end kind (Some content) item join) =
+        content_cost content (item_branch_cost item) (join_branch_cost join)
 
     -- an item by its format, or displayed plainly
     pub item_branch_cost : Branch → Cost

@@ -15,9 +15,9 @@ abbrev pub spec_extent : Spec → ℕ
 spec_extent spec = max (unwrap_or spec.width 0) (unwrap_or spec.precision 0)
 
 -- the extent of what a piece holds
-abbrev pub held_extent : Option Content → ℕ
-held_extent (Some (argument_content start name spec bare end)) = spec_extent spec
-held_extent _ = 0
+abbrev pub content_extent : Option Content → ℕ
+content_extent (Some (argument_content start name spec target end)) = spec_extent spec
+content_extent _ = 0
 
 -- the extent of a stored piece, without its groups
 abbrev pub form_extent : Spec → Form → ℕ
@@ -30,14 +30,14 @@ stored_extent x = form_extent (out-Piece x).spec (out-Piece x).form
 
 -- the extent of a piece, without its groups, which is met when it is entered
 abbrev pub visit_extent : Visit → ℕ
-visit_extent (enter level (node place end kind held item join)) = held_extent held
+visit_extent (enter level (node place end kind content item join)) = content_extent content
 visit_extent (leave level x) = 0
 
 abbrev mutual
   -- the greatest width or precision of a piece, and of those in its groups
   pub node_extent : Node → ℕ
-  node_extent (node place end kind held item join) =
-      max (held_extent held) (max (branch_extent item) (branch_extent join))
+  node_extent (node place end kind content item join) =
+      max (content_extent content) (max (branch_extent item) (branch_extent join))
 
   -- that of the pieces of a group, 0 without it
   pub branch_extent : Branch → ℕ
@@ -52,7 +52,7 @@ abbrev mutual
 abbrev mutual
   -- how deep groups are nested
   pub node_depth : Node → ℕ
-  node_depth (node place end kind held item join) = max (branch_depth item) (branch_depth join)
+  node_depth (node place end kind content item join) = max (branch_depth item) (branch_depth join)
 
   pub branch_depth : Branch → ℕ
   branch_depth no_branch = 0
@@ -69,6 +69,6 @@ inner_depth depth (branch xs) = suc depth
 
 -- how many groups the pieces of its groups are in, which is met when a piece is entered
 abbrev pub visit_depth : Visit → ℕ
-visit_depth (enter level (node place end kind held item join)) =
+visit_depth (enter level (node place end kind content item join)) =
     max (inner_depth level.depth item) (inner_depth level.depth join)
 visit_depth (leave level x) = 0

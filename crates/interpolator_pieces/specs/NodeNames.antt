@@ -3,12 +3,13 @@ use Rattle.std.specs.Prelude.{List, [], ◌∷◌, ℕ, Option, Some, None, map,
 use Rattle.std.specs.Str.{chars}
 use Rattle.std.specs.declared.string.String.{String}
 use Rattle.interpolator_syntax.specs.Nodes.{node}
-use Rattle.interpolator_eval.specs.Meaning.AskedNames.{held_asks}
+use Rattle.interpolator_eval.specs.Meaning.AskedNames.{content_names}
 use Rattle.interpolator_pieces.specs.Visits.{Visit, enter, leave}
 
 -- the name that a piece uses, which is met when it is entered
 abbrev pub visit_asks : Visit → List (List ℕ)
-visit_asks (enter level (node place end kind held item join)) = held_asks level.in_item held
+visit_asks (enter level (node place end kind content item join)) =
+    content_names level.in_item content
 visit_asks (leave level x) = []
 
 -- at most one name, as a list

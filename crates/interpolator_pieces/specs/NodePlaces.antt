@@ -19,12 +19,12 @@ has_place place from end _ = false
 
 -- whether a node has a place
 abbrev pub node_has : ℕ → Node → Bool
-node_has place (node from end kind held item join) = has_place place from end kind
+node_has place (node from end kind content item join) = has_place place from end kind
 
 abbrev mutual
   -- the innermost argument that has a place, in a node that has it: one in its groups, or itself
   pub innermost : ℕ → Node → ℕ × ℕ
-  innermost place (node from end kind held item join) =
+  innermost place (node from end kind content item join) =
       unwrap_or (option_or (argument_in place item) (argument_in place join)) (from, end)
 
   -- the innermost argument that has a place, in a group, if there is one
@@ -49,7 +49,7 @@ abbrev mutual
 
   -- a node is in the item format or in the join of another, at any depth
   pub InGroups : Node → Node → Type 0
-  InGroups n (node from end kind held item join) = InBranch n item ⊎ InBranch n join
+  InGroups n (node from end kind content item join) = InBranch n item ⊎ InBranch n join
 
   -- a node is in a group, at any depth
   pub InBranch : Node → Branch → Type 0

@@ -46,25 +46,25 @@ range_of range = option_map (λ b. b.value) range
 
 -- what a piece at `place` holds, by its form, the bytes that are stored of it, and the end of its
 -- spec
-abbrev pub stored_held : List ℕ → (place from to end : ℕ) → Spec → Form → Option Content
-stored_held bs place from to end spec forms.Text =
+abbrev pub stored_content : List ℕ → (place from to end : ℕ) → Spec → Form → Option Content
+stored_content bs place from to end spec forms.Text =
     option_map (λ cs. text_content from cs) (part bs from to)
-stored_held bs place from to end spec forms.Plain =
+stored_content bs place from to end spec forms.Plain =
     option_map (λ name. argument_content (suc place) name plain_spec (target_value traits.Display) end)
     (name_part bs place from to)
-stored_held bs place from to end spec (forms.Value t) =
+stored_content bs place from to end spec (forms.Value t) =
     option_map (λ name. argument_content (suc place) name spec (target_value t) end) (name_part bs place from to)
-stored_held bs place from to end spec (forms.List range) =
+stored_content bs place from to end spec (forms.List range) =
     option_map (λ name. argument_content (suc place) name spec (target_list (range_of range)) end)
     (name_part bs place from to)
-stored_held bs place from to end spec (forms.Broken fault) =
+stored_content bs place from to end spec (forms.Broken fault) =
     Some (fault_content (argument_fault_of fault.value))
 
 -- the node of a piece whose groups have become nodes
 abbrev pub node_step : List ℕ → Piece-F Node → Node
 node_step bs x =
     node x.place x.end x.kind
-    (stored_held bs x.place x.from x.to x.spec_end x.spec x.form)
+    (stored_content bs x.place x.from x.to x.spec_end x.spec x.form)
     (as_branch (option_map (λ xs. xs.items) x.item))
     (as_branch (option_map (λ xs. xs.items) x.join))
 
@@ -73,9 +73,9 @@ unfoldable pub node_of : List ℕ → Piece → Node
 node_of bs x = fold-Piece Node (node_step bs) x
 
 -- what a stored piece holds
-abbrev pub held_of : List ℕ → Piece → Option Content
-held_of bs x =
-    let y = out-Piece x in stored_held bs y.place y.from y.to y.spec_end y.spec y.form
+abbrev pub content_of : List ℕ → Piece → Option Content
+content_of bs x =
+    let y = out-Piece x in stored_content bs y.place y.from y.to y.spec_end y.spec y.form
 
 -- the nodes of stored pieces
 abbrev pub nodes_of : List ℕ → List Piece → List Node
@@ -89,7 +89,7 @@ branch_of bs xs = as_branch (option_map (λ xs. nodes_of bs xs.items) xs)
 abbrev mutual
   pub node_whole : Node → Bool
   node_whole (node place end kind None item join) = false
-  node_whole (node place end kind (Some held) item join) = branch_whole item && branch_whole join
+  node_whole (node place end kind (Some content) item join) = branch_whole item && branch_whole join
 
   pub branch_whole : Branch → Bool
   branch_whole no_branch = true

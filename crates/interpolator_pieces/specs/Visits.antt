@@ -18,10 +18,10 @@ inner in_item level = record { depth = level.depth + 1; in_item = in_item }
 abbrev mutual
   -- a piece is entered, then its item format is walked, and then its join; then it is left
   pub node_visits : Level → Node → List Visit
-  node_visits level (node place end kind held item join) =
-      enter level (node place end kind held item join)
+  node_visits level (node place end kind content item join) =
+      enter level (node place end kind content item join)
       ∷ (branch_visits (inner true level) item ++ (branch_visits (inner level.in_item level) join
-      ++ (leave level (node place end kind held item join) ∷ [])))
+      ++ (leave level (node place end kind content item join) ∷ [])))
 
   -- the visits of a group whose pieces are at `level`
   pub branch_visits : Level → Branch → List Visit

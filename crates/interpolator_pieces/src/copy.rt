@@ -1,7 +1,7 @@
 //! Copies of pieces.
 ghost use Rattle.std.specs.Prelude.{◌≡◌, ℕ, List, IfOk};
 ghost use Rattle.interpolator_render.specs.declared.view.Spec.{Spec};
-ghost use Rattle.interpolator_pieces.specs.Stored.{branch_of, node_of, nodes_of, stored_held};
+ghost use Rattle.interpolator_pieces.specs.Stored.{branch_of, node_of, nodes_of, stored_content};
 
 use crate::parse::boxed;
 use crate::piece::{Form, Piece};
@@ -57,8 +57,8 @@ fn copy_group(alloc: Global, group: &Option<Vec<Piece>>) -> Result<Option<Vec<Pi
 /// A copy of the form of a piece.
 fn copy_form(alloc: Global, form: &Form) -> Result<Form, AllocError>
     ensures same { IfOk result (λ copy. (bs : List ℕ) (place from to end : ℕ) (spec : Spec)
-        → stored_held bs place from to end spec copy
-        ≡ stored_held bs place from to end spec form.now) }
+        → stored_content bs place from to end spec copy
+        ≡ stored_content bs place from to end spec form.now) }
 {
     match form {
         Form::Text => Ok(Form::Text),

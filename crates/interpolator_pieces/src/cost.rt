@@ -6,11 +6,11 @@ ghost use Rattle.interpolator_eval.specs.Meaning.Limits.{most_chosen, most_from_
 ghost use Rattle.interpolator_syntax.specs.Nodes.{as_forest};
 ghost use Rattle.interpolator_pieces.specs.NodeCosts.{no_cost, piece_cost, then_cost, item_cost};
 ghost use Rattle.interpolator_pieces.specs.NodeCosts.{items_cost, padded_cost, list_cost};
-ghost use Rattle.interpolator_pieces.specs.NodeCosts.{value_cost, held_cost, node_cost};
+ghost use Rattle.interpolator_pieces.specs.NodeCosts.{value_cost, content_cost, node_cost};
 ghost use Rattle.interpolator_pieces.specs.NodeCosts.{item_branch_cost, join_branch_cost};
 ghost use Rattle.interpolator_pieces.specs.NodeCosts.{forest_cost, usize_cost};
 ghost use Rattle.interpolator_pieces.specs.Stored.{node_of, nodes_of, node_whole, forest_whole};
-ghost use Rattle.interpolator_pieces.specs.Stored.{branch_of, held_of};
+ghost use Rattle.interpolator_pieces.specs.Stored.{branch_of, content_of};
 ghost use Rattle.interpolator_pieces.specs.declared.piece.Piece.TheViews.{out-Piece};
 
 use crate::piece::{Form, Piece};
@@ -182,10 +182,10 @@ fn char_count(text: &str) -> usize
 }
 
 /// The cost of what a piece holds, by the costs of an item and of the join.
-fn held_cost(text: &str, piece: &Piece, limits: &Limits, item: Cost, join: Cost) -> Cost
+fn content_cost(text: &str, piece: &Piece, limits: &Limits, item: Cost, join: Cost) -> Cost
     requires whole { node_whole (node_of text.now piece.now) ≡ true }
-    ensures { option_map (λ held. usize_cost (held_cost limits.now held item join))
-        (held_of text.now piece.now) ≡ Some result }
+    ensures { option_map (λ held. usize_cost (content_cost limits.now held item join))
+        (content_of text.now piece.now) ≡ Some result }
 {
     match &piece.form {
         Form::Text => piece_cost(char_count(text_of(text, piece))),
@@ -218,7 +218,7 @@ fn cost_of_piece(text: &str, piece: &Piece, limits: &Limits) -> Cost
 {
     let item = cost_of_item(text, piece, limits);
     let join = cost_of_join(text, piece, limits);
-    held_cost(text, piece, limits, item, join)
+    content_cost(text, piece, limits, item, join)
 }
 
 /// The cost of an item of a piece, by its format or displayed plainly.

@@ -23,7 +23,7 @@ use crate::parse::parse_pieces;
 use crate::piece::Piece;
 use crate::stored_source::Stored;
 use crate::walk::walk_text;
-use interpolator_eval::{Context, Environment, Sink, Tally, write_source, write_text};
+use interpolator_eval::{Context, Environment, PieceCount, Sink, write_source, write_text};
 use interpolator_render::{TextBuffer, TextWrite};
 use interpolator_syntax::{Cursor, Error};
 use std::alloc::{AllocError, Global};
@@ -90,7 +90,7 @@ pub fn write<W: TextWrite, C: Context>(
         Sink::Writer(end) => {
             let _ = end;
         }
-        Sink::Aside(_) => unreachable!(),
+        Sink::Buffer(_) => unreachable!(),
     }
     answer
 }
@@ -120,7 +120,7 @@ pub fn write_counted<W: TextWrite, C: Context, L: Ledger>(
     format: &str,
     pieces: &[Piece],
     context: &C,
-    tally: &mut Tally<L>,
+    count: &mut PieceCount<L>,
 ) -> Result<(), Error>
     requires pieces { nodes_of format.now pieces.now ≡ nodes (outermost (chars format.now)) }
     ensures outcome { Outcome
@@ -130,14 +130,14 @@ pub fn write_counted<W: TextWrite, C: Context, L: Ledger>(
         (means C.Object.shows (cut (environment (C.finds context.now)) (asked_names a)) a)
         (W.written out.old) (W.written out.new) (result_answer result) }
     ensures place { PlaceWithin (length format.now) (result_answer result) }
-    ensures gone { tally.new ≤ tally.old + (text_work C.Object.shows
+    ensures gone { count.new ≤ count.old + (text_work C.Object.shows
         (environment (C.finds context.now)) (outermost (chars format.now))).pieces }
-    ensures exact { IfOk result (λ _. tally.new ≡ tally.old + (text_work C.Object.shows
+    ensures exact { IfOk result (λ _. count.new ≡ count.old + (text_work C.Object.shows
         (environment (C.finds context.now)) (outermost (chars format.now))).pieces) }
     ensures within { (limits : Limits)
         → IsWithin C.Object.shows limits.text limits.items (environment (C.finds context.now))
         (asked_names (outermost (chars format.now)))
-        → tally.new ≤ tally.old + (text_cost limits (outermost (chars format.now))).pieces }
+        → count.new ≤ count.old + (text_cost limits (outermost (chars format.now))).pieces }
 {
     let mut sink = Sink::Writer(out);
     let source = Stored {
@@ -145,12 +145,12 @@ pub fn write_counted<W: TextWrite, C: Context, L: Ledger>(
         pieces,
     };
     let environment = Environment::outermost(alloc, context);
-    let answer = write_source(&mut sink, &environment, source, tally);
+    let answer = write_source(&mut sink, &environment, source, count);
     match sink {
         Sink::Writer(end) => {
             let _ = end;
         }
-        Sink::Aside(_) => unreachable!(),
+        Sink::Buffer(_) => unreachable!(),
     }
     answer
 }
@@ -184,8 +184,8 @@ fn write_on<W: TextWrite, C: Context, L: Ledger>(
         (W.written out.old) (W.written out.new) (result_answer result) }
     ensures place { PlaceWithin (length format.entry.text.now) (result_answer result) }
 {
-    let mut tally = Tally::<L>::open(blank);
-    write_counted(alloc, out, format.text, pieces, context, &mut tally)
+    let mut count = PieceCount::<L>::open(blank);
+    write_counted(alloc, out, format.text, pieces, context, &mut count)
 }
 
 /// Writes what the stored pieces of a format mean in the context.

@@ -1,9 +1,9 @@
 //! The names that pieces use.
 ghost use Rattle.std.specs.Prelude.{◌≡◌, ◌++◌, IfOk, Some, true, option_map};
 ghost use Rattle.std.specs.Str.{chars};
-ghost use Rattle.interpolator_eval.specs.Meaning.AskedNames.{context_names, held_asks};
+ghost use Rattle.interpolator_eval.specs.Meaning.AskedNames.{context_names, content_names};
 ghost use Rattle.interpolator_pieces.specs.NodeNames.{name_list, name_texts, visit_asks};
-ghost use Rattle.interpolator_pieces.specs.Stored.{held_of, node_of, node_whole};
+ghost use Rattle.interpolator_pieces.specs.Stored.{content_of, node_of, node_whole};
 
 use crate::piece::{Form, Piece};
 use crate::stored_source::text_of;
@@ -25,7 +25,7 @@ fn context_name(name: &str, in_item: bool) -> Option<&str>
 fn asked_name<'t>(text: &'t str, piece: &Piece, in_item: bool) -> Option<&'t str>
     requires { node_whole (node_of text.now piece.now) ≡ true }
     ensures { name_list (option_map (λ name. chars name.now) result)
-        ≡ held_asks in_item (held_of text.now piece.now) }
+        ≡ content_names in_item (content_of text.now piece.now) }
 {
     match &piece.form {
         Form::Text => None,

@@ -15,7 +15,7 @@ ghost use Rattle.interpolator_syntax.specs.Tokens.{argument};
 ghost use Rattle.interpolator_syntax.specs.Nodes.{nodes, node, no_branch, text_content, piece_node};
 ghost use Rattle.interpolator_syntax.specs.Nodes.{token_node};
 ghost use Rattle.interpolator_pieces.specs.Stored.{StandFor, Pushed, GroupStands, part, node_of};
-ghost use Rattle.interpolator_pieces.specs.Stored.{stored_held, range_of};
+ghost use Rattle.interpolator_pieces.specs.Stored.{stored_content, range_of};
 ghost use Rattle.interpolator_pieces.specs.declared.piece.Form.TheVariants as forms;
 ghost use Rattle.interpolator_pieces.specs.Reading.{ending_kind, ending_rest};
 
@@ -50,7 +50,7 @@ fn text_piece(place: usize, end: usize, kind: PieceKind, to: usize) -> Piece
 /// An argument that is a name alone, from its brace at `place` up to `end`.
 fn name_piece(place: usize, end: usize, named: ArgumentName<'_>) -> Piece
     ensures node { (bs : List ℕ) → node_of bs result
-        ≡ node place end PieceKind.Closed (stored_held bs place named.entry.place
+        ≡ node place end PieceKind.Closed (stored_content bs place named.entry.place
         named.entry.end.place named.entry.end.place plain_spec forms.Plain) no_branch no_branch }
 {
     Piece {

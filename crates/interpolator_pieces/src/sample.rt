@@ -7,14 +7,14 @@ ghost use Rattle.interpolator_syntax.specs.Faults.{result_answer};
 ghost use Rattle.interpolator_syntax.specs.Nodes.{as_forest, target_value, target_list};
 ghost use Rattle.interpolator_syntax.specs.declared.range.Range.{Range};
 ghost use Rattle.interpolator_render.specs.declared.view.Spec.{Spec};
-ghost use Rattle.interpolator_eval.specs.Meaning.Samples.{sample_of, may_stand, items_below};
+ghost use Rattle.interpolator_eval.specs.Meaning.Samples.{sample_of, candidates_under, items_below};
 ghost use Rattle.interpolator_eval.specs.Meaning.Samples.{candidates_of, level_in, level_of_items};
 ghost use Rattle.interpolator_pieces.specs.NodeExtents.{node_depth, branch_depth, forest_depth};
 ghost use Rattle.interpolator_pieces.specs.NodeSamples.{value_faults, found_faults, asked_of};
-ghost use Rattle.interpolator_pieces.specs.NodeSamples.{item_of, items_of_held, node_faults_in};
+ghost use Rattle.interpolator_pieces.specs.NodeSamples.{item_of, items_of_content, node_faults_in};
 ghost use Rattle.interpolator_pieces.specs.NodeSamples.{join_faults_in, forest_faults_in};
 ghost use Rattle.interpolator_pieces.specs.Stored.{node_of, nodes_of, node_whole, forest_whole};
-ghost use Rattle.interpolator_pieces.specs.Stored.{branch_of, held_of};
+ghost use Rattle.interpolator_pieces.specs.Stored.{branch_of, content_of};
 ghost use Rattle.interpolator_pieces.specs.Collecting.{Collects};
 ghost use Rattle.interpolator_pieces.specs.declared.piece.Piece.TheViews.{out-Piece};
 
@@ -76,7 +76,7 @@ fn collect_asked<'a, C: Context>(
 ) -> Result<(), Error>
     requires whole { node_whole (node_of text.now piece.now) ≡ true }
     ensures collects { Collects (asked_of C.Object.shows (sample_of C.finds sample.now)
-        (held_of text.now piece.now)) collector.old collector.new (result_answer result) }
+        (content_of text.now piece.now)) collector.old collector.new (result_answer result) }
 {
     let end = piece.spec_end;
     match &piece.form {
@@ -110,7 +110,7 @@ fn collect_value<'a, C: Context>(
     end: usize,
 ) -> Result<(), Error>
     ensures collects { Collects (found_faults C.Object.shows start (chars name.now) (target_value t)
-        spec.now end (may_stand (sample_of C.finds sample.now) (chars name.now)))
+        spec.now end (candidates_under (sample_of C.finds sample.now) (chars name.now)))
         collector.old collector.new (result_answer result) }
 {
     let Some(found) = sample.candidates(name) else {
@@ -130,9 +130,9 @@ fn collect_values<'a, V: Value>(
     ensures collects { Collects (value_faults V.shows t spec.now end (candidates_of found.now))
         collector.old collector.new (result_answer result) }
 {
-    let missing = found.lack(Need::Text(t, spec));
+    let missing = found.any_lacks(Need::Text(t, spec));
     collector.collect_if(missing, Error::MissingTraitImpl(t, end))?;
-    let failed = found.lack(Need::Success(t, spec));
+    let failed = found.any_lacks(Need::Success(t, spec));
     collector.collect_if(failed, Error::Fmt(fmt::Error, end))
 }
 
@@ -146,13 +146,13 @@ fn collect_list<'a, C: Context>(
 ) -> Result<(), Error>
     ensures collects { (range : Option Range) (spec : Spec)
         → Collects (found_faults C.Object.shows start (chars name.now) (target_list range) spec end
-        (may_stand (sample_of C.finds sample.now) (chars name.now)))
+        (candidates_under (sample_of C.finds sample.now) (chars name.now)))
         collector.old collector.new (result_answer result) }
 {
     let Some(found) = sample.candidates(name) else {
         return collector.collect(sample.missing(name, start));
     };
-    let missing = found.lack(Need::List);
+    let missing = found.any_lacks(Need::List);
     collector.collect_if(missing, Error::MissingTraitImpl(Trait::Iter, end))
 }
 
@@ -165,7 +165,7 @@ fn items_of<'a, C: Context>(
     requires whole { node_whole (node_of text.now piece.now) ≡ true }
     requires deep { level_in sample.now + 1 < 2 ^ 64 }
     ensures items { items_below result
-        ≡ items_of_held (sample_of C.finds sample.now) (held_of text.now piece.now) }
+        ≡ items_of_content (sample_of C.finds sample.now) (content_of text.now piece.now) }
     ensures level { level_of_items result ≤ level_in sample.now + 1 }
 {
     let Form::List(_) = &piece.form else {
@@ -188,12 +188,12 @@ fn collect_item<'a, C: Context>(
     requires deep { level_in sample.now
         + branch_depth (branch_of text.now (out-Piece piece.now).item) + 1 < 2 ^ 64 }
     ensures collects { Collects (item_of C.Object.shows (sample_of C.finds sample.now)
-        (held_of text.now piece.now) (branch_of text.now (out-Piece piece.now).item))
+        (content_of text.now piece.now) (branch_of text.now (out-Piece piece.now).item))
         collector.old collector.new (result_answer result) }
 {
     let items = items_of(sample, text, piece);
     match &piece.item {
-        Some(pieces) => collect_pieces(collector, &sample.each_of(items), text, pieces),
+        Some(pieces) => collect_pieces(collector, &sample.bind_each(items), text, pieces),
         None => collect_plain(collector, items, piece.spec_end),
     }
 }

@@ -21,8 +21,8 @@ ghost use Rattle.interpolator_pieces.specs.declared.piece.Piece.TheViews.{out-Pi
 
 use crate::piece::{Form, Piece};
 use interpolator_eval::{
-    Context, Environment, FormatSource, Formattable, Sink, Tally, chosen_list, write_plain_value,
-    write_value,
+    Context, Environment, FormatSource, Formattable, PieceCount, Sink, chosen_list,
+    write_plain_value, write_value,
 };
 use interpolator_render::{Spec, TextWrite};
 use interpolator_syntax::{ArgumentFault, Error, ParseError, PieceKind, Range};
@@ -54,7 +54,7 @@ impl<'t> FormatSource for Stored<'t> {
     }
 
     #[inline(always)]
-    fn no_list(&self) -> Stored<'t> {
+    fn scratch_list(&self) -> Stored<'t> {
         *self
     }
 
@@ -64,9 +64,9 @@ impl<'t> FormatSource for Stored<'t> {
         sink: &mut Sink<'_, W>,
         environment: &Environment<'a, C, C::Object>,
         list: &mut Stored<'t>,
-        tally: &mut Tally<L>,
+        count: &mut PieceCount<L>,
     ) -> Result<bool, Error> {
-        run_pieces(sink, environment, *self, list, tally)
+        run_pieces(sink, environment, *self, list, count)
     }
 
     #[inline(always)]
@@ -156,7 +156,7 @@ fn run_pieces<'t, 'a, W: TextWrite, C: Context, L: Ledger>(
     environment: &Environment<'a, C, C::Object>,
     source: Stored<'t>,
     list: &mut Stored<'t>,
-    tally: &mut Tally<L>,
+    count: &mut PieceCount<L>,
 ) -> Result<bool, Error>
     ensures writes { Writes W.written
         (forest_means C.Object.shows (environment_of C.finds environment.now)
@@ -166,11 +166,11 @@ fn run_pieces<'t, 'a, W: TextWrite, C: Context, L: Ledger>(
         (stored_list list.new.text.now list.new.pieces.now)
         (stored_rest list.new.text.now list.new.pieces.now)
         (from_list (as_forest (nodes_of source.entry.text.now source.entry.pieces.now)))) }
-    ensures gone { tally.new ≤ tally.old + ((forest_work C.Object.shows
+    ensures gone { count.new ≤ count.old + ((forest_work C.Object.shows
         (environment_of C.finds environment.now)
         (before_list (as_forest (nodes_of source.entry.text.now source.entry.pieces.now)))).pieces
         + met_pieces result) }
-    ensures exact { IfOk result (λ _. tally.new ≡ tally.old + ((forest_work C.Object.shows
+    ensures exact { IfOk result (λ _. count.new ≡ count.old + ((forest_work C.Object.shows
         (environment_of C.finds environment.now)
         (before_list (as_forest (nodes_of source.entry.text.now source.entry.pieces.now)))).pieces
         + met_pieces result)) }
@@ -178,7 +178,7 @@ fn run_pieces<'t, 'a, W: TextWrite, C: Context, L: Ledger>(
     let text = source.text;
     let mut rest = source.pieces;
     while let Some((piece, after)) = rest.split_first() {
-        tally.tick();
+        count.tick();
         if run_piece(sink, environment, text, piece)? {
             *list = Stored { text, pieces: rest };
             return Ok(true);

@@ -17,7 +17,8 @@ use Rattle.interpolator_syntax.specs.SpecTexts.{plain_spec}
 use Rattle.interpolator_syntax.specs.declared.piece_kind.PieceKind.{PieceKind}
 use Rattle.interpolator_syntax.specs.declared.piece_kind.PieceKind.TheVariants as kinds
 use Rattle.interpolator_syntax.specs.declared.range.Range.{Range}
-use Rattle.interpolator_pieces.specs.Stored.{name_part, stored_held, held_of, node_of, nodes_of}
+use Rattle.interpolator_pieces.specs.Stored.{name_part, stored_content, content_of, node_of}
+use Rattle.interpolator_pieces.specs.Stored.{nodes_of}
 use Rattle.interpolator_pieces.specs.Stored.{node_whole, forest_whole, range_of, branch_of}
 use Rattle.interpolator_pieces.specs.StoredMeanings.{stored_name, stored_part}
 use Rattle.interpolator_pieces.specs.declared.piece.Form.{Form}
@@ -30,7 +31,8 @@ use Rattle.interpolator_pieces.proofs.StoredLemmas.{node_of_out}
 use Rattle.interpolator_pieces.proofs.WholePieceLemmas.{both, fits_text, pieces_whole}
 use Rattle.interpolator_prepared.specs.Programs.{Instruction, text_step, value_step, node_step}
 use Rattle.interpolator_prepared.specs.Programs.{text_before, node_before, program}
-use Rattle.interpolator_prepared.specs.Programs.{held_position, node_position, step_at, argument_step}
+use Rattle.interpolator_prepared.specs.Programs.{content_position, node_position, step_at}
+use Rattle.interpolator_prepared.specs.Programs.{argument_step}
 use Rattle.interpolator_prepared.specs.Rows.{last_position}
 use Rattle.interpolator_prepared.specs.StoredSteps.{first_step, is_text, is_text_form, step_of}
 use Rattle.interpolator_prepared.specs.StoredSteps.{text_count, texts_after, texts_placed}
@@ -82,15 +84,15 @@ module _ (names : List (List ℕ)) where
       → node_before names x steps ≡ argument_step names (node_position names x) x ∷ steps
 
   no_text : (place end : ℕ) (kind : PieceKind) (item join : Branch) (o : Option (List ℕ))
-      (start : ℕ) (spec : Spec) (bare : Target) (q : ℕ)
-      → Precedes (node place end kind (option_map (λ name. argument_content start name spec bare q) o) item join)
-  no_text place end kind item join None start spec bare q steps = refl
-  no_text place end kind item join (Some name) start spec bare q steps = refl
+      (start : ℕ) (spec : Spec) (target : Target) (q : ℕ)
+      → Precedes (node place end kind (option_map (λ name. argument_content start name spec target q) o) item join)
+  no_text place end kind item join None start spec target q steps = refl
+  no_text place end kind item join (Some name) start spec target q steps = refl
 
   by_form :
       (bs : List ℕ) (place end : ℕ) (kind : PieceKind) (item join : Branch) (from to q : ℕ)
       (spec : Spec) (form : Form) → form ≢ forms.Text
-      → Precedes (node place end kind (stored_held bs place from to q spec form) item join)
+      → Precedes (node place end kind (stored_content bs place from to q spec form) item join)
   by_form bs place end kind item join from to q spec forms.Text h = absurd (h refl)
   by_form bs place end kind item join from to q spec forms.Plain h =
       no_text place end kind item join (name_part bs place from to) (suc place) plain_spec
@@ -242,21 +244,21 @@ module _ (names : List (List ℕ)) where
 
   module _ (bs : List ℕ) (x : Piece) where
     abbrev At : Option Content → Option ℕ
-    At held = held_position names (out-Piece x).kind held
+    At held = content_position names (out-Piece x).kind held
 
-    position_held : (held : Option Content) → held_of bs x ≡ held
+    position_held : (held : Option Content) → content_of bs x ≡ held
         → node_position names (node_of bs x) ≡ At held
     position_held held is = rw (node_of_out bs x, is) refl
 
     -- of a closed argument that asks for a value
     pub position_is :
         (start : ℕ) (name : List ℕ) (spec : Spec) (t : Trait) (q : ℕ) (bytes : List ℕ)
-        → held_of bs x ≡ Some (argument_content start name spec (target_value t) q)
+        → content_of bs x ≡ Some (argument_content start name spec (target_value t) q)
         → (out-Piece x).kind ≡ kinds.Closed → encode_utf8_all name ≡ bytes
         → last_position names bytes ≡ node_position names (node_of bs x)
     position_is start name spec t q bytes is kind same =
         sym (position_held (Some (argument_content start name spec (target_value t) q)) is
-        ∙ ap (λ k. held_position names k (Some (argument_content start name spec (target_value t) q))) kind
+        ∙ ap (λ k. content_position names k (Some (argument_content start name spec (target_value t) q))) kind
         ∙ ap (last_position names) same)
 
     -- of a closed one whose name is looked up
@@ -267,7 +269,7 @@ module _ (names : List (List ℕ)) where
       by_found :
           (spec : Spec) (t : Trait)
           → ((name : List ℕ) → Some name ≡ stored_name bs x
-          → held_of bs x
+          → content_of bs x
           ≡ Some (argument_content ((out-Piece x).place + 1) name spec (target_value t) (out-Piece x).spec_end))
           → (o : Option (List ℕ)) → stored_name bs x ≡ o → IsSome o
           → r ≡ node_position names (node_of bs x)
@@ -295,11 +297,11 @@ module _ (names : List (List ℕ)) where
     pub no_position_kind : (kind : PieceKind) → (out-Piece x).kind ≡ kind → kind ≢ kinds.Closed
         → None ≡ node_position names (node_of bs x)
     no_position_kind kind is other =
-        sym (rw (node_of_out bs x) (ap (λ k. held_position names k (held_of bs x)) is
-        ∙ by_kind kind (held_of bs x) other))
+        sym (rw (node_of_out bs x) (ap (λ k. content_position names k (content_of bs x)) is
+        ∙ by_kind kind (content_of bs x) other))
       where
         by_kind : (kind : PieceKind) (held : Option Content) → kind ≢ kinds.Closed
-            → held_position names kind held ≡ None
+            → content_position names kind held ≡ None
         by_kind kinds.Literal held h = refl
         by_kind kinds.Doubled held h = refl
         by_kind kinds.LoneClose held h = refl
@@ -310,23 +312,23 @@ module _ (names : List (List ℕ)) where
     pub no_position_form : (form : Form) → (out-Piece x).form ≡ form → IsOther form
         → (out-Piece x).kind ≡ kinds.Closed → None ≡ node_position names (node_of bs x)
     no_position_form form is other kind =
-        sym (rw (node_of_out bs x) (ap (λ k. held_position names k (held_of bs x)) kind
+        sym (rw (node_of_out bs x) (ap (λ k. content_position names k (content_of bs x)) kind
         ∙ rw (is) (by_other form other)))
       where
         no_name : (o : Option (List ℕ)) (start : ℕ) (spec : Spec) (range : Option Range) (q : ℕ)
-            → held_position names kinds.Closed
+            → content_position names kinds.Closed
             (option_map (λ name. argument_content start name spec (target_list range) q) o) ≡ None
         no_name None start spec range q = refl
         no_name (Some name) start spec range q = refl
 
         no_text_name : (o : Option (List ℕ)) (from : ℕ)
-            → held_position names kinds.Closed (option_map (λ cs. text_content from cs) o) ≡ None
+            → content_position names kinds.Closed (option_map (λ cs. text_content from cs) o) ≡ None
         no_text_name None from = refl
         no_text_name (Some cs) from = refl
 
         by_other : (form : Form) → IsOther form
-            → held_position names kinds.Closed
-            (stored_held bs (out-Piece x).place (out-Piece x).from (out-Piece x).to
+            → content_position names kinds.Closed
+            (stored_content bs (out-Piece x).place (out-Piece x).from (out-Piece x).to
             (out-Piece x).spec_end (out-Piece x).spec form) ≡ None
         by_other forms.Text h = no_text_name _ _
         by_other forms.Plain h = absurd h
@@ -339,7 +341,7 @@ module _ (names : List (List ℕ)) where
     -- the value at a position
     pub step_is :
         (k : ℕ) (start : ℕ) (name : List ℕ) (spec : Spec) (t : Trait) (q : ℕ)
-        → held_of bs x ≡ Some (argument_content start name spec (target_value t) q)
+        → content_of bs x ≡ Some (argument_content start name spec (target_value t) q)
         → Some k ≡ node_position names (node_of bs x)
         → Some (value_step k t spec q)
         ≡ Some (argument_step names (node_position names (node_of bs x)) (node_of bs x))
@@ -358,7 +360,7 @@ module _ (names : List (List ℕ)) where
       by_name :
           (spec : Spec) (t : Trait)
           → ((name : List ℕ) → Some name ≡ stored_name bs x
-          → held_of bs x
+          → content_of bs x
           ≡ Some (argument_content ((out-Piece x).place + 1) name spec (target_value t) (out-Piece x).spec_end))
           → (o : Option (List ℕ)) → stored_name bs x ≡ o → IsSome o → IsAt t spec
       by_name spec t held None e h = absurd (cc)
@@ -412,7 +414,7 @@ module _ (names : List (List ℕ)) where
         no_text_name (Some cs) from = refl
 
         by_other : (form : Form) → IsOther form
-            → Kept k (stored_held bs (out-Piece x).place (out-Piece x).from (out-Piece x).to
+            → Kept k (stored_content bs (out-Piece x).place (out-Piece x).from (out-Piece x).to
             (out-Piece x).spec_end (out-Piece x).spec form)
         by_other forms.Text h = no_text_name _ _
         by_other forms.Plain h = absurd h

@@ -23,11 +23,11 @@ use Rattle.interpolator_eval.specs.Meaning.Environments.{Environment}
 use Rattle.interpolator_eval.specs.Meaning.Meanings.{Meaning, chain, text_alone, items_after}
 use Rattle.interpolator_eval.specs.Meaning.Meanings.{items_mean, padded_list}
 use Rattle.interpolator_eval.specs.Meaning.Sinks.{Writes}
-use Rattle.interpolator_eval.specs.declared.meaning.sink.Sink.{Sink}
+use Rattle.interpolator_eval.specs.declared.evaluate.sink.Sink.{Sink}
 use Rattle.interpolator_eval.proofs.MeaningLemmas.MeaningLemmas.{nothing_last}
 use Rattle.interpolator_prepared.specs.Items.{IsItemForm, IsJoinForm, IsNodeText, IsNodeValue, value_under}
 use Rattle.interpolator_eval.specs.Meaning.Meanings.{item_branch_means, join_branch_means}
-use Rattle.interpolator_pieces.specs.Stored.{branch_of, held_of, node_of}
+use Rattle.interpolator_pieces.specs.Stored.{branch_of, content_of, node_of}
 use Rattle.interpolator_prepared.specs.declared.items.ItemForm.{ItemForm}
 use Rattle.interpolator_pieces.specs.declared.piece.Piece.{Piece}
 use Rattle.interpolator_pieces.specs.declared.piece.Piece.TheViews.{out-Piece}
@@ -44,7 +44,7 @@ one_node bs group v xs x is same one =
 -- a stored piece that is the value under the empty name
 pub value_node : (bs : List ℕ) (x : Piece) (start : ℕ) (form : ItemForm)
     → (out-Piece x).kind ≡ kinds.Closed
-    → held_of bs x ≡ Some (argument_content start [] form.spec (target_value form.slot) form.end)
+    → content_of bs x ≡ Some (argument_content start [] form.spec (target_value form.slot) form.end)
     → IsNodeValue (node_of bs x) form
 value_node bs x start form kind held = record {
   first = (out-Piece x).place;
@@ -58,7 +58,7 @@ value_node bs x start form kind held = record {
 -- or under a name that is empty
 pub nameless_node : (bs : List ℕ) (x : Piece) (start : ℕ) (name : List ℕ) (form : ItemForm)
     → name ≡ [] → (out-Piece x).kind ≡ kinds.Closed
-    → held_of bs x ≡ Some (argument_content start name form.spec (target_value form.slot) form.end)
+    → content_of bs x ≡ Some (argument_content start name form.spec (target_value form.slot) form.end)
     → IsNodeValue (node_of bs x) form
 nameless_node bs x start name form empty kind held =
     value_node bs x start form kind
@@ -93,7 +93,7 @@ as_item (Some form) b n end one h = inr (n, one, h)
 
 -- a stored piece that is text
 pub text_node : (bs : List ℕ) (x : Piece) (cs : List ℕ)
-    → held_of bs x ≡ Some (text_content (out-Piece x).from cs)
+    → content_of bs x ≡ Some (text_content (out-Piece x).from cs)
     → IsNodeText (node_of bs x) (out-Piece x).from cs
 text_node bs x cs held = record {
   first = (out-Piece x).place;

@@ -16,8 +16,9 @@ use Rattle.interpolator_syntax.proofs.CharacterLemmas.{size-chars}
 use Rattle.interpolator_eval.specs.Meaning.Meanings.{text_alone}
 use Rattle.interpolator_eval.specs.Meaning.Outcomes.{Outcome}
 use Rattle.interpolator_eval.specs.Meaning.Sinks.{write_fault_answer}
-use Rattle.interpolator_eval.specs.declared.meaning.sink.WriteFault.{WriteFault}
-use Rattle.interpolator_eval.specs.declared.meaning.sink.WriteFault.TheVariants.{MissingTraitImpl, Fmt}
+use Rattle.interpolator_eval.specs.declared.evaluate.sink.WriteFault.{WriteFault}
+use Rattle.interpolator_eval.specs.declared.evaluate.sink.WriteFault.TheVariants.{MissingTraitImpl}
+use Rattle.interpolator_eval.specs.declared.evaluate.sink.WriteFault.TheVariants.{Fmt}
 use Rattle.interpolator_eval.proofs.MeaningLemmas.PlacedLemmas.{placed_from-append}
 use Rattle.interpolator_prepared.specs.Programs.{text_step}
 use Rattle.interpolator_prepared.specs.StoredSteps.{parts_size, joined_place, placed_by}

@@ -15,11 +15,12 @@ use Rattle.interpolator_eval.specs.Slots.{Slots}
 use Rattle.interpolator_eval.specs.Meaning.Environments.{Environment, environment}
 use Rattle.interpolator_eval.specs.Meaning.Meanings.{Meaning, text_alone, chain, under_name}
 use Rattle.interpolator_eval.proofs.MeaningLemmas.MeaningLemmas.{joined_assoc}
-use Rattle.interpolator_eval.specs.Meaning.Meanings.{bare_means, node_means, forest_means}
+use Rattle.interpolator_eval.specs.Meaning.Meanings.{target_means, node_means, forest_means}
 use Rattle.interpolator_eval.specs.Meaning.Meanings.{join_branch_means, item_branch_means}
 use Rattle.interpolator_prepared.specs.Programs.{Instruction, text_step, value_step, node_step}
 use Rattle.interpolator_prepared.specs.Programs.{text_before, node_before, program}
-use Rattle.interpolator_prepared.specs.Programs.{held_position, node_position, step_at, argument_step}
+use Rattle.interpolator_prepared.specs.Programs.{content_position, node_position, step_at}
+use Rattle.interpolator_prepared.specs.Programs.{argument_step}
 use Rattle.interpolator_prepared.specs.Programs.{position_means, step_means, steps_mean}
 use Rattle.interpolator_prepared.specs.Rows.{later_or_first, last_position, found_by_row}
 
@@ -71,42 +72,42 @@ module _ {X : Type 0} (shows : X → Trait → Spec → Shown) (names : List (Li
       (start : ℕ) (name : List ℕ) (t : Trait) (spec : Spec) (q : ℕ) (item join : Branch)
       (o : Option (Slots X)) → IsSome o
       → position_means shows t spec q o
-      ≡ under_name name start (bare_means shows (target_value t) spec q
+      ≡ under_name name start (target_means shows (target_value t) spec q
       (join_branch_means shows E join) (item_branch_means shows E item q)) o
   by_value start name t spec q item join None h = absurd (cc)
   by_value start name t spec q item join (Some found) h = refl
 
-  held_argument :
+  content_argument :
       (place end : ℕ) (kind : PieceKind) (held : Option Content) (item join : Branch) (k : ℕ)
-      → held_position names kind held ≡ Some k
+      → content_position names kind held ≡ Some k
       → step_means shows E value_at (step_at names k (node place end kind held item join))
       ≡ node_means shows E (node place end kind held item join)
-  held_argument place end kind None item join k h = refl
-  held_argument place end kind (Some (text_content from cs)) item join k h = refl
-  held_argument place end kind (Some (fault_content f)) item join k h = refl
-  held_argument place end kind (Some (argument_content start name spec (target_list r) q)) item join k h = refl
-  held_argument place end kinds.Closed (Some (argument_content start name spec (target_value t) q)) item join k h =
+  content_argument place end kind None item join k h = refl
+  content_argument place end kind (Some (text_content from cs)) item join k h = refl
+  content_argument place end kind (Some (fault_content f)) item join k h = refl
+  content_argument place end kind (Some (argument_content start name spec (target_list r) q)) item join k h = refl
+  content_argument place end kinds.Closed (Some (argument_content start name spec (target_value t) q)) item join k h =
       by_value start name t spec q item join (value_at k)
       (reached k (position_below names (encode_utf8_all name) k h))
-      ∙ sym (ap (λ o. under_name name start (bare_means shows (target_value t) spec q
+      ∙ sym (ap (λ o. under_name name start (target_means shows (target_value t) spec q
       (join_branch_means shows E join) (item_branch_means shows E item q))
       (option_and_then value_at o)) h)
-  held_argument place end kinds.Literal (Some (argument_content start name spec (target_value t) q)) item join k h =
+  content_argument place end kinds.Literal (Some (argument_content start name spec (target_value t) q)) item join k h =
       absurd (cc)
-  held_argument place end kinds.Doubled (Some (argument_content start name spec (target_value t) q)) item join k h =
+  content_argument place end kinds.Doubled (Some (argument_content start name spec (target_value t) q)) item join k h =
       absurd (cc)
-  held_argument place end kinds.LoneClose (Some (argument_content start name spec (target_value t) q)) item join k h =
+  content_argument place end kinds.LoneClose (Some (argument_content start name spec (target_value t) q)) item join k h =
       absurd (cc)
-  held_argument place end kinds.Unclosed (Some (argument_content start name spec (target_value t) q)) item join k h =
+  content_argument place end kinds.Unclosed (Some (argument_content start name spec (target_value t) q)) item join k h =
       absurd (cc)
-  held_argument place end kinds.Broken (Some (argument_content start name spec (target_value t) q)) item join k h =
+  content_argument place end kinds.Broken (Some (argument_content start name spec (target_value t) q)) item join k h =
       absurd (cc)
 
   argument_means : (o : Option ℕ) (x : Node) → node_position names x ≡ o
       → step_means shows E value_at (argument_step names o x) ≡ node_means shows E x
   argument_means None x h = refl
   argument_means (Some k) (node place end kind held item join) h =
-      held_argument place end kind held item join k h
+      content_argument place end kind held item join k h
 
   argument_before_means : (x : Node) (steps : List Instruction)
       → steps_mean shows E value_at (argument_step names (node_position names x) x ∷ steps)
@@ -122,8 +123,8 @@ module _ {X : Type 0} (shows : X → Trait → Spec → Shown) (names : List (Li
       argument_before_means (node place end kind None item join) steps
   node_before_means (node place end kind (Some (text_content from cs)) item join) steps =
       text_before_means shows E value_at (placed_from from cs) steps
-  node_before_means (node place end kind (Some (argument_content start name spec bare q)) item join) steps =
-      argument_before_means (node place end kind (Some (argument_content start name spec bare q)) item join)
+  node_before_means (node place end kind (Some (argument_content start name spec target q)) item join) steps =
+      argument_before_means (node place end kind (Some (argument_content start name spec target q)) item join)
       steps
   node_before_means (node place end kind (Some (fault_content f)) item join) steps =
       argument_before_means (node place end kind (Some (fault_content f)) item join) steps

@@ -28,13 +28,13 @@ text_before xs steps = text_step xs ∷ steps
 
 module _ (names : List (List ℕ)) where
   -- the position of the name of a closed argument that asks for a value
-  abbrev pub held_position : PieceKind → Option Content → Option ℕ
-  held_position Closed (Some (argument_content start name spec (target_value t) end)) =
+  abbrev pub content_position : PieceKind → Option Content → Option ℕ
+  content_position Closed (Some (argument_content start name spec (target_value t) end)) =
       last_position names (encode_utf8_all name)
-  held_position kind held = None
+  content_position kind held = None
 
   abbrev pub node_position : Node → Option ℕ
-  node_position (node place end kind held item join) = held_position kind held
+  node_position (node place end kind content item join) = content_position kind content
 
   -- the step of an argument whose name has that position
   abbrev pub step_at : (position : ℕ) → Node → Instruction

@@ -13,8 +13,9 @@ use Rattle.interpolator_syntax.specs.SpecTexts.{plain_spec}
 use Rattle.interpolator_eval.specs.Slots.{Slots}
 use Rattle.interpolator_eval.specs.Meaning.Environments.{Environment}
 use Rattle.interpolator_eval.specs.Meaning.Meanings.{Meaning, nothing, chain}
-use Rattle.interpolator_eval.specs.declared.meaning.sink.WriteFault.{WriteFault}
-use Rattle.interpolator_eval.specs.declared.meaning.sink.WriteFault.TheVariants.{MissingTraitImpl, Fmt}
+use Rattle.interpolator_eval.specs.declared.evaluate.sink.WriteFault.{WriteFault}
+use Rattle.interpolator_eval.specs.declared.evaluate.sink.WriteFault.TheVariants.{MissingTraitImpl}
+use Rattle.interpolator_eval.specs.declared.evaluate.sink.WriteFault.TheVariants.{Fmt}
 use Rattle.interpolator_syntax.specs.Nodes.{Node}
 use Rattle.interpolator_pieces.specs.Stored.{part, node_of, node_whole}
 use Rattle.interpolator_pieces.specs.StoredMeanings.{stored_part}

@@ -11,7 +11,7 @@ ghost use Rattle.interpolator_eval.specs.Meaning.CodeEnvironments.{environment_o
 ghost use Rattle.interpolator_eval.specs.Meaning.Sinks.{Writes, write_answered};
 ghost use Rattle.interpolator_eval.specs.Slots.{slots_of};
 ghost use Rattle.interpolator_prepared.specs.Items.{IsItemForm, IsJoinForm, IsNodeValue, value_under};
-ghost use Rattle.interpolator_pieces.specs.Stored.{branch_of, held_of, node_of, node_whole};
+ghost use Rattle.interpolator_pieces.specs.Stored.{branch_of, content_of, node_of, node_whole};
 ghost use Rattle.interpolator_pieces.specs.StoredMeanings.{stored_name, stored_piece_means};
 ghost use Rattle.interpolator_pieces.specs.declared.piece.Form.TheVariants as forms;
 ghost use Rattle.interpolator_pieces.specs.declared.piece.Piece.TheViews.{out-Piece};
@@ -187,7 +187,7 @@ fn nameless_form(text: &str, piece: &Piece, slot: Trait, spec: Spec) -> Option<I
     requires fits { IsSome (stored_name text.now piece.now) }
     requires closed { (out-Piece piece.now).kind ≡ Closed }
     requires held { (name : List ℕ) → Some name ≡ stored_name text.now piece.now
-        → held_of text.now piece.now ≡ Some (argument_content ((out-Piece piece.now).place + 1) name spec
+        → content_of text.now piece.now ≡ Some (argument_content ((out-Piece piece.now).place + 1) name spec
         (target_value slot) (out-Piece piece.now).spec_end) }
     ensures form { MatchOption result ⊤ (IsNodeValue (node_of text.now piece.now)) }
 {

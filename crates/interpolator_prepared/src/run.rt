@@ -61,7 +61,7 @@ fn run_kept<'a, W: TextWrite, C: Context>(
         Sink::Writer(end) => {
             let _ = end;
         }
-        Sink::Aside(_) => unreachable!(),
+        Sink::Buffer(_) => unreachable!(),
     }
     answer
 }

@@ -9,7 +9,7 @@ use Rattle.std.proofs.lemmas.Str.{chars-append, encodes-append, encodes-chars, I
 use Rattle.interpolator_render.specs.IoWriters.{GotPrefix, HandsOn, io_written, KeepsPrefix}
 use Rattle.interpolator_render.specs.Written.{Written, Refuses, RefusesWhole}
 use Rattle.interpolator_render.specs.Written.{Appends as Extends}
-use Rattle.interpolator_render.specs.declared.handed.Handed.{Handed}
+use Rattle.interpolator_render.specs.declared.ghost_log.GhostLog.{GhostLog}
 use Rattle.interpolator_render.specs.declared.io_writer.IoWriter.{IoWriter}
 use Rattle.interpolator_render.specs.declared.text_write.Refusal.{Refusal}
 use Rattle.interpolator_render.proofs.WrittenLemmas.{refuses_all}
@@ -92,7 +92,7 @@ same_written a b e f =
     ap (λ (t : List ℕ). record { text = t; refused = a.refused }) e
     ∙ ap (λ (r : Bool). record { text = b.text; refused = r }) f
 
--- ---- what is handed on
+-- ---- what is passed on
 
 not_refused : (b : Bool) (A : Type 0) → b ≡ true → b ≡ false → A
 not_refused b A e f = absurd (cc)
@@ -154,7 +154,7 @@ module _ {W : Type 0} (told : W → Option (List ℕ)) where
     held = λ f. not_refused new.refused _ err.1 f;
   }
 
-  -- ---- what was handed on since the beginning
+  -- ---- what was passed on since the beginning
 
   -- a writer that has taken nothing
   pub prefix_of_none : (w : IoWriter W) (start : Option (List ℕ)) → (io_written w).text ≡ []
@@ -171,7 +171,7 @@ module _ {W : Type 0} (told : W → Option (List ℕ)) where
   pub prefix_stays : (old new : IoWriter W) → new ≡ old → KeepsPrefix told old new
   prefix_stays old new e start h = subst (λ (w : IoWriter W). GotPrefix told start w) (sym e) h
 
-  -- a writer that took more bytes, and handed a front of what it then held on
+  -- a writer that took more bytes, and passed on a front of what it then held
   pub prefix_grows : (old new : IoWriter W) (more : List ℕ) → old.refused ≡ false
       → encode_utf8_all (io_written new).text ≡ encode_utf8_all (io_written old).text ++ more
       → HandsOn told old new more → KeepsPrefix told old new
@@ -199,39 +199,40 @@ module _ {W : Type 0} (told : W → Option (List ℕ)) where
   prefix_refused old new true e quiet same s = prefix_stays old new (quiet e)
   prefix_refused old new false e quiet same s = prefix_kept old new e same s
 
-  -- a writer that handed on all that it held, and whose flush below did nothing or failed
+  -- a writer that passed on all that it held, and whose flush below did nothing or failed
   pub prefix_flushed : (old mid new : IoWriter W) → old.refused ≡ false
       → (io_written mid).text ≡ (io_written old).text → string_bytes mid.held ≡ []
       → Appends (told old.inner) (told mid.inner) (string_bytes old.held)
-      → new.handed ≡ mid.handed → new.held ≡ mid.held → Keeps (told mid.inner) (told new.inner)
+      → new.passed_on ≡ mid.passed_on → new.held ≡ mid.held
+      → Keeps (told mid.inner) (told new.inner)
       → KeepsPrefix told old new
-  prefix_flushed old mid new f same none got handed held keeps =
-      prefix_kept old new f (rw (handed, held) same)
+  prefix_flushed old mid new f same none got passed held keeps =
+      prefix_kept old new f (rw (passed, held) same)
       (hands_all old new (rw held none) (gets_kept _ _ _ _ got keeps))
 
   -- a writer that made way for bytes, and then gathered them or refused them
   pub prefix_after : (old mid new : IoWriter W) (more : List ℕ) (answer : Result (Unit {0}) Refusal)
       → IsUtf8 more → old.refused ≡ false → io_written mid ≡ io_written old
-      → HandsOn told old mid [] → new.inner ≡ mid.inner → new.handed ≡ mid.handed
+      → HandsOn told old mid [] → new.inner ≡ mid.inner → new.passed_on ≡ mid.passed_on
       → OnOk answer ((string_bytes new.held ≡ string_bytes mid.held ++ more)
       × (mid.refused ≡ false) × (new.refused ≡ false))
       → OnErr answer ((string_bytes new.held ≡ string_bytes mid.held) × (new.refused ≡ true))
       → KeepsPrefix told old new
-  prefix_after old mid new more (Ok x) u f same s inner handed ok err =
+  prefix_after old mid new more (Ok x) u f same s inner passed ok err =
       let text : (io_written new).text ≡ (io_written old).text ++ chars more =
-      ap (λ (l : List ℕ). l ++ chars (string_bytes new.held)) (ap (λ (h : Handed). h.text) handed)
-      ∙ (ap (λ (l : List ℕ). mid.handed.text ++ chars l) ok.0
-      ∙ (ap (λ (l : List ℕ). mid.handed.text ++ l)
+      ap (λ (l : List ℕ). l ++ chars (string_bytes new.held)) (ap (λ (l : GhostLog). l.text) passed)
+      ∙ (ap (λ (l : List ℕ). mid.passed_on.text ++ chars l) ok.0
+      ∙ (ap (λ (l : List ℕ). mid.passed_on.text ++ l)
       (chars-append (string_bytes mid.held) more (IsUtf8-string_bytes mid.held))
-      ∙ (sym (append_assoc mid.handed.text (chars (string_bytes mid.held)) (chars more))
+      ∙ (sym (append_assoc mid.passed_on.text (chars (string_bytes mid.held)) (chars more))
       ∙ ap (λ (w : Written). w.text ++ chars more) same))) in
       prefix_grows old new more f
       (ap encode_utf8_all text ∙ (encodes-append (io_written old).text (chars more)
       ∙ ap (λ (l : List ℕ). encode_utf8_all (io_written old).text ++ l) (encodes-chars more u)))
       (hands_more old mid new more (Ok x) s inner ok err)
-  prefix_after old mid new more (Err r) u f same s inner handed ok err =
+  prefix_after old mid new more (Err r) u f same s inner passed ok err =
       prefix_kept old new f
-      (ap (λ (l : List ℕ). l ++ chars (string_bytes new.held)) (ap (λ (h : Handed). h.text) handed)
-      ∙ (ap (λ (l : List ℕ). mid.handed.text ++ chars l) err.0
+      (ap (λ (l : List ℕ). l ++ chars (string_bytes new.held)) (ap (λ (l : GhostLog). l.text) passed)
+      ∙ (ap (λ (l : List ℕ). mid.passed_on.text ++ chars l) err.0
       ∙ ap (λ (w : Written). w.text) same))
       (hands_more old mid new more (Err r) s inner ok err)

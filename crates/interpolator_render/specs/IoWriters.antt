@@ -8,7 +8,8 @@ use Rattle.interpolator_render.specs.declared.io_writer.IoWriter.{IoWriter}
 
 -- it has taken what it passed on and what it holds
 abbrev pub io_written : {W : Type 0} → IoWriter W → Written
-io_written w = record { text = w.handed.text ++ chars (string_bytes w.held); refused = w.refused }
+io_written w =
+    record { text = w.passed_on.text ++ chars (string_bytes w.held); refused = w.refused }
 
 -- the known contents of a writer of bytes grow by these bytes; if they are not known, nothing is said
 abbrev pub Gets : Option (List ℕ) → Option (List ℕ) → List ℕ → Type 0

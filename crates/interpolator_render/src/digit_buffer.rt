@@ -14,13 +14,19 @@ use std::marker::Model;
 /// The greatest width that a buffer has room for, whatever its alignment.
 pub(crate) const BUFFER_WIDTH: usize = 40;
 
+/// How many bytes a buffer has.
+const BUFFER_BYTES: usize = 128;
+
+/// Where a text begins: as far from the end as the greatest width.
+const START: usize = 88;
+
 /// A short ASCII text between copies of one character, the fill.
 ///
 /// It is written from its end to its front. Padding only moves an end of the text, since the copies
 /// are there already.
 #[derive(Drop)]
 pub(crate) struct DigitBuffer {
-    bytes: [u8; 128],
+    bytes: [u8; BUFFER_BYTES],
     fill: u8,
     start: usize,
     end: usize,
@@ -44,10 +50,10 @@ impl DigitBuffer {
         ensures { result ≡ record { before = 88; text = []; after = 40; fill = fill } }
     {
         DigitBuffer {
-            bytes: [fill; 128],
+            bytes: [fill; BUFFER_BYTES],
             fill,
-            start: 88,
-            end: 88,
+            start: START,
+            end: START,
         }
     }
 

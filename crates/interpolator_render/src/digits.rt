@@ -10,6 +10,9 @@ use crate::digit_tables::{digit_in_base, pair_digits};
 /// Room for the digits of any number in base two.
 const MOST_DIGITS: usize = 128;
 
+/// The greatest number that is divided as a `u64`.
+pub(crate) const GREATEST_U64: u128 = 0xffff_ffff_ffff_ffff;
+
 /// Writes digits of a number from the last one on, ending at the place `end`, until what is left of
 /// the number fits 64 bits. Returns where the digits begin, and what is left.
 ///
@@ -31,7 +34,7 @@ fn write_wide(n: u128, base: u64, upper: bool, end: usize, out: &mut [u8; 128]) 
     let wide = base as u128;
     let mut at = end;
     let mut rest = n;
-    while rest > 0xffff_ffff_ffff_ffff {
+    while rest > GREATEST_U64 {
         at -= 1;
         out[at] = digit_in_base((rest % wide) as u64, base, upper);
         rest /= wide;

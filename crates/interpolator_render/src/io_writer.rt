@@ -10,7 +10,7 @@ ghost use Rattle.interpolator_render.specs.IoWriters.{FailsBelow, Gets, GotPrefi
 ghost use Rattle.interpolator_render.specs.IoWriters.{io_written, IoRefusesFor, KeepsPrefix};
 ghost use Rattle.interpolator_render.specs.Written.{Appends, Refuses, RefusesWhole};
 
-use crate::handed::Handed;
+use crate::ghost_log::GhostLog;
 use crate::text_buffer::{append, append_char};
 use crate::text_write::{Refusal, TextWrite};
 use std::alloc::Global;
@@ -47,7 +47,7 @@ pub struct IoWriter<W: Write + Drop> {
     inner: W,
     held: String,
     refused: bool,
-    handed: Handed,
+    passed_on: GhostLog,
 }
 
 impl<W: Write + Drop> IoWriter<W> {
@@ -62,7 +62,7 @@ impl<W: Write + Drop> IoWriter<W> {
             inner,
             held: String::new(alloc),
             refused: false,
-            handed: Handed::new(),
+            passed_on: GhostLog::new(),
         }
     }
 
@@ -103,7 +103,7 @@ impl<W: Write + Drop> IoWriter<W> {
             inner,
             held: _,
             refused: _,
-            handed: _,
+            passed_on: _,
         } = self;
         inner
     }
@@ -124,7 +124,7 @@ impl<W: Write + Drop> IoWriter<W> {
         let (_, result) = write_out(self.held.as_str().as_bytes(), &mut self.inner);
         match result {
             Ok(()) => {
-                self.handed = self.handed.and(&self.held);
+                self.passed_on = self.passed_on.and(&self.held);
                 self.held.clear();
                 Ok(())
             }
@@ -137,7 +137,7 @@ impl<W: Write + Drop> IoWriter<W> {
 
     /// Flushes the writer below, or refuses from now on.
     fn flush_below(&mut self) -> io::Result<()>
-        ensures handed { self.new.handed ≡ self.old.handed }
+        ensures passed_on { self.new.passed_on ≡ self.old.passed_on }
         ensures held { self.new.held ≡ self.old.held }
         ensures below { Keeps (W.contents self.old.inner) (W.contents self.new.inner) }
         ensures ok { OnOk result (self.new.refused ≡ false) }
@@ -221,7 +221,7 @@ impl<W: Write + Drop> TextWrite for IoWriter<W> {
             (λ _. Appends (io_written self.old) (chars text.now) (io_written self.new))
             (λ refusal. Refuses (io_written self.old) (chars text.now) refusal.taken
             (io_written self.new)) }
-        ensures handed { MatchResult result
+        ensures passed_on { MatchResult result
             (λ _. HandsOn W.contents self.old self.new text.now)
             (λ _. HandsOn W.contents self.old self.new []) }
         ensures history { KeepsPrefix W.contents self.old self.new }
@@ -242,7 +242,7 @@ impl<W: Write + Drop> TextWrite for IoWriter<W> {
             (λ _. Appends (io_written self.old) (c ∷ []) (io_written self.new))
             (λ refusal. Refuses (io_written self.old) (c ∷ []) refusal.taken
             (io_written self.new)) }
-        ensures handed { MatchResult result
+        ensures passed_on { MatchResult result
             (λ _. HandsOn W.contents self.old self.new (encode_utf8 c))
             (λ _. HandsOn W.contents self.old self.new []) }
         ensures history { KeepsPrefix W.contents self.old self.new }

@@ -75,10 +75,10 @@ fn most_number(form: Option<NumberForm>, spec: &Spec) -> usize
 }
 
 /// A text of at most this many characters.
-fn most_text(t: Trait, most: usize) -> usize
-    ensures { result ≡ usize_count (most_text t most) }
+fn most_text(wanted: Trait, most: usize) -> usize
+    ensures { result ≡ usize_count (most_text wanted most) }
 {
-    match t {
+    match wanted {
         Trait::Debug => most.saturating_mul(6).saturating_add(2),
         _ => most,
     }
@@ -94,9 +94,12 @@ fn most_text(t: Trait, most: usize) -> usize
 /// most_written(Trait::Binary, &Spec::default(), 10)   // 128: a number may be longer than the text
 /// most_written(Trait::Debug, &Spec::default(), 10)    // 62: six for each character, and two quotes
 /// ```
-pub fn most_written(t: Trait, spec: &Spec, most: usize) -> usize
-    ensures { result ≡ usize_count (most_written t spec.now most) }
+pub fn most_written(wanted: Trait, spec: &Spec, most: usize) -> usize
+    ensures { result ≡ usize_count (most_written wanted spec.now most) }
 {
-    let number = most_number(number_form(t, spec.hex_debug), spec);
-    spec.width.unwrap_or(0).max(number).max(most_text(t, most))
+    let number = most_number(number_form(wanted, spec.hex_debug), spec);
+    spec.width
+        .unwrap_or(0)
+        .max(number)
+        .max(most_text(wanted, most))
 }

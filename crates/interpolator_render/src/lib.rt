@@ -28,7 +28,7 @@ mod digit_buffer;
 mod digit_tables;
 mod digits;
 mod exponent;
-mod handed;
+mod ghost_log;
 mod io_writer;
 pub mod laws;
 mod layout;

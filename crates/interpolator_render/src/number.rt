@@ -11,7 +11,7 @@ ghost use Rattle.interpolator_render.specs.Written.{Puts};
 
 use crate::digit_buffer::DigitBuffer;
 use crate::digit_tables::pair_digits;
-use crate::digits::{ascii_str, digit_str};
+use crate::digits::{GREATEST_U64, ascii_str, digit_str};
 use crate::exponent::put_exponent;
 use crate::layout::{put_ascii, put_char};
 use crate::number_form::{NumberForm, Radix};
@@ -96,7 +96,7 @@ fn put_digits<W: TextWrite>(
         (number_text (NumberForm.Digits radix) spec.now negative n)
         result (W.written out.new) }
 {
-    if n <= 0xffff_ffff_ffff_ffff && fits_buffer(spec) {
+    if n <= GREATEST_U64 && fits_buffer(spec) {
         put_short(out, radix, spec, negative, n as u64)
     } else {
         put_long(out, radix, spec, negative, n)
@@ -170,7 +170,7 @@ pub(crate) fn put_natural<W: TextWrite>(out: &mut W, spec: &Spec, n: u128) -> Re
         (number_text (NumberForm.Digits Radix.Decimal) spec.now false n)
         result (W.written out.new) }
 {
-    if n <= 0xffff_ffff_ffff_ffff && is_bare(spec) {
+    if n <= GREATEST_U64 && is_bare(spec) {
         put_bare(out, n as u64)
     } else {
         put_digits(out, Radix::Decimal, spec, false, n)

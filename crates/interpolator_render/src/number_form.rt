@@ -58,10 +58,10 @@ impl Radix {
 }
 
 /// How a trait writes whole numbers, if it does.
-pub(crate) fn number_form(t: Trait, hex_debug: HexDebug) -> Option<NumberForm>
-    ensures { result ≡ number_form t hex_debug }
+pub(crate) fn number_form(wanted: Trait, hex_debug: HexDebug) -> Option<NumberForm>
+    ensures { result ≡ number_form wanted hex_debug }
 {
-    match t {
+    match wanted {
         Trait::Display => Some(NumberForm::Digits(Radix::Decimal)),
         Trait::Debug => Some(NumberForm::Digits(match hex_debug {
             HexDebug::No => Radix::Decimal,

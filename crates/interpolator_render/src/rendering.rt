@@ -90,17 +90,17 @@ fn refused(answer: Result<(), Refusal>) -> Result<(), RenderFault>
 #[inline(always)]
 fn render_text<W: TextWrite>(
     out: &mut W,
-    t: Trait,
+    wanted: Trait,
     quote: char,
     text: &str,
     spec: &Spec,
 ) -> Result<(), RenderFault>
     requires { quote < 128 }
     ensures { Renders
-        (under t (displayed_text spec.now (chars text.now)) (quotation quote (chars text.now)))
+        (under wanted (displayed_text spec.now (chars text.now)) (quotation quote (chars text.now)))
         (W.written out.old) result (W.written out.new) }
 {
-    match t {
+    match wanted {
         Trait::Display => refused(pad(out, text, spec)),
         Trait::Debug => refused(put_quoted(out, quote, text)),
         _ => Err(RenderFault::NotImplemented),
@@ -112,29 +112,30 @@ fn render_text<W: TextWrite>(
 #[inline(never)]
 fn render_character<W: TextWrite>(
     out: &mut W,
-    t: Trait,
+    wanted: Trait,
     c: char,
     spec: &Spec,
 ) -> Result<(), RenderFault>
-    ensures { Renders (under t (displayed_text spec.now (c ∷ [])) (quotation single_quote (c ∷ [])))
+    ensures { Renders
+        (under wanted (displayed_text spec.now (c ∷ [])) (quotation single_quote (c ∷ [])))
         (W.written out.old) result (W.written out.new) }
 {
     let mut bytes = [0u8; 4];
-    render_text(out, t, '\'', c.encode_utf8(&mut bytes), spec)
+    render_text(out, wanted, '\'', c.encode_utf8(&mut bytes), spec)
 }
 
 /// Writes a truth value, under debug as under display.
 #[inline(never)]
 fn render_truth<W: TextWrite>(
     out: &mut W,
-    t: Trait,
+    wanted: Trait,
     truth: bool,
     spec: &Spec,
 ) -> Result<(), RenderFault>
     ensures { let text = displayed_text spec.now (truth_text truth) in
-        Renders (under t text text) (W.written out.old) result (W.written out.new) }
+        Renders (under wanted text text) (W.written out.old) result (W.written out.new) }
 {
-    match t {
+    match wanted {
         Trait::Display | Trait::Debug => refused(pad(out, truth_str(truth), spec)),
         _ => Err(RenderFault::NotImplemented),
     }
@@ -164,17 +165,17 @@ fn render_truth<W: TextWrite>(
 pub fn render<W: TextWrite>(
     out: &mut W,
     view: View<'_>,
-    t: Trait,
+    wanted: Trait,
     spec: &Spec,
 ) -> Result<(), RenderFault>
     requires { IsInRange (shown_by view) }
-    ensures { Renders (view_text (shown_by view.entry) t spec.now) (W.written out.old) result
+    ensures { Renders (view_text (shown_by view.entry) wanted spec.now) (W.written out.old) result
         (W.written out.new) }
 {
     if let View::Text(text) = view {
-        return render_text(out, t, '"', text, spec);
+        return render_text(out, wanted, '"', text, spec);
     }
-    if let Trait::Display = t {
+    if let Trait::Display = wanted {
         if let View::Unsigned(number) = view {
             return refused(put_natural(out, spec, number));
         }
@@ -182,7 +183,7 @@ pub fn render<W: TextWrite>(
             return refused(put_integer(out, spec, number));
         }
     }
-    render_any(out, view, t, spec)
+    render_any(out, view, wanted, spec)
 }
 
 /// As [`render`], for every view and trait; [`render`] tries the most likely ones first.
@@ -191,28 +192,28 @@ pub fn render<W: TextWrite>(
 fn render_any<W: TextWrite>(
     out: &mut W,
     view: View<'_>,
-    t: Trait,
+    wanted: Trait,
     spec: &Spec,
 ) -> Result<(), RenderFault>
     requires { IsInRange (shown_by view) }
-    ensures { Renders (view_text (shown_by view.entry) t spec.now) (W.written out.old) result
+    ensures { Renders (view_text (shown_by view.entry) wanted spec.now) (W.written out.old) result
         (W.written out.new) }
 {
     match view {
-        View::Signed(number, bits) => match number_form(t, spec.hex_debug) {
+        View::Signed(number, bits) => match number_form(wanted, spec.hex_debug) {
             None => Err(RenderFault::NotImplemented),
             Some(form) => {
                 let (negative, magnitude) = sign_and_magnitude(form, number, bits);
                 refused(put_number(out, form, spec, negative, magnitude))
             }
         },
-        View::Unsigned(number) => match number_form(t, spec.hex_debug) {
+        View::Unsigned(number) => match number_form(wanted, spec.hex_debug) {
             None => Err(RenderFault::NotImplemented),
             Some(form) => refused(put_number(out, form, spec, false, number)),
         },
-        View::Truth(truth) => render_truth(out, t, truth, spec),
-        View::Character(c) => render_character(out, t, c, spec),
-        View::Text(text) => render_text(out, t, '"', text, spec),
+        View::Truth(truth) => render_truth(out, wanted, truth, spec),
+        View::Character(c) => render_character(out, wanted, c, spec),
+        View::Text(text) => render_text(out, wanted, '"', text, spec),
         View::Plain(text) => refused(put_text(out, text)),
         View::NotImplemented => Err(RenderFault::NotImplemented),
         View::Failed => Err(RenderFault::Failed),

@@ -6,6 +6,8 @@ ghost use Rattle.interpolator_render.specs.Digits.{digit_text};
 ghost use Rattle.interpolator_render.specs.Exponent.{exponent_of, nearest, rounding, scientific};
 ghost use Rattle.interpolator_render.specs.Exponent.{significant_digits};
 
+use crate::digits::GREATEST_U64;
+
 /// The powers of ten below 2 ^ 128.
 static POWERS: [u128; 39] = [
     1,
@@ -74,7 +76,7 @@ fn divided(n: u128, unit: u128) -> (u128, u128)
     ensures quotient { result.0 ≡ n / unit }
     ensures remainder { result.1 ≡ n % unit }
 {
-    if n <= 0xffff_ffff_ffff_ffff && unit <= 0xffff_ffff_ffff_ffff {
+    if n <= GREATEST_U64 && unit <= GREATEST_U64 {
         let (n, unit) = (n as u64, unit as u64);
         ((n / unit) as u128, (n % unit) as u128)
     } else {

@@ -31,8 +31,8 @@ pub trait Value {
     ghost shows: { Self → Trait → Spec → Shown };
 
     /// What the value shows under a trait and a spec.
-    fn view(&self, t: Trait, spec: &Spec) -> View<'_>
-        ensures shown { shown_by result ≡ shows self.now t spec.now }
+    fn view(&self, wanted: Trait, spec: &Spec) -> View<'_>
+        ensures shown { shown_by result ≡ shows self.now wanted spec.now }
         ensures in_range { IsInRange (shown_by result) };
 }
 

@@ -18,7 +18,7 @@ use Rattle.interpolator_syntax.proofs.FrontLemmas.{front_after}
 use Rattle.interpolator_syntax.proofs.LongestLemmas.{at_same, front_longest, longest_front}
 use Rattle.interpolator_syntax.proofs.GrammarPartLemmas.{ok_pair, Says, Stripped, stripped}
 use Rattle.interpolator_syntax.proofs.GrammarSpecLemmas.{law_spec}
-use Rattle.interpolator_syntax.proofs.KeepLemmas.{still}
+use Rattle.interpolator_syntax.proofs.LocalLemmas.{still}
 
 -- ---- the name
 

@@ -25,9 +25,10 @@ use Rattle.interpolator_syntax.proofs.GrammarOptionLemmas.{law_where, law_bound}
 use Rattle.interpolator_syntax.proofs.GrammarPartLemmas.{ok_pair, Says, Agrees, Stripped, stripped}
 use Rattle.interpolator_syntax.proofs.GrammarPartLemmas.{strip_not}
 use Rattle.interpolator_syntax.proofs.GroupReaderLemmas.{reads_group}
-use Rattle.interpolator_syntax.proofs.KeepLemmas.{Setting, stays, elsewhere, IsSettled, Reads}
-use Rattle.interpolator_syntax.proofs.KeepLemmas.{keeps_stay, keeps_strip, keeps_strip_at, keeps_on}
-use Rattle.interpolator_syntax.proofs.KeepLemmas.{reads_then}
+use Rattle.interpolator_syntax.proofs.LocalLemmas.{Setting, stays, elsewhere, IsSettled, Reads}
+use Rattle.interpolator_syntax.proofs.LocalLemmas.{local_stay, local_strip, local_strip_at}
+use Rattle.interpolator_syntax.proofs.LocalLemmas.{local_on}
+use Rattle.interpolator_syntax.proofs.LocalLemmas.{reads_then}
 use Rattle.interpolator_syntax.proofs.LocalityLemmas.{takes_then, Guarded}
 use Rattle.interpolator_syntax.proofs.LongestLemmas.{at_same}
 use Rattle.interpolator_syntax.proofs.SimpleReaderLemmas.{reads_give, law_flag, Law, law_then}
@@ -113,14 +114,14 @@ module _ (s : Setting) where
   law_points = record {
     agrees = agrees_points;
     reads = record {
-      keeps = λ a.
+      is_local = λ a.
           let b = elsewhere s a in
-          keeps_strip s stays point a.place a.text (first_point a) (first_point b)
-          (keeps_stay s stays a None)
+          local_strip s stays point a.place a.text (first_point a) (first_point b)
+          (local_stay s stays a None)
           (λ rest e t.
-          keeps_strip_at s stays a point rest.place rest.text (second_point a) (second_point b)
-          (point_settled a.text rest.text e) (keeps_stay s stays a None)
-          (λ end f u. keeps_on reads_inclusive a end (takes_then a rest end t u)));
+          local_strip_at s stays a point rest.place rest.text (second_point a) (second_point b)
+          (point_settled a.text rest.text e) (local_stay s stays a None)
+          (λ end f u. local_on reads_inclusive a end (takes_then a rest end t u)));
     };
   }
 

@@ -27,9 +27,9 @@ use Rattle.interpolator_syntax.proofs.GrammarNumberLemmas.{integers_decide}
 use Rattle.interpolator_syntax.proofs.GrammarPartLemmas.{ok_pair, Says, Agrees, agrees_then}
 use Rattle.interpolator_syntax.proofs.GrammarPartLemmas.{agrees_same, agrees_placed, agrees_run}
 use Rattle.interpolator_syntax.proofs.GrammarPartLemmas.{Stripped, stripped, strip_lies, strip_not}
-use Rattle.interpolator_syntax.proofs.KeepLemmas.{Setting, stays, elsewhere, IsSettled, Keeps}
-use Rattle.interpolator_syntax.proofs.KeepLemmas.{keeps_stay, keeps_through, keeps_either}
-use Rattle.interpolator_syntax.proofs.KeepLemmas.{keeps_first, keeps_strip, keeps_on}
+use Rattle.interpolator_syntax.proofs.LocalLemmas.{Setting, stays, elsewhere, IsSettled, IsLocal}
+use Rattle.interpolator_syntax.proofs.LocalLemmas.{local_stay, local_through, local_either}
+use Rattle.interpolator_syntax.proofs.LocalLemmas.{local_first, local_strip, local_on}
 use Rattle.interpolator_syntax.proofs.LocalityLemmas.{Takes, takes_none}
 use Rattle.interpolator_syntax.proofs.SimpleReaderLemmas.{reads_run, Law, law_same}
 
@@ -86,14 +86,14 @@ pub law_where :
 law_where {s} {A} {move} passes {read} {other} {part} none law = record {
   agrees = agrees_where_first passes read part law.agrees;
   reads = record {
-    keeps = λ a.
+    is_local = λ a.
         let b = elsewhere s a in
-        let absent : Keeps s move a (Ok (None, a)) (Ok (None, b)) =
+        let absent : IsLocal s move a (Ok (None, a)) (Ok (None, b)) =
         (takes_none a, λ settled. ok_pair (sym none) refl) in
-        keeps_first s move a.place a.text (if_passes passes read a) (if_passes passes other b)
+        local_first s move a.place a.text (if_passes passes read a) (if_passes passes other b)
         absent
         (λ c rest t.
-        keeps_either s move a (passes c) (read a) (other b) _ _ (law.reads.keeps a) absent);
+        local_either s move a (passes c) (read a) (other b) _ _ (law.reads.is_local a) absent);
   };
 }
 
@@ -152,12 +152,12 @@ module _
 
   module _ (s : Setting) (tells : TellsPlace wrong) where
     -- the number of what was read at a up to b, where l is the result elsewhere
-    keeps_told :
+    local_told :
         (a b : At) (l : Result (Option A × At) Fault) (o : Result A NumberError) → Takes a b
         → (IsSettled s b.text → l ≡ told_or wrong (a.place + s.by) o (elsewhere s b))
-        → Keeps s stays a (told_or wrong a.place o b) l
-    keeps_told a b l (Ok n) t e = (t, e)
-    keeps_told a b l (Err kind) t e = (
+        → IsLocal s stays a (told_or wrong a.place o b) l
+    local_told a b l (Ok n) t e = (t, e)
+    local_told a b l (Err kind) t e = (
       tt,
       λ from. omega (arith, from, tells.is kind a.place),
       λ from. omega (arith, tells.is kind a.place),
@@ -182,12 +182,12 @@ module _
               agrees_then (agrees_run Number s.start) (λ cs.
               agrees_same (same p (read cs)) (agrees_spelled p cs)));
           reads = record {
-            keeps = λ a.
+            is_local = λ a.
                 let digits = reads_run s (in_class Number) in
-                keeps_through s stays stays a _ _ (λ cs. tell a.place (read cs))
-                (λ cs. tell (a.place + s.by) (read cs)) (digits.keeps a)
+                local_through s stays stays a _ _ (λ cs. tell a.place (read cs))
+                (λ cs. tell (a.place + s.by) (read cs)) (digits.is_local a)
                 (λ cs b l t e. rw (same a.place (read cs) b)
-                (keeps_told a b l (read cs) t
+                (local_told a b l (read cs) t
                 (λ settled. e settled ∙ same (a.place + s.by) (read cs) (elsewhere s b))));
           };
         }
@@ -221,10 +221,10 @@ module _ (s : Setting) where
       record {
         agrees = agrees_if_point _ _ number.agrees;
         reads = record {
-          keeps = λ a.
-              keeps_strip s stays point a.place a.text
+          is_local = λ a.
+              local_strip s stays point a.place a.text
               (if_point (number_at invalid_precision s.start) a)
               (if_point (number_at invalid_precision (s.start + s.by)) (elsewhere s a))
-              (keeps_stay s stays a None) (λ rest e t. keeps_on number.reads a rest t);
+              (local_stay s stays a None) (λ rest e t. local_on number.reads a rest t);
         };
       }

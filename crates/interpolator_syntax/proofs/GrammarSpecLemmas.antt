@@ -26,9 +26,9 @@ use Rattle.interpolator_syntax.proofs.GrammarOptionLemmas.{law_width, law_precis
 use Rattle.interpolator_syntax.proofs.GrammarPartLemmas.{ok_pair, Says, Agrees, agrees_then}
 use Rattle.interpolator_syntax.proofs.GrammarPartLemmas.{lies_here}
 use Rattle.interpolator_syntax.proofs.GrammarTraitLemmas.{law_trait}
-use Rattle.interpolator_syntax.proofs.KeepLemmas.{Setting, still, step_moved, stays, elsewhere}
-use Rattle.interpolator_syntax.proofs.KeepLemmas.{IsSettled, nothing_more, Keeps, keeps_stay}
-use Rattle.interpolator_syntax.proofs.KeepLemmas.{keeps_either, keeps_then}
+use Rattle.interpolator_syntax.proofs.LocalLemmas.{Setting, still, step_moved, stays, elsewhere}
+use Rattle.interpolator_syntax.proofs.LocalLemmas.{IsSettled, nothing_more, IsLocal, local_stay}
+use Rattle.interpolator_syntax.proofs.LocalLemmas.{local_either, local_then}
 use Rattle.interpolator_syntax.proofs.LocalityLemmas.{stands, takes_none, takes_one}
 use Rattle.interpolator_syntax.proofs.LongestLemmas.{at_same}
 use Rattle.interpolator_syntax.proofs.SimpleReaderLemmas.{Law, law_then, law_ends, law_letter}
@@ -160,19 +160,19 @@ module _ (start : ℕ) where
 
 module _ (s : Setting) where
   -- a second character decides whether the first is a fill
-  keeps_fill :
+  local_fill :
       (p c d : ℕ) (ds : List ℕ)
-      → Keeps s stays (stands p (c ∷ d ∷ ds)) (fill_at (stands p (c ∷ d ∷ ds)))
+      → IsLocal s stays (stands p (c ∷ d ∷ ds)) (fill_at (stands p (c ∷ d ∷ ds)))
       (fill_at (elsewhere s (stands p (c ∷ d ∷ ds))))
-  keeps_fill p c d ds =
+  local_fill p c d ds =
       let a = stands p (c ∷ d ∷ ds) in
-      keeps_either s stays a (is_alignment d) _ _ _ _
-      (keeps_either s stays a (eqb c open_brace) _ _ _ _
+      local_either s stays a (is_alignment d) _ _ _ _
+      (local_either s stays a (eqb c open_brace) _ _ _ _
       (tt, λ from. omega arith, λ from. omega arith, λ none. refl) (
         takes_one p c (d ∷ ds),
         λ t. ok_pair refl (at_same (step_moved p s.by (len_utf8 c)) refl),
       ))
-      (keeps_stay s stays a None)
+      (local_stay s stays a None)
 
   -- a text that begins with a closing brace is not read
   not_read :
@@ -189,28 +189,28 @@ module _ (s : Setting) where
   one_left c b (inl (inr guard)) = absurd guard
   one_left c b (inr e) = ap (λ cs. spec_of (s.start + s.by) b (c ∷ cs)) e
 
-  keeps_spec :
+  local_spec :
       (p : ℕ) (cs : List ℕ)
-      → Keeps s (moved_request s.by) (stands p cs) (spec_of s.start (stands p cs) cs)
+      → IsLocal s (moved_request s.by) (stands p cs) (spec_of s.start (stands p cs) cs)
       (spec_of (s.start + s.by) (elsewhere s (stands p cs)) (cs ++ s.more))
-  keeps_spec p [] =
+  local_spec p [] =
       let b = elsewhere s (stands p []) in
       (takes_none (stands p []), λ t. ap (spec_of (s.start + s.by) b) (nothing_more s t))
-  keeps_spec p (c ∷ []) =
+  local_spec p (c ∷ []) =
       let a = stands p (c ∷ []) in (takes_none a, one_left c (elsewhere s a))
-  keeps_spec p (c ∷ d ∷ ds) =
+  local_spec p (c ∷ d ∷ ds) =
       let a = stands p (c ∷ d ∷ ds) in
-      keeps_either s (moved_request s.by) a (eqb c close_brace) _ _ _ _
-      (keeps_stay s (moved_request s.by) a plain_display)
-      (keeps_then s stays (moved_request s.by) a _ _ (spec_from_alignment s.start)
-      (spec_from_alignment (s.start + s.by)) (keeps_fill p c d ds)
+      local_either s (moved_request s.by) a (eqb c close_brace) _ _ _ _
+      (local_stay s (moved_request s.by) a plain_display)
+      (local_then s stays (moved_request s.by) a _ _ (spec_from_alignment s.start)
+      (spec_from_alignment (s.start + s.by)) (local_fill p c d ds)
       (λ filled b t.
-      let law = law_from_alignment s filled in law.reads.keeps b))
+      let law = law_from_alignment s filled in law.reads.is_local b))
 
   pub law_spec :
       Law s (moved_request s.by) (spec_after s.start) (spec_after (s.start + s.by)) (spec s.start)
   unfolding spec_after
   law_spec = record {
     agrees = agrees_spec s.start;
-    reads = record { keeps = λ a. keeps_spec a.place a.text };
+    reads = record { is_local = λ a. local_spec a.place a.text };
   }

@@ -1,4 +1,4 @@
--- A trait is its text, and the reverse; why a text begins none; and what its reader keeps.
+-- A trait is its text, and the reverse; why a text begins none; and its reader is local.
 use Rattle.std.proofs.Common.{◌≡◌, ◌≢◌, ℕ, ◌+◌, Bool, true, false, eqb, All, List, [], ◌∷◌, ◌++◌}
 use Rattle.std.proofs.Common.{arith, refl, ap, ◌∙◌, sym, Result, Ok, Err, Option, Some, None}
 use Rattle.std.proofs.Common.{inl, inr, eqb-true, get_or, ltb, cond}
@@ -23,9 +23,10 @@ use Rattle.interpolator_syntax.proofs.GrammarPartLemmas.{ok_pair, Says, Agrees, 
 use Rattle.interpolator_syntax.proofs.GrammarPartLemmas.{lies_cons, lies_end, Stripped}
 use Rattle.interpolator_syntax.proofs.GrammarPartLemmas.{stripped, strip_not}
 use Rattle.interpolator_syntax.proofs.CaseLemmas.{none_some, some_same}
-use Rattle.interpolator_syntax.proofs.KeepLemmas.{Setting, stays, elsewhere, Keeps}
-use Rattle.interpolator_syntax.proofs.KeepLemmas.{keeps_stay, keeps_past, keeps_either, keeps_first}
-use Rattle.interpolator_syntax.proofs.KeepLemmas.{keeps_strip}
+use Rattle.interpolator_syntax.proofs.LocalLemmas.{Setting, stays, elsewhere, IsLocal}
+use Rattle.interpolator_syntax.proofs.LocalLemmas.{local_stay, local_past, local_either}
+use Rattle.interpolator_syntax.proofs.LocalLemmas.{local_first}
+use Rattle.interpolator_syntax.proofs.LocalLemmas.{local_strip}
 use Rattle.interpolator_syntax.proofs.LocalityLemmas.{Takes}
 use Rattle.interpolator_syntax.proofs.SimpleReaderLemmas.{Law}
 
@@ -176,33 +177,33 @@ module _ (start : ℕ) (flagged : Bool) where
     ];
   }
 
--- ---- what its reader keeps
+-- ---- its reader is local
 
 module _ (s : Setting) where
   module _ (a rest : At) (t : Takes a rest) where
-    keeps_hexadecimal :
+    local_hexadecimal :
         (slot : Trait) (hex : HexDebug)
-        → Keeps s stays a (hexadecimal slot hex rest (strip question_mark rest))
+        → IsLocal s stays a (hexadecimal slot hex rest (strip question_mark rest))
         (hexadecimal slot hex (elsewhere s rest) (strip question_mark (elsewhere s rest)))
-    keeps_hexadecimal slot hex =
-        keeps_past s stays a rest _ _ _ t (λ settled. refl)
-        (keeps_strip s stays question_mark rest.place rest.text (hexadecimal slot hex rest)
-        (hexadecimal slot hex (elsewhere s rest)) (keeps_stay s stays rest (trait_alone slot))
+    local_hexadecimal slot hex =
+        local_past s stays a rest _ _ _ t (λ settled. refl)
+        (local_strip s stays question_mark rest.place rest.text (hexadecimal slot hex rest)
+        (hexadecimal slot hex (elsewhere s rest)) (local_stay s stays rest (trait_alone slot))
         (λ end e u. (u, λ settled. refl)))
 
-    keeps_lettered :
+    local_lettered :
         (c : ℕ) (o : Option Trait)
-        → Keeps s stays a (letter_trait c a.place rest o)
+        → IsLocal s stays a (letter_trait c a.place rest o)
         (letter_trait c (a.place + s.by) (elsewhere s rest) o)
-    keeps_lettered c (Some slot) = (t, λ settled. refl)
-    keeps_lettered c None =
+    local_lettered c (Some slot) = (t, λ settled. refl)
+    local_lettered c None =
         by_test (eqb c lower_p) _ _ _ _ (tt, λ from. omega arith, λ from. omega arith, λ none. refl)
         (tt, λ from. omega arith, λ from. omega arith, λ none. refl)
       where
         by_test :
-            (b : Bool) (f g h k : Fault) → Keeps s (stays {A = Wanted}) a (Err f) (Err h)
-            → Keeps s (stays {A = Wanted}) a (Err g) (Err k)
-            → Keeps s (stays {A = Wanted}) a (Err (cond b f g)) (Err (cond b h k))
+            (b : Bool) (f g h k : Fault) → IsLocal s (stays {A = Wanted}) a (Err f) (Err h)
+            → IsLocal s (stays {A = Wanted}) a (Err g) (Err k)
+            → IsLocal s (stays {A = Wanted}) a (Err (cond b f g)) (Err (cond b h k))
         by_test true f g h k l m = l
         by_test false f g h k l m = m
 
@@ -213,19 +214,19 @@ module _ (s : Setting) where
   law_trait flagged = record {
     agrees = agrees_trait s.start flagged;
     reads = record {
-      keeps = λ a.
+      is_local = λ a.
           let display = trait_alone traits.Display in
-          keeps_first s stays a.place a.text (trait_first s.start flagged a)
+          local_first s stays a.place a.text (trait_first s.start flagged a)
           (trait_first (s.start + s.by) flagged (elsewhere s a))
-          (keeps_either s stays a flagged _ _ _ _
+          (local_either s stays a flagged _ _ _ _
           (tt, λ from. omega arith, λ from. omega arith, λ none. refl)
-          (keeps_stay s stays a display))
+          (local_stay s stays a display))
           (λ c rest t.
-          keeps_either s stays a (eqb c close_brace) _ _ _ _ (keeps_stay s stays a display)
-          (keeps_either s stays a (eqb c lower_x) _ _ _ _
-          (keeps_hexadecimal a rest t traits.LowerHex hex_debugs.Lower)
-          (keeps_either s stays a (eqb c upper_x) _ _ _ _
-          (keeps_hexadecimal a rest t traits.UpperHex hex_debugs.Upper)
-          (keeps_lettered a rest t c (trait_letter c)))));
+          local_either s stays a (eqb c close_brace) _ _ _ _ (local_stay s stays a display)
+          (local_either s stays a (eqb c lower_x) _ _ _ _
+          (local_hexadecimal a rest t traits.LowerHex hex_debugs.Lower)
+          (local_either s stays a (eqb c upper_x) _ _ _ _
+          (local_hexadecimal a rest t traits.UpperHex hex_debugs.Upper)
+          (local_lettered a rest t c (trait_letter c)))));
     };
   }

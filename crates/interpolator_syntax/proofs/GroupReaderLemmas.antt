@@ -1,4 +1,4 @@
--- What the reader of a group keeps.
+-- The reader of a group is local.
 use Rattle.std.proofs.Common.{◌≡◌, ◌≢◌, ℕ, zero, suc, ◌+◌, eqb, List, [], ◌∷◌, ◌++◌, length, arith}
 use Rattle.std.proofs.Common.{refl, ap, ◌∙◌, sym, Some, None, append_assoc, Option, append-nil}
 use Rattle.interpolator_syntax.specs.At.{At, size}
@@ -10,8 +10,8 @@ use Rattle.interpolator_syntax.specs.Moved.{moved_group}
 use Rattle.interpolator_syntax.specs.declared.class.Class.TheVariants.{Hash}
 use Rattle.interpolator_syntax.proofs.GrammarGroupLemmas.{IsClose, Closes, close_says, only_close}
 use Rattle.interpolator_syntax.proofs.GrammarGroupLemmas.{only_no_close, close_size}
-use Rattle.interpolator_syntax.proofs.KeepLemmas.{Setting, elsewhere, Keeps, Reads, keeps_past}
-use Rattle.interpolator_syntax.proofs.KeepLemmas.{keeps_either, keeps_first, reads_then}
+use Rattle.interpolator_syntax.proofs.LocalLemmas.{Setting, elsewhere, IsLocal, Reads, local_past}
+use Rattle.interpolator_syntax.proofs.LocalLemmas.{local_either, local_first, reads_then}
 use Rattle.interpolator_syntax.proofs.LocalityLemmas.{Takes, stands}
 use Rattle.interpolator_syntax.proofs.SimpleReaderLemmas.{reads_span}
 
@@ -61,18 +61,18 @@ close_takes k a inner q h = record {
 }
 
 module _ (s : Setting) where
-  keeps_close :
+  local_close :
       (k : ℕ) (a : At) (o : Option (List ℕ × At)) → Closes k a.place a.text o
-      → Keeps s (moved_group s.by) a (closed_group s.start a.place o)
+      → IsLocal s (moved_group s.by) a (closed_group s.start a.place o)
       (closed_group (s.start + s.by) (a.place + s.by)
       (close_from k (a.place + s.by) (a.text ++ s.more)))
-  keeps_close k a None none = (
+  local_close k a None none = (
     tt,
     λ from. omega arith,
     λ from. omega arith,
     λ no_more. rw (no_more, append-nil a.text, only_no_close k (a.place + s.by) a.text none) refl,
   )
-  keeps_close k a (Some w) is = (
+  local_close k a (Some w) is = (
     close_takes k a w.0 w.1 is,
     λ t.
         ap (closed_group (s.start + s.by) (a.place + s.by))
@@ -82,15 +82,15 @@ module _ (s : Setting) where
   reads_bracket :
       (k : ℕ) → Reads s (moved_group s.by) (bracket_at s.start k) (bracket_at (s.start + s.by) k)
   reads_bracket k = record {
-    keeps = λ a.
+    is_local = λ a.
         let move = moved_group s.by in
-        keeps_first s move a.place a.text (bracket_first s.start k a)
+        local_first s move a.place a.text (bracket_first s.start k a)
         (bracket_first (s.start + s.by) k (elsewhere s a))
         (tt, λ from. omega arith, λ from. omega arith, λ none. refl)
         (λ c rest t.
-        keeps_either s move a (eqb c open_bracket) _ _ _ _
-        (keeps_past s move a rest _ _ _ t (λ settled. refl)
-        (keeps_close k rest _ (close_says k rest.place rest.text)))
+        local_either s move a (eqb c open_bracket) _ _ _ _
+        (local_past s move a rest _ _ _ t (λ settled. refl)
+        (local_close k rest _ (close_says k rest.place rest.text)))
         (tt, λ from. omega arith, λ from. omega arith, λ none. refl));
   }
 

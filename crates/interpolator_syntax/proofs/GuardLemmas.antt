@@ -28,7 +28,7 @@ use Rattle.interpolator_syntax.proofs.CaseLemmas.{none_some, some_same}
 use Rattle.interpolator_syntax.proofs.GrammarArgumentLemmas.{argument_is}
 use Rattle.interpolator_syntax.proofs.GrammarListLemmas.{law_range, law_group}
 use Rattle.interpolator_syntax.proofs.GrammarOptionLemmas.{law_width, law_precision}
-use Rattle.interpolator_syntax.proofs.KeepLemmas.{Setting, still}
+use Rattle.interpolator_syntax.proofs.LocalLemmas.{Setting, still}
 use Rattle.interpolator_syntax.proofs.SimpleReaderLemmas.{Law, law_takes, law_letter, law_flag}
 use Rattle.interpolator_syntax.proofs.LocalityLemmas.{Takes, takes_none, takes_then, size-append}
 use Rattle.interpolator_syntax.proofs.LocalityLemmas.{takes_shorter}

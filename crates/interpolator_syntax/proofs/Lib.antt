@@ -19,8 +19,8 @@ pub mod GrammarTraitLemmas
 pub mod GroupLemmas
 pub mod GroupReaderLemmas
 pub mod GuardLemmas
-pub mod HandedLemmas
-pub mod KeepLemmas
+pub mod TokenTextLemmas
+pub mod LocalLemmas
 pub mod LocalityLemmas
 pub mod LongestLemmas
 pub mod MovePieceLemmas

@@ -13,7 +13,7 @@ use Rattle.interpolator_syntax.specs.Faults.{Fault}
 use Rattle.interpolator_syntax.specs.Grammar.{from_place}
 use Rattle.interpolator_syntax.specs.Moved.{moved_at, moved_argument, moved_piece_kind, moved_piece}
 use Rattle.interpolator_syntax.proofs.LongestLemmas.{at_same}
-use Rattle.interpolator_syntax.proofs.KeepLemmas.{step_moved}
+use Rattle.interpolator_syntax.proofs.LocalLemmas.{step_moved}
 use Rattle.interpolator_syntax.proofs.ReaderLemmas.{moved_read, moves_argument}
 
 module _ (by : ℕ) where

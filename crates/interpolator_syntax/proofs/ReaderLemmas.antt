@@ -1,4 +1,4 @@
--- What the reader of an argument keeps: what it takes, where its faults lie, and what it returns
+-- The reader of an argument is local: what it takes, where its faults lie, and what it returns
 -- elsewhere.
 use Rattle.std.proofs.Common.{◌≡◌, ℕ, ◌+◌, ◌≤◌, List, [], arith, refl, ap, ◌∙◌, sym, Result, Ok}
 use Rattle.std.proofs.Common.{Err, None, inl, inr, append-nil}
@@ -15,9 +15,10 @@ use Rattle.interpolator_syntax.specs.declared.class.Class.TheVariants.{WhiteSpac
 use Rattle.interpolator_syntax.proofs.GrammarLemmas.{same_ok}
 use Rattle.interpolator_syntax.proofs.GrammarPartLemmas.{ok_pair}
 use Rattle.interpolator_syntax.proofs.GrammarSpecLemmas.{moved_request, law_spec}
-use Rattle.interpolator_syntax.proofs.KeepLemmas.{Setting, elsewhere, KeepsValue, KeepsFault, Reads}
-use Rattle.interpolator_syntax.proofs.KeepLemmas.{keeps_stay, keeps_strip, keeps_on, value_kept}
-use Rattle.interpolator_syntax.proofs.KeepLemmas.{fault_kept, reads_then}
+use Rattle.interpolator_syntax.proofs.LocalLemmas.{Setting, elsewhere, IsLocalValue, IsLocalFault}
+use Rattle.interpolator_syntax.proofs.LocalLemmas.{Reads}
+use Rattle.interpolator_syntax.proofs.LocalLemmas.{local_stay, local_strip, local_on, value_local}
+use Rattle.interpolator_syntax.proofs.LocalLemmas.{fault_local, reads_then}
 use Rattle.interpolator_syntax.proofs.LocalityLemmas.{Takes, Guarded, with_more}
 use Rattle.interpolator_syntax.proofs.LongestLemmas.{at_same}
 use Rattle.interpolator_syntax.proofs.SimpleReaderLemmas.{reads_give, reads_here, reads_span}
@@ -25,18 +26,18 @@ use Rattle.interpolator_syntax.proofs.SimpleReaderLemmas.{reads_give, reads_here
 module _ (s : Setting) where
   reads_asked : Reads s (moved_request s.by) (asked_at s.start) (asked_at (s.start + s.by))
   reads_asked = record {
-    keeps = λ a.
+    is_local = λ a.
         let b = elsewhere s a in
         let move = moved_request s.by in
-        keeps_strip s move close_brace a.place a.text
+        local_strip s move close_brace a.place a.text
         (λ o. asked_by s.start a o (strip colon a))
         (λ o. asked_by (s.start + s.by) b o (strip colon b))
-        (keeps_strip s move colon a.place a.text (asked_by s.start a None)
+        (local_strip s move colon a.place a.text (asked_by s.start a None)
         (asked_by (s.start + s.by) b None)
         (tt, λ from. omega arith, λ from. omega arith, λ none. refl)
         (λ rest e t.
-        let law = law_spec s in keeps_on law.reads a rest t))
-        (λ rest e t. keeps_stay s move a plain_display);
+        let law = law_spec s in local_on law.reads a rest t))
+        (λ rest e t. local_stay s move a plain_display);
   }
 
   -- the request after a name at p, with that name
@@ -58,21 +59,21 @@ module _ (s : Setting) where
       (λ asked. give (argument name (p + s.by) asked)) reads_asked
       (λ asked. reads_give s (moved_argument s.by) (argument name p asked)))))
 
--- ---- what an argument keeps
+-- ---- an argument is local
 
 module _ (by : ℕ) (more : List ℕ) (a : At) where
   abbrev setting : Setting
   setting = record { start = a.place; by = by; more = more }
 
   read_argument : (x : Argument) (q : At) → argument_at a ≡ Ok (x, q)
-      → KeepsValue setting (moved_argument by) a x q (argument_at (elsewhere setting a))
+      → IsLocalValue setting (moved_argument by) a x q (argument_at (elsewhere setting a))
   unfolding argument_at
-  read_argument = value_kept (reads_argument setting) a
+  read_argument = value_local (reads_argument setting) a
 
   refused_argument : (f : Fault) → argument_at a ≡ Err f
-      → KeepsFault setting a f (argument_at (elsewhere setting a))
+      → IsLocalFault setting a f (argument_at (elsewhere setting a))
   unfolding argument_at
-  refused_argument = fault_kept (reads_argument setting) a
+  refused_argument = fault_local (reads_argument setting) a
 
 -- what an argument takes is a front of the text
 pub argument_takes : (a : At) (x : Argument) (q : At) → argument_at a ≡ Ok (x, q) → Takes a q

@@ -1,4 +1,4 @@
--- The law of a reader: it agrees with its part, and keeps what every reader keeps; and the readers
+-- The law of a reader: it agrees with its part, and is local; and the readers
 -- that the parts of an argument are made of.
 use Rattle.std.proofs.Common.{◌≡◌, ℕ, ◌+◌, Bool, false, List, [], ◌∷◌, ◌++◌, arith, refl, ap, ◌∙◌}
 use Rattle.std.proofs.Common.{Result, Option, Some, None, inl, inr, append-nil}
@@ -12,9 +12,9 @@ use Rattle.interpolator_syntax.specs.Faults.{Fault}
 use Rattle.interpolator_syntax.specs.declared.class.Class.{Class}
 use Rattle.interpolator_syntax.proofs.GrammarPartLemmas.{ok_pair, Agrees, agrees_then, agrees_ends}
 use Rattle.interpolator_syntax.proofs.GrammarPartLemmas.{agrees_same, agrees_letter, agrees_flag}
-use Rattle.interpolator_syntax.proofs.KeepLemmas.{Setting, step_moved, stays, elsewhere, IsSettled}
-use Rattle.interpolator_syntax.proofs.KeepLemmas.{Keeps, Reads, keeps_stay, keeps_first}
-use Rattle.interpolator_syntax.proofs.KeepLemmas.{keeps_strip, value_kept, reads_then}
+use Rattle.interpolator_syntax.proofs.LocalLemmas.{Setting, step_moved, stays, elsewhere, IsSettled}
+use Rattle.interpolator_syntax.proofs.LocalLemmas.{IsLocal, Reads, local_stay, local_first}
+use Rattle.interpolator_syntax.proofs.LocalLemmas.{local_strip, value_local, reads_then}
 use Rattle.interpolator_syntax.proofs.LocalityLemmas.{Takes, takes_after}
 use Rattle.interpolator_syntax.proofs.LongestLemmas.{at_same}
 
@@ -47,14 +47,14 @@ module _ (s : Setting) where
   -- ---- the readers
 
   pub reads_give : {A : Type 0} (move : A → A) (x : A) → Reads s move (give x) (give (move x))
-  reads_give move x = record { keeps = λ a. keeps_stay s move a x }
+  reads_give move x = record { is_local = λ a. local_stay s move a x }
 
   pub reads_here : Reads s (λ p. p + s.by) here here
-  reads_here = record { keeps = λ a. keeps_stay s (λ p. p + s.by) a a.place }
+  reads_here = record { is_local = λ a. local_stay s (λ p. p + s.by) a a.place }
 
   pub reads_span : (class : Class) → Reads s stays (span class) (span class)
   reads_span class = record {
-    keeps = λ a. (
+    is_local = λ a. (
       takes_after (in_class class) a,
       λ t.
           let same = after_elsewhere (in_class class) a t in ok_pair same.0 same.1,
@@ -65,17 +65,17 @@ module _ (s : Setting) where
     abbrev there : List ℕ → At → Result (List ℕ × At) Fault
     there cs b = run_before (s.start + s.by) cs b b.text
 
-    keeps_run :
+    local_run :
         (rest : List ℕ) → after_of passes a.text ≡ rest
-        → Keeps s stays a (run_before s.start (front_of passes a.text) (after passes a) rest)
+        → IsLocal s stays a (run_before s.start (front_of passes a.text) (after passes a) rest)
         (run passes (s.start + s.by) (elsewhere s a))
-    keeps_run [] e = (
+    local_run [] e = (
       tt,
       λ from. omega arith,
       λ from. omega arith,
       λ none. rw (none, append-nil a.text, e) refl,
     )
-    keeps_run (d ∷ ds) e = (
+    local_run (d ∷ ds) e = (
       takes_after passes a,
       λ t.
           let same = after_elsewhere passes a t in
@@ -85,11 +85,11 @@ module _ (s : Setting) where
 
   pub reads_run :
       (passes : ℕ → Bool) → Reads s stays (run passes s.start) (run passes (s.start + s.by))
-  reads_run passes = record { keeps = λ a. keeps_run passes a (after_of passes a.text) refl }
+  reads_run passes = record { is_local = λ a. local_run passes a (after_of passes a.text) refl }
 
 -- ---- the law of a reader
 
--- it agrees with a part, and keeps what every reader of an argument keeps
+-- it agrees with a part, and is local
 pub record Law (s : Setting) {A : Type 0} (move : A → A) (read other : Reader A) (part : Part A)
     : Type 0 where
   pub agrees : Agrees read part
@@ -114,7 +114,7 @@ pub law_same :
 law_same {s} {A} {move} same same_there law = record {
   agrees = agrees_same same law.agrees;
   reads = record {
-    keeps = λ a. rw (same a, same_there (elsewhere s a)) (law.reads.keeps a);
+    is_local = λ a. rw (same a, same_there (elsewhere s a)) (law.reads.is_local a);
   };
 }
 
@@ -122,7 +122,7 @@ law_same {s} {A} {move} same same_there law = record {
 pub law_takes :
     {s : Setting} {A : Type 0} {move : A → A} {read other : Reader A} {part : Part A}
     → Law s move read other part → (a : At) (x : A) (q : At) → part.is a x q → Takes a q
-law_takes law a x q is = (value_kept law.reads a x q (law.agrees.only a q x is)).0
+law_takes law a x q is = (value_local law.reads a x q (law.agrees.only a q x is)).0
 
 module _ (s : Setting) where
   pub law_ends :
@@ -131,22 +131,22 @@ module _ (s : Setting) where
 
   -- a letter of any table
   module _ {A : Type 0} (table : ℕ → Option A) (absent : A) where
-    keeps_letter :
+    local_letter :
         (a rest : At) → Takes a rest → (o : Option A)
-        → Keeps s stays a (read_or_stay absent a rest o)
+        → IsLocal s stays a (read_or_stay absent a rest o)
         (read_or_stay absent (elsewhere s a) (elsewhere s rest) o)
-    keeps_letter a rest t None = keeps_stay s stays a absent
-    keeps_letter a rest t (Some x) = (t, λ settled. refl)
+    local_letter a rest t None = local_stay s stays a absent
+    local_letter a rest t (Some x) = (t, λ settled. refl)
 
     pub law_letter :
         Law s stays (read_letter table absent) (read_letter table absent) (letter table absent)
     law_letter = record {
       agrees = agrees_letter table absent;
       reads = record {
-        keeps = λ a.
-            keeps_first s stays a.place a.text (letter_first table absent a)
-            (letter_first table absent (elsewhere s a)) (keeps_stay s stays a absent)
-            (λ c rest t. keeps_letter a rest t (table c));
+        is_local = λ a.
+            local_first s stays a.place a.text (letter_first table absent a)
+            (letter_first table absent (elsewhere s a)) (local_stay s stays a absent)
+            (λ c rest t. local_letter a rest t (table c));
       };
     }
 
@@ -154,8 +154,8 @@ module _ (s : Setting) where
   law_flag c = record {
     agrees = agrees_flag c;
     reads = record {
-      keeps = λ a.
-          keeps_strip s stays c a.place a.text (was_there a) (was_there (elsewhere s a))
-          (keeps_stay s stays a false) (λ rest e t. (t, λ settled. refl));
+      is_local = λ a.
+          local_strip s stays c a.place a.text (was_there a) (was_there (elsewhere s a))
+          (local_stay s stays a false) (λ rest e t. (t, λ settled. refl));
     };
   }

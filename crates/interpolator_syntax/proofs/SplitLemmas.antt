@@ -28,7 +28,7 @@ use Rattle.interpolator_syntax.proofs.ScanLemmas.{hands_on, hands_nothing}
 use Rattle.interpolator_syntax.proofs.TokenLemmas.{scan_shorter}
 use Rattle.interpolator_syntax.proofs.NodeLemmas.{by_length, argument_kind, nodes_lead}
 use Rattle.interpolator_syntax.proofs.NodeLemmas.{nodes_first, nodes_none}
-use Rattle.interpolator_syntax.proofs.HandedLemmas.{handed_on, scan_taken}
+use Rattle.interpolator_syntax.proofs.TokenTextLemmas.{takes_token, scan_taken}
 
 -- ---- nodes that are not of literals
 
@@ -266,7 +266,7 @@ module _ (a b : At) where
       ≡ text_node a.place b.place Literal cs ∷ nodes b
   run_one [] h k more = absurd (omega (arith, k.0))
   run_one (c ∷ cs) h k more =
-      let place = (handed_on a (literals (c ∷ cs), b) h).size in
+      let place = (takes_token a (literals (c ∷ cs), b) h).size in
       ap (λ xs. join_literals (xs ++ nodes_alone b)) (literals_alone a.place (c ∷ cs))
       ∙ run_merged a.place c cs (nodes_alone b) (ap begins_literal more ∙ next_other b k.1)
       ∙ ap (λ e. text_node a.place e Literal (c ∷ cs) ∷ join_literals (nodes_alone b)) (sym place)

@@ -19,7 +19,7 @@ use Rattle.interpolator_syntax.specs.Tokens.{Token, literals, doubled, lone_clos
 use Rattle.interpolator_syntax.specs.Tokens.{first_token, past_token}
 use Rattle.interpolator_syntax.proofs.ArgumentFaultLemmas.{fault_of_argument}
 use Rattle.interpolator_syntax.proofs.GrammarArgumentLemmas.{broken_is}
-use Rattle.interpolator_syntax.proofs.HandedLemmas.{WrittenSize, handed_on, scan_taken}
+use Rattle.interpolator_syntax.proofs.TokenTextLemmas.{WrittenSize, takes_token, scan_taken}
 use Rattle.interpolator_syntax.proofs.LocalityLemmas.{takes_reaches}
 use Rattle.interpolator_syntax.proofs.NodeLemmas.{by_length, nodes_first, nodes_none}
 use Rattle.interpolator_syntax.proofs.ReaderLemmas.{argument_takes, argument_refuses}
@@ -28,16 +28,16 @@ use Rattle.interpolator_syntax.proofs.TokenLemmas.{token_shorter, scan_shorter}
 
 -- the places that a tree keeps are at most n
 module _ (n : ℕ) where
-  abbrev pub HeldLies : Content → Type 0
-  HeldLies (text_content from cs) = from + size cs ≤ n
-  HeldLies (argument_content start name spec bare end) = (start ≤ n) × (end ≤ n)
-  HeldLies (fault_content f) = (fault_place f ≤ n) × IsArgumentFault f
+  abbrev pub ContentLies : Content → Type 0
+  ContentLies (text_content from cs) = from + size cs ≤ n
+  ContentLies (argument_content start name spec target end) = (start ≤ n) × (end ≤ n)
+  ContentLies (fault_content f) = (fault_place f ≤ n) × IsArgumentFault f
 
   abbrev mutual
     pub NodeLies : Node → Type 0
     NodeLies (node place end kind None item join) = ⊤
     NodeLies (node place end kind (Some held) item join) =
-        HeldLies held × BranchLies item × BranchLies join
+        ContentLies held × BranchLies item × BranchLies join
 
     pub BranchLies : Branch → Type 0
     BranchLies no_branch = ⊤
@@ -101,12 +101,12 @@ lie_by : (a : At) → ((b : At) → length b.text < length a.text → Lies b) �
 lie_by a shorter None e n reach = rw (nodes_none a e) tt
 lie_by a shorter (Some w) e n reach =
     let rest = past_token w.0 w.1 in
-    let first_reaches = takes_reaches _ a w.1 (handed_on a w e).takes refl in
+    let first_reaches = takes_reaches _ a w.1 (takes_token a w e).takes refl in
     let rest_reaches = takes_reaches _ a rest (scan_taken a w e) refl in
     let first_shorter = token_shorter a w e in
     rw (nodes_first a w.1 w.0 e) (
       token_lies w.1 n (λ c l. shorter c (omega (arith, l, first_shorter)))
-          (omega (arith, reach, first_reaches)) a.place w.0 (handed_on a w e).size,
+          (omega (arith, reach, first_reaches)) a.place w.0 (takes_token a w e).size,
       shorter rest (scan_shorter a _ w e refl) n (omega (arith, reach, rest_reaches)),
     )
 

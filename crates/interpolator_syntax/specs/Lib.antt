@@ -25,4 +25,5 @@ pub mod Moved
 pub mod Faults
 pub mod ArgumentFaults
 pub mod FaultTexts
+pub mod IoErrors
 pub mod InBytes

@@ -35,15 +35,16 @@ target_of (of_list l) = target_list l.range
 -- argument that begins at `start` and whose spec ends at `end`; or a fault
 pub data Content : Type 0 where
   text_content : (from : ℕ) (text : List ℕ) → Content
-  argument_content : (start : ℕ) (name : List ℕ) (spec : Spec) (bare : Target) (end : ℕ) → Content
+  argument_content : (start : ℕ) (name : List ℕ) (spec : Spec) (target : Target) (end : ℕ) → Content
   fault_content : (fault : Fault) → Content
 
 mutual
   -- a piece from byte `place` up to `end`, with the pieces of its item format and of its join;
-  -- if `held` is None, what is stored for it belongs to no text
+  -- if `content` is None, what is stored for it belongs to no text
   pub data Node : Type 0 where
     node :
-        (place end : ℕ) (kind : told.PieceKind) (held : Option Content) (item join : Branch) → Node
+        (place end : ℕ) (kind : told.PieceKind) (content : Option Content) (item join : Branch)
+        → Node
 
   -- the pieces of a group, if there is one
   pub data Branch : Type 0 where

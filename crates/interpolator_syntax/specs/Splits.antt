@@ -60,7 +60,7 @@ split_again xs = flat_map split_node xs
 
 -- a node of literals
 abbrev pub is_literal : Node → Bool
-is_literal (node p end Literal held item join) = true
+is_literal (node p end Literal content item join) = true
 is_literal x = false
 
 -- the first of the nodes is one of literals
@@ -77,11 +77,11 @@ NoTwoLiterals (x ∷ xs) = IsFalse (is_literal x && begins_literal xs) × NoTwoL
 
 -- the first byte of a node
 abbrev pub node_place : Node → ℕ
-node_place (node p end kind held item join) = p
+node_place (node p end kind content item join) = p
 
 -- the byte after its last
 abbrev pub node_end : Node → ℕ
-node_end (node p end kind held item join) = end
+node_end (node p end kind content item join) = end
 
 -- an argument that was read, closed or not: no other node has groups
 abbrev pub HasGroups : PieceKind → Type 0
@@ -100,7 +100,7 @@ abbrev mutual
 
   -- the nodes of each group of a node lie in it
   pub GroupsInside : Node → Type 0
-  GroupsInside (node p end kind held item join) =
+  GroupsInside (node p end kind content item join) =
       GroupInside p end kind item × GroupInside p end kind join
 
   -- the nodes of one group, if there is one, are in order; it is a group of an argument that was

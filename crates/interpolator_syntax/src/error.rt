@@ -2,10 +2,11 @@
 
 ghost use Rattle.std.specs.Prelude.{◌≡◌, IfOk, IfErr, IsOk};
 ghost use Rattle.interpolator_syntax.specs.Faults.{answer_of, parse_fault_of, IsMissingValue};
-ghost use Rattle.interpolator_syntax.specs.Faults.{answer_place, parse_place};
+ghost use Rattle.interpolator_syntax.specs.Faults.{answer_place, fault, parse_place};
+ghost use Rattle.interpolator_syntax.specs.Faults.{fmt as fmt_fault};
 ghost use Rattle.interpolator_syntax.specs.declared.error.Error.TheVariants.{Parse, NoMemory};
 
-use interpolator_render::Trait;
+use interpolator_render::{Refusal, Trait};
 use std::alloc::{AllocError, AllocFailed, Global};
 use std::fmt;
 
@@ -106,6 +107,24 @@ impl<T: Drop> From<AllocFailed<T>> for Error {
     }
 }
 
+/// Converts to `Error::Fmt` at place 0, for a text of your own between formats: a [`Refusal`] tells
+/// no place in a format.
+///
+/// ```text
+/// fn greet<W: TextWrite>(alloc: Global, out: &mut W, guest: &Guest) -> Result<(), Error> {
+///     guest.write_to(alloc, out, "Hello {name}")?;
+///     out.write_char('\n')?;    // refused: `Fmt` at place 0
+///     Ok(())
+/// }
+/// ```
+impl From<Refusal> for Error {
+    ghost from_gives = { λ _ error. answer_of error ≡ fault (fmt_fault 0) };
+
+    fn from(_refusal: Refusal) -> Error {
+        Error::Fmt(fmt::Error, 0)
+    }
+}
+
 impl ParseError {
     /// Returns the place of the fault, in bytes of the outermost format text.
     ///
@@ -163,7 +182,7 @@ impl Error {
         ensures succeeds { ¬ IsMissingValue self.now → IsOk result }
     {
         match self {
-            Error::MissingTraitImpl(t, place) => Ok(Error::MissingTraitImpl(*t, *place)),
+            Error::MissingTraitImpl(wanted, place) => Ok(Error::MissingTraitImpl(*wanted, *place)),
             Error::Fmt(fault, place) => Ok(Error::Fmt(*fault, *place)),
             Error::Parse(fault) => Ok(Error::Parse(*fault)),
             Error::MissingValue(name, place) => match String::from_str(alloc, name.as_str()) {

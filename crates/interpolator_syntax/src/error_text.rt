@@ -77,8 +77,8 @@ impl fmt::Display for Error {
 
     fn fmt<W: fmt::Write>(&self, f: &mut fmt::Formatter<W>) -> fmt::Result {
         match self {
-            Error::MissingTraitImpl(t, place) => {
-                let name = trait_name(*t);
+            Error::MissingTraitImpl(wanted, place) => {
+                let name = trait_name(*wanted);
                 write_unstyled(
                     f,
                     format_args!(
@@ -109,10 +109,10 @@ impl fmt::Display for Error {
     }
 }
 
-fn trait_name(t: Trait) -> &'static str
-    ensures { result.now ≡ trait_name_of t }
+fn trait_name(wanted: Trait) -> &'static str
+    ensures { result.now ≡ trait_name_of wanted }
 {
-    match t {
+    match wanted {
         Trait::Binary => "Binary",
         Trait::Debug => "Debug",
         Trait::Display => "Display",

@@ -25,6 +25,7 @@ mod cursor;
 mod error;
 mod error_text;
 mod group;
+mod io_error;
 pub mod laws;
 mod list;
 mod number;

@@ -4,7 +4,7 @@
 ghost use Rattle.std.specs.Prelude.{◌≡◌, ◌<◌};
 
 use crate::report::Report;
-use interpolator::{Error, Formattable, Limits, Pairs, Tally, Template, TextBuffer};
+use interpolator::{Error, Formattable, Limits, Pairs, PieceCount, Template, TextBuffer};
 use std::marker::Brand;
 use std::sync::ledger::{Blank, Ledger};
 
@@ -85,8 +85,8 @@ fn written_counted<L: Ledger>(report: &mut Report, blank: Blank) -> Result<(), E
     let context = [("l", Formattable::iter(&items))];
     let template = Template::parse(alloc, "{l:i({})(, )}|")?;
     let mut out = TextBuffer::new(alloc);
-    let mut tally = Tally::<L>::open(blank);
-    template.write_counted(alloc, &mut out, &Pairs(&context), &mut tally)?;
+    let mut count = PieceCount::<L>::open(blank);
+    template.write_counted(alloc, &mut out, &Pairs(&context), &mut count)?;
     report.text("counted", "1, 2|", out.as_str());
     Ok(())
 }

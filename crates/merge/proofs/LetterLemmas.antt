@@ -129,8 +129,7 @@ rows_more form v some_lines line number text new_text before old new trouble cou
     ∙ ap (λ (t : Option Trouble). all ++ with_line (number + 1) t)
     (told_of form (v line) text new_text trouble put))) in
     record {
-      told = pushed
-          ∙ (ap (λ (fs : List LineFault). fs ++ with_line (number + 1) trouble) so_far.told
+      told = pushed ∙ (ap (λ (fs : List LineFault). fs ++ with_line (number + 1) trouble) so_far.told
           ∙ (append_assoc before all (with_line (number + 1) trouble)
           ∙ ap (λ (fs : List LineFault). before ++ fs) (sym more)));
       letters = λ none.

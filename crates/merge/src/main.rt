@@ -10,16 +10,15 @@
 //!
 //! The template is checked with the names before the first letter, and its fault is shown in its
 //! line, as a compiler does. All lines of the table that have a fault are reported. In both cases
-//! no letter is written. The status is 0 if the letters are written, 1 after a fault of the
-//! template or of the table, 2 after wrong use, and 3 after a refused write or for a file that
-//! cannot be read.
+//! no letter is written. The status is 0 if the letters are written, 1 after a fault of the template
+//! or of the table, 2 after wrong use, and 3 after a refused write or for a file that cannot be read.
 #![tactic(auto)]
 
 mod csv;
 mod letters;
 mod table;
 
-use interpolator::{Error, explain};
+use interpolator::{Error, Source, explain_with_names};
 use letters::{Fault, merged};
 use std::alloc::Global;
 use std::process::ExitCode;
@@ -77,15 +76,41 @@ fn told_lines(alloc: Global, files: Files<'_>, faults: &[LineFault]) -> Result<S
     Ok(told)
 }
 
-/// Why there are no letters: a fault of the template, shown in its line, or lines of the table.
+/// A fault of the template, shown in its line, and below it the names, if one is missing.
+fn picture(
+    alloc: Global,
+    files: Files<'_>,
+    error: &Error,
+    names: &[&str],
+) -> Result<String, Error> {
+    let source = Source {
+        name: files.template_name,
+        first_line: 1,
+        text: files.template,
+        start: 0,
+        format: files.template,
+    };
+    let mut told = explain_with_names(alloc, &source, error, names)?;
+    told.push('\n')?;
+    Ok(told)
+}
+
+/// A fault of the template, with the names that the first line of the table gives, if it has any.
+fn told_fault(alloc: Global, files: Files<'_>, error: &Error) -> Result<String, Error> {
+    let header = files.table.lines().next().unwrap_or("");
+    if header.is_empty() {
+        return picture(alloc, files, error, &[]);
+    }
+    let fields = csv::read_line(alloc, header)?.into_fields()?;
+    let names = table::names_of(alloc, fields.as_slice())?;
+    picture(alloc, files, error, names.as_slice())
+}
+
+/// Why there are no letters: a fault of the template, or lines of the table.
 fn told(alloc: Global, files: Files<'_>, fault: &Fault) -> Result<String, Error> {
     match fault {
         Fault::Template(Error::NoMemory) => Err(Error::NoMemory),
-        Fault::Template(error) => {
-            let mut told = explain(alloc, files.template_name, files.template, error)?;
-            told.push('\n')?;
-            Ok(told)
-        }
+        Fault::Template(error) => told_fault(alloc, files, error),
         Fault::Table(faults) => told_lines(alloc, files, faults.as_slice()),
     }
 }

@@ -12,7 +12,7 @@ use Rattle.interpolator_syntax.specs.Pieces.{Piece, pieces}
 use Rattle.interpolator_syntax.specs.SpecTexts.{Kind}
 use Rattle.interpolator_syntax.specs.Splits.{literal_nodes, node_alone}
 use Rattle.interpolator_syntax.proofs.SplitLemmas.{gathered_alone}
-use Rattle.interpolator_eval.specs.Meaning.AskedNames.{context_names, held_asks, node_asks}
+use Rattle.interpolator_eval.specs.Meaning.AskedNames.{context_names, content_names, node_asks}
 use Rattle.interpolator_eval.specs.Meaning.AskedNames.{branch_asks, forest_asks, asked_names}
 use Rattle.interpolator_eval.specs.Meaning.AskedNames.{without_empty}
 
@@ -33,11 +33,12 @@ name_in_item : (name : List ℕ) → context_names true name ≡ without_empty (
 name_in_item [] = refl
 name_in_item (c ∷ cs) = refl
 
-held_in_item : (h : Option Content) → held_asks true h ≡ without_empty (held_asks false h)
-held_in_item None = refl
-held_in_item (Some (text_content from cs)) = refl
-held_in_item (Some (argument_content start name spec bare end)) = name_in_item name
-held_in_item (Some (fault_content f)) = refl
+content_in_item : (h : Option Content)
+    → content_names true h ≡ without_empty (content_names false h)
+content_in_item None = refl
+content_in_item (Some (text_content from cs)) = refl
+content_in_item (Some (argument_content start name spec target end)) = name_in_item name
+content_in_item (Some (fault_content f)) = refl
 
 mutual
   node_in_item : (x : Node) → node_asks true x ≡ without_empty (node_asks false x)
@@ -45,7 +46,7 @@ mutual
       let e = branch_in_item item in
       let kept : without_empty (branch_asks true item) ≡ branch_asks true item =
       ap without_empty e ∙ without_twice (branch_asks false item) ∙ sym e in
-      rw (without_append, without_append, held_in_item held, kept, branch_in_item join) refl
+      rw (without_append, without_append, content_in_item held, kept, branch_in_item join) refl
 
   pub branch_in_item : (b : Branch) → branch_asks true b ≡ without_empty (branch_asks false b)
   branch_in_item no_branch = refl

@@ -18,7 +18,7 @@ use Rattle.interpolator_syntax.specs.declared.piece_kind.PieceKind.{PieceKind}
 use Rattle.interpolator_syntax.specs.declared.range.Range.{Range}
 use Rattle.interpolator_eval.specs.Slots.{Slots, SlotsList, bare, listed, no_slots, slots_and, values_of}
 use Rattle.interpolator_eval.specs.Slots.{Values, slot_at, slots_listed, items}
-use Rattle.interpolator_eval.specs.Meaning.AskedNames.{without_empty, held_asks, node_asks}
+use Rattle.interpolator_eval.specs.Meaning.AskedNames.{without_empty, content_names, node_asks}
 use Rattle.interpolator_eval.specs.Meaning.AskedNames.{branch_asks}
 use Rattle.interpolator_eval.specs.Meaning.AskedNames.{forest_asks, asked_names, AgreeOn}
 use Rattle.interpolator_eval.specs.Meaning.Choices.{chosen_places, items_between, chosen_items}
@@ -29,7 +29,7 @@ use Rattle.interpolator_eval.specs.Meaning.Meanings.{Meaning, fault_alone, chain
 use Rattle.interpolator_eval.specs.Meaning.Meanings.{forbids_list, padded_list, items_after}
 use Rattle.interpolator_eval.specs.Meaning.Meanings.{items_mean, listed_means, under_name}
 use Rattle.interpolator_eval.specs.Meaning.Meanings.{and_closed}
-use Rattle.interpolator_eval.specs.Meaning.Meanings.{bare_means, held_means, node_means, means}
+use Rattle.interpolator_eval.specs.Meaning.Meanings.{target_means, content_means, node_means, means}
 use Rattle.interpolator_eval.specs.Meaning.Meanings.{join_branch_means, item_branch_means}
 use Rattle.interpolator_eval.specs.Meaning.Meanings.{forest_means}
 use Rattle.interpolator_eval.specs.Meaning.Outcomes.{Finished}
@@ -75,12 +75,12 @@ module _ {X Y : Type 0} (shows : X → Trait → Spec → Shown) (others : Y →
   EachEqual (x ∷ xs) (y ∷ ys) = Equal x y × EachEqual xs ys
   EachEqual _ _ = ⊥
 
-  each_of : (us : SlotsList X) (vs : SlotsList Y) → EqualItems shows others us vs
+  bind_each : (us : SlotsList X) (vs : SlotsList Y) → EqualItems shows others us vs
       → EachEqual (slots_listed us) (slots_listed vs)
-  each_of no_slots no_slots h = tt
-  each_of (slots_and t us) (slots_and u vs) h = (h.0, each_of us vs h.1)
-  each_of no_slots (slots_and u vs) h = absurd h
-  each_of (slots_and t us) no_slots h = absurd h
+  bind_each no_slots no_slots h = tt
+  bind_each (slots_and t us) (slots_and u vs) h = (h.0, bind_each us vs h.1)
+  bind_each no_slots (slots_and u vs) h = absurd h
+  bind_each (slots_and t us) no_slots h = absurd h
 
   abbrev EqualLists : Option (List (Slots X)) → Option (List (Slots Y)) → Type 0
   EqualLists None None = ⊤
@@ -90,7 +90,7 @@ module _ {X Y : Type 0} (shows : X → Trait → Spec → Shown) (others : Y →
   items_equal : (tree : Slots X) (other : Slots Y) → Equal tree other
       → EqualLists (items tree) (items other)
   items_equal (bare f) (bare g) h = tt
-  items_equal (listed f us) (listed g vs) h = each_of us vs h.1
+  items_equal (listed f us) (listed g vs) h = bind_each us vs h.1
   items_equal (bare f) (listed g vs) h = absurd h
   items_equal (listed f us) (bare g) h = absurd h
 
@@ -183,13 +183,13 @@ module _ {X Y : Type 0} (shows : X → Trait → Spec → Shown) (others : Y →
   list_equal range spec q j k f g None (Some ys) joins each h = absurd h
   list_equal range spec q j k f g (Some xs) None joins each h = absurd h
 
-  bare_equal : (asked : Target) (spec : Spec) (q : ℕ) (j k : Meaning) (f : Slots X → Meaning)
+  target_equal : (asked : Target) (spec : Spec) (q : ℕ) (j k : Meaning) (f : Slots X → Meaning)
       (g : Slots Y → Meaning) (x : Slots X) (y : Slots Y) → j ≡ k
       → ((x : Slots X) (y : Slots Y) → Equal x y → f x ≡ g y) → Equal x y
-      → bare_means shows asked spec q j f x ≡ bare_means others asked spec q k g y
-  bare_equal (target_value t) spec q j k f g x y joins each h =
+      → target_means shows asked spec q j f x ≡ target_means others asked spec q k g y
+  target_equal (target_value t) spec q j k f g x y joins each h =
       value_equal t spec q _ _ (values_equal x y h t)
-  bare_equal (target_list range) spec q j k f g x y joins each h =
+  target_equal (target_list range) spec q j k f g x y joins each h =
       list_equal range spec q j k f g (items x) (items y) joins each (items_equal x y h)
 
   found_equal : (name : List ℕ) (start : ℕ) (means : Slots X → Meaning) (mean : Slots Y → Meaning)
@@ -201,28 +201,29 @@ module _ {X Y : Type 0} (shows : X → Trait → Spec → Shown) (others : Y →
   found_equal name start means mean None (Some y) each h = absurd h
   found_equal name start means mean (Some x) None each h = absurd h
 
-  held_equal : (e : Environment X) (d : Environment Y) (kind : PieceKind) (held : Content)
+  content_equal : (e : Environment X) (d : Environment Y) (kind : PieceKind) (held : Content)
       (j k : Meaning) (f : ℕ → Slots X → Meaning) (g : ℕ → Slots Y → Meaning) → j ≡ k
       → ((q : ℕ) (x : Slots X) (y : Slots Y) → Equal x y → f q x ≡ g q y)
-      → Agree e d (held_asks false (Some held))
-      → held_means shows e kind held j f ≡ held_means others d kind held k g
-  held_equal e d kind (text_content from cs) j k f g joins each h = refl
-  held_equal e d kind (argument_content start name spec asked q) j k f g joins each h =
+      → Agree e d (content_names false (Some held))
+      → content_means shows e kind held j f ≡ content_means others d kind held k g
+  content_equal e d kind (text_content from cs) j k f g joins each h = refl
+  content_equal e d kind (argument_content start name spec asked q) j k f g joins each h =
       ap (and_closed kind q)
-      (found_equal name start (bare_means shows asked spec q j (f q))
-      (bare_means others asked spec q k (g q)) (slots_under e name) (slots_under d name)
-      (λ x y same. bare_equal asked spec q j k (f q) (g q) x y joins (each q) same) h.0)
-  held_equal e d kind (fault_content fault) j k f g joins each h = refl
+      (found_equal name start (target_means shows asked spec q j (f q))
+      (target_means others asked spec q k (g q)) (slots_under e name) (slots_under d name)
+      (λ x y same. target_equal asked spec q j k (f q) (g q) x y joins (each q) same) h.0)
+  content_equal e d kind (fault_content fault) j k f g joins each h = refl
 
   mutual
     node_equal : (x : Node) (e : Environment X) (d : Environment Y) → Agree e d (node_asks false x)
         → node_means shows e x ≡ node_means others d x
     node_equal (node place end kind None item join) e d h = refl
     node_equal (node place end kind (Some held) item join) e d h =
-        let own = agree_each e d (held_asks false (Some held))
+        let own = agree_each e d (content_names false (Some held))
         (branch_asks true item ++ branch_asks false join) h in
         let groups = agree_each e d (branch_asks true item) (branch_asks false join) own.1 in
-        held_equal e d kind held (join_branch_means shows e join) (join_branch_means others d join)
+        content_equal e d kind held (join_branch_means shows e join)
+        (join_branch_means others d join)
         (item_branch_means shows e item) (item_branch_means others d item)
         (join_equal join e d groups.1) (item_equal item e d groups.0) own.0
 

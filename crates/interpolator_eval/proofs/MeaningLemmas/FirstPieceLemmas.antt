@@ -12,7 +12,7 @@ use Rattle.interpolator_eval.specs.Meaning.Outcomes.{Outcome}
 use Rattle.interpolator_eval.specs.Meaning.Sinks.{Writes, taken_by}
 use Rattle.interpolator_eval.specs.Meaning.Sources.{asks_list, before_list, from_list, unlisted_means}
 use Rattle.interpolator_eval.specs.Meaning.Work.{forest_work, node_work}
-use Rattle.interpolator_eval.specs.declared.meaning.sink.Sink.{Sink}
+use Rattle.interpolator_eval.specs.declared.evaluate.sink.Sink.{Sink}
 use Rattle.interpolator_eval.proofs.MeaningLemmas.SinkLemmas.{and_then, fault_first, nothing_fails}
 use Rattle.interpolator_eval.proofs.MeaningLemmas.WorkLemmas.{counts_and_rest, counts_first, no_fault}
 

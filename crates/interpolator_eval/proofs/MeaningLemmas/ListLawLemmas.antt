@@ -20,7 +20,8 @@ use Rattle.interpolator_eval.specs.Meaning.Environments.{Environment}
 use Rattle.interpolator_eval.specs.Meaning.ListArguments.{FindsList, AllFinish, joined_texts, FirstFault}
 use Rattle.interpolator_eval.specs.Meaning.ListArguments.{in_item, in_join, argument_meaning, items_alone}
 use Rattle.interpolator_eval.specs.Meaning.Meanings.{Meaning, nothing, fault_alone, chain, items_after}
-use Rattle.interpolator_eval.specs.Meaning.Meanings.{forbids_list, made_whole, padded_list, items_mean}
+use Rattle.interpolator_eval.specs.Meaning.Meanings.{forbids_list, buffered_means, padded_list}
+use Rattle.interpolator_eval.specs.Meaning.Meanings.{items_mean}
 use Rattle.interpolator_syntax.proofs.CaseLemmas.{none_some}
 
 -- ---- padding
@@ -44,7 +45,7 @@ nothing_padded :
     ≡ placed_at q (replicate (unwrap_or spec.width 0) (fill_of spec))
 nothing_padded spec q =
     elim spec.width as (λ o. spec.width ≡ o
-    → (cond (is_some o) (made_whole spec q None []) nothing).text
+    → (cond (is_some o) (buffered_means spec q None []) nothing).text
     ≡ placed_at q (replicate (unwrap_or o 0) (fill_of spec))) [
       | None ↦ λ e. refl
       | Some width ↦ λ e. ap (placed_at q) (padded_nothing spec ∙ rw e refl)
@@ -220,12 +221,12 @@ module _ {X : Type 0} (shows : X → Trait → Spec → Shown) (e : Environment 
   module _ (width : ℕ) (wide : x.spec.width ≡ Some width) where
     whole_is : forbids_list x.spec ≡ false
         → argument_meaning shows e start x q
-        ≡ made_whole x.spec q (items_alone shows e l q ts).fault
+        ≡ buffered_means x.spec q (items_alone shows e l q ts).fault
         (text_of (items_alone shows e l q ts).text)
     whole_is h = is_padded h ∙ rw wide refl
 
-    whole_text : (o : Option Fault) (cs : List ℕ) → (made_whole x.spec q o cs).fault ≡ None
-        → (made_whole x.spec q o cs).text ≡ placed_at q (padded_text x.spec cs)
+    whole_text : (o : Option Fault) (cs : List ℕ) → (buffered_means x.spec q o cs).fault ≡ None
+        → (buffered_means x.spec q o cs).text ≡ placed_at q (padded_text x.spec cs)
     whole_text o cs h = grind arith
 
     pub wide_text : (argument_meaning shows e start x q).fault ≡ None
@@ -252,7 +253,7 @@ module _ {X : Type 0} (shows : X → Trait → Spec → Shown) (e : Environment 
         → ((argument_meaning shows e start x q).text ≡ []) × ((argument_meaning shows e start x q).fault ≡ Some d)
     wide_fault d h k =
         let m = items_alone shows e l q ts in
-        let is = whole_is h ∙ ap (λ o. made_whole x.spec q o (text_of m.text)) k in
+        let is = whole_is h ∙ ap (λ o. buffered_means x.spec q o (text_of m.text)) k in
         (ap (λ (n : Meaning). n.text) is, ap (λ (n : Meaning). n.fault) is)
 
   -- ---- no width

@@ -7,7 +7,7 @@ use Rattle.interpolator_syntax.specs.Faults.{Answer}
 use Rattle.interpolator_eval.specs.Meaning.Meanings.{Meaning, items_after, items_mean}
 use Rattle.interpolator_eval.specs.Meaning.Outcomes.{Outcome}
 use Rattle.interpolator_eval.specs.Meaning.Sinks.{Writes, taken_by}
-use Rattle.interpolator_eval.specs.declared.meaning.sink.Sink.{Sink}
+use Rattle.interpolator_eval.specs.declared.evaluate.sink.Sink.{Sink}
 use Rattle.interpolator_eval.proofs.MeaningLemmas.SinkLemmas.{and_then, fault_first, nothing_done}
 use Rattle.interpolator_eval.proofs.MeaningLemmas.SinkLemmas.{same_end, same_then}
 

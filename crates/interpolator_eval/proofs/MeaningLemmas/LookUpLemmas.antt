@@ -21,7 +21,7 @@ use Rattle.interpolator_eval.specs.Meaning.Lists.{padded_list_means}
 use Rattle.interpolator_eval.specs.Meaning.Meanings.{Meaning, items_mean, listed_means, under_name}
 use Rattle.interpolator_eval.specs.Meaning.Meanings.{padded_list, forbids_list}
 use Rattle.interpolator_eval.specs.Meaning.Sinks.{Writes, taken_by}
-use Rattle.interpolator_eval.specs.declared.meaning.sink.Sink.{Sink}
+use Rattle.interpolator_eval.specs.declared.evaluate.sink.Sink.{Sink}
 use Rattle.interpolator_eval.proofs.MeaningLemmas.ChoiceLemmas.{map-chosen}
 use Rattle.interpolator_eval.proofs.MeaningLemmas.SinkLemmas.{same_end}
 

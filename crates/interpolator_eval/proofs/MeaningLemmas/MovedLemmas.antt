@@ -24,10 +24,11 @@ use Rattle.interpolator_eval.specs.Slots.{Slots, values_of, items, slot_at}
 use Rattle.interpolator_eval.specs.Meaning.Choices.{chosen_items}
 use Rattle.interpolator_eval.specs.Meaning.Environments.{Environment, slots_under, bind}
 use Rattle.interpolator_eval.specs.Meaning.Meanings.{Meaning, fault_alone, or_fault, chain}
-use Rattle.interpolator_eval.specs.Meaning.Meanings.{view_means, value_means, forbids_list, made_whole}
+use Rattle.interpolator_eval.specs.Meaning.Meanings.{view_means, value_means, forbids_list}
+use Rattle.interpolator_eval.specs.Meaning.Meanings.{buffered_means}
 use Rattle.interpolator_eval.specs.Meaning.Meanings.{padded_list, items_after, items_mean}
 use Rattle.interpolator_syntax.specs.Groups.{inside}
-use Rattle.interpolator_eval.specs.Meaning.Meanings.{listed_means, under_name, bare_means}
+use Rattle.interpolator_eval.specs.Meaning.Meanings.{listed_means, under_name, target_means}
 use Rattle.interpolator_eval.specs.Meaning.Meanings.{node_means}
 use Rattle.interpolator_eval.specs.Meaning.Meanings.{join_branch_means, item_branch_means}
 use Rattle.interpolator_eval.specs.Meaning.Meanings.{item_means}
@@ -109,8 +110,8 @@ module _ (by : ℕ) where
   -- ---- lists
 
   whole_moves : (spec : Spec) (q : ℕ) (o : Option Fault) (cs : List ℕ)
-      → made_whole spec (q + by) (option_map (moved_fault by) o) cs
-      ≡ moved_meaning by (made_whole spec q o cs)
+      → buffered_means spec (q + by) (option_map (moved_fault by) o) cs
+      ≡ moved_meaning by (buffered_means spec q o cs)
   whole_moves spec q (Some f) cs = refl
   whole_moves spec q None cs = text_moves q (padded_text spec cs) (0 ∷ [])
 
@@ -120,7 +121,7 @@ module _ (by : ℕ) where
       let fault = option_map (moved_fault by) k.fault in
       ap (padded_list spec (q + by)) e
       ∙ either_moves (is_some spec.width) _ _ _ _
-      (ap (made_whole spec (q + by) fault) (text_of_moves k.text)
+      (ap (buffered_means spec (q + by) fault) (text_of_moves k.text)
       ∙ whole_moves spec q k.fault (text_of k.text)) refl
 
   module _ {A : Type 0} (j k : Meaning) (f g : A → Meaning) (joins : j ≡ moved_meaning by k)
@@ -173,7 +174,7 @@ module _ (by : ℕ) where
       -- what was found under a name, by the kind of its argument
       abbrev kind_means : Kind → Spec → (q : ℕ) → Slots X → Meaning
       kind_means kind spec q =
-          bare_means shows (target_of kind) spec q
+          target_means shows (target_of kind) spec q
           (join_branch_means shows e (join_branch nodes kind))
           (item_branch_means shows e (item_branch nodes kind) q)
 

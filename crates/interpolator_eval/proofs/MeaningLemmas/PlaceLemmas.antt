@@ -22,17 +22,19 @@ use Rattle.interpolator_syntax.specs.declared.piece_kind.PieceKind.{PieceKind}
 use Rattle.interpolator_syntax.specs.declared.piece_kind.PieceKind.TheVariants.{Unclosed}
 use Rattle.interpolator_syntax.specs.declared.range.Range.{Range}
 use Rattle.interpolator_syntax.proofs.CaseLemmas.{in_both}
-use Rattle.interpolator_syntax.proofs.TreePlaceLemmas.{HeldLies, NodeLies, BranchLies, ForestLies}
+use Rattle.interpolator_syntax.proofs.TreePlaceLemmas.{ContentLies, NodeLies, BranchLies}
+use Rattle.interpolator_syntax.proofs.TreePlaceLemmas.{ForestLies}
 use Rattle.interpolator_syntax.proofs.TreePlaceLemmas.{places_lie}
 use Rattle.interpolator_eval.specs.Slots.{Slots, values_of, items, slot_at}
 use Rattle.interpolator_eval.specs.Meaning.Choices.{chosen_items}
 use Rattle.interpolator_eval.specs.Meaning.Environments.{Environment, slots_under, bind}
-use Rattle.interpolator_eval.specs.Meaning.Meanings.{Meaning, nothing, or_fault, chain, made_whole}
+use Rattle.interpolator_eval.specs.Meaning.Meanings.{Meaning, nothing, or_fault, chain}
+use Rattle.interpolator_eval.specs.Meaning.Meanings.{buffered_means}
 use Rattle.interpolator_eval.specs.Meaning.Meanings.{padded_list, view_means, value_means}
 use Rattle.interpolator_eval.specs.Meaning.Meanings.{and_closed}
 use Rattle.interpolator_eval.specs.Meaning.Meanings.{forbids_list, items_after, items_mean}
 use Rattle.interpolator_eval.specs.Meaning.Meanings.{under_name}
-use Rattle.interpolator_eval.specs.Meaning.Meanings.{listed_means, bare_means, held_means}
+use Rattle.interpolator_eval.specs.Meaning.Meanings.{listed_means, target_means, content_means}
 use Rattle.interpolator_eval.specs.Meaning.Meanings.{node_means}
 use Rattle.interpolator_eval.specs.Meaning.Meanings.{join_branch_means, item_branch_means}
 use Rattle.interpolator_eval.specs.Meaning.Meanings.{forest_means}
@@ -90,7 +92,7 @@ lies_in_more m n (Some no_memory) h k = tt
 -- a list that is made whole is at the place where it is written
 whole_within :
     (n : ℕ) (spec : Spec) (q : ℕ) (o : Option Fault) (cs : List ℕ) → q ≤ n
-    → PlaceWithin n (option_map fault o) → Within n (made_whole spec q o cs)
+    → PlaceWithin n (option_map fault o) → Within n (buffered_means spec q o cs)
 whole_within n spec q None cs h k =
     record { stands = stands-at n q (padded_text spec cs) h; faults = tt }
 whole_within n spec q (Some f) cs h k = ends_within n f _ k
@@ -134,10 +136,10 @@ module _ (n : ℕ) {X : Type 0} (shows : X → Trait → Spec → Shown) where
           in_both (Within n) (forbids_list spec) _ _ (ends_within n _ [] h)
           (padded_within n spec q _ h (items_within (chosen_items range ts)))
 
-      found_within : (start : ℕ) (name : List ℕ) (bare : Target) (spec : Spec) (q : ℕ)
+      found_within : (start : ℕ) (name : List ℕ) (target : Target) (spec : Spec) (q : ℕ)
           (o : Option (Slots X)) → start ≤ n → q ≤ n
-          → Within n (under_name name start (bare_means shows bare spec q join item) o)
-      found_within start name bare spec q None s h = ends_within n _ _ s
+          → Within n (under_name name start (target_means shows target spec q join item) o)
+      found_within start name target spec q None s h = ends_within n _ _ s
       found_within start name (target_value t) spec q (Some found) s h =
           value_within t spec q (slot_at t (values_of found)) h
       found_within start name (target_list range) spec q (Some found) s h =
@@ -149,22 +151,23 @@ module _ (n : ℕ) {X : Type 0} (shows : X → Trait → Spec → Shown) where
         within_joined n _ _ k (ends_within n (parse (expected (codes "}") q)) [] h)
     closed_within kind q m h k = k
 
-    held_within : (e : Environment X) (kind : PieceKind) (held : Content)
-        (item : ℕ → Slots X → Meaning) → HeldLies n held
+    content_within : (e : Environment X) (kind : PieceKind) (held : Content)
+        (item : ℕ → Slots X → Meaning) → ContentLies n held
         → ((q : ℕ) (x : Slots X) → q ≤ n → Within n (item q x))
-        → Within n (held_means shows e kind held join item)
-    held_within e kind (text_content from cs) item h each =
+        → Within n (content_means shows e kind held join item)
+    content_within e kind (text_content from cs) item h each =
         record { stands = placed_within n from cs h; faults = tt }
-    held_within e kind (argument_content start name spec bare q) item h each =
+    content_within e kind (argument_content start name spec target q) item h each =
         closed_within kind q _ h.1
-        (found_within (item q) (λ x. each q x h.1) start name bare spec q (slots_under e name) h.0 h.1)
-    held_within e kind (fault_content f) item h each = ends_within n f [] h.0
+        (found_within (item q) (λ x. each q x h.1) start name target spec q (slots_under e name)
+        h.0 h.1)
+    content_within e kind (fault_content f) item h each = ends_within n f [] h.0
 
   mutual
     node_within : (x : Node) (e : Environment X) → NodeLies n x → Within n (node_means shows e x)
     node_within (node place end kind None item join) e h = nothing_within n
     node_within (node place end kind (Some held) item join) e h =
-        held_within (join_branch_means shows e join) (join_within join e h.2) e kind held
+        content_within (join_branch_means shows e join) (join_within join e h.2) e kind held
         (item_branch_means shows e item) h.0 (λ q x l. item_within item e q x l h.1)
 
     join_within : (b : Branch) (e : Environment X) → BranchLies n b

@@ -31,7 +31,7 @@ use Rattle.interpolator_eval.specs.Meaning.Sinks.{Writes}
 use Rattle.interpolator_eval.specs.Meaning.Sources.{asks_list, before_list, from_list, unlisted_means}
 use Rattle.interpolator_eval.specs.Meaning.Sources.{ListArgument, FirstAsks, first_holds, with_brace}
 use Rattle.interpolator_eval.specs.Meaning.Work.{forest_work}
-use Rattle.interpolator_eval.specs.declared.meaning.sink.Sink.{Sink}
+use Rattle.interpolator_eval.specs.declared.evaluate.sink.Sink.{Sink}
 use Rattle.interpolator_eval.proofs.MeaningLemmas.SinkLemmas.{and_then, fault_first, nothing_done, ended}
 use Rattle.interpolator_eval.proofs.MeaningLemmas.SinkLemmas.{same_end}
 

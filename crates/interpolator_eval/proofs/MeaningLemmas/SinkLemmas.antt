@@ -6,11 +6,12 @@ use Rattle.interpolator_render.proofs.LayoutLemmas.{appends_none}
 use Rattle.interpolator_render.specs.Written.{Written}
 use Rattle.interpolator_syntax.specs.At.{Placed, text_of}
 use Rattle.interpolator_syntax.specs.Faults.{Fault, Answer, fault, no_memory}
-use Rattle.interpolator_eval.specs.Meaning.Meanings.{Meaning, nothing, fault_alone, made_whole, chain}
+use Rattle.interpolator_eval.specs.Meaning.Meanings.{Meaning, nothing, fault_alone, buffered_means}
+use Rattle.interpolator_eval.specs.Meaning.Meanings.{chain}
 use Rattle.interpolator_eval.specs.Meaning.Outcomes.{Outcome}
 use Rattle.interpolator_eval.specs.Meaning.Sinks.{SameEnd, Writes, taken_by}
-use Rattle.interpolator_eval.specs.declared.meaning.sink.Sink.{Sink}
-use Rattle.interpolator_eval.specs.declared.meaning.sink.Sink.TheVariants.{Writer, Aside}
+use Rattle.interpolator_eval.specs.declared.evaluate.sink.Sink.{Sink}
+use Rattle.interpolator_eval.specs.declared.evaluate.sink.Sink.TheVariants.{Writer, Buffer}
 use Rattle.interpolator_eval.proofs.MeaningLemmas.OutcomeLemmas.{finished_if_none, after_finished}
 use Rattle.interpolator_eval.proofs.MeaningLemmas.OutcomeLemmas.{before_fault}
 use Rattle.std.specs.List.{Contains}
@@ -48,15 +49,15 @@ nothing_fails s t q (inr (inr k)) = omega (arith, k.point.1)
 
 pub same_end : {W : Type 0} (s : Sink W) → SameEnd s s
 same_end (Writer out) = refl
-same_end (Aside buffer) = refl
+same_end (Buffer buffer) = refl
 
 pub same_then : {W : Type 0} (s t u : Sink W) → SameEnd s t → SameEnd t u → SameEnd s u
 same_then (Writer a) (Writer b) (Writer c) h k = k ∙ h
-same_then (Aside a) (Aside b) (Aside c) h k = k ∙ h
-same_then (Writer a) (Writer b) (Aside c) h k = k
-same_then (Aside a) (Aside b) (Writer c) h k = k
-same_then (Writer a) (Aside b) c h k = absurd h
-same_then (Aside a) (Writer b) c h k = absurd h
+same_then (Buffer a) (Buffer b) (Buffer c) h k = k ∙ h
+same_then (Writer a) (Writer b) (Buffer c) h k = k
+same_then (Buffer a) (Buffer b) (Writer c) h k = k
+same_then (Writer a) (Buffer b) c h k = absurd h
+same_then (Buffer a) (Writer b) c h k = absurd h
 
 -- the whole goes on from what was written so far
 pub goes_on :
@@ -72,32 +73,32 @@ goes_on written m k s t u answer so_far same o =
 module _ (spec : Spec) (q : ℕ) where
   -- there was no memory for it: nothing of it was written
   wants_memory : (o : Option Fault) (cs : List ℕ) (s : Written)
-      → Outcome (made_whole spec q o cs) s s (Some no_memory)
+      → Outcome (buffered_means spec q o cs) s s (Some no_memory)
   wants_memory o cs s =
       inr (inr (record {
         front = [];
-        back = (made_whole spec q o cs).text;
+        back = (buffered_means spec q o cs).text;
         split = refl;
         point = first_point o;
         begun = appends_none s;
         told = refl;
       }))
     where
-      first_point : (o : Option Fault) → Contains (made_whole spec q o cs).memory_points 0
+      first_point : (o : Option Fault) → Contains (buffered_means spec q o cs).memory_points 0
       first_point None = (0, omega arith, refl)
       first_point (Some f) = (0, omega arith, refl)
 
   pub whole_refused : (m : Meaning) (out : Written)
-      → Outcome (made_whole spec q m.fault (text_of m.text)) out out (Some no_memory)
+      → Outcome (buffered_means spec q m.fault (text_of m.text)) out out (Some no_memory)
   whole_refused m out = wants_memory m.fault (text_of m.text) out
 
   -- what was made went to the buffer `now`, which was `empty`, up to its fault; nothing goes to `out`
   module _ (m : Meaning) (out empty now : Written) (f : Answer) where
     abbrev Whole : Type 0
-    Whole = Outcome (made_whole spec q m.fault (text_of m.text)) out out (Some f)
+    Whole = Outcome (buffered_means spec q m.fault (text_of m.text)) out out (Some f)
 
     by_fault : (o : Option Fault) → Some f ≡ option_map fault o
-        → Outcome (made_whole spec q o (text_of m.text)) out out (Some f)
+        → Outcome (buffered_means spec q o (text_of m.text)) out out (Some f)
     by_fault None d = absurd (cc)
     by_fault (Some g) d = stops _ _ _ refl d
 

@@ -17,10 +17,11 @@ use Rattle.interpolator_eval.specs.Meaning.Meanings.{forest_means, and_closed}
 use Rattle.interpolator_eval.specs.Meaning.Outcomes.{Outcome}
 use Rattle.interpolator_eval.specs.Meaning.Sinks.{Writes, taken_by}
 use Rattle.interpolator_eval.specs.Meaning.Sources.{ListArgument, FirstAsks, asks_list, before_list}
-use Rattle.interpolator_eval.specs.Meaning.Sources.{from_list, has_brace, its_argument, its_list}
-use Rattle.interpolator_eval.specs.Meaning.Sources.{its_list_work}
+use Rattle.interpolator_eval.specs.Meaning.Sources.{from_list, has_brace, list_with_brace}
+use Rattle.interpolator_eval.specs.Meaning.Sources.{list_meaning}
+use Rattle.interpolator_eval.specs.Meaning.Sources.{list_work}
 use Rattle.interpolator_eval.specs.Meaning.Work.{Work, or_stop, node_work, forest_work}
-use Rattle.interpolator_eval.specs.declared.meaning.sink.Sink.{Sink}
+use Rattle.interpolator_eval.specs.declared.evaluate.sink.Sink.{Sink}
 use Rattle.interpolator_eval.proofs.MeaningLemmas.MeaningLemmas.{joined_assoc, joined_none}
 use Rattle.interpolator_eval.proofs.MeaningLemmas.SinkLemmas.{and_then, fault_first, nothing_done}
 use Rattle.interpolator_eval.proofs.MeaningLemmas.SinkLemmas.{same_then}
@@ -175,7 +176,7 @@ module _ {X : Type 0} (shows : X → Trait → Spec → Shown) (e : Environment 
 
     by_kind : (kind : PieceKind) (rest : Forest) (follows : Option Forest)
         → follows ≡ (if has_brace kind then Some rest else None)
-        → and_closed kind x.end (its_list shows e x) ≡ its_argument shows e x follows
+        → and_closed kind x.end (list_meaning shows e x) ≡ list_with_brace shows e x follows
     by_kind kinds.Literal rest follows is = rw is refl
     by_kind kinds.Doubled rest follows is = rw is refl
     by_kind kinds.LoneClose rest follows is = rw is refl
@@ -183,17 +184,17 @@ module _ {X : Type 0} (shows : X → Trait → Spec → Shown) (e : Environment 
     by_kind kinds.Unclosed rest follows is = rw is refl
     by_kind kinds.Broken rest follows is = rw is refl
 
-    argument_is : node_means shows e First ≡ its_argument shows e x after
+    argument_is : node_means shows e First ≡ list_with_brace shows e x after
     argument_is = by_kind h.kind h.rest after h.closing
 
     list_split : All xs
-        ≡ chain (All (before_list xs)) (chain (its_argument shows e x after) (All h.rest))
+        ≡ chain (All (before_list xs)) (chain (list_with_brace shows e x after) (All h.rest))
     list_split = means_split xs ∙ rw (h.first, argument_is) refl
 
     module _ {W : Type 0} (written : W → Written) (s t u : Sink W)
         (before : Writes written (All (before_list xs)) s t None) where
       -- it ends the run
-      pub list_fault : (q : Answer) → Writes written (its_argument shows e x after) t u (Some q)
+      pub list_fault : (q : Answer) → Writes written (list_with_brace shows e x after) t u (Some q)
           → Writes written (All xs) s u (Some q)
       list_fault q o = record {
         outcome =
@@ -204,7 +205,7 @@ module _ {X : Type 0} (shows : X → Trait → Spec → Shown) (e : Environment 
 
       -- it is done, and what follows it is written
       pub list_runs : (rest : Forest) (new : Written) (r : Option Answer) → after ≡ Some rest
-          → Writes written (its_argument shows e x after) t u None
+          → Writes written (list_with_brace shows e x after) t u None
           → Outcome (All rest) (taken_by written u) new r
           → Outcome (All xs) (taken_by written s) new r
       list_runs rest new r is o k =
@@ -212,33 +213,33 @@ module _ {X : Type 0} (shows : X → Trait → Spec → Shown) (e : Environment 
           (and_then _ _ _ _ _ _ before.outcome (and_then _ _ _ _ _ _ o.outcome k))
 
       from_gone : Gone (from_list xs)
-          ≡ (or_stop (its_argument shows e x after).fault (node_work shows e First)
+          ≡ (or_stop (list_with_brace shows e x after).fault (node_work shows e First)
           (forest_work shows e h.rest)).pieces
       from_gone =
           ap (λ ys. Gone ys) h.first
           ∙ ap (λ m. (or_stop m.fault (node_work shows e First) (forest_work shows e h.rest)).pieces)
           argument_is
 
-      pub list_stops : Gone (before_list xs) + (1 + (its_list_work shows e x).pieces) ≤ Gone xs
+      pub list_stops : Gone (before_list xs) + (1 + (list_work shows e x).pieces) ≤ Gone xs
       list_stops =
           omega (
             arith,
             before_goes xs (no_fault _ _ _ before.outcome),
             from_gone,
-            stops (its_argument shows e x after).fault (node_work shows e First)
+            stops (list_with_brace shows e x after).fault (node_work shows e First)
                 (forest_work shows e h.rest),
           )
 
       pub list_goes : (rest : Forest) → after ≡ Some rest
-          → Writes written (its_argument shows e x after) t u None
-          → Gone (before_list xs) + (1 + (its_list_work shows e x).pieces) + Gone rest ≡ Gone xs
+          → Writes written (list_with_brace shows e x after) t u None
+          → Gone (before_list xs) + (1 + (list_work shows e x).pieces) + Gone rest ≡ Gone xs
       list_goes rest is o =
           let same = brace_rest h.kind h.rest rest (sym h.closing ∙ is) in
           omega (
             arith,
             before_goes xs (no_fault _ _ _ before.outcome),
             from_gone,
-            goes (its_argument shows e x after).fault (node_work shows e First)
+            goes (list_with_brace shows e x after).fault (node_work shows e First)
                 (forest_work shows e h.rest) (no_fault _ _ _ o.outcome),
             ap (λ r. Gone r) same,
           )

@@ -13,17 +13,18 @@ context_names true (c ∷ cs) = (c ∷ cs) ∷ []
 context_names false name = name ∷ []
 
 -- the name of a piece's content, if that is an argument
-abbrev pub held_asks : (in_item : Bool) → Option Content → List (List ℕ)
-held_asks in_item None = []
-held_asks in_item (Some (text_content from cs)) = []
-held_asks in_item (Some (argument_content start name spec bare end)) = context_names in_item name
-held_asks in_item (Some (fault_content f)) = []
+abbrev pub content_names : (in_item : Bool) → Option Content → List (List ℕ)
+content_names in_item None = []
+content_names in_item (Some (text_content from cs)) = []
+content_names in_item (Some (argument_content start name spec target end)) =
+    context_names in_item name
+content_names in_item (Some (fault_content f)) = []
 
 abbrev mutual
   -- the name of a piece, then those of its item format, then those of its join
   pub node_asks : (in_item : Bool) → Node → List (List ℕ)
-  node_asks in_item (node place end kind held item join) =
-      held_asks in_item held ++ (branch_asks true item ++ branch_asks in_item join)
+  node_asks in_item (node place end kind content item join) =
+      content_names in_item content ++ (branch_asks true item ++ branch_asks in_item join)
 
   -- those of a group
   pub branch_asks : (in_item : Bool) → Branch → List (List ℕ)

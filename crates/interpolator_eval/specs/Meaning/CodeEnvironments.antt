@@ -1,7 +1,7 @@
 -- The environment that the code's environment stands for.
 use Rattle.std.specs.Prelude.{ℕ, List, Option, None}
 use Rattle.std.specs.Option.{option_map}
-use Rattle.interpolator_eval.specs.declared.meaning.environment.Environment as code_environment
+use Rattle.interpolator_eval.specs.declared.evaluate.environment.Environment as code_environment
 use Rattle.interpolator_eval.specs.Slots.{Slots, slots_of}
 use Rattle.interpolator_eval.specs.Meaning.Environments.{Environment}
 

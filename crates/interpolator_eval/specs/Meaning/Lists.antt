@@ -9,13 +9,14 @@ use Rattle.interpolator_render.specs.Written.{Written}
 use Rattle.interpolator_eval.specs.Slots.{Slots, items}
 use Rattle.interpolator_eval.specs.Meaning.Choices.{chosen_items}
 use Rattle.interpolator_eval.specs.Meaning.Environments.{Environment, slots_under}
-use Rattle.interpolator_eval.specs.Meaning.Meanings.{Meaning, made_whole, under_name, listed_means}
+use Rattle.interpolator_eval.specs.Meaning.Meanings.{Meaning, buffered_means, under_name}
+use Rattle.interpolator_eval.specs.Meaning.Meanings.{listed_means}
 use Rattle.interpolator_eval.specs.Meaning.Meanings.{padded_list, items_mean}
 use Rattle.interpolator_eval.specs.Meaning.Outcomes.{Outcome}
 
 -- what a list means whose text is made whole and padded, by what its items mean
 abbrev pub padded_list_means : Spec → (end : ℕ) → Meaning → Meaning
-padded_list_means spec end m = made_whole spec end m.fault (text_of m.text)
+padded_list_means spec end m = buffered_means spec end m.fault (text_of m.text)
 
 -- the list under a name, for an argument that starts at `start` and whose spec ends at `end`, by
 -- what the join and an item mean

@@ -90,15 +90,15 @@ forbids_list spec = is_some spec.precision || (has_sign spec.sign || (spec.alter
 
 -- a text that is made whole in a buffer and then padded, each character at `end`: memory is needed
 -- first, and after a fault in it nothing is written
-abbrev pub made_whole : Spec → (end : ℕ) → Option Fault → List ℕ → Meaning
-made_whole spec end (Some f) cs = fault_wanting_memory f
-made_whole spec end None cs =
+abbrev pub buffered_means : Spec → (end : ℕ) → Option Fault → List ℕ → Meaning
+buffered_means spec end (Some f) cs = fault_wanting_memory f
+buffered_means spec end None cs =
     record { text = placed_at end (padded_text spec cs); fault = None; memory_points = 0 ∷ [] }
 
 -- under a spec with a width, a list is made whole and padded
 abbrev pub padded_list : Spec → (end : ℕ) → Meaning → Meaning
 padded_list spec end m =
-    if is_some spec.width then made_whole spec end m.fault (text_of m.text) else m
+    if is_some spec.width then buffered_means spec end m.fault (text_of m.text) else m
 
 -- the items in order, each with the join before it
 abbrev pub items_after : {X : Type 0} → (join : Meaning) → (X → Meaning) → List X → Meaning
@@ -133,22 +133,22 @@ and_closed _ end m = m
 
 module _ {X : Type 0} (shows : X → Trait → Spec → Shown) where
   -- what was found under a name, as a value or a list, by what the join and an item mean
-  abbrev pub bare_means : Target → Spec → (end : ℕ) → (join : Meaning) → (Slots X → Meaning)
+  abbrev pub target_means : Target → Spec → (end : ℕ) → (join : Meaning) → (Slots X → Meaning)
       → Slots X → Meaning
-  bare_means (target_value t) spec end join item found =
+  target_means (target_value t) spec end join item found =
       value_means shows t spec end (slot_at t (values_of found))
-  bare_means (target_list range) spec end join item found =
+  target_means (target_list range) spec end join item found =
       listed_means range spec end join item (items found)
 
   -- text that is written means itself, a name what is under it, and a fault itself; `join` is what
   -- the join means, and `item` what an item means, for a spec that ends at a place
-  abbrev pub held_means : Environment X → PieceKind → Content → (join : Meaning)
+  abbrev pub content_means : Environment X → PieceKind → Content → (join : Meaning)
       → (item : ℕ → Slots X → Meaning) → Meaning
-  held_means e kind (text_content from cs) join item = text_alone (placed_from from cs)
-  held_means e kind (argument_content start name spec bare end) join item =
+  content_means e kind (text_content from cs) join item = text_alone (placed_from from cs)
+  content_means e kind (argument_content start name spec target end) join item =
       and_closed kind end
-      (under_name name start (bare_means bare spec end join (item end)) (slots_under e name))
-  held_means e kind (fault_content f) join item = fault_alone f
+      (under_name name start (target_means target spec end join (item end)) (slots_under e name))
+  content_means e kind (fault_content f) join item = fault_alone f
 
   -- an item without a format: it is displayed plainly
   abbrev pub plain_item_means : (end : ℕ) → Slots X → Meaning
@@ -159,8 +159,8 @@ module _ {X : Type 0} (shows : X → Trait → Spec → Shown) where
     -- a piece means its content, by what its groups mean
     pub node_means : Environment X → Node → Meaning
     node_means e (node place end kind None item join) = nothing
-    node_means e (node place end kind (Some held) item join) =
-        held_means e kind held (join_branch_means e join) (item_branch_means e item)
+    node_means e (node place end kind (Some content) item join) =
+        content_means e kind content (join_branch_means e join) (item_branch_means e item)
 
     -- what comes between two items means the same between any two
     pub join_branch_means : Environment X → Branch → Meaning

@@ -1,5 +1,5 @@
 -- The three outcomes of writing what a format means.
-use Rattle.std.specs.Prelude.{◌≡◌, ℕ, [], ◌∷◌, ◌++◌, length, Contains, Option, None}
+use Rattle.std.specs.Prelude.{◌≡◌, ℕ, [], ◌∷◌, ◌++◌, length, Contains, Option, None, ⊤}
 use Rattle.std.specs.Prelude.{Some, option_map, true, ◌⊎◌, Result, MatchResult}
 use Rattle.std.specs.Prelude.{string_bytes}
 use Rattle.std.specs.Str.{chars}
@@ -48,3 +48,11 @@ abbrev pub Formats : {Z : Type 0} → Meaning → Result (String Z) Error → Ty
 Formats m result = MatchResult result
     (λ s. (m.fault ≡ None) × (chars (string_bytes s) ≡ text_of m.text))
     (λ e. (answer_of e ≡ no_memory) ⊎ (Some (answer_of e) ≡ option_map fault m.fault))
+
+-- what writing a meaning without a fault may return: Ok, or the fault of a writer that has refused,
+-- or that there was no memory
+abbrev pub OnlyRefused : (new : Written) → Option Answer → Type 0
+OnlyRefused new None = ⊤
+OnlyRefused new (Some (fault (fmt place))) = new.refused ≡ true
+OnlyRefused new (Some no_memory) = ⊤
+OnlyRefused new _ = ⊥

@@ -11,12 +11,12 @@ use Rattle.interpolator_render.specs.Views.{Shown, signed_number, unsigned_numbe
 use Rattle.interpolator_render.specs.Views.{one_character, some_text, plain_text}
 use Rattle.interpolator_render.specs.Views.{nothing_implemented, failure}
 use Rattle.interpolator_eval.specs.Slots.{Slots, slots_of, values_of, items, slot_at}
-use Rattle.interpolator_eval.specs.declared.meaning.sample.Candidates.{Candidates}
-use Rattle.interpolator_eval.specs.declared.meaning.sample.Candidates.TheVariants.{One, Each}
-use Rattle.interpolator_eval.specs.declared.meaning.sample.Items.{Items}
-use Rattle.interpolator_eval.specs.declared.meaning.sample.Need.{Need}
-use Rattle.interpolator_eval.specs.declared.meaning.sample.Need.TheVariants as needs
-use Rattle.interpolator_eval.specs.declared.meaning.sample.SampleEnvironment.{SampleEnvironment}
+use Rattle.interpolator_eval.specs.declared.evaluate.sample.Candidates.{Candidates}
+use Rattle.interpolator_eval.specs.declared.evaluate.sample.Candidates.TheVariants.{One, Each}
+use Rattle.interpolator_eval.specs.declared.evaluate.sample.Items.{Items}
+use Rattle.interpolator_eval.specs.declared.evaluate.sample.Need.{Need}
+use Rattle.interpolator_eval.specs.declared.evaluate.sample.Need.TheVariants as needs
+use Rattle.interpolator_eval.specs.declared.evaluate.sample.SampleEnvironment.{SampleEnvironment}
 
 -- what the sample has under a name and, in an item format, what the item may be: any item of the
 -- sample's lists
@@ -37,8 +37,8 @@ module _ {X : Type 0} where
   each_or None others name = others name
 
   -- everything that a name may stand for, if it stands for anything
-  abbrev pub may_stand : Sample X → List ℕ → Option (List (Slots X))
-  may_stand s name = each_or s.each (λ other. option_map alone (s.gives other)) name
+  abbrev pub candidates_under : Sample X → List ℕ → Option (List (Slots X))
+  candidates_under s name = each_or s.each (λ other. option_map alone (s.gives other)) name
 
   -- the items of a tree, or none if it has no list
   abbrev pub items_or_none : Slots X → List (Slots X)
@@ -53,8 +53,8 @@ module _ {X : Type 0} where
   sample finds = record { gives = finds; each = None }
 
   -- a sample in an item format, in which the item may be any of these
-  abbrev pub each_of : Sample X → List (Slots X) → Sample X
-  each_of s ts = record { gives = s.gives; each = Some ts }
+  abbrev pub bind_each : Sample X → List (Slots X) → Sample X
+  bind_each s ts = record { gives = s.gives; each = Some ts }
 
   -- the tree has no list
   abbrev pub has_no_list : Slots X → Bool

@@ -9,7 +9,7 @@ use Rattle.interpolator_syntax.specs.Pieces.{argument_from}
 use Rattle.interpolator_syntax.specs.Tokens.{argument}
 use Rattle.interpolator_syntax.specs.declared.cursor.Cursor.{Cursor}
 use Rattle.interpolator_eval.specs.Meaning.Sources.{ListArgument, FirstAsks, asks_list}
-use Rattle.interpolator_eval.specs.declared.meaning.scan.ScannedList.{ScannedList}
+use Rattle.interpolator_eval.specs.declared.evaluate.scan.ScannedList.{ScannedList}
 
 -- the pieces of a text
 abbrev pub text_forest : At → Forest

@@ -5,20 +5,21 @@ use Rattle.interpolator_render.specs.Bounds.{bounded_writer, bytes_left}
 use Rattle.interpolator_syntax.specs.Faults.{Answer, fault, missing_trait_impl, fmt}
 use Rattle.interpolator_eval.specs.Meaning.Meanings.{Meaning}
 use Rattle.interpolator_eval.specs.Meaning.Outcomes.{Outcome}
-use Rattle.interpolator_eval.specs.declared.meaning.sink.Sink.{Sink}
-use Rattle.interpolator_eval.specs.declared.meaning.sink.Sink.TheVariants.{Writer, Aside}
-use Rattle.interpolator_eval.specs.declared.meaning.sink.WriteFault.{WriteFault}
-use Rattle.interpolator_eval.specs.declared.meaning.sink.WriteFault.TheVariants.{MissingTraitImpl, Fmt}
+use Rattle.interpolator_eval.specs.declared.evaluate.sink.Sink.{Sink}
+use Rattle.interpolator_eval.specs.declared.evaluate.sink.Sink.TheVariants.{Writer, Buffer}
+use Rattle.interpolator_eval.specs.declared.evaluate.sink.WriteFault.{WriteFault}
+use Rattle.interpolator_eval.specs.declared.evaluate.sink.WriteFault.TheVariants.{MissingTraitImpl}
+use Rattle.interpolator_eval.specs.declared.evaluate.sink.WriteFault.TheVariants.{Fmt}
 
 -- what the end of a sink has taken; `written` is what a writer has taken
 abbrev pub taken_by : {W : Type 0} → (W → Written) → Sink W → Written
 taken_by written (Writer out) = written out.now
-taken_by written (Aside buffer) = bounded_writer buffer.now
+taken_by written (Buffer buffer) = bounded_writer buffer.now
 
 -- both have the same reference
 abbrev pub SameEnd : {W : Type 0} → Sink W → Sink W → Type 0
 SameEnd (Writer out) (Writer out') = out'.ghost_name ≡ out.ghost_name
-SameEnd (Aside buffer) (Aside buffer') = buffer'.ghost_name ≡ buffer.ghost_name
+SameEnd (Buffer buffer) (Buffer buffer') = buffer'.ghost_name ≡ buffer.ghost_name
 SameEnd _ _ = ⊥
 
 -- one of the three outcomes at the end of a sink, which has the same reference afterwards
@@ -31,7 +32,7 @@ pub record Writes {W : Type 0} (written : W → Written) (m : Meaning) (old new 
 -- `usize` if it reports none; by a buffer what is left of it
 abbrev pub HasRoom : {W : Type 0} → (limit : W → Option ℕ) → Sink W → (most : ℕ) → Type 0
 HasRoom limit (Writer out) most = (limit out.now ≡ Some most) ⊎ (most ≡ 2 ^ 64 - 1)
-HasRoom limit (Aside buffer) most = most ≡ bytes_left buffer.now
+HasRoom limit (Buffer buffer) most = most ≡ bytes_left buffer.now
 
 -- the reason why something was not written, as an answer
 abbrev pub write_fault_answer : WriteFault → Answer

@@ -30,12 +30,12 @@ wants_list (target_list range) = true
 
 -- the content of a piece is a list argument
 abbrev pub holds_list : Option Content → Bool
-holds_list (Some (argument_content start name spec bare end)) = wants_list bare
+holds_list (Some (argument_content start name spec target end)) = wants_list target
 holds_list _ = false
 
 -- a piece is a list argument
 abbrev pub asks_list : Node → Bool
-asks_list (node place end kind held item join) = holds_list held
+asks_list (node place end kind content item join) = holds_list content
 
 -- the pieces before the first list argument
 abbrev pub before_list : Forest → Forest
@@ -96,7 +96,7 @@ empty_counts (nodes_and x xs) = 0
 -- the first of some pieces holds something, as each piece of a text does
 abbrev pub first_holds : Forest → Bool
 first_holds no_nodes = false
-first_holds (nodes_and (node place end kind held item join) xs) = is_some held
+first_holds (nodes_and (node place end kind content item join) xs) = is_some content
 
 -- the pieces of a group, by those of the source that begins it
 abbrev pub branch_of : {S : Type 0} → (tree : S → Forest) → Option S → Branch
@@ -116,38 +116,38 @@ module _ {X : Type 0} (shows : X → Trait → Spec → Shown) (e : Environment 
   unlisted_means x = if asks_list x then nothing else node_means shows e x
 
   module _ (x : ListArgument) where
-    abbrev pub its_join : Meaning
-    its_join = join_branch_means shows e x.join
+    abbrev pub list_join : Meaning
+    list_join = join_branch_means shows e x.join
 
-    abbrev pub its_item : Slots X → Meaning
-    its_item = item_branch_means shows e x.item x.end
+    abbrev pub list_item : Slots X → Meaning
+    list_item = item_branch_means shows e x.item x.end
 
     -- these items of it, with the join between two of them
-    abbrev pub its_items : List (Slots X) → Meaning
-    its_items chosen = items_mean its_join its_item chosen
+    abbrev pub list_items : List (Slots X) → Meaning
+    list_items chosen = items_mean list_join list_item chosen
 
     -- the list under its name
-    abbrev pub its_list : Meaning
-    its_list = list_under_name e x.name x.start x.range x.spec x.end its_join its_item
+    abbrev pub list_meaning : Meaning
+    list_meaning = list_under_name e x.name x.start x.range x.spec x.end list_join list_item
 
     -- the list, and after it the fault of the missing brace, if that is missing
-    abbrev pub its_argument : (follows : Option Forest) → Meaning
-    its_argument follows = with_brace follows x.end its_list
+    abbrev pub list_with_brace : (follows : Option Forest) → Meaning
+    list_with_brace follows = with_brace follows x.end list_meaning
 
     -- ---- how many pieces it goes through
 
-    abbrev pub its_join_work : Work
-    its_join_work = join_branch_work shows e x.join
+    abbrev pub list_join_work : Work
+    list_join_work = join_branch_work shows e x.join
 
-    abbrev pub its_item_work : Slots X → Work
-    its_item_work = item_branch_work shows e x.item x.end
+    abbrev pub list_item_work : Slots X → Work
+    list_item_work = item_branch_work shows e x.item x.end
 
-    abbrev pub its_items_work : List (Slots X) → Work
-    its_items_work chosen = items_work its_join its_join_work its_item its_item_work chosen
+    abbrev pub list_items_work : List (Slots X) → Work
+    list_items_work chosen = items_work list_join list_join_work list_item list_item_work chosen
 
-    abbrev pub its_list_work : Work
-    its_list_work =
+    abbrev pub list_work : Work
+    list_work =
         under_work
-        (λ found. listed_work its_join its_join_work its_item its_item_work x.range x.spec
+        (λ found. listed_work list_join list_join_work list_item list_item_work x.range x.spec
         (items found))
         (slots_under e x.name)

@@ -75,27 +75,27 @@ under_work work (Some found) = work found
 
 module _ {X : Type 0} (shows : X → Trait → Spec → Shown) where
   -- the work of what was found, as a value or a list
-  abbrev pub bare_work : Target → Spec → (join : Meaning) → (joins : Work) → (Slots X → Meaning)
+  abbrev pub target_work : Target → Spec → (join : Meaning) → (joins : Work) → (Slots X → Meaning)
       → (Slots X → Work) → Slots X → Work
-  bare_work (target_value t) spec join joins item each found = no_work
-  bare_work (target_list range) spec join joins item each found =
+  target_work (target_value t) spec join joins item each found = no_work
+  target_work (target_list range) spec join joins item each found =
       listed_work join joins item each range spec (items found)
 
   -- the work of a piece's content
-  abbrev pub held_work : Environment X → Content → (join : Meaning) → (joins : Work)
+  abbrev pub content_work : Environment X → Content → (join : Meaning) → (joins : Work)
       → (item : ℕ → Slots X → Meaning) → (each : ℕ → Slots X → Work) → Work
-  held_work e (text_content from cs) join joins item each = piece_and no_work
-  held_work e (argument_content start name spec bare end) join joins item each =
+  content_work e (text_content from cs) join joins item each = piece_and no_work
+  content_work e (argument_content start name spec target end) join joins item each =
       piece_and
-      (under_work (bare_work bare spec join joins (item end) (each end)) (slots_under e name))
-  held_work e (fault_content f) join joins item each = piece_and no_work
+      (under_work (target_work target spec join joins (item end) (each end)) (slots_under e name))
+  content_work e (fault_content f) join joins item each = piece_and no_work
 
   abbrev mutual
     -- a piece, with those of its groups
     pub node_work : Environment X → Node → Work
     node_work e (node place end kind None item join) = no_work
-    node_work e (node place end kind (Some held) item join) =
-        held_work e held (join_branch_means shows e join) (join_branch_work e join)
+    node_work e (node place end kind (Some content) item join) =
+        content_work e content (join_branch_means shows e join) (join_branch_work e join)
         (item_branch_means shows e item) (item_branch_work e item)
 
     -- what comes between two items

@@ -37,7 +37,7 @@ cost_of-returns t c =
 pub cost_of_piece-returns : goal.cost_of_piece-returns
 cost_of_piece-returns t c =
     piece_told c.args.limits.now c.args.text.now c.args.piece.now _ _ _ c.cost_of_item-item.ensures
-    c.cost_of_join-join.ensures c.held_cost.ensures
+    c.cost_of_join-join.ensures c.content_cost.ensures
 
 pub cost_of_item-cost_of-requires : goal.cost_of_item-cost_of-requires
 cost_of_item-cost_of-requires t c =

@@ -6,7 +6,7 @@ use Rattle.interpolator_syntax.specs.Tokens.{literals, doubled, lone_close, argu
 use Rattle.interpolator_syntax.proofs.TokenLemmas.{scan_shorter, token_shorter}
 use Rattle.interpolator_eval.proofs.MeaningLemmas.ScanLemmas.{asked_ok, asked_broken}
 use Rattle.interpolator_pieces.proofs.WithinLemmas.{after_front, within_same}
-use Rattle.interpolator_syntax.proofs.HandedLemmas.{handed_on}
+use Rattle.interpolator_syntax.proofs.TokenTextLemmas.{takes_token}
 use Rattle.interpolator_pieces.proofs.ParseLemmas.{rest_is, list_pushed, list_within}
 use Rattle.interpolator_pieces.proofs.ParseLemmas.{broken_is, doubled_ends}
 use Rattle.interpolator_pieces.proofs.ParseLemmas.{literals_pushed, doubled_pushed}
@@ -31,7 +31,7 @@ parse_pieces-push_argument-requires t c =
     rw c.in-Argument.is at (sym c.in-Some.ensures.token) in
     let left = left_within text here c.loop-token.pieces.items c.loop-token.invariant in (
       omega (arith, token_shorter here (argument, at c.in-Some.rest) token, left),
-      (handed_on here (argument, at c.in-Some.rest) token).size,
+      (takes_token here (argument, at c.in-Some.rest) token).size,
     )
 
 pub parse_pieces-loop-token-smaller-in_ok-push_piece-in-Literals :
@@ -109,7 +109,7 @@ parse_pieces-loop-token-preserved t c =
     rw c.in-Argument.is at (sym c.in-Some.ensures.token) in
     reads_on (at c.args.text) here c.loop-token.pieces.items c.loop-token.invariant begin argument
     begin (at c.in_ok-here-in-Argument.here) _ token
-    (after_front here begin (handed_on here (argument, begin) token).takes)
+    (after_front here begin (takes_token here (argument, begin) token).takes)
     c.in_ok-here-in-Argument.ensures.pushed c.in_ok-here-in-Argument.ensures.rest
 
 pub parse_pieces-returns : goal.parse_pieces-returns

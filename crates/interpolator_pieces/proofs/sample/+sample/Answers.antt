@@ -1,9 +1,9 @@
 use Rattle.std.proofs.Common.{rules, arith, Some, None, ap, ◌∙◌}
 use Rattle.std.proofs.lemmas.Result.{err_from_is_err_and}
 use Rattle.interpolator_syntax.specs.Faults.{answer_of}
-use Rattle.interpolator_eval.specs.Meaning.Samples.{sample_of, level_in, each_of}
+use Rattle.interpolator_eval.specs.Meaning.Samples.{sample_of, level_in, bind_each}
 use Rattle.interpolator_pieces.specs.NodeChecks.{stored_own_fault, stored_end_fault}
-use Rattle.interpolator_pieces.specs.Stored.{held_of}
+use Rattle.interpolator_pieces.specs.Stored.{content_of}
 use Rattle.interpolator_pieces.specs.declared.piece.Piece.TheViews.{out-Piece}
 use Rattle.interpolator_pieces.proofs.CollectLemmas.{piece_ends, piece_goes_on, pieces_over}
 use Rattle.interpolator_pieces.proofs.CollectLemmas.{piece_deep, item_deep, join_deep}
@@ -141,10 +141,10 @@ collect_item-returns-in-Some g t c =
     let fits = fits_text c.args.text.now c.args.piece.now (search rules) in
     record {
       collects = item_told g.C.Object.Value.shows s c.args.text.now
-          (held_of c.args.text.now c.args.piece.now) (out-Piece c.args.piece.now).item _
-          c.deref.result.now (sample_of g.C.Context.finds c.each_of.result) c.args.collector.now
+          (content_of c.args.text.now c.args.piece.now) (out-Piece c.args.piece.now).item _
+          c.deref.result.now (sample_of g.C.Context.finds c.bind_each.result) c.args.collector.now
           c.collect_pieces.new.collector _ fits.held c.in-Some.is c.deref.ensures.value
-          (c.each_of.ensures.sample ∙ ap (each_of s) c.items_of-items.ensures.items)
+          (c.bind_each.ensures.sample ∙ ap (bind_each s) c.items_of-items.ensures.items)
           c.collect_pieces.ensures.collects;
     }
 
@@ -154,7 +154,7 @@ collect_item-collect_pieces-requires g t c κs within =
     c.deref.ensures.value (search rules) c.in-Some.is in
     let smaller = group.smaller in
     let deep = group_deep c.args.text.now _ _ c.deref.result.now (level_in c.args.sample.now)
-    (level_in c.each_of.result) _ c.in-Some.is c.deref.ensures.value (search rules) (search rules) in
+    (level_in c.bind_each.result) _ c.in-Some.is c.deref.ensures.value (search rules) (search rules) in
     (search (rules, smaller), (within.0, (within.1, (group.whole, deep))))
 
 pub collect_join-collect_pieces-requires : goal.collect_join-collect_pieces-requires

@@ -13,5 +13,5 @@ returns-in_err-collect_if g c =
     let missing = some_missing g.V.Value.shows c.args.t c.args.spec.now (candidates_of c.args.found.now) in
     rw (err.1, err.2) (record {
       collects = collects_before (fault_if missing f) _ c.args.collector.now c.collect_if.new.self _
-          (rw (c.lack-missing.ensures) at (c.in_err-collect_if.ensures f refl));
+          (rw (c.any_lacks-missing.ensures) at (c.in_err-collect_if.ensures f refl));
     })

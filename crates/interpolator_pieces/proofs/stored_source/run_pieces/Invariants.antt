@@ -29,8 +29,8 @@ invariant-loop-piece g l =
           new answer;
       same : SameEnd l.fn.sink l.sink;
       left : from_list all ≡ from_list rest;
-      gone : l.tally + (forest_work shows e (before_list rest)).pieces
-          ≡ l.fn.tally + (forest_work shows e (before_list all)).pieces;
+      gone : l.count + (forest_work shows e (before_list rest)).pieces
+          ≡ l.fn.count + (forest_work shows e (before_list all)).pieces;
     }
 
 abbrev pub decreases-loop-piece : goal.decreases-loop-piece

@@ -1,6 +1,6 @@
 use Rattle.std.proofs.Common.{ap, refl}
 use Rattle.interpolator_syntax.specs.Faults.{fault, fmt}
-use Rattle.interpolator_eval.specs.declared.meaning.sink.WriteFault.TheVariants as faults
+use Rattle.interpolator_eval.specs.declared.evaluate.sink.WriteFault.TheVariants as faults
 use Rattle.interpolator_prepared.proofs.JoinedLemmas.{joined_writes, joined_refused}
 use Rattle.interpolator_prepared.proofs.joined.put_joined.Goals as goal
 

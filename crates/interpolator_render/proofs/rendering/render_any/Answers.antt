@@ -10,14 +10,14 @@ returns-in-Some g c =
     let fits : FitsSigned w128 c.in-Signed.number = search rules in
     let parts = c.sign_and_magnitude-negative.ensures in
     rw c.in-Signed.is (renders_puts _ _ _ c.put_number.result _ _
-    (signed_text c.in-Signed.number c.in-Signed.bits c.args.t c.args.spec.now c.in-Some.form
+    (signed_text c.in-Signed.number c.in-Signed.bits c.args.wanted c.args.spec.now c.in-Some.form
     (sym c.number_form.ensures ∙ c.in-Some.is)) c.refused.ensures
     (rw (parts.negative, parts.number, to_z-of_z w128 _ fits) at c.put_number.ensures))
 
 pub returns-in-Some-number_form : goal.returns-in-Some-number_form
 returns-in-Some-number_form g c = rw c.in-Unsigned.is
     (renders_puts _ _ _ c.put_number-in-Some-number_form.result _ _
-    (unsigned_text c.in-Unsigned.number c.args.t c.args.spec.now c.in-Some-number_form.form
+    (unsigned_text c.in-Unsigned.number c.args.wanted c.args.spec.now c.in-Some-number_form.form
     (sym c.number_form-in-Unsigned.ensures ∙ c.in-Some-number_form.is))
     c.refused-in-Some-number_form.ensures c.put_number-in-Some-number_form.ensures)
 

@@ -2,7 +2,7 @@
 use Rattle.std.proofs.Common.{◌∙◌, ap, sym, Some}
 use Rattle.std.proofs.lemmas.Str.{encodes-chars}
 use Rattle.std.specs.Option.{option_copied, option_map}
-use Rattle.interpolator_eval.specs.Contexts.{held_last}
+use Rattle.interpolator_eval.specs.Contexts.{last_under}
 use Rattle.interpolator.specs.NamedValues.{named_slots}
 use Rattle.interpolator.proofs.NamedValueLemmas.{last_pair}
 use Rattle.interpolator.proofs.values.ValuesContext.get.Goals as goal
@@ -15,7 +15,7 @@ returns-in-Some c =
           ∙ ap (λ o. option_map named_slots (option_copied o)) (sym c.in-Some.is)
           ∙ ap (option_map named_slots) c.last_named.ensures
           ∙ last_pair c.named.result.now c.args.key.now
-          ∙ ap (λ pairs. held_last pairs c.args.key.now) c.named.ensures);
+          ∙ ap (λ pairs. last_under pairs c.args.key.now) c.named.ensures);
     }
 
 pub returns-in-None : goal.returns-in-None
@@ -25,5 +25,5 @@ returns-in-None c =
           (ap (λ o. option_map named_slots (option_copied o)) (sym c.in-None.is)
           ∙ ap (option_map named_slots) c.last_named.ensures
           ∙ last_pair c.named.result.now c.args.key.now
-          ∙ ap (λ pairs. held_last pairs c.args.key.now) c.named.ensures);
+          ∙ ap (λ pairs. last_under pairs c.args.key.now) c.named.ensures);
     }

@@ -10,13 +10,13 @@ pub returns-in-Ok-clause-written : goal.returns-in-Ok-clause-written
 returns-in-Ok-clause-written g c =
     let mid = c.make_way.new.self in
     let put = c.append_char in
-    writes_on mid.handed.text _ _ _ _ put.result c.in-Ok.ensures.ok.0
+    writes_on mid.passed_on.text _ _ _ _ put.result c.in-Ok.ensures.ok.0
     (buffer_writes _ (string_bytes mid.held) _ (encode_utf8 c.args.c) _ mid.refused _ put.result
     (IsUtf8-string_bytes mid.held) refl (chars-encode c.args.c c.ranges.c.0) (omega arith)
     put.ensures.ok put.ensures.err put.ensures.taken)
 
-pub returns-in-Ok-clause-handed : goal.returns-in-Ok-clause-handed
-returns-in-Ok-clause-handed g c =
+pub returns-in-Ok-clause-passed_on : goal.returns-in-Ok-clause-passed_on
+returns-in-Ok-clause-passed_on g c =
     hands_more g.W.Write.contents _ c.make_way.new.self _ (encode_utf8 c.args.c)
     c.append_char.result c.in-Ok.ensures.ok.1 refl c.append_char.ensures.ok
     c.append_char.ensures.err

@@ -13,14 +13,14 @@ pub returns-in-Ok-clause-written : goal.returns-in-Ok-clause-written
 returns-in-Ok-clause-written g c =
     let mid = c.make_way.new.self in
     let put = c.append in
-    writes_on mid.handed.text _ _ _ _ put.result c.in-Ok.ensures.ok.0
+    writes_on mid.passed_on.text _ _ _ _ put.result c.in-Ok.ensures.ok.0
     (buffer_writes _ (string_bytes mid.held) _ c.args.text.now _ mid.refused _ put.result
     (IsUtf8-string_bytes mid.held) refl refl
     (chars_nonempty c.args.text.now c.utf8.text (search rules)) put.ensures.ok put.ensures.err
     put.ensures.taken)
 
-pub returns-in-Ok-clause-handed : goal.returns-in-Ok-clause-handed
-returns-in-Ok-clause-handed g c =
+pub returns-in-Ok-clause-passed_on : goal.returns-in-Ok-clause-passed_on
+returns-in-Ok-clause-passed_on g c =
     hands_more g.W.Write.contents _ c.make_way.new.self _ c.args.text.now c.append.result
     c.in-Ok.ensures.ok.1 refl c.append.ensures.ok c.append.ensures.err
 

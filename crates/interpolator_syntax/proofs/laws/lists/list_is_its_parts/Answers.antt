@@ -1,6 +1,6 @@
 use Rattle.interpolator_syntax.proofs.GrammarListLemmas.{law_list}
 use Rattle.interpolator_syntax.proofs.GrammarPartLemmas.{agrees_is}
-use Rattle.interpolator_syntax.proofs.KeepLemmas.{still}
+use Rattle.interpolator_syntax.proofs.LocalLemmas.{still}
 use Rattle.interpolator_syntax.proofs.laws.lists.list_is_its_parts.Goals as goal
 
 pub returns-clause-is : goal.returns-clause-is

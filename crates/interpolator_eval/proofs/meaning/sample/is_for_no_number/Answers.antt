@@ -1,6 +1,0 @@
-use Rattle.std.proofs.Common.{sym}
-use Rattle.interpolator_eval.proofs.MeaningLemmas.SampleLemmas.{no_iter}
-use Rattle.interpolator_eval.proofs.meaning.sample.is_for_no_number.Goals as goal
-
-pub returns-in_default : goal.returns-in_default
-returns-in_default c = sym (no_iter c.args.t c.in_default.not-Iter)

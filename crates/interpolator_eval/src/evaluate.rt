@@ -1,0 +1,13 @@
+//! Writes what a format means: looks up its names, and passes its texts to the writer.
+//!
+//! The functions here end in `?; Ok(())` after a call, and do not return its `Result`, which would
+//! copy the 56 bytes of an `Error` in each of them.
+
+pub mod environment;
+pub mod evaluator;
+pub mod list;
+pub mod sample;
+pub mod scan;
+pub mod sink;
+pub mod source;
+pub mod value;

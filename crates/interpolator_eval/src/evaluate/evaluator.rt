@@ -1,0 +1,320 @@
+//! Writes what a format means, up to the first fault. Callers come before what they call.
+ghost use Rattle.std.specs.Prelude.{◌≡◌, ◌+◌, ◌-◌, ◌<◌, ◌≤◌, ◌⊎◌, IfOk, None, Some, map, true};
+ghost use Rattle.interpolator_syntax.specs.At.{at};
+ghost use Rattle.interpolator_syntax.specs.Faults.{result_answer};
+ghost use Rattle.interpolator_syntax.specs.Nodes.{no_nodes};
+ghost use Rattle.interpolator_eval.specs.Meaning.CodeEnvironments.{environment_of};
+ghost use Rattle.interpolator_eval.specs.Meaning.Lists.{padded_list_means};
+ghost use Rattle.interpolator_eval.specs.Meaning.Meanings.{means, forest_means};
+ghost use Rattle.interpolator_eval.specs.Meaning.Sinks.{Writes};
+ghost use Rattle.interpolator_eval.specs.Meaning.Sources.{empty_counts, first_holds};
+ghost use Rattle.interpolator_eval.specs.Meaning.Sources.{list_with_brace};
+ghost use Rattle.interpolator_eval.specs.Meaning.Sources.{list_item};
+ghost use Rattle.interpolator_eval.specs.Meaning.Sources.{list_item_work, list_items};
+ghost use Rattle.interpolator_eval.specs.Meaning.Sources.{list_items_work};
+ghost use Rattle.interpolator_eval.specs.Meaning.Sources.{list_join, list_join_work, list_meaning};
+ghost use Rattle.interpolator_eval.specs.Meaning.Sources.{list_work};
+ghost use Rattle.interpolator_eval.specs.Meaning.Work.{forest_work};
+ghost use Rattle.interpolator_eval.specs.Slots.{slots_of};
+
+use crate::context::Context;
+use crate::evaluate::environment::Environment;
+use crate::evaluate::sink::Sink;
+use crate::evaluate::source::FormatSource;
+use crate::evaluate::value::{list_buffer, write_plain_item};
+use crate::piece_count::PieceCount;
+use crate::slots::Formattable;
+use interpolator_render::TextWrite;
+use interpolator_syntax::{Cursor, Error, ParseError};
+use std::marker::Brand;
+use std::sync::ledger::{Blank, Ledger};
+
+/// Writes what a text means.
+pub fn write_text<'a, W: TextWrite, C: Context>(
+    sink: &mut Sink<'_, W>,
+    environment: &Environment<'a, C, C::Object>,
+    text: Cursor<'_>,
+) -> Result<(), Error>
+    ensures writes { Writes W.written
+        (means C.Object.shows (environment_of C.finds environment.now) (at text.entry))
+        sink.old sink.new (result_answer result) }
+{
+    write_uncounted(sink, environment, text)?;
+    Ok(())
+}
+
+/// Writes what the pieces of a source mean, for a caller that needs no count of them.
+#[inline(always)]
+pub fn write_uncounted<'a, W: TextWrite, C: Context, S: FormatSource>(
+    sink: &mut Sink<'_, W>,
+    environment: &Environment<'a, C, C::Object>,
+    source: S,
+) -> Result<(), Error>
+    ensures writes { Writes W.written
+        (forest_means C.Object.shows (environment_of C.finds environment.now) (S.tree source))
+        sink.old sink.new (result_answer result) }
+{
+    write_on::<W, C, S, Brand>(sink, environment, source, Blank::new(1))?;
+    Ok(())
+}
+
+/// Writes what the pieces of a source mean, and counts from a blank ledger.
+#[inline(always)]
+fn write_on<'a, W: TextWrite, C: Context, S: FormatSource, L: Ledger>(
+    sink: &mut Sink<'_, W>,
+    environment: &Environment<'a, C, C::Object>,
+    source: S,
+    blank: Blank,
+) -> Result<(), Error>
+    requires name { blank.name ≡ L.name }
+    requires parts { blank.parts ≡ L.parts }
+    requires some { 0 < blank.parts }
+    ensures writes { Writes W.written
+        (forest_means C.Object.shows (environment_of C.finds environment.now) (S.tree source))
+        sink.old sink.new (result_answer result) }
+{
+    let mut count = PieceCount::<L>::open(blank);
+    write_source(sink, environment, source, &mut count)?;
+    Ok(())
+}
+
+/// Writes what the pieces of a source mean, in order, and counts those that it goes through.
+#[inline(always)]
+pub fn write_source<'a, W: TextWrite, C: Context, S: FormatSource, L: Ledger>(
+    sink: &mut Sink<'_, W>,
+    environment: &Environment<'a, C, C::Object>,
+    source: S,
+    count: &mut PieceCount<L>,
+) -> Result<(), Error>
+    ensures writes { Writes W.written
+        (forest_means C.Object.shows (environment_of C.finds environment.now) (S.tree source))
+        sink.old sink.new (result_answer result) }
+    ensures gone { count.new ≤ count.old + (forest_work C.Object.shows
+        (environment_of C.finds environment.now) (S.tree source)).pieces }
+    ensures exact { IfOk result (λ _. count.new ≡ count.old + (forest_work C.Object.shows
+        (environment_of C.finds environment.now) (S.tree source)).pieces) }
+{
+    let mut scratch = source.scratch_list();
+    write_with::<W, C, S, L>(sink, environment, source, &mut scratch, count)?;
+    Ok(())
+}
+
+/// Writes what the pieces of a source mean, as [`write_source`] does. Each list that is met is
+/// stored in `scratch`, which is made once for all items of a list, since making it zeroes it.
+#[cycle(evaluate)]
+fn write_with<'a, W: TextWrite, C: Context, S: FormatSource, L: Ledger>(
+    sink: &mut Sink<'_, W>,
+    environment: &Environment<'a, C, C::Object>,
+    source: S,
+    scratch: &mut S::List,
+    count: &mut PieceCount<L>,
+) -> Result<(), Error>
+    ensures writes { Writes W.written
+        (forest_means C.Object.shows (environment_of C.finds environment.now) (S.tree source))
+        sink.old sink.new (result_answer result) }
+    ensures gone { count.new ≤ count.old + (forest_work C.Object.shows
+        (environment_of C.finds environment.now) (S.tree source)).pieces }
+    ensures exact { IfOk result (λ _. count.new ≡ count.old + (forest_work C.Object.shows
+        (environment_of C.finds environment.now) (S.tree source)).pieces) }
+{
+    let mut here = source;
+    while here.write_to_list(sink, environment, scratch, count)? {
+        here = write_argument::<W, C, S, L>(sink, environment, scratch, count)?;
+    }
+    Ok(())
+}
+
+/// Writes the list that was met, and returns what follows the closing brace of its argument.
+#[cycle(evaluate)]
+#[inline(always)]
+fn write_argument<'a, W: TextWrite, C: Context, S: FormatSource, L: Ledger>(
+    sink: &mut Sink<'_, W>,
+    environment: &Environment<'a, C, C::Object>,
+    list: &S::List,
+    count: &mut PieceCount<L>,
+) -> Result<S, Error>
+    requires met { S.is_met list.now }
+    ensures writes { Writes W.written
+        (list_with_brace C.Object.shows (environment_of C.finds environment.now) (S.asks list.now)
+        (S.follows list.now))
+        sink.old sink.new (result_answer result) }
+    ensures rest { IfOk result (λ rest. S.follows list.now ≡ Some (S.tree rest)) }
+    ensures gone { count.new ≤ count.old + (list_work C.Object.shows
+        (environment_of C.finds environment.now) (S.asks list.now)).pieces }
+    ensures exact { IfOk result (λ _. count.new ≡ count.old + (list_work C.Object.shows
+        (environment_of C.finds environment.now) (S.asks list.now)).pieces) }
+{
+    write_list::<W, C, S, L>(sink, environment, list, count)?;
+    match S::rest(list) {
+        Some(rest) => Ok(rest),
+        None => Err(Error::Parse(ParseError::Expected("}", S::end(list)))),
+    }
+}
+
+/// Writes the list that was met.
+#[cycle(evaluate)]
+#[inline(never)]
+fn write_list<'a, W: TextWrite, C: Context, S: FormatSource, L: Ledger>(
+    sink: &mut Sink<'_, W>,
+    environment: &Environment<'a, C, C::Object>,
+    list: &S::List,
+    count: &mut PieceCount<L>,
+) -> Result<(), Error>
+    requires met { S.is_met list.now }
+    ensures writes { Writes W.written
+        (list_meaning C.Object.shows (environment_of C.finds environment.now) (S.asks list.now))
+        sink.old sink.new (result_answer result) }
+    ensures gone { count.new ≤ count.old + (list_work C.Object.shows
+        (environment_of C.finds environment.now) (S.asks list.now)).pieces }
+    ensures exact { IfOk result (λ _. count.new ≡ count.old + (list_work C.Object.shows
+        (environment_of C.finds environment.now) (S.asks list.now)).pieces) }
+{
+    let items = S::items(list, environment)?;
+    if S::has_width(list) {
+        write_padded_list::<W, C, S, L>(sink, environment, list, items, count)?;
+        Ok(())
+    } else {
+        write_items::<W, C, S, L>(sink, environment, list, items, count)?;
+        Ok(())
+    }
+}
+
+/// Makes the text of the items in a buffer, and then writes it padded to the width.
+#[cycle(evaluate)]
+fn write_padded_list<'a, W: TextWrite, C: Context, S: FormatSource, L: Ledger>(
+    sink: &mut Sink<'_, W>,
+    environment: &Environment<'a, C, C::Object>,
+    list: &S::List,
+    items: &'a [Formattable<'a, C::Object>],
+    count: &mut PieceCount<L>,
+) -> Result<(), Error>
+    requires met { S.is_met list.now }
+    requires no_precision { (S.asks list.now).spec.precision ≡ None }
+    ensures writes { Writes W.written
+        (padded_list_means (S.asks list.now).spec (S.asks list.now).end
+        (list_items C.Object.shows (environment_of C.finds environment.now) (S.asks list.now)
+        (map slots_of items.now)))
+        sink.old sink.new (result_answer result) }
+    ensures gone { count.new ≤ count.old + (list_items_work C.Object.shows
+        (environment_of C.finds environment.now) (S.asks list.now) (map slots_of items.now)).pieces }
+    ensures exact { IfOk result (λ _. count.new ≡ count.old + (list_items_work C.Object.shows
+        (environment_of C.finds environment.now) (S.asks list.now) (map slots_of items.now)).pieces) }
+{
+    let mut made = list_buffer(sink, environment);
+    let mut inner: Sink<'_, W> = Sink::Buffer(&mut made);
+    let answer = write_items::<W, C, S, L>(&mut inner, environment, list, items, count);
+    match inner {
+        Sink::Writer(_) => unreachable!(),
+        Sink::Buffer(buffer) => {
+            if buffer.refused() {
+                return Err(Error::NoMemory);
+            }
+            answer?;
+            sink.put_padded(buffer.as_str(), &S::spec(list), S::end(list))?;
+            Ok(())
+        }
+    }
+}
+
+/// Writes items of a list, with the join between two of them.
+#[cycle(evaluate)]
+fn write_items<'a, W: TextWrite, C: Context, S: FormatSource, L: Ledger>(
+    sink: &mut Sink<'_, W>,
+    environment: &Environment<'a, C, C::Object>,
+    list: &S::List,
+    items: &'a [Formattable<'a, C::Object>],
+    count: &mut PieceCount<L>,
+) -> Result<(), Error>
+    requires met { S.is_met list.now }
+    ensures writes { Writes W.written
+        (list_items C.Object.shows (environment_of C.finds environment.now) (S.asks list.now)
+        (map slots_of items.now))
+        sink.old sink.new (result_answer result) }
+    ensures gone { count.new ≤ count.old + (list_items_work C.Object.shows
+        (environment_of C.finds environment.now) (S.asks list.now) (map slots_of items.now)).pieces }
+    ensures exact { IfOk result (λ _. count.new ≡ count.old + (list_items_work C.Object.shows
+        (environment_of C.finds environment.now) (S.asks list.now) (map slots_of items.now)).pieces) }
+{
+    let Some((first, rest)) = items.split_first() else {
+        return Ok(());
+    };
+    let mut scratch = *list;
+    write_item::<W, C, S, L>(sink, environment, list, first, &mut scratch, count)?;
+    for item in rest {
+        write_join::<W, C, S, L>(sink, environment, list, &mut scratch, count)?;
+        write_item::<W, C, S, L>(sink, environment, list, item, &mut scratch, count)?;
+    }
+    Ok(())
+}
+
+/// Writes one item of a list. `scratch` is for lists in the item format.
+#[cycle(evaluate)]
+fn write_item<'a, W: TextWrite, C: Context, S: FormatSource, L: Ledger>(
+    sink: &mut Sink<'_, W>,
+    environment: &Environment<'a, C, C::Object>,
+    list: &S::List,
+    item: &'a Formattable<'a, C::Object>,
+    scratch: &mut S::List,
+    count: &mut PieceCount<L>,
+) -> Result<(), Error>
+    requires met { S.is_met list.now }
+    ensures writes { Writes W.written
+        (list_item C.Object.shows (environment_of C.finds environment.now) (S.asks list.now)
+        (slots_of item.now))
+        sink.old sink.new (result_answer result) }
+    ensures gone { count.new ≤ count.old + (list_item_work C.Object.shows
+        (environment_of C.finds environment.now) (S.asks list.now) (slots_of item.now)).pieces }
+    ensures exact { IfOk result (λ _. count.new ≡ count.old + (list_item_work C.Object.shows
+        (environment_of C.finds environment.now) (S.asks list.now) (slots_of item.now)).pieces) }
+{
+    match S::item(list) {
+        Some(format) => {
+            count_empty(format, count);
+            write_with::<W, C, S, L>(sink, &environment.bind(item), format, scratch, count)?;
+            Ok(())
+        }
+        None => {
+            count.tick();
+            write_plain_item(sink, item, S::end(list))?;
+            Ok(())
+        }
+    }
+}
+
+/// Counts an item whose format is empty as one piece.
+#[inline(always)]
+fn count_empty<S: FormatSource, L: Ledger>(format: S, count: &mut PieceCount<L>)
+    ensures exact { count.new ≡ count.old + empty_counts (S.tree format) }
+    ensures holds { (S.tree format ≡ no_nodes) ⊎ (first_holds (S.tree format) ≡ true) }
+{
+    if format.is_empty() {
+        count.tick();
+    }
+}
+
+/// Writes what comes between two items. `scratch` is for lists in the join.
+#[cycle(evaluate)]
+fn write_join<'a, W: TextWrite, C: Context, S: FormatSource, L: Ledger>(
+    sink: &mut Sink<'_, W>,
+    environment: &Environment<'a, C, C::Object>,
+    list: &S::List,
+    scratch: &mut S::List,
+    count: &mut PieceCount<L>,
+) -> Result<(), Error>
+    requires met { S.is_met list.now }
+    ensures writes { Writes W.written
+        (list_join C.Object.shows (environment_of C.finds environment.now) (S.asks list.now))
+        sink.old sink.new (result_answer result) }
+    ensures gone { count.new ≤ count.old + (list_join_work C.Object.shows
+        (environment_of C.finds environment.now) (S.asks list.now)).pieces }
+    ensures exact { IfOk result (λ _. count.new ≡ count.old + (list_join_work C.Object.shows
+        (environment_of C.finds environment.now) (S.asks list.now)).pieces) }
+{
+    match S::join(list) {
+        Some(format) => {
+            write_with::<W, C, S, L>(sink, environment, format, scratch, count)?;
+            Ok(())
+        }
+        None => Ok(()),
+    }
+}

@@ -1,0 +1,287 @@
+//! A text as a source: it is written while it is read. Callers come before what they call.
+ghost use Rattle.std.specs.Prelude.{◌≡◌, ◌≢◌, ◌+◌, ◌≤◌, ⊤, ℕ, IfOk, None, Some, option_map};
+ghost use Rattle.interpolator_render.specs.declared.view.Trait.TheVariants.{Iter};
+ghost use Rattle.interpolator_syntax.specs.At.{at, strip};
+ghost use Rattle.interpolator_syntax.specs.Classes.{close_brace};
+ghost use Rattle.interpolator_syntax.specs.Arguments.{argument_at, argument_after, asked_at};
+ghost use Rattle.interpolator_syntax.specs.Arguments.{plain_argument, named_argument, request_of};
+ghost use Rattle.interpolator_syntax.specs.Faults.{result_answer};
+ghost use Rattle.interpolator_syntax.specs.Groups.{group_of};
+ghost use Rattle.interpolator_syntax.specs.Nodes.{as_forest, group_branch, no_nodes, nodes, nodes_and};
+ghost use Rattle.interpolator_syntax.specs.Nodes.{token_node};
+ghost use Rattle.interpolator_syntax.specs.Pieces.{argument_from};
+ghost use Rattle.interpolator_syntax.specs.Tokens.{argument as argument_token};
+ghost use Rattle.interpolator_eval.specs.Meaning.CodeEnvironments.{environment_of};
+ghost use Rattle.interpolator_eval.specs.Meaning.Meanings.{argument_means, forest_means};
+ghost use Rattle.interpolator_eval.specs.Meaning.ScannedLists.{ArgumentTold, scanned_list};
+ghost use Rattle.interpolator_eval.specs.Meaning.ScannedLists.{scanned_rest, text_forest};
+ghost use Rattle.interpolator_eval.specs.Meaning.Sinks.{Writes};
+ghost use Rattle.interpolator_eval.specs.Meaning.Sources.{FirstAsks, Met, asks_list, before_list};
+ghost use Rattle.interpolator_eval.specs.Meaning.Sources.{branch_of, from_list, met_pieces};
+ghost use Rattle.interpolator_eval.specs.Meaning.Sources.{unlisted_means, with_brace};
+ghost use Rattle.interpolator_eval.specs.Meaning.Work.{forest_work};
+
+use crate::context::Context;
+use crate::evaluate::environment::Environment;
+use crate::evaluate::sink::Sink;
+use crate::evaluate::source::FormatSource;
+use crate::evaluate::value::{chosen_list, write_plain_value, write_value};
+use crate::piece_count::PieceCount;
+use crate::slots::Formattable;
+use interpolator_render::{Spec, TextWrite, Trait};
+use interpolator_syntax::{
+    ArgumentName, Cursor, Error, Group, ParseError, Request, Token, inside, next_token, take_name,
+    take_request,
+};
+use std::sync::ledger::Ledger;
+
+/// A list argument that the scan has met.
+#[derive(Clone, Copy)]
+pub struct ScannedList<'t> {
+    start: usize,
+    name: &'t str,
+    asked: Request<'t>,
+    end: Cursor<'t>,
+}
+
+impl<'t> FormatSource for Cursor<'t> {
+    type List = ScannedList<'t>;
+
+    ghost tree = { λ c. text_forest (at c) };
+
+    ghost is_met = { λ l. ⊤ };
+
+    ghost asks = { λ l. scanned_list l };
+
+    ghost follows = { λ l. scanned_rest l };
+
+    #[inline(always)]
+    fn is_empty(&self) -> bool {
+        self.is_at_end()
+    }
+
+    #[inline(always)]
+    fn scratch_list(&self) -> ScannedList<'t> {
+        ScannedList {
+            start: self.place,
+            name: "",
+            asked: Request::plain(),
+            end: *self,
+        }
+    }
+
+    #[inline(always)]
+    fn write_to_list<'a, W: TextWrite, C: Context, L: Ledger>(
+        &self,
+        sink: &mut Sink<'_, W>,
+        environment: &Environment<'a, C, C::Object>,
+        list: &mut ScannedList<'t>,
+        count: &mut PieceCount<L>,
+    ) -> Result<bool, Error> {
+        write_tokens(sink, environment, *self, list, count)
+    }
+
+    #[inline(always)]
+    fn items<'a, C: Context>(
+        list: &ScannedList<'t>,
+        environment: &Environment<'a, C, C::Object>,
+    ) -> Result<&'a [Formattable<'a, C::Object>], Error> {
+        chosen_list(
+            environment,
+            list.start,
+            list.name,
+            list.asked.list.range,
+            &list.asked.spec,
+            list.end.place,
+        )
+    }
+
+    #[inline(always)]
+    fn has_width(list: &ScannedList<'t>) -> bool {
+        list.asked.spec.width.is_some()
+    }
+
+    #[inline(always)]
+    fn spec(list: &ScannedList<'t>) -> Spec {
+        list.asked.spec
+    }
+
+    #[inline(always)]
+    fn end(list: &ScannedList<'t>) -> usize {
+        list.end.place
+    }
+
+    #[inline(always)]
+    fn item(list: &ScannedList<'t>) -> Option<Cursor<'t>> {
+        group_start(list.asked.list.item)
+    }
+
+    #[inline(always)]
+    fn join(list: &ScannedList<'t>) -> Option<Cursor<'t>> {
+        group_start(list.asked.list.join)
+    }
+
+    #[inline(always)]
+    fn rest(list: &ScannedList<'t>) -> Option<Cursor<'t>> {
+        list.end.strip(b'}')
+    }
+}
+
+/// Returns a cursor at the beginning of a group's text, if there is a group.
+#[inline(always)]
+fn group_start(group: Option<Group<'_>>) -> Option<Cursor<'_>>
+    ensures { branch_of (λ c. text_forest (at c)) result
+        ≡ group_branch nodes (option_map group_of group.entry) }
+{
+    match group {
+        Some(group) => Some(inside(group)),
+        None => None,
+    }
+}
+
+/// Writes what a text means up to its first list, token by token, and returns whether there is one.
+#[inline(always)]
+fn write_tokens<'t, 'a, W: TextWrite, C: Context, L: Ledger>(
+    sink: &mut Sink<'_, W>,
+    environment: &Environment<'a, C, C::Object>,
+    text: Cursor<'t>,
+    list: &mut ScannedList<'t>,
+    count: &mut PieceCount<L>,
+) -> Result<bool, Error>
+    ensures writes { Writes W.written
+        (forest_means C.Object.shows (environment_of C.finds environment.now)
+        (before_list (text_forest (at text.entry))))
+        sink.old sink.new (result_answer result) }
+    ensures met { IfOk result (λ met. Met met ⊤ (scanned_list list.new) (scanned_rest list.new)
+        (from_list (text_forest (at text.entry)))) }
+    ensures gone { count.new ≤ count.old + ((forest_work C.Object.shows
+        (environment_of C.finds environment.now) (before_list (text_forest (at text.entry)))).pieces
+        + met_pieces result) }
+    ensures exact { IfOk result (λ _. count.new ≡ count.old + ((forest_work C.Object.shows
+        (environment_of C.finds environment.now) (before_list (text_forest (at text.entry)))).pieces
+        + met_pieces result)) }
+{
+    let mut here = text;
+    while let Some((token, rest)) = next_token(here) {
+        count.tick();
+        here = match token {
+            Token::Literals(run) => {
+                sink.put_run(run, here.place)?;
+                rest
+            }
+            Token::Doubled(brace) => {
+                sink.put_char(brace, here.place)?;
+                rest
+            }
+            Token::LoneClose => {
+                sink.put_char('}', here.place)?;
+                rest
+            }
+            Token::Argument => match write_argument(sink, environment, rest, list)? {
+                Some(after) => after,
+                None => return Ok(true),
+            },
+        };
+    }
+    Ok(false)
+}
+
+/// Writes what the argument means that begins here, after its brace, and returns the text after its
+/// closing one. If the argument is a list, nothing is written; it is stored in `list`, and the
+/// result is `None`.
+///
+/// A name alone has a function of its own, in which the compiler knows the trait and the spec.
+fn write_argument<'t, 'a, W: TextWrite, C: Context>(
+    sink: &mut Sink<'_, W>,
+    environment: &Environment<'a, C, C::Object>,
+    here: Cursor<'t>,
+    list: &mut ScannedList<'t>,
+) -> Result<Option<Cursor<'t>>, Error>
+    ensures writes { (p : ℕ) → Writes W.written
+        (unlisted_means C.Object.shows (environment_of C.finds environment.now)
+        (token_node nodes p argument_token (at here.entry)))
+        sink.old sink.new (result_answer result) }
+    ensures rest { (p : ℕ) → IfOk result (λ told. ArgumentTold p (at here.entry) list.new told) }
+{
+    let named = take_name(here);
+    match named.end.strip(b'}') {
+        Some(after) => {
+            write_plain_value(sink, environment, here.place, named.name, named.end.place)?;
+            Ok(Some(after))
+        }
+        None => write_asked(sink, environment, here, named, list),
+    }
+}
+
+/// Writes what the argument means that begins here and has this name, with more after the name.
+/// Returns the text after its closing brace. If the argument is a list, nothing is written; it is
+/// stored in `list`, and the result is `None`.
+#[inline(always)]
+fn write_asked<'t, 'a, W: TextWrite, C: Context>(
+    sink: &mut Sink<'_, W>,
+    environment: &Environment<'a, C, C::Object>,
+    here: Cursor<'t>,
+    named: ArgumentName<'t>,
+    list: &mut ScannedList<'t>,
+) -> Result<Option<Cursor<'t>>, Error>
+    requires open { strip close_brace (at named.end) ≡ None }
+    requires named { argument_at (at here)
+        ≡ argument_after here.place (plain_argument named) (at named.end) }
+    ensures writes { (p : ℕ) → Writes W.written
+        (unlisted_means C.Object.shows (environment_of C.finds environment.now)
+        (token_node nodes p argument_token (at here.entry)))
+        sink.old sink.new (result_answer result) }
+    ensures rest { (p : ℕ) → IfOk result (λ told. ArgumentTold p (at here.entry) list.new told) }
+{
+    let mut end = named.end;
+    let mut asked = Request::plain();
+    match take_request(&mut end, &mut asked, here.place) {
+        Ok(()) => {}
+        Err(fault) => return Err(Error::from(fault)),
+    }
+    if let Trait::Iter = asked.slot {
+        *list = ScannedList {
+            start: here.place,
+            name: named.name,
+            asked,
+            end,
+        };
+        return Ok(None);
+    }
+    let after = write_closed(sink, environment, here.place, named, &asked, end)?;
+    Ok(Some(after))
+}
+
+/// Writes the value under a name, for an argument that starts at `start` and whose spec ends at
+/// `end`. Returns the text after its closing brace.
+#[inline(always)]
+fn write_closed<'t, 'a, W: TextWrite, C: Context>(
+    sink: &mut Sink<'_, W>,
+    environment: &Environment<'a, C, C::Object>,
+    start: usize,
+    named: ArgumentName<'t>,
+    asked: &Request<'t>,
+    end: Cursor<'t>,
+) -> Result<Cursor<'t>, Error>
+    requires value { asked.now.slot ≢ Iter }
+    ensures writes { Writes W.written
+        (with_brace (strip close_brace (at end.entry)) end.entry.place
+        (argument_means C.Object.shows (environment_of C.finds environment.now)
+        start (named_argument named.entry (request_of asked.now)) end.entry.place))
+        sink.old sink.new (result_answer result) }
+    ensures rest { IfOk result (λ r. strip close_brace (at end.entry) ≡ Some (at r)) }
+{
+    write_value(
+        sink,
+        environment,
+        start,
+        named.name,
+        asked.slot,
+        &asked.spec,
+        end.place,
+    )?;
+    match end.strip(b'}') {
+        Some(after) => Ok(after),
+        None => Err(Error::Parse(ParseError::Expected("}", end.place))),
+    }
+}

@@ -1,0 +1,281 @@
+//! Where text goes: to the writer, or into a buffer.
+ghost use Rattle.std.specs.Prelude.{◌≡◌, ◌+◌, ◌^◌, ◌<◌, length, [], ◌∷◌};
+ghost use Rattle.std.specs.Str.{chars};
+ghost use Rattle.std.specs.Option.{option_copied};
+ghost use Rattle.interpolator_render.specs.Views.{IsInRange, shown_by};
+ghost use Rattle.interpolator_render.specs.declared.view.Trait.TheVariants.{Display};
+ghost use Rattle.interpolator_render.specs.Padding.{padded_text};
+ghost use Rattle.interpolator_render.specs.Texts.{view_text};
+ghost use Rattle.interpolator_syntax.specs.At.{placed_at, placed_from};
+ghost use Rattle.interpolator_syntax.specs.Faults.{answer_of};
+ghost use Rattle.interpolator_syntax.specs.SpecTexts.{plain_spec};
+ghost use Rattle.interpolator_eval.specs.Meaning.Meanings.{text_alone, view_means, value_means};
+ghost use Rattle.interpolator_eval.specs.Meaning.Outcomes.{Outcome};
+ghost use Rattle.interpolator_eval.specs.Meaning.Sinks.{HasRoom, Writes, write_answered};
+ghost use Rattle.interpolator_eval.specs.Meaning.Sinks.{write_fault_answer};
+
+use interpolator_render::{Bounded, RenderFault, Spec, TextWrite, Trait, Value, View, pad, render};
+use interpolator_syntax::Error;
+use std::fmt;
+
+/// Why something was not written, and where in the format. An [`Error`] is made of it only after a
+/// fault: else the slot of an `Error`, which is bigger, would be zeroed for each piece.
+#[derive(Clone, Copy)]
+pub enum WriteFault {
+    /// The slot of the trait is empty, or its value has no text under the trait.
+    MissingTraitImpl(Trait, usize),
+    /// A value failed, or the writer refused a text.
+    Fmt(usize),
+}
+
+impl From<WriteFault> for Error {
+    ghost from_gives = { λ fault error. answer_of error ≡ write_fault_answer fault };
+
+    #[cold]
+    fn from(fault: WriteFault) -> Error {
+        match fault {
+            WriteFault::MissingTraitImpl(wanted, place) => Error::MissingTraitImpl(wanted, place),
+            WriteFault::Fmt(place) => Error::Fmt(fmt::Error, place),
+        }
+    }
+}
+
+/// Writes one character of the format.
+pub fn write_char<W: TextWrite>(out: &mut W, c: char, place: usize) -> Result<(), WriteFault>
+    ensures outcome { Outcome (text_alone ((c, place) ∷ []))
+        (W.written out.old) (W.written out.new) (write_answered result) }
+{
+    match out.write_char(c) {
+        Ok(()) => Ok(()),
+        Err(_) => Err(WriteFault::Fmt(place)),
+    }
+}
+
+/// Writes characters of the format from a place on. A single ASCII character is written as such,
+/// since a text costs more.
+#[inline(always)]
+pub fn write_run<W: TextWrite>(out: &mut W, text: &str, place: usize) -> Result<(), WriteFault>
+    requires fits { place + length text.now < 2 ^ 64 }
+    ensures outcome { Outcome (text_alone (placed_from place (chars text.now)))
+        (W.written out.old) (W.written out.new) (write_answered result) }
+{
+    if let [byte] = text.as_bytes() {
+        if byte.is_ascii() {
+            return write_char(out, *byte as char, place);
+        }
+    }
+    match out.write_str(text) {
+        Ok(()) => Ok(()),
+        Err(refusal) => Err(WriteFault::Fmt(place + refusal.taken)),
+    }
+}
+
+/// Writes a view, with all its characters at one place.
+#[inline(always)]
+fn write_view<W: TextWrite>(
+    out: &mut W,
+    view: View<'_>,
+    wanted: Trait,
+    spec: &Spec,
+    place: usize,
+) -> Result<(), WriteFault>
+    requires in_range { IsInRange (shown_by view) }
+    ensures outcome { Outcome
+        (view_means wanted place (view_text (shown_by view.entry) wanted spec.now))
+        (W.written out.old) (W.written out.new) (write_answered result) }
+{
+    match render(out, view, wanted, spec) {
+        Ok(()) => Ok(()),
+        Err(RenderFault::NotImplemented) => Err(WriteFault::MissingTraitImpl(wanted, place)),
+        Err(RenderFault::Failed) => Err(WriteFault::Fmt(place)),
+        Err(RenderFault::Refused) => Err(WriteFault::Fmt(place)),
+    }
+}
+
+/// Writes a view displayed plainly, with all its characters at one place. A text is written as it
+/// is, which saves making a spec.
+#[inline(always)]
+fn write_plain_view<W: TextWrite>(
+    out: &mut W,
+    view: View<'_>,
+    place: usize,
+) -> Result<(), WriteFault>
+    requires in_range { IsInRange (shown_by view) }
+    ensures outcome { Outcome
+        (view_means Display place (view_text (shown_by view.entry) Display plain_spec))
+        (W.written out.old) (W.written out.new) (write_answered result) }
+{
+    match view {
+        View::Text(text) => write_text_at(out, text, place),
+        _ => write_displayed(out, view, place),
+    }
+}
+
+/// Writes a text, with all its characters at one place.
+#[inline(always)]
+fn write_text_at<W: TextWrite>(out: &mut W, text: &str, place: usize) -> Result<(), WriteFault>
+    ensures outcome { Outcome (text_alone (placed_at place (chars text.now)))
+        (W.written out.old) (W.written out.new) (write_answered result) }
+{
+    match out.write_str(text) {
+        Ok(()) => Ok(()),
+        Err(_) => Err(WriteFault::Fmt(place)),
+    }
+}
+
+/// Writes a view under the plain spec.
+#[inline(always)]
+fn write_displayed<W: TextWrite>(
+    out: &mut W,
+    view: View<'_>,
+    place: usize,
+) -> Result<(), WriteFault>
+    requires in_range { IsInRange (shown_by view) }
+    ensures outcome { Outcome
+        (view_means Display place (view_text (shown_by view.entry) Display plain_spec))
+        (W.written out.old) (W.written out.new) (write_answered result) }
+{
+    write_view(out, view, Trait::Display, &Spec::default(), place)
+}
+
+/// Writes a text padded to the width, with all its characters at one place.
+fn write_padded<W: TextWrite>(
+    out: &mut W,
+    text: &str,
+    spec: &Spec,
+    place: usize,
+) -> Result<(), WriteFault>
+    requires no_precision { spec.now.precision ≡ None }
+    ensures outcome { Outcome (text_alone (placed_at place (padded_text spec.now (chars text.now))))
+        (W.written out.old) (W.written out.new) (write_answered result) }
+{
+    match pad(out, text, spec) {
+        Ok(()) => Ok(()),
+        Err(_) => Err(WriteFault::Fmt(place)),
+    }
+}
+
+/// Writes the value in a slot, under a trait and a spec, with all its characters at one place.
+#[inline(always)]
+pub fn write_shown<W: TextWrite, V: Value>(
+    out: &mut W,
+    value: Option<&V>,
+    wanted: Trait,
+    spec: &Spec,
+    place: usize,
+) -> Result<(), WriteFault>
+    ensures outcome { Outcome
+        (value_means V.shows wanted spec.now place (option_copied value.entry))
+        (W.written out.old) (W.written out.new) (write_answered result) }
+{
+    let Some(value) = value else {
+        return Err(WriteFault::MissingTraitImpl(wanted, place));
+    };
+    write_view(out, value.view(wanted, spec), wanted, spec, place)
+}
+
+/// Writes the value in a slot, displayed plainly, with all its characters at one place.
+#[inline(always)]
+pub fn write_plain<W: TextWrite, V: Value>(
+    out: &mut W,
+    value: Option<&V>,
+    place: usize,
+) -> Result<(), WriteFault>
+    ensures outcome { Outcome (value_means V.shows Display plain_spec place (option_copied value.entry))
+        (W.written out.old) (W.written out.new) (write_answered result) }
+{
+    let Some(value) = value else {
+        return Err(WriteFault::MissingTraitImpl(Trait::Display, place));
+    };
+    let view = value.view(Trait::Display, &Spec::default());
+    write_plain_view(out, view, place)
+}
+
+/// Where text goes: to the writer, or into a buffer, for a list that is padded when it is whole.
+pub enum Sink<'s, W> {
+    Writer(&'s mut W),
+    Buffer(&'s mut Bounded),
+}
+
+impl<'s, W: TextWrite> Sink<'s, W> {
+    /// Writes characters of the format from a place on, as one slice.
+    #[inline(always)]
+    pub fn put_run(&mut self, text: &str, place: usize) -> Result<(), WriteFault>
+        requires fits { place + length text.now < 2 ^ 64 }
+        ensures writes { Writes W.written (text_alone (placed_from place (chars text.now)))
+            self.old self.new (write_answered result) }
+    {
+        match self {
+            Sink::Writer(out) => write_run(&mut **out, text, place),
+            Sink::Buffer(buffer) => write_run(&mut **buffer, text, place),
+        }
+    }
+
+    /// Writes one character of the format.
+    #[inline(always)]
+    pub fn put_char(&mut self, c: char, place: usize) -> Result<(), WriteFault>
+        ensures writes { Writes W.written (text_alone ((c, place) ∷ []))
+            self.old self.new (write_answered result) }
+    {
+        match self {
+            Sink::Writer(out) => write_char(&mut **out, c, place),
+            Sink::Buffer(buffer) => write_char(&mut **buffer, c, place),
+        }
+    }
+
+    /// Writes a text padded to the width, with all its characters at one place.
+    pub fn put_padded(&mut self, text: &str, spec: &Spec, place: usize) -> Result<(), WriteFault>
+        requires no_precision { spec.now.precision ≡ None }
+        ensures writes { Writes W.written
+            (text_alone (placed_at place (padded_text spec.now (chars text.now))))
+            self.old self.new (write_answered result) }
+    {
+        match self {
+            Sink::Writer(out) => write_padded(&mut **out, text, spec, place),
+            Sink::Buffer(buffer) => write_padded(&mut **buffer, text, spec, place),
+        }
+    }
+
+    /// Returns how many more bytes it can take at most: for a buffer what is left of it, and for a
+    /// writer what that reports, or the greatest `usize` if it reports nothing.
+    pub(crate) fn room(&self) -> usize
+        ensures room { HasRoom W.limit self.now result }
+    {
+        match self {
+            Sink::Writer(out) => out.room().unwrap_or(usize::MAX),
+            Sink::Buffer(buffer) => buffer.left(),
+        }
+    }
+
+    /// Writes the value in a slot, under a trait and a spec, with all its characters at one place.
+    #[inline(always)]
+    pub fn put_value<V: Value>(
+        &mut self,
+        value: Option<&V>,
+        wanted: Trait,
+        spec: &Spec,
+        place: usize,
+    ) -> Result<(), WriteFault>
+        ensures writes { Writes W.written
+            (value_means V.shows wanted spec.now place (option_copied value.entry))
+            self.old self.new (write_answered result) }
+    {
+        match self {
+            Sink::Writer(out) => write_shown(&mut **out, value, wanted, spec, place),
+            Sink::Buffer(buffer) => write_shown(&mut **buffer, value, wanted, spec, place),
+        }
+    }
+
+    /// Writes the value in a slot, displayed plainly, with all its characters at one place.
+    #[inline(always)]
+    pub fn put_plain<V: Value>(&mut self, value: Option<&V>, place: usize) -> Result<(), WriteFault>
+        ensures writes { Writes W.written
+            (value_means V.shows Display plain_spec place (option_copied value.entry))
+            self.old self.new (write_answered result) }
+    {
+        match self {
+            Sink::Writer(out) => write_plain(&mut **out, value, place),
+            Sink::Buffer(buffer) => write_plain(&mut **buffer, value, place),
+        }
+    }
+}

@@ -1,0 +1,169 @@
+//! The value and the list under a name, for formats as texts and for formats that were parsed.
+ghost use Rattle.std.specs.Prelude.{◌≡◌, ◌⊎◌, [], IfOk, MatchResult, Some, false, map};
+ghost use Rattle.std.specs.Str.{chars};
+ghost use Rattle.std.specs.Option.{option_copied};
+ghost use Rattle.interpolator_render.specs.Bounds.{bounded_writer};
+ghost use Rattle.interpolator_render.specs.declared.view.Trait.TheVariants.{Display};
+ghost use Rattle.interpolator_syntax.specs.Faults.{result_answer, fault, missing_value, no_memory};
+ghost use Rattle.interpolator_syntax.specs.SpecTexts.{plain_spec};
+ghost use Rattle.interpolator_eval.specs.Meaning.Environments.{slots_under};
+ghost use Rattle.interpolator_eval.specs.Meaning.Lists.{IsChosen, IsNotChosen, ChosenUnder};
+ghost use Rattle.interpolator_eval.specs.Meaning.Meanings.{under_name, value_means, forbids_list};
+ghost use Rattle.interpolator_eval.specs.Meaning.CodeEnvironments.{environment_of};
+ghost use Rattle.interpolator_eval.specs.Meaning.Sinks.{HasRoom, Writes, write_answered};
+ghost use Rattle.interpolator_eval.specs.Slots.{slots_of, slot_at, values_of};
+
+use crate::context::Context;
+use crate::evaluate::environment::Environment;
+use crate::evaluate::list::{choose, forbids_list};
+use crate::evaluate::sink::{Sink, WriteFault};
+use crate::slots::Formattable;
+use interpolator_render::{Bounded, Spec, TextWrite, Trait, Value};
+use interpolator_syntax::{Error, ParseError, Range};
+
+/// Returns the fault of an absent name, for an argument that starts at `start`. It is a function of
+/// its own, since a function zeroes its error slot on entry.
+#[inline(always)]
+fn refused<'a, C: Context>(
+    environment: &Environment<'a, C, C::Object>,
+    start: usize,
+    name: &str,
+) -> Result<(), Error>
+    ensures told { (result_answer result ≡ Some (fault (missing_value (chars name.now) start)))
+        ⊎ (result_answer result ≡ Some no_memory) }
+{
+    Err(environment.missing(name, start))
+}
+
+/// Writes the value under a name, for an argument that starts at `start` and whose spec ends at
+/// `end`.
+#[inline(always)]
+pub fn write_value<'a, W: TextWrite, C: Context>(
+    sink: &mut Sink<'_, W>,
+    environment: &Environment<'a, C, C::Object>,
+    start: usize,
+    name: &str,
+    wanted: Trait,
+    spec: &Spec,
+    end: usize,
+) -> Result<(), Error>
+    ensures writes { Writes W.written
+        (under_name (chars name.now) start
+        (λ found. value_means C.Object.shows wanted spec.now end (slot_at wanted (values_of found)))
+        (slots_under (environment_of C.finds environment.now) (chars name.now)))
+        sink.old sink.new (result_answer result) }
+{
+    let Some(value) = environment.value(name, wanted) else {
+        return refused(environment, start, name);
+    };
+    sink.put_value(value, wanted, spec, end)?;
+    Ok(())
+}
+
+/// Writes the value under a name, displayed plainly, for an argument that starts at `start` and
+/// ends at `end`.
+#[inline(always)]
+pub fn write_plain_value<'a, W: TextWrite, C: Context>(
+    sink: &mut Sink<'_, W>,
+    environment: &Environment<'a, C, C::Object>,
+    start: usize,
+    name: &str,
+    end: usize,
+) -> Result<(), Error>
+    ensures writes { Writes W.written
+        (under_name (chars name.now) start
+        (λ found. value_means C.Object.shows Display plain_spec end (slot_at Display (values_of found)))
+        (slots_under (environment_of C.finds environment.now) (chars name.now)))
+        sink.old sink.new (result_answer result) }
+{
+    let Some(value) = environment.value(name, Trait::Display) else {
+        return refused(environment, start, name);
+    };
+    sink.put_plain(value, end)?;
+    Ok(())
+}
+
+/// Writes an item of a list without an item format: displayed plainly, for an argument whose spec
+/// ends at `end`.
+pub fn write_plain_item<'a, W: TextWrite, V: Value>(
+    sink: &mut Sink<'_, W>,
+    item: &'a Formattable<'a, V>,
+    end: usize,
+) -> Result<(), Error>
+    ensures writes { Writes W.written
+        (value_means V.shows Display plain_spec end (slot_at Display (values_of (slots_of item.now))))
+        sink.old sink.new (result_answer result) }
+{
+    sink.put_plain(item.slot(Trait::Display), end)?;
+    Ok(())
+}
+
+/// Returns the value in a slot of an item.
+#[inline(always)]
+pub fn slot_of<'a, V>(item: &Formattable<'a, V>, wanted: Trait) -> Option<&'a V>
+    ensures slot { option_copied result ≡ slot_at wanted (values_of (slots_of item.now)) }
+{
+    item.slot(wanted)
+}
+
+/// Writes the value in a slot of an item, under a spec that ends at `end`.
+#[inline(always)]
+pub fn write_slot<'a, W: TextWrite, V: Value>(
+    sink: &mut Sink<'_, W>,
+    item: &'a Formattable<'a, V>,
+    wanted: Trait,
+    spec: &Spec,
+    end: usize,
+) -> Result<(), WriteFault>
+    ensures writes { Writes W.written
+        (value_means V.shows wanted spec.now end (slot_at wanted (values_of (slots_of item.now))))
+        sink.old sink.new (write_answered result) }
+{
+    let value = item.slot(wanted);
+    sink.put_value(value, wanted, spec, end)
+}
+
+/// Returns the items that a range chooses of the list under a name, for an argument that starts at
+/// `start` and whose spec ends at `end`.
+#[inline(always)]
+pub fn chosen_list<'a, C: Context>(
+    environment: &Environment<'a, C, C::Object>,
+    start: usize,
+    name: &str,
+    range: Option<Range>,
+    spec: &Spec,
+    end: usize,
+) -> Result<&'a [Formattable<'a, C::Object>], Error>
+    ensures chosen { MatchResult result
+        (λ items. IsChosen (environment_of C.finds environment.now) (chars name.now) start range spec.now
+        end (map slots_of items.now))
+        (λ error. IsNotChosen (environment_of C.finds environment.now) (chars name.now) start range
+        spec.now end error) }
+    ensures items { IfOk result
+        (λ items. ChosenUnder (environment_of C.finds environment.now) (chars name.now) range
+        (map slots_of items.now)) }
+    ensures allowed { IfOk result (λ _. forbids_list spec.now ≡ false) }
+{
+    let Some(found) = environment.items(name) else {
+        return Err(environment.missing(name, start));
+    };
+    let Some(items) = found else {
+        return Err(Error::MissingTraitImpl(Trait::Iter, end));
+    };
+    if forbids_list(spec) {
+        return Err(Error::Parse(ParseError::Iter(end)));
+    }
+    Ok(choose(items, range))
+}
+
+/// Makes an empty buffer for the text of a list that is made whole before it is written. The buffer
+/// takes at most as many bytes as the sink has room for.
+pub fn list_buffer<'a, W: TextWrite, C: Context>(
+    sink: &Sink<'_, W>,
+    environment: &Environment<'a, C, C::Object>,
+) -> Bounded
+    ensures empty { bounded_writer result ≡ record { text = []; refused = false } }
+    ensures most { HasRoom W.limit sink.now result.most }
+{
+    Bounded::new(environment.alloc(), sink.room())
+}
