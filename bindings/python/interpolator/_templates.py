@@ -163,7 +163,7 @@ class Template:
             if code not in PLACED:
                 raise self._fault(answer, picture, fields)
             index = self._index(answer.place)
-            message = source.message_of(picture)
+            message = source.message_of(picture, answer.place)
             yield fault(Code(code), message, answer.place, index, picture, answer.detail)
 
     def explain(
@@ -386,10 +386,13 @@ class Source:
         text = c.Bytes(self._text, len(self._text))
         return c.Source(name=name, text=text, first_line=self._first_line, start=self._start)
 
-    def message_of(self, picture: str) -> str:
-        """What a picture says, between the place and the three lines with the marks."""
+    def message_of(self, picture: str, place: int) -> str:
+        """What a picture says of a fault, between the place and the three lines with the marks, and
+        without the note that there is if the format does not begin the text."""
         head = picture.rsplit("\n", 3)[0]
-        return head[len(self.name) + 1 :].partition(": ")[2]
+        message = head[len(self.name) + 1 :].partition(": ")[2]
+        note = f" (byte {place} of the format)"
+        return message[: -len(note)] if self._start else message
 
 
 class _Read:
