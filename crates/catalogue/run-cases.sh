@@ -10,7 +10,7 @@ here=$(cd "$(dirname "$0")" && pwd)
 name=catalogue
 usage='usage: catalogue [--fallback FILE] FILE KEY [NAME=TEXT | NAME:=NUMBER | NAME[]=ITEM,ITEM..]'
 usage+=' | catalogue --check FILE..'
-wanted=76
+wanted=77
 . "$here/../../.ci/cases.sh"
 
 # message WANTED WORD..: a message, which goes to standard output, with status 0.
@@ -158,6 +158,11 @@ all_cases() {
         'keys.txt:9:1: line 3 has the key `bye` too' '  |' '9 | bye=Bye' '  | ^' \
         'keys.txt:10:4: no key' '   |' '10 |    = ' '   |    ^')" \
         keys.txt bye
+    # so many lines take minutes, more than a case has, if each key is compared with all before it
+    seq -f 'key.%.0f = {x}' 400000 >many.txt
+    echo 'key.7 = again' >>many.txt
+    told "$(printf '%s\n' 'many.txt:400001:1: line 7 has the key `key.7` too' '       |' \
+        '400001 | key.7 = again' '       | ^')" --check many.txt
     printf '%s\n' 'hello = Hallo {name}!' >de.txt
     message 'Hallo Zoë!' --fallback m.txt de.txt hello name=Zoë
     message 'Bye,   Ann.' --fallback m.txt de.txt bye name=Ann

@@ -5,16 +5,20 @@ use Rattle.std.proofs.Common.{arith, append-nil, append_assoc, length-append, �
 use Rattle.std.specs.Borrow.{Bor}
 use Rattle.std.specs.List.{AllZip, enumerate_from, find}
 use Rattle.std.specs.Option.{option_map, option_or}
+use Rattle.std.proofs.lemmas.Bool.Decides.{nat_tests}
 use Rattle.std.proofs.lemmas.List.{get_or_default, length-map, map-append, take_more}
 use Rattle.std.proofs.lemmas.List.Folds.{find-append}
 use Rattle.std.proofs.lemmas.Slice.Zip.{all_zipped_more}
 use Rattle.catalogue.proofs.FirstLemmas.{map_or}
-use Rattle.catalogue.specs.Declarations.{Declared, nothing, these, broken}
-use Rattle.catalogue.specs.Keys.{as_keys}
-use Rattle.catalogue.specs.Messages.{IsSoundOver, is_under, key_with, keys_in, line_under, numbered}
+use Rattle.catalogue.specs.Declarations.{Declared, nothing, these, broken, has}
+use Rattle.catalogue.specs.Keys.{as_keys, told_of_key}
+use Rattle.catalogue.specs.Messages.{IsSoundOver, declared_of, format_of, head_of, is_passed_over}
+use Rattle.catalogue.specs.Messages.{is_under, key_of, key_with, keys_in, line_under, numbered}
 use Rattle.catalogue.specs.Messages.{source_of, told_of_fault, told_of_faults, told_of_line}
 use Rattle.catalogue.specs.Messages.{told_of_lines, told_of_message, what_is_declared}
 use Rattle.catalogue.specs.Reports.{told_at}
+use Rattle.catalogue.specs.Rules.{rule_in}
+use Rattle.catalogue.specs.Words.{HasEquals, is_equals}
 use Rattle.interpolator.specs.Explained.{explanation_of}
 use Rattle.interpolator.specs.Faults.{answer_place, Answer, Fault, fault, no_memory}
 
@@ -59,6 +63,16 @@ numbers_more n [] x = let e : n ≡ n + 0 = omega arith in
 numbers_more n (y ∷ ys) x = let e : n + 1 + length ys ≡ n + length (y ∷ ys) = omega arith in
     ap {B = List (ℕ × List ℕ)} (λ l. (n, y) ∷ l) (numbers_more (n + 1) ys x
     ∙ ap {B = List (ℕ × List ℕ)} (λ k. enumerate_from (n + 1) ys ++ ((k, x) ∷ [])) e)
+
+-- what is reported of a line that has a message: what is wrong with its key and with the message
+pub told_with_message : (file : List ℕ) (keys : List (ℕ × List ℕ)) (number : ℕ) (line : List ℕ)
+    → is_passed_over line ≡ false → rule_in line ≡ None → HasEquals line
+    → told_of_line file keys number line
+    ≡ told_of_key file number line (head_of line) (key_of line) keys
+    ++ told_of_message file number line (declared_of line) (format_of line)
+told_with_message file keys number line some none cut =
+    let its : has is_equals line ≡ true = grind (arith, nat_tests) in
+    rw (some, none, its) refl
 
 -- what is reported of lines and one more, after others with these keys
 told_more : (file : List ℕ) (keys xs : List (ℕ × List ℕ)) (x : ℕ × List ℕ)
@@ -113,25 +127,22 @@ module _ (seen : List (Bor (List ℕ))) (line : Bor (List ℕ)) (number : ℕ)
       ∙ ap {B = List (ℕ × List ℕ)} (λ k. numbered texts ++ ((k, line.now) ∷ [])) its)
 
   -- their keys
-  pub keys_next : (keys : List (ℕ × List ℕ)) → keys ≡ keys_in (numbered texts)
-      → keys ++ as_keys (number + 1) (key_with line.now)
+  pub keys_next : keys_in (numbered texts) ++ as_keys (number + 1) (key_with line.now)
       ≡ keys_in (numbered (map (λ x. x.now) (seen ++ (line ∷ []))))
-  keys_next keys so_far =
-      rw (one_line, keys_more (numbered texts) (number + 1, line.now), so_far) refl
+  keys_next = rw (one_line, keys_more (numbered texts) (number + 1, line.now)) refl
 
   -- what is reported of them
-  pub told_next : (file told more new : List ℕ) (keys : List (ℕ × List ℕ)) → new ≡ told ++ more
-      → keys ≡ keys_in (numbered texts) → told ≡ told_of_lines file [] (numbered texts)
-      → more ≡ told_of_line file keys (number + 1) line.now
+  pub told_next : (file told more new : List ℕ) → new ≡ told ++ more
+      → told ≡ told_of_lines file [] (numbered texts)
+      → more ≡ told_of_line file (keys_in (numbered texts)) (number + 1) line.now
       → new ≡ told_of_lines file [] (numbered (map (λ x. x.now) (seen ++ (line ∷ []))))
-  told_next file told more new keys pushed same so_far one =
+  told_next file told more new pushed so_far one =
       rw (
         one_line,
         told_more file [] (numbered texts) (number + 1, line.now),
         pushed,
         so_far,
         one,
-        same,
       ) refl
 
   -- the one of them that has the key

@@ -1,17 +1,14 @@
 -- The keys of the lines of a file. Texts are bytes.
-use Rattle.std.specs.Prelude.{◌≡◌, ◌≢◌, ℕ, ◌==◌, List, [], ◌∷◌, ◌++◌, codes, length, if◌then◌else◌}
-use Rattle.std.specs.Prelude.{Option, None, Some}
+use Rattle.std.specs.Prelude.{◌≡◌, ◌≢◌, ◌↔◌, ℕ, ◌==◌, List, [], ◌∷◌, ◌++◌, codes, length}
+use Rattle.std.specs.Prelude.{if◌then◌else◌, Option, None, Some}
+use Rattle.std.specs.Borrow.{Bor}
 use Rattle.std.specs.Fmt.{decimal}
+use Rattle.std.specs.HashMap.{HashMap, get_by, hash_map_len}
 use Rattle.std.specs.List.{find}
 use Rattle.std.specs.Option.{option_map}
 use Rattle.std.specs.Str.{bytes_eq}
 use Rattle.catalogue.specs.Declarations.{begin_of}
 use Rattle.catalogue.specs.Reports.{told_at}
-use Rattle.catalogue.specs.declared.keys.Key.{Key}
-
--- the number of a line and its key, borrows aside
-abbrev pub as_key : Key → ℕ × List ℕ
-as_key key = (key.number, key.text.now)
 
 -- the key of a line with its number, if it has one, as a list
 abbrev pub as_keys : ℕ → Option (List ℕ) → List (ℕ × List ℕ)
@@ -21,6 +18,12 @@ as_keys number (Some key) = (number, key) ∷ []
 -- the number of the line that has a key, if one has
 abbrev pub number_of : List (ℕ × List ℕ) → List ℕ → Option ℕ
 number_of keys key = option_map (λ one. one.0) (find (λ one. bytes_eq key one.1) keys)
+
+-- a map has the number of the first line of each of these keys, and no other key
+pub record Remembers {S : Type 0} (keys : List (ℕ × List ℕ)) (map : HashMap (Bor (List ℕ)) ℕ S)
+    : Type 0 where
+  pub finds : (key : List ℕ) → get_by (λ one. bytes_eq key one.now) map ≡ number_of keys key
+  pub none : (hash_map_len map ≡ 0) ↔ (length keys ≡ 0)
 
 -- a key is not empty, and not among those of the lines before
 pub record IsNew (keys : List (ℕ × List ℕ)) (key : List ℕ) : Type 0 where

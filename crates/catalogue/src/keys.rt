@@ -1,54 +1,56 @@
 //! The keys of the lines of a file.
 
-ghost use Rattle.std.specs.Prelude.{◌≡◌, ◌++◌, IfErr, IfOk, OnOk, map, string_bytes};
-ghost use Rattle.std.specs.Option.{option_copied, option_map};
-ghost use Rattle.std.specs.List.{find};
-ghost use Rattle.std.specs.Str.{bytes_eq};
+ghost use Rattle.std.specs.Prelude.{◌≡◌, ◌++◌, ◌==◌, ℕ, List, [], IfErr, IfOk, OnOk, length};
+ghost use Rattle.std.specs.Prelude.{string_bytes};
+ghost use Rattle.std.specs.Option.{option_map};
 ghost use Rattle.interpolator.specs.Faults.{answer_of, no_memory};
-ghost use Rattle.catalogue.specs.Keys.{as_key, as_keys, number_of, told_again, told_of_key, what_is_again};
+ghost use Rattle.catalogue.specs.Keys.{Remembers, as_keys, number_of, told_again, told_of_key};
+ghost use Rattle.catalogue.specs.Keys.{what_is_again};
 
 use crate::declarations::begin_of;
 use crate::reports::told_at;
 use interpolator::Error;
 use std::alloc::{AllocError, Global};
+use std::collections::HashMap;
 
-/// The key of a line, and the line's number.
-#[derive(Clone, Copy, Debug)]
-pub struct Key<'a> {
-    pub number: usize,
-    pub text: &'a str,
+/// No keys yet.
+pub fn no_keys<'a>(alloc: Global) -> HashMap<&'a str, usize>
+    ensures { Remembers [] result }
+{
+    HashMap::new(alloc)
 }
 
-/// Adds the key of a line, if it has one.
+/// Adds the key of a line, if it has one that no line before it has.
 pub fn add<'a>(
-    keys: &mut Vec<Key<'a>>,
+    keys: &mut HashMap<&'a str, usize>,
     number: usize,
     key: Option<&'a str>,
 ) -> Result<(), AllocError>
-    ensures { OnOk result (map as_key keys.new.items
-        ≡ map as_key keys.old.items ++ as_keys number (option_map (λ x. x.now) key.entry)) }
+    ensures { OnOk result ((seen : List (ℕ × List ℕ)) → Remembers seen keys.old
+        → Remembers (seen ++ as_keys number (option_map (λ x. x.now) key.entry)) keys.new) }
 {
-    if let Some(text) = key {
-        keys.push(Key { number, text })?;
+    let Some(key) = key else {
+        return Ok(());
+    };
+    if !keys.contains_key(key) {
+        keys.insert(key, number)?;
     }
     Ok(())
 }
 
-/// The key of these that is the same.
-fn same_key<'k, 'a>(keys: &'k [Key<'a>], key: &str) -> Option<&'k Key<'a>>
-    ensures { option_copied result ≡ find (λ one. bytes_eq key.now one.text.now) keys.now }
+/// The number of the line that has a key, if one has.
+fn number_of(keys: &HashMap<&str, usize>, key: &str) -> Option<usize>
+    ensures { (seen : List (ℕ × List ℕ)) → Remembers seen keys.now
+        → result ≡ number_of seen key.now }
 {
-    keys.iter().find(|one| key == one.text)
+    keys.get(key).copied()
 }
 
-/// The number of the line that has a key, if one has.
-fn number_of(keys: &[Key<'_>], key: &str) -> Option<usize>
-    ensures { result ≡ number_of (map as_key keys.now) key.now }
+/// Whether no line has a key.
+pub fn is_first(keys: &HashMap<&str, usize>) -> bool
+    ensures { (seen : List (ℕ × List ℕ)) → Remembers seen keys.now → result ≡ (length seen == 0) }
 {
-    match same_key(keys, key) {
-        None => None,
-        Some(found) => Some(found.number),
-    }
+    keys.is_empty()
 }
 
 /// What is reported of a key that another line has.
@@ -89,10 +91,10 @@ pub fn told_of_key(
     line: &str,
     head: &str,
     key: &str,
-    keys: &[Key<'_>],
+    keys: &HashMap<&str, usize>,
 ) -> Result<String, Error>
-    ensures told { IfOk result (λ told. string_bytes told
-        ≡ told_of_key file.now number line.now head.now key.now (map as_key keys.now)) }
+    ensures told { IfOk result (λ told. (seen : List (ℕ × List ℕ)) → Remembers seen keys.now
+        → string_bytes told ≡ told_of_key file.now number line.now head.now key.now seen) }
     ensures refused { IfErr result (λ error. answer_of error ≡ no_memory) }
 {
     if key.is_empty() {

@@ -7,7 +7,7 @@ ghost use Rattle.std.specs.Option.{option_map};
 ghost use Rattle.std.specs.Str.Lines.{lines};
 ghost use Rattle.interpolator.specs.Faults.{answer_of, no_memory};
 ghost use Rattle.catalogue.specs.Declarations.{Declared, declared_by};
-ghost use Rattle.catalogue.specs.Keys.{as_key, told_of_key};
+ghost use Rattle.catalogue.specs.Keys.{Remembers, told_of_key};
 ghost use Rattle.catalogue.specs.Messages.{is_under, key_with, line_under, lines_of, numbered};
 ghost use Rattle.catalogue.specs.Messages.{IsSoundFile, as_file, found_among, found_in, given};
 ghost use Rattle.catalogue.specs.Messages.{Known, line_with_format, with_format, with_lack};
@@ -26,7 +26,7 @@ use crate::entries::{Entry, Object, pairs_of};
 use crate::examples::{counts, faults_of};
 use crate::files::File;
 use crate::forms::{choice_in, or_form};
-use crate::keys::{Key, add, told_of_key};
+use crate::keys::{add, is_first, no_keys, told_of_key};
 use crate::lines::{is_key, is_passed_over, line_of, sought, without_mark};
 use crate::picks::{Picked, picks_of, told_of_lacking};
 use crate::reports::told_at;
@@ -34,6 +34,7 @@ use crate::rules::{HEAD, broken_in, rule_in};
 use crate::words::objects_of;
 use interpolator::{Error, Formattable, Interpolate, Pairs, Source, Template, explain_in};
 use std::alloc::Global;
+use std::collections::HashMap;
 
 /// What is reported of a broken declaration.
 const WHAT_IS_DECLARED: &str = "declarations are `(NAME, NAME:, NAME[])`, each name once";
@@ -205,13 +206,13 @@ fn told_of_rule(
     number: usize,
     line: &str,
     rule: &str,
-    keys: &[Key<'_>],
+    keys: &HashMap<&str, usize>,
 ) -> Result<String, Error>
-    ensures told { IfOk result (λ told. string_bytes told
-        ≡ told_of_rule file.now (map as_key keys.now) number line.now rule.now) }
+    ensures told { IfOk result (λ told. (seen : List (ℕ × List ℕ)) → Remembers seen keys.now
+        → string_bytes told ≡ told_of_rule file.now seen number line.now rule.now) }
     ensures refused { IfErr result (λ error. answer_of error ≡ no_memory) }
 {
-    if !keys.is_empty() {
+    if !is_first(keys) {
         return told_at(alloc, file, number, line, 0, WHAT_IS_BEFORE);
     }
     match broken_in(rule) {
@@ -226,11 +227,11 @@ fn checked_line<'a>(
     file: &'a str,
     number: usize,
     text: &'a str,
-    keys: &[Key<'_>],
+    keys: &HashMap<&str, usize>,
     key: &str,
 ) -> Result<Line<'a>, Error>
-    ensures told { IfOk result (λ line. string_bytes line.told
-        ≡ told_of_line file.now (map as_key keys.now) number text.now) }
+    ensures told { IfOk result (λ line. (seen : List (ℕ × List ℕ)) → Remembers seen keys.now
+        → string_bytes line.told ≡ told_of_line file.now seen number text.now) }
     ensures key { IfOk result (λ line.
         option_map (λ x. x.now) line.key ≡ key_with text.now) }
     ensures found { IfOk result (λ line. option_map {U = List ℕ × ℕ × List ℕ × List ℕ × Declared}
@@ -307,12 +308,12 @@ fn checked_lines<'a>(
     ensures refused { IfErr result (λ error. answer_of error ≡ no_memory) }
 {
     let mut told = String::new(alloc);
-    let mut keys = Vec::new(alloc);
+    let mut keys = no_keys(alloc);
     let mut found = None;
     let mut number = 0usize;
     for text in text.lines() {
         number += 1;
-        let line = checked_line(alloc, file, number, text, keys.as_slice(), key)?;
+        let line = checked_line(alloc, file, number, text, &keys, key)?;
         told.push_str(line.told.as_str())?;
         add(&mut keys, number, line.key)?;
         found = found.or(line.found);

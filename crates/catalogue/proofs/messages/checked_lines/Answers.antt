@@ -1,7 +1,8 @@
-use Rattle.std.proofs.Common.{◌∷◌, [], arith, length-append}
+use Rattle.std.proofs.Common.{◌∷◌, [], arith, length-append, subst}
 use Rattle.std.proofs.lemmas.Iterator.Consumers.{YieldsList-end}
 use Rattle.std.proofs.lemmas.Iterator.Splits.{YieldsList-from_lines}
 use Rattle.catalogue.specs.Declarations.{declared_by}
+use Rattle.catalogue.specs.Keys.{Remembers}
 use Rattle.catalogue.specs.Messages.{with_format}
 use Rattle.catalogue.proofs.MessageLemmas.{told_next, keys_next, found_next}
 use Rattle.catalogue.proofs.messages.checked_lines.Goals as goal
@@ -12,11 +13,12 @@ loop-text-preserved c =
     let seen = c.loop-text.yielded in
     record {
       counted = omega (arith, so_far.counted, length-append seen (c.in-Some.text ∷ []));
-      keys = rw (c.in_ok-add.ensures, c.in_ok-line.ensures.key)
-          (keys_next seen c.in-Some.text c.loop-text.number so_far.counted _ so_far.keys);
-      told = told_next seen c.in-Some.text c.loop-text.number so_far.counted c.args.file.now _ _ _ _
-          (rw c.as_str.ensures.value at c.in_ok-push_str.ensures.bytes) so_far.keys so_far.told
-          (rw c.as_slice.ensures.value at c.in_ok-line.ensures.told);
+      keys = subst (λ keys. Remembers keys c.add.new.keys)
+          (keys_next seen c.in-Some.text c.loop-text.number so_far.counted)
+          (rw c.in_ok-line.ensures.key at (c.in_ok-add.ensures _ so_far.keys));
+      told = told_next seen c.in-Some.text c.loop-text.number so_far.counted c.args.file.now _ _ _
+          (rw c.as_str.ensures.value at c.in_ok-push_str.ensures.bytes) so_far.told
+          (c.in_ok-line.ensures.told _ so_far.keys);
       found = rw c.or-found.ensures (found_next seen c.in-Some.text c.loop-text.number
           so_far.counted
           (λ one. (one.file.now, one.number, one.text.now, one.template, declared_by one.heading))

@@ -1,0 +1,19 @@
+use Rattle.std.proofs.Common.{◌≡◌, ◌∙◌, sym, None, rules, ◌+◌}
+use Rattle.std.specs.HashMap.{get_by, hash_map_len}
+use Rattle.std.specs.Str.{bytes_eq}
+use Rattle.catalogue.proofs.KeyLemmas.{remembers_again, remembers_new}
+use Rattle.catalogue.proofs.keys.add.Goals as goal
+
+pub returns-in_ok-insert : goal.returns-in_ok-insert
+returns-in_ok-insert c seen so_far =
+    let none : get_by (λ one. bytes_eq c.in-Some.key.now one.now) c.args.keys.now ≡ None =
+    search rules in
+    let one_more : hash_map_len c.insert.new.self ≡ hash_map_len c.args.keys.now + 1 =
+    rw (c.in_ok-insert.ensures.old, none) at c.in_ok-insert.ensures.len in
+    rw c.in-Some.is (remembers_new seen c.args.number c.in-Some.key.now c.args.keys.now so_far
+    c.insert.new.self none c.in_ok-insert.ensures.updates.0 one_more)
+
+pub returns-else-not-contains_key : goal.returns-else-not-contains_key
+returns-else-not-contains_key c seen so_far =
+    rw c.in-Some.is (remembers_again seen c.args.number c.in-Some.key.now c.args.keys.now so_far
+    (sym c.contains_key.ensures ∙ c.if-not-contains_key.false))
