@@ -28,7 +28,7 @@ empty_at number line place = record {
 
 -- the line with a mark under the character at a byte: what stands below the first line of what
 -- explains a fault there
-abbrev pub picture_at : ℕ → (line : List ℕ) → ℕ → List ℕ
+unfoldable pub picture_at : ℕ → (line : List ℕ) → ℕ → List ℕ
 picture_at number line place =
     after_first is_newline (explanation_of (empty_at number line place) (fault (fmt 0)))
 

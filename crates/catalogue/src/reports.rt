@@ -3,7 +3,7 @@
 ghost use Rattle.std.specs.Prelude.{◌≡◌, IfErr, IfOk, string_bytes};
 ghost use Rattle.std.specs.List.{after_first};
 ghost use Rattle.interpolator.specs.Faults.{answer_of, no_memory};
-ghost use Rattle.catalogue.specs.Reports.{is_newline, told_at};
+ghost use Rattle.catalogue.specs.Reports.{is_newline, picture_at, told_at};
 
 use interpolator::{Error, Position, Source, explain_in};
 use std::alloc::Global;
@@ -17,6 +17,26 @@ fn after_first_line(text: &str) -> &str
         Some((_, rest)) => rest,
         None => "",
     }
+}
+
+/// A line with a mark under the character at a byte, as `explain_in` shows it for a fault at the
+/// beginning of an empty format.
+#[tactic(auto, unfolding(crate::specs::Reports::picture_at))]
+fn picture_at(alloc: Global, number: usize, line: &str, place: usize) -> Result<String, Error>
+    ensures picture { IfOk result (λ picture.
+        string_bytes picture ≡ picture_at number line.now place) }
+    ensures refused { IfErr result (λ error. answer_of error ≡ no_memory) }
+{
+    let here = Source {
+        name: "",
+        first_line: number,
+        text: line,
+        start: place,
+        format: "",
+    };
+    let explained = explain_in(alloc, &here, &Error::Fmt(fmt::Error, 0))?;
+    let picture = String::from_str(alloc, after_first_line(explained.as_str()))?;
+    Ok(picture)
 }
 
 /// Reports something at a byte of a line of the file, with the line and a mark under the byte's
@@ -33,16 +53,7 @@ pub fn told_at(
         string_bytes told ≡ told_at file.now number line.now place what.now) }
     ensures refused { IfErr result (λ error. answer_of error ≡ no_memory) }
 {
-    // The line is shown as `explain_in` shows it for a fault at the beginning of an empty format.
-    let here = Source {
-        name: "",
-        first_line: number,
-        text: line,
-        start: place,
-        format: "",
-    };
-    let explained = explain_in(alloc, &here, &Error::Fmt(fmt::Error, 0))?;
-    let picture = after_first_line(explained.as_str());
+    let picture = picture_at(alloc, number, line, place)?;
     let column = Position::of(line, place).column;
     let told = format!(in alloc; "{file}:{number}:{column}: {what}\n{picture}\n")?;
     Ok(told)
