@@ -145,8 +145,8 @@ struct Degrees {
 }
 
 impl Value for Degrees {
-    ghost use Rattle.interpolator_render.specs.Views.{signed_number};
-    ghost use Rattle.interpolator_render.specs.declared.view.Bits.TheVariants.{B32};
+    ghost use Rattle.interpolator.specs.Views.{signed_number};
+    ghost use Rattle.interpolator.specs.declared.Bits.TheVariants.{B32};
 
     ghost shows = { λ degrees t spec. signed_number degrees.celsius B32 };
 
