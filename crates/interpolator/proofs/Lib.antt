@@ -4,6 +4,7 @@ pub mod EndingLemmas
 pub mod EscapeLemmas
 pub mod ExcerptLemmas
 pub mod LentLemmas
+pub mod NamedRowLemmas
 pub mod NamedValueLemmas
 pub mod NamingLemmas
 pub mod PartLemmas

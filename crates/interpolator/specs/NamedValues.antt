@@ -1,5 +1,6 @@
 -- What named values stand for, and what a row of them finds under a name.
-use Rattle.std.specs.Prelude.{ℕ, List, [], ◌∷◌, map, min, take, Option, Some, None}
+use Rattle.std.specs.Prelude.{ℕ, List, [], ◌∷◌, map, min, take, Option, Some, None, option_map}
+use Rattle.std.specs.Prelude.{slice_get}
 use Rattle.std.specs.Borrow.{Bor}
 use Rattle.interpolator_render.specs.declared.view.Trait.{Trait}
 use Rattle.interpolator_render.specs.declared.view.Trait.TheVariants.{Binary, Debug, Display}
@@ -7,6 +8,10 @@ use Rattle.interpolator_render.specs.declared.view.Trait.TheVariants.{LowerExp}
 use Rattle.interpolator_render.specs.declared.view.Trait.TheVariants.{LowerHex, Octal, UpperExp}
 use Rattle.interpolator_render.specs.declared.view.Trait.TheVariants.{UpperHex, Iter}
 use Rattle.interpolator_render.specs.declared.view.View.{View}
+use Rattle.interpolator_render.specs.declared.view.Spec.{Spec}
+use Rattle.interpolator_render.specs.Views.{Shown, shown_as_value}
+use Rattle.interpolator_eval.specs.Contexts.{last_under}
+use Rattle.std.specs.Str.{encode_utf8_all}
 use Rattle.interpolator_eval.specs.Slots.{Slots, slots_of, empty_slots, with_iter}
 use Rattle.interpolator_eval.specs.Slots.{with_debug, with_display, with_binary, with_lower_exp}
 use Rattle.interpolator_eval.specs.Slots.{with_lower_hex, with_octal, with_upper_exp}
@@ -49,3 +54,15 @@ pair_of value = (value.name, named_slots value)
 -- the named values of a row, as pairs: those before its length, which is at most sixteen
 abbrev pub pairs_of : Values → List (Bor (List ℕ) × Slots View)
 pairs_of values = map pair_of (take (min values.len 16) values.entries)
+
+-- what a row of named values has under a name
+abbrev pub found_by_values : Values → List ℕ → Option (Slots View)
+found_by_values values name = last_under (pairs_of values) (encode_utf8_all name)
+
+-- what a view shows under each trait and spec
+abbrev pub view_shows : View → Trait → Spec → Shown
+view_shows view wanted spec = shown_as_value view
+
+-- what is at a position of a row, if the row reaches it
+abbrev pub named_at : Values → ℕ → Option (Slots View)
+named_at values k = option_map (λ pair. pair.1) (slice_get (pairs_of values) k)

@@ -28,6 +28,7 @@ mod interpolate;
 mod lent;
 mod macros;
 pub mod made;
+mod named_row;
 mod naming;
 mod or;
 mod owned_view;
@@ -46,7 +47,7 @@ pub use interpolator_eval::{
     rows_of,
 };
 pub use interpolator_pieces::{Cost, Limits, Piece, check, format, iwriteln, write};
-pub use interpolator_prepared::{Prepared, Row};
+pub use interpolator_prepared::{Cells, Prepared, PreparedRow, Row};
 pub use interpolator_render::{
     Alignment, Bits, Bounded, HexDebug, IoWriter, Refusal, RenderFault, Sign, Spec, TextBuffer,
     TextWrite, Trait, Value, View, most_written, pad, render,

@@ -28,7 +28,9 @@ ghost use Rattle.interpolator_pieces.specs.Collecting.{AnswersFirst};
 ghost use Rattle.interpolator_syntax.specs.Nodes.{as_forest, nodes};
 ghost use Rattle.interpolator_pieces.specs.Stored.{nodes_of};
 ghost use Rattle.interpolator_pieces.specs.Visits.{Walks, text_visits};
+ghost use Rattle.interpolator.specs.NamedValues.{found_by_values, pairs_of, view_shows};
 
+use crate::values::Values;
 use interpolator_eval::{Context, Pairs, PieceCount, SampleEnvironment};
 use interpolator_pieces::{
     Check, Cost, Deepest, FaultCollector, Limits, Names, Piece, Visitor, Widest, argument_among,
@@ -275,6 +277,33 @@ impl Template {
     {
         self.check_in(alloc, sample)?;
         let names = names_of(alloc, sample.0)?;
+        prepare_pieces(alloc, self.text.as_str(), &self.pieces, names)
+    }
+
+    /// As [`prepare`](Template::prepare), with named values for the sample.
+    ///
+    /// # Errors
+    ///
+    /// Those of `prepare`.
+    ///
+    /// # Example
+    ///
+    /// ```text
+    /// let line = template.prepare_values(alloc, &values!(name = "", n:integer = 0u8))?;
+    /// line.write_values(alloc, &mut out, &values!(name, n:integer = apples))?;
+    /// ```
+    pub fn prepare_values(&self, alloc: Global, sample: &Values<'_>) -> Result<Prepared, Error>
+        ensures prepared { IfOk result (λ made. made
+            ≡ record { text = self.now; names = pair_names (pairs_of sample.now) }) }
+        ensures faultless { IfOk result (λ _. AnswersFirst (faults_over view_shows
+            (found_by_values sample.now) (outermost (chars self.now))) None) }
+        ensures refused { IfErr result (λ error. (answer_of error ≡ no_memory)
+            ⊎ AnswersFirst (faults_over view_shows (found_by_values sample.now)
+            (outermost (chars self.now))) (Some (answer_of error))) }
+        ensures place { PlaceWithin (length self.now) (result_answer result) }
+    {
+        self.check_in(alloc, sample)?;
+        let names = sample.names(alloc)?;
         prepare_pieces(alloc, self.text.as_str(), &self.pieces, names)
     }
 

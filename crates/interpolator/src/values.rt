@@ -15,7 +15,7 @@ use interpolator_render::{Trait, View};
 /// A name and what it stands for: a value in the slots of some traits, or a list.
 #[derive(Clone, Copy)]
 pub struct NamedValue<'a> {
-    name: &'a str,
+    pub(crate) name: &'a str,
     view: View<'a>,
     traits: &'a [Trait],
     items: Option<&'a [Formattable<'a, View<'a>>]>,
@@ -97,7 +97,7 @@ fn in_slots<'a, V>(traits: &[Trait], value: &'a V) -> Formattable<'a, V>
 
 impl<'a> NamedValue<'a> {
     /// What the name stands for.
-    fn slots(&self) -> Formattable<'_, View<'a>>
+    pub(crate) fn slots(&self) -> Formattable<'_, View<'a>>
         ensures { slots_of result ≡ named_slots self.now }
     {
         match self.items {
@@ -135,7 +135,7 @@ pub struct Values<'a> {
 
 impl<'a> Values<'a> {
     /// The named values, in order.
-    fn named(&self) -> &[NamedValue<'a>]
+    pub(crate) fn named(&self) -> &[NamedValue<'a>]
         ensures { map pair_of result.now ≡ pairs_of self.now }
     {
         &self.entries[..self.len.min(MOST)]

@@ -3,7 +3,7 @@ use Rattle.std.proofs.Common.{◌≡◌, ◌∙◌, refl, sym, ap, arith, ℕ, z
 use Rattle.std.proofs.Common.{Option, None, Some, IsSome, get_or, option_map}
 use Rattle.std.proofs.lemmas.Option.{slice_get_past}
 use Rattle.std.proofs.lemmas.List.{length-map}
-use Rattle.std.specs.Prelude.{String, string_bytes}
+use Rattle.std.specs.Prelude.{String, string_bytes, slice_get}
 use Rattle.std.specs.Str.{chars, IsUtf8}
 use Rattle.interpolator_render.specs.declared.view.Trait.{Trait}
 use Rattle.interpolator_render.specs.declared.view.Spec.{Spec}
@@ -12,14 +12,13 @@ use Rattle.interpolator_render.specs.Written.{Written}
 use Rattle.interpolator_syntax.specs.At.{outermost}
 use Rattle.interpolator_syntax.specs.Faults.{Answer}
 use Rattle.interpolator_syntax.specs.Nodes.{nodes}
-use Rattle.interpolator_eval.specs.Slots.{Slots, slots_of, values_of, slot_at}
-use Rattle.interpolator_eval.specs.declared.slots.Formattable.{Formattable}
-use Rattle.interpolator_eval.specs.Meaning.Environments.{Environment, environment}
-use Rattle.interpolator_eval.specs.Meaning.Meanings.{means, value_means}
+use Rattle.interpolator_eval.specs.Slots.{Slots, values_of, slot_at}
+use Rattle.interpolator_eval.specs.Meaning.Environments.{environment}
+use Rattle.interpolator_eval.specs.Meaning.Meanings.{means}
 use Rattle.interpolator_eval.specs.Meaning.Outcomes.{Outcome}
-use Rattle.interpolator_eval.proofs.MeaningLemmas.SinkLemmas.{nothing_done}
-use Rattle.interpolator_prepared.specs.Programs.{program, position_means}
-use Rattle.interpolator_prepared.specs.Rows.{found_by_row, row_at, name_bytes, last_position}
+use Rattle.interpolator_prepared.specs.Programs.{program}
+use Rattle.interpolator_prepared.specs.Rows.{InOrder, found_by_row, name_bytes, last_position}
+use Rattle.interpolator_prepared.specs.Rows.{slot_found}
 use Rattle.std.specs.Option.{option_and_then}
 use Rattle.std.proofs.lemmas.Str.{encodes-chars}
 use Rattle.interpolator_prepared.specs.StoredSteps.{step_of, stored_steps_mean}
@@ -27,85 +26,87 @@ use Rattle.interpolator_prepared.specs.declared.step.Step.{Step}
 use Rattle.interpolator_prepared.proofs.ProgramLemmas.{program_means}
 use Rattle.interpolator_prepared.proofs.StepLemmas.{program_stored}
 
--- a row reaches each position below its length
-pub row_reaches : {X : Type 0} (row : List (Formattable X)) (k : ℕ) → k < length row
-    → IsSome (row_at row k)
-row_reaches [] k h = absurd (omega (arith, h))
-row_reaches (x ∷ row) zero h = refl
-row_reaches (x ∷ row) (suc k) h = row_reaches row k (omega (arith, h))
+-- a row of what has a tree each
+module _ {A X : Type 0} (tree : A → Slots X) where
+  abbrev At : List A → ℕ → Option (Slots X)
+  At row k = option_map tree (slice_get row k)
 
--- the value of a row at a position
-pub item_at : {X : Type 0} (row : List (Formattable X)) (k : ℕ) (x : Formattable X)
-    → k < length row → x ≡ get_or row k x → row_at row k ≡ Some (slots_of x)
-item_at [] k x h is = absurd (omega (arith, h))
-item_at (y ∷ row) zero x h is = ap (λ z. Some (slots_of z)) (sym is)
-item_at (y ∷ row) (suc k) x h is = item_at row k x (omega (arith, h)) is
+  -- it reaches each position below its length
+  row_reaches : (row : List A) (k : ℕ) → k < length row → IsSome (At row k)
+  row_reaches [] k h = absurd (omega (arith, h))
+  row_reaches (x ∷ row) zero h = refl
+  row_reaches (x ∷ row) (suc k) h = row_reaches row k (omega (arith, h))
 
-pub none_at : {X : Type 0} (row : List (Formattable X)) (k : ℕ) → length row ≤ k
-    → row_at row k ≡ None
-none_at row k h = ap (option_map slots_of) (slice_get_past row k h)
+  -- the tree at a position
+  item_at : (row : List A) (k : ℕ) (x : A) → k < length row → x ≡ get_or row k x
+      → At row k ≡ Some (tree x)
+  item_at [] k x h is = absurd (omega (arith, h))
+  item_at (y ∷ row) zero x h is = ap (λ z. Some (tree z)) (sym is)
+  item_at (y ∷ row) (suc k) x h is = item_at row k x (omega (arith, h)) is
 
--- what a row and its names give under a name
-module _ {X Z : Type 0} (names : List (String Z)) (row : List (Formattable X)) (key : List ℕ)
-    (utf8 : IsUtf8 key) where
-  abbrev Found : Option (Slots X)
-  Found = found_by_row (name_bytes names) (row_at row) (chars key)
+  none_at : (row : List A) (k : ℕ) → length row ≤ k → At row k ≡ None
+  none_at row k h = ap (option_map tree) (slice_get_past row k h)
 
-  found_at : (o : Option ℕ) → o ≡ last_position (name_bytes names) key
-      → option_and_then (row_at row) o ≡ Found
-  found_at o is =
-      ap (option_and_then (row_at row)) is
-      ∙ ap (λ bs. option_and_then (row_at row) (last_position (name_bytes names) bs))
-      (sym (encodes-chars key utf8))
+  -- it is in the order of as many names, or fewer
+  pub row_in_order : {Z : Type 0} (names : List (String Z)) (row : List A)
+      → length names ≤ length row
+      → InOrder (name_bytes names) (At row) (found_by_row (name_bytes names) (At row))
+  row_in_order names row h =
+      let all : length (name_bytes names) ≡ length names
+      = length-map names (λ name. string_bytes name) in
+      record {
+        reached = λ k l. row_reaches row k (omega (arith, all, h, l));
+        same = refl;
+      }
 
-  pub row_found : (k : ℕ) (x : Formattable X) → Some k ≡ last_position (name_bytes names) key
-      → k < length row → x ≡ get_or row k x → Some (slots_of x) ≡ Found
-  row_found k x is h at = sym (item_at row k x h at) ∙ found_at (Some k) is
+  module _ (row : List A) (wanted : Trait) (k : ℕ) where
+    -- what is in a slot of the tree at a position
+    pub slot_there : (x : A) → k < length row → x ≡ get_or row k x
+        → slot_at wanted (values_of (tree x)) ≡ slot_found wanted (At row k)
+    slot_there x h is = ap (slot_found wanted) (sym (item_at row k x h is))
 
-  pub row_short : (k : ℕ) → Some k ≡ last_position (name_bytes names) key → length row ≤ k
-      → None ≡ Found
-  row_short k is h = sym (none_at row k h) ∙ found_at (Some k) is
+    pub slot_past : length row ≤ k → None ≡ slot_found wanted (At row k)
+    slot_past h = ap (slot_found wanted) (sym (none_at row k h))
 
-  pub row_absent : None ≡ last_position (name_bytes names) key → None ≡ Found
-  row_absent is = found_at None is
+  -- what it gives under a name
+  module _ {Z : Type 0} (names : List (String Z)) (row : List A) (key : List ℕ)
+      (utf8 : IsUtf8 key) where
+    abbrev Found : Option (Slots X)
+    Found = found_by_row (name_bytes names) (At row) (chars key)
 
--- and each name of as many, or fewer
-pub names_reached : {X Z : Type 0} (names : List (String Z)) (row : List (Formattable X))
-    → length names ≤ length row → (k : ℕ) → k < length (name_bytes names) → IsSome (row_at row k)
-names_reached names row h k l =
-    let all : length (name_bytes names) ≡ length names = length-map names (λ name. string_bytes name) in
-    row_reaches row k (omega (arith, all, h, l))
+    found_at : (o : Option ℕ) → o ≡ last_position (name_bytes names) key
+        → option_and_then (At row) o ≡ Found
+    found_at o is =
+        ap (option_and_then (At row)) is
+        ∙ ap (λ bs. option_and_then (At row) (last_position (name_bytes names) bs))
+        (sym (encodes-chars key utf8))
 
--- what is in a slot of a row's value is what its position means
-pub item_writes :
-    {X : Type 0} (shows : X → Trait → Spec → Shown) (t : Trait) (spec : Spec) (end : ℕ)
-    (slot : Option X) (found : Slots X) (o : Option (Slots X)) (old new : Written)
-    (answer : Option Answer) → o ≡ Some found → slot ≡ slot_at t (values_of found)
-    → Outcome (value_means shows t spec end slot) old new answer
-    → Outcome (position_means shows t spec end o) old new answer
-item_writes shows t spec end slot found o old new answer is held h = rw (is, ← held) h
+    pub row_found : (k : ℕ) (x : A) → Some k ≡ last_position (name_bytes names) key
+        → k < length row → x ≡ get_or row k x → Some (tree x) ≡ Found
+    row_found k x is h at = sym (item_at row k x h at) ∙ found_at (Some k) is
 
--- and nothing is written if the row does not reach it
-pub none_writes :
-    {X : Type 0} (shows : X → Trait → Spec → Shown) (t : Trait) (spec : Spec) (end : ℕ)
-    (o : Option (Slots X)) (s : Written) → o ≡ None
-    → Outcome (position_means shows t spec end o) s s None
-none_writes shows t spec end o s none = rw none (nothing_done s)
+    pub row_short : (k : ℕ) → Some k ≡ last_position (name_bytes names) key → length row ≤ k
+        → None ≡ Found
+    row_short k is h = sym (none_at row k h) ∙ found_at (Some k) is
 
+    pub row_absent : None ≡ last_position (name_bytes names) key → None ≡ Found
+    row_absent is = found_at None is
+
+-- stored steps that stand for the program of a text write what the text means
 pub row_outcome :
-    {X : Type 0} (shows : X → Trait → Spec → Shown) (f : Environment X) (names : List (List ℕ))
-    (value_at : ℕ → Option (Slots X)) (bs : List ℕ) (steps : List Step) (old new : Written)
-    (answer : Option Answer) → f ≡ environment (found_by_row names value_at)
-    → ((k : ℕ) → k < length names → IsSome (value_at k))
+    {X : Type 0} (shows : X → Trait → Spec → Shown) (finds : List ℕ → Option (Slots X))
+    (names : List (List ℕ)) (value_at : ℕ → Option (Slots X)) (bs : List ℕ) (steps : List Step)
+    (old new : Written) (answer : Option Answer) → InOrder names value_at finds
     → map (step_of bs) steps ≡ map Some (program names (nodes (outermost (chars bs))))
-    → Outcome (stored_steps_mean shows f value_at bs steps) old new answer
-    → Outcome (means shows (environment (found_by_row names value_at)) (outermost (chars bs))) old new
-    answer
-row_outcome shows f names value_at bs steps old new answer is reached stands o =
+    → Outcome (stored_steps_mean shows (environment finds) value_at bs steps) old new answer
+    → Outcome (means shows (environment finds) (outermost (chars bs))) old new answer
+row_outcome shows finds names value_at bs steps old new answer order stands o =
     let e = environment (found_by_row names value_at) in
     let a = outermost (chars bs) in
-    let same : stored_steps_mean shows f value_at bs steps ≡ means shows e a =
-    ap (λ g. stored_steps_mean shows g value_at bs steps) is
+    let same : stored_steps_mean shows (environment finds) value_at bs steps
+    ≡ means shows (environment finds) a =
+    ap (λ f. stored_steps_mean shows (environment f) value_at bs steps) order.same
     ∙ program_stored shows e value_at bs steps (program names (nodes a)) stands
-    ∙ program_means shows names value_at reached (nodes a) in
+    ∙ program_means shows names value_at order.reached (nodes a)
+    ∙ ap (λ f. means shows (environment f) a) (sym order.same) in
     rw same at o

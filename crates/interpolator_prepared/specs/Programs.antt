@@ -8,11 +8,11 @@ use Rattle.interpolator_syntax.specs.At.{Placed, placed_from}
 use Rattle.interpolator_syntax.specs.Nodes.{Node, node, Content, text_content, argument_content, target_value}
 use Rattle.interpolator_syntax.specs.declared.piece_kind.PieceKind.{PieceKind}
 use Rattle.interpolator_syntax.specs.declared.piece_kind.PieceKind.TheVariants.{Closed}
-use Rattle.interpolator_eval.specs.Slots.{Slots, values_of, slot_at}
+use Rattle.interpolator_eval.specs.Slots.{Slots}
 use Rattle.interpolator_eval.specs.Meaning.Environments.{Environment}
 use Rattle.interpolator_eval.specs.Meaning.Meanings.{Meaning, nothing, text_alone, chain, value_means}
 use Rattle.interpolator_eval.specs.Meaning.Meanings.{node_means}
-use Rattle.interpolator_prepared.specs.Rows.{last_position}
+use Rattle.interpolator_prepared.specs.Rows.{last_position, slot_found}
 
 -- one step of a program: characters, each with its place; the value at a position, under a trait
 -- and a spec that ends at `end`; or what a node means
@@ -58,12 +58,10 @@ module _ (names : List (List ℕ)) where
   program [] = []
   program (x ∷ xs) = node_before x (program xs)
 
--- what the value at a position means: nothing if the row does not reach it
+-- what the value at a position means: a row that does not reach it has no value there
 abbrev pub position_means : {X : Type 0} → (X → Trait → Spec → Shown) → Trait → Spec → (end : ℕ)
     → Option (Slots X) → Meaning
-position_means shows t spec end None = nothing
-position_means shows t spec end (Some found) =
-    value_means shows t spec end (slot_at t (values_of found))
+position_means shows t spec end found = value_means shows t spec end (slot_found t found)
 
 -- `value_at` gives the value at each position of a row
 module _ {X : Type 0} (shows : X → Trait → Spec → Shown) (e : Environment X)

@@ -14,4 +14,4 @@ mod run;
 mod step;
 
 pub use prepared::{Prepared, prepare_pieces};
-pub use row::{Row, names_of};
+pub use row::{Cells, PreparedRow, Row, names_of};

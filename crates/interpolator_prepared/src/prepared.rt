@@ -14,10 +14,9 @@ ghost use Rattle.interpolator_pieces.specs.Lines.{line_means};
 ghost use Rattle.interpolator_pieces.specs.Stored.{nodes_of};
 
 use crate::compile::compile;
-use crate::row::{NamedRow, Row};
+use crate::row::{NamedRow, PreparedRow, Row};
 use crate::run::run_steps;
 use crate::step::Step;
-use interpolator_eval::Environment;
 use interpolator_pieces::{Piece, buffer_for, write, write_newline};
 use interpolator_render::{TextWrite, Value};
 use interpolator_syntax::Error;
@@ -64,42 +63,44 @@ impl Model for Prepared {
         (nodes (outermost (chars (string_bytes p.text))))) };
 }
 
-/// Writes the steps of a format with a row; if the row is too short, writes the text instead.
-pub fn write_row<'a, W: TextWrite, V: Value>(
+/// Writes the steps of a format with a row; if the row is not in the order of the names, writes the
+/// text instead.
+fn write_row<'a, W: TextWrite, R: PreparedRow>(
     alloc: Global,
     out: &mut W,
     text: &str,
-    named: &NamedRow<'a, V>,
+    named: &NamedRow<'a, R>,
     steps: &[Step],
 ) -> Result<(), Error>
     requires program { map (step_of text.now) steps.now
         ≡ map Some (program (name_bytes named.now.names.now) (nodes (outermost (chars text.now)))) }
     ensures outcome { Outcome
-        (means V.shows (environment (found_by_row (name_bytes named.now.names.now)
-        (row_at named.now.row.now))) (outermost (chars text.now)))
+        (means R.Object.shows
+        (environment (R.finds_in named.now.row.now (name_bytes named.now.names.now)))
+        (outermost (chars text.now)))
         (W.written out.old) (W.written out.new) (result_answer result) }
     ensures place { PlaceWithin (length text.now) (result_answer result) }
 {
-    if named.row.len() < named.names.len() {
+    if !named.row.is_in_order(named.names) {
         return write(alloc, out, text, named);
     }
-    let environment = Environment::outermost(alloc, named);
-    run_steps(out, &environment, text, named.row, steps)?;
+    run_steps(alloc, out, text, named, steps)?;
     Ok(())
 }
 
 /// The text of the steps of a format with a row, in a new `String`.
-fn format_row<'a, V: Value>(
+fn format_row<'a, R: PreparedRow>(
     alloc: Global,
     text: &str,
-    named: &NamedRow<'a, V>,
+    named: &NamedRow<'a, R>,
     steps: &[Step],
 ) -> Result<String, Error>
     requires program { map (step_of text.now) steps.now
         ≡ map Some (program (name_bytes named.now.names.now) (nodes (outermost (chars text.now)))) }
     ensures formats { Formats
-        (means V.shows (environment (found_by_row (name_bytes named.now.names.now)
-        (row_at named.now.row.now))) (outermost (chars text.now)))
+        (means R.Object.shows
+        (environment (R.finds_in named.now.row.now (name_bytes named.now.names.now)))
+        (outermost (chars text.now)))
         result }
     ensures place { PlaceWithin (length text.now) (result_answer result) }
 {
@@ -140,11 +141,7 @@ impl Prepared {
             (W.written out.old) (W.written out.new) (result_answer result) }
         ensures place { PlaceWithin (length self.now.text) (result_answer result) }
     {
-        let named = NamedRow {
-            names: &self.names,
-            row: row.0,
-        };
-        write_row(alloc, out, self.text.as_str(), &named, &self.steps)?;
+        self.write_values(alloc, out, row)?;
         Ok(())
     }
 
@@ -200,7 +197,96 @@ impl Prepared {
     {
         let named = NamedRow {
             names: &self.names,
-            row: row.0,
+            row,
+        };
+        format_row(alloc, self.text.as_str(), &named, &self.steps)
+    }
+
+    /// Writes what the format means with a row of another kind than [`Row`]: [`Cells`](crate::Cells),
+    /// or one of your own.
+    ///
+    /// # Errors
+    ///
+    /// Those of [`write`](Prepared::write).
+    ///
+    /// # Example
+    ///
+    /// ```text
+    /// prepared.write_values(alloc, &mut out, &Cells(&[View::from("Ann"), View::from(3u8)]))?;
+    /// ```
+    #[inline(always)]
+    pub fn write_values<W: TextWrite, R: PreparedRow>(
+        &self,
+        alloc: Global,
+        out: &mut W,
+        row: &R,
+    ) -> Result<(), Error>
+        ensures outcome { Outcome
+            (means R.Object.shows (environment (R.finds_in row.now self.now.names))
+            (outermost (chars self.now.text)))
+            (W.written out.old) (W.written out.new) (result_answer result) }
+        ensures place { PlaceWithin (length self.now.text) (result_answer result) }
+    {
+        let named = NamedRow {
+            names: &self.names,
+            row,
+        };
+        write_row(alloc, out, self.text.as_str(), &named, &self.steps)?;
+        Ok(())
+    }
+
+    /// Writes what the format means with such a row, as [`write_values`](Prepared::write_values)
+    /// does, and after it a newline if there is no fault.
+    ///
+    /// # Errors
+    ///
+    /// Those of `write_values`; `Fmt` at place 0 if the writer takes the text and refuses the newline.
+    ///
+    /// # Example
+    ///
+    /// ```text
+    /// prepared.write_values_line(alloc, &mut out, &Cells(&[View::from("Ann")]))?;
+    /// ```
+    pub fn write_values_line<W: TextWrite, R: PreparedRow>(
+        &self,
+        alloc: Global,
+        out: &mut W,
+        row: &R,
+    ) -> Result<(), Error>
+        ensures outcome { Outcome
+            (line_means
+            (means R.Object.shows (environment (R.finds_in row.now self.now.names))
+            (outermost (chars self.now.text))))
+            (W.written out.old) (W.written out.new) (result_answer result) }
+        ensures place { PlaceWithin (length self.now.text) (result_answer result) }
+    {
+        match self.write_values(alloc, out, row) {
+            Ok(()) => write_newline(out),
+            Err(fault) => Err(fault),
+        }
+    }
+
+    /// The text that it means with such a row, in a new `String`.
+    ///
+    /// # Errors
+    ///
+    /// Those of [`format`](Prepared::format).
+    ///
+    /// # Example
+    ///
+    /// ```text
+    /// prepared.format_values(alloc, &Cells(&[View::from("Ann"), View::from(3u8)]))?
+    /// ```
+    pub fn format_values<R: PreparedRow>(&self, alloc: Global, row: &R) -> Result<String, Error>
+        ensures formats { Formats
+            (means R.Object.shows (environment (R.finds_in row.now self.now.names))
+            (outermost (chars self.now.text)))
+            result }
+        ensures place { PlaceWithin (length self.now.text) (result_answer result) }
+    {
+        let named = NamedRow {
+            names: &self.names,
+            row,
         };
         format_row(alloc, self.text.as_str(), &named, &self.steps)
     }

@@ -8,29 +8,29 @@ ghost use Rattle.interpolator_eval.specs.Meaning.Meanings.{text_alone};
 ghost use Rattle.interpolator_eval.specs.Meaning.Outcomes.{Outcome};
 ghost use Rattle.interpolator_eval.specs.Meaning.Sinks.{write_answered};
 ghost use Rattle.interpolator_prepared.specs.Programs.{position_means};
-ghost use Rattle.interpolator_prepared.specs.Rows.{row_at};
 ghost use Rattle.interpolator_prepared.specs.StoredSteps.{fitting_means, keeps_piece, step_of};
 ghost use Rattle.interpolator_pieces.specs.Stored.{part};
 
 use crate::joined::put_joined;
+use crate::row::PreparedRow;
 use crate::step::Step;
-use interpolator_eval::{Formattable, WriteFault, slot_of, write_plain, write_run, write_shown};
+use interpolator_eval::{WriteFault, write_plain, write_run, write_shown};
 use interpolator_pieces::cut;
-use interpolator_render::{Spec, TextWrite, Trait, Value};
+use interpolator_render::{Spec, TextWrite, Trait};
 
 /// Writes what a step that keeps no piece means. It returns a fault in few bytes, since an
 /// [`Error`](crate::Error) would be zeroed at each step.
 #[inline(always)]
-pub fn put_step<'a, W: TextWrite, V: Value>(
+pub fn put_step<W: TextWrite, R: PreparedRow>(
     out: &mut W,
     text: &str,
-    row: &'a [Formattable<'a, V>],
+    row: &R,
     step: &Step,
 ) -> Result<(), WriteFault>
     requires fits { IsSome (step_of text.now step.now) }
     requires alone { keeps_piece step.now ≡ false }
-    ensures outcome { (e : Environment V)
-        → Outcome (fitting_means V.shows e (row_at row.now) (step_of text.now step.now))
+    ensures outcome { (e : Environment R.Object)
+        → Outcome (fitting_means R.Object.shows e (R.value_at row.now) (step_of text.now step.now))
         (W.written out.old) (W.written out.new) (write_answered result) }
 {
     match step {
@@ -60,40 +60,34 @@ fn put_literal<W: TextWrite>(
     write_run(out, cut(text, from, to), from)
 }
 
-/// Writes the value at a position of the row displayed plainly, if the row reaches it.
+/// Writes the value at a position of the row, displayed plainly.
 #[inline(always)]
-fn put_plain<'a, W: TextWrite, V: Value>(
+fn put_plain<W: TextWrite, R: PreparedRow>(
     out: &mut W,
-    row: &'a [Formattable<'a, V>],
+    row: &R,
     position: usize,
     end: usize,
 ) -> Result<(), WriteFault>
     ensures outcome { Outcome
-        (position_means V.shows Display plain_spec end (row_at row.now position))
+        (position_means R.Object.shows Display plain_spec end (R.value_at row.now position))
         (W.written out.old) (W.written out.new) (write_answered result) }
 {
-    match row.get(position) {
-        Some(item) => write_plain(out, slot_of(item, Trait::Display), end),
-        None => Ok(()),
-    }
+    write_plain(out, row.value(position, Trait::Display), end)
 }
 
-/// Writes the value at a position of the row, if the row reaches it.
+/// Writes the value at a position of the row.
 #[inline(always)]
-fn put_at<'a, W: TextWrite, V: Value>(
+fn put_at<W: TextWrite, R: PreparedRow>(
     out: &mut W,
-    row: &'a [Formattable<'a, V>],
+    row: &R,
     position: usize,
     t: Trait,
     spec: &Spec,
     end: usize,
 ) -> Result<(), WriteFault>
     ensures outcome { Outcome
-        (position_means V.shows t spec.now end (row_at row.now position))
+        (position_means R.Object.shows t spec.now end (R.value_at row.now position))
         (W.written out.old) (W.written out.new) (write_answered result) }
 {
-    match row.get(position) {
-        Some(item) => write_shown(out, slot_of(item, t), t, spec, end),
-        None => Ok(()),
-    }
+    write_shown(out, row.value(position, t), t, spec, end)
 }

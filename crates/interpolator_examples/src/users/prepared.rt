@@ -1,21 +1,14 @@
 //! A format that is prepared for rows with the same names.
 
 use crate::page::Page;
-use interpolator::{Error, Formattable, Pairs, Prepared, Row, Template, TextBuffer, View};
+use interpolator::{Error, Prepared, Template, TextBuffer, values};
 use std::alloc::Global;
 
 /// A format that uses the names `item` and `count`, prepared for rows of a text and a number, in
 /// this order.
 fn prepared(alloc: Global, format: &str) -> Result<Prepared, Error> {
     let template = Template::parse(alloc, format)?;
-    let sample = [View::Text("bread"), View::from(7u32)];
-    template.prepare(
-        alloc,
-        &Pairs(&[
-            ("item", Formattable::display(&sample[0])),
-            ("count", Formattable::integer(&sample[1])),
-        ]),
-    )
+    template.prepare_values(alloc, &values!(item = "bread", count:integer = 7u32))
 }
 
 /// A line for each row, all in one buffer, which is cleared between them.
@@ -23,13 +16,8 @@ fn put_lines(page: &mut Page, line: &Prepared, rows: &[(&str, u32)]) -> Result<(
     let alloc = page.alloc;
     let mut out = TextBuffer::new(alloc);
     for (item, count) in rows {
-        let values = [View::Text(item), View::from(*count)];
-        let row = [
-            Formattable::display(&values[0]),
-            Formattable::integer(&values[1]),
-        ];
         out.clear();
-        line.write(alloc, &mut out, &Row(&row))?;
+        line.write_values(alloc, &mut out, &values!(item = *item, count:integer = *count))?;
         page.put("prepared", out.as_str());
     }
     Ok(())

@@ -1,6 +1,7 @@
 use Rattle.std.proofs.Common.{rules}
-use Rattle.interpolator_eval.specs.Meaning.CodeEnvironments.{environment_of}
+use Rattle.interpolator_eval.specs.Meaning.Environments.{environment}
 use Rattle.interpolator_pieces.specs.Stored.{node_of}
+use Rattle.interpolator_prepared.specs.Rows.{name_bytes}
 use Rattle.interpolator_prepared.proofs.KeptLemmas.{kept_whole, kept_means}
 use Rattle.interpolator_prepared.proofs.run.run_kept.Goals as goal
 
@@ -12,9 +13,11 @@ pub returns : goal.returns
 returns g c =
     record {
       outcome = λ value_at.
-          let same = kept_means g.C.Object.Value.shows
-          (environment_of g.C.Context.finds c.args.environment.now) value_at
+          let named = c.args.named.now in
+          let e = environment (g.R.PreparedRow.finds_in named.row.now (name_bytes named.names.now)) in
+          let same = kept_means g.R.Object.Value.shows e value_at
           (node_of c.args.text.now c.args.kept.now) c.requires.fits in
-          let o = rw same at (rw c.in-Writer.is at c.write_kept-answer.ensures.writes.outcome) in
+          let o = rw same at (rw c.in-Writer.is at
+          (rw c.outermost-environment.ensures at c.write_kept-answer.ensures.writes.outcome)) in
           search rules;
     }

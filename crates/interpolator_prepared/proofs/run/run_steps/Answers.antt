@@ -1,7 +1,7 @@
 use Rattle.std.proofs.Common.{◌≡◌, rules}
 use Rattle.std.proofs.lemmas.Result.{err_from_is_err_and}
-use Rattle.interpolator_eval.specs.Meaning.CodeEnvironments.{environment_of}
-use Rattle.interpolator_prepared.specs.Rows.{row_at}
+use Rattle.interpolator_eval.specs.Meaning.Environments.{environment}
+use Rattle.interpolator_prepared.specs.Rows.{name_bytes}
 use Rattle.interpolator_prepared.specs.StoredSteps.{step_of, kept_step}
 use Rattle.interpolator_pieces.specs.Stored.{node_of}
 use Rattle.interpolator_prepared.proofs.StepLemmas.{step_fault, step_runs, steps_end}
@@ -20,14 +20,15 @@ returns-in_err-run_kept-in-Kept g c =
     rw (err.1, err.2) (record {
       outcome = c.loop-step.invariant _ _ (step_fault _ _ _ c.args.text.now c.args.steps.now
           c.loop-step.step-index _ _ c.step-item.result c.loop-step-test.true c.step-item.is _
-          (rw (← kept) at c.in_err-run_kept-in-Kept.ensures.outcome (row_at c.args.row.now)));
+          (rw (← kept) at c.in_err-run_kept-in-Kept.ensures.outcome (g.R.PreparedRow.value_at c.args.named.now.row.now)));
     })
 
 pub returns-in_err-put_step-in_default : goal.returns-in_err-put_step-in_default
 returns-in_err-put_step-in_default g c =
     let residual = c.from_residual-in_err-put_step-in_default in
     let err = err_from_is_err_and residual.result residual.ensures.1 in
-    let e = environment_of g.C.Context.finds c.args.environment.now in
+    let named = c.args.named.now in
+    let e = environment (g.R.PreparedRow.finds_in named.row.now (name_bytes named.names.now)) in
     rw (err.1, err.2) (record {
       outcome = c.loop-step.invariant _ _ (step_fault _ _ _ c.args.text.now c.args.steps.now
           c.loop-step.step-index _ _ c.step-item.result c.loop-step-test.true c.step-item.is _
@@ -42,10 +43,11 @@ loop-step-preserved g c =
           ≡ kept_step (node_of c.args.text.now w.deref.result.now) = search rules in
           c.loop-step.invariant new answer (step_runs _ _ _ c.args.text.now c.args.steps.now
           c.loop-step.step-index _ _ c.step-item.result c.loop-step-test.true c.step-item.is _ _
-          (rw (← kept) at w.in_ok-run_kept-in-Kept.ensures.outcome (row_at c.args.row.now))
+          (rw (← kept) at w.in_ok-run_kept-in-Kept.ensures.outcome (g.R.PreparedRow.value_at c.args.named.now.row.now))
           (rw w.out-is at k))
       | in_default+in_ok-put_step-in_default w ↦ λ new answer k.
-          let e = environment_of g.C.Context.finds c.args.environment.now in
+          let named = c.args.named.now in
+    let e = environment (g.R.PreparedRow.finds_in named.row.now (name_bytes named.names.now)) in
           c.loop-step.invariant new answer (step_runs _ _ _ c.args.text.now c.args.steps.now
           c.loop-step.step-index _ _ c.step-item.result c.loop-step-test.true c.step-item.is _ _
           (w.in_ok-put_step-in_default.ensures.outcome e) (rw w.out-is at k))
