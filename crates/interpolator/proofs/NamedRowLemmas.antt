@@ -1,44 +1,38 @@
 -- Named values in the order of a format's names are a row of them.
-use Rattle.std.proofs.Common.{◌≡◌, ◌∙◌, refl, sym, ap, arith, ℕ, zero, suc, ◌<◌, ◌≤◌, Bool, true, false}
-use Rattle.std.proofs.Common.{List, [], ◌∷◌, ◌++◌, length, map, reverse, get_or, cond}
+use Rattle.std.proofs.Common.{◌≡◌, ◌∙◌, refl, sym, ap, arith, ℕ, zero, suc, ◌<◌, Bool, true, false}
+use Rattle.std.proofs.Common.{List, [], ◌∷◌, length, reverse, cond}
 use Rattle.std.proofs.Common.{Option, Some, None, IsSome, option_map}
 use Rattle.std.proofs.Math.Path.{fun_ext}
 use Rattle.std.proofs.lemmas.List.{reverse-append}
 use Rattle.std.proofs.lemmas.List.Folds.{find-append}
-use Rattle.std.proofs.lemmas.Option.{slice_get_past}
 use Rattle.std.specs.Borrow.{Bor}
 use Rattle.std.specs.List.{find}
 use Rattle.std.specs.Option.{option_and_then, option_or}
-use Rattle.std.specs.Prelude.{⊤, if◌then◌else◌, slice_get}
+use Rattle.std.specs.Prelude.{⊤, slice_get}
 use Rattle.std.specs.Str.{bytes_eq, encode_utf8_all}
-use Rattle.interpolator_render.specs.declared.view.Trait.{Trait}
-use Rattle.interpolator_render.specs.declared.view.View.{View}
 use Rattle.interpolator_eval.specs.Contexts.{last_under}
-use Rattle.interpolator_eval.specs.Slots.{Slots, slot_at, values_of}
 use Rattle.interpolator_prepared.specs.Rows.{InOrder, found_by_row, last_position, later_or_first}
-use Rattle.interpolator_prepared.specs.Rows.{pair_names, slot_found}
-use Rattle.interpolator.specs.NamedValues.{found_by_values, named_at, named_slots, pair_of, pairs_of}
-use Rattle.interpolator.specs.NamedValues.{with_trait, with_traits}
-use Rattle.interpolator.specs.declared.values.NamedValue.{NamedValue}
+use Rattle.interpolator_prepared.specs.Rows.{pair_names}
+use Rattle.interpolator.specs.NamedValues.{found_by_values, named_at, pairs_of}
 use Rattle.interpolator.specs.declared.values.Values.{Values}
 
 -- ---- pairs as a row
 
-module _ {Y : Type 0} where
-  abbrev Pair : Type 0
-  Pair = Bor (List ℕ) × Y
+abbrev Pair : Type 0 → Type 0
+Pair Y = Bor (List ℕ) × Y
 
-  abbrev At : List Pair → ℕ → Option Y
+module _ {Y : Type 0} where
+  abbrev At : List (Pair Y) → ℕ → Option Y
   At pairs k = option_map (λ pair. pair.1) (slice_get pairs k)
 
   -- the value at the position that was found is that of the pair that was found
-  abbrev Agree : List Pair → Option ℕ → Option Pair → Type 0
+  abbrev Agree : List (Pair Y) → Option ℕ → Option (Pair Y) → Type 0
   Agree pairs None None = ⊤
   Agree pairs (Some k) (Some p) = At pairs k ≡ Some p.1
   Agree pairs _ _ = ⊥
 
   agree_more :
-      (x : Pair) (pairs : List Pair) (o : Option ℕ) (r : Option Pair) (b : Bool) → Agree pairs o r
+      (x : Pair Y) (pairs : List (Pair Y)) (o : Option ℕ) (r : Option (Pair Y)) (b : Bool) → Agree pairs o r
       → Agree (x ∷ pairs) (later_or_first o b) (option_or r (cond b (Some x) None))
   agree_more x pairs (Some k) (Some p) b h = h
   agree_more x pairs (Some k) None b h = absurd h
@@ -46,19 +40,19 @@ module _ {Y : Type 0} where
   agree_more x pairs None None true h = refl
   agree_more x pairs None None false h = tt
 
-  agree_found : (pairs : List Pair) (o : Option ℕ) (r : Option Pair) → Agree pairs o r
+  agree_found : (pairs : List (Pair Y)) (o : Option ℕ) (r : Option (Pair Y)) → Agree pairs o r
       → option_and_then (At pairs) o ≡ option_map (λ pair. pair.1) r
   agree_found pairs (Some k) (Some p) h = h
   agree_found pairs (Some k) None h = absurd h
   agree_found pairs None (Some p) h = absurd h
   agree_found pairs None None h = refl
 
-  agree : (pairs : List Pair) (bytes : List ℕ)
+  agree : (pairs : List (Pair Y)) (bytes : List ℕ)
       → Agree pairs (last_position (pair_names pairs) bytes)
       (find (λ pair. bytes_eq bytes pair.0.now) (reverse pairs))
   agree [] bytes = tt
   agree (x ∷ pairs) bytes =
-      let test : Pair → Bool = λ pair. bytes_eq bytes pair.0.now in
+      let test : Pair Y → Bool = λ pair. bytes_eq bytes pair.0.now in
       let found : find test (reverse (x ∷ pairs))
       ≡ option_or (find test (reverse pairs)) (cond (test x) (Some x) None) =
       ap (find test) (reverse-append (x ∷ []) pairs)
@@ -67,11 +61,11 @@ module _ {Y : Type 0} where
       (find test (reverse pairs)) (test x) (agree pairs bytes))
 
   -- the last pair of a name is at its last position
-  last_at : (pairs : List Pair) (bytes : List ℕ)
+  last_at : (pairs : List (Pair Y)) (bytes : List ℕ)
       → option_and_then (At pairs) (last_position (pair_names pairs) bytes) ≡ last_under pairs bytes
   last_at pairs bytes = agree_found pairs _ _ (agree pairs bytes)
 
-  reached : (pairs : List Pair) (k : ℕ) → k < length (pair_names pairs) → IsSome (At pairs k)
+  reached : (pairs : List (Pair Y)) (k : ℕ) → k < length (pair_names pairs) → IsSome (At pairs k)
   reached [] k h = absurd (omega (arith, h))
   reached (x ∷ pairs) zero h = refl
   reached (x ∷ pairs) (suc k) h = reached pairs k (omega (arith, h))

@@ -280,7 +280,7 @@ impl Template {
         prepare_pieces(alloc, self.text.as_str(), &self.pieces, names)
     }
 
-    /// As [`prepare`](Template::prepare), with named values for the sample.
+    /// As [`prepare`](Template::prepare), with named values as the sample.
     ///
     /// # Errors
     ///
@@ -292,18 +292,18 @@ impl Template {
     /// let line = template.prepare_values(alloc, &values!(name = "", n:integer = 0u8))?;
     /// line.write_values(alloc, &mut out, &values!(name, n:integer = apples))?;
     /// ```
-    pub fn prepare_values(&self, alloc: Global, sample: &Values<'_>) -> Result<Prepared, Error>
+    pub fn prepare_values(&self, alloc: Global, values: &Values<'_>) -> Result<Prepared, Error>
         ensures prepared { IfOk result (λ made. made
-            ≡ record { text = self.now; names = pair_names (pairs_of sample.now) }) }
+            ≡ record { text = self.now; names = pair_names (pairs_of values.now) }) }
         ensures faultless { IfOk result (λ _. AnswersFirst (faults_over view_shows
-            (found_by_values sample.now) (outermost (chars self.now))) None) }
+            (found_by_values values.now) (outermost (chars self.now))) None) }
         ensures refused { IfErr result (λ error. (answer_of error ≡ no_memory)
-            ⊎ AnswersFirst (faults_over view_shows (found_by_values sample.now)
+            ⊎ AnswersFirst (faults_over view_shows (found_by_values values.now)
             (outermost (chars self.now))) (Some (answer_of error))) }
         ensures place { PlaceWithin (length self.now) (result_answer result) }
     {
-        self.check_in(alloc, sample)?;
-        let names = sample.names(alloc)?;
+        self.check_in(alloc, values)?;
+        let names = values.names(alloc)?;
         prepare_pieces(alloc, self.text.as_str(), &self.pieces, names)
     }
 

@@ -4,7 +4,7 @@
 
 use crate::failure::Failure;
 use interpolator::{
-    Error, Formattable, Interpolate, Pairs, Prepared, Row, Template, TextBuffer, View,
+    Cells, Error, Formattable, Interpolate, Pairs, Prepared, Template, TextBuffer, View,
 };
 use std::alloc::Global;
 use std::collections::HashMap;
@@ -128,14 +128,7 @@ fn put_by_row(
         View::Unsigned(u128::from(record.count)),
         View::Unsigned(u128::from(record.order)),
     ];
-    let row = [
-        Formattable::display(&values[0]),
-        Formattable::display(&values[1]),
-        Formattable::display(&values[2]),
-        Formattable::integer(&values[3]),
-        Formattable::integer(&values[4]),
-    ];
-    letter.write(alloc, out, &Row(&row))
+    letter.write_values(alloc, out, &Cells(&values))
 }
 
 fn put_by_hash_map(

@@ -18,6 +18,7 @@ mod io_writers;
 mod long;
 mod maps;
 mod memory;
+mod named_rows;
 mod own;
 mod prepared;
 mod render;
@@ -41,6 +42,7 @@ fn run_others(report: &mut Report) -> Result<(), Error> {
     io_writers::run(report)?;
     long::run(report)?;
     maps::run(report)?;
+    named_rows::run(report)?;
     prepared::run(report)?;
     render::run(report)?;
     templates::run(report)?;
