@@ -47,7 +47,7 @@ pub use interpolator_eval::{
     rows_of,
 };
 pub use interpolator_pieces::{Cost, Limits, Piece, check, format, iwriteln, write};
-pub use interpolator_prepared::{Cells, Prepared, PreparedRow, Row};
+pub use interpolator_prepared::{Prepared, PreparedRow, Row};
 pub use interpolator_render::{
     Alignment, Bits, Bounded, HexDebug, IoWriter, Refusal, RenderFault, Sign, Spec, TextBuffer,
     TextWrite, Trait, Value, View, most_written, pad, render,

@@ -289,10 +289,10 @@ impl Template {
     /// # Example
     ///
     /// ```text
-    /// let line = template.prepare_values(alloc, &values!(name = "", n:integer = 0u8))?;
-    /// line.write_values(alloc, &mut out, &values!(name, n:integer = apples))?;
+    /// let line = template.prepare_named(alloc, &values!(name = "", n:integer = 0u8))?;
+    /// line.write_named(alloc, &mut out, &values!(name, n:integer = apples))?;
     /// ```
-    pub fn prepare_values(&self, alloc: Global, values: &Values<'_>) -> Result<Prepared, Error>
+    pub fn prepare_named(&self, alloc: Global, values: &Values<'_>) -> Result<Prepared, Error>
         ensures prepared { IfOk result (λ made. made
             ≡ record { text = self.now; names = pair_names (pairs_of values.now) }) }
         ensures faultless { IfOk result (λ _. AnswersFirst (faults_over view_shows

@@ -4,7 +4,7 @@
 
 use crate::failure::Failure;
 use interpolator::{
-    Cells, Error, Formattable, Interpolate, Pairs, Prepared, Template, TextBuffer, View,
+    Error, Formattable, Interpolate, Pairs, Prepared, Template, TextBuffer, View,
 };
 use std::alloc::Global;
 use std::collections::HashMap;
@@ -128,7 +128,7 @@ fn put_by_row(
         View::Unsigned(u128::from(record.count)),
         View::Unsigned(u128::from(record.order)),
     ];
-    letter.write_values(alloc, out, &Cells(&values))
+    letter.write_values(alloc, out, &values)
 }
 
 fn put_by_hash_map(

@@ -8,13 +8,13 @@ ghost use Rattle.interpolator_eval.specs.Meaning.Environments.{environment};
 ghost use Rattle.interpolator_eval.specs.Meaning.Meanings.{means};
 ghost use Rattle.interpolator_eval.specs.Meaning.Outcomes.{Outcome, Formats};
 ghost use Rattle.interpolator_prepared.specs.Programs.{program};
-ghost use Rattle.interpolator_prepared.specs.Rows.{found_by_row, name_bytes, row_at};
+ghost use Rattle.interpolator_prepared.specs.Rows.{cell_at, found_by_row, name_bytes, row_at};
 ghost use Rattle.interpolator_prepared.specs.StoredSteps.{step_of};
 ghost use Rattle.interpolator_pieces.specs.Lines.{line_means};
 ghost use Rattle.interpolator_pieces.specs.Stored.{nodes_of};
 
 use crate::compile::compile;
-use crate::row::{NamedRow, PreparedRow, Row};
+use crate::row::{Cells, NamedRow, PreparedRow, Row};
 use crate::run::run_steps;
 use crate::step::Step;
 use interpolator_pieces::{Piece, buffer_for, write, write_newline};
@@ -141,7 +141,7 @@ impl Prepared {
             (W.written out.old) (W.written out.new) (result_answer result) }
         ensures place { PlaceWithin (length self.now.text) (result_answer result) }
     {
-        self.write_values(alloc, out, row)?;
+        self.write_named(alloc, out, row)?;
         Ok(())
     }
 
@@ -202,8 +202,9 @@ impl Prepared {
         format_row(alloc, self.text.as_str(), &named, &self.steps)
     }
 
-    /// Writes what the format means with a row of another kind than [`Row`]: [`Cells`](crate::Cells),
-    /// or one of your own.
+    /// Writes what the format means with a row of another kind than [`Row`]: named values, as
+    /// `values!` makes them, or a row of your own. Named values in another order than that of the
+    /// names, more of them or fewer, are looked up one by one.
     ///
     /// # Errors
     ///
@@ -212,10 +213,10 @@ impl Prepared {
     /// # Example
     ///
     /// ```text
-    /// prepared.write_values(alloc, &mut out, &Cells(&[View::from("Ann"), View::from(3u8)]))?;
+    /// prepared.write_named(alloc, &mut out, &values!(name, n = apples))?;
     /// ```
     #[inline(always)]
-    pub fn write_values<W: TextWrite, R: PreparedRow>(
+    pub fn write_named<W: TextWrite, R: PreparedRow>(
         &self,
         alloc: Global,
         out: &mut W,
@@ -235,19 +236,19 @@ impl Prepared {
         Ok(())
     }
 
-    /// Writes what the format means with such a row, as [`write_values`](Prepared::write_values)
+    /// Writes what the format means with such a row, as [`write_named`](Prepared::write_named)
     /// does, and after it a newline if there is no fault.
     ///
     /// # Errors
     ///
-    /// Those of `write_values`; `Fmt` at place 0 if the writer takes the text and refuses the newline.
+    /// Those of `write_named`; `Fmt` at place 0 if the writer takes the text and refuses the newline.
     ///
     /// # Example
     ///
     /// ```text
-    /// prepared.write_values_line(alloc, &mut out, &Cells(&[View::from("Ann")]))?;
+    /// prepared.write_named_line(alloc, &mut out, &values!(name, n = apples))?;
     /// ```
-    pub fn write_values_line<W: TextWrite, R: PreparedRow>(
+    pub fn write_named_line<W: TextWrite, R: PreparedRow>(
         &self,
         alloc: Global,
         out: &mut W,
@@ -260,7 +261,7 @@ impl Prepared {
             (W.written out.old) (W.written out.new) (result_answer result) }
         ensures place { PlaceWithin (length self.now.text) (result_answer result) }
     {
-        match self.write_values(alloc, out, row) {
+        match self.write_named(alloc, out, row) {
             Ok(()) => write_newline(out),
             Err(fault) => Err(fault),
         }
@@ -275,9 +276,9 @@ impl Prepared {
     /// # Example
     ///
     /// ```text
-    /// prepared.format_values(alloc, &Cells(&[View::from("Ann"), View::from(3u8)]))?
+    /// prepared.format_named(alloc, &values!(name, n = apples))?
     /// ```
-    pub fn format_values<R: PreparedRow>(&self, alloc: Global, row: &R) -> Result<String, Error>
+    pub fn format_named<R: PreparedRow>(&self, alloc: Global, row: &R) -> Result<String, Error>
         ensures formats { Formats
             (means R.Object.shows (environment (R.finds_in row.now self.now.names))
             (outermost (chars self.now.text)))
@@ -289,6 +290,34 @@ impl Prepared {
             row,
         };
         format_row(alloc, self.text.as_str(), &named, &self.steps)
+    }
+
+    /// Writes what the format means with these values in the order of the names, each in the slots
+    /// of all eight formatting traits. There is no list among them.
+    ///
+    /// # Errors
+    ///
+    /// Those of [`write`](Prepared::write).
+    ///
+    /// # Example
+    ///
+    /// ```text
+    /// prepared.write_values(alloc, &mut out, &[View::from("Ann"), View::from(3u8)])?;
+    /// ```
+    pub fn write_values<W: TextWrite, V: Value>(
+        &self,
+        alloc: Global,
+        out: &mut W,
+        values: &[V],
+    ) -> Result<(), Error>
+        ensures outcome { Outcome
+            (means V.shows (environment (found_by_row self.now.names (cell_at values.now)))
+            (outermost (chars self.now.text)))
+            (W.written out.old) (W.written out.new) (result_answer result) }
+        ensures place { PlaceWithin (length self.now.text) (result_answer result) }
+    {
+        self.write_named(alloc, out, &Cells(values))?;
+        Ok(())
     }
 
     /// The names, in the order of a row's values.

@@ -10,9 +10,8 @@ use interpolator_eval::{Context, Formattable, slot_of};
 use interpolator_render::{Trait, Value};
 use std::alloc::{AllocError, Global};
 
-/// What a prepared format is written with: values in the order of its names.
-///
-/// [`Row`] has the slots of each value, and [`Cells`] values alone.
+/// What a prepared format is written with: values in the order of its names. A type of your own is
+/// one if it names at most one lifetime.
 pub trait PreparedRow {
     /// The type of the values that are written.
     type Object: Value;
@@ -114,12 +113,7 @@ impl<'a, V: Value> PreparedRow for Row<'a, V> {
     }
 }
 
-/// A row of values alone, each under every formatting trait, as
-/// [`Formattable::integer`](interpolator_eval::Formattable::integer) has it. It has no lists.
-///
-/// ```text
-/// prepared.write_values(alloc, &mut out, &Cells(&[View::from("Ann"), View::from(3u8)]))?;
-/// ```
+/// A row of values alone, each in the slots of all formatting traits. It has no lists.
 pub struct Cells<'a, V>(pub &'a [V]);
 
 impl<'a, V> Clone for Cells<'a, V> {

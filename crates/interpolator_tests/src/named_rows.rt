@@ -1,7 +1,7 @@
 //! Named values and values alone as rows of prepared formats, and faults as I/O errors: by hand.
 
 use crate::report::Report;
-use interpolator::{Cells, Error, Formattable, Prepared, Template, TextBuffer, Values, View, values};
+use interpolator::{Error, Formattable, Prepared, Template, TextBuffer, Values, View, values};
 use std::alloc::Global;
 use std::io;
 
@@ -12,7 +12,7 @@ const TEXT: &str = "Zoë:   70x7";
 /// The format, prepared for a text and a number.
 fn prepared(alloc: Global) -> Result<Prepared, Error> {
     let template = Template::parse(alloc, FORMAT)?;
-    template.prepare_values(alloc, &values!(name = "", n:integer = 0u8))
+    template.prepare_named(alloc, &values!(name = "", n:integer = 0u8))
 }
 
 /// Checks what is written with a row of named values.
@@ -24,7 +24,7 @@ fn is_written(
 ) {
     let alloc = report.alloc;
     let mut out = TextBuffer::new(alloc);
-    let answer = line.write_values(alloc, &mut out, row);
+    let answer = line.write_named(alloc, &mut out, row);
     report.written(FORMAT, wanted, out.as_str(), answer);
 }
 
@@ -42,7 +42,7 @@ fn named_values_are_found(report: &mut Report, line: &Prepared) {
 }
 
 /// Checks what is written with the first values of a row.
-fn cells_are_written(report: &mut Report, line: &Prepared) {
+fn values_are_written(report: &mut Report, line: &Prepared) {
     let alloc = report.alloc;
     let cells = [View::Text("Zoë"), View::from(7u8), View::Text("more")];
     let rows = [
@@ -54,7 +54,7 @@ fn cells_are_written(report: &mut Report, line: &Prepared) {
     for (len, text, fault) in rows {
         let (row, _) = cells.split_at(len.min(cells.len()));
         let mut out = TextBuffer::new(alloc);
-        let answer = line.write_values(alloc, &mut out, &Cells(row));
+        let answer = line.write_values(alloc, &mut out, row);
         report.written(FORMAT, (text, fault), out.as_str(), answer);
     }
 }
@@ -63,9 +63,9 @@ fn cells_are_written(report: &mut Report, line: &Prepared) {
 fn other_calls(report: &mut Report, line: &Prepared) -> Result<(), Error> {
     let alloc = report.alloc;
     let row = values!(name = "Zoë", n:integer = 7u8);
-    report.made(FORMAT, (TEXT, ""), line.format_values(alloc, &row));
+    report.made(FORMAT, (TEXT, ""), line.format_named(alloc, &row));
     let mut out = TextBuffer::new(alloc);
-    let answer = line.write_values_line(alloc, &mut out, &row);
+    let answer = line.write_named_line(alloc, &mut out, &row);
     report.written(FORMAT, ("Zoë:   70x7\n", ""), out.as_str(), answer);
     let numbers = [View::from(1u8), View::from(5u8)];
     let items = [
@@ -74,10 +74,10 @@ fn other_calls(report: &mut Report, line: &Prepared) -> Result<(), Error> {
     ];
     let text = "{l:i({}{x})(, )}";
     let template = Template::parse(alloc, text)?;
-    let listed = template.prepare_values(alloc, &values!(x = "", l:i = &items))?;
-    let made = listed.format_values(alloc, &values!(x = "!", l:i = &items));
+    let listed = template.prepare_named(alloc, &values!(x = "", l:i = &items))?;
+    let made = listed.format_named(alloc, &values!(x = "!", l:i = &items));
     report.made(text, ("1!, 5!", ""), made);
-    let refused = template.prepare_values(alloc, &values!(l:i = &items));
+    let refused = template.prepare_named(alloc, &values!(l:i = &items));
     report.fault(text, "MissingValue(\"x\", 8)", refused);
     Ok(())
 }
@@ -107,7 +107,7 @@ pub fn run(report: &mut Report) -> Result<(), Error> {
     report.begin("named rows");
     let line = prepared(report.alloc)?;
     named_values_are_found(report, &line);
-    cells_are_written(report, &line);
+    values_are_written(report, &line);
     other_calls(report, &line)?;
     faults_as_io_errors(report)
 }

@@ -8,7 +8,7 @@ use std::alloc::Global;
 /// this order.
 fn prepared(alloc: Global, format: &str) -> Result<Prepared, Error> {
     let template = Template::parse(alloc, format)?;
-    template.prepare_values(alloc, &values!(item = "bread", count:integer = 7u32))
+    template.prepare_named(alloc, &values!(item = "bread", count:integer = 7u32))
 }
 
 /// A line for each row, all in one buffer, which is cleared between them.
@@ -17,7 +17,7 @@ fn put_lines(page: &mut Page, line: &Prepared, rows: &[(&str, u32)]) -> Result<(
     let mut out = TextBuffer::new(alloc);
     for (item, count) in rows {
         out.clear();
-        line.write_values(alloc, &mut out, &values!(item = *item, count:integer = *count))?;
+        line.write_named(alloc, &mut out, &values!(item = *item, count:integer = *count))?;
         page.put("prepared", out.as_str());
     }
     Ok(())

@@ -1,6 +1,6 @@
 use Rattle.std.proofs.Common.{length}
 use Rattle.interpolator_pieces.proofs.LineLemmas.{line_done, line_fault, newline_place}
-use Rattle.interpolator_prepared.proofs.prepared.Prepared.write_values_line.Goals as goal
+use Rattle.interpolator_prepared.proofs.prepared.Prepared.write_named_line.Goals as goal
 
 pub returns-in-Ok-clause-outcome : goal.returns-in-Ok-clause-outcome
 returns-in-Ok-clause-outcome g c =
