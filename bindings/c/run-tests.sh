@@ -3,8 +3,8 @@
 # bindings/c: the header by C99 and C++17 without a warning, each call, the rows of the conformance suite,
 # refused memory, threads, an installed copy by pkg-config, all under valgrind, and the examples.
 #
-# The archive is the one that `rt lib` or `rt ci` left in crates/interpolator_c/out; without one it is
-# made, which proves what is not proved yet. A tool that is missing fails the run, but for
+# The archive is the one that `rt lib` or the gate left in crates/interpolator_c/out; without one it is
+# made by `rt lib`, which proves what is not proved yet. A tool that is missing fails the run, but for
 # CI_SKIP_BINDINGS=1, by which nothing is run.
 set -eu
 cd "$(dirname "$0")"
