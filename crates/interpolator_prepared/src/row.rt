@@ -10,9 +10,9 @@ use interpolator_eval::{Context, Formattable, slot_of};
 use interpolator_render::{Trait, Value};
 use std::alloc::{AllocError, Global};
 
-/// What a prepared format is written with: values in the order of its names. A type of your own is
-/// one if it names at most one lifetime.
-pub trait PreparedRow {
+/// What a prepared format is written with: values in the order of its names. A type of your own
+/// may be one if it is `Copy` and names at most one lifetime.
+pub trait PreparedRow: Copy {
     /// The type of the values that are written.
     type Object: Value;
 

@@ -35,10 +35,12 @@ pub fn run_steps<'a, W: TextWrite, R: PreparedRow>(
         (R.value_at named.now.row.now) text.now steps.now)
         (W.written out.old) (W.written out.new) (result_answer result) }
 {
+    // A copy stays in registers.
+    let row = *named.row;
     for step in steps {
         match step {
             Step::Kept(kept) => run_kept(alloc, out, text, named, kept)?,
-            _ => put_step(out, text, named.row, step)?,
+            _ => put_step(out, text, &row, step)?,
         }
     }
     Ok(())
