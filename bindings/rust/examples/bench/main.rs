@@ -1,8 +1,11 @@
 //! Makes a text again and again, from a `HashMap` that is made once, and prints its length and 64-bit
-//! FNV-1a checksum: those of the workloads of `crates/interpolator_bench` with the same names.
+//! FNV-1a checksum: those of the workloads of `crates/interpolator_bench` with the same names. After
+//! `std-` a name stands for the same text by std.
 //!
 //! `cargo run --release --example bench -- WORKLOAD COUNT`, or `all COUNT`. Instructions for one text
 //! are the difference of two counts under `valgrind --tool=callgrind`.
+mod by_std;
+
 use interpolator::{format, Formattable};
 use std::collections::HashMap;
 use std::env;
@@ -14,7 +17,7 @@ type Values<'a> = HashMap<&'a str, Formattable<'a>>;
 /// Makes a text so often, and returns the last one.
 type Task = fn(u32) -> String;
 
-const WORKLOADS: [(&str, Task); 16] = [
+const WORKLOADS: [(&str, Task); 29] = [
     ("log-line", log_line),
     ("names-32-numbers", number_names),
     ("names-18-texts", text_names),
@@ -31,6 +34,19 @@ const WORKLOADS: [(&str, Task); 16] = [
     ("braces-64k", braces),
     ("floats", floats),
     ("list-1000-floats", float_list),
+    ("std-log-line", by_std::log_line),
+    ("std-names-32-numbers", by_std::number_names),
+    ("std-names-18-texts", by_std::text_names),
+    ("std-format-specs", by_std::specs),
+    ("std-format-radix", by_std::radix),
+    ("std-format-exponents", by_std::exponents),
+    ("std-format-padded-texts", by_std::padded_texts),
+    ("std-format-starred-texts", by_std::starred_texts),
+    ("std-format-wide", by_std::wide),
+    ("std-list-1000", by_std::list),
+    ("std-list-1000-angled", by_std::angled_list),
+    ("std-floats", by_std::floats),
+    ("std-list-1000-floats", by_std::float_list),
 ];
 
 fn main() -> ExitCode {
