@@ -2,13 +2,14 @@
 ghost use Rattle.std.specs.Prelude.{◌≡◌, ◌+ℤ◌, ◌*ℤ◌, ◌+◌, ◌*◌, pos, ℤ};
 ghost use Rattle.std.specs.Option.{option_copied};
 ghost use Rattle.std.specs.List.{find};
+ghost use Rattle.std.specs.Str.{IsAscii};
 ghost use Rattle.interpolator_render.specs.Views.{IsInRange, shown_by, fits_signed, some_text};
 ghost use Rattle.interpolator_render.specs.Views.{plain_text};
 ghost use Rattle.interpolator_border.specs.Requests.{is_request, request_of};
 ghost use Rattle.interpolator_border.specs.Fields.{character_shows, field_shows, lent_shows};
 ghost use Rattle.interpolator_border.specs.Fields.{number_shows, signed_shows, text_shows};
 
-use crate::bytes::text_of;
+use crate::bytes::{ascii_text, is_ascii, text_of};
 use crate::request::{Request, is_request, request_of};
 use interpolator::{Bits, Spec, Trait, Value, View};
 
@@ -92,8 +93,16 @@ pub struct Field<'a> {
     pub spare: [u64; 2],
 }
 
-/// The view of a text.
+/// The view of an ASCII text.
 #[inline(always)]
+fn ascii_view(bytes: &[u8]) -> View<'_>
+    requires { IsAscii bytes.now }
+    ensures { shown_by result ≡ text_shows some_text bytes.now }
+{
+    View::Text(ascii_text(bytes))
+}
+
+/// The view of a text.
 fn text_view(bytes: &[u8]) -> View<'_>
     ensures { shown_by result ≡ text_shows some_text bytes.now }
 {
@@ -220,11 +229,11 @@ fn field_view<'s>(field: &'s Field<'s>, t: Trait, spec: &Spec) -> View<'s>
 impl<'a> Value for Field<'a> {
     ghost shows = { λ field t spec. field_shows field t spec };
 
-    /// Most fields are texts, so that these are tested where a value is written.
+    /// Most fields are ASCII texts, so that these are tested where a value is written.
     #[inline(always)]
     fn view(&self, t: Trait, spec: &Spec) -> View<'_> {
-        if self.kind == TEXT {
-            text_view(self.text)
+        if self.kind == TEXT && is_ascii(self.text) {
+            ascii_view(self.text)
         } else {
             field_view(self, t, spec)
         }

@@ -11,7 +11,7 @@ use crate::answer::{Answer, Failure, put, told_failure, told_fault, well};
 use crate::bytes::text_of;
 use crate::field::Field;
 use crate::levels::{all_within, next_level};
-use crate::slots::field_slots;
+use crate::slots::{field_slots, set_slots};
 use interpolator::{Error, Formattable, Pairs, Prepared, Row, Template, TextBuffer, TextWrite};
 use std::alloc::Global;
 
@@ -64,7 +64,7 @@ fn set_row<'a>(values: &mut [Formattable<'a, Field<'a>>], cells: &'a [Field<'a>]
     ensures values { map slots_of values.new ≡ map (field_slots []) cells.now }
 {
     for k in 0..cells.len() {
-        values[k] = field_slots(&[], &cells[k]);
+        set_slots(&mut values[k], &cells[k]);
     }
 }
 
