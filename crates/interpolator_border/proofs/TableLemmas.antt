@@ -33,23 +33,6 @@ use Rattle.interpolator_border.specs.Tables.{AllRows, Faultless, Pairs, TellsRow
 use Rattle.interpolator_border.specs.Tables.{column_names, rows_ends, rows_text, row_means, values_mean}
 use Rattle.interpolator_border.proofs.AnswerLemmas.{out_of_memory, some_fault}
 
--- what values stand for at each position is what their cells do
-pub row_appended : (names : List (List ℕ)) (format : List ℕ) (values : List (Formattable Field))
-    (cells : List Field) (old new : Buffered) (result : Result ℕ Error)
-    → map slots_of values ≡ map (field_slots []) cells
-    → Appended (values_mean names format (row_at values)) old new result
-    → Appended (values_mean names format (cell_at cells)) old new result
-row_appended names format values cells old new result are appended =
-    subst (λ value_at. Appended (values_mean names format value_at) old new result)
-    (fun_ext (λ k. sym (slice_get-map slots_of values k) ∙ ap (λ xs. slice_get xs k) are
-    ∙ slice_get-map (field_slots []) cells k)) appended
-
--- there are as many values as cells
-pub as_many : (values : List (Formattable Field)) (cells : List Field)
-    → map slots_of values ≡ map (field_slots []) cells → length values ≡ length cells
-as_many values cells are =
-    sym (length-map values slots_of) ∙ ap length are ∙ length-map cells (field_slots [])
-
 module _ (names : List (List ℕ)) (format : List ℕ) (width : ℕ) (cells : List Field) where
   -- a fault of a row is told
   pub row_fails : (wrong : RowFault) (ends_old ends_new : List ℕ) (old new : List ℕ)
@@ -154,17 +137,13 @@ all_rows names format width cells count text ends bytes old new answer faultless
 
 -- all rows of cells are told, by the format and the columns
 pub rows_told : (columns cells : List Field) (format : List ℕ) (line : PreparedFormat)
-    (values : List (Formattable Field)) (width : ℕ) (ends_old ends_new old new : List ℕ)
-    (answer : Told_answer) → is_utf8 format ≡ true
-    → line ≡ record { text = format; names = column_names columns } → width ≡ length values
-    → map slots_of values ≡ map (field_slots []) columns
-    → TellsRows line.names line.text width cells ends_old ends_new old new answer
+    (ends_old ends_new : List ℕ) (old new : List ℕ) (answer : Told_answer)
+    → is_utf8 format ≡ true → line ≡ record { text = format; names = column_names columns }
+    → TellsRows line.names line.text (length columns) cells ends_old ends_new old new answer
     → RowsAnswers columns cells format ends_old ends_new old new answer
-rows_told columns cells format line values width ends_old ends_new old new answer utf8 is wide are
-    told =
+rows_told columns cells format line ends_old ends_new old new answer utf8 is told =
     inl (
       utf8,
-      subst (λ w. TellsRows (column_names columns) format w cells ends_old ends_new old new answer)
-          (wide ∙ as_many values columns are)
-          (subst (λ l. TellsRows l.names l.text width cells ends_old ends_new old new answer) is told),
+      subst (λ l. TellsRows l.names l.text (length columns) cells ends_old ends_new old new answer)
+          is told,
     )

@@ -9,6 +9,7 @@
 mod answer;
 mod argument;
 mod bytes;
+mod cells;
 mod checking;
 mod costs;
 mod explaining;

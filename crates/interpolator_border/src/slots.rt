@@ -1,5 +1,5 @@
 //! Which slots a field fills.
-ghost use Rattle.std.specs.Prelude.{◌≡◌, [], map, drop, take};
+ghost use Rattle.std.specs.Prelude.{◌≡◌, map, drop, take};
 ghost use Rattle.interpolator_eval.specs.Slots.{slots_of, with_iter, with_display};
 ghost use Rattle.interpolator_eval.specs.Slots.{with_debug, with_binary, with_octal};
 ghost use Rattle.interpolator_eval.specs.Slots.{with_lower_hex};
@@ -214,39 +214,5 @@ pub(crate) fn field_slots<'a>(
         list_slots(items, field)
     } else {
         value_slots(field)
-    }
-}
-
-/// What a field that is no plain value stands for, where a list has no items.
-#[inline(never)]
-fn other_slots<'a>(field: &'a Field<'a>) -> Formattable<'a, Field<'a>>
-    ensures { slots_of result ≡ field_slots [] field.now }
-{
-    field_slots(&[], field)
-}
-
-/// Puts the slots of a kind in place of others.
-#[inline(always)]
-fn set_kind_slots<'a>(place: &mut Formattable<'a, Field<'a>>, field: &'a Field<'a>)
-    ensures { slots_of place.new ≡ kind_slots field.now }
-{
-    *place = Formattable::default();
-    if field.kind <= CHARACTER {
-        place.set_debug_display(field);
-    } else {
-        place.set_integer(field);
-    }
-}
-
-/// Puts what a field stands for, where a list has no items, in place of what another did. A value
-/// without a mask is not copied.
-#[inline(always)]
-pub(crate) fn set_slots<'a>(place: &mut Formattable<'a, Field<'a>>, field: &'a Field<'a>)
-    ensures { slots_of place.new ≡ field_slots [] field.now }
-{
-    if field.kind == LIST || field.slots != 0 {
-        *place = other_slots(field);
-    } else {
-        set_kind_slots(place, field);
     }
 }

@@ -1,7 +1,6 @@
 //! A table: one format, read and prepared once, over each of its rows.
 ghost use Rattle.std.specs.Prelude.{◌≡◌, ◌≤◌, ◌↔◌, ◌+◌, ◌*◌, [], false, length, take, drop, map};
 ghost use Rattle.std.specs.Prelude.{IsTrue};
-ghost use Rattle.interpolator.specs.Prepared.Rows.{row_at};
 ghost use Rattle.interpolator_eval.specs.Slots.{slots_of};
 ghost use Rattle.interpolator_border.specs.Fields.{field_slots};
 ghost use Rattle.interpolator_border.specs.Tables.{Appended, MadeRows, PairsMade, Prepares};
@@ -9,10 +8,11 @@ ghost use Rattle.interpolator_border.specs.Tables.{RowsAnswers, TellsRows, cell_
 
 use crate::answer::{Answer, Failure, put, told_failure, told_fault, well};
 use crate::bytes::text_of;
+use crate::cells::CellRow;
 use crate::field::Field;
-use crate::levels::{all_within, next_level};
+use crate::levels::all_within;
 use crate::slots::{field_slots, set_slots};
-use interpolator::{Error, Formattable, Pairs, Prepared, Row, Template, TextBuffer, TextWrite};
+use interpolator::{Error, Formattable, Pairs, Prepared, Template, TextBuffer, TextWrite};
 use std::alloc::Global;
 
 /// The columns: a name, and what its example stands for.
@@ -58,28 +58,18 @@ fn prepare<'a>(alloc: Global, format: &[u8], columns: &'a [Field<'a>]) -> Result
     }
 }
 
-/// Puts what the cells of a row stand for in place of what those of another row do.
-fn set_row<'a>(values: &mut [Formattable<'a, Field<'a>>], cells: &'a [Field<'a>])
-    requires width { length values.old ≡ length cells.now }
-    ensures values { map slots_of values.new ≡ map (field_slots []) cells.now }
-{
-    for k in 0..cells.len() {
-        set_slots(&mut values[k], &cells[k]);
-    }
-}
-
-/// Appends a row of values, and tells where it ends.
+/// Appends a row of cells, and tells where it ends.
 fn put_row<'a>(
     alloc: Global,
     out: &mut TextBuffer,
     line: &Prepared,
-    row: &'a [Formattable<'a, Field<'a>>],
+    cells: &'a [Field<'a>],
 ) -> Result<usize, Error>
     requires goes_on { out.old.refused ≡ false }
-    ensures { Appended (values_mean line.now.names line.now.text (row_at row.now)) out.old out.new
+    ensures { Appended (values_mean line.now.names line.now.text (cell_at cells.now)) out.old out.new
         result }
 {
-    let written = line.write(alloc, out, &Row(row));
+    let written = line.write_named(alloc, out, &CellRow(cells));
     if out.refused() {
         return Err(Error::NoMemory);
     }
@@ -87,25 +77,6 @@ fn put_row<'a>(
         Ok(()) => Ok(out.as_str().len()),
         Err(error) => Err(error),
     }
-}
-
-/// Appends a row of cells, and tells where it ends. `values` has room for what the cells stand for.
-#[tactic(auto, using(crate::proofs::TableLemmas::row_appended, crate::proofs::TableLemmas::as_many,))]
-fn put_cells<'a>(
-    alloc: Global,
-    out: &mut TextBuffer,
-    line: &Prepared,
-    values: &mut [Formattable<'a, Field<'a>>],
-    cells: &'a [Field<'a>],
-) -> Result<usize, Error>
-    requires goes_on { out.old.refused ≡ false }
-    requires width { length values.old ≡ length cells.now }
-    ensures appended { Appended (values_mean line.now.names line.now.text (cell_at cells.now)) out.old
-        out.new result }
-    ensures width { length values.new ≡ length cells.now }
-{
-    set_row(values, cells);
-    put_row(alloc, out, line, values)
 }
 
 /// The cells of a row.
@@ -125,25 +96,24 @@ struct RowFault {
     error: Error,
 }
 
-/// Appends the rows, and tells where each ends. `values` has room for a row.
+/// Appends the rows of so many cells each, and tells where each ends.
 #[tactic(auto, using(crate::proofs::TableLemmas::in_table))]
 fn put_rows<'a>(
     alloc: Global,
     out: &mut TextBuffer,
     line: &Prepared,
-    values: &mut [Formattable<'a, Field<'a>>],
+    width: usize,
     cells: &'a [Field<'a>],
     ends: &mut [usize],
 ) -> Result<(), RowFault>
     requires goes_on { out.old.refused ≡ false }
     requires empty { out.old.text ≡ [] }
-    requires table { length cells.now ≡ length ends.old * length values.old }
-    ensures { MadeRows line.now.names line.now.text (length values.old) cells.now (length ends.old)
+    requires table { length cells.now ≡ length ends.old * width }
+    ensures { MadeRows line.now.names line.now.text width cells.now (length ends.old)
         out.new ends.new result }
 {
-    let width = values.len();
     for row in 0..ends.len() {
-        match put_cells(alloc, out, line, values, cells_at(cells, width, row)) {
+        match put_row(alloc, out, line, cells_at(cells, width, row)) {
             Ok(end) => ends[row] = end,
             Err(error) => return Err(RowFault { row, error }),
         }
@@ -155,17 +125,17 @@ fn put_rows<'a>(
 fn rows_of<'a>(
     alloc: Global,
     line: &Prepared,
-    values: &mut [Formattable<'a, Field<'a>>],
+    width: usize,
     cells: &'a [Field<'a>],
     ends: &mut [usize],
     room: &mut [u8],
 ) -> Answer
-    requires table { length cells.now ≡ length ends.old * length values.old }
-    ensures { TellsRows line.now.names line.now.text (length values.old) cells.now ends.old ends.new
+    requires table { length cells.now ≡ length ends.old * width }
+    ensures { TellsRows line.now.names line.now.text width cells.now ends.old ends.new
         room.old room.new result }
 {
     let mut out = TextBuffer::new(alloc);
-    match put_rows(alloc, &mut out, line, values, cells, ends) {
+    match put_rows(alloc, &mut out, line, width, cells, ends) {
         Ok(()) => {
             let text = out.as_str();
             put(room, text.as_bytes());
@@ -200,10 +170,7 @@ pub fn rows<'a>(
         return told_failure(alloc, &Failure::Table, room);
     }
     match prepare(alloc, format, columns) {
-        Ok(line) => match next_level(alloc, columns, &[]) {
-            Ok(mut values) => rows_of(alloc, &line, &mut values, cells, ends, room),
-            Err(_) => told_failure(alloc, &Failure::Fault(Error::NoMemory), room),
-        },
+        Ok(line) => rows_of(alloc, &line, columns.len(), cells, ends, room),
         Err(failure) => told_failure(alloc, &failure, room),
     }
 }

@@ -14,4 +14,4 @@ mod run;
 mod step;
 
 pub use prepared::{Prepared, prepare_pieces};
-pub use row::{PreparedRow, Row, names_of};
+pub use row::{PreparedRow, Row, last_position, names_of};

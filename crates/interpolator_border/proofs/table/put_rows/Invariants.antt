@@ -5,7 +5,7 @@ use Rattle.interpolator_border.proofs.table.put_rows.Given as goal
 -- the rows so far were appended, none of them has a fault, and it is told where each ends
 abbrev pub invariant-loop-row : goal.invariant-loop-row
 invariant-loop-row l =
-    (l.out.refused ≡ false) × (length l.values ≡ l.width)
+    (l.out.refused ≡ false)
     × (length l.ends ≡ length l.initial.ends)
     × (l.out.text ≡ rows_text l.line.names l.line.text l.width l.cells l.row)
     × (take l.row l.ends ≡ rows_ends l.line.names l.line.text l.width l.cells l.row)

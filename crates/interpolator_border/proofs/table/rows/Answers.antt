@@ -1,13 +1,11 @@
-use Rattle.std.proofs.Common.{ap, length}
 use Rattle.interpolator_border.proofs.TableLemmas.{columns_fail, rows_told}
 use Rattle.interpolator_border.proofs.table.rows.Goals as goal
 
-pub returns-in-Ok-next_level : goal.returns-in-Ok-next_level
-returns-in-Ok-next_level c =
-    rows_told c.args.columns.now c.args.cells.now c.args.format.now c.in-Ok.line
-    c.in-Ok-next_level.values.items _ c.args.ends.now c.rows_of.new.ends c.args.room.now
-    c.rows_of.new.room c.rows_of.result c.in-Ok.ensures.0 c.in-Ok.ensures.1
-    (ap length c.deref_mut.ensures.value) c.in-Ok-next_level.ensures c.rows_of.ensures
+pub returns-in-Ok : goal.returns-in-Ok
+returns-in-Ok c =
+    rows_told c.args.columns.now c.args.cells.now c.args.format.now c.in-Ok.line c.args.ends.now
+    c.rows_of.new.ends c.args.room.now c.rows_of.new.room c.rows_of.result c.in-Ok.ensures.0
+    c.in-Ok.ensures.1 c.rows_of.ensures
 
 pub returns : goal.returns
 returns c =
