@@ -5,6 +5,7 @@ use crate::report::Report;
 use interpolator::{
     Error, ParseError, Position, Source, Template, Trait, explain, explain_in, explain_with_names,
 };
+use std::alloc::{AllocError, Global};
 use std::fmt;
 
 /// A place, its line and its column in the text `a\né{x}\n\nb`, by hand.
@@ -43,51 +44,25 @@ fn check_shown(report: &mut Report, text: &str, error: &Error, wanted: &str) {
     report.made(text, (wanted, ""), told);
 }
 
-/// Worked by hand: `é` has two bytes, and in its text it is on the second line.
-fn faults_are_shown(report: &mut Report) -> Result<(), Error> {
-    check_shown(
-        report,
-        "{a:i({:?})}",
-        &Error::MissingTraitImpl(Trait::Debug, 8),
-        "f:1:9: trait `Debug` not implemented, used by format argument at 8\n  |\n\
-         1 | {a:i({:?})}\n  |      ~~~^",
-    );
-    check_shown(
-        report,
-        "a\tb",
-        &Error::Fmt(fmt::Error, 2),
-        "f:1:3: error while formatting at 2: an error occurred when formatting an argument\n  |\n\
-         1 | a\tb\n  |  \t^",
-    );
-    check_shown(
-        report,
-        "ab\r\nc",
-        &Error::Fmt(fmt::Error, 3),
-        "f:1:4: error while formatting at 3: an error occurred when formatting an argument\n  |\n\
-         1 | ab \n  |    ^",
-    );
-    check_shown(
-        report,
-        "{a:\t>5y}",
-        &Error::Parse(ParseError::Expected("}", 6)),
-        "f:1:7: error while parsing input: Expected `}` at 6\n  |\n\
-         1 | {a:\t>5y}\n  | ~~~\t~~^~",
-    );
-    check_shown(
-        report,
-        "{a:\n>5y}",
-        &Error::Parse(ParseError::Expected("}", 6)),
-        "f:2:3: error while parsing input: Expected `}` at 6\n  |\n2 | >5y}\n  | ~~^~",
-    );
-    check_shown(report, "x", &Error::NoMemory, "f: out of memory");
-    let name = String::from_str(report.alloc, "q")?;
-    check_shown(
-        report,
-        "x\né{q}\n",
-        &Error::MissingValue(name, 5),
-        "f:2:3: specified value not in context `q` at 5\n  |\n2 | é{q}\n  |  ~^~",
-    );
-    Ok(())
+/// Texts, their faults, and how these are shown. Worked by hand: `é` has two bytes, and in its text it
+/// is on the second line.
+#[rattlefmt::skip]
+fn shown(alloc: Global) -> Result<[(&'static str, Error, &'static str); 7], AllocError> {
+    Ok([
+        ("{a:i({:?})}", Error::MissingTraitImpl(Trait::Debug, 8),
+            "f:1:9: trait `Debug` not implemented, used by format argument at 8\n  |\n1 | {a:i({:?})}\n  |      ~~~^"),
+        ("a\tb", Error::Fmt(fmt::Error, 2),
+            "f:1:3: error while formatting at 2: an error occurred when formatting an argument\n  |\n1 | a\tb\n  |  \t^"),
+        ("ab\r\nc", Error::Fmt(fmt::Error, 3),
+            "f:1:4: error while formatting at 3: an error occurred when formatting an argument\n  |\n1 | ab \n  |    ^"),
+        ("{a:\t>5y}", Error::Parse(ParseError::Expected("}", 6)),
+            "f:1:7: error while parsing input: Expected `}` at 6\n  |\n1 | {a:\t>5y}\n  | ~~~\t~~^~"),
+        ("{a:\n>5y}", Error::Parse(ParseError::Expected("}", 6)),
+            "f:2:3: error while parsing input: Expected `}` at 6\n  |\n2 | >5y}\n  | ~~^~"),
+        ("x", Error::NoMemory, "f: out of memory"),
+        ("x\né{q}\n", Error::MissingValue(String::from_str(alloc, "q")?, 5),
+            "f:2:3: specified value not in context `q` at 5\n  |\n2 | é{q}\n  |  ~^~"),
+    ])
 }
 
 /// Worked by hand.
@@ -161,7 +136,9 @@ pub fn run(report: &mut Report) -> Result<(), Error> {
     report.begin("explained");
     lines_and_columns(report);
     arguments_at_places(report)?;
-    faults_are_shown(report)?;
+    for (text, error, wanted) in shown(report.alloc)? {
+        check_shown(report, text, &error, wanted);
+    }
     line_of_a_file(report);
     names_are_told(report)?;
     long_line(report)

@@ -13,39 +13,29 @@ struct Spy {
     /// How many bytes it takes in each call up to the one that fails. Later it takes everything.
     most: usize,
     /// The write that fails, counted from one, and the flush that fails; 0 if none does.
-    failing: usize,
-    failing_flush: usize,
+    failing: (usize, usize),
     kind: io::ErrorKind,
     writes: usize,
     flushes: usize,
 }
 
 impl Spy {
-    /// A writer that never fails.
-    fn new(alloc: Global, most: usize) -> Spy {
+    fn new(alloc: Global, most: usize, failing: (usize, usize), kind: io::ErrorKind) -> Spy {
         Spy {
             got: Vec::new(alloc),
             most,
-            failing: 0,
-            failing_flush: 0,
-            kind: io::ErrorKind::StorageFull,
+            failing,
+            kind,
             writes: 0,
             flushes: 0,
         }
-    }
-
-    /// A writer whose nth write fails.
-    fn failing(alloc: Global, most: usize, nth: usize) -> Spy {
-        let mut spy = Spy::new(alloc, most);
-        spy.failing = nth;
-        spy
     }
 }
 
 impl io::Write for Spy {
     fn write(&mut self, buf: &[u8]) -> io::Result<usize> {
         self.writes = self.writes.saturating_add(1);
-        if self.writes == self.failing {
+        if self.writes == self.failing.0 {
             self.most = usize::MAX;
             return Err(io::Error::from(self.kind));
         }
@@ -56,18 +46,10 @@ impl io::Write for Spy {
 
     fn flush(&mut self) -> io::Result<()> {
         self.flushes = self.flushes.saturating_add(1);
-        if self.flushes == self.failing_flush {
+        if self.flushes == self.failing.1 {
             return Err(io::Error::from(self.kind));
         }
         Ok(())
-    }
-}
-
-/// Whether a call failed with an error of this kind.
-fn fails_as(flushed: io::Result<()>, kind: io::ErrorKind) -> bool {
-    match flushed {
-        Ok(()) => false,
-        Err(error) => error.kind() == kind,
     }
 }
 
@@ -80,7 +62,8 @@ fn holds_prefix(report: &mut Report, what: &str, below: &Spy, taken: &str, count
 /// 2,000 times six bytes, and a text, which are more than is gathered at once.
 fn long_text(report: &mut Report) -> Result<(), Error> {
     let long = "x".repeat(report.alloc, 9_000)?;
-    let mut out = IoWriter::new(report.alloc, Spy::new(report.alloc, 1_000));
+    let spy = Spy::new(report.alloc, 1_000, (0, 0), io::ErrorKind::Other);
+    let mut out = IoWriter::new(report.alloc, spy);
     let mut is_taken = true;
     for _ in 0..2_000 {
         is_taken = out.write_str("naïve").is_ok() && is_taken;
@@ -95,78 +78,65 @@ fn long_text(report: &mut Report) -> Result<(), Error> {
     Ok(())
 }
 
-/// Each flush reaches the writer below.
-fn flushed_twice(report: &mut Report) {
-    let mut out = IoWriter::new(report.alloc, Spy::new(report.alloc, 9));
-    report.holds("a text is gathered", out.write_str("text").is_ok());
-    report.holds("it is flushed", out.flush().is_ok());
-    report.holds("and again", out.flush().is_ok());
-    let below = out.into_inner();
-    report.number("the flushes", 2, below.flushes);
-    holds_prefix(report, "flushed", &below, "text", 4);
+/// What the writer below does, how the first flush and the second then fail, and how many writes,
+/// flushes and bytes it got in the end.
+struct Case {
+    what: &'static str,
+    most: usize,
+    failing: (usize, usize),
+    kind: io::ErrorKind,
+    fails: Option<(io::ErrorKind, io::ErrorKind)>,
+    got: (usize, usize, usize),
 }
 
-/// Everything is passed on, and only the flush below fails.
-fn failed_flush(report: &mut Report) {
-    let mut spy = Spy::new(report.alloc, 9);
-    spy.failing_flush = 1;
+/// Worked by hand: `text` is gathered, and the first flush passes it on; `more` and `c` come next, and
+/// another flush. A write that a signal interrupts is tried again, and no other; after a failure
+/// nothing is passed on any more.
+#[rattlefmt::skip]
+const CASES: [Case; 5] = [
+    Case { what: "flushed twice", most: 9, failing: (0, 0), kind: io::ErrorKind::Other, fails: None, got: (2, 2, 9) },
+    Case { what: "interrupted", most: 2, failing: (2, 0), kind: io::ErrorKind::Interrupted, fails: None, got: (4, 2, 9) },
+    Case { what: "failed flush", most: 9, failing: (0, 1), kind: io::ErrorKind::StorageFull, fails: Some((io::ErrorKind::StorageFull, io::ErrorKind::Other)), got: (1, 1, 4) },
+    Case { what: "failed write", most: 9, failing: (1, 0), kind: io::ErrorKind::StorageFull, fails: Some((io::ErrorKind::StorageFull, io::ErrorKind::Other)), got: (1, 0, 0) },
+    Case { what: "nothing taken", most: 0, failing: (0, 0), kind: io::ErrorKind::Other, fails: Some((io::ErrorKind::WriteZero, io::ErrorKind::Other)), got: (1, 0, 0) },
+];
+
+/// Whether a call failed with an error of this kind, or not at all if none is given.
+fn ends_as(flushed: io::Result<()>, wanted: Option<io::ErrorKind>) -> bool {
+    match (flushed, wanted) {
+        (Ok(()), None) => true,
+        (Err(error), Some(kind)) => error.kind() == kind,
+        _ => false,
+    }
+}
+
+fn is_flushed(report: &mut Report, case: &Case) {
+    let what = case.what;
+    let spy = Spy::new(report.alloc, case.most, case.failing, case.kind);
     let mut out = IoWriter::new(report.alloc, spy);
-    report.holds("a text is gathered", out.write_str("text").is_ok());
-    let flushed = out.flush();
-    report.holds("its kind", fails_as(flushed, io::ErrorKind::StorageFull));
-    report.holds("it has refused", out.refused());
-    report.holds("a text is refused then", out.write_str("more").is_err());
-    let again = out.flush();
-    report.holds("no flush then", fails_as(again, io::ErrorKind::Other));
+    let (first, second) = match case.fails {
+        Some((first, second)) => (Some(first), Some(second)),
+        None => (None, None),
+    };
+    report.holds(what, out.write_str("text").is_ok());
+    report.holds(what, ends_as(out.flush(), first));
+    report.holds(what, out.refused() == first.is_some());
+    report.holds(what, out.write_str("more").is_err() == first.is_some());
+    report.holds(what, out.write_char('c').is_err() == first.is_some());
+    report.holds(what, out.write_str("").is_ok());
+    report.holds(what, ends_as(out.flush(), second));
     let below = out.into_inner();
-    report.number("the flushes", 1, below.flushes);
-    holds_prefix(report, "failed flush", &below, "text", 4);
-}
-
-/// A write that fails returns the kind of its error, and is not tried again.
-fn failed_write(report: &mut Report) {
-    let mut out = IoWriter::new(report.alloc, Spy::failing(report.alloc, 9, 1));
-    report.holds("a text is gathered", out.write_str("text").is_ok());
-    let flushed = out.flush();
-    report.holds("its kind", fails_as(flushed, io::ErrorKind::StorageFull));
-    report.holds("it has refused", out.refused());
-    report.holds("a text is refused then", out.write_str("text").is_err());
-    report.holds("a character is", out.write_char('c').is_err());
-    report.holds("the empty text is taken", out.write_str("").is_ok());
-    let below = out.into_inner();
-    report.number("the writes", 1, below.writes);
-    report.number("no flush", 0, below.flushes);
-    holds_prefix(report, "failed write", &below, "text", 0);
-}
-
-/// A writer below that takes nothing.
-fn nothing_taken(report: &mut Report) {
-    let mut out = IoWriter::new(report.alloc, Spy::new(report.alloc, 0));
-    report.holds("a text is gathered", out.write_str("text").is_ok());
-    let flushed = out.flush();
-    report.holds("its kind", fails_as(flushed, io::ErrorKind::WriteZero));
-    report.number("the writes", 1, out.into_inner().writes);
-}
-
-/// A write that a signal interrupts is tried again.
-fn interrupted_write(report: &mut Report) {
-    let mut spy = Spy::failing(report.alloc, 2, 2);
-    spy.kind = io::ErrorKind::Interrupted;
-    let mut out = IoWriter::new(report.alloc, spy);
-    report.holds("a text is gathered", out.write_str("text").is_ok());
-    report.holds("it is passed on", out.flush().is_ok());
-    let below = out.into_inner();
-    report.number("the writes", 3, below.writes);
-    holds_prefix(report, "interrupted", &below, "text", 4);
+    let (writes, flushes, count) = case.got;
+    report.number(what, writes, below.writes);
+    report.number(what, flushes, below.flushes);
+    holds_prefix(report, what, &below, "textmorec", count);
 }
 
 pub fn run(report: &mut Report) -> Result<(), Error> {
     report.begin("io writers");
     long_text(report)?;
-    flushed_twice(report);
-    failed_flush(report);
-    failed_write(report);
-    nothing_taken(report);
-    interrupted_write(report);
+    for case in &CASES {
+        is_flushed(report, case);
+    }
     Ok(())
 }

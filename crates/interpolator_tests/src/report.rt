@@ -2,6 +2,7 @@
 
 use interpolator::Error;
 use std::alloc::{AllocError, Global};
+use std::fmt;
 
 /// More bytes than all groups report, so that the report itself never grows.
 const ROOM: usize = 4_000;
@@ -72,22 +73,29 @@ impl Report {
         self.end();
     }
 
-    /// Counts a check, which holds or fails.
-    fn count(&mut self, holds: bool) {
+    /// Counts a check, and reports it if it fails: what was wanted, and what came.
+    fn check<W: fmt::Debug, C: fmt::Debug>(
+        &mut self,
+        what: &str,
+        holds: bool,
+        wanted: &W,
+        came: &C,
+    ) {
         self.checks = self.checks.saturating_add(1);
-        if !holds {
-            self.failed = self.failed.saturating_add(1);
+        if holds {
+            return;
         }
+        self.failed = self.failed.saturating_add(1);
+        let group = self.group;
+        let line = format!(in self.alloc;
+            "{group}: {what:.200}\n  wanted {wanted:?}\n  came   {came:?}\n"
+        );
+        self.say(line);
     }
 
     /// Checks that this holds.
     pub fn holds(&mut self, what: &str, holds: bool) {
-        self.count(holds);
-        if !holds {
-            let group = self.group;
-            let line = format!(in self.alloc; "{group}: {what:.200}: does not hold\n");
-            self.say(line);
-        }
+        self.check(what, holds, &true, &holds);
     }
 
     /// Checks that this holds after memory was refused. It is counted only if it fails, so that the
@@ -100,26 +108,12 @@ impl Report {
 
     /// Checks that the number is the wanted one.
     pub fn number(&mut self, what: &str, wanted: usize, came: usize) {
-        self.count(wanted == came);
-        if wanted != came {
-            let group = self.group;
-            let line = format!(in self.alloc;
-                "{group}: {what:.200}: wanted {wanted}, came {came}\n"
-            );
-            self.say(line);
-        }
+        self.check(what, wanted == came, &wanted, &came);
     }
 
     /// Checks that the text is the wanted one.
     pub fn text(&mut self, what: &str, wanted: &str, came: &str) {
-        self.count(wanted == came);
-        if wanted != came {
-            let group = self.group;
-            let line = format!(in self.alloc;
-                "{group}: {what:.200}\n  wanted {wanted:.200}\n  came   {came:.200}\n"
-            );
-            self.say(line);
-        }
+        self.check(what, wanted == came, &wanted, &came);
     }
 
     /// Checks that the result has this fault, as `Debug` shows it; none if that is empty.

@@ -7,49 +7,32 @@ use interpolator::{Bits, Error, Spec, TextBuffer, TextWrite, Trait, Value, View,
 /// Checks that a value is displayed as this text.
 fn displays<V: Value>(report: &mut Report, value: &V, text: &str) {
     let spec = Spec::default();
+    let view = value.view(Trait::Display, &spec);
     let mut out = TextBuffer::new(report.alloc);
-    let answer = render(
-        &mut out,
-        value.view(Trait::Display, &spec),
-        Trait::Display,
-        &spec,
-    );
+    let answer = render(&mut out, view, Trait::Display, &spec);
     report.holds(text, answer.is_ok());
     report.text("a value", text, out.as_str());
 }
 
-fn unsigned(report: &mut Report) {
+/// Checks a value of each type.
+#[rattlefmt::skip]
+fn types(report: &mut Report) -> Result<(), Error> {
     displays(report, &u8::MAX, "255");
     displays(report, &u16::MAX, "65535");
     displays(report, &u32::MAX, "4294967295");
     displays(report, &u64::MAX, "18446744073709551615");
-    displays(
-        report,
-        &u128::MAX,
-        "340282366920938463463374607431768211455",
-    );
+    displays(report, &u128::MAX, "340282366920938463463374607431768211455");
     displays(report, &usize::MAX, "18446744073709551615");
-}
-
-fn signed(report: &mut Report) {
     displays(report, &i8::MIN, "-128");
     displays(report, &i16::MIN, "-32768");
     displays(report, &i32::MIN, "-2147483648");
     displays(report, &i64::MIN, "-9223372036854775808");
-    displays(
-        report,
-        &i128::MIN,
-        "-170141183460469231731687303715884105728",
-    );
+    displays(report, &i128::MIN, "-170141183460469231731687303715884105728");
     displays(report, &isize::MIN, "-9223372036854775808");
-}
-
-fn texts(report: &mut Report) -> Result<(), Error> {
     displays(report, &true, "true");
     displays(report, &'é', "é");
     displays(report, &"text", "text");
-    let owned = String::from_str(report.alloc, "owned")?;
-    displays(report, &owned, "owned");
+    displays(report, &String::from_str(report.alloc, "owned")?, "owned");
     displays(report, &View::Signed(-128, Bits::B8), "-128");
     displays(report, &View::Plain("{x}"), "{x}");
     Ok(())
@@ -69,8 +52,6 @@ fn buffer(report: &mut Report) -> Result<(), Error> {
 
 pub fn run(report: &mut Report) -> Result<(), Error> {
     report.begin("values");
-    unsigned(report);
-    signed(report);
-    texts(report)?;
+    types(report)?;
     buffer(report)
 }
