@@ -2,7 +2,7 @@
 
 use crate::cells::Cell;
 use crate::lexing::Word;
-use crate::names::{Slots, named_slots};
+use crate::names::{SLOTS, Slots, TRUTHS, named};
 use crate::trouble::Read;
 use crate::words::Words;
 use interpolator::{ContextMap, Formattable, Limits};
@@ -33,8 +33,8 @@ struct Held {
     /// How many lists it is inside.
     level: usize,
     fills: Vec<Fill>,
-    /// Its lists, of which the last one counts.
-    lists: Vec<Items>,
+    /// The last of its lists.
+    list: Option<Items>,
 }
 
 /// Everything that a context has under its names, and in the lists there.
@@ -45,10 +45,10 @@ pub struct Holding {
 }
 
 /// The view here, as a value.
-fn take_cell(words: &mut Words<'_>) -> Read<Cell> {
+pub fn take_cell(words: &mut Words<'_>) -> Read<Cell> {
     let kind = words.bare().unwrap_or("");
     match kind {
-        "truth" => Ok(Cell::Truth(words.truth()?)),
+        "truth" => Ok(Cell::Truth(words.wanted(&TRUTHS)?)),
         "character" => Ok(Cell::Character(words.character()?)),
         "text" => Ok(Cell::Text(words.text()?)),
         "plain" => Ok(Cell::Plain(words.text()?)),
@@ -86,18 +86,11 @@ fn number_of(kind: &str, word: &str) -> Option<Cell> {
     }
 }
 
-/// The view here, to the end of the line.
-pub fn view_of(words: &mut Words<'_>) -> Read<Cell> {
-    let cell = take_cell(words)?;
-    words.done()?;
-    Ok(cell)
-}
-
 /// The slots here, joined by commas.
 fn take_slots(alloc: Global, words: &mut Words<'_>) -> Read<Vec<Slots>> {
     let mut all = Vec::new(alloc);
     for word in words.bare().unwrap_or("").split(',') {
-        match named_slots(word) {
+        match named(&SLOTS, word) {
             Some(slots) => all.push(slots)?,
             None => return Err(words.trouble("no such slot")),
         }
@@ -111,7 +104,7 @@ impl Held {
             name,
             level,
             fills: Vec::new(alloc),
-            lists: Vec::new(alloc),
+            list: None,
         }
     }
 }
@@ -127,15 +120,6 @@ fn longest_of(fills: &[Fill]) -> usize {
         });
     }
     longest
-}
-
-/// The number of items of the longest list.
-fn most_items_of(lists: &[Items]) -> usize {
-    let mut most = 0usize;
-    for list in lists {
-        most = most.max(list.to.saturating_sub(list.from));
-    }
-    most
 }
 
 impl Holding {
@@ -190,7 +174,9 @@ impl Holding {
         let mut items = 0usize;
         for held in &self.all {
             text = text.max(longest_of(&held.fills));
-            items = items.max(most_items_of(&held.lists));
+            if let Some(list) = held.list {
+                items = items.max(list.to.saturating_sub(list.from));
+            }
         }
         Limits { text, items }
     }
@@ -210,52 +196,39 @@ impl Holding {
     }
 
     /// Begins a list under the name or the item at the index.
-    fn begin_list(&mut self, index: usize) -> Read<()> {
+    fn begin_list(&mut self, index: usize) {
         let from = self.count(self.level_of(index).saturating_add(1));
         if let Some(held) = self.all.get_mut(index) {
-            held.lists.push(Items { from, to: from })?;
-        }
-        Ok(())
-    }
-
-    /// Ends the last list of the name or the item at the index: its items are those up to here.
-    fn end_list(&mut self, index: usize) -> Read<()> {
-        let to = self.count(self.level_of(index).saturating_add(1));
-        if let Some(held) = self.all.get_mut(index) {
-            if let Some(list) = held.lists.pop() {
-                let from = list.from;
-                held.lists.push(Items { from, to })?;
-            }
-        }
-        Ok(())
-    }
-
-    fn has_list(&self, index: usize) -> bool {
-        match self.all.get(index) {
-            Some(held) => !held.lists.is_empty(),
-            None => false,
+            held.list = Some(Items { from, to: from });
         }
     }
 
     /// Adds an item to the last list of the name or the item at the index; returns its own index.
     fn add_item(&mut self, words: &Words<'_>, index: usize) -> Read<usize> {
-        if !self.has_list(index) {
-            return Err(words.trouble("`list` is wanted before items"));
-        }
         let level = self.level_of(index).saturating_add(1);
         if level >= LEVELS {
             return Err(words.trouble("lists stand too deep in one another"));
         }
         let item = self.add(String::new(self.alloc), level)?;
-        self.end_list(index)?;
-        Ok(item)
+        let to = self.count(level);
+        if let Some(held) = self.all.get_mut(index) {
+            if let Some(list) = held.list {
+                held.list = Some(Items {
+                    from: list.from,
+                    to,
+                });
+                return Ok(item);
+            }
+        }
+        Err(words.trouble("`list` is wanted before items"))
     }
 
     /// Reads a fact of the innermost name or item that is open.
     fn take_fact(&mut self, words: &mut Words<'_>, open: &mut Vec<usize>) -> Read<()> {
         let index = open.last().copied().unwrap_or(0);
         if words.takes("list") {
-            return self.begin_list(index);
+            self.begin_list(index);
+            return Ok(());
         }
         match words.peek() {
             Some(Word::Open) => {
@@ -331,15 +304,6 @@ fn fill_slots<'a>(held: &mut Formattable<'a, Cell>, slots: Slots, cell: &'a Cell
     }
 }
 
-/// Fills the slot of a list.
-fn fill_list<'a>(
-    held: &mut Formattable<'a, Cell>,
-    below: &'a [Formattable<'a, Cell>],
-    list: Items,
-) {
-    held.set_iter(list_of(below, list));
-}
-
 /// Fills all slots of one value.
 fn fill_all<'a>(held: &mut Formattable<'a, Cell>, all: &'a Fill) {
     for slots in &all.slots {
@@ -350,8 +314,8 @@ fn fill_all<'a>(held: &mut Formattable<'a, Cell>, all: &'a Fill) {
 /// The slots of a name or an item, with the items of the level below.
 fn value_of<'a>(held: &'a Held, below: &'a [Formattable<'a, Cell>]) -> Formattable<'a, Cell> {
     let mut value = Formattable::default();
-    for list in &held.lists {
-        fill_list(&mut value, below, *list);
+    if let Some(list) = held.list {
+        value.set_iter(list_of(below, list));
     }
     for all in &held.fills {
         fill_all(&mut value, all);
@@ -378,17 +342,11 @@ pub fn values_of<'a>(
 /// The values under their names.
 pub fn context_of<'a>(
     alloc: Global,
-    holding: &Holding,
-    values: &[Formattable<'a, Cell>],
+    pairs: &[(&'a str, Formattable<'a, Cell>)],
 ) -> Result<ContextMap<'a, Cell>, AllocError> {
     let mut context = ContextMap::new(alloc);
-    let mut values = values.iter();
-    for held in &holding.all {
-        if held.level == 0 {
-            if let Some(value) = values.next() {
-                context.put(held.name.as_str(), *value)?;
-            }
-        }
+    for (name, value) in pairs {
+        context.put(name, *value)?;
     }
     Ok(context)
 }

@@ -2,8 +2,7 @@
 //! than the format's cost says.
 
 use crate::cells::Cell;
-use crate::report::{Outcome, Part, Report};
-use crate::told::Told;
+use crate::report::{Report, WHOLE};
 use interpolator::{ContextMap, Interpolate, Limits, Template};
 
 /// Formats that cost more characters than this are not written here.
@@ -14,27 +13,17 @@ const MOST: usize = 1_000_000;
 pub fn run_cost(
     report: &mut Report<'_>,
     context: &ContextMap<'_, Cell>,
-    format: &str,
+    template: &Template,
     limits: &Limits,
 ) {
-    let Ok(template) = Template::parse(report.alloc, format) else {
-        return;
-    };
     let cost = template.cost(limits).characters;
     if cost > MOST {
         return;
     }
-    let Ok(text) = context.format_template(report.alloc, &template) else {
+    let Ok(text) = context.format_template(report.alloc, template) else {
         return;
     };
-    if text.chars().count() <= cost {
-        return;
+    if text.chars().count() > cost {
+        report.check("Template::cost", WHOLE, false, &cost, &text);
     }
-    report.compare_said(
-        "`Template::cost`",
-        Part::Whole,
-        false,
-        "no more characters than it costs",
-        Outcome::new(text.as_str(), Told::Done),
-    );
 }

@@ -1,8 +1,10 @@
 //! The contexts and rows of a file.
 
 use crate::lexing::{Word, words_of};
+use crate::names::TRAITS;
 use crate::trouble::{Read, Trouble};
 use crate::words::Words;
+use interpolator::{Range, Spec, Trait};
 use std::alloc::Global;
 use std::mem;
 
@@ -18,8 +20,6 @@ pub struct Line {
 pub struct Row {
     /// The number of its first line.
     pub number: usize,
-    /// What it shows.
-    pub name: String,
     pub facts: Vec<Line>,
 }
 
@@ -32,24 +32,33 @@ pub struct Block {
     pub rows: Vec<Row>,
 }
 
-impl Row {
-    fn new(alloc: Global) -> Row {
-        Row {
-            number: 0,
-            name: String::new(alloc),
-            facts: Vec::new(alloc),
-        }
-    }
-}
-
 impl Block {
-    fn new(alloc: Global) -> Block {
+    fn new(alloc: Global, cut: bool, join: bool) -> Block {
         Block {
-            cut: false,
-            join: false,
+            cut,
+            join,
             names: Vec::new(alloc),
             rows: Vec::new(alloc),
         }
+    }
+
+    /// Begins a row.
+    fn begin_row(&mut self, alloc: Global, number: usize) -> Read<()> {
+        self.rows.push(Row {
+            number,
+            facts: Vec::new(alloc),
+        })?;
+        Ok(())
+    }
+
+    /// Adds a line to the last row or, before the first, to the context.
+    fn add(&mut self, line: Line) -> Read<()> {
+        if let Some(row) = self.rows.last_mut() {
+            row.facts.push(line)?;
+            return Ok(());
+        }
+        self.names.push(line)?;
+        Ok(())
     }
 }
 
@@ -61,109 +70,71 @@ struct Reader {
     blocks: Vec<Block>,
     /// The context that the line belongs to.
     block: Block,
-    /// The row that the line belongs to, if `in_row`.
-    row: Row,
-    in_row: bool,
 }
 
 impl Reader {
-    fn new(alloc: Global) -> Reader {
-        Reader {
-            alloc,
-            blocks: Vec::new(alloc),
-            block: Block::new(alloc),
-            row: Row::new(alloc),
-            in_row: false,
-        }
-    }
-
-    fn end_row(&mut self) -> Read<()> {
-        let row = mem::replace(&mut self.row, Row::new(self.alloc));
-        if self.in_row {
-            self.block.rows.push(row)?;
-        }
-        self.in_row = false;
-        Ok(())
-    }
-
-    fn end_block(&mut self) -> Read<()> {
-        self.end_row()?;
-        let block = mem::replace(&mut self.block, Block::new(self.alloc));
+    /// Ends the context, after which comes the next.
+    fn end_block(&mut self, next: Block) -> Read<()> {
+        let block = mem::replace(&mut self.block, next);
         self.blocks.push(block)?;
         Ok(())
-    }
-
-    /// Begins a context, with the words after `context`.
-    fn begin_block(&mut self, mut words: Words<'_>) -> Read<()> {
-        self.end_block()?;
-        self.block.cut = words.takes("cut");
-        self.block.join = words.takes("join");
-        words.done()
-    }
-
-    /// Begins a row, with the words after `row`.
-    fn begin_row(&mut self, number: usize, mut words: Words<'_>) -> Read<()> {
-        self.end_row()?;
-        self.in_row = true;
-        self.row.number = number;
-        if words.is_text() {
-            self.row.name = words.text()?;
-        }
-        words.done()
     }
 
     /// Reads a line that is not indented.
     fn take_head(&mut self, line: &Line) -> Read<()> {
         let mut words = Words::new(self.alloc, line.number, &line.words);
-        if words.takes("context") {
-            return self.begin_block(words);
-        }
         if words.takes("row") {
-            return self.begin_row(line.number, words);
+            self.block.begin_row(self.alloc, line.number)?;
+            if words.is_text() {
+                let _ = words.text()?;
+            }
+            return words.done();
         }
-        Err(words.trouble("a line at the margin begins with `context` or `row`"))
+        if !words.takes("context") {
+            return Err(words.trouble("a line at the margin begins with `context` or `row`"));
+        }
+        let next = Block::new(self.alloc, words.takes("cut"), words.takes("join"));
+        self.end_block(next)?;
+        words.done()
     }
 
     /// Reads the line of this number.
     fn take(&mut self, number: usize, text: &str) -> Read<()> {
-        if text.starts_with('#') || text.trim_start().starts_with('#') {
+        if text.trim_start().starts_with('#') {
             return Ok(());
         }
-        let line = Line {
-            number,
-            words: words_of(self.alloc, number, text)?,
-        };
-        if line.words.is_empty() {
+        let words = words_of(self.alloc, number, text)?;
+        if words.is_empty() {
             return Ok(());
         }
-        if !text.starts_with(' ') {
-            return self.take_head(&line);
+        let line = Line { number, words };
+        if text.starts_with(' ') {
+            return self.block.add(line);
         }
-        if self.in_row {
-            self.row.facts.push(line)?;
-        } else {
-            self.block.names.push(line)?;
-        }
-        Ok(())
+        self.take_head(&line)
     }
 }
 
 /// The contexts of a file, each with its rows.
 pub fn blocks_of(alloc: Global, text: &str) -> Read<Vec<Block>> {
-    let mut reader = Reader::new(alloc);
+    let mut reader = Reader {
+        alloc,
+        blocks: Vec::new(alloc),
+        block: Block::new(alloc, false, false),
+    };
     let mut number = 0usize;
     for line in text.lines() {
         number = number.saturating_add(1);
         reader.take(number, line)?;
     }
-    reader.end_block()?;
+    reader.end_block(Block::new(alloc, false, false))?;
     Ok(reader.blocks)
 }
 
 /// The facts of a row, each of which is read once.
 #[derive(Drop)]
 pub struct Facts<'a> {
-    alloc: Global,
+    pub alloc: Global,
     row: &'a Row,
     /// Those that were read.
     read: Vec<usize>,
@@ -225,34 +196,11 @@ impl<'a> Facts<'a> {
         Trouble::Line(self.row.number, what)
     }
 
-    /// The empty text.
-    pub fn empty(&self) -> String {
-        String::new(self.alloc)
-    }
-
-    /// No texts.
-    pub fn no_texts(&self) -> Vec<String> {
-        Vec::new(self.alloc)
-    }
-
-    /// Leaves out the facts that were not read: they count as read.
-    pub fn leave(&mut self) -> Read<()> {
-        for index in 0..self.len() {
-            self.read.push(index)?;
-        }
-        Ok(())
-    }
-
     /// Checks that each fact was read.
     pub fn done(&self) -> Read<()> {
         for index in 0..self.row.facts.len() {
-            if let Some(line) = self.row.facts.get(index) {
-                if !self.read.contains(&index) {
-                    return Err(Trouble::Line(
-                        line.number,
-                        "a key that is not known here, or that stands twice",
-                    ));
-                }
+            if !self.read.contains(&index) {
+                return Err(self.trouble("a key that is not known here, or that stands twice"));
             }
         }
         Ok(())
@@ -278,6 +226,22 @@ impl<'a> Facts<'a> {
         Ok(Some(number))
     }
 
+    /// The text of the fact of this key, which has to be there.
+    pub fn the_text(&mut self, key: &str) -> Read<String> {
+        match self.text(key)? {
+            Some(text) => Ok(text),
+            None => Err(self.trouble("a text is missing in this row")),
+        }
+    }
+
+    /// The number of the fact of this key, which has to be there.
+    pub fn the_number(&mut self, key: &str) -> Read<usize> {
+        match self.number(key)? {
+            Some(number) => Ok(number),
+            None => Err(self.trouble("a number is missing in this row")),
+        }
+    }
+
     /// Whether there is a fact of this key, which says nothing else.
     pub fn mark(&mut self, key: &str) -> Read<bool> {
         let Some(words) = self.next(key)? else {
@@ -285,5 +249,31 @@ impl<'a> Facts<'a> {
         };
         words.done()?;
         Ok(true)
+    }
+
+    /// The trait of the row.
+    pub fn the_trait(&mut self) -> Read<Trait> {
+        let Some(mut words) = self.next("trait")? else {
+            return Err(self.trouble("a trait is missing in this row"));
+        };
+        let t = words.wanted(&TRAITS)?;
+        words.done()?;
+        Ok(t)
+    }
+
+    /// The spec of the row; nothing is set without one.
+    pub fn spec(&mut self) -> Read<Spec> {
+        match self.next("spec")? {
+            Some(words) => words.spec(),
+            None => Ok(Spec::default()),
+        }
+    }
+
+    /// The range of the row, if it has one.
+    pub fn range(&mut self) -> Read<Option<Range>> {
+        match self.next("range")? {
+            Some(words) => Ok(Some(words.range()?)),
+            None => Ok(None),
+        }
     }
 }

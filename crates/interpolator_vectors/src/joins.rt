@@ -1,20 +1,17 @@
 //! Formats that are joined, each with those of the same context.
 
 use crate::cells::Cell;
-use crate::formats::{FormatRow, Kind, Wanted, run_makings, run_ways};
-use crate::report::{Outcome, Part, Report};
-use crate::told::Told;
-use crate::ways::{PART_WAYS, Room, WAYS};
+use crate::formats::{FormatRow, Kind, run_makings, run_ways};
+use crate::report::{Part, Report};
+use crate::trouble::Read;
+use crate::ways::{Outcome, PART_WAYS, Room, WAYS};
 use interpolator::{ContextMap, seam};
-use std::alloc::{AllocError, Global};
 
 /// What a row says is written and returned, if it can be joined.
-fn wanted_of<'a>(row: &'a FormatRow<'_>) -> Option<&'a Wanted> {
-    if row.kind != Kind::Format {
-        return None;
-    }
+fn wanted_of<'a>(row: &'a FormatRow<'_>) -> Option<&'a Outcome> {
     match row.room {
         Room::Bytes(_) => None,
+        _ if row.kind != Kind::Format => None,
         _ => row.wanted.as_ref(),
     }
 }
@@ -27,55 +24,50 @@ fn room_of(text: &str, second: Room) -> Room {
     }
 }
 
-/// Two texts as one.
-fn joined(alloc: Global, first: &str, second: &str) -> Result<String, AllocError> {
-    let mut text = String::from_str(alloc, first)?;
-    text.push_str(second)?;
-    Ok(text)
-}
-
-/// Runs two formats as one, and as two parts.
-fn run_both(
-    report: &mut Report<'_>,
-    context: &ContextMap<'_, Cell>,
-    parts: &[&str],
-    whole: &str,
-    room: Room,
-    part: Part<'_>,
-    wanted: Outcome<'_>,
-) {
-    run_ways(report, context, &[whole], &WAYS, room, part, wanted);
-    if let Room::All = room {
-        run_makings(report, context, whole, part, wanted);
-    }
-    run_ways(report, context, parts, &PART_WAYS, room, part, wanted);
-}
-
-/// Joins a row, whose outcome is `first`, with the next, if they can be joined.
+/// Joins a row, whose outcome is `first`, with the next, if they can be joined: as one format, and as
+/// two parts.
 fn join(
     report: &mut Report<'_>,
     context: &ContextMap<'_, Cell>,
     row: &FormatRow<'_>,
-    first: &Wanted,
+    first: &Outcome,
     next: &FormatRow<'_>,
-) -> Result<(), AllocError> {
+) -> Read<()> {
     let Some(second) = wanted_of(next) else {
         return Ok(());
     };
-    if !seam(row.format(), next.format()) {
+    let (front, back) = (row.format(), next.format());
+    if !seam(front, back) {
         return Ok(());
     }
-    let format = joined(report.alloc, row.format(), next.format())?;
-    let text = joined(report.alloc, first.text.as_str(), second.text.as_str())?;
-    let told = second.outcome().told.moved(row.format().len());
-    run_both(
+    let format = format!(in report.alloc; "{front}{back}")?;
+    let (head, tail) = (first.text.as_str(), second.text.as_str());
+    let wanted = Outcome {
+        text: format!(in report.alloc; "{head}{tail}")?,
+        fault: next.moved_fault(front.len())?,
+    };
+    let room = room_of(head, next.room);
+    let part = Part::Joined(next.row.number);
+    run_ways(
         report,
         context,
-        &[row.format(), next.format()],
-        format.as_str(),
-        room_of(first.text.as_str(), next.room),
-        Part::Joined(next.row.number),
-        Outcome::new(text.as_str(), told),
+        &[format.as_str()],
+        &WAYS,
+        room,
+        part,
+        &wanted,
+    );
+    if let Room::All = room {
+        run_makings(report, context, format.as_str(), part, &wanted);
+    }
+    run_ways(
+        report,
+        context,
+        &[front, back],
+        &PART_WAYS,
+        room,
+        part,
+        &wanted,
     );
     Ok(())
 }
@@ -86,11 +78,11 @@ pub fn run_joins(
     context: &ContextMap<'_, Cell>,
     row: &FormatRow<'_>,
     rows: &[FormatRow<'_>],
-) -> Result<(), AllocError> {
+) -> Read<()> {
     let Some(first) = wanted_of(row) else {
         return Ok(());
     };
-    if first.outcome().told != Told::Done {
+    if first.fault.is_some() {
         return Ok(());
     }
     for next in rows {

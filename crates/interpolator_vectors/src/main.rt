@@ -17,14 +17,12 @@ mod lexing;
 mod limited;
 mod loaded;
 mod names;
-mod printing;
 mod rendering;
 mod report;
 mod running;
 mod sizes;
 mod small;
 mod templates;
-mod told;
 mod trouble;
 mod ways;
 mod words;
@@ -36,15 +34,8 @@ use std::process::ExitCode;
 use std::{env, fs, io};
 use trouble::Trouble;
 
-/// The report on a file, and whether all of its rows hold.
-#[derive(Drop)]
-struct Answered {
-    text: String,
-    holds: bool,
-}
-
-/// The report on a file with this text.
-fn told_of(alloc: Global, file: &str, text: &str) -> Result<Answered, AllocError> {
+/// The report on a file with this text, and whether all of its rows hold.
+fn report_on(alloc: Global, file: &str, text: &str) -> Result<(String, bool), AllocError> {
     let mut report = Report::new(alloc, file);
     let is_read = match run_text(&mut report, text) {
         Ok(()) => true,
@@ -57,16 +48,11 @@ fn told_of(alloc: Global, file: &str, text: &str) -> Result<Answered, AllocError
     if report.wants_memory {
         return Err(AllocError);
     }
-    let rows = report.rows;
-    let runs = report.runs;
-    let failed = report.failed;
-    let mut text = report.told;
+    let (rows, runs, failed) = (report.rows, report.runs, report.failed);
+    let mut told = report.told;
     let counts = format!(in alloc; "{file}: {rows} rows, {runs} runs, {failed} fail\n")?;
-    text.push_str(counts.as_str())?;
-    Ok(Answered {
-        text,
-        holds: is_read && failed == 0,
-    })
+    told.push_str(counts.as_str())?;
+    Ok((told, is_read && failed == 0))
 }
 
 /// Runs the rows of a file, and prints the report on them.
@@ -75,10 +61,10 @@ fn run_file(rt: &HostRuntime, file: &str) -> io::Result<bool> {
         println!(rt; "{file}: this file cannot be read")?;
         return Ok(false);
     };
-    match told_of(rt.alloc(), file, text.as_str()) {
-        Ok(told) => {
-            rt.print(told.text.as_str())?;
-            Ok(told.holds)
+    match report_on(rt.alloc(), file, text.as_str()) {
+        Ok((told, holds)) => {
+            rt.print(told.as_str())?;
+            Ok(holds)
         }
         Err(_) => {
             println!(rt; "{file}: out of memory")?;

@@ -1,9 +1,8 @@
 //! The words that files use for things with a name.
 
-use interpolator::{Bits, NumberError, PieceKind, Trait};
+use interpolator::{Alignment, HexDebug, NumberError, PieceKind, Sign, Trait};
 
-/// Traits by their words.
-const TRAITS: [(&str, Trait); 9] = [
+pub const TRAITS: [(&str, Trait); 9] = [
     ("debug", Trait::Debug),
     ("display", Trait::Display),
     ("binary", Trait::Binary),
@@ -14,31 +13,6 @@ const TRAITS: [(&str, Trait); 9] = [
     ("upper_hex", Trait::UpperHex),
     ("iter", Trait::Iter),
 ];
-
-/// The trait that a word names.
-pub fn named_trait(word: &str) -> Option<Trait> {
-    for (name, t) in &TRAITS {
-        if *name == word {
-            return Some(*t);
-        }
-    }
-    None
-}
-
-/// The word for a trait.
-pub fn trait_name(t: Trait) -> &'static str {
-    match t {
-        Trait::Debug => "debug",
-        Trait::Display => "display",
-        Trait::Binary => "binary",
-        Trait::LowerExp => "lower_exp",
-        Trait::LowerHex => "lower_hex",
-        Trait::Octal => "octal",
-        Trait::UpperExp => "upper_exp",
-        Trait::UpperHex => "upper_hex",
-        Trait::Iter => "iter",
-    }
-}
 
 /// Slots that are filled together.
 #[derive(Clone, Copy)]
@@ -56,8 +30,7 @@ pub enum Slots {
     UpperHex,
 }
 
-/// Slots by their words.
-const SLOTS: [(&str, Slots); 11] = [
+pub const SLOTS: [(&str, Slots); 11] = [
     ("debug_display", Slots::DebugDisplay),
     ("integer", Slots::Integer),
     ("float", Slots::Float),
@@ -71,53 +44,38 @@ const SLOTS: [(&str, Slots); 11] = [
     ("upper_hex", Slots::UpperHex),
 ];
 
-/// The slots that a word names.
-pub fn named_slots(word: &str) -> Option<Slots> {
-    for (name, slots) in &SLOTS {
+pub const ALIGNMENTS: [(&str, Alignment); 3] = [
+    ("<", Alignment::Left),
+    ("^", Alignment::Center),
+    (">", Alignment::Right),
+];
+
+pub const SIGNS: [(&str, Sign); 2] = [("+", Sign::Plus), ("-", Sign::Minus)];
+
+pub const HEX_DEBUGS: [(&str, HexDebug); 2] = [("x?", HexDebug::Lower), ("X?", HexDebug::Upper)];
+
+pub const NUMBER_FAULTS: [(&str, NumberError); 4] = [
+    ("Empty", NumberError::Empty),
+    ("InvalidDigit", NumberError::InvalidDigit),
+    ("PosOverflow", NumberError::PosOverflow),
+    ("NegOverflow", NumberError::NegOverflow),
+];
+
+pub const PIECE_KINDS: [(&str, PieceKind); 6] = [
+    ("literal", PieceKind::Literal),
+    ("doubled", PieceKind::Doubled),
+    ("lone_close", PieceKind::LoneClose),
+    ("closed", PieceKind::Closed),
+    ("unclosed", PieceKind::Unclosed),
+    ("broken", PieceKind::Broken),
+];
+
+pub const TRUTHS: [(&str, bool); 2] = [("true", true), ("false", false)];
+
+/// What a word stands for in a table.
+pub fn named<T: Copy>(table: &[(&str, T)], word: &str) -> Option<T> {
+    for (name, one) in table {
         if *name == word {
-            return Some(*slots);
-        }
-    }
-    None
-}
-
-/// The fault of a number that a word names.
-pub fn named_number(word: &str) -> Option<NumberError> {
-    match word {
-        "Empty" => Some(NumberError::Empty),
-        "InvalidDigit" => Some(NumberError::InvalidDigit),
-        "PosOverflow" => Some(NumberError::PosOverflow),
-        "NegOverflow" => Some(NumberError::NegOverflow),
-        _ => None,
-    }
-}
-
-/// The word for a number's fault.
-pub fn number_name(fault: NumberError) -> &'static str {
-    match fault {
-        NumberError::Empty => "Empty",
-        NumberError::InvalidDigit => "InvalidDigit",
-        NumberError::PosOverflow => "PosOverflow",
-        NumberError::NegOverflow => "NegOverflow",
-    }
-}
-
-/// The word for a piece's kind.
-pub fn kind_name(kind: PieceKind) -> &'static str {
-    match kind {
-        PieceKind::Literal => "literal",
-        PieceKind::Doubled => "doubled",
-        PieceKind::LoneClose => "lone_close",
-        PieceKind::Closed => "closed",
-        PieceKind::Unclosed => "unclosed",
-        PieceKind::Broken => "broken",
-    }
-}
-
-/// The one of the texts that equals this one.
-pub fn named(texts: &[&'static str], text: &str) -> Option<&'static str> {
-    for one in texts {
-        if *one == text {
             return Some(*one);
         }
     }

@@ -1,13 +1,10 @@
 //! The ways to write a format and to make its text. Every row is run by each way that fits it.
 //!
-//! To add a way, add a variant of `Way` or `Making` with its name and its call, and an entry in a
-//! list.
+//! To add a way, add a variant of `Way` with its call, and an entry in a list.
 
 use crate::cells::Cell;
 use crate::limited::Limited;
-use crate::report::Outcome;
 use crate::sizes::parts_fit;
-use crate::told::told_by;
 use interpolator::{
     Bounded, ContextMap, Error, Interpolate, Template, TextBuffer, TextWrite, format, iwriteln,
     write, write_parts,
@@ -27,45 +24,29 @@ pub enum Way {
     WriteLineTo,
 }
 
-/// The ways to write a format.
-pub const WAYS: [Way; 6] = [
-    Way::Write,
-    Way::WriteTo,
-    Way::Template,
-    Way::WriteTemplateTo,
-    Way::WriteParts,
-    Way::WritePartsTo,
+/// The ways to write a format, by the names of their calls.
+pub const WAYS: [(&str, Way); 6] = [
+    ("write", Way::Write),
+    ("write_to", Way::WriteTo),
+    ("Template::write", Way::Template),
+    ("write_template_to", Way::WriteTemplateTo),
+    ("write_parts", Way::WriteParts),
+    ("write_parts_to", Way::WritePartsTo),
 ];
 
 /// The ways to write parts.
-pub const PART_WAYS: [Way; 2] = [Way::WriteParts, Way::WritePartsTo];
+pub const PART_WAYS: [(&str, Way); 2] = [
+    ("write_parts", Way::WriteParts),
+    ("write_parts_to", Way::WritePartsTo),
+];
 
 /// The ways to write a line.
-pub const LINE_WAYS: [Way; 2] = [Way::Line, Way::WriteLineTo];
-
-/// The first part, which is the format if it is the only one.
-pub fn format_of<'a>(parts: &[&'a str]) -> &'a str {
-    match parts.first() {
-        Some(format) => *format,
-        None => "",
-    }
-}
+pub const LINE_WAYS: [(&str, Way); 2] = [
+    ("iwriteln", Way::Line),
+    ("write_line_to", Way::WriteLineTo),
+];
 
 impl Way {
-    /// The name of the call.
-    pub fn name(self) -> &'static str {
-        match self {
-            Way::Write => "`write`",
-            Way::WriteTo => "`write_to`",
-            Way::Template => "`Template::write`",
-            Way::WriteTemplateTo => "`write_template_to`",
-            Way::WriteParts => "`write_parts`",
-            Way::WritePartsTo => "`write_parts_to`",
-            Way::Line => "`iwriteln`",
-            Way::WriteLineTo => "`write_line_to`",
-        }
-    }
-
     /// Writes the parts, or the format that is the only one.
     fn write<W: TextWrite>(
         self,
@@ -74,7 +55,7 @@ impl Way {
         parts: &[&str],
         context: &ContextMap<'_, Cell>,
     ) -> Result<(), Error> {
-        let text = format_of(parts);
+        let text = parts.first().copied().unwrap_or("");
         match self {
             Way::Write => write(alloc, out, text, context),
             Way::WriteTo => context.write_to(alloc, out, text),
@@ -100,19 +81,14 @@ pub enum Making {
     FormatTemplate,
 }
 
-/// The ways to make a text.
-pub const MAKINGS: [Making; 3] = [Making::Format, Making::FormatMethod, Making::FormatTemplate];
+/// The ways to make a text, by the names of their calls.
+pub const MAKINGS: [(&str, Making); 3] = [
+    ("format", Making::Format),
+    ("the method format", Making::FormatMethod),
+    ("format_template", Making::FormatTemplate),
+];
 
 impl Making {
-    /// The name of the call.
-    pub fn name(self) -> &'static str {
-        match self {
-            Making::Format => "`format`",
-            Making::FormatMethod => "the method `format`",
-            Making::FormatTemplate => "`format_template`",
-        }
-    }
-
     /// The text of a format.
     pub fn make(
         self,
@@ -132,7 +108,7 @@ impl Making {
 }
 
 /// What a writer takes.
-#[derive(Clone, Copy)]
+#[derive(Clone, Copy, Debug)]
 pub enum Room {
     /// Everything.
     All,
@@ -142,71 +118,60 @@ pub enum Room {
     Bytes(usize),
 }
 
-/// What was written, and what was returned.
-#[derive(Drop)]
-pub struct Came {
+/// What is written, and the fault that is returned, if one is.
+#[derive(Debug, Drop, PartialEq)]
+pub struct Outcome {
     pub text: String,
-    pub answer: Result<(), Error>,
+    pub fault: Option<Error>,
 }
 
-impl Came {
-    /// The text, and what the result says.
-    pub fn outcome(&self) -> Outcome<'_> {
-        Outcome::new(self.text.as_str(), told_by(&self.answer))
+impl Outcome {
+    pub fn new(text: String, answer: Result<(), Error>) -> Outcome {
+        Outcome {
+            text,
+            fault: answer.err(),
+        }
     }
 
-    /// The outcome if memory for the writer was refused.
-    pub fn nothing(alloc: Global) -> Came {
-        Came {
-            text: String::new(alloc),
-            answer: Err(Error::NoMemory),
+    /// What a call returned that makes a text: nothing is written if there is a fault.
+    pub fn made(alloc: Global, made: Result<String, Error>) -> Outcome {
+        match made {
+            Ok(text) => Outcome { text, fault: None },
+            Err(fault) => Outcome {
+                text: String::new(alloc),
+                fault: Some(fault),
+            },
+        }
+    }
+
+    /// Whether a call that makes a text returned this.
+    pub fn is_made(&self, made: &Outcome) -> bool {
+        made.fault == self.fault && (made.fault.is_some() || made.text == self.text)
+    }
+
+    /// Whether it is the fault `Fmt` at a place that is not past `end`, after the first `count`
+    /// characters of the text.
+    pub fn is_refused(&self, text: &str, count: usize, end: usize) -> bool {
+        match &self.fault {
+            Some(Error::Fmt(_, place)) => *place <= end && self.text.as_str() == first(text, count),
+            _ => false,
+        }
+    }
+
+    /// The place of the fault, or 0.
+    pub fn place(&self) -> usize {
+        match &self.fault {
+            Some(fault) => fault.place().unwrap_or(0),
+            None => 0,
         }
     }
 }
 
-/// The outcome of a way with a writer of `count` characters.
-fn came_in_room(
-    alloc: Global,
-    way: Way,
-    count: usize,
-    parts: &[&str],
-    context: &ContextMap<'_, Cell>,
-) -> Came {
-    match Limited::new(alloc, count) {
-        Ok(mut out) => {
-            let answer = way.write(alloc, &mut out, parts, context);
-            Came {
-                text: out.into_string(),
-                answer,
-            }
-        }
-        Err(_) => Came::nothing(alloc),
-    }
-}
-
-/// The outcome of a way with a writer of `count` bytes.
-fn came_in_bytes(
-    alloc: Global,
-    way: Way,
-    count: usize,
-    parts: &[&str],
-    context: &ContextMap<'_, Cell>,
-) -> Came {
-    let mut out = Bounded::new(alloc, count);
-    let answer = way.write(alloc, &mut out, parts, context);
-    Came {
-        text: out.into_string(),
-        answer,
-    }
-}
-
-/// The outcome of a way with a writer that takes everything.
-fn came_whole(alloc: Global, way: Way, parts: &[&str], context: &ContextMap<'_, Cell>) -> Came {
-    let mut out = TextBuffer::new(alloc);
-    let answer = way.write(alloc, &mut out, parts, context);
-    Came {
-        text: out.into_string(),
-        answer,
+/// The first characters of a text.
+pub fn first(text: &str, count: usize) -> &str {
+    match text.char_indices().nth(count) {
+        Some((byte, _)) if text.is_char_boundary(byte) => text.split_at(byte).0,
+        _ => text,
     }
 }
 
@@ -217,10 +182,24 @@ pub fn came_by(
     room: Room,
     parts: &[&str],
     context: &ContextMap<'_, Cell>,
-) -> Came {
+) -> Outcome {
     match room {
-        Room::All => came_whole(alloc, way, parts, context),
-        Room::Characters(count) => came_in_room(alloc, way, count, parts, context),
-        Room::Bytes(count) => came_in_bytes(alloc, way, count, parts, context),
+        Room::All => {
+            let mut out = TextBuffer::new(alloc);
+            let answer = way.write(alloc, &mut out, parts, context);
+            Outcome::new(out.into_string(), answer)
+        }
+        Room::Characters(count) => {
+            let Ok(mut out) = Limited::new(alloc, count) else {
+                return Outcome::new(String::new(alloc), Err(Error::NoMemory));
+            };
+            let answer = way.write(alloc, &mut out, parts, context);
+            Outcome::new(out.into_string(), answer)
+        }
+        Room::Bytes(count) => {
+            let mut out = Bounded::new(alloc, count);
+            let answer = way.write(alloc, &mut out, parts, context);
+            Outcome::new(out.into_string(), answer)
+        }
     }
 }

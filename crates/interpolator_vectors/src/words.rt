@@ -1,11 +1,9 @@
 //! What the words of a line mean.
 
 use crate::lexing::Word;
-use crate::names::{named, named_number, named_trait};
-use crate::printing::{push_word, quoted};
-use crate::told::put_at;
+use crate::names::{ALIGNMENTS, HEX_DEBUGS, NUMBER_FAULTS, SIGNS, TRAITS, named};
 use crate::trouble::{Read, Trouble};
-use interpolator::{Alignment, Error, HexDebug, NumberError, ParseError, Range, Sign, Spec, Trait};
+use interpolator::{Alignment, Error, HexDebug, NumberError, ParseError, Range, Sign, Spec};
 use std::alloc::Global;
 use std::fmt;
 
@@ -16,6 +14,8 @@ pub struct Words<'a> {
     number: usize,
     words: &'a [Word],
     at: usize,
+    /// How many bytes further on the places of faults are.
+    shift: usize,
 }
 
 impl<'a> Words<'a> {
@@ -26,7 +26,14 @@ impl<'a> Words<'a> {
             number,
             words,
             at: 0,
+            shift: 0,
         }
+    }
+
+    /// The same words, whose faults are so many bytes further on.
+    pub fn moved(mut self, bytes: usize) -> Words<'a> {
+        self.shift = bytes;
+        self
     }
 
     /// How many words the line has.
@@ -54,39 +61,6 @@ impl<'a> Words<'a> {
         self.at >= self.words.len()
     }
 
-    /// The words of the whole line, with a space between each two.
-    pub fn whole(&self) -> Read<String> {
-        let mut words = *self;
-        words.at = 0;
-        words.rest()
-    }
-
-    /// The words from here on, with a space between each two; texts are repeated and joined first.
-    pub fn rest(&self) -> Read<String> {
-        let mut words = *self;
-        let mut out = String::new(self.alloc);
-        for _ in 0..self.len() {
-            if words.is_done() {
-                break;
-            }
-            let word = words.next()?;
-            push_word(&mut out, word.as_str())?;
-        }
-        Ok(out)
-    }
-
-    /// The word here, or the text here with its repeats and all that is joined to it.
-    fn next(&mut self) -> Read<String> {
-        if self.is_text() {
-            let text = self.text()?;
-            return Ok(quoted(self.alloc, text.as_str())?);
-        }
-        match self.bare() {
-            Some(word) => Ok(String::from_str(self.alloc, word)?),
-            None => Err(self.trouble("a parenthesis has no place here")),
-        }
-    }
-
     /// Checks that there is no word here.
     pub fn done(&self) -> Read<()> {
         if self.is_done() {
@@ -104,6 +78,24 @@ impl<'a> Words<'a> {
                 Some(word.as_str())
             }
             _ => None,
+        }
+    }
+
+    /// What the word here stands for in the table; if it is there, it counts as read.
+    pub fn one_of<T: Copy>(&mut self, table: &[(&str, T)]) -> Option<T> {
+        let mut after = *self;
+        let one = named(table, after.bare().unwrap_or(""));
+        if one.is_some() {
+            self.skip();
+        }
+        one
+    }
+
+    /// What the word here stands for in the table, in which it has to be.
+    pub fn wanted<T: Copy>(&mut self, table: &[(&str, T)]) -> Read<T> {
+        match self.one_of(table) {
+            Some(one) => Ok(one),
+            None => Err(self.trouble("another word is wanted")),
         }
     }
 
@@ -180,12 +172,10 @@ impl<'a> Words<'a> {
 
     /// The text of one character here.
     pub fn character(&mut self) -> Read<char> {
-        let Some(text) = self.quoted() else {
-            return Err(self.trouble("a character in quotes is wanted"));
-        };
-        match only_character(text) {
-            Some(c) => Ok(c),
-            None => Err(self.trouble("one character is wanted")),
+        let mut characters = self.quoted().unwrap_or("").chars();
+        match (characters.next(), characters.next()) {
+            (Some(c), None) => Ok(c),
+            _ => Err(self.trouble("one character in quotes is wanted")),
         }
     }
 
@@ -197,154 +187,8 @@ impl<'a> Words<'a> {
         }
     }
 
-    /// The trait here.
-    pub fn trait_asked(&mut self) -> Read<Trait> {
-        match self.bare().and_then(named_trait) {
-            Some(t) => Ok(t),
-            None => Err(self.trouble("a trait is wanted")),
-        }
-    }
-
-    /// The fault of a number here.
-    fn number_fault(&mut self) -> Read<NumberError> {
-        match self.bare().and_then(named_number) {
-            Some(fault) => Ok(fault),
-            None => Err(self.trouble("a number's fault is wanted")),
-        }
-    }
-
-    /// What is expected in a format at a place.
-    fn expected(&mut self) -> Read<&'static str> {
-        let text = self.text()?;
-        match named(&["}", "("], text.as_str()) {
-            Some(sign) => Ok(sign),
-            None => Err(self.trouble("no format expects that")),
-        }
-    }
-
-    /// The parse fault of this name, at place 0, if there is one.
-    fn fault_of_name(&mut self, name: &str) -> Read<Option<ParseError>> {
-        Ok(match name {
-            "FormatSpecUnclosed" => Some(ParseError::FormatSpecUnclosed(0)),
-            "Expected" => Some(ParseError::Expected(self.expected()?, 0)),
-            "InvalidWidth" => Some(ParseError::InvalidWidth(self.number_fault()?, 0)),
-            "InvalidPrecision" => Some(ParseError::InvalidPrecision(self.number_fault()?, 0)),
-            "RangeBound" => Some(ParseError::RangeBound(self.number_fault()?, 0)),
-            "Fill" => Some(ParseError::Fill(0)),
-            "Iter" => Some(ParseError::Iter(0)),
-            _ => None,
-        })
-    }
-
-    /// The parse fault of this name, with its place, if there is one.
-    fn parse_fault(&mut self, name: &str) -> Read<Option<ParseError>> {
-        match self.fault_of_name(name)? {
-            Some(fault) => Ok(Some(put_at(fault, self.number()?))),
-            None => Ok(None),
-        }
-    }
-
-    /// `UnsupportedOption`, after its name.
-    fn unsupported(&mut self) -> Read<Error> {
-        let option = self.text()?;
-        let feature = self.text()?;
-        let place = self.number()?;
-        match (
-            named(&["p"], option.as_str()),
-            named(&["pointer"], feature.as_str()),
-        ) {
-            (Some(option), Some(feature)) => Ok(Error::UnsupportedOption(option, feature, place)),
-            _ => Err(self.trouble("no such option")),
-        }
-    }
-
-    /// `Parse`, after its name.
-    fn broken(&mut self) -> Read<Error> {
-        let name = self.bare().unwrap_or("");
-        match self.parse_fault(name)? {
-            Some(fault) => Ok(Error::Parse(fault)),
-            None => Err(self.trouble("no such fault of parsing")),
-        }
-    }
-
-    /// The fault here.
-    pub fn fault(&mut self) -> Read<Error> {
-        match self.bare().unwrap_or("") {
-            "MissingValue" => {
-                let name = self.text()?;
-                Ok(Error::MissingValue(name, self.number()?))
-            }
-            "MissingTraitImpl" => {
-                let t = self.trait_asked()?;
-                Ok(Error::MissingTraitImpl(t, self.number()?))
-            }
-            "Fmt" => Ok(Error::Fmt(fmt::Error, self.number()?)),
-            "UnsupportedOption" => self.unsupported(),
-            "NoMemory" => Ok(Error::NoMemory),
-            "Parse" => self.broken(),
-            _ => Err(self.trouble("no such fault")),
-        }
-    }
-
-    /// The parse fault here, if there is one.
-    pub fn fault_of_parsing(&mut self) -> Read<Option<ParseError>> {
-        let mut ahead = *self;
-        let fault = ahead.parse_fault_here()?;
-        if fault.is_some() {
-            *self = ahead;
-        }
-        Ok(fault)
-    }
-
-    fn parse_fault_here(&mut self) -> Read<Option<ParseError>> {
-        let name = self.bare().unwrap_or("");
-        self.parse_fault(name)
-    }
-
-    /// The fault of a number here, if there is one.
-    pub fn fault_of_number(&mut self) -> Option<NumberError> {
-        let mut ahead = *self;
-        let fault = ahead.bare().and_then(named_number);
-        if fault.is_some() {
-            *self = ahead;
-        }
-        fault
-    }
-
-    fn alignment(&mut self) -> Alignment {
-        if self.takes("<") {
-            Alignment::Left
-        } else if self.takes("^") {
-            Alignment::Center
-        } else if self.takes(">") {
-            Alignment::Right
-        } else {
-            Alignment::Unset
-        }
-    }
-
-    fn sign(&mut self) -> Sign {
-        if self.takes("+") {
-            Sign::Plus
-        } else if self.takes("-") {
-            Sign::Minus
-        } else {
-            Sign::Unset
-        }
-    }
-
-    fn hex_debug(&mut self) -> HexDebug {
-        if self.takes("x?") {
-            HexDebug::Lower
-        } else if self.takes("X?") {
-            HexDebug::Upper
-        } else {
-            HexDebug::No
-        }
-    }
-
     /// The number after this word, if the word is here.
-    fn number_after(&mut self, word: &str) -> Read<Option<usize>> {
+    pub fn number_after(&mut self, word: &str) -> Read<Option<usize>> {
         if self.takes(word) {
             Ok(Some(self.number()?))
         } else {
@@ -352,20 +196,78 @@ impl<'a> Words<'a> {
         }
     }
 
+    /// The place of a fault here.
+    fn place(&mut self) -> Read<usize> {
+        Ok(self.number()?.saturating_add(self.shift))
+    }
+
+    /// The parse fault here, if there is one.
+    pub fn parse_fault(&mut self) -> Option<ParseError> {
+        let name = self.bare().unwrap_or("");
+        let number = self.one_of(&NUMBER_FAULTS);
+        let sign = expected_of(self.quoted().unwrap_or(""));
+        let place = self.place().ok()?;
+        parse_fault_of(name, number, sign, place)
+    }
+
+    /// `UnsupportedOption`, after its name.
+    fn unsupported(&mut self) -> Read<Error> {
+        let option = self.text()?;
+        let feature = self.text()?;
+        let place = self.place()?;
+        if option.as_str() == "p" && feature.as_str() == "pointer" {
+            return Ok(Error::UnsupportedOption("p", "pointer", place));
+        }
+        Err(self.trouble("no such option"))
+    }
+
+    /// `Parse`, after its name.
+    fn broken(&mut self) -> Read<Error> {
+        match self.parse_fault() {
+            Some(fault) => Ok(Error::Parse(fault)),
+            None => Err(self.trouble("no such fault of parsing")),
+        }
+    }
+
+    /// The fault here, to the end of the line.
+    pub fn fault(mut self) -> Read<Error> {
+        let fault = self.take_fault()?;
+        self.done()?;
+        Ok(fault)
+    }
+
+    fn take_fault(&mut self) -> Read<Error> {
+        match self.bare().unwrap_or("") {
+            "MissingValue" => {
+                let name = self.text()?;
+                Ok(Error::MissingValue(name, self.place()?))
+            }
+            "MissingTraitImpl" => {
+                let t = self.wanted(&TRAITS)?;
+                Ok(Error::MissingTraitImpl(t, self.place()?))
+            }
+            "Fmt" => Ok(Error::Fmt(fmt::Error, self.place()?)),
+            "UnsupportedOption" => self.unsupported(),
+            "NoMemory" => Ok(Error::NoMemory),
+            "Parse" => self.broken(),
+            _ => Err(self.trouble("no such fault")),
+        }
+    }
+
     /// The spec here, to the end of the line.
-    pub fn spec(&mut self) -> Read<Spec> {
+    pub fn spec(mut self) -> Read<Spec> {
         let fill = if self.takes("fill") {
             Some(self.character()?)
         } else {
             None
         };
-        let alignment = self.alignment();
-        let sign = self.sign();
+        let alignment = self.one_of(&ALIGNMENTS).unwrap_or(Alignment::Unset);
+        let sign = self.one_of(&SIGNS).unwrap_or(Sign::Unset);
         let alternate = self.takes("#");
         let zero = self.takes("0");
         let width = self.number_after("width")?;
         let precision = self.number_after("precision")?;
-        let hex_debug = self.hex_debug();
+        let hex_debug = self.one_of(&HEX_DEBUGS).unwrap_or(HexDebug::No);
         self.done()?;
         Ok(Spec {
             fill,
@@ -379,23 +281,41 @@ impl<'a> Words<'a> {
         })
     }
 
-    /// The range here.
-    pub fn range(&mut self) -> Read<Range> {
-        match self.bare().and_then(range_of) {
-            Some(range) => Ok(range),
-            None => Err(self.trouble("a range is wanted")),
-        }
+    /// The range here, to the end of the line.
+    pub fn range(mut self) -> Read<Range> {
+        let Some(range) = self.bare().and_then(range_of) else {
+            return Err(self.trouble("a range is wanted"));
+        };
+        self.done()?;
+        Ok(range)
     }
+}
 
-    /// `true` or `false`.
-    pub fn truth(&mut self) -> Read<bool> {
-        if self.takes("true") {
-            return Ok(true);
-        }
-        if self.takes("false") {
-            return Ok(false);
-        }
-        Err(self.trouble("`true` or `false` is wanted"))
+/// What a format expects, of those texts that it can expect.
+fn expected_of(text: &str) -> Option<&'static str> {
+    match text {
+        "}" => Some("}"),
+        "(" => Some("("),
+        _ => None,
+    }
+}
+
+/// The parse fault of this name and place, with what else it has.
+fn parse_fault_of(
+    name: &str,
+    number: Option<NumberError>,
+    expected: Option<&'static str>,
+    place: usize,
+) -> Option<ParseError> {
+    match name {
+        "FormatSpecUnclosed" => Some(ParseError::FormatSpecUnclosed(place)),
+        "Expected" => Some(ParseError::Expected(expected?, place)),
+        "InvalidWidth" => Some(ParseError::InvalidWidth(number?, place)),
+        "InvalidPrecision" => Some(ParseError::InvalidPrecision(number?, place)),
+        "RangeBound" => Some(ParseError::RangeBound(number?, place)),
+        "Fill" => Some(ParseError::Fill(place)),
+        "Iter" => Some(ParseError::Iter(place)),
+        _ => None,
     }
 }
 
@@ -407,17 +327,8 @@ fn append_times(text: &mut String, part: &str, count: usize) -> Read<()> {
     Ok(())
 }
 
-/// The character of a text that has exactly one.
-fn only_character(text: &str) -> Option<char> {
-    let mut characters = text.chars();
-    match (characters.next(), characters.next()) {
-        (Some(c), None) => Some(c),
-        _ => None,
-    }
-}
-
 /// The number that a word spells.
-pub fn number_of(word: &str) -> Option<usize> {
+fn number_of(word: &str) -> Option<usize> {
     word.parse::<usize>().ok()
 }
 
