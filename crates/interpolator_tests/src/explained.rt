@@ -44,8 +44,8 @@ fn check_shown(report: &mut Report, text: &str, error: &Error, wanted: &str) {
     report.made(text, (wanted, ""), told);
 }
 
-/// Texts, their faults, and how these are shown. Worked by hand: `é` has two bytes, and in its text it
-/// is on the second line.
+/// Texts, their faults, and how these are shown. Worked by hand: `é` has two bytes, and in its text
+/// it is on the second line.
 #[rattlefmt::skip]
 fn shown(alloc: Global) -> Result<[(&'static str, Error, &'static str); 7], AllocError> {
     Ok([

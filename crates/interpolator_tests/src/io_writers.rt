@@ -89,8 +89,8 @@ struct Case {
     got: (usize, usize, usize),
 }
 
-/// Worked by hand: `text` is gathered, and the first flush passes it on; `more` and `c` come next, and
-/// another flush. A write that a signal interrupts is tried again, and no other; after a failure
+/// Worked by hand: `text` is gathered, and the first flush passes it on; `more` and `c` come next,
+/// and another flush. A write that a signal interrupts is tried again, and no other; after a failure
 /// nothing is passed on any more.
 #[rattlefmt::skip]
 const CASES: [Case; 5] = [

@@ -235,8 +235,8 @@ fn is_own(fault: &Option<Error>) -> bool {
     )
 }
 
-/// Checks that the template of a format has the format's text, and that the check of a format with a
-/// fault of its own reports one.
+/// Checks that the template of a format has the format's text, and that the check of a format with
+/// a fault of its own reports one.
 fn run_template(report: &mut Report<'_>, format: &str, wanted: &Outcome) -> Read<()> {
     let Ok(template) = Template::parse(report.alloc, format) else {
         return Err(Trouble::NoMemory);

@@ -24,8 +24,8 @@ fn room_of(text: &str, second: Room) -> Room {
     }
 }
 
-/// Joins a row, whose outcome is `first`, with the next, if they can be joined: as one format, and as
-/// two parts.
+/// Joins a row, whose outcome is `first`, with the next, if they can be joined: as one format, and
+/// as two parts.
 fn join(
     report: &mut Report<'_>,
     context: &ContextMap<'_, Cell>,

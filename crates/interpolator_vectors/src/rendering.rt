@@ -123,8 +123,8 @@ impl Rendering {
         Ok(())
     }
 
-    /// Checks that a writer that takes everything gets the row's text, and writers of 0, 1, 2 and so
-    /// on characters get its beginnings.
+    /// Checks that a writer that takes everything gets the row's text, and writers of 0, 1, 2 and
+    /// so on characters get its beginnings.
     fn run(&self, report: &mut Report<'_>) -> Result<(), AllocError> {
         let text = self.text.as_str();
         let mut out = TextBuffer::new(report.alloc);
