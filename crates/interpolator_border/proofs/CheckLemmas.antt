@@ -1,7 +1,7 @@
 -- What is told of a format that was checked.
 use Rattle.std.proofs.Common.{◌≡◌, inl, inr, ◌∙◌, sym, ap, refl, subst, List, [], ◌∷◌, ℕ, None}
 use Rattle.std.proofs.Common.{Some, Option, Bool, true, map, option_map, Result, Ok, Err, length}
-use Rattle.std.specs.Prelude.{MatchOption, slice_get}
+use Rattle.std.specs.Prelude.{slice_get}
 use Rattle.std.specs.Str.{is_utf8}
 use Rattle.std.specs.declared.vec.Vec.{Vec}
 use Rattle.std.proofs.lemmas.List.{length-map}
@@ -9,7 +9,7 @@ use Rattle.std.proofs.lemmas.Option.{slice_get-map, slice_get_past, slice_get_re
 use Rattle.std.specs.Borrow.{Bor}
 use Rattle.std.specs.Option.{option_copied}
 use Rattle.std.specs.Slice.{IsItemAt}
-use Rattle.interpolator_syntax.specs.Faults.{Answer, Fault, fault, no_memory, answer_of}
+use Rattle.interpolator_syntax.specs.Faults.{Answer, Fault, fault, answer_of}
 use Rattle.interpolator_syntax.specs.declared.error.Error.{Error}
 use Rattle.interpolator_eval.specs.Slots.{Slots}
 use Rattle.interpolator.specs.Template.NodeChecks.{first_fault}

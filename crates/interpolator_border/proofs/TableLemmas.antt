@@ -1,24 +1,17 @@
 -- What is told of a table.
-use Rattle.std.proofs.Common.{arith, ◌≡◌, ◌⊎◌, inl, inr, ◌∙◌, sym, ap, refl, subst, List, ℕ, zero, suc}
-use Rattle.std.proofs.Common.{[], map, Option, Result, Some, true, Err, length, ◌+◌}
+use Rattle.std.proofs.Common.{arith, ◌≡◌, ◌⊎◌, inl, inr, ◌∙◌, sym, ap, refl, subst, List, ℕ}
+use Rattle.std.proofs.Common.{Some, true, Err, length, ◌+◌}
 use Rattle.std.proofs.Common.{◌*◌, ◌<◌, ◌≤◌}
-use Rattle.std.proofs.Math.Path.{fun_ext}
-use Rattle.std.specs.Prelude.{slice_get}
 use Rattle.std.proofs.lemmas.Nat.{mul-le}
-use Rattle.std.proofs.lemmas.List.{length-map}
-use Rattle.std.proofs.lemmas.Option.{slice_get-map}
-use Rattle.interpolator_render.specs.Written.{Buffered}
 use Rattle.std.specs.Borrow.{Bor}
 use Rattle.std.specs.Str.{chars, is_utf8, IsUtf8}
 use Rattle.std.specs.Prelude.{encode_utf8_all}
 use Rattle.std.proofs.lemmas.Str.{encodes-chars}
 use Rattle.interpolator_syntax.specs.At.{outermost}
-use Rattle.interpolator_syntax.specs.Faults.{Answer, Fault, fault, no_memory, answer_of}
+use Rattle.interpolator_syntax.specs.Faults.{Answer, fault, no_memory, answer_of}
 use Rattle.interpolator_eval.specs.Contexts.{found_by_pairs}
-use Rattle.interpolator_eval.specs.Slots.{slots_of}
 use Rattle.interpolator_eval.specs.declared.slots.Formattable.{Formattable}
-use Rattle.interpolator.specs.Prepared.Rows.{PreparedFormat, row_at}
-use Rattle.interpolator_syntax.specs.declared.error.Error.{Error}
+use Rattle.interpolator.specs.Prepared.Rows.{PreparedFormat}
 use Rattle.interpolator.specs.Template.NodeSamples.{faults_over}
 use Rattle.interpolator.specs.Template.Collecting.{AnswersFirst}
 use Rattle.interpolator_border.specs.declared.answer.Answer.{Answer as Told_answer}
@@ -27,10 +20,10 @@ use Rattle.interpolator_border.specs.declared.answer.Failure.TheVariants as fail
 use Rattle.interpolator_border.specs.declared.field.Field.{Field}
 use Rattle.interpolator_border.specs.declared.table.RowFault.{RowFault}
 use Rattle.interpolator_border.specs.Answers.{Told, ToldBy, ToldFailure, text_answer}
-use Rattle.interpolator_border.specs.Fields.{field_shows, field_slots}
-use Rattle.interpolator_border.specs.Tables.{Appended, ColumnFaults, FailsIn, Prepares, RowsAnswers, cell_at}
+use Rattle.interpolator_border.specs.Fields.{field_shows}
+use Rattle.interpolator_border.specs.Tables.{ColumnFaults, FailsIn, Prepares, RowsAnswers}
 use Rattle.interpolator_border.specs.Tables.{AllRows, Faultless, Pairs, TellsRows, ToldInRow}
-use Rattle.interpolator_border.specs.Tables.{column_names, rows_ends, rows_text, row_means, values_mean}
+use Rattle.interpolator_border.specs.Tables.{column_names, rows_ends, rows_text}
 use Rattle.interpolator_border.proofs.AnswerLemmas.{out_of_memory, some_fault}
 
 module _ (names : List (List ℕ)) (format : List ℕ) (width : ℕ) (cells : List Field) where

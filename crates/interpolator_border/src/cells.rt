@@ -1,12 +1,23 @@
 //! The cells of a row of a table as a row of a prepared format.
 ghost use Rattle.interpolator.specs.Prepared.Rows.{found_by_row};
+ghost use Rattle.interpolator_border.specs.Fields.{field_slots};
 ghost use Rattle.interpolator_border.specs.Tables.{cell_at};
+ghost use Rattle.interpolator_eval.specs.Slots.{slots_of};
+ghost use Rattle.std.specs.Prelude.{◌≡◌, []};
 
 use crate::field::Field;
 use crate::slots::field_slots;
 use interpolator::{Formattable, PreparedRow, Trait};
 use interpolator_eval::slot_of;
 use interpolator_prepared::last_position;
+
+/// What a cell stands for.
+#[inline(always)]
+fn cell_slots<'a>(cell: &'a Field<'a>) -> Formattable<'a, Field<'a>>
+    ensures { slots_of result ≡ field_slots [] cell.now }
+{
+    field_slots(&[], cell)
+}
 
 /// Cells, in the order of the columns. A list among them has no items.
 #[derive(Clone, Copy)]
@@ -27,7 +38,7 @@ impl<'a> PreparedRow for CellRow<'a> {
     #[inline(always)]
     fn value(&self, position: usize, wanted: Trait) -> Option<&Field<'a>> {
         match self.0.get(position) {
-            Some(cell) => slot_of(&field_slots(&[], cell), wanted),
+            Some(cell) => slot_of(&cell_slots(cell), wanted),
             None => None,
         }
     }
@@ -35,7 +46,7 @@ impl<'a> PreparedRow for CellRow<'a> {
     fn find(&self, names: &[String], name: &str) -> Option<Formattable<'_, Field<'a>>> {
         match last_position(names, name) {
             Some(position) => match self.0.get(position) {
-                Some(cell) => Some(field_slots(&[], cell)),
+                Some(cell) => Some(cell_slots(cell)),
                 None => None,
             },
             None => None,

@@ -11,7 +11,7 @@ use crate::bytes::text_of;
 use crate::cells::CellRow;
 use crate::field::Field;
 use crate::levels::all_within;
-use crate::slots::{field_slots, set_slots};
+use crate::slots::field_slots;
 use interpolator::{Error, Formattable, Pairs, Prepared, Template, TextBuffer, TextWrite};
 use std::alloc::Global;
 

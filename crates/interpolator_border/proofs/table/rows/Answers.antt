@@ -7,8 +7,8 @@ returns-in-Ok c =
     c.rows_of.new.ends c.args.room.now c.rows_of.new.room c.rows_of.result c.in-Ok.ensures.0
     c.in-Ok.ensures.1 c.rows_of.ensures
 
-pub returns : goal.returns
-returns c =
+pub returns-in-Err : goal.returns-in-Err
+returns-in-Err c =
     columns_fail c.args.columns.now c.args.cells.now c.args.format.now c.args.ends.now _
     c.args.room.now c.told_failure-in-Err.new.room c.told_failure-in-Err.result c.in-Err.failure c.in-Err.ensures
     c.told_failure-in-Err.ensures.failure

@@ -1,4 +1,4 @@
-use Rattle.std.proofs.Common.{inl, length, refl, ◌∙◌}
+use Rattle.std.proofs.Common.{inl, length, refl}
 use Rattle.interpolator_border.proofs.TableLemmas.{all_rows, row_fails}
 use Rattle.interpolator_border.proofs.table.rows_of.Goals as goal
 

@@ -6,7 +6,7 @@ use Rattle.interpolator_border.proofs.cells.CellRowPreparedRow.find.Goals as goa
 pub returns-in-Some-get : goal.returns-in-Some-get
 returns-in-Some-get c =
     record {
-      found = ap Some c.field_slots.ensures ∙ row_found (field_slots []) c.args.names.now
+      found = ap Some c.cell_slots.ensures ∙ row_found (field_slots []) c.args.names.now
           c.args.self.now.0.now c.args.name.now c.utf8.name c.in-Some.position
           c.in-Some-get.cell.now c.in-Some.ensures c.in-Some-get.ensures.lookup.3.0
           c.in-Some-get.ensures.lookup.1;
