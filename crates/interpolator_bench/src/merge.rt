@@ -3,9 +3,7 @@
 //! To add a merge by another kind of context, add a variant of `Kind`; the records are the same.
 
 use crate::failure::Failure;
-use interpolator::{
-    Error, Formattable, Interpolate, Pairs, Prepared, Template, TextBuffer, View,
-};
+use interpolator::{Error, Formattable, Interpolate, Pairs, Prepared, Template, TextBuffer, View};
 use std::alloc::Global;
 use std::collections::HashMap;
 

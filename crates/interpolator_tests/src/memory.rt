@@ -5,6 +5,7 @@
 
 mod lists;
 mod loaded;
+mod named;
 mod names;
 
 use crate::report::Report;
@@ -14,5 +15,6 @@ pub fn run(report: &mut Report) -> Result<(), Error> {
     report.begin("memory");
     lists::run(report)?;
     loaded::run(report)?;
+    named::run(report);
     names::run(report)
 }

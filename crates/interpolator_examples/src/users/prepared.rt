@@ -17,7 +17,11 @@ fn put_lines(page: &mut Page, line: &Prepared, rows: &[(&str, u32)]) -> Result<(
     let mut out = TextBuffer::new(alloc);
     for (item, count) in rows {
         out.clear();
-        line.write_named(alloc, &mut out, &values!(item = *item, count:integer = *count))?;
+        line.write_named(
+            alloc,
+            &mut out,
+            &values!(item = *item, count:integer = *count),
+        )?;
         page.put("prepared", out.as_str());
     }
     Ok(())

@@ -47,7 +47,7 @@ loop-step-preserved g c =
           (rw w.out-is at k))
       | in_default+in_ok-put_step-in_default w ↦ λ new answer k.
           let named = c.args.named.now in
-    let e = environment (g.R.PreparedRow.finds_in named.row.now (name_bytes named.names.now)) in
+          let e = environment (g.R.PreparedRow.finds_in named.row.now (name_bytes named.names.now)) in
           c.loop-step.invariant new answer (step_runs _ _ _ c.args.text.now c.args.steps.now
           c.loop-step.step-index _ _ c.step-item.result c.loop-step-test.true c.step-item.is _ _
           (w.in_ok-put_step-in_default.ensures.outcome e) (rw w.out-is at k))
