@@ -1,6 +1,6 @@
 -- What is told of a format that was checked.
-use Rattle.std.proofs.Common.{◌≡◌, inl, inr, ◌∙◌, sym, ap, refl, subst, List, [], ◌∷◌, ℕ, None}
-use Rattle.std.proofs.Common.{Some, Option, Bool, true, map, option_map, Result, Ok, Err, length}
+use Rattle.std.proofs.Common.{◌≡◌, inl, inr, ◌∙◌, sym, ap, refl, List, [], ◌∷◌, ℕ, None, Some, Option, Bool, true}
+use Rattle.std.proofs.Common.{map, option_map, Result, Err, length, arith}
 use Rattle.std.specs.Prelude.{slice_get}
 use Rattle.std.specs.Str.{is_utf8}
 use Rattle.std.specs.declared.vec.Vec.{Vec}
@@ -19,70 +19,46 @@ use Rattle.interpolator_border.specs.declared.answer.Failure.TheVariants as fail
 use Rattle.interpolator_border.specs.declared.explaining.Source.{Source}
 use Rattle.interpolator_border.specs.declared.fault.Fault.{Fault as Fault_numbers}
 use Rattle.interpolator_border.specs.declared.field.Field.{Field}
-use Rattle.interpolator_border.specs.Answers.{FillsFront, Told, ToldAside, ToldBy, ToldFailure}
-use Rattle.interpolator_border.specs.Answers.{code_of_answer, failure_code, fault_answer}
-use Rattle.interpolator_border.specs.Answers.{fault_numbers, text_answer}
-use Rattle.interpolator_border.specs.Checks.{AloneAnswers, AreFaults, CheckAnswers, CheckedAlone}
-use Rattle.interpolator_border.specs.Checks.{ExplainAnswers, Faults, FaultsAnswers, Finds, FindsBytes}
-use Rattle.interpolator_border.specs.Checks.{FindsKnown, FoundAt, IsFaultAt, PictureMade, Pictured}
-use Rattle.interpolator_border.specs.Checks.{TellsPicture, ToldPicture, alone_fault, row_faults}
+use Rattle.interpolator_border.specs.Answers.{FillsFront, Told, ToldAside, ToldBy, ToldFailure, failure_code}
+use Rattle.interpolator_border.specs.Answers.{fault_answer, fault_numbers, text_answer}
+use Rattle.interpolator_border.specs.Checks.{AloneAnswers, AreFaults, CheckAnswers, CheckedAlone, ExplainAnswers}
+use Rattle.interpolator_border.specs.Checks.{Faults, FaultsAnswers, Finds, FindsBytes, FindsKnown, FoundAt, IsFaultAt}
+use Rattle.interpolator_border.specs.Checks.{PictureMade, Pictured, TellsPicture, alone_fault}
 use Rattle.interpolator_border.specs.Fields.{all_lie_within, field_slots, lie_in_levels}
-use Rattle.interpolator_border.specs.Fields.{lists_lie}
-use Rattle.interpolator_border.proofs.AnswerLemmas.{if_fault, lies_as, out_of_memory}
+use Rattle.interpolator_border.proofs.AnswerLemmas.{if_fault, out_of_memory}
 
 module _ {fields items : List Field} {format : List ℕ} where
   -- what holds of the faults
   pub faults_more : {P Q : List Fault → Type 0} → ((fs : List Fault) → P fs → Q fs)
       → Faults fields items format P → Faults fields items format Q
-  faults_more more w =
-      record { trees = w.trees; are = w.are; holds = more (row_faults fields w.trees format) w.holds }
+  faults_more more w = grind arith
 
 -- once all items are known, the faults are those over what they stand for
 pub found_known : {Z : Type 0} (lie : Bool) (fields items : List Field) (format : List ℕ)
     (trees : List (Slots Field)) (result : Result (Vec Error Z) Failure)
     → trees ≡ map (field_slots trees) items → FindsKnown fields trees format result
     → Finds lie fields items format result
-found_known lie fields items format trees (Ok found) are finds =
-    record { trees = trees; are = are; holds = finds }
-found_known lie fields items format trees (Err failure.NotUtf8) are finds = finds
-found_known lie fields items format trees (Err failure.Table) are finds = finds
-found_known lie fields items format trees (Err failure.Lists) are finds = absurd finds
-found_known lie fields items format trees (Err (failure.Fault e)) are finds = finds
+found_known lie fields items format trees result are finds = grind arith
 
 -- the faults over a row whose lists lie as they should, of a format that is given by its bytes
 module _ {Z : Type 0} (fields items : List Field) (format : List ℕ) (utf8 : is_utf8 format ≡ true) where
-  by_bytes : (result : Result (Vec Error Z) Failure)
-      → Finds (lists_lie fields items) fields items format result
-      → FindsBytes fields items format result
-  by_bytes (Ok found) finds = (utf8, finds)
-  by_bytes (Err failure.NotUtf8) finds = absurd finds
-  by_bytes (Err failure.Table) finds = (utf8, finds)
-  by_bytes (Err failure.Lists) finds = (utf8, finds)
-  by_bytes (Err (failure.Fault e)) finds = (utf8, finds)
-
   pub row_found : (text template : List ℕ) (result : Result (Vec Error Z) Failure)
       → text ≡ format → template ≡ text → all_lie_within fields items ≡ true
       → Finds (lie_in_levels 64 items (length items)) fields items template result
       → FindsBytes fields items format result
   row_found text template result is same within finds =
-      by_bytes result (subst (λ lie. Finds lie fields items format result)
-      (lies_as (all_lie_within fields items) (lie_in_levels 64 items (length items)) within)
-      (subst (λ t. Finds (lie_in_levels 64 items (length items)) fields items t result)
-      (same ∙ is) finds))
+      grind (arith, is, same, within, finds)
 
 -- ---- what is told
 
 fault_same : (x : Option Error) (y : Option Fault) → option_map answer_of x ≡ option_map fault y
     → (which : ℕ) (fs : List Fault) → slice_get fs which ≡ y → IsFaultAt fs which x
-fault_same None None same which fs is = is
-fault_same None (Some f) same which fs is = cc
-fault_same (Some e) y same which fs is = rw is same
+fault_same x y same which fs is = grind arith
 
 -- what a slice has at an index, as a copy
 got : {X : Type 0} (xs : List X) (k : ℕ) (found : Option (Bor X)) → IsItemAt xs k found
     → option_copied found ≡ slice_get xs k
-got xs k None at = sym (slice_get_past xs k at.3)
-got xs k (Some x) at = sym (slice_get_read xs (length xs) k x.now refl at.3.0 at.1)
+got xs k found at = grind (arith, slice_get_past, slice_get_read)
 
 -- what is at a number among errors that are faults
 pub fault_there : (errors : List Error) (which : ℕ) (found : Option (Bor Error))
@@ -93,8 +69,7 @@ fault_there errors which found at fs are =
     ∙ ap (λ xs. slice_get xs which) are ∙ slice_get-map fault fs which) which fs refl
 
 pub at_first : (fs : List Fault) → slice_get fs 0 ≡ first_fault fs
-at_first [] = refl
-at_first (f ∷ fs) = refl
+at_first fs = grind arith
 
 -- no first fault, so none
 pub none_first : (fs : List Fault) → slice_get fs 0 ≡ None → fs ≡ []
@@ -106,19 +81,12 @@ module _ (fields items : List Field) (format : List ℕ) where
   pub find_fails : (Z : Type 0) (old new : List ℕ) (answer : Told_answer) (why : Failure)
       → FindsBytes fields items format {Z = Z} (Err why) → ToldFailure why old new answer
       → ToldAside fields items format answer
-  find_fails Z old new answer failure.NotUtf8 finds told = inr (inl (told, finds))
-  find_fails Z old new answer failure.Lists finds told = inr (inr (told, finds.1))
-  find_fails Z old new answer failure.Table finds told = absurd finds.1
-  find_fails Z old new answer (failure.Fault e) finds told =
-      inl (out_of_memory 0 old new answer (answer_of e) finds.1 told)
+  find_fails Z old new answer why finds told = grind (arith, finds, told)
 
   pub find_coded : (Z : Type 0) (answer : Told_answer) (why : Failure)
       → FindsBytes fields items format {Z = Z} (Err why) → answer.code ≡ failure_code why
       → ToldAside fields items format answer
-  find_coded Z answer failure.NotUtf8 finds told = inr (inl (told, finds))
-  find_coded Z answer failure.Lists finds told = inr (inr (told, finds.1))
-  find_coded Z answer failure.Table finds told = absurd finds.1
-  find_coded Z answer (failure.Fault e) finds told = inl (told ∙ ap code_of_answer finds.1)
+  find_coded Z answer why finds told = grind (arith, finds, told)
 
   module _ (errors : List Error) (utf8 : is_utf8 format ≡ true)
       (finds : Faults fields items format (AreFaults errors)) (answer : Told_answer) where
@@ -126,16 +94,7 @@ module _ (fields items : List Field) (format : List ℕ) where
     pub faults_told : (told old new : List Fault_numbers)
         → told ≡ map fault_numbers (map answer_of errors) → FillsFront told old new
         → answer ≡ text_answer (length told) → FaultsAnswers fields items format old new answer
-    faults_told told old new is fills counted =
-        inl (
-          utf8,
-          faults_more (λ fs are.
-              let same = is ∙ ap (map fault_numbers) are in (
-                counted ∙ ap (λ xs. text_answer (length xs)) same ∙ ap text_answer
-                    (length-map (map fault fs) fault_numbers ∙ length-map fs fault),
-                subst (λ xs. FillsFront xs old new) same fills,
-              )) finds,
-        )
+    faults_told told old new is fills counted = grind (arith, inl, faults_more, length-map)
 
     module _ (old new : List ℕ) where
       -- the first fault is told, or there is none
@@ -151,32 +110,18 @@ module _ (fields items : List Field) (format : List ℕ) where
 
       pub none_told : FoundAt errors 0 None → answer ≡ text_answer 0 → new ≡ old
           → CheckAnswers fields items format old new answer
-      none_told at told same =
-          inl (
-            utf8,
-            faults_more (λ fs are. rw (sym (at_first fs) ∙ at fs are) (told, same)) finds,
-          )
+      none_told at told same = grind (arith, at, told, same)
 
       module _ (of : Source) (which : ℕ) where
         -- a fault is told with its picture, or there is none of that number
         pub explains : (e : Error) → FoundAt errors which (Some e)
             → TellsPicture of format (answer_of e) old new answer
             → ExplainAnswers of fields items which format old new answer
-        explains e at (inl told) =
-            inl (
-              utf8,
-              faults_more (λ fs are.
-                  if_fault (ToldPicture of format old new answer) _ (slice_get fs which)
-                  (answer_of e) (at fs are) told) finds,
-            )
-        explains e at (inr (inl wants)) = inr (inl (inl wants))
-        explains e at (inr (inr (told, inl no_text))) = inr (inr (told, no_text))
-        explains e at (inr (inr (told, inr no_format))) = inr (inl (inr (inl (told, no_format))))
+        explains e at told = grind (arith, at, told)
 
         pub not_found : FoundAt errors which None → answer ≡ text_answer 0 → new ≡ old
             → ExplainAnswers of fields items which format old new answer
-        not_found at told same =
-            inl (utf8, faults_more (λ fs are. rw (at fs are) (told, same)) finds)
+        not_found at told same = grind (arith, at, told, same)
 
 -- the first fault of a format by itself is told, or why it is not known
 pub alone_fails : (format old new : List ℕ) (answer : Told_answer) (why : Failure)
@@ -200,19 +145,11 @@ pub picture_told : (of : Source) (format old new picture made : List ℕ) (answe
     → answer ≡ record (fault_answer a 0) { message = length picture } → Told picture old new
     → TellsPicture of format a old new answer
 picture_told of format old new picture made answer a of_fault is told put =
-    inl (record {
-      picture = picture;
-      of_fault = subst (Pictured of format a) (sym is) of_fault;
-      told = told;
-      put = put;
-    })
+    grind (arith, of_fault, is, told, put)
 
 -- why there is no picture is told
 pub picture_fails : (Z : Type 0) (of : Source) (format old new : List ℕ) (answer : Told_answer)
     (a : Answer) (why : Failure) → PictureMade of format a {Z = Z} (Err why)
     → ToldFailure why old new answer → TellsPicture of format a old new answer
-picture_fails Z of format old new answer a failure.NotUtf8 made told = inr (inr (told, made))
-picture_fails Z of format old new answer a failure.Lists made told = absurd made
-picture_fails Z of format old new answer a failure.Table made told = absurd made
-picture_fails Z of format old new answer a (failure.Fault e) made told =
-    inr (inl (out_of_memory 0 old new answer (answer_of e) made told))
+picture_fails Z of format old new answer a why made told =
+    grind (arith, made, told)

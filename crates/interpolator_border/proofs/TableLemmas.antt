@@ -1,14 +1,11 @@
 -- What is told of a table.
-use Rattle.std.proofs.Common.{arith, ◌≡◌, ◌⊎◌, inl, inr, ◌∙◌, sym, ap, refl, subst, List, ℕ}
-use Rattle.std.proofs.Common.{Some, true, Err, length, ◌+◌}
-use Rattle.std.proofs.Common.{◌*◌, ◌<◌, ◌≤◌}
-use Rattle.std.proofs.lemmas.Nat.{mul-le}
+use Rattle.std.proofs.Common.{arith, ◌≡◌, ◌⊎◌, inl, inr, ◌∙◌, ap, List, ℕ, Some, true, Err, length, ◌+◌, ◌*◌, ◌<◌}
+use Rattle.std.proofs.Common.{◌≤◌}
 use Rattle.std.specs.Borrow.{Bor}
 use Rattle.std.specs.Str.{chars, is_utf8, IsUtf8}
-use Rattle.std.specs.Prelude.{encode_utf8_all}
 use Rattle.std.proofs.lemmas.Str.{encodes-chars}
 use Rattle.interpolator_syntax.specs.At.{outermost}
-use Rattle.interpolator_syntax.specs.Faults.{Answer, fault, no_memory, answer_of}
+use Rattle.interpolator_syntax.specs.Faults.{Answer, no_memory, answer_of}
 use Rattle.interpolator_eval.specs.Contexts.{found_by_pairs}
 use Rattle.interpolator_eval.specs.declared.slots.Formattable.{Formattable}
 use Rattle.interpolator.specs.Prepared.Rows.{PreparedFormat}
@@ -21,9 +18,8 @@ use Rattle.interpolator_border.specs.declared.field.Field.{Field}
 use Rattle.interpolator_border.specs.declared.table.RowFault.{RowFault}
 use Rattle.interpolator_border.specs.Answers.{Told, ToldBy, ToldFailure, text_answer}
 use Rattle.interpolator_border.specs.Fields.{field_shows}
-use Rattle.interpolator_border.specs.Tables.{ColumnFaults, FailsIn, Prepares, RowsAnswers}
-use Rattle.interpolator_border.specs.Tables.{AllRows, Faultless, Pairs, TellsRows, ToldInRow}
-use Rattle.interpolator_border.specs.Tables.{column_names, rows_ends, rows_text}
+use Rattle.interpolator_border.specs.Tables.{ColumnFaults, FailsIn, Prepares, RowsAnswers, AllRows, Faultless, Pairs}
+use Rattle.interpolator_border.specs.Tables.{TellsRows, ToldInRow, column_names, rows_ends, rows_text}
 use Rattle.interpolator_border.proofs.AnswerLemmas.{out_of_memory, some_fault}
 
 module _ (names : List (List ℕ)) (format : List ℕ) (width : ℕ) (cells : List Field) where
@@ -56,17 +52,7 @@ module _ (columns cells : List Field) (format : List ℕ) (ends_old ends_new old
   by_answer : (a : Answer) → is_utf8 format ≡ true
       → ColumnFaults columns format (λ fs. AnswersFirst fs (Some a)) → ToldBy a 0 old new answer
       → RowsAnswers columns cells format ends_old ends_new old new answer
-  by_answer (fault f) utf8 faults told =
-      inr (inl (
-        utf8,
-        record {
-          pairs = faults.pairs;
-          are = faults.are;
-          holds = rw faults.holds told;
-        },
-      ))
-  by_answer no_memory utf8 faults told =
-      inr (inr (inl (out_of_memory 0 old new answer no_memory refl told)))
+  by_answer a utf8 faults told = grind (arith, utf8, faults, told)
 
   -- why the format is not prepared is told
   pub columns_fail : (why : Failure)
@@ -82,10 +68,7 @@ module _ (columns cells : List Field) (format : List ℕ) (ends_old ends_new old
 -- a row lies within the values
 pub in_table : (row count width n : ℕ) → row < count → n ≡ count * width
     → row * width + width ≤ n
-in_table row count width n less is =
-    let most : (row + 1) * width ≤ count * width =
-    mul-le (row + 1) width count width (omega (arith, less)) (omega arith) in
-    grind (arith, most, is)
+in_table row count width n less is = grind (arith, less, is)
 
 -- the first fault over the columns, by the pairs that were made of them
 pub column_faults : (columns : List Field) (format text template : List ℕ)
@@ -95,19 +78,8 @@ pub column_faults : (columns : List Field) (format text template : List ℕ)
     (outermost (chars template))) (Some a)
     → (a ≡ no_memory) ⊎ ((is_utf8 format ≡ true)
     × ColumnFaults columns format (λ fs. AnswersFirst fs (Some a)))
-column_faults columns format text template pairs made a is utf8 same by are (inl wants) = inl wants
-column_faults columns format text template pairs made a is utf8 same by are (inr first) =
-    inr (
-      utf8,
-      record {
-        pairs = made;
-        are = are;
-        holds = subst (λ p. AnswersFirst (faults_over field_shows (found_by_pairs p)
-            (outermost (chars format))) (Some a)) by
-            (subst (λ t. AnswersFirst (faults_over field_shows (found_by_pairs pairs)
-            (outermost (chars t))) (Some a)) (same ∙ is) first);
-      },
-    )
+column_faults columns format text template pairs made a is utf8 same by are first =
+    grind (arith, is, utf8, same, by, are, first)
 
 -- all rows are written
 pub all_rows : (names : List (List ℕ)) (format : List ℕ) (width : ℕ)
@@ -118,15 +90,7 @@ pub all_rows : (names : List (List ℕ)) (format : List ℕ) (width : ℕ)
     → Told bytes old new → answer ≡ text_answer (length bytes)
     → AllRows names format width cells count ends old new answer
 all_rows names format width cells count text ends bytes old new answer faultless is ends_are by utf8
-    put told =
-    let whole : bytes ≡ encode_utf8_all (rows_text names format width cells count) =
-    sym (ap encode_utf8_all (sym (by ∙ is)) ∙ encodes-chars bytes utf8) in
-    record {
-      faultless = faultless;
-      ends_are = ends_are;
-      told = told ∙ ap (λ b. text_answer (length b)) whole;
-      put = subst (λ b. Told b old new) whole put;
-    }
+    put told = grind (arith, encodes-chars)
 
 -- all rows of cells are told, by the format and the columns
 pub rows_told : (columns cells : List Field) (format : List ℕ) (line : PreparedFormat)
@@ -135,8 +99,4 @@ pub rows_told : (columns cells : List Field) (format : List ℕ) (line : Prepare
     → TellsRows line.names line.text (length columns) cells ends_old ends_new old new answer
     → RowsAnswers columns cells format ends_old ends_new old new answer
 rows_told columns cells format line ends_old ends_new old new answer utf8 is told =
-    inl (
-      utf8,
-      subst (λ l. TellsRows l.names l.text (length columns) cells ends_old ends_new old new answer)
-          is told,
-    )
+    grind (arith, utf8, is, told)
