@@ -152,5 +152,8 @@ pub writes : (fields items : List Field) (format text : List ℕ) (start new_tex
     → WriteAnswers fields items format old new sentence_old sentence_new answer
 writes fields items format text start new_text made old new sentence_old sentence_new answer refused
     written same utf8 empty is made_utf8 flag fits put wrote tells =
-    grind (arith, encodes-chars made made_utf8,
-    from_blank fields items format text start new_text same utf8 empty written wrote)
+    grind (
+      arith,
+      encodes-chars made made_utf8,
+      from_blank fields items format text start new_text same utf8 empty written wrote,
+    )
