@@ -87,7 +87,7 @@ scientific_count places n = elim (cases_lt places (exponent_of n)) [
 
 -- ---- what the digits make
 
-value_of_zeros : (count : ℕ) (digits : List ℕ) → digits_value 10 (replicate count 48 ++ digits)
+pub value_of_zeros : (count : ℕ) (digits : List ℕ) → digits_value 10 (replicate count 48 ++ digits)
     ≡ digits_value 10 digits
 value_of_zeros zero digits = refl
 value_of_zeros (suc count) digits = value_of_zeros count digits

@@ -203,6 +203,17 @@ pair_alone n l h =
       ones,
     ) refl
 
+-- of three
+pub three_alone : (n : ℕ) → 100 ≤ n → n < 1000 →
+    digit_text 10 false n ≡ (48 + n / 100) ∷ (48 + n % 100 / 10) ∷ (48 + n % 100 % 10) ∷ []
+three_alone n l h =
+    let hundreds : n / 10 / 10 ≡ n / 100 = omega arith in
+    let tens : n / 10 % 10 ≡ n % 100 / 10 = omega arith in
+    let ones : n % 10 ≡ n % 100 % 10 = omega arith in
+    let last : digit_glyph false (n % 10) ≡ 48 + n % 10 = grind (arith, nat_tests) in
+    digit_text_step 10 n false (omega arith) (omega arith)
+    ∙ rw (pair_alone (n / 10) (omega arith) (omega arith), last, hundreds, tens, ones) refl
+
 -- and of one
 pub one_alone : (n : ℕ) → n < 10 → digit_text 10 false n ≡ (48 + n) ∷ []
 one_alone n h = let glyph : digit_glyph false n ≡ 48 + n = grind (arith, nat_tests) in

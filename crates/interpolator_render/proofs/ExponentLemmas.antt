@@ -75,7 +75,7 @@ glyphs_of_zeros : (k : ℕ) → map (digit_glyph false) (replicate k 0) ≡ repl
 glyphs_of_zeros zero = refl
 glyphs_of_zeros (suc k) = ap (λ (x : List ℕ). 48 ∷ x) (glyphs_of_zeros k)
 
-digit_text_scaled : (n k : ℕ) → 0 < n → digit_text 10 false (n * 10 ^ k) ≡ digit_text 10 false n
+pub digit_text_scaled : (n k : ℕ) → 0 < n → digit_text 10 false (n * 10 ^ k) ≡ digit_text 10 false n
     ++ replicate k 48
 digit_text_scaled n k h =
     let some : 0 < n * 10 ^ k = let more = mul-le-mul_left n (one-le-pow k 10 (omega arith)) in

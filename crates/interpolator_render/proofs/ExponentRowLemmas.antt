@@ -96,30 +96,37 @@ alone_pieces digits after first row low all h e single a b =
     nothing_left (x ∷ []) h = refl
     nothing_left (x ∷ y ∷ more) h = absurd (omega arith)
 
+-- digits and zeros in front of any text
+pub digits_before : (digits zeros : ℕ) (after : List ℕ) (row tail padded all : Buffered) →
+    tail ≡ put_before after row → padded ≡ put_before (replicate zeros 48) tail →
+    all ≡ put_before (leading (digit_text 10 false digits) (replicate zeros 48)) padded →
+    all ≡ put_before (with_point (digit_text 10 false digits ++ replicate zeros 48) ++ after) row
+digits_before digits zeros after row tail padded all a b c =
+    let head = leading (digit_text 10 false digits) (replicate zeros 48) in
+    let whole = leading_then (digit_text 10 false digits) (replicate zeros 48)
+    (digit_text_some 10 digits false (omega arith)) in
+    rw (c, b, a) (ap (put_before head) (grown_twice (replicate zeros 48) after row)
+    ∙ (grown_twice head (replicate zeros 48 ++ after) row
+    ∙ ap (λ (x : List ℕ). put_before x row) (sym (append_assoc head (replicate zeros 48) _)
+    ∙ ap (λ (x : List ℕ). x ++ after) whole)))
+
 pub shown_pieces : (upper : Bool) (digits zeros exponent : ℕ) (row tail padded all : Buffered) →
     tail ≡ put_before (exponent_tail upper exponent) row → padded ≡ put_before (replicate zeros 48) tail →
     all ≡ put_before (leading (digit_text 10 false digits) (replicate zeros 48)) padded →
     all ≡ put_before (shown_text upper digits zeros exponent) row
 shown_pieces upper digits zeros exponent row tail padded all a b c =
-    let head = leading (digit_text 10 false digits) (replicate zeros 48) in
-    let whole = leading_then (digit_text 10 false digits) (replicate zeros 48)
-    (digit_text_some 10 digits false (omega arith)) in
-    rw (c, b, a) (ap (put_before head)
-    (grown_twice (replicate zeros 48) (exponent_tail upper exponent) row)
-    ∙ (grown_twice head (replicate zeros 48 ++ exponent_tail upper exponent) row
-    ∙ ap (λ (x : List ℕ). put_before x row) (sym (append_assoc head (replicate zeros 48) _)
-    ∙ ap (λ (x : List ℕ). x ++ exponent_tail upper exponent) whole)))
+    digits_before digits zeros (exponent_tail upper exponent) row tail padded all a b c
 
 -- ---- the whole
 
--- an exponent form alone in a row
-pub exponent_row : (spec : Spec) (digits zeros exponent : ℕ) (upper : Bool) (empty row : Buffered)
-    (fill : ℕ) → unwrap_or spec.width 0 ≤ 40 → digits < 2 ^ 128 → zeros ≤ 40 → exponent ≤ 39 →
+-- digits, zeros and a text after them alone in a row
+pub digits_row : (spec : Spec) (digits zeros : ℕ) (after : List ℕ) (empty row : Buffered)
+    (fill : ℕ) → unwrap_or spec.width 0 ≤ 40 → digits < 2 ^ 128 → zeros + length after ≤ 45 →
     fill ≡ number_fill spec → empty ≡ record { before = 88; text = []; after = 40; fill = fill } →
-    row ≡ put_before (shown_text upper digits zeros exponent) empty → IsNumberRow spec row
-exponent_row spec digits zeros exponent upper empty row fill w d z s f e r =
+    row ≡ put_before (with_point (digit_text 10 false digits ++ replicate zeros 48) ++ after) empty →
+    IsNumberRow spec row
+digits_row spec digits zeros after empty row fill w d z f e r =
     let few = decimal_digits digits d in
-    let two = two_digits exponent s in
     let n = length-replicate {A = ℕ} zeros 48 in
     let head = leading (digit_text 10 false digits) (replicate zeros 48) in
     let point = length-leading (digit_text 10 false digits) (replicate zeros 48) in
@@ -127,9 +134,9 @@ exponent_row spec digits zeros exponent upper empty row fill w d z s f e r =
     (digit_text_some 10 digits false (omega arith)) in
     let body = ap length whole in
     let parts = length-append head (replicate zeros 48) in
-    let text = length-append (with_point (digit_text 10 false digits ++ replicate zeros 48))
-    (exponent_tail upper exponent) in
-    let size = length-append (shown_text upper digits zeros exponent) [] in
+    let text = length-append (with_point (digit_text 10 false digits ++ replicate zeros 48)) after in
+    let size = length-append (with_point (digit_text 10 false digits ++ replicate zeros 48) ++ after)
+    [] in
     rw (r, e) (record {
       narrow = w;
       fill = f;
@@ -138,17 +145,35 @@ exponent_row spec digits zeros exponent upper empty row fill w d z s f e r =
       after = refl;
     })
 
+-- an exponent form alone in a row
+pub exponent_row : (spec : Spec) (digits zeros exponent : ℕ) (upper : Bool) (empty row : Buffered)
+    (fill : ℕ) → unwrap_or spec.width 0 ≤ 40 → digits < 2 ^ 128 → zeros ≤ 40 → exponent ≤ 39 →
+    fill ≡ number_fill spec → empty ≡ record { before = 88; text = []; after = 40; fill = fill } →
+    row ≡ put_before (shown_text upper digits zeros exponent) empty → IsNumberRow spec row
+exponent_row spec digits zeros exponent upper empty row fill w d z s f e r =
+    let two = two_digits exponent s in
+    digits_row spec digits zeros (exponent_tail upper exponent) empty row fill w d (omega arith) f e
+    r
+
+-- head, zeros and any text after them are the whole
+pub digits_parts : (digits count : ℕ) (head tail after : List ℕ) →
+    head ≡ leading (digit_text 10 false digits) (replicate count 48) → tail ≡ after →
+    head ++ (replicate count 48 ++ tail)
+    ≡ with_point (digit_text 10 false digits ++ replicate count 48) ++ after
+digits_parts digits count head tail after h t =
+    let whole = leading_then (digit_text 10 false digits) (replicate count 48)
+    (digit_text_some 10 digits false (omega arith)) in
+    rw (h, t) (sym (append_assoc (leading (digit_text 10 false digits) (replicate count 48))
+    (replicate count 48) after)
+    ∙ ap (λ (x : List ℕ). x ++ after) whole)
+
 -- head, zeros and tail are the whole
 pub exponent_parts : (upper : Bool) (digits count exponent : ℕ) (head tail : List ℕ) →
     head ≡ leading (digit_text 10 false digits) (replicate count 48) →
     tail ≡ exponent_tail upper exponent →
     head ++ (replicate count 48 ++ tail) ≡ shown_text upper digits count exponent
 exponent_parts upper digits count exponent head tail h t =
-    let whole = leading_then (digit_text 10 false digits) (replicate count 48)
-    (digit_text_some 10 digits false (omega arith)) in
-    rw (h, t) (sym (append_assoc (leading (digit_text 10 false digits) (replicate count 48))
-    (replicate count 48) (exponent_tail upper exponent))
-    ∙ ap (λ (x : List ℕ). x ++ exponent_tail upper exponent) whole)
+    digits_parts digits count head tail (exponent_tail upper exponent) h t
 
 -- a text alone in a row
 pub grown_alone : (text : List ℕ) (row empty : Buffered) → empty.text ≡ [] →

@@ -1,12 +1,14 @@
 -- How many characters the text of a view has at most.
-use Rattle.std.proofs.Common.{◌≡◌, refl, ap, ◌∙◌, arith, ℕ, zero, suc, ◌+◌, ◌*◌, ◌-◌, ◌^◌, ◌<◌}
+use Rattle.std.proofs.Common.{◌≡◌, refl, sym, ap, ◌∙◌, arith, ℕ, zero, suc, ◌+◌, ◌*◌, ◌-◌, ◌^◌, ◌<◌}
 use Rattle.std.proofs.Common.{◌≤◌, Bool, true, false, ℤ, pos, negsuc, List, [], ◌∷◌, ◌++◌, length}
 use Rattle.std.proofs.Common.{Option, None, Some, unwrap_or, if◌then◌else◌, ◌==◌, ◌||◌, nat_lt}
-use Rattle.std.proofs.Common.{FitsSigned, length-append, codes, inl, inr, max}
+use Rattle.std.proofs.Common.{FitsSigned, length-append, codes, inl, inr, max, ◌/◌, ◌%◌}
+use Rattle.std.proofs.Common.{pow-add}
 use Rattle.std.specs.List.{flat_map}
 use Rattle.std.proofs.lemmas.Bool.{cases_lt}
 use Rattle.std.proofs.lemmas.Bool.Decides.{nat_tests}
 use Rattle.std.proofs.lemmas.List.{length-take}
+use Rattle.std.proofs.Math.Nat.{div-le_self}
 use Rattle.interpolator_render.specs.declared.number_form.NumberForm.{NumberForm}
 use Rattle.interpolator_render.specs.declared.number_form.NumberForm.TheVariants.{Digits as InDigits}
 use Rattle.interpolator_render.specs.declared.number_form.NumberForm.TheVariants.{Exponent as InExponent}
@@ -28,23 +30,28 @@ use Rattle.interpolator_render.specs.declared.view.Trait.TheVariants.{Binary, De
 use Rattle.interpolator_render.specs.declared.view.Trait.TheVariants.{LowerExp, LowerHex, Octal}
 use Rattle.interpolator_render.specs.declared.view.Trait.TheVariants.{UpperExp, UpperHex, Iter}
 use Rattle.interpolator_render.specs.Characters.{cut, double_quote, single_quote, space, delete}
+use Rattle.interpolator_render.specs.Decimals.{after_point, decimal_body, decimal_exponent_text}
+use Rattle.interpolator_render.specs.Decimals.{decimal_text, placed, scale_of, scaled_tail, units_at}
 use Rattle.interpolator_render.specs.Digits.{digit_text}
 use Rattle.interpolator_render.specs.Exponent.{Scientific, exponent_of, significant_digits, rounding, scientific, nearest}
 use Rattle.interpolator_render.specs.Exponent.{with_point, exponent_tail, exponent_text}
 use Rattle.interpolator_render.specs.Lengths.{IsShownWithin, most_digits, most_front, most_body}
 use Rattle.interpolator_render.specs.Lengths.{most_number, most_text, most_written, HasAtMost, usize_count}
+use Rattle.interpolator_render.specs.Lengths.{most_decimal, most_plain, most_scaled}
 use Rattle.interpolator_render.specs.Numbers.{base_of, is_upper, sign_text, distance_from_zero}
 use Rattle.interpolator_render.specs.Numbers.{number_form, has_minus, magnitude, front_text, body_text}
 use Rattle.interpolator_render.specs.Numbers.{number_text, twos_complement, prefix_of, is_negative}
-use Rattle.interpolator_render.specs.Padding.{displayed_text}
+use Rattle.interpolator_render.specs.Padding.{displayed_text, padded_number}
 use Rattle.interpolator_render.specs.Quoting.{escape_letter, escape_by, escape_of, quotation}
-use Rattle.interpolator_render.specs.Texts.{in_form, truth_text, under, view_text}
+use Rattle.interpolator_render.specs.Texts.{in_form, padded_decimal, truth_text, under, view_text}
 use Rattle.interpolator_render.specs.Views.{Shown, signed_number, unsigned_number, truth_value}
-use Rattle.interpolator_render.specs.Views.{one_character, some_text, plain_text}
+use Rattle.interpolator_render.specs.Views.{decimal_number, one_character, some_text, plain_text}
 use Rattle.interpolator_render.specs.Views.{nothing_implemented, failure, integer_width, bit_count}
 use Rattle.interpolator_render.proofs.CountLemmas.{scientific_count}
+use Rattle.interpolator_render.proofs.DecimalLemmas.{length-placed, remainder_fits, scaled_quotient}
+use Rattle.interpolator_render.proofs.DecimalRowLemmas.{length-pointed, length-scaled_tail}
 use Rattle.interpolator_render.proofs.DigitLemmas.{length-digit_text-le}
-use Rattle.interpolator_render.proofs.ExponentLemmas.{scientific_short, scientific_long}
+use Rattle.interpolator_render.proofs.ExponentLemmas.{pow_some, scientific_short, scientific_long}
 use Rattle.interpolator_render.proofs.ExponentRowLemmas.{two_digits, decimal_digits}
 use Rattle.interpolator_render.proofs.LawLemmas.{padded_text_count, padded_number_count}
 use Rattle.interpolator_render.proofs.LawLemmas.{trimmed_tail, twos_complement_below}
@@ -66,10 +73,10 @@ digits_within InUpperHex n upper h =
 
 -- ---- exponent forms
 
-length-pointed : (digits : List ℕ) → length (with_point digits) ≤ length digits + 1
-length-pointed [] = omega arith
-length-pointed (first ∷ []) = omega arith
-length-pointed (first ∷ second ∷ more) = omega arith
+length-with_point : (digits : List ℕ) → length (with_point digits) ≤ length digits + 1
+length-with_point [] = omega arith
+length-with_point (first ∷ []) = omega arith
+length-with_point (first ∷ second ∷ more) = omega arith
 
 alone : (digits : List ℕ) → length digits ≡ 1 → length (with_point digits) ≡ 1
 alone [] h = absurd (omega (arith, h))
@@ -113,7 +120,7 @@ tail_within upper exponent h = let two = two_digits exponent h in omega arith
 precise_within : (upper : Bool) (places : ℕ) (digits : List ℕ) → length digits ≡ places + 1
     → length (with_point digits) + 3 ≤ most_body (InExponent upper) (Some places)
 precise_within upper zero digits h = let one = alone digits h in omega (arith, one)
-precise_within upper (suc places) digits h = omega (arith, length-pointed digits, h)
+precise_within upper (suc places) digits h = omega (arith, length-with_point digits, h)
 
 exponent_text_within : (upper : Bool) (precision : Option ℕ) (n : ℕ) → n < 2 ^ 128
     → length (exponent_text upper precision n) ≤ most_body (InExponent upper) precision
@@ -122,7 +129,7 @@ exponent_text_within upper None n h =
     let digits = digit_text 10 false n in
     rw length-append (omega (
       arith,
-      length-pointed (significant_digits digits),
+      length-with_point (significant_digits digits),
       trimmed_within digits,
       decimal_digits n h,
       tail_within upper (exponent_of n) (let few = few_digits n h in omega arith),
@@ -216,6 +223,151 @@ number_within form spec negative n front h =
     let count = padded_number_count spec (front_text form spec negative) (body_text form spec n) in
     let body = body_within form spec n h in omega (arith, count, body, front)
 
+-- ---- decimals
+
+either_within : (b c : Bool) (low most : ℕ) → low + 1 ≤ most
+    → (if b then low else (if c then low + 1 else low + low % 2)) ≤ most
+either_within true c low most h = omega arith
+either_within false true low most h = h
+either_within false false low most h = omega arith
+
+nearest_most : (n unit : ℕ) → nearest n unit ≤ n + 1
+nearest_most n unit =
+    let less : n / unit ≤ n = div-le_self n unit in
+    either_within (nat_lt (2 * (n % unit)) unit) (nat_lt unit (2 * (n % unit))) (n / unit) (n + 1)
+    (omega arith)
+
+rounded_whole : (places scale units : ℕ) → places < scale
+    → units_at places scale units / 10 ^ places ≤ units + 1
+rounded_whole places scale units h =
+    let t : nat_lt places scale ≡ true = grind (arith, nat_tests) in
+    let near = nearest_most units (10 ^ (scale - places)) in
+    let less = div-le_self (nearest units (10 ^ (scale - places))) (10 ^ places) in
+    rw t (omega arith)
+
+longer_whole : (places scale units : ℕ) → scale ≤ places
+    → units_at places scale units / 10 ^ places ≤ units + 1
+longer_whole places scale units h =
+    let f : nat_lt places scale ≡ false = grind (arith, nat_tests) in
+    let all : scale + (places - scale) ≡ places = omega arith in
+    let power = ap (λ (k : ℕ). 10 ^ k) all in
+    let unit : 10 ^ places ≡ 10 ^ scale * 10 ^ (places - scale) =
+    sym power ∙ pow-add 10 scale (places - scale) in
+    let same = scaled_quotient units (10 ^ scale) (10 ^ (places - scale))
+    (pow_some (places - scale)) in
+    let less = div-le_self units (10 ^ scale) in
+    rw (f, unit, same) (omega arith)
+
+-- the number before the point is at most one greater than the units
+whole_within : (places scale units : ℕ)
+    → units_at places scale units / 10 ^ places ≤ units + 1
+whole_within places scale units = elim (cases_lt places scale) [
+  | inl fewer ↦ rounded_whole places scale units fewer
+  | inr enough ↦ longer_whole places scale units enough
+]
+
+plain_within : (places scale units : ℕ) → units < 2 ^ 128
+    → length (decimal_text (Some places) scale units) ≤ places + 40
+unfolding decimal_text
+plain_within places scale units h =
+    let count = units_at places scale units in
+    let low = whole_within places scale units in
+    let whole = length-digit_text-le 10 39 (count / 10 ^ places) false (omega arith) (omega arith)
+    (omega arith) in
+    let part = length-placed places (count % 10 ^ places) (remainder_fits count places) in
+    let point = length-pointed (placed places (count % 10 ^ places)) in
+    let both = length-append (digit_text 10 false (count / 10 ^ places))
+    (after_point (placed places (count % 10 ^ places))) in
+    omega (arith, whole, part, point, both)
+
+scale_within : (scale units : ℕ) → scale < 2 ^ 32 → scale_of scale units < 2 ^ 32
+scale_within scale units h = chosen (units == 0) scale h
+  where
+    chosen : (b : Bool) (scale : ℕ) → scale < 2 ^ 32 → (if b then 0 else scale) < 2 ^ 32
+    chosen true scale h = omega arith
+    chosen false scale h = h
+
+scaled_within : (upper : Bool) (precision : Option ℕ) (scale units : ℕ) → units < 2 ^ 128
+    → scale < 2 ^ 32
+    → length (decimal_exponent_text upper precision scale units) + 1 ≤ most_scaled precision
+unfolding decimal_exponent_text scientific
+scaled_within upper None scale units h s =
+    let digits = significant_digits (digit_text 10 false units) in
+    let tail = scaled_tail upper (exponent_of units) (scale_of scale units) in
+    let few = few_digits units h in
+    omega (
+      arith,
+      length-append (with_point digits) tail,
+      length-with_point digits,
+      trimmed_within (digit_text 10 false units),
+      decimal_digits units h,
+      length-scaled_tail upper (exponent_of units) (scale_of scale units) (omega arith)
+          (scale_within scale units s),
+    )
+scaled_within upper (Some places) scale units h s =
+    let shown = scientific (Some places) units in
+    let tail = scaled_tail upper shown.exponent (scale_of scale units) in
+    omega (
+      arith,
+      length-append (with_point shown.digits) tail,
+      length-with_point shown.digits,
+      scientific_count places units,
+      length-scaled_tail upper shown.exponent (scale_of scale units)
+          (exponent_within (Some places) units h) (scale_within scale units s),
+    )
+
+-- without precision the text is one that is counted among the texts
+plain_most : (precision : Option ℕ) (scale units most : ℕ) → units < 2 ^ 128
+    → length (decimal_text None scale units) < most
+    → length (decimal_text precision scale units) + 1 ≤ max (most_plain precision) most
+plain_most None scale units most h l = omega (arith, l)
+plain_most (Some places) scale units most h l = omega (arith, plain_within places scale units h)
+
+padded_within : (spec : Spec) (negative : Bool) (body : List ℕ) (most : ℕ)
+    → length body + 1 ≤ most
+    → length (padded_number spec (sign_text negative spec.sign) body)
+    ≤ max (unwrap_or spec.width 0) most
+padded_within spec negative body most h =
+    let count = padded_number_count spec (sign_text negative spec.sign) body in
+    let sign = sign_within negative spec.sign in omega (arith, count, sign, h)
+
+decimal_within : (t : Trait) (spec : Spec) (negative : Bool) (scale units number most : ℕ)
+    → units < 2 ^ 128 → scale < 2 ^ 32 → length (decimal_text None scale units) < most
+    → HasAtMost (max (unwrap_or spec.width 0)
+    (max number (max (most_decimal t spec.precision) (most_text t most))))
+    (padded_decimal spec negative (decimal_body t spec.precision scale units))
+decimal_within Display spec negative scale units number most h s l =
+    omega (
+      arith,
+      padded_within spec negative (decimal_text spec.precision scale units) _
+          (plain_most spec.precision scale units most h l),
+    )
+decimal_within Debug spec negative scale units number most h s l =
+    omega (
+      arith,
+      padded_within spec negative (decimal_text spec.precision scale units) _
+          (plain_most spec.precision scale units most h l),
+    )
+decimal_within LowerExp spec negative scale units number most h s l =
+    omega (
+      arith,
+      padded_within spec negative
+          (decimal_exponent_text false spec.precision scale units) _
+          (scaled_within false spec.precision scale units h s),
+    )
+decimal_within UpperExp spec negative scale units number most h s l =
+    omega (
+      arith,
+      padded_within spec negative
+          (decimal_exponent_text true spec.precision scale units) _
+          (scaled_within true spec.precision scale units h s),
+    )
+decimal_within Binary spec negative scale units number most h s l = tt
+decimal_within LowerHex spec negative scale units number most h s l = tt
+decimal_within Octal spec negative scale units number most h s l = tt
+decimal_within UpperHex spec negative scale units number most h s l = tt
+decimal_within Iter spec negative scale units number most h s l = tt
+
 -- ---- texts
 
 cut_within : (precision : Option ℕ) (text : List ℕ) → length (cut precision text) ≤ length text
@@ -290,7 +442,8 @@ under_within : (t : Trait) (spec : Spec) (most shown debugged : ℕ) (text quote
     → length quotes ≤ max (unwrap_or spec.width 0) (max debugged 8)
     → shown ≤ most → debugged ≤ most * 6 + 2
     → HasAtMost (max (unwrap_or spec.width 0)
-    (max (most_number (number_form t spec.hex_debug) spec) (most_text t most)))
+    (max (most_number (number_form t spec.hex_debug) spec)
+    (max (most_decimal t spec.precision) (most_text t most))))
     (under t text quotes)
 under_within Display spec most shown debugged text quotes h k s d = omega (arith, h, s)
 under_within Debug spec most shown debugged text quotes h k s d =
@@ -326,13 +479,18 @@ pub view_within : (t : Trait) (spec : Spec) (most : ℕ) (shown : Shown)
     → IsShownWithin most shown → HasAtMost (most_written t spec most) (view_text shown t spec)
 unfolding view_text most_written
 view_within t spec most (signed_number z bits) h =
-    signed_within (number_form t spec.hex_debug) spec z bits (most_text t most) h
+    signed_within (number_form t spec.hex_debug) spec z bits
+    (max (most_decimal t spec.precision) (most_text t most)) h
 view_within t spec most (unsigned_number n) h =
-    unsigned_within (number_form t spec.hex_debug) spec n (most_text t most) h
+    unsigned_within (number_form t spec.hex_debug) spec n
+    (max (most_decimal t spec.precision) (most_text t most)) h
 view_within t spec most (truth_value truth) h =
     let text = displayed_within spec (truth_text truth) 5 (truth_within truth) in
     under_within t spec most 0 0 _ _ (omega (arith, text)) (omega (arith, text)) (omega arith)
     (omega arith)
+view_within t spec most (decimal_number units scale) h =
+    decimal_within t spec (is_negative units) scale (distance_from_zero units)
+    (most_number (number_form t spec.hex_debug) spec) most (distance_within units B128 h.0) h.1 h.2
 view_within t spec most (one_character c) h =
     let text = displayed_within spec (c ∷ []) 1 (omega arith) in
     let quotes = quoted_within single_quote (c ∷ []) 1 (omega arith) in
@@ -365,11 +523,13 @@ written_grows t spec few many h = let more = text_grows t few many h in omega (a
 
 -- ---- as the code counts
 
-pub most_told : (t : Trait) (spec : Spec) (most width number text wider widest : ℕ)
+pub most_told : (t : Trait) (spec : Spec) (most width number decimal text wide wider widest : ℕ)
     → width < 2 ^ 64 → width ≡ unwrap_or spec.width 0
     → number ≡ usize_count (most_number (number_form t spec.hex_debug) spec)
-    → text ≡ usize_count (most_text t most) → wider ≡ max width number
-    → widest ≡ max wider text → widest ≡ usize_count (most_written t spec most)
+    → decimal ≡ usize_count (most_decimal t spec.precision)
+    → text ≡ usize_count (most_text t most) → wide ≡ max width number
+    → wider ≡ max wide decimal → widest ≡ max wider text
+    → widest ≡ usize_count (most_written t spec most)
 unfolding most_written
-most_told t spec most width number text wider widest fits w n k a b =
-    omega (arith, w, n, k, a, b)
+most_told t spec most width number decimal text wide wider widest fits w n d k a b e =
+    omega (arith, w, n, d, k, a, b, e)

@@ -1,6 +1,7 @@
 -- How many characters the text of a view has at most.
 use Rattle.std.specs.Prelude.{ℕ, zero, suc, ◌+◌, ◌*◌, ◌^◌, ◌<◌, ◌≤◌, ◌-◌, ⊤, max, min, false, length, unwrap_or}
 use Rattle.std.specs.Prelude.{Option, None, Some, FitsSigned}
+use Rattle.std.specs.Int.{w128}
 use Rattle.interpolator_render.specs.declared.number_form.NumberForm.{NumberForm}
 use Rattle.interpolator_render.specs.declared.number_form.NumberForm.TheVariants.{Digits as InDigits}
 use Rattle.interpolator_render.specs.declared.number_form.NumberForm.TheVariants.{Exponent as InExponent}
@@ -12,16 +13,21 @@ use Rattle.interpolator_render.specs.declared.number_form.Radix.TheVariants.{Low
 use Rattle.interpolator_render.specs.declared.number_form.Radix.TheVariants.{UpperHex as InUpperHex}
 use Rattle.interpolator_render.specs.declared.view.Spec.{Spec}
 use Rattle.interpolator_render.specs.declared.view.Trait.{Trait}
-use Rattle.interpolator_render.specs.declared.view.Trait.TheVariants.{Debug}
-use Rattle.interpolator_render.specs.Numbers.{front_text, number_form}
+use Rattle.interpolator_render.specs.declared.view.Trait.TheVariants.{Debug, Display, LowerExp, UpperExp}
+use Rattle.interpolator_render.specs.Decimals.{decimal_text}
+use Rattle.interpolator_render.specs.Numbers.{distance_from_zero, front_text, number_form}
 use Rattle.interpolator_render.specs.Texts.{ViewText, has_text}
 use Rattle.interpolator_render.specs.Views.{Shown, signed_number, unsigned_number, some_text}
-use Rattle.interpolator_render.specs.Views.{plain_text, integer_width}
+use Rattle.interpolator_render.specs.Views.{decimal_number, plain_text, integer_width}
 
--- a view whose text has at most `most` characters; its number is one that a view can have
+-- a view whose text has at most `most` characters, with a sign if it is a decimal; its number is
+-- one that a view can have
 abbrev pub IsShownWithin : (most : ℕ) → Shown → Type 0
 IsShownWithin most (signed_number z bits) = FitsSigned (integer_width bits) z
 IsShownWithin most (unsigned_number n) = n < 2 ^ 128
+IsShownWithin most (decimal_number units scale) =
+    FitsSigned w128 units × (scale < 2 ^ 32)
+    × (length (decimal_text None scale (distance_from_zero units)) < most)
 IsShownWithin most (some_text text) = length text ≤ most
 IsShownWithin most (plain_text text) = length text ≤ most
 IsShownWithin most _ = ⊤
@@ -53,16 +59,37 @@ abbrev pub most_number : Option NumberForm → Spec → ℕ
 most_number None spec = 0
 most_number (Some form) spec = most_front form spec + most_body form spec.precision
 
+-- a decimal with that many digits after the point: its sign, 39 digits and the point come first
+abbrev pub most_plain : (precision : Option ℕ) → ℕ
+most_plain None = 0
+most_plain (Some places) = places + 41
+
+-- a decimal in exponent form: its sign, 39 digits or those of the precision, the point, the mark,
+-- and an exponent of ten digits with its sign
+abbrev pub most_scaled : (precision : Option ℕ) → ℕ
+most_scaled None = 53
+most_scaled (Some places) = places + 15
+
+-- a decimal under a trait; without precision its plain text is one of the texts below
+abbrev pub most_decimal : Trait → (precision : Option ℕ) → ℕ
+most_decimal Display precision = most_plain precision
+most_decimal Debug precision = most_plain precision
+most_decimal LowerExp precision = most_scaled precision
+most_decimal UpperExp precision = most_scaled precision
+most_decimal _ precision = 0
+
 -- a text of at most `most` characters: under debug each may take six, between two quotes
 abbrev pub most_text : Trait → (most : ℕ) → ℕ
 most_text Debug most = most * 6 + 2
 most_text _ most = most
 
--- what is written of a view within that bound: a number or a text, or the width if it is more
+-- what is written of a view within that bound: a number, a decimal or a text, or the width if it is
+-- more
 unfoldable pub most_written : Trait → Spec → (most : ℕ) → ℕ
 most_written t spec most =
     max (unwrap_or spec.width 0)
-    (max (most_number (number_form t spec.hex_debug) spec) (most_text t most))
+    (max (most_number (number_form t spec.hex_debug) spec)
+    (max (most_decimal t spec.precision) (most_text t most)))
 
 -- a text has at most `most` characters; if there is none, nothing is written
 abbrev pub HasAtMost : (most : ℕ) → ViewText → Type 0

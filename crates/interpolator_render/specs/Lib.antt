@@ -9,6 +9,7 @@ pub mod Copies
 pub mod Digits
 pub mod DigitBuffers
 pub mod Exponent
+pub mod Decimals
 pub mod Padding
 pub mod Numbers
 pub mod Quoting

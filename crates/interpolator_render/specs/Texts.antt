@@ -11,10 +11,13 @@ use Rattle.interpolator_render.specs.declared.view.Spec.{Spec}
 use Rattle.interpolator_render.specs.declared.view.Trait.{Trait}
 use Rattle.interpolator_render.specs.declared.view.Trait.TheVariants.{Debug, Display}
 use Rattle.interpolator_render.specs.Characters.{double_quote, single_quote}
+use Rattle.interpolator_render.specs.Decimals.{decimal_body}
 use Rattle.interpolator_render.specs.Numbers.{number_form, number_text, has_minus, magnitude}
-use Rattle.interpolator_render.specs.Padding.{displayed_text}
+use Rattle.interpolator_render.specs.Numbers.{distance_from_zero, is_negative, sign_text}
+use Rattle.interpolator_render.specs.Padding.{displayed_text, padded_number}
 use Rattle.interpolator_render.specs.Quoting.{quotation}
 use Rattle.interpolator_render.specs.Views.{Shown, signed_number, unsigned_number, truth_value}
+use Rattle.interpolator_render.specs.Views.{decimal_number}
 use Rattle.interpolator_render.specs.Views.{one_character, some_text, plain_text}
 use Rattle.interpolator_render.specs.Views.{nothing_implemented, failure}
 use Rattle.interpolator_render.specs.Written.{Written, Appends, AppendsBeginning}
@@ -29,6 +32,13 @@ pub data ViewText : Type 0 where
 abbrev pub in_form : Option NumberForm → (NumberForm → List ℕ) → ViewText
 in_form None text = has_no_text
 in_form (Some form) text = has_text (text form)
+
+-- a decimal's text in the form that the trait writes, if it writes decimals, after its sign and
+-- padded
+abbrev pub padded_decimal : Spec → (negative : Bool) → Option (List ℕ) → ViewText
+padded_decimal spec negative None = has_no_text
+padded_decimal spec negative (Some body) =
+    has_text (padded_number spec (sign_text negative spec.sign) body)
 
 -- the text of a truth value
 abbrev pub truth_text : Bool → List ℕ
@@ -50,6 +60,9 @@ view_text (unsigned_number n) t spec =
     in_form (number_form t spec.hex_debug) (λ form. number_text form spec false n)
 view_text (truth_value truth) t spec =
     under t (displayed_text spec (truth_text truth)) (displayed_text spec (truth_text truth))
+view_text (decimal_number units scale) t spec =
+    padded_decimal spec (is_negative units)
+    (decimal_body t spec.precision scale (distance_from_zero units))
 view_text (one_character c) t spec =
     under t (displayed_text spec (c ∷ [])) (quotation single_quote (c ∷ []))
 view_text (some_text text) t spec =

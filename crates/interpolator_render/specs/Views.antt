@@ -7,7 +7,7 @@ use Rattle.interpolator_render.specs.declared.view.Bits.{Bits}
 use Rattle.interpolator_render.specs.declared.view.Bits.TheVariants.{B8, B16, B32, B64, B128}
 use Rattle.interpolator_render.specs.declared.view.View.{View}
 use Rattle.interpolator_render.specs.declared.view.View.TheVariants.{Signed, Unsigned, Truth}
-use Rattle.interpolator_render.specs.declared.view.View.TheVariants.{Character, Text, Plain}
+use Rattle.interpolator_render.specs.declared.view.View.TheVariants.{Decimal, Character, Text, Plain}
 use Rattle.interpolator_render.specs.declared.view.View.TheVariants.{NotImplemented, Failed}
 
 -- the width as std's clauses name it
@@ -31,6 +31,7 @@ pub data Shown : Type 0 where
   signed_number : ℤ → Bits → Shown
   unsigned_number : ℕ → Shown
   truth_value : Bool → Shown
+  decimal_number : (units : ℤ) → (scale : ℕ) → Shown
   one_character : ℕ → Shown
   some_text : List ℕ → Shown
   plain_text : List ℕ → Shown
@@ -42,6 +43,7 @@ abbrev pub shown_by : View → Shown
 shown_by (Signed number bits) = signed_number number bits
 shown_by (Unsigned number) = unsigned_number number
 shown_by (Truth truth) = truth_value truth
+shown_by (Decimal units scale) = decimal_number units scale
 shown_by (Character c) = one_character c
 shown_by (Text text) = some_text (chars text.now)
 shown_by (Plain text) = plain_text (chars text.now)
@@ -71,6 +73,7 @@ shown_as_value (Signed number bits) =
     if fits_signed number bits then signed_number number bits else failure
 shown_as_value (Unsigned number) = unsigned_number number
 shown_as_value (Truth truth) = truth_value truth
+shown_as_value (Decimal units scale) = decimal_number units scale
 shown_as_value (Character c) = one_character c
 shown_as_value (Text text) = some_text (chars text.now)
 shown_as_value (Plain text) = plain_text (chars text.now)

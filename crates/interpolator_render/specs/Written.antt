@@ -1,6 +1,7 @@
 -- What is known of a writer, and the outcomes of a call that writes a text.
 use Rattle.std.specs.Prelude.{◌≡◌, ◌⊎◌, ℕ, ◌+◌, ◌<◌, ◌≤◌, ◌-◌, ◌^◌, min, Bool, true, List, []}
-use Rattle.std.specs.Prelude.{◌++◌, length, Option, None, Some}
+use Rattle.std.specs.Prelude.{◌++◌, length, take, Option, None, Some}
+use Rattle.std.specs.Prelude.{IsUtf8}
 use Rattle.std.specs.Prelude.{encode_utf8_all, Result, MatchResult}
 use Rattle.interpolator_render.specs.declared.text_write.Refusal.{Refusal}
 
@@ -9,12 +10,18 @@ pub record Written : Type 0 where
   pub text : List ℕ
   pub refused : Bool
 
--- a buffer over a `String`: what is known of it as of any writer, and how many bytes its `String` can
--- hold without more memory
+-- a buffer: what is known of it as of any writer, and how many bytes it can hold without more memory
 pub record Buffered : Type 0 where
   pub text : List ℕ
   pub refused : Bool
   pub room : ℕ
+
+-- a row of bytes begins with a text of `len` bytes. The places behind it are ready for more of the
+-- text: none is, once a text was refused
+pub record HoldsText (row : List ℕ) (len : ℕ) (refused : Bool) : Type 0 where
+  pub within : len ≤ length row
+  pub utf8 : IsUtf8 (take len row)
+  pub none_ready : refused ≡ true → length row ≡ len
 
 -- a buffer as a writer
 abbrev pub as_writer : Buffered → Written
@@ -68,7 +75,7 @@ pub record Refuses (old : Written) (text : List ℕ) (taken : ℕ) (new : Writte
 abbrev pub RefusesWhole : Written → ℕ → Written → Type 0
 RefusesWhole old taken new = (taken ≡ 0) × (new ≡ record old { refused = true })
 
--- a buffer may refuse a text: it has refused before, or its `String` has no room for so many bytes
+-- a buffer may refuse a text: it has refused before, or it has no room for so many bytes
 abbrev pub MayRefuse : Buffered → ℕ → Type 0
 MayRefuse b count = (b.refused ≡ true) ⊎ (b.room < byte_count b.text + count)
 

@@ -7,7 +7,7 @@ ghost use Rattle.interpolator_render.specs.Written.{Appends, Refuses, RefusesWho
 ghost use Rattle.interpolator_render.specs.Bounds.{bounded_writer, bytes_left};
 ghost use Rattle.interpolator_render.specs.Bounds.{IsWithinBound, RefusesFor};
 
-use crate::text_buffer::{append, append_char, make_room};
+use crate::appends::{append, append_char, make_room};
 use crate::text_write::{Refusal, TextWrite};
 use std::alloc::Global;
 use std::marker::Model;

@@ -17,7 +17,7 @@ use crate::scientific::{Shown, shown_of};
 use crate::text_write::{Refusal, TextWrite};
 use crate::view::Spec;
 
-fn mark(upper: bool) -> u8
+pub(crate) fn mark(upper: bool) -> u8
     ensures value { result ≡ mark upper }
     ensures ascii { result < 128 }
 {
@@ -27,7 +27,7 @@ fn mark(upper: bool) -> u8
 /// Writes the exponent after its mark.
 #[tactic(auto, using(crate::proofs::ExponentRowLemmas::tail_steps))]
 #[inline(always)]
-fn put_tail(buffer: &mut DigitBuffer, upper: bool, exponent: usize)
+pub(crate) fn put_tail(buffer: &mut DigitBuffer, upper: bool, exponent: usize)
     requires small { exponent ≤ 39 }
     requires room { 3 ≤ buffer.old.before }
     ensures { buffer.new ≡ put_before (exponent_tail upper exponent) buffer.old }
@@ -40,7 +40,7 @@ fn put_tail(buffer: &mut DigitBuffer, upper: bool, exponent: usize)
 /// follow. It does not write the zeros.
 #[tactic(auto, using(crate::proofs::ExponentRowLemmas::leading_counts))]
 #[inline(always)]
-fn put_leading(buffer: &mut DigitBuffer, digits: u128, zeros: usize)
+pub(crate) fn put_leading(buffer: &mut DigitBuffer, digits: u128, zeros: usize)
     requires { 40 ≤ buffer.old.before }
     ensures { buffer.new
         ≡ put_before (leading (digit_text 10 false digits) (replicate zeros zero_digit)) buffer.old }

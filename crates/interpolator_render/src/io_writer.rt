@@ -10,8 +10,8 @@ ghost use Rattle.interpolator_render.specs.IoWriters.{FailsBelow, Gets, GotPrefi
 ghost use Rattle.interpolator_render.specs.IoWriters.{io_written, IoRefusesFor, KeepsPrefix};
 ghost use Rattle.interpolator_render.specs.Written.{Appends, Refuses, RefusesWhole};
 
+use crate::appends::{append, append_char};
 use crate::ghost_log::GhostLog;
-use crate::text_buffer::{append, append_char};
 use crate::text_write::{Refusal, TextWrite};
 use std::alloc::Global;
 use std::io;

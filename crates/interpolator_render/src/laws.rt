@@ -2,12 +2,15 @@
 //! values. The contract of each function is the law. Most bodies are empty; the others compare,
 //! make or clone values.
 ghost use Rattle.std.specs.Prelude.{◌≡◌, ◌+◌, ◌-◌, ◌*◌, ◌^◌, ◌<◌, ◌≤◌, ◌≢◌, ◌↔◌, ◌++◌, ◌+ℤ◌};
-ghost use Rattle.std.specs.Prelude.{◌*ℤ◌, max, ℕ, ℤ, pos, Bool, List, Some, None, IsTrue, false};
+ghost use Rattle.std.specs.Prelude.{◌*ℤ◌, max, ℕ, ℤ, pos, Bool, List, Option, Some, None, IsTrue, false};
 ghost use Rattle.std.specs.Prelude.{length, replicate, slice_index, unwrap_or};
 ghost use Rattle.std.specs.Str.Parse.{digits_value};
 ghost use Rattle.interpolator_render.specs.Characters.{zero_digit};
+ghost use Rattle.interpolator_render.specs.Decimals.{SpellsUnits, decimal_text, units_at};
+ghost use Rattle.interpolator_render.specs.Decimals.{decimal_exponent_text};
 ghost use Rattle.interpolator_render.specs.Digits.{digit_text};
-ghost use Rattle.interpolator_render.specs.Exponent.{exponent_of, nearest, scientific, significant_digits};
+ghost use Rattle.interpolator_render.specs.Exponent.{exponent_of, exponent_text, nearest, scientific};
+ghost use Rattle.interpolator_render.specs.Exponent.{significant_digits};
 ghost use Rattle.interpolator_render.specs.Exponent.{IsNearest};
 ghost use Rattle.interpolator_render.specs.Numbers.{twos_complement};
 ghost use Rattle.interpolator_render.specs.Padding.{padded_number, padded_text, displayed_text};
@@ -74,6 +77,36 @@ pub fn precise_digits()
         × (digits_value 10 (scientific (Some places) n).digits
         * 10 ^ ((scientific (Some places) n).exponent - places)
         ≡ nearest n (10 ^ (exponent_of n - places)) * 10 ^ (exponent_of n - places)) }
+{}
+
+/// The text of a decimal is read back. Without precision its digits spell the units, and as many of
+/// them as the scale says are after the point. With a precision exactly that many are, and they
+/// spell the units of the last of them.
+///
+/// So `0.05` spells 5 units at the scale 2.
+#[tactic(auto, using(crate::proofs::DecimalLawLemmas::decimal_laws))]
+pub fn decimals_read_back()
+    ensures plain { (scale units : ℕ) → SpellsUnits scale units (decimal_text None scale units) }
+    ensures precise { (places scale units : ℕ)
+        → SpellsUnits places (units_at places scale units) (decimal_text (Some places) scale units) }
+{}
+
+/// A precision below the scale gives the nearest count of units of its last digit, the even one on
+/// a tie. Any other precision gives the decimal itself, with zeros after it.
+#[tactic(auto, using(crate::proofs::DecimalLawLemmas::decimal_laws))]
+pub fn decimals_are_rounded_to_nearest()
+    ensures rounded { (places scale units : ℕ) → places < scale
+        → IsNearest units (10 ^ (scale - places)) (units_at places scale units) }
+    ensures exact { (places scale units : ℕ) → scale ≤ places
+        → units_at places scale units ≡ units * 10 ^ (places - scale) }
+{}
+
+/// At the scale 0 a decimal has the text of the whole number, in exponent form too.
+#[tactic(auto, using(crate::proofs::DecimalLawLemmas::whole_laws))]
+pub fn decimals_without_scale_are_whole()
+    ensures plain { (n : ℕ) → decimal_text None 0 n ≡ digit_text 10 false n }
+    ensures exponent { (upper : Bool) (precision : Option ℕ) (n : ℕ)
+        → decimal_exponent_text upper precision 0 n ≡ exponent_text upper precision n }
 {}
 
 /// A quoted text is read back as the text: its escapes are undone up to the first quote that is not

@@ -19,6 +19,7 @@ pub(crate) enum Part<'a> {
 
 /// Writes one character.
 #[tactic(auto, using(crate::proofs::LayoutLemmas::one_write))]
+#[inline(always)]
 pub(crate) fn put_char<W: TextWrite>(out: &mut W, c: char) -> Result<(), Refusal>
     ensures { Puts (W.written out.old) (c ∷ []) result (W.written out.new) }
 {
@@ -39,6 +40,7 @@ pub(crate) fn put_text<W: TextWrite>(out: &mut W, text: &str) -> Result<(), Refu
 
 /// Writes an ASCII text, whose bytes are its characters, by one call.
 #[tactic(auto, using(crate::proofs::LayoutLemmas::one_write))]
+#[inline(always)]
 pub(crate) fn put_ascii<W: TextWrite>(out: &mut W, text: &str) -> Result<(), Refusal>
     requires { IsAscii text.now }
     ensures { Puts (W.written out.old) text.now result (W.written out.new) }

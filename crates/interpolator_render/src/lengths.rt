@@ -1,6 +1,7 @@
 //! How many characters the text of a view has at most.
 ghost use Rattle.std.specs.Prelude.{◌≡◌, ◌≤◌};
 ghost use Rattle.interpolator_render.specs.Lengths.{most_digits, most_front, most_body, most_number};
+ghost use Rattle.interpolator_render.specs.Lengths.{most_decimal, most_plain, most_scaled};
 ghost use Rattle.interpolator_render.specs.Lengths.{most_text, most_written, usize_count};
 ghost use Rattle.interpolator_render.specs.Numbers.{prefix_of, sign_text};
 ghost use Rattle.std.specs.Prelude.{false, length, [], if◌then◌else◌};
@@ -74,6 +75,40 @@ fn most_number(form: Option<NumberForm>, spec: &Spec) -> usize
     }
 }
 
+/// A decimal with this many digits after the point; 0 without precision, as its text is then one
+/// that the caller counts.
+fn most_plain(precision: Option<usize>) -> usize
+    ensures { result ≡ usize_count (most_plain precision) }
+{
+    match precision {
+        None => 0,
+        Some(places) => places.saturating_add(41),
+    }
+}
+
+/// A decimal in exponent form, with an exponent of ten digits and its sign.
+fn most_scaled(precision: Option<usize>) -> usize
+    ensures { result ≡ usize_count (most_scaled precision) }
+{
+    match precision {
+        None => 53,
+        Some(places) => places.saturating_add(15),
+    }
+}
+
+/// A decimal under a trait.
+fn most_decimal(wanted: Trait, precision: Option<usize>) -> usize
+    ensures { result ≡ usize_count (most_decimal wanted precision) }
+{
+    match wanted {
+        Trait::Display => most_plain(precision),
+        Trait::Debug => most_plain(precision),
+        Trait::LowerExp => most_scaled(precision),
+        Trait::UpperExp => most_scaled(precision),
+        _ => 0,
+    }
+}
+
 /// A text of at most this many characters.
 fn most_text(wanted: Trait, most: usize) -> usize
     ensures { result ≡ usize_count (most_text wanted most) }
@@ -85,7 +120,7 @@ fn most_text(wanted: Trait, most: usize) -> usize
 }
 
 /// The most characters that [`render`](crate::render) writes under a trait and a spec of any view
-/// whose text has at most `most` characters. The greatest `usize` means that many or more. The call
+/// whose text has at most `most` characters, a decimal's with its sign. The greatest `usize` means that many or more. The call
 /// takes no memory.
 ///
 /// # Example
@@ -101,5 +136,6 @@ pub fn most_written(wanted: Trait, spec: &Spec, most: usize) -> usize
     spec.width
         .unwrap_or(0)
         .max(number)
+        .max(most_decimal(wanted, spec.precision))
         .max(most_text(wanted, most))
 }

@@ -4,7 +4,7 @@
 //! [`Trait`] says in which way (display, debug, a base, an exponent form), and a [`Spec`] with which
 //! flags, to which width and at which precision, as the text after the colon of a format string
 //! does in Rust. [`render`] appends the text of a view to a writer, and [`pad`] a text as display
-//! shows it. A writer is any type with [`TextWrite`]: [`TextBuffer`] writes to a `String`,
+//! shows it. A writer is any type with [`TextWrite`]: [`TextBuffer`] writes to a text that it holds,
 //! [`Bounded`] to a `String` with a limit on its bytes, and [`IoWriter`] to any `std::io::Write`. A
 //! type of your own can be written once it implements [`Value`], which says what it shows.
 //!
@@ -20,10 +20,15 @@
 //! `IoWriter` take memory here, each from the allocator that it was made with.
 #![tactic(auto)]
 
+mod appends;
 mod bounded;
 mod characters;
 mod conversions;
 mod copies;
+mod decimal;
+mod decimal_digits;
+mod decimal_exponent;
+mod decimal_parts;
 mod digit_buffer;
 mod digit_tables;
 mod digits;
@@ -37,6 +42,7 @@ mod number;
 mod number_form;
 mod number_parts;
 mod number_row;
+mod places;
 mod quoting;
 mod rendering;
 mod scientific;

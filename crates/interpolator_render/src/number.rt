@@ -103,21 +103,46 @@ fn put_digits<W: TextWrite>(
     }
 }
 
-/// Writes the digits of a number in base ten, and nothing around them.
+/// The digits of a number that has three.
+#[inline(always)]
+fn three_digits(n: u64) -> [u8; 3]
+    requires least { 100 ≤ n }
+    requires most { n < 1000 }
+    ensures { result ≡ digit_text 10 false n }
+{
+    let (tens, ones) = pair_digits(n % 100);
+    [b'0' + (n / 100) as u8, tens, ones]
+}
+
+/// Writes the digits of a number that has more than one.
 #[inline(never)]
+fn put_several<W: TextWrite>(out: &mut W, n: u64) -> Result<(), Refusal>
+    requires { 10 ≤ n }
+    ensures { Puts (W.written out.old) (digit_text 10 false n) result (W.written out.new) }
+{
+    if n < 100 {
+        let (tens, ones) = pair_digits(n);
+        return put_ascii(out, ascii_str(&[tens, ones]));
+    }
+    if n < 1000 {
+        let digits = three_digits(n);
+        return put_ascii(out, ascii_str(&digits));
+    }
+    let mut buffer = DigitBuffer::new(b' ');
+    buffer.put_decimal(n as u128);
+    put_ascii(out, buffer.as_str())
+}
+
+/// Writes the digits of a number in base ten, and nothing around them. A single digit takes no
+/// call.
+#[inline(always)]
 fn put_bare<W: TextWrite>(out: &mut W, n: u64) -> Result<(), Refusal>
     ensures { Puts (W.written out.old) (digit_text 10 false n) result (W.written out.new) }
 {
     if n < 10 {
         return put_char(out, (b'0' + n as u8) as char);
     }
-    if n < 100 {
-        let (tens, ones) = pair_digits(n);
-        return put_ascii(out, ascii_str(&[tens, ones]));
-    }
-    let mut buffer = DigitBuffer::new(b' ');
-    buffer.put_decimal(n as u128);
-    put_ascii(out, buffer.as_str())
+    put_several(out, n)
 }
 
 /// Writes a minus and the digits of a number in base ten, and nothing around them.

@@ -24,10 +24,10 @@ pub(crate) struct NumberParts<'t> {
 
 /// The zeros that pad a number, and the copies of the fill on both sides.
 #[derive(Clone, Copy)]
-struct NumberLayout {
-    before: usize,
-    zeros: usize,
-    after: usize,
+pub(crate) struct NumberLayout {
+    pub(crate) before: usize,
+    pub(crate) zeros: usize,
+    pub(crate) after: usize,
 }
 
 pub(crate) fn sign_str(negative: bool, sign: Sign) -> &'static str
@@ -45,7 +45,7 @@ pub(crate) fn sign_str(negative: bool, sign: Sign) -> &'static str
 }
 
 /// How a number of `count` characters is padded.
-fn number_layout(spec: &Spec, count: usize) -> NumberLayout
+pub(crate) fn number_layout(spec: &Spec, count: usize) -> NumberLayout
     ensures { IsNumberLayout spec.now count result.before result.zeros result.after }
 {
     let missing = spec.width.unwrap_or(0).saturating_sub(count);

@@ -4,14 +4,17 @@ ghost use Rattle.std.specs.Str.{chars};
 ghost use Rattle.interpolator_render.specs.Characters.{single_quote};
 ghost use Rattle.interpolator_render.specs.Padding.{displayed_text};
 ghost use Rattle.interpolator_render.specs.Quoting.{quotation};
-ghost use Rattle.interpolator_render.specs.Texts.{under, truth_text, view_text};
+ghost use Rattle.interpolator_render.specs.Decimals.{decimal_body};
+ghost use Rattle.interpolator_render.specs.Texts.{padded_decimal, under, truth_text, view_text};
 ghost use Rattle.interpolator_render.specs.Texts.{render_answer, Renders};
-ghost use Rattle.interpolator_render.specs.Numbers.{number_form};
+ghost use Rattle.interpolator_render.specs.Numbers.{distance_from_zero, is_negative, number_form};
 ghost use Rattle.interpolator_render.specs.Views.{IsInRange, shown_by};
 ghost use Rattle.interpolator_render.specs.Written.{Puts};
 
 use crate::characters::cut;
 use crate::copies::{put_between, put_between_spaces};
+use crate::decimal::put_decimal;
+use crate::decimal_exponent::put_decimal_exponent;
 use crate::layout::{fill_before, put_text};
 use crate::number::{put_integer, put_natural, put_number};
 use crate::number_form::{NumberForm, number_form, sign_and_magnitude};
@@ -141,6 +144,27 @@ fn render_truth<W: TextWrite>(
     }
 }
 
+/// Writes a decimal, under debug as under display.
+#[inline(never)]
+fn render_decimal<W: TextWrite>(
+    out: &mut W,
+    wanted: Trait,
+    spec: &Spec,
+    units: i128,
+    scale: u32,
+) -> Result<(), RenderFault>
+    ensures { Renders (padded_decimal spec.now (is_negative units)
+        (decimal_body wanted spec.now.precision scale (distance_from_zero units)))
+        (W.written out.old) result (W.written out.new) }
+{
+    match wanted {
+        Trait::Display | Trait::Debug => refused(put_decimal(out, spec, units, scale)),
+        Trait::LowerExp => refused(put_decimal_exponent(out, false, spec, units, scale)),
+        Trait::UpperExp => refused(put_decimal_exponent(out, true, spec, units, scale)),
+        _ => Err(RenderFault::NotImplemented),
+    }
+}
+
 /// Writes the text of a view under a trait and a spec.
 ///
 /// After `Ok`, exactly this text was appended. A signed number has to lie in the range of its
@@ -212,6 +236,7 @@ fn render_any<W: TextWrite>(
             Some(form) => refused(put_number(out, form, spec, false, number)),
         },
         View::Truth(truth) => render_truth(out, wanted, truth, spec),
+        View::Decimal { units, scale } => render_decimal(out, wanted, spec, units, scale),
         View::Character(c) => render_character(out, wanted, c, spec),
         View::Text(text) => render_text(out, wanted, '"', text, spec),
         View::Plain(text) => refused(put_text(out, text)),

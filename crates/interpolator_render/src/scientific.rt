@@ -61,7 +61,7 @@ pub(crate) struct Shown {
 }
 
 #[tactic(auto, using(crate::proofs::ScientificLemmas::power_at))]
-fn power(exponent: usize) -> u128
+pub(crate) fn power(exponent: usize) -> u128
     requires { exponent ≤ 38 }
     ensures { result ≡ 10 ^ exponent }
 {
@@ -71,7 +71,7 @@ fn power(exponent: usize) -> u128
 /// Quotient and remainder.
 ///
 /// Numbers that fit 64 bits are divided as `u64`, which costs a fraction of a division of `u128`.
-fn divided(n: u128, unit: u128) -> (u128, u128)
+pub(crate) fn divided(n: u128, unit: u128) -> (u128, u128)
     requires { 0 < unit }
     ensures quotient { result.0 ≡ n / unit }
     ensures remainder { result.1 ≡ n % unit }
@@ -99,7 +99,7 @@ fn exponent_of(n: u128) -> usize
 }
 
 /// The whole number nearest to `n / unit`, the even one on a tie.
-fn nearest(n: u128, unit: u128) -> u128
+pub(crate) fn nearest(n: u128, unit: u128) -> u128
     requires { 2 ≤ unit }
     ensures { result ≡ nearest n unit }
 {

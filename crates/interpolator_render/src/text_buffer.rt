@@ -1,20 +1,22 @@
-//! A writer over a `String`.
-ghost use Rattle.std.specs.Prelude.{◌≡◌, ◌+◌, ◌<◌, ◌≤◌, ◌++◌, ◌∷◌, [], ◌⊎◌, true, false, length};
+//! A writer that keeps its text in memory.
+ghost use Rattle.std.specs.Prelude.{◌≡◌, ◌+◌, ◌<◌, ◌≤◌, ◌∷◌, [], false, length};
 ghost use Rattle.std.specs.Prelude.{encode_utf8, string_bytes, string_capacity};
 ghost use Rattle.std.specs.Prelude.{MatchResult, OnOk, OnErr, None};
 ghost use Rattle.std.specs.Str.{chars};
 ghost use Rattle.interpolator_render.specs.Written.{Appends, Refuses, RefusesWhole};
 ghost use Rattle.interpolator_render.specs.Written.{as_writer, byte_count, MayRefuse};
 
+use crate::places::{make_ready, put_at};
 use crate::text_write::{Refusal, TextWrite};
 use std::alloc::Global;
+use std::fmt;
 use std::marker::Model;
 
-/// A writer over a `String`.
+/// A writer that keeps its text in memory.
 ///
 /// It refuses a text for which there is no memory, whole, and from then on every text but the
 /// empty one, until [`TextBuffer::clear`] or [`TextBuffer::forget_refusal`]. Otherwise it never
-/// refuses a text that its `String` has room for. After a `reserve` that returns `Ok`, it has room
+/// refuses a text that it has room for. After a `reserve` that returns `Ok`, it has room
 /// for the bytes reserved.
 ///
 /// ```text
@@ -22,24 +24,38 @@ use std::marker::Model;
 /// pad(&mut out, "left", &Spec { width: Some(6), ..Spec::default() })?;
 /// out.as_str()   // "left  "
 /// ```
-#[derive(Debug, Drop)]
+#[derive(Drop)]
 pub struct TextBuffer {
-    text: String,
+    /// The text, and behind it places that are ready for more, whatever they hold.
+    bytes: Vec<u8>,
+    /// How many bytes the text has.
+    len: usize,
     refused: bool,
 }
 
 impl Model for TextBuffer {
-    ghost use Rattle.std.specs.Prelude.{string_bytes, string_capacity};
+    ghost use Rattle.std.specs.Prelude.{take, vec_capacity};
     ghost use Rattle.std.specs.Str.{chars};
-    ghost use Rattle.interpolator_render.specs.Written.{Buffered};
+    ghost use Rattle.interpolator_render.specs.Written.{Buffered, HoldsText};
 
     ghost Value = { Buffered };
 
     ghost view = { λ buffer. record {
-      text = chars (string_bytes buffer.text);
+      text = chars (take buffer.len buffer.bytes.items);
       refused = buffer.refused;
-      room = string_capacity buffer.text;
+      room = vec_capacity buffer.bytes;
     } };
+
+    ghost invariant = { λ buffer. HoldsText buffer.bytes.items buffer.len buffer.refused };
+}
+
+impl fmt::Debug for TextBuffer {
+    fn fmt<W: fmt::Write>(&self, f: &mut fmt::Formatter<W>) -> fmt::Result {
+        f.debug_struct("TextBuffer")
+            .field("text", &self.as_str())
+            .field("refused", &self.refused)
+            .finish()
+    }
 }
 
 impl TextBuffer {
@@ -49,7 +65,8 @@ impl TextBuffer {
         ensures { as_writer result ≡ record { text = []; refused = false } }
     {
         TextBuffer {
-            text: String::new(alloc),
+            bytes: Vec::new(alloc),
+            len: 0,
             refused: false,
         }
     }
@@ -62,23 +79,32 @@ impl TextBuffer {
           room = string_capacity text;
         } }
     {
-        let refused = false;
-        TextBuffer { text, refused }
+        let bytes = text.into_bytes();
+        TextBuffer {
+            len: bytes.len(),
+            bytes,
+            refused: false,
+        }
     }
 
     /// The text so far.
     pub fn as_str(&self) -> &str
         ensures { chars result.now ≡ self.now.text }
     {
-        self.text.as_str()
+        unsafe { str::from_utf8_unchecked(&self.bytes[..self.len]) }
     }
 
     /// The text so far, as a `String`.
     pub fn into_string(self) -> String
         ensures { chars (string_bytes result) ≡ self.text }
     {
-        let TextBuffer { text, refused: _ } = self;
-        text
+        let TextBuffer {
+            mut bytes,
+            len,
+            refused: _,
+        } = self;
+        bytes.truncate(len);
+        unsafe { String::from_utf8_unchecked(bytes) }
     }
 
     /// Empties the buffer, and clears the flag that a refusal has set. Its capacity stays: a
@@ -95,8 +121,8 @@ impl TextBuffer {
     pub fn clear(&mut self)
         ensures { self.new ≡ record { text = []; refused = false; room = self.old.room } }
     {
-        self.text.clear();
         self.forget_refusal();
+        self.len = 0;
     }
 
     /// Clears the flag that a refusal has set, and changes nothing else.
@@ -107,69 +133,35 @@ impl TextBuffer {
     }
 }
 
-/// Appends a text to a buffer's text, or sets the flag and changes nothing else.
-#[inline(always)]
-pub(crate) fn append(held: &mut String, refused: &mut bool, text: &str) -> Result<(), Refusal>
-    ensures ok { OnOk result ((string_bytes held.new ≡ string_bytes held.old ++ text.now)
-        × (refused.old ≡ false) × (refused.new ≡ false)) }
-    ensures err { OnErr result ((string_bytes held.new ≡ string_bytes held.old)
-        × (refused.new ≡ true)) }
-    ensures taken { MatchResult result (λ _. Unit {0}) (λ refusal. refusal.taken ≡ 0) }
-    ensures full { OnErr result ((refused.old ≡ true)
-        ⊎ (string_capacity held.old < length (string_bytes held.old) + length text.now)) }
-    ensures room { string_capacity held.old ≤ string_capacity held.new }
-{
-    if *refused {
-        return Err(Refusal { taken: 0 });
-    }
-    match held.push_str(text) {
-        Ok(()) => Ok(()),
-        Err(_) => {
-            *refused = true;
-            Err(Refusal { taken: 0 })
+impl TextBuffer {
+    /// Appends a text for which no places are ready, or sets the flag and changes nothing else.
+    #[cold]
+    #[inline(never)]
+    fn append_slowly(&mut self, text: &str) -> Result<(), Refusal>
+        requires { 0 < length text.now }
+        ensures written { MatchResult result
+            (λ _. Appends (as_writer self.old) (chars text.now) (as_writer self.new))
+            (λ refusal. Refuses (as_writer self.old) (chars text.now) refusal.taken
+            (as_writer self.new)) }
+        ensures whole { MatchResult result (λ _. Unit {0})
+            (λ refusal. RefusesWhole (as_writer self.old) refusal.taken (as_writer self.new)) }
+        ensures full { OnErr result (MayRefuse self.old (length text.now)) }
+        ensures room { self.old.room ≤ self.new.room }
+    {
+        self.bytes.truncate(self.len);
+        if self.refused {
+            return Err(Refusal { taken: 0 });
         }
-    }
-}
-
-/// Appends a character to a buffer's text, or sets the flag and changes nothing else.
-pub(crate) fn append_char(held: &mut String, refused: &mut bool, c: char) -> Result<(), Refusal>
-    ensures ok { OnOk result ((string_bytes held.new ≡ string_bytes held.old ++ encode_utf8 c)
-        × (refused.old ≡ false) × (refused.new ≡ false)) }
-    ensures err { OnErr result ((string_bytes held.new ≡ string_bytes held.old)
-        × (refused.new ≡ true)) }
-    ensures taken { MatchResult result (λ _. Unit {0}) (λ refusal. refusal.taken ≡ 0) }
-    ensures full { OnErr result ((refused.old ≡ true)
-        ⊎ (string_capacity held.old < length (string_bytes held.old) + length (encode_utf8 c))) }
-    ensures room { string_capacity held.old ≤ string_capacity held.new }
-{
-    if *refused {
-        return Err(Refusal { taken: 0 });
-    }
-    match held.push(c) {
-        Ok(()) => Ok(()),
-        Err(_) => {
-            *refused = true;
-            Err(Refusal { taken: 0 })
-        }
-    }
-}
-
-/// Makes room in a buffer for this many more bytes, or sets the flag and changes nothing else.
-pub(crate) fn make_room(held: &mut String, refused: &mut bool, bytes: usize) -> Result<(), Refusal>
-    ensures same { string_bytes held.new ≡ string_bytes held.old }
-    ensures ok { OnOk result ((refused.new ≡ refused.old)
-        × (length (string_bytes held.new) + bytes ≤ string_capacity held.new)) }
-    ensures err { OnErr result (refused.new ≡ true) }
-    ensures taken { MatchResult result (λ _. Unit {0}) (λ refusal. refusal.taken ≡ 0) }
-    ensures full { OnErr result
-        (string_capacity held.old < length (string_bytes held.old) + bytes) }
-    ensures room { string_capacity held.old ≤ string_capacity held.new }
-{
-    match held.reserve(bytes) {
-        Ok(()) => Ok(()),
-        Err(_) => {
-            *refused = true;
-            Err(Refusal { taken: 0 })
+        match self.bytes.extend_from_slice(text.as_bytes()) {
+            Ok(()) => {
+                self.len = self.bytes.len();
+                make_ready(&mut self.bytes);
+                Ok(())
+            }
+            Err(_) => {
+                self.refused = true;
+                Err(Refusal { taken: 0 })
+            }
         }
     }
 }
@@ -188,10 +180,13 @@ impl TextWrite for TextBuffer {
         ensures full { OnErr result (MayRefuse self.old (length text.now)) }
         ensures room { self.old.room ≤ self.new.room }
     {
-        if text.is_empty() {
+        let count = text.len();
+        if count <= self.bytes.len() - self.len {
+            put_at(&mut self.bytes, self.len, text.as_bytes());
+            self.len += count;
             return Ok(());
         }
-        append(&mut self.text, &mut self.refused, text)
+        self.append_slowly(text)
     }
 
     fn write_char(&mut self, c: char) -> Result<(), Refusal>
@@ -204,7 +199,13 @@ impl TextWrite for TextBuffer {
         ensures full { OnErr result (MayRefuse self.old (length (encode_utf8 c))) }
         ensures room { self.old.room ≤ self.new.room }
     {
-        append_char(&mut self.text, &mut self.refused, c)
+        if c.is_ascii() && self.len < self.bytes.len() {
+            self.bytes[self.len] = c as u8;
+            self.len += 1;
+            return Ok(());
+        }
+        let mut buffer = [0; 4];
+        self.write_str(c.encode_utf8(&mut buffer))
     }
 
     fn refused(&self) -> bool {
@@ -224,6 +225,16 @@ impl TextWrite for TextBuffer {
         ensures full { OnErr result (self.old.room < byte_count self.old.text + bytes) }
         ensures room { self.old.room ≤ self.new.room }
     {
-        make_room(&mut self.text, &mut self.refused, bytes)
+        if bytes <= self.bytes.capacity() - self.len {
+            return Ok(());
+        }
+        self.bytes.truncate(self.len);
+        match self.bytes.reserve(bytes) {
+            Ok(()) => Ok(()),
+            Err(_) => {
+                self.refused = true;
+                Err(Refusal { taken: 0 })
+            }
+        }
     }
 }

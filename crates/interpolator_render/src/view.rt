@@ -120,6 +120,13 @@ pub enum View<'a> {
     Unsigned(u128),
     /// A truth value.
     Truth(bool),
+    /// A decimal: this many units of 10 ^ -scale. 12.50 is 1250 units at the scale 2.
+    Decimal {
+        /// How many units.
+        units: i128,
+        /// How many digits of them are after the point.
+        scale: u32,
+    },
     /// One character.
     Character(char),
     /// A text.

@@ -1,21 +1,30 @@
-use Rattle.std.proofs.Common.{ap, length, refl, string_bytes, rules}
-use Rattle.std.proofs.lemmas.Str.{IsUtf8-string_bytes}
+use Rattle.std.proofs.Common.{◌≡◌, ◌+◌, ◌-◌, ◌≤◌, ap, arith, length, take}
 use Rattle.interpolator_render.specs.Written.{as_writer}
-use Rattle.interpolator_render.proofs.WrittenLemmas.{may_refuse, appends_nothing, buffer_writes}
-use Rattle.interpolator_render.proofs.WrittenLemmas.{chars_nonempty}
+use Rattle.interpolator_render.proofs.PlaceLemmas.{wrote_front, wrote_text, none_fits}
+use Rattle.interpolator_render.proofs.PlaceLemmas.{appends_bytes}
 use Rattle.interpolator_render.proofs.text_buffer.TextBufferTextWrite.write_str.Goals as goal
 
-pub returns-then-is_empty-clause-written : goal.returns-then-is_empty-clause-written
-returns-then-is_empty-clause-written c = appends_nothing _ _ (search rules)
+pub invariant_of-self : goal.invariant_of-self
+invariant_of-self c =
+    let row = c.self.inside.bytes in
+    let long : row.len ≡ length row.items = row.ok.0 in
+    let count : c.len.result ≡ row.len = c.len.ensures in
+    let few : length c.args.text.now ≤ c.len.result - c.self.inside.len = c.if-count-len.true in
+    wrote_text row.items c.put_at.new.row.items c.as_bytes.result.now c.args.text.now
+    c.self.inside.len c.self.inside.refused c.self.invariant c.utf8.text c.as_bytes.ensures.value
+    (omega arith) c.put_at.ensures.items
 
-pub returns-clause-written : goal.returns-clause-written
-returns-clause-written c = let put = c.append in
-    buffer_writes _ (string_bytes c.self.inside.text) _ c.args.text.now _ c.self.inside.refused _
-    put.result (IsUtf8-string_bytes c.self.inside.text) (ap as_writer c.self.view_is) refl
-    (chars_nonempty c.args.text.now c.utf8.text (search rules)) put.ensures.ok put.ensures.err
-    put.ensures.taken
-
-pub returns-clause-full : goal.returns-clause-full
-returns-clause-full c = let put = c.append in
-    may_refuse _ (string_bytes c.self.inside.text) _ (length c.args.text.now) c.self.inside.refused
-    put.result (IsUtf8-string_bytes c.self.inside.text) c.self.view_is put.ensures.full
+pub returns-then-count-len-clause-written : goal.returns-then-count-len-clause-written
+returns-then-count-len-clause-written c =
+    let row = c.self.inside.bytes in
+    let len = c.self.inside.len in
+    let long : row.len ≡ length row.items = row.ok.0 in
+    let count : c.len.result ≡ row.len = c.len.ensures in
+    let few : length c.args.text.now ≤ c.len.result - len = c.if-count-len.true in
+    let front = wrote_front row.items c.put_at.new.row.items c.as_bytes.result.now
+    c.args.text.now len c.self.invariant.within c.as_bytes.ensures.value
+    c.put_at.ensures.items in
+    appends_bytes (as_writer c.args.self.now) (take len row.items) c.args.text.now
+    (take (len + length c.args.text.now) c.put_at.new.row.items) c.self.inside.refused
+    c.self.invariant.utf8 (ap as_writer c.self.view_is) front
+    (none_fits row.items c.args.text.now len c.self.inside.refused c.self.invariant (omega arith))

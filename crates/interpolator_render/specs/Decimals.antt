@@ -1,0 +1,87 @@
+-- Decimals, which are units of a power of ten below 1: how they are rounded, and their text.
+use Rattle.std.specs.Prelude.{◌≡◌, ◌<◌, length, ℕ, ◌-◌, ◌*◌, ◌/◌, ◌%◌, ◌^◌, Bool, false, List, [], ◌∷◌, ◌++◌}
+use Rattle.std.specs.Prelude.{replicate, true, Option, Some, None, unwrap_or, if◌then◌else◌, ◌==◌, nat_lt, codes}
+use Rattle.std.specs.Str.Parse.{digits_value}
+use Rattle.interpolator_render.specs.declared.view.Trait.{Trait}
+use Rattle.interpolator_render.specs.declared.view.Trait.TheVariants.{Debug, Display, LowerExp}
+use Rattle.interpolator_render.specs.declared.view.Trait.TheVariants.{UpperExp}
+use Rattle.interpolator_render.specs.Characters.{point, zero_digit}
+use Rattle.interpolator_render.specs.Digits.{digit_text}
+use Rattle.interpolator_render.specs.Exponent.{exponent_tail, mark, nearest, scientific}
+use Rattle.interpolator_render.specs.Exponent.{with_point, with_zeros}
+
+-- a number below 10 ^ places by exactly `places` digits
+abbrev pub placed : (places part : ℕ) → List ℕ
+placed places part = if places == 0 then [] else with_zeros places (digit_text 10 false part)
+
+-- the digits after a point, and before them the point if there are any
+abbrev pub after_point : List ℕ → List ℕ
+after_point [] = []
+after_point (first ∷ more) = point ∷ first ∷ more
+
+-- the text of a count of units of 10 ^ -places: the digits before the point, at least one, and
+-- exactly `places` digits after it
+abbrev pub units_text : (places count : ℕ) → List ℕ
+units_text places count =
+    digit_text 10 false (count / 10 ^ places) ++ after_point (placed places (count % 10 ^ places))
+
+-- units of 10 ^ -scale as units of 10 ^ -places, which are the last digits that are shown: rounded
+-- half to even if they are fewer
+abbrev pub units_at : (places scale units : ℕ) → ℕ
+units_at places scale units =
+    if nat_lt places scale then nearest units (10 ^ (scale - places))
+    else units * 10 ^ (places - scale)
+
+-- the text of units of 10 ^ -scale, without a sign: with as many digits after the point as the
+-- precision says, or as the scale says without one
+unfoldable pub decimal_text : (precision : Option ℕ) → (scale units : ℕ) → List ℕ
+decimal_text precision scale units =
+    units_text (unwrap_or precision scale) (units_at (unwrap_or precision scale) scale units)
+
+-- the exponent of the first digit after its mark: less the scale, and so perhaps below zero
+abbrev pub scaled_tail : (upper : Bool) → (exponent scale : ℕ) → List ℕ
+scaled_tail upper exponent scale =
+    if nat_lt exponent scale
+    then mark upper ∷ (codes "-" ++ digit_text 10 false (scale - exponent))
+    else exponent_tail upper (exponent - scale)
+
+-- zero has the exponent 0 at every scale
+abbrev pub scale_of : (scale units : ℕ) → ℕ
+scale_of scale units = if units == 0 then 0 else scale
+
+-- exponent form of units of 10 ^ -scale: the digits are those of the units
+unfoldable pub decimal_exponent_text : Bool → (precision : Option ℕ) → (scale units : ℕ) → List ℕ
+decimal_exponent_text upper precision scale units =
+    with_point (scientific precision units).digits
+    ++ scaled_tail upper (scientific precision units).exponent (scale_of scale units)
+
+-- a text spells a count of units of 10 ^ -places: digits before a point and `places` digits after
+-- it, without the point if those are none; all of them together are the digits of the count
+pub record SpellsUnits (places count : ℕ) (text : List ℕ) : Type 0 where
+  pub before : List ℕ
+  pub after : List ℕ
+  pub parts : text ≡ before ++ after_point after
+  pub some : 0 < length before
+  pub as_many : length after ≡ places
+  pub value : digits_value 10 (before ++ after) ≡ count
+
+-- a decimal without its sign, in the form that a trait writes, if it writes decimals
+abbrev pub decimal_body : Trait → (precision : Option ℕ) → (scale units : ℕ) → Option (List ℕ)
+decimal_body Display precision scale units = Some (decimal_text precision scale units)
+decimal_body Debug precision scale units = Some (decimal_text precision scale units)
+decimal_body LowerExp precision scale units =
+    Some (decimal_exponent_text false precision scale units)
+decimal_body UpperExp precision scale units =
+    Some (decimal_exponent_text true precision scale units)
+decimal_body _ precision scale units = None
+
+-- the text of a number before the point, and of one after it with zeros after that one
+abbrev pub split_text : (whole part places zeros : ℕ) → List ℕ
+split_text whole part places zeros =
+    digit_text 10 false whole ++ after_point (placed places part ++ replicate zeros zero_digit)
+
+-- exponent form of a number's digits, zeros after them, an exponent, and a scale
+abbrev pub shown_scaled : Bool → (digits zeros exponent scale : ℕ) → List ℕ
+shown_scaled upper digits zeros exponent scale =
+    with_point (digit_text 10 false digits ++ replicate zeros zero_digit)
+    ++ scaled_tail upper exponent scale

@@ -1,0 +1,181 @@
+//! Decimals, written by their digits.
+ghost use Rattle.std.specs.Prelude.{◌≡◌, ◌+◌, ◌^◌, ◌<◌, ◌≤◌, ◌++◌, [], false, replicate};
+ghost use Rattle.std.specs.Prelude.{if◌then◌else◌, unwrap_or, ◌==◌, ◌∷◌};
+ghost use Rattle.interpolator_render.specs.Characters.{point, zero_digit};
+ghost use Rattle.interpolator_render.specs.Decimals.{after_point, decimal_text, placed, split_text};
+ghost use Rattle.interpolator_render.specs.DigitBuffers.{put_before};
+ghost use Rattle.interpolator_render.specs.Digits.{digit_text};
+ghost use Rattle.interpolator_render.specs.Numbers.{IsShortAscii, distance_from_zero, is_negative};
+ghost use Rattle.interpolator_render.specs.Numbers.{sign_text};
+ghost use Rattle.interpolator_render.specs.Padding.{number_fill, padded_number};
+ghost use Rattle.interpolator_render.specs.Written.{Puts};
+
+use crate::decimal_digits::{DecimalDigits, decimal_digits};
+use crate::decimal_parts::{DecimalParts, put_padded_decimal};
+use crate::digit_buffer::{BUFFER_WIDTH, DigitBuffer};
+use crate::digits::digit_str;
+use crate::layout::put_ascii;
+use crate::number_form::NumberForm;
+use crate::number_parts::sign_str;
+use crate::number_row::{fill_byte, fits_buffer, put_around};
+use crate::text_write::{Refusal, TextWrite};
+use crate::view::Spec;
+
+/// Writes a number by exactly `places` digits.
+#[inline(always)]
+fn put_placed(buffer: &mut DigitBuffer, part: u128, places: usize)
+    requires fits { part < 10 ^ places }
+    requires room { places ≤ buffer.old.before }
+    ensures { buffer.new ≡ put_before (placed places part) buffer.old }
+{
+    if places == 0 {
+        return;
+    }
+    let after = buffer.len();
+    buffer.put_decimal(part);
+    let count = buffer.len() - after;
+    let missing = places - count;
+    buffer.put_zeros(missing);
+}
+
+/// Writes the digits after the point, and the point if there are any.
+#[tactic(auto, using(crate::proofs::DecimalRowLemmas::after_steps))]
+#[inline(always)]
+fn put_after_point(buffer: &mut DigitBuffer, shown: DecimalDigits)
+    requires fits { shown.part < 10 ^ shown.places }
+    requires few { shown.places + shown.zeros ≤ 40 }
+    requires room { 41 ≤ buffer.old.before }
+    ensures { buffer.new ≡ put_before
+        (after_point (placed shown.places shown.part ++ replicate shown.zeros zero_digit)) buffer.old }
+{
+    if shown.places + shown.zeros == 0 {
+        return;
+    }
+    buffer.put_zeros(shown.zeros);
+    put_placed(buffer, shown.part, shown.places);
+    buffer.push_front(b'.');
+}
+
+/// Writes a decimal without its sign.
+#[tactic(auto, using(crate::proofs::DigitBufferLemmas::grown_twice))]
+#[inline(always)]
+fn put_split(buffer: &mut DigitBuffer, shown: DecimalDigits)
+    requires fits { shown.part < 10 ^ shown.places }
+    requires few { shown.places + shown.zeros ≤ 40 }
+    requires room { 80 ≤ buffer.old.before }
+    ensures { buffer.new
+        ≡ put_before (split_text shown.whole shown.part shown.places shown.zeros) buffer.old }
+{
+    put_after_point(buffer, shown);
+    buffer.put_decimal(shown.whole);
+}
+
+/// Writes a decimal made in one buffer, by one call.
+#[tactic(auto, using(crate::proofs::DecimalRowLemmas::decimal_row))]
+#[inline(always)]
+fn put_in_row<W: TextWrite>(
+    out: &mut W,
+    spec: &Spec,
+    negative: bool,
+    shown: DecimalDigits,
+) -> Result<(), Refusal>
+    requires narrow { unwrap_or spec.now.width 0 ≤ 40 }
+    requires ascii { number_fill spec.now < 128 }
+    requires fits { shown.part < 10 ^ shown.places }
+    requires few { shown.places + shown.zeros ≤ 40 }
+    ensures { Puts (W.written out.old) (padded_number spec.now (sign_text negative spec.now.sign)
+        (split_text shown.whole shown.part shown.places shown.zeros)) result (W.written out.new) }
+{
+    let mut buffer = DigitBuffer::new(fill_byte(spec));
+    put_split(&mut buffer, shown);
+    put_around(&mut buffer, NumberForm::Exponent(false), spec, negative);
+    put_ascii(out, buffer.as_str())
+}
+
+/// The point, if digits follow.
+fn point_str(digits: usize) -> &'static str
+    ensures value { result.now ≡ (if digits == 0 then [] else point ∷ []) }
+    ensures ascii { IsShortAscii result.now }
+{
+    if digits == 0 {
+        return "";
+    }
+    "."
+}
+
+/// The digits of a number after the point, without the zeros before them.
+fn part_str(part: u128, places: usize, buffer: &mut [u8; 128]) -> &str
+    ensures text { result.now ≡ (if places == 0 then [] else digit_text 10 false part) }
+    ensures ascii { IsShortAscii result.now }
+{
+    if places == 0 {
+        return "";
+    }
+    digit_str(part, 10, false, buffer)
+}
+
+/// Writes a decimal part by part, which serves any width, scale and precision.
+#[cold]
+#[inline(never)]
+fn put_in_parts<W: TextWrite>(
+    out: &mut W,
+    spec: &Spec,
+    negative: bool,
+    shown: DecimalDigits,
+) -> Result<(), Refusal>
+    requires { shown.part < 10 ^ shown.places }
+    ensures { Puts (W.written out.old) (padded_number spec.now (sign_text negative spec.now.sign)
+        (split_text shown.whole shown.part shown.places shown.zeros)) result (W.written out.new) }
+{
+    let mut before = [0u8; 128];
+    let mut after = [0u8; 128];
+    let part = part_str(shown.part, shown.places, &mut after);
+    let number = DecimalParts {
+        sign: sign_str(negative, spec.sign),
+        whole: digit_str(shown.whole, 10, false, &mut before),
+        point: point_str(shown.places.saturating_add(shown.zeros)),
+        between: shown.places.saturating_sub(part.len()),
+        part,
+        zeros: shown.zeros,
+    };
+    put_padded_decimal(out, spec, number)
+}
+
+/// Writes units of 10 ^ -scale after a sign.
+#[inline(never)]
+fn put_units<W: TextWrite>(
+    out: &mut W,
+    spec: &Spec,
+    negative: bool,
+    units: u128,
+    scale: u32,
+) -> Result<(), Refusal>
+    ensures { Puts (W.written out.old)
+        (padded_number spec.now (sign_text negative spec.now.sign)
+        (decimal_text spec.now.precision scale units))
+        result (W.written out.new) }
+{
+    let shown = decimal_digits(units, scale, spec.precision);
+    let after = shown.places.saturating_add(shown.zeros);
+    if after <= BUFFER_WIDTH && fits_buffer(spec) {
+        put_in_row(out, spec, negative, shown)
+    } else {
+        put_in_parts(out, spec, negative, shown)
+    }
+}
+
+/// Writes units of 10 ^ -scale.
+#[inline(always)]
+pub(crate) fn put_decimal<W: TextWrite>(
+    out: &mut W,
+    spec: &Spec,
+    units: i128,
+    scale: u32,
+) -> Result<(), Refusal>
+    ensures { Puts (W.written out.old)
+        (padded_number spec.now (sign_text (is_negative units) spec.now.sign)
+        (decimal_text spec.now.precision scale (distance_from_zero units)))
+        result (W.written out.new) }
+{
+    put_units(out, spec, units < 0, units.unsigned_abs(), scale)
+}

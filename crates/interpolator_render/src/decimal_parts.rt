@@ -1,0 +1,63 @@
+//! A decimal in parts, padded to its width.
+ghost use Rattle.std.specs.Prelude.{◌++◌, replicate};
+ghost use Rattle.interpolator_render.specs.Characters.{zero_digit};
+ghost use Rattle.interpolator_render.specs.Numbers.{IsShortAscii};
+ghost use Rattle.interpolator_render.specs.Padding.{padded_number};
+ghost use Rattle.interpolator_render.specs.Written.{Puts};
+
+use crate::layout::{Part, fill_char, put_parts};
+use crate::number_parts::number_layout;
+use crate::text_write::{Refusal, TextWrite};
+use crate::view::Spec;
+
+/// A decimal's text in parts. Each text is ASCII and short.
+#[derive(Clone, Copy)]
+pub(crate) struct DecimalParts<'t> {
+    pub(crate) sign: &'t str,
+    /// The digits before the point.
+    pub(crate) whole: &'t str,
+    pub(crate) point: &'t str,
+    /// The zeros after the point.
+    pub(crate) between: usize,
+    /// The digits after those.
+    pub(crate) part: &'t str,
+    /// The zeros at the end.
+    pub(crate) zeros: usize,
+}
+
+/// Writes a decimal's parts, padded. Their count saturates, which changes no padding.
+#[inline(always)]
+pub(crate) fn put_padded_decimal<W: TextWrite>(
+    out: &mut W,
+    spec: &Spec,
+    number: DecimalParts<'_>,
+) -> Result<(), Refusal>
+    requires sign { IsShortAscii number.sign.now }
+    requires whole { IsShortAscii number.whole.now }
+    requires point { IsShortAscii number.point.now }
+    requires part { IsShortAscii number.part.now }
+    ensures { let parts = number.entry in Puts (W.written out.old)
+        (padded_number spec.now parts.sign.now
+        (parts.whole.now ++ (parts.point.now ++ (replicate parts.between zero_digit
+        ++ (parts.part.now ++ replicate parts.zeros zero_digit)))))
+        result (W.written out.new) }
+{
+    let short = number.sign.len() + number.whole.len() + number.point.len() + number.part.len();
+    let zeros = number.between.saturating_add(number.zeros);
+    let layout = number_layout(spec, zeros.saturating_add(short));
+    let fill = fill_char(spec);
+    put_parts(
+        out,
+        &[
+            Part::Copies(fill, layout.before),
+            Part::Text(number.sign),
+            Part::Copies('0', layout.zeros),
+            Part::Text(number.whole),
+            Part::Text(number.point),
+            Part::Copies('0', number.between),
+            Part::Text(number.part),
+            Part::Copies('0', number.zeros),
+            Part::Copies(fill, layout.after),
+        ],
+    )
+}
