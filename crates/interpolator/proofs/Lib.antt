@@ -1,4 +1,6 @@
 -- The lemmas of the calls.
+pub mod DecimalDigitLemmas
+pub mod DecimalTextLemmas
 pub mod DeepLemmas
 pub mod EndingLemmas
 pub mod EscapeLemmas

@@ -22,3 +22,4 @@ pub use Rattle.interpolator_eval.specs.Rows
 pub mod NamedValues
 pub mod Lent
 pub mod OwnedViews
+pub mod DecimalTexts

@@ -2,15 +2,17 @@
 use Rattle.std.specs.Prelude.{if◌then◌else◌, string_bytes}
 use Rattle.std.specs.Str.{chars}
 use Rattle.interpolator_render.specs.Views.{Shown, signed_number, unsigned_number, truth_value}
-use Rattle.interpolator_render.specs.Views.{one_character, some_text, failure, fits_signed}
+use Rattle.interpolator_render.specs.Views.{decimal_number, one_character, some_text, failure}
+use Rattle.interpolator_render.specs.Views.{fits_signed}
 use Rattle.interpolator.specs.declared.owned_view.OwnedView.{OwnedView}
 use Rattle.interpolator.specs.declared.owned_view.OwnedView.TheVariants as owned
 
--- the number, character or text itself, and a failure for a signed number outside its width
+-- the value itself, and a failure for a signed number outside its width
 abbrev pub owned_shows : OwnedView → Shown
 owned_shows (owned.Signed number bits) =
     if fits_signed number bits then signed_number number bits else failure
 owned_shows (owned.Unsigned number) = unsigned_number number
 owned_shows (owned.Truth truth) = truth_value truth
+owned_shows (owned.Decimal units scale) = decimal_number units scale
 owned_shows (owned.Character c) = one_character c
 owned_shows (owned.Text text) = some_text (chars (string_bytes text))

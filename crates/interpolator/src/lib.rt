@@ -21,6 +21,7 @@
 #![tactic(auto)]
 
 mod choice;
+mod decimal;
 mod escaping;
 mod excerpt;
 mod explaining;
@@ -39,6 +40,7 @@ mod values;
 mod views;
 
 pub use choice::first_if;
+pub use decimal::Decimal;
 pub use escaping::escape;
 pub use explaining::{Source, explain, explain_in, explain_with_names};
 pub use interpolate::Interpolate;

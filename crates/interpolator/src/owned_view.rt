@@ -7,6 +7,7 @@ ghost use Rattle.interpolator.specs.OwnedViews.{owned_shows};
 ghost use Rattle.interpolator.specs.declared.owned_view.OwnedView.TheVariants as owned;
 ghost use Rattle.interpolator_syntax.specs.declared.error.Error.TheVariants.{NoMemory};
 
+use crate::decimal::Decimal;
 use interpolator_render::{Bits, Spec, Trait, Value, View};
 use interpolator_syntax::Error;
 use std::alloc::Global;
@@ -27,6 +28,13 @@ pub enum OwnedView {
     Unsigned(u128),
     /// A truth value.
     Truth(bool),
+    /// A decimal: this many units of 10 ^ -scale. 12.50 is 1250 units at the scale 2.
+    Decimal {
+        /// How many units.
+        units: i128,
+        /// How many digits of them are after the point.
+        scale: u32,
+    },
     /// One character.
     Character(char),
     /// A text.
@@ -82,6 +90,10 @@ impl<'a> From<&'a OwnedView> for View<'a> {
             }
             OwnedView::Unsigned(number) => View::Unsigned(*number),
             OwnedView::Truth(truth) => View::Truth(*truth),
+            OwnedView::Decimal { units, scale } => View::Decimal {
+                units: *units,
+                scale: *scale,
+            },
             OwnedView::Character(c) => View::Character(*c),
             OwnedView::Text(text) => View::Text(text.as_str()),
         }
@@ -197,6 +209,17 @@ impl From<bool> for OwnedView {
 
     fn from(truth: bool) -> OwnedView {
         OwnedView::Truth(truth)
+    }
+}
+
+impl From<Decimal> for OwnedView {
+    ghost from_gives = { λ decimal value. value ≡ owned.Decimal decimal.units decimal.scale };
+
+    fn from(decimal: Decimal) -> OwnedView {
+        OwnedView::Decimal {
+            units: decimal.units,
+            scale: decimal.scale,
+        }
     }
 }
 

@@ -64,12 +64,13 @@ pub fn a_cost_grows_with_the_limits()
 
 /// The cost of some formats, if a text has at most 10 characters and a list at most 3 items.
 ///
-/// A number has at most 40 characters under display, 46 under `+#o`, and 10 under `.4e`.
+/// A number has at most 40 characters under display, 46 under `+#o`, and a decimal at most 19
+/// under `.4e`.
 pub fn worked_costs()
     ensures pieces { text_cost ten_and_three (outermost (codes "ab{{{x}}"))
         ≡ record { characters = 44; pieces = 4; buffered = 0 } }
     ensures traits { text_cost ten_and_three (outermost (codes "{x:+#o}{x:.4e}{x:?}{x:50}"))
-        ≡ record { characters = 168; pieces = 4; buffered = 0 } }
+        ≡ record { characters = 177; pieces = 4; buffered = 0 } }
     ensures joins { text_cost ten_and_three (outermost (codes "{l:i({:?}!)(, )}"))
         ≡ record { characters = 193; pieces = 9; buffered = 0 } }
     ensures ranges { text_cost ten_and_three (outermost (codes "{l:i-3..-1}{l:i2..}{l:i..=0}"))

@@ -12,13 +12,13 @@ use std::fmt;
 
 /// Why a text is not a number.
 ///
-/// What decides is the first character, from the left, that is no digit or takes the number out of
-/// the range of its type.
+/// In a format, what decides is the first character, from the left, that is no digit or takes the
+/// number out of the range of its type.
 #[derive(Debug, PartialEq, Eq, Clone, Copy)]
 pub enum NumberError {
     /// There is no character to read.
     Empty,
-    /// A `-` stands alone, or where none is allowed.
+    /// A character is no digit, or a `-` stands alone or where none is allowed.
     InvalidDigit,
     /// The number is greater than the greatest of its type.
     PosOverflow,

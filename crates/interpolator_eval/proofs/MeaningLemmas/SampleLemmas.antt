@@ -13,11 +13,12 @@ use Rattle.std.specs.Prelude.{MatchOption, encode_utf8_all}
 use Rattle.std.specs.Str.{chars, IsUtf8}
 use Rattle.interpolator_render.specs.Texts.{view_text}
 use Rattle.interpolator_render.specs.Views.{Shown, signed_number, unsigned_number, truth_value}
-use Rattle.interpolator_render.specs.Views.{one_character, some_text, plain_text}
+use Rattle.interpolator_render.specs.Views.{decimal_number, one_character, some_text, plain_text}
 use Rattle.interpolator_render.specs.Views.{nothing_implemented, failure}
 use Rattle.interpolator_render.specs.declared.view.Spec.{Spec}
 use Rattle.interpolator_render.specs.declared.view.Trait.{Trait}
 use Rattle.interpolator_render.specs.declared.view.Trait.TheVariants.{Debug, Display, Iter}
+use Rattle.interpolator_render.specs.declared.view.Trait.TheVariants.{LowerExp, UpperExp}
 use Rattle.interpolator_eval.specs.Slots.{Slots}
 use Rattle.interpolator_eval.specs.Meaning.Samples.{is_missing, is_failed, is_for_no_number}
 use Rattle.interpolator_eval.specs.Meaning.Samples.{is_for_numbers, shows_nothing, is_failure}
@@ -46,6 +47,11 @@ view_missing (unsigned_number number) _ spec = refl
 view_missing (truth_value truth) Display spec = refl
 view_missing (truth_value truth) Debug spec = refl
 view_missing (truth_value truth) _ spec = refl
+view_missing (decimal_number units scale) Display spec = refl
+view_missing (decimal_number units scale) Debug spec = refl
+view_missing (decimal_number units scale) LowerExp spec = refl
+view_missing (decimal_number units scale) UpperExp spec = refl
+view_missing (decimal_number units scale) _ spec = refl
 view_missing (one_character c) Display spec = refl
 view_missing (one_character c) Debug spec = refl
 view_missing (one_character c) _ spec = refl
@@ -66,6 +72,11 @@ view_failed (unsigned_number number) _ spec = refl
 view_failed (truth_value truth) Display spec = refl
 view_failed (truth_value truth) Debug spec = refl
 view_failed (truth_value truth) _ spec = refl
+view_failed (decimal_number units scale) Display spec = refl
+view_failed (decimal_number units scale) Debug spec = refl
+view_failed (decimal_number units scale) LowerExp spec = refl
+view_failed (decimal_number units scale) UpperExp spec = refl
+view_failed (decimal_number units scale) _ spec = refl
 view_failed (one_character c) Display spec = refl
 view_failed (one_character c) Debug spec = refl
 view_failed (one_character c) _ spec = refl

@@ -5,10 +5,11 @@ use Rattle.std.specs.Prelude.{List, [], ◌∷◌, map, flat_map, option_map, un
 use Rattle.std.specs.List.{list_any}
 use Rattle.interpolator_render.specs.declared.view.Trait.{Trait}
 use Rattle.interpolator_render.specs.declared.view.Trait.TheVariants.{Debug, Display, Iter}
+use Rattle.interpolator_render.specs.declared.view.Trait.TheVariants.{LowerExp, UpperExp}
 use Rattle.interpolator_render.specs.declared.view.Spec.{Spec}
 use Rattle.interpolator_render.specs.Texts.{ViewText, has_no_text, has_failed, view_text}
 use Rattle.interpolator_render.specs.Views.{Shown, signed_number, unsigned_number, truth_value}
-use Rattle.interpolator_render.specs.Views.{one_character, some_text, plain_text}
+use Rattle.interpolator_render.specs.Views.{decimal_number, one_character, some_text, plain_text}
 use Rattle.interpolator_render.specs.Views.{nothing_implemented, failure}
 use Rattle.interpolator_eval.specs.Slots.{Slots, slots_of, values_of, items, slot_at}
 use Rattle.interpolator_eval.specs.declared.evaluate.sample.Candidates.{Candidates}
@@ -81,11 +82,20 @@ is_for_numbers Display = false
 is_for_numbers Debug = false
 is_for_numbers _ = true
 
+-- no decimal is written under a trait
+abbrev pub is_not_for_decimals : Trait → Bool
+is_not_for_decimals Display = false
+is_not_for_decimals Debug = false
+is_not_for_decimals LowerExp = false
+is_not_for_decimals UpperExp = false
+is_not_for_decimals _ = true
+
 -- a value shows nothing under a trait, although it did not fail
 abbrev pub shows_nothing : Shown → Trait → Bool
 shows_nothing (signed_number number bits) t = is_for_no_number t
 shows_nothing (unsigned_number number) t = is_for_no_number t
 shows_nothing (truth_value truth) t = is_for_numbers t
+shows_nothing (decimal_number units scale) t = is_not_for_decimals t
 shows_nothing (one_character c) t = is_for_numbers t
 shows_nothing (some_text text) t = is_for_numbers t
 shows_nothing (plain_text text) t = false

@@ -15,6 +15,7 @@ ghost use Rattle.interpolator_eval.specs.Meaning.Samples.{alone, level_of_candid
 ghost use Rattle.interpolator_eval.specs.Meaning.Samples.{level_of_items};
 ghost use Rattle.interpolator_eval.specs.Meaning.Samples.{is_missing, is_failed, slot_text};
 ghost use Rattle.interpolator_eval.specs.Meaning.Samples.{is_for_no_number, is_for_numbers};
+ghost use Rattle.interpolator_eval.specs.Meaning.Samples.{is_not_for_decimals};
 ghost use Rattle.interpolator_eval.specs.Meaning.Samples.{shows_nothing, is_failure};
 
 use crate::context::Context;
@@ -53,6 +54,19 @@ fn is_for_numbers(wanted: Trait) -> bool
     }
 }
 
+/// Returns whether no decimal is written under a trait.
+fn is_not_for_decimals(wanted: Trait) -> bool
+    ensures { result ≡ is_not_for_decimals wanted }
+{
+    match wanted {
+        Trait::Display => false,
+        Trait::Debug => false,
+        Trait::LowerExp => false,
+        Trait::UpperExp => false,
+        _ => true,
+    }
+}
+
 /// Returns whether a view has no text under a trait, although it did not fail.
 fn no_text(view: View<'_>, wanted: Trait) -> bool
     ensures { result ≡ shows_nothing (shown_by view.entry) wanted }
@@ -61,6 +75,7 @@ fn no_text(view: View<'_>, wanted: Trait) -> bool
         View::Signed(_, _) => is_for_no_number(wanted),
         View::Unsigned(_) => is_for_no_number(wanted),
         View::Truth(_) => is_for_numbers(wanted),
+        View::Decimal { units: _, scale: _ } => is_not_for_decimals(wanted),
         View::Character(_) => is_for_numbers(wanted),
         View::Text(_) => is_for_numbers(wanted),
         View::Plain(_) => false,

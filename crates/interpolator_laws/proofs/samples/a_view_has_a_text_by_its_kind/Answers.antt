@@ -17,5 +17,8 @@ returns-clause-texts c = λ cs ds t spec. kind_has_text _ _ t spec refl refl
 pub returns-clause-truths : goal.returns-clause-truths
 returns-clause-truths c = λ a b t spec. kind_has_text _ _ t spec refl refl
 
+pub returns-clause-decimals : goal.returns-clause-decimals
+returns-clause-decimals c = λ y z m n t spec. kind_has_text _ _ t spec refl refl
+
 pub returns-clause-characters : goal.returns-clause-characters
 returns-clause-characters c = λ c' d t spec. kind_has_text _ _ t spec refl refl
