@@ -8,9 +8,9 @@ set -u
 
 here=$(cd "$(dirname "$0")" && pwd)
 name=catalogue
-usage='usage: catalogue [--fallback FILE] FILE KEY [NAME=TEXT | NAME:=NUMBER | NAME[]=ITEM,ITEM..]'
-usage+=' | catalogue --check FILE..'
-wanted=77
+usage='usage: catalogue [--fallback FILE] FILE KEY '
+usage+='[NAME=TEXT | NAME:=NUMBER | NAME:.=DECIMAL | NAME[]=ITEM,ITEM..] | catalogue --check FILE..'
+wanted=85
 . "$here/../../.ci/cases.sh"
 
 # message WANTED WORD..: a message, which goes to standard output, with status 0.
@@ -86,11 +86,11 @@ all_cases() {
     printf '%s\n' 'a(x[y:) = 1' 'b(x]) = 1' 'c(x)y = 1' 'd(x)(y) = 1' 'e(x, [] , :) = 1' \
         'f( x ) = 1' >heads.txt
     told "$(printf '%s\n' \
-        'heads.txt:3:2: declarations are `(NAME, NAME:, NAME[])`, each name once' \
+        'heads.txt:3:2: declarations are `(NAME, NAME:, NAME:., NAME[])`, each name once' \
         '  |' '3 | c(x)y = 1' '  |  ^' \
-        'heads.txt:4:2: declarations are `(NAME, NAME:, NAME[])`, each name once' \
+        'heads.txt:4:2: declarations are `(NAME, NAME:, NAME:., NAME[])`, each name once' \
         '  |' '4 | d(x)(y) = 1' '  |  ^' \
-        'heads.txt:5:6: declarations are `(NAME, NAME:, NAME[])`, each name once' \
+        'heads.txt:5:6: declarations are `(NAME, NAME:, NAME:., NAME[])`, each name once' \
         '  |' '5 | e(x, [] , :) = 1' '  |      ^')" \
         heads.txt f x=1
 
@@ -126,15 +126,28 @@ all_cases() {
         '  |' '2 | b(n:) = {n:x} {m}' '  |               ~^~' \
         'kinds.txt:3:18: trait `LowerHex` not implemented, used by format argument at 8 (byte 8 of the format)' \
         '  |' '3 | c(l[]) = {l:i({:x})}' '  |               ~~~^' \
-        'kinds.txt:4:11: declarations are `(NAME, NAME:, NAME[])`, each name once' \
+        'kinds.txt:4:11: declarations are `(NAME, NAME:, NAME:., NAME[])`, each name once' \
         '  |' '4 | d(n:, l[],) = {n}' '  |           ^' \
-        'kinds.txt:5:2: declarations are `(NAME, NAME:, NAME[])`, each name once' \
+        'kinds.txt:5:2: declarations are `(NAME, NAME:, NAME:., NAME[])`, each name once' \
         '  |' '5 | e(n = {n}' '  |  ^' \
         'kinds.txt:6:11: specified value not in context `n` at 1 (byte 1 of the format)' \
         '  |' '6 | f(n:x) = {n}' '  |          ~^~' \
-        'kinds.txt:7:9: declarations are `(NAME, NAME:, NAME[])`, each name once' \
+        'kinds.txt:7:9: declarations are `(NAME, NAME:, NAME:., NAME[])`, each name once' \
         '  |' '7 | g(n, m, n:) = {n}{m}' '  |         ^')" \
         kinds.txt a name=Ann
+    printf '%s\n' 'bill(item, price:.) = {item}:{price:>7} {price:>6.1} {price:e}' >prices.txt
+    message 'tea:  12.50   12.5 1.25e1' prices.txt bill item=tea price:.=12.50
+    message 'tea:      7    7.0 7e0' prices.txt bill item=tea price:.=+7
+    message '2.50=-0.05' m.txt two a:.=2.50 b:.=-0.05
+    wrong 'bad word: p:.=1.' m.txt hello name=Ann p:.=1.
+    told 'prices.txt:1: `bill` wants `price:.=DECIMAL`' prices.txt bill item=tea price:=12
+    told 'prices.txt:1: `bill` wants `price:.=DECIMAL`' prices.txt bill item=tea price=12.50
+    printf '%s\n' 'c(p:., :.) = 1' 'd(p:.) = {p:x}' >decimals.txt
+    told "$(printf '%s\n' \
+        'decimals.txt:1:8: declarations are `(NAME, NAME:, NAME:., NAME[])`, each name once' \
+        '  |' '1 | c(p:., :.) = 1' '  |        ^' \
+        'decimals.txt:2:14: trait `LowerHex` not implemented, used by format argument at 4 (byte 4 of the format)' \
+        '  |' '2 | d(p:.) = {p:x}' '  |          ~~~~^')" --check decimals.txt
     printf '\xef\xbb\xbf%s\n%s\n' '# greetings' 'hello = Hello {name}!' >mark.txt
     message 'Hello Ann!' mark.txt hello name=Ann
     printf '\xef\xbb\xbf%s\n' 'hello = Hello {name' >mark.txt
@@ -151,9 +164,9 @@ all_cases() {
         '  |' '4 |   é(x) = {x' '  |          ~^' \
         'keys.txt:5:2: no key' '  |' '5 |  = no key' '  |  ^' \
         'keys.txt:6:1: no key' '  |' '6 | (n:) = {n}' '  | ^' \
-        'keys.txt:7:10: declarations are `(NAME, NAME:, NAME[])`, each name once' \
+        'keys.txt:7:10: declarations are `(NAME, NAME:, NAME:., NAME[])`, each name once' \
         '  |' '7 | greeting(name count) = {name}' '  |          ^' \
-        'keys.txt:8:6: declarations are `(NAME, NAME:, NAME[])`, each name once' \
+        'keys.txt:8:6: declarations are `(NAME, NAME:, NAME:., NAME[])`, each name once' \
         '  |' '8 | cart(n :) = {n}' '  |      ^' \
         'keys.txt:9:1: line 3 has the key `bye` too' '  |' '9 | bye=Bye' '  | ^' \
         'keys.txt:10:4: no key' '   |' '10 |    = ' '   |    ^')" \
@@ -184,6 +197,7 @@ all_cases() {
     message 'ein Artikel' forms.txt cart.one
     told 'forms.txt:4: `cart` wants `n:=NUMBER`' forms.txt cart
     told 'forms.txt:4: `cart` wants `n:=NUMBER`' forms.txt cart n:=1 n=1
+    told 'forms.txt:4: `cart` wants `n:=NUMBER`' forms.txt cart n:.=1
     told 'forms.txt: no message `box` or `box.one`' forms.txt box n:=1
     told 'forms.txt: no message `gone` or `gone.zero`' forms.txt gone
     wrong 'bad word: x' forms.txt cart n:=1 x

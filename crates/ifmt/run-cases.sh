@@ -6,11 +6,11 @@
 # usage: run-cases.sh [PROGRAM..]
 set -u
 
-usage='usage: ifmt FORMAT [NAME=TEXT | NAME:=NUMBER | NAME[]=ITEM,ITEM..]'
+usage='usage: ifmt FORMAT [NAME=TEXT | NAME:=NUMBER | NAME:.=DECIMAL | NAME[]=ITEM,ITEM..]'
 here=$(cd "$(dirname "$0")" && pwd)
 name=ifmt
-# the lines of `line_cases`, the examples of README, and the rows of its table
-wanted=34
+# the lines of `line_cases` and `decimal_cases`, the examples of README, and the rows of its table
+wanted=47
 . "$here/../../.ci/cases.sh"
 
 # A text, which goes to the output, with status 0.
@@ -26,6 +26,25 @@ fault() {
 # A wrong command line, which is told on the errors, with status 2.
 wrong() {
     case_of file file 2 '' "$1"$'\n' "${@:2}"
+}
+
+# Decimals: a tie is rounded to the even digit, and what is no decimal is a bad word.
+decimal_cases() {
+    text '     12.50|12.50|+12.5' '{price:>10.2}|{price}|{price:+.1}' 'price:.=12.50'
+    text '1.25e1 1.25E1 1.2e1' '{price:e} {price:E} {price:.1e}' 'price:.=12.50'
+    text '-0.05 "" -000.05 -5e-2' '{v} "{t}" {v:07} {v:e}' 'v:.=-0.05' 't='
+    text '0.12 0.38 -0.12 0.125000' '{a:.2} {b:.2} {c:.2} {a:.6}' \
+        'a:.=0.125' 'b:.=+0.375' 'c:.=-0.125'
+    text '7 7.00 70.0' '{a} {a:.2} {b}' 'a:.=7' 'b:.=070.0'
+    text '-170141183460469231731687303715884105.728' '{v}' \
+        'v:.=-170141183460469231731687303715884105.728'
+    fault 'trait `LowerHex` not implemented, used by format argument at 4' '{v:x}' 'v:.=1.5'
+    wrong 'bad word: v:.=1.' '{v}' 'v:.=1.'
+    wrong 'bad word: v:.=.5' '{v}' 'v:.=.5'
+    wrong 'bad word: v:.=1.2.3' '{v}' 'v:.=1.2.3'
+    wrong 'bad word: v:.=170141183460469231731687303715884105.728' '{v}' \
+        'v:.=170141183460469231731687303715884105.728'
+    wrong 'bad word: n:=1.5' '{n}' 'n:=1.5'
 }
 
 # A refused write has status 3, and the stream that is not written to is left alone, whatever it is.
@@ -85,13 +104,15 @@ table_cases() {
     local line
     while IFS= read -r line; do
         if [[ $line =~ \|\`([^\`]*)\`\|\`([^\`]*)\`$ ]]; then
-            example "${BASH_REMATCH[2]}"$'\n' "${BASH_REMATCH[1]}" 't=Ann' 'n:=7' 'l[]=a,b,c'
+            example "${BASH_REMATCH[2]}"$'\n' "${BASH_REMATCH[1]}" \
+                't=Ann' 'n:=7' 'price:.=12.5' 'l[]=a,b,c'
         fi
     done <"$here/../../README.md"
 }
 
 all_cases() {
     line_cases
+    decimal_cases
     readme_cases
     table_cases
 }

@@ -9,9 +9,11 @@ set -u
 usage='usage: merge TEMPLATE TABLE'
 stray='a stray quote: write the field in quotes, and double those in it'
 unclosed='a quote that this line does not close'
+wanted_number='wants a number, such as -7 or 12.50'
+greatest=170141183460469231731687303715884105727
 here=$(cd "$(dirname "$0")" && pwd)
 name=merge
-wanted=45
+wanted=59
 . "$here/../../.ci/cases.sh"
 
 # files TEMPLATE TABLE: what stands in the files `t` and `r`.
@@ -46,6 +48,27 @@ letter_cases() {
     letters '<a "b" c|>' '<{x}|{y}>' $'x,y\n"a ""b"" c",""\n'
     letters '<">' '<{a, b}>' $'"a, b"\n""""\n'
     letters '<é>< >' '<{a}>' $'"a"\r\n"é"\r\n" "\r\n'
+}
+
+number_cases() {
+    letters '<7|   12.50|-0.05>' '<{n}|{price:>8}|{b}>' $'n:,price:,b:\n7,12.50,-0.05\n'
+    letters '[      7.00]' '[{price:>10.2}]' $' price : \n 7 \n'
+    letters '1.25e1 5E-2' '{a:e} {b:E}' $'a:,b:\n12.50,0.05\n'
+    letters '+0.2 +3.0 ' '{a:+.1} ' $'a:\n0.25\n+3\n'
+    letters '12.50|1.0' '{a:?}|{b:.1}' $'a:,"b:"\n12.50,1\n'
+    letters "<x:|$greatest>" '<{a}|{b}>' $'a,b:\nx:,'"$greatest"$'\n'
+    fault "r:2: column 1 $wanted_number" '{a}' $'a:\n170141183460469231731687303715884105728\n'
+    fault "r:2: column 1 $wanted_number" '{a}' $'a:\n\n'
+    fault "r:3: column 2 $wanted_number" '{a}' $'a,b:\nx,1\ny,1.\n'
+    fault "r:2: column 1 $wanted_number"$'\nr:3: 1 field, but line 1 has 2\n'"r:4: column 2 $wanted_number" \
+        '{a}' $'a:,b:\nx,y\n1\n0,.5\n'
+    fault 'r:1: column 2 has the name of an earlier column' '{a}' $'a:,a\n1,2\n'
+    fault "$(printf '%s\n' 't:1:5: trait `LowerHex` not implemented, used by format argument at 4' \
+        '  |' '1 | {a:x}' '  | ~~~~^')" '{a:x}' $'a:\n1\n'
+    fault "$(printf '%s\n' 't:1:5: trait `LowerExp` not implemented, used by format argument at 4' \
+        '  |' '1 | {a:e}' '  | ~~~~^')" '{a:e}' $'a\n1\n'
+    fault "$(printf '%s\n' 't:1:2: specified value not in context `prce` at 1' '  |' '1 | {prce}' \
+        '  | ~^~~~~' '  = did you mean `price`? names: `price`')" '{prce}' $'price:\n1\n'
 }
 
 template_cases() {
@@ -111,6 +134,7 @@ using_case() {
 
 all_cases() {
     letter_cases
+    number_cases
     template_cases
     table_cases
     other_cases

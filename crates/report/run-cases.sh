@@ -1,7 +1,7 @@
 #!/usr/bin/env bash
 # Runs the built program on tables, and compares what it writes to both streams and its status with
 # what is worked out by hand: widths count characters, and a total is the sum of all entries of its
-# column. Then it runs the line of docs/USING.md.
+# column, at the greatest scale of these. Then it runs the line of docs/USING.md.
 #
 # usage: run-cases.sh [PROGRAM..]
 set -u
@@ -9,9 +9,10 @@ set -u
 usage='usage: report FILE'
 # the greatest number of 128 bits, without its last digit, which is 7
 most=17014118346046923173168730371588410572
+zeros=0.0000000000000000000000000000000000000000
 here=$(cd "$(dirname "$0")" && pwd)
 name=report
-wanted=25
+wanted=31
 . "$here/../../.ci/cases.sh"
 
 # table WANTED TEXT: the report of a file with this text, which goes to the output, with status 0.
@@ -37,6 +38,10 @@ table_cases() {
     table $'  n\n007\n +1\n  8\n' $'n\n007\n+1\n'
     table "$(printf '%39s\n' n "${most}6" 1 "${most}7")"$'\n' $'n\n'"${most}6"$'\n1\n'
     table "$(printf '%-39s\n' n "${most}8" x total)"$'\n' $'n\n'"${most}8"$'\nx\n'
+    table $'     n\n  1.50\n-0.005\n     7\n 8.495\n' $'n\n1.50\n-0.005\n7\n'
+    table $'n    \n1.5  \n1.   \ntotal\n' $'n\n1.5\n1.\n'
+    table "$(printf '%42s\n' n 0 "$zeros" 0 "$zeros")"$'\n' $'n\n0\n'"$zeros"$'\n0\n'
+    table "$(printf '%40s\n' n -0.0 "${most}.7" "${most}.7")"$'\n' $'n\n-0.0\n'"${most}.7"$'\n'
 }
 
 fault_cases() {
@@ -47,6 +52,8 @@ fault_cases() {
     fault 't:1: the first line names no columns' $'\n1\n'
     fault 't:3: the total of `n` has more than 128 bits from here on' $'n\n'"${most}7"$'\n1\n'
     fault 't:3: the total of `n` has more than 128 bits from here on' $'n\n'"-${most}8"$'\n-1\n'
+    fault 't:3: the total of `n` has more than 128 bits from here on' $'n\n'"${most}7"$'\n0.5\n'
+    fault 't:3: the total of `n` has more than 128 bits from here on' $'n\n0.5\n'"-${most}.9"$'\n'
     fault 't:2: the total of `m` has more than 128 bits from here on' $'t,m\na,'"${most}8"$'\nb,1\n'
 }
 

@@ -7,10 +7,11 @@ set -u
 
 here=$(cd "$(dirname "$0")" && pwd)
 name=strangers
-wanted=67
+wanted=87
 . "$here/../../.ci/cases.sh"
 
-usage='usage: strangers [FLAG NUMBER..] FORMAT [NAME=TEXT | NAME:=NUMBER | NAME[]=ITEM,ITEM..]'
+usage='usage: strangers [FLAG NUMBER..] FORMAT '
+usage+='[NAME=TEXT | NAME:=NUMBER | NAME:.=DECIMAL | NAME[]=ITEM,ITEM..]'
 
 # The greatest `usize`, and the least number.
 most=18446744073709551615
@@ -74,6 +75,34 @@ texts() {
     prints '𝄞𝄞𝄞' --characters 3 --pieces 1 --buffered 0 '𝄞𝄞𝄞'
 }
 
+# Without a precision a decimal has the characters of its text, and counts one more for a sign: 6
+# for 12.50, 2 for 7, 5 for -0.05. With one a format may write 41 more than the precision, and 53 in
+# an exponent form without one.
+decimals() {
+    prints '12.50|     12.50|1.25e1' '{p}|{p:>10.2}|{p:e}' p:.=12.50
+    prints '0.12 0.38 -0.12' '{a:.2} {b:.2} {c:.2}' a:.=0.125 b:.=+0.375 c:.=-0.125
+    prints '12.50' --text 6 '{p}' p:.=12.50
+    refuses 'characters of a text: 6, where 5 are allowed' --text 5 '{p}' p:.=12.50
+    prints '7' --text 2 '{p}' p:.=007
+    refuses 'characters of a text: 2, where 1 are allowed' --text 1 '{p}' p:.=7
+    prints '-0.05' --text 5 '{v}' v:.=-0.05
+    refuses 'characters of a text: 5, where 4 are allowed' --text 4 '{v}' v:.=-0.05
+    prints "-0.$(times 76 0)1" '{v}' "v:.=-0.$(times 76 0)1"
+    refuses 'characters of a text: 81, where 80 are allowed' '{v}' "v:.=0.$(times 77 0)1"
+    prints '1.50000' --text 6 --characters 46 '{p:.5}' p:.=1.5
+    refuses 'characters: 46, where 45 are allowed' --text 6 --characters 45 '{p:.5}' p:.=1.5
+    prints '1.5e0' --text 6 --characters 53 '{p:e}' p:.=1.5
+    refuses 'characters: 53, where 52 are allowed' --text 6 --characters 52 '{p:e}' p:.=1.5
+    refuses 'trait `LowerHex` not implemented, used by format argument at 4' '{p:x}' p:.=1.5
+    misused 'bad word: p:.=1.' '{p}' p:.=1.
+    misused 'bad word: p:.=.5' '{p}' p:.=.5
+    misused 'bad word: p:.=1.2.3' '{p}' p:.=1.2.3
+    misused 'bad word: p:.=17014118346046923173168730371588410572.8' '{p}' \
+        p:.=17014118346046923173168730371588410572.8
+    prints '-17014118346046923173168730371588410572.8' '{p}' \
+        p:.=-17014118346046923173168730371588410572.8
+}
+
 # By hand: `Hi ` 3, a name 80, `, ` 2, a number 80, `: ` 2, and 20 items of 82 with 19 joins of 2:
 # 1845 characters. Pieces are 5 and the list, 20 items of 3, and 19 joins: 85.
 told_costs() {
@@ -93,7 +122,7 @@ told_costs() {
 
 # By hand, of hostile formats. Eight lists of ten items in one another, the innermost with an empty
 # item format: 1 + 10 + .. + 10^8 pieces and no character. A join of 10,000 characters: 20 items of
-# 80 and 19 joins. A precision of 10^18: 6 more. Ten lists of two under a width in one another:
+# 80 and 19 joins. A precision of 10^18: 15 more. Ten lists of two under a width in one another:
 # 80 * 2^10 characters, 2^11 - 1 pieces, and 80 * (2 + 4 + .. + 2^10) in buffers.
 hostile() {
     local ten='l[]=a,b,c,d,e,f,g,h,i,j' deep doubling
@@ -104,7 +133,7 @@ hostile() {
         "$deep" "$ten"
     refuses 'characters: 191600, where 10000 are allowed' \
         "{l:i({})($(times 1000 xxxxxxxxxx))}" "$ten"
-    refuses 'characters: 1000000000000000006, where 10000 are allowed' \
+    refuses 'characters: 1000000000000000015, where 10000 are allowed' \
         '{n:.1000000000000000000e}' n:=7
     refuses 'characters: 1000000000000000000, where 10000 are allowed' \
         '{n:1000000000000000000}' n:=7
@@ -167,6 +196,7 @@ uses() {
 
 all_cases() {
     texts
+    decimals
     told_costs
     hostile
     faults

@@ -12,11 +12,11 @@ UNREAD = 3
 
 _DESCRIPTION = """\
 Checks each message of some files. A line is `key = format`, or
-`key(name, count:, items[]) = format`, which declares that the format is given a text `name`, a
-number `count` and a list of texts `items`. No two lines of a file have the same key. A line before
-all messages may be the rule of the file, as `plural: n == 0 ? zero : n == 1 ? one : other`. Blank
-lines, those that begin with `#`, and a byte order mark at the head are skipped. Each fault is shown
-in its line.
+`key(name, n:, price:., items[]) = format`, which declares that the format is given a text `name`, a
+whole number `n`, a decimal `price` and a list of texts `items`. No two lines of a file have the same
+key. A line before all messages may be the rule of the file, as
+`plural: n == 0 ? zero : n == 1 ? one : other`. Blank lines, those that begin with `#`, and a byte
+order mark at the head are skipped. Each fault is shown in its line.
 """
 
 _STATUS = """\

@@ -5,10 +5,14 @@ from __future__ import annotations
 from typing import Dict, NamedTuple, Optional, Tuple, Union
 
 from ._lines import begin_of, is_name, parts_at, trim
-from ._values import ItemsOnly
+from ._requests import Trait
+from ._values import ItemsOnly, Only
 
-# An example of a text, a number and a list of texts.
-Example = Union[str, int, ItemsOnly]
+# An example of a text, a whole number, a decimal and a list of texts.
+Example = Union[str, int, Only, ItemsOnly]
+
+# The traits under which a decimal is written.
+_OF_DECIMALS = (Trait.DISPLAY, Trait.DEBUG, Trait.LOWER_EXP, Trait.UPPER_EXP)
 
 
 class Heading(NamedTuple):
@@ -56,14 +60,16 @@ def _declared_between(place: int, inner: str) -> Tuple[Dict[str, Example], Optio
 
 
 def _declaration_of(text: str) -> Tuple[str, Example]:
-    """The name that a text gives, and an example of its kind: `NAME:` is a number, `NAME[]` a list
-    of texts, and any other text is the name of a text.
+    """The name that a text gives, and an example of its kind: `NAME:` is a whole number, `NAME:.` a
+    decimal, `NAME[]` a list of texts, and any other text is the name of a text.
 
     >>> _declaration_of("n:"), _declaration_of("l[]"), _declaration_of("n:x")
     (('n', 0), ('l', ['a']), ('n:x', 'a'))
     """
     if text.endswith(":"):
         return text[:-1], 0
+    if text.endswith(":."):
+        return text[:-2], Only(0, *_OF_DECIMALS)
     if text.endswith("[]"):
         return text[:-2], ItemsOnly(["a"])
     return text, "a"

@@ -1,6 +1,7 @@
-"""Files of messages: lines `key = format`, or `key(name, count:, items[]) = format`, which declares
-a text `name`, a number `count` and a list of texts `items` that the format is given. A line before
-them may be a rule, `plural: n == 1 ? one : other`. `crates/catalogue` reads the same files."""
+"""Files of messages: lines `key = format`, or `key(name, n:, price:., items[]) = format`, which
+declares a text `name`, a whole number `n`, a decimal `price` and a list of texts `items` that the
+format is given. A line before them may be a rule, `plural: n == 1 ? one : other`.
+`crates/catalogue` reads the same files."""
 
 from __future__ import annotations
 
@@ -12,7 +13,7 @@ from ._lines import WHITE_SPACE, Line, begin_of, is_passed_over, lines_of
 from ._rules import HEAD, broken_in, rule_in
 from ._templates import Source, Template
 
-_NO_DECLARATIONS = "declarations are `(NAME, NAME:, NAME[])`, each name once"
+_NO_DECLARATIONS = "declarations are `(NAME, NAME:, NAME:., NAME[])`, each name once"
 
 _NO_RULE = "a rule is `NAME == NUMBER ? FORM : .. : FORM`"
 

@@ -14,7 +14,7 @@ from typing import Iterable, Tuple
 
 PACKAGE = Path(__file__).resolve().parent.parent
 
-NO_DECLARATIONS = "declarations are `(NAME, NAME:, NAME[])`, each name once"
+NO_DECLARATIONS = "declarations are `(NAME, NAME:, NAME:., NAME[])`, each name once"
 NO_RULE = "a rule is `NAME == NUMBER ? FORM : .. : FORM`"
 LATE_RULE = "a rule stands once, before all messages"
 
@@ -100,7 +100,7 @@ accents.txt:3:10: error while parsing input: Format spec at 6 is nether closed w
         status, out, _ = self.checked(
             "kinds.txt", "a(name) = {name:x}", "b(n:) = {n:x} {m}", "c(l[]) = {l:i({:x})}",
             "d(n:, l[],) = {n}", "e(n = {n}", "f(n:x) = {n}", "g(n, m, n:) = {n}{m}",
-            "h(n) x = {n}", "i( n[] ,\t m [) = {n:i}")
+            "h(n) x = {n}", "i( n[] ,\t m [) = {n:i}", "j(p:.) = {p:e} {p:x}")
         self.assertEqual(f"""\
 kinds.txt:1:18: trait `LowerHex` not implemented, used by format argument at 7 (byte 7 of the format)
   |
@@ -138,6 +138,10 @@ kinds.txt:9:11: {NO_DECLARATIONS}
   |
 9 | i( n[] ,\t m [) = {{n:i}}
   |         \t ^
+kinds.txt:10:20: trait `LowerHex` not implemented, used by format argument at 10 (byte 10 of the format)
+   |
+10 | j(p:.) = {{p:e}} {{p:x}}
+   |                ~~~~^
 """, out)
         self.assertEqual(1, status)
 
@@ -503,7 +507,7 @@ two.txt:1:10: error while parsing input: Format spec at 1 is nether closed with 
         status, out, err = self.run_on("--help")
         self.assertEqual((0, ""), (status, err))
         self.assertIn("usage: python -m interpolator", out)
-        self.assertIn("key(name, count:, items[]) = format", out)
+        self.assertIn("key(name, n:, price:., items[]) = format", out)
 
     @unittest.skipUnless(os.path.exists("/dev/full"), "there is no /dev/full")
     def test_an_output_that_is_full(self) -> None:

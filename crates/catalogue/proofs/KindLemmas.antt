@@ -15,9 +15,10 @@ use Rattle.interpolator.specs.Meaning.Environments.{environment}
 use Rattle.interpolator.specs.Meaning.Resembling.{HasText, Resembles, ResemblesFound, ResemblesOn}
 use Rattle.interpolator.specs.Meaning.Resembling.{ResemblesSlot, ResemblesSome}
 use Rattle.interpolator.specs.Slots.{empty_slots, listed_slots, slot_at, slots_listed, slots_of}
-use Rattle.interpolator.specs.Slots.{values_of, with_debug_display, with_integer}
+use Rattle.interpolator.specs.Slots.{values_of, with_debug_display, with_float, with_integer}
 use Rattle.interpolator.specs.Texts.{view_text}
-use Rattle.interpolator.specs.Views.{Shown, one_character, shown_as_value, signed_number, some_text}
+use Rattle.interpolator.specs.Views.{Shown, decimal_number, one_character, shown_as_value}
+use Rattle.interpolator.specs.Views.{signed_number, some_text}
 use Rattle.interpolator.specs.declared.Bits.TheVariants.{B128}
 use Rattle.interpolator.specs.declared.Spec.{Spec}
 use Rattle.interpolator.specs.declared.Trait.{Trait}
@@ -27,8 +28,8 @@ use Rattle.interpolator.specs.declared.Trait.TheVariants.{UpperExp, UpperHex}
 use Rattle.interpolator.specs.declared.View.{View}
 use Rattle.catalogue.specs.Declarations.{these}
 use Rattle.catalogue.specs.Entries.{Holds, Pair, item_slots, slots_by}
-use Rattle.catalogue.specs.Examples.{example_slots, example_under, faults_of, item_examples}
-use Rattle.catalogue.specs.Examples.{number_example, text_example, view_shows}
+use Rattle.catalogue.specs.Examples.{decimal_example, example_slots, example_under, faults_of}
+use Rattle.catalogue.specs.Examples.{item_examples, number_example, text_example, view_shows}
 use Rattle.catalogue.specs.Messages.{message_means}
 use Rattle.catalogue.specs.Words.{Gives, ShowsAs, items_in, items_of, texts_show}
 use Rattle.catalogue.specs.declared.declarations.Kind.{Kind}
@@ -44,11 +45,18 @@ text_alike : (y : Shown) (cs : List ℕ) → y ≡ some_text cs → (t : Trait) 
 text_alike y cs e t spec h = subst (λ s. HasText (view_text s t spec)) (sym e)
     (kind_has_text (one_character 97) (some_text cs) t spec refl refl h)
 
--- and a number if its example has one
+-- and a whole number if its example has one
 number_alike : (y : Shown) (n : ℤ) → y ≡ signed_number n B128 → (t : Trait) (spec : Spec)
     → HasText (view_text (shown_as_value number_example) t spec) → HasText (view_text y t spec)
 number_alike y n e t spec h = subst (λ s. HasText (view_text s t spec)) (sym e)
     (kind_has_text (shown_as_value number_example) (signed_number n B128) t spec refl refl h)
+
+-- and a decimal if its example has one
+decimal_alike : (y : Shown) (units : ℤ) (scale : ℕ) → y ≡ decimal_number units scale → (t : Trait)
+    (spec : Spec) → HasText (view_text (shown_as_value decimal_example) t spec)
+    → HasText (view_text y t spec)
+decimal_alike y units scale e t spec h = subst (λ s. HasText (view_text s t spec)) (sym e)
+    (kind_has_text (shown_as_value decimal_example) (decimal_number units scale) t spec refl refl h)
 
 -- the slots of a text
 text_slots : (value : View) (cs : List ℕ) → shown_as_value value ≡ some_text cs → (t : Trait)
@@ -65,7 +73,7 @@ text_slots value cs e UpperExp = tt
 text_slots value cs e UpperHex = tt
 text_slots value cs e Iter = tt
 
--- those of a number
+-- those of a whole number
 number_slots : (value : View) (n : ℤ) → shown_as_value value ≡ signed_number n B128 → (t : Trait)
     → ResemblesSlot view_shows view_shows t
     (slot_at t (values_of (with_integer empty_slots value)))
@@ -79,6 +87,25 @@ number_slots value n e Octal = λ spec h. number_alike (shown_as_value value) n 
 number_slots value n e UpperExp = λ spec h. number_alike (shown_as_value value) n e UpperExp spec h
 number_slots value n e UpperHex = λ spec h. number_alike (shown_as_value value) n e UpperHex spec h
 number_slots value n e Iter = tt
+
+-- those of a decimal
+decimal_slots : (value : View) (n : ℤ) (s : ℕ) → shown_as_value value ≡ decimal_number n s
+    → (t : Trait)
+    → ResemblesSlot view_shows view_shows t
+    (slot_at t (values_of (with_float empty_slots value)))
+    (slot_at t (values_of (with_float empty_slots decimal_example)))
+decimal_slots value n s e Debug = λ spec h. decimal_alike (shown_as_value value) n s e Debug spec h
+decimal_slots value n s e Display =
+    λ spec h. decimal_alike (shown_as_value value) n s e Display spec h
+decimal_slots value n s e Binary = tt
+decimal_slots value n s e LowerExp =
+    λ spec h. decimal_alike (shown_as_value value) n s e LowerExp spec h
+decimal_slots value n s e LowerHex = tt
+decimal_slots value n s e Octal = tt
+decimal_slots value n s e UpperExp =
+    λ spec h. decimal_alike (shown_as_value value) n s e UpperExp spec h
+decimal_slots value n s e UpperHex = tt
+decimal_slots value n s e Iter = tt
 
 -- no slot of a list but its items is filled
 no_slots_alike : (t : Trait) → ResemblesSlot view_shows view_shows t
@@ -114,6 +141,7 @@ value_alike : (kind : Kind) (value : View) (items : List View) (text : List ℕ)
     → Resembles view_shows view_shows (slots_by kind value (item_slots items)) (example_slots kind)
 value_alike kinds.Text value items text h k = text_slots value (chars text) h
 value_alike kinds.Number value items text h k = number_slots value h.0 h.2
+value_alike kinds.Decimal value items text h k = decimal_slots value h.0.units h.0.scale h.2
 value_alike kinds.List value items text h k =
     (no_slots_alike, items_alike items (items_of text) k)
 

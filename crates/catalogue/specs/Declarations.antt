@@ -41,16 +41,19 @@ without ending text =
     if bytes_eq (drop (length text - length ending) text) ending
     then Some (take (length text - length ending) text) else None
 
--- the name and the kind by what is before `:`, and before `[]`, at the end of a text
-abbrev pub by_ending : List ℕ → (number list : Option (List ℕ)) → List ℕ × Kind
-by_ending text (Some name) list = (name, kinds.Number)
-by_ending text None (Some name) = (name, kinds.List)
-by_ending text None None = (text, kinds.Text)
+-- the name and the kind by what is before `:`, before `:.`, and before `[]`, at the end of a text
+abbrev pub by_ending : List ℕ → (number decimal list : Option (List ℕ)) → List ℕ × Kind
+by_ending text (Some name) decimal list = (name, kinds.Number)
+by_ending text None (Some name) list = (name, kinds.Decimal)
+by_ending text None None (Some name) = (name, kinds.List)
+by_ending text None None None = (text, kinds.Text)
 
--- the name and the kind that a text gives: `name:` of a number, `name[]` of a list, else `name` of a
--- text
+-- the name and the kind that a text gives: `name:` of a whole number, `name:.` of a decimal,
+-- `name[]` of a list, else `name` of a text
 abbrev pub declaration_of : List ℕ → List ℕ × Kind
-declaration_of text = by_ending text (without (codes ":") text) (without (codes "[]") text)
+declaration_of text =
+    by_ending text (without (codes ":") text) (without (codes ":.") text)
+    (without (codes "[]") text)
 
 -- a text can be a declared name: it is not empty, and has no white space
 abbrev pub is_name : List ℕ → Bool

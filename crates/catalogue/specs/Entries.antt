@@ -1,8 +1,8 @@
 -- Values under names, and as pairs of a context.
 use Rattle.std.specs.Prelude.{◌≡◌, ℕ, List, map}
 use Rattle.std.specs.Borrow.{Bor}
-use Rattle.interpolator.specs.Slots.{Slots, empty_slots, slots_of, with_debug_display, with_integer}
-use Rattle.interpolator.specs.Slots.{with_iter}
+use Rattle.interpolator.specs.Slots.{Slots, empty_slots, slots_of, with_debug_display, with_float}
+use Rattle.interpolator.specs.Slots.{with_integer, with_iter}
 use Rattle.interpolator.specs.declared.Formattable.{Formattable}
 use Rattle.interpolator.specs.declared.View.{View}
 use Rattle.catalogue.specs.declared.declarations.Kind.{Kind}
@@ -18,11 +18,12 @@ Pair = Bor (List ℕ) × Formattable View
 abbrev pub item_slots : List View → List (Slots View)
 item_slots views = map (λ view. with_debug_display empty_slots view) views
 
--- the slots that a value of a kind fills: a text those of debug and display, a number those of an
--- integer, a list that of its items
+-- the slots that a value of a kind fills: a text those of debug and display, a whole number those
+-- of an integer, a decimal those of debug, display and exponents, a list that of its items
 abbrev pub slots_by : Kind → View → List (Slots View) → Slots View
 slots_by kinds.Text value items = with_debug_display empty_slots value
 slots_by kinds.Number value items = with_integer empty_slots value
+slots_by kinds.Decimal value items = with_float empty_slots value
 slots_by kinds.List value items = with_iter empty_slots items
 
 -- the slots that an object fills

@@ -5,8 +5,8 @@ use Rattle.std.specs.Option.{option_map}
 use Rattle.std.specs.Str.{bytes_eq, chars, encode_utf8_all}
 use Rattle.interpolator.specs.At.{outermost}
 use Rattle.interpolator.specs.Faults.{Answer, Fault, fault, no_memory, parse, unsupported_option}
-use Rattle.interpolator.specs.Slots.{Slots, empty_slots, with_debug_display, with_integer}
-use Rattle.interpolator.specs.Slots.{with_iter}
+use Rattle.interpolator.specs.Slots.{Slots, empty_slots, with_debug_display, with_float}
+use Rattle.interpolator.specs.Slots.{with_integer, with_iter}
 use Rattle.interpolator.specs.Template.NodeChecks.{text_faults}
 use Rattle.interpolator.specs.Template.NodeSamples.{faults_over}
 use Rattle.interpolator.specs.Views.{Shown, shown_as_value}
@@ -14,7 +14,7 @@ use Rattle.interpolator.specs.declared.Bits.TheVariants.{B128}
 use Rattle.interpolator.specs.declared.Spec.{Spec}
 use Rattle.interpolator.specs.declared.Trait.{Trait}
 use Rattle.interpolator.specs.declared.View.{View}
-use Rattle.interpolator.specs.declared.View.TheVariants.{Character, Signed}
+use Rattle.interpolator.specs.declared.View.TheVariants.{Character, Decimal, Signed}
 use Rattle.catalogue.specs.Declarations.{Declared, nothing, these, broken}
 use Rattle.catalogue.specs.Entries.{object_slots}
 use Rattle.catalogue.specs.declared.entries.Object.{Object}
@@ -29,9 +29,13 @@ view_shows view t spec = shown_as_value view
 abbrev pub text_example : View
 text_example = Character 97
 
--- an example of a number
+-- an example of a whole number
 abbrev pub number_example : View
 number_example = Signed (pos 0) B128
+
+-- an example of a decimal
+abbrev pub decimal_example : View
+decimal_example = Decimal (pos 0) 0
 
 -- the one item of an example of a list
 abbrev pub item_examples : List (Slots View)
@@ -41,6 +45,7 @@ item_examples = with_debug_display empty_slots text_example ∷ []
 abbrev pub example_slots : Kind → Slots View
 example_slots kinds.Text = with_debug_display empty_slots text_example
 example_slots kinds.Number = with_integer empty_slots number_example
+example_slots kinds.Decimal = with_float empty_slots decimal_example
 example_slots kinds.List = with_iter empty_slots item_examples
 
 -- an object is an example of a declaration

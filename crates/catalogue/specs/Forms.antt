@@ -23,7 +23,7 @@ Chosen = List ℕ × Option (List ℕ)
 abbrev pub as_choice : Choice → Chosen
 as_choice choice = (choice.form.now, option_map (λ name. name.now) choice.lacks)
 
--- the number that a view has
+-- the whole number that a view has
 abbrev pub number_of : View → Option ℤ
 number_of (Signed number bits) = Some number
 number_of _ = None

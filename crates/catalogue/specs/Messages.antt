@@ -216,7 +216,7 @@ told_of_replies file number line format declared whys =
 
 -- what is reported of a broken declaration
 abbrev pub what_is_declared : List ℕ
-what_is_declared = codes "declarations are `(NAME, NAME:, NAME[])`, each name once"
+what_is_declared = codes "declarations are `(NAME, NAME:, NAME:., NAME[])`, each name once"
 
 -- what is reported of a line's message: a broken declaration, or its format's faults
 abbrev pub told_of_message : List ℕ → ℕ → (line : List ℕ) → Declared → (format : List ℕ) → List ℕ

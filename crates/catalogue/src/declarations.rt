@@ -20,6 +20,8 @@ pub enum Kind {
     Text,
     /// A whole number.
     Number,
+    /// A decimal.
+    Decimal,
     /// A list of texts.
     List,
 }
@@ -60,9 +62,9 @@ fn without<'a>(ending: &str, text: &'a str) -> Option<&'a str>
     text.strip_suffix(ending)
 }
 
-/// The name and the kind that a text gives: `NAME:` is a number, `NAME[]` a list of texts, and any
-/// other text is the name of a text. A word has such a text before its first `=`, and the head of a
-/// line such texts between its brackets.
+/// The name and the kind that a text gives: `NAME:` is a whole number, `NAME:.` a decimal, `NAME[]`
+/// a list of texts, and any other text is the name of a text. A word has such a text before its
+/// first `=`, and the head of a line such texts between its brackets.
 pub fn declaration_of(text: &str) -> Declaration<'_>
     ensures { as_declaration result ≡ declaration_of text.now }
 {
@@ -70,6 +72,12 @@ pub fn declaration_of(text: &str) -> Declaration<'_>
         return Declaration {
             name,
             kind: Kind::Number,
+        };
+    }
+    if let Some(name) = without(":.", text) {
+        return Declaration {
+            name,
+            kind: Kind::Decimal,
         };
     }
     if let Some(name) = without("[]", text) {
@@ -207,9 +215,9 @@ pub fn key_in(head: &str) -> &str
 
 /// The key of a line's head, and what it declares.
 ///
-/// `greeting(name, count:, items[])` declares a text `name`, a number `count` and a list of texts
-/// `items`. Each name is declared once, and has no white space. After the `)` there is nothing but
-/// white space.
+/// `bill(name, count:, price:., items[])` declares a text `name`, a whole number `count`, a decimal
+/// `price` and a list of texts `items`. Each name is declared once, and has no white space. After the
+/// `)` there is nothing but white space.
 pub fn heading_of<'a>(alloc: Global, head: &'a str) -> Result<(&'a str, Heading<'a>), AllocError>
     ensures key { IfOk result (λ found. found.0.now ≡ key_in head.now) }
     ensures declared { IfOk result (λ found. declared_by found.1 ≡ declared_in head.now) }

@@ -15,7 +15,7 @@ use std::alloc::Global;
 pub struct Object<'a> {
     pub name: &'a str,
     pub kind: Kind,
-    /// The view of a text or a number.
+    /// The view of a text, a whole number or a decimal.
     pub value: View<'a>,
     /// The views of the items of a list.
     pub items: Vec<View<'a>>,
@@ -70,14 +70,15 @@ pub fn entries_of<'e, 'a>(alloc: Global, objects: &'e [Object<'a>]) -> Result<Ve
     Ok(entries)
 }
 
-/// The slots that a value fills, by its kind: a text those of debug and display, a number all those
-/// of an integer, a list that of its items.
+/// The slots that a value fills, by its kind: a text those of debug and display, a whole number all
+/// those of an integer, a decimal those of debug, display and exponents, a list that of its items.
 fn slots_by<'p, 'e>(entry: &'p Entry<'e>) -> Formattable<'p, View<'e>>
     ensures { slots_of result ≡ entry_slots entry.now }
 {
     match entry.kind {
         Kind::Text => Formattable::debug_display(entry.value),
         Kind::Number => Formattable::integer(entry.value),
+        Kind::Decimal => Formattable::float(entry.value),
         Kind::List => Formattable::iter(entry.items.as_slice()),
     }
 }

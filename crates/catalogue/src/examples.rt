@@ -15,8 +15,11 @@ use std::alloc::Global;
 /// An example of a text: a character, which can be formatted under the same traits as any text.
 const TEXT: View<'static> = View::Character('a');
 
-/// An example of a number.
+/// An example of a whole number.
 const NUMBER: View<'static> = View::Signed(0, Bits::B128);
+
+/// An example of a decimal.
+const DECIMAL: View<'static> = View::Decimal { units: 0, scale: 0 };
 
 /// An example of a declaration.
 fn example_of<'a>(alloc: Global, declared: &Declaration<'a>) -> Result<Object<'a>, Error>
@@ -27,6 +30,7 @@ fn example_of<'a>(alloc: Global, declared: &Declaration<'a>) -> Result<Object<'a
     items.push(TEXT)?;
     let value = match declared.kind {
         Kind::Number => NUMBER,
+        Kind::Decimal => DECIMAL,
         Kind::Text => TEXT,
         Kind::List => TEXT,
     };

@@ -1,20 +1,23 @@
-//! `catalogue [--fallback FILE] FILE KEY [NAME=TEXT | NAME:=NUMBER | NAME[]=ITEM,ITEM..]`: the message
-//! under a key in a file whose messages are all checked first. If the file lacks the key, the message
-//! is that of the fallback, which is checked too. `catalogue --check FILE..` checks files alone.
+//! `catalogue [--fallback FILE] FILE KEY [NAME=TEXT | NAME:=NUMBER | NAME:.=DECIMAL |
+//! NAME[]=ITEM,ITEM..]`: the message under a key in a file whose messages are all checked first. If
+//! the file lacks the key, the message is that of the fallback, which is checked too. `catalogue
+//! --check FILE..` checks files alone.
 //!
-//! A line of a file is `key = format`, or `key(name, count:, items[]) = format`, which declares
-//! a text `name`, a number `count` and a list of texts `items`. The format is then checked with
-//! examples of these, and the words have to give them, in any order. No two lines of a file have the
-//! same key. Blank lines, and lines that begin with `#`, are skipped. Each fault is shown in its line,
-//! with the file, the line and the column; if there is any, no message is written.
+//! A line of a file is `key = format`, or `key(name, count:, price:., items[]) = format`, which
+//! declares a text `name`, a whole number `count`, a decimal `price` and a list of texts `items`.
+//! The format is then checked with examples of these, and the words have to give them, in any order.
+//! No two lines of a file have the same key. Blank lines, and lines that begin with `#`, are skipped.
+//! Each fault is shown in its line, with the file, the line and the column; if there is any, no
+//! message is written.
 //!
 //! A line that begins with `plural:` is the rule of its file, as
 //! `plural: n == 0 ? zero : n == 1 ? one : other`. It stands once, before all messages. If the file
 //! has no line of the key `cart`, `catalogue FILE cart n:=1` writes the message of `cart.one`: the
 //! form is that of the first test whose number is the one of the word with its name, or else the last
 //! one. A test compares a name with a whole number of 64 bits: a rule of `n % 10`, or of numbers
-//! between two, cannot be written. A number that is missing is reported, and so is a form; a check
-//! tells what is wrong with the rule, and not whether each key has every form.
+//! between two, cannot be written. A number that is missing is reported, also if a decimal has its
+//! name, and so is a form; a check tells what is wrong with the rule, and not whether each key has
+//! every form.
 //!
 //! The status is 0 after a message, or a check without a fault; 1 after a fault, 2 after a wrong use or
 //! a bad word, and 3 if a file cannot be read or the output cannot be written.
@@ -39,7 +42,7 @@ use std::process::ExitCode;
 use std::{env, fs, io};
 
 const USAGE: &str = "usage: catalogue [--fallback FILE] FILE KEY \
-    [NAME=TEXT | NAME:=NUMBER | NAME[]=ITEM,ITEM..] | catalogue --check FILE..";
+    [NAME=TEXT | NAME:=NUMBER | NAME:.=DECIMAL | NAME[]=ITEM,ITEM..] | catalogue --check FILE..";
 
 const WRITTEN: u8 = 0;
 

@@ -94,6 +94,7 @@ fn shape_of(kind: Kind) -> &'static str
     match kind {
         Kind::Text => "=TEXT",
         Kind::Number => ":=NUMBER",
+        Kind::Decimal => ":.=DECIMAL",
         Kind::List => "[]=ITEM,ITEM",
     }
 }

@@ -5,16 +5,18 @@ ghost use Rattle.std.specs.Prelude.{string_bytes};
 ghost use Rattle.std.specs.List.{AllZip};
 ghost use Rattle.interpolator.specs.Faults.{answer_of, no_memory};
 ghost use Rattle.interpolator.specs.Views.{shown_as_value};
+ghost use Rattle.interpolator.specs.declared.Decimal.{Decimal};
 ghost use Rattle.catalogue.specs.Declarations.{as_declaration};
-ghost use Rattle.catalogue.specs.Words.{Spells, Fits, ShowsAs, Cuts, IsCut, IsGood, Gives, IsFirstBad};
-ghost use Rattle.catalogue.specs.Words.{items_of, items_in, texts_of, texts_show};
+ghost use Rattle.catalogue.specs.Words.{Spells, IsDecimal, HasDecimal, ShowsDecimal, Fits, ShowsAs};
+ghost use Rattle.catalogue.specs.Words.{Cuts, IsCut, IsGood, Gives, IsFirstBad, items_of, items_in};
+ghost use Rattle.catalogue.specs.Words.{texts_of, texts_show};
 
 use crate::declarations::{Declaration, Kind, declaration_of};
 use crate::entries::Object;
-use interpolator::{Bits, Error, View};
+use interpolator::{Bits, Decimal, Error, View};
 use std::alloc::Global;
 
-/// The number that a text spells, if any: one that std parses, without a leading `+`.
+/// The whole number that a text spells, if any: one that std parses, without a leading `+`.
 fn number_of(text: &str) -> Option<i128>
     ensures { (value : ℤ) → Spells text.now value ↔ (result ≡ Some value) }
 {
@@ -22,6 +24,26 @@ fn number_of(text: &str) -> Option<i128>
         return None;
     }
     text.parse::<i128>().ok()
+}
+
+/// The decimal that a text spells, if any.
+fn decimal_of(text: &str) -> Option<Decimal>
+    ensures { (value : Decimal) → IsDecimal text.now value ↔ (result ≡ Some value) }
+{
+    Decimal::parse(text).ok()
+}
+
+/// The view of the decimal that a text spells, if any.
+fn decimal_view(text: &str) -> Option<View<'_>>
+    ensures { MatchOption result (¬ HasDecimal text.now) (λ view. ShowsDecimal text.now view) }
+{
+    match decimal_of(text) {
+        Some(decimal) => Some(View::Decimal {
+            units: decimal.units,
+            scale: decimal.scale,
+        }),
+        None => None,
+    }
 }
 
 /// The view of a text as a value of a kind, if it is one; a list has views of its items alone.
@@ -34,6 +56,7 @@ fn value_of(kind: Kind, text: &str) -> Option<View<'_>>
             Some(number) => Some(View::Signed(number, Bits::B128)),
             None => None,
         },
+        Kind::Decimal => decimal_view(text),
         Kind::List => Some(View::NotImplemented),
     }
 }
@@ -75,6 +98,7 @@ fn items_in<'a>(alloc: Global, kind: Kind, text: &'a str) -> Result<Vec<View<'a>
         }
         Kind::Text => Ok(Vec::new(alloc)),
         Kind::Number => Ok(Vec::new(alloc)),
+        Kind::Decimal => Ok(Vec::new(alloc)),
     }
 }
 
@@ -87,8 +111,8 @@ fn parts_of(word: &str) -> Option<(Declaration<'_>, &str)>
     Some((declaration_of(left), right))
 }
 
-/// What a word gives: `NAME=TEXT`, `NAME:=NUMBER` or `NAME[]=ITEM,ITEM..`, by its first `=`, as
-/// for `ifmt`. The name may be empty.
+/// What a word gives: `NAME=TEXT`, `NAME:=NUMBER`, `NAME:.=DECIMAL` or `NAME[]=ITEM,ITEM..`, by its
+/// first `=`, as for `ifmt`. The name may be empty.
 fn object_of<'a>(alloc: Global, word: &'a str) -> Result<Option<Object<'a>>, Error>
     ensures given { IfOk result (λ found. MatchOption found (¬ IsGood word.now)
         (λ object. Gives word.now object)) }

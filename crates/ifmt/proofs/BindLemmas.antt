@@ -18,7 +18,8 @@ use Rattle.interpolator.specs.NameMaps.{under, stored_slots}
 use Rattle.interpolator.specs.Slots.{Slots, slots_of}
 use Rattle.interpolator.specs.Views.{shown_as_value}
 use Rattle.ifmt.specs.declared.words.Word.{Word}
-use Rattle.ifmt.specs.declared.words.Word.TheVariants.{Text, Number, List as ListWord, Bad}
+use Rattle.ifmt.specs.declared.words.Word.TheVariants.{Text, Number, Decimal as DecimalWord}
+use Rattle.ifmt.specs.declared.words.Word.TheVariants.{List as ListWord, Bad}
 use Rattle.ifmt.specs.declared.binding.Object.{Object}
 use Rattle.ifmt.specs.declared.binding.Entry.{Entry}
 use Rattle.ifmt.specs.Words.{IsGood, Classifies}
@@ -87,6 +88,14 @@ binds text (Text _ _) value objects old new good means shows items filled = reco
   others = filled.others;
 }
 binds text (Number _ _) value objects old new good means shows items filled = record {
+  assignment = _;
+  means = (means _).1 refl;
+  tree = _;
+  merges = (value, shows, refl);
+  here = filled.here;
+  others = filled.others;
+}
+binds text (DecimalWord _ _) value objects old new good means shows items filled = record {
   assignment = _;
   means = (means _).1 refl;
   tree = _;

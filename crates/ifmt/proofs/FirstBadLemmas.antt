@@ -6,7 +6,8 @@ use Rattle.std.proofs.lemmas.List.{take_all}
 use Rattle.std.proofs.lemmas.List.Elements.{All-more}
 use Rattle.std.specs.declared.string.String.{String}
 use Rattle.ifmt.specs.declared.words.Word.{Word}
-use Rattle.ifmt.specs.declared.words.Word.TheVariants.{Text, Number, List as ListWord, Bad}
+use Rattle.ifmt.specs.declared.words.Word.TheVariants.{Text, Number, Decimal as DecimalWord}
+use Rattle.ifmt.specs.declared.words.Word.TheVariants.{List as ListWord, Bad}
 use Rattle.ifmt.specs.Words.{Classifies, IsGood}
 use Rattle.ifmt.specs.Command.{AllGood, IsFirstBad}
 
@@ -15,6 +16,7 @@ pub good_unless_bad : (word : List ℕ) (result : Word) → Classifies word resu
     (result ≡ Bad → ⊥) → IsGood word
 good_unless_bad word (Text _ _) means not_bad = (_, (means _).1 refl)
 good_unless_bad word (Number _ _) means not_bad = (_, (means _).1 refl)
+good_unless_bad word (DecimalWord _ _) means not_bad = (_, (means _).1 refl)
 good_unless_bad word (ListWord _ _) means not_bad = (_, (means _).1 refl)
 good_unless_bad word Bad means not_bad = absurd (not_bad refl)
 

@@ -16,8 +16,13 @@ abbrev pub complaint : List ℕ → List ℕ
 complaint word = line (codes "bad word: " ++ word)
 
 -- how the program is called
+abbrev pub usage : List ℕ
+usage =
+    codes "usage: ifmt FORMAT [NAME=TEXT | NAME:=NUMBER | NAME:.=DECIMAL | NAME[]=ITEM,ITEM..]"
+
+-- the same as a line
 abbrev pub usage_line : List ℕ
-usage_line = line (codes "usage: ifmt FORMAT [NAME=TEXT | NAME:=NUMBER | NAME[]=ITEM,ITEM..]")
+usage_line = line usage
 
 -- a text was written and the status is the wanted one, or the write failed, and the status is 3
 abbrev pub Puts : (wanted : ℕ) → (old new : Option (List ℕ)) → List ℕ → (status : ℕ) → Type 0

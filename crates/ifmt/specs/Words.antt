@@ -1,21 +1,27 @@
 -- The words of the command line: what each means, by its bytes.
-use Rattle.std.specs.Prelude.{◌≡◌, ℕ, ℤ, pos, neg_ℤ, List, ◌∷◌, ◌++◌, codes, Contains, FitsSigned}
-use Rattle.std.specs.Prelude.{Option, None, Some, ◌⊎◌, ◌↔◌}
+use Rattle.std.specs.Prelude.{◌≡◌, ℕ, ℤ, pos, neg_ℤ, List, ◌∷◌, ◌++◌, codes, Contains}
+use Rattle.std.specs.Prelude.{FitsSigned, Option, None, Some, ◌⊎◌, ◌↔◌}
 use Rattle.std.specs.Int.{w128}
 use Rattle.std.specs.Str.Parse.{IsNumeral, digits_value}
+use Rattle.interpolator.specs.DecimalTexts.{IsInRange, SpellsDecimal}
+use Rattle.interpolator.specs.declared.Decimal.{Decimal}
 use Rattle.ifmt.specs.declared.words.Word.{Word}
-use Rattle.ifmt.specs.declared.words.Word.TheVariants.{Text, Number, List as ListWord, Bad}
+use Rattle.ifmt.specs.declared.words.Word.TheVariants.{Text, Number, Decimal as DecimalWord}
+use Rattle.ifmt.specs.declared.words.Word.TheVariants.{List as ListWord, Bad}
 
--- what a word that is not bad puts under a name: a text, a number or a list of items
+-- what a word that is not bad puts under a name: a text, a whole number, a decimal or the items of
+-- a list
 pub data Assignment : Type 0 where
   text : (name value : List ℕ) → Assignment
   number : (name : List ℕ) (value : ℤ) → Assignment
+  decimal : (name : List ℕ) (value : Decimal) → Assignment
   list : (name items : List ℕ) → Assignment
 
 -- the assignment of a `Word`, borrows aside: `None` for `Bad`
 abbrev pub assignment_of : Word → Option Assignment
 assignment_of (Text name value) = Some (text name.now value.now)
 assignment_of (Number name value) = Some (number name.now value)
+assignment_of (DecimalWord name value) = Some (decimal name.now value)
 assignment_of (ListWord name items) = Some (list name.now items.now)
 assignment_of Bad = None
 
@@ -40,12 +46,20 @@ pub record Spells (whole : List ℕ) (value : ℤ) : Type 0 where
       ⊎ ((whole ≡ codes "-" ++ digits) × (value ≡ neg_ℤ (pos (digits_value 10 digits))))
   pub fits : FitsSigned w128 value
 
--- the rule on the parts before and after the `=`: after `:` a number, after `[]` the items of a
--- list, else a text
+-- a text spells a decimal in range: an optional sign, digits, and perhaps a point with digits after
+-- it; the scale is how many those are
+abbrev pub IsDecimal : List ℕ → Decimal → Type 0
+IsDecimal whole value =
+    SpellsDecimal whole value.units value.scale × IsInRange value.units value.scale
+
+-- the rule on the parts before and after the `=`: after `:` a whole number, after `:.` a decimal,
+-- after `[]` the items of a list, else a text
 abbrev pub PartsMean : List ℕ → List ℕ → Assignment → Type 0
 PartsMean left right (text name value) =
-    (left ≡ name) × (right ≡ value) × ¬ (EndsIn (codes ":") left) × ¬ (EndsIn (codes "[]") left)
+    (left ≡ name) × (right ≡ value) × ¬ (EndsIn (codes ":") left) × ¬ (EndsIn (codes ":.") left)
+    × ¬ (EndsIn (codes "[]") left)
 PartsMean left right (number name value) = (left ≡ name ++ codes ":") × Spells right value
+PartsMean left right (decimal name value) = (left ≡ name ++ codes ":.") × IsDecimal right value
 PartsMean left right (list name items) = (left ≡ name ++ codes "[]") × (right ≡ items)
 
 -- what a word means, by its parts

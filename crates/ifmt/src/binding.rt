@@ -19,7 +19,7 @@ use std::alloc::Global;
 pub struct Object<'a> {
     /// The word, classified.
     pub word: Word<'a>,
-    /// The view of a text or a number.
+    /// The view of a text, a whole number or a decimal.
     pub value: View<'a>,
     /// The views of the items of a list.
     pub items: Vec<View<'a>>,
@@ -30,7 +30,7 @@ pub struct Object<'a> {
 pub struct Entry<'a> {
     /// The word, classified.
     pub word: Word<'a>,
-    /// The view of a text or a number.
+    /// The view of a text, a whole number or a decimal.
     pub value: &'a View<'a>,
     /// The items of a list.
     pub items: Vec<Formattable<'a, View<'a>>>,
@@ -69,13 +69,17 @@ fn object_of<'a>(alloc: Global, word: Word<'a>) -> Result<Object<'a>, Error>
     })
 }
 
-// The view of a word's text or number; a word with neither has one that shows nothing.
+// The view of a word's text, whole number or decimal; another word has one that shows nothing.
 fn value_of<'a>(word: Word<'a>) -> View<'a>
     ensures { shown_as_value result ≡ object_shows word.entry }
 {
     match word {
         Word::Text { name: _, text } => View::Text(text),
         Word::Number { name: _, value } => View::Signed(value, Bits::B128),
+        Word::Decimal { name: _, value } => View::Decimal {
+            units: value.units,
+            scale: value.scale,
+        },
         Word::List { name: _, items: _ } => View::NotImplemented,
         Word::Bad => View::NotImplemented,
     }
@@ -97,6 +101,7 @@ fn item_objects<'a>(alloc: Global, word: Word<'a>) -> Result<Vec<View<'a>>, Erro
         }
         Word::Text { name: _, text: _ } => Ok(Vec::new(alloc)),
         Word::Number { name: _, value: _ } => Ok(Vec::new(alloc)),
+        Word::Decimal { name: _, value: _ } => Ok(Vec::new(alloc)),
         Word::Bad => Ok(Vec::new(alloc)),
     }
 }
@@ -146,8 +151,9 @@ fn as_items<'a, V>(alloc: Global, objects: &'a [V]) -> Result<Vec<Formattable<'a
     Ok(items)
 }
 
-/// Fills slots under a word's name: a text those of debug and display, a number all those of an
-/// integer, a list that of its items. The other slots stay as they were.
+/// Fills slots under a word's name: a text those of debug and display, a whole number all those of
+/// an integer, a decimal those of a float, a list that of its items. The other slots stay as they
+/// were.
 ///
 /// # Errors
 ///
@@ -165,6 +171,7 @@ pub fn fill<'a, V>(
     match word {
         Word::Text { name, text: _ } => context.entry(name)?.set_debug_display(value),
         Word::Number { name, value: _ } => context.entry(name)?.set_integer(value),
+        Word::Decimal { name, value: _ } => context.entry(name)?.set_float(value),
         Word::List { name, items: _ } => context.entry(name)?.set_iter(items),
         Word::Bad => {}
     }

@@ -1,4 +1,5 @@
-//! `ifmt FORMAT [NAME=TEXT | NAME:=NUMBER | NAME[]=ITEM,ITEM..]`: formats on the command line.
+//! `ifmt FORMAT [NAME=TEXT | NAME:=NUMBER | NAME:.=DECIMAL | NAME[]=ITEM,ITEM..]`: formats on the
+//! command line.
 #![tactic(auto)]
 
 mod binding;

@@ -104,7 +104,7 @@ fn put_usage<E: Write>(err: &mut E) -> io::Result<()>
 {
     writeln!(
         err,
-        "usage: ifmt FORMAT [NAME=TEXT | NAME:=NUMBER | NAME[]=ITEM,ITEM..]"
+        "usage: ifmt FORMAT [NAME=TEXT | NAME:=NUMBER | NAME:.=DECIMAL | NAME[]=ITEM,ITEM..]"
     )?;
     err.flush()
 }

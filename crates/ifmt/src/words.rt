@@ -3,14 +3,18 @@
 ghost use Rattle.std.specs.Prelude.{◌≡◌, ◌↔◌, ℕ, ℤ, IfErr, IfOk, List, Some};
 ghost use Rattle.interpolator.specs.declared.Error.TheVariants.{NoMemory};
 ghost use Rattle.ifmt.specs.Items.{AreItems, items_of, texts_of};
-ghost use Rattle.ifmt.specs.Words.{Assignment, Classifies, PartsMean, Spells, assignment_of};
+ghost use Rattle.interpolator.specs.declared.Decimal.{Decimal};
+ghost use Rattle.ifmt.specs.Words.{Assignment, Classifies, IsDecimal, PartsMean, Spells};
+ghost use Rattle.ifmt.specs.Words.{assignment_of};
 
-use interpolator::Error;
+use interpolator::{Decimal, Error};
 use std::alloc::Global;
 
 const EQUALS: char = '=';
 
 const NUMBER_MARK: char = ':';
+
+const DECIMAL_MARK: &str = ":.";
 
 const LIST_MARK: &str = "[]";
 
@@ -19,12 +23,14 @@ const PLUS: char = '+';
 const COMMA: char = ',';
 
 /// The value that a word of the command line gives.
-#[derive(Clone, Copy, Debug, PartialEq, Eq)]
+#[derive(Clone, Copy, Debug, PartialEq)]
 pub enum Word<'a> {
     /// `NAME=TEXT`: a text under a name.
     Text { name: &'a str, text: &'a str },
-    /// `NAME:=NUMBER`: a number under a name.
+    /// `NAME:=NUMBER`: a whole number under a name.
     Number { name: &'a str, value: i128 },
+    /// `NAME:.=DECIMAL`: a decimal under a name.
+    Decimal { name: &'a str, value: Decimal },
     /// `NAME[]=ITEM,ITEM..`: a list of texts under a name.
     List { name: &'a str, items: &'a str },
     /// None of these.
@@ -33,13 +39,14 @@ pub enum Word<'a> {
 
 /// Classifies a word.
 ///
-/// It is split at its first `=`. If the part before ends in `:`, the part after is a number: an
-/// optional `-` and one or more ASCII digits within `i128`. If it ends in `[]`, the part after
-/// has the [`items`] of a list. Else the part after is a text. The name is what comes before the
-/// ending, and may be empty. A word without an `=`, or with no such number, is `Bad`.
+/// It is split at its first `=`. If the part before ends in `:`, the part after is a whole number:
+/// an optional `-` and one or more ASCII digits within `i128`. If it ends in `:.`, the part after
+/// is a decimal, as [`Decimal::parse`] reads it. If it ends in `[]`, the part after has the
+/// [`items`] of a list. Else the part after is a text. The name is what comes before the ending,
+/// and may be empty. A word without an `=`, or with no such number, is `Bad`.
 ///
-/// `a=b=c` is the text `b=c` under `a`, `n:=-12` the number -12 under `n`, and `l[]=a,b` the list
-/// of `a` and `b` under `l`.
+/// `a=b=c` is the text `b=c` under `a`, `n:=-12` the number -12 under `n`, `p:.=12.50` the decimal
+/// 12.50 under `p`, and `l[]=a,b` the list of `a` and `b` under `l`.
 pub fn classify(word: &str) -> Word<'_>
     ensures { Classifies word.now result }
 {
@@ -60,6 +67,12 @@ fn classify_parts<'a>(left: &'a str, right: &'a str) -> Word<'a>
             Some(value) => Word::Number { name, value },
         };
     }
+    if let Some(name) = left.strip_suffix(DECIMAL_MARK) {
+        return match decimal_of(right) {
+            None => Word::Bad,
+            Some(value) => Word::Decimal { name, value },
+        };
+    }
     if let Some(name) = left.strip_suffix(LIST_MARK) {
         return Word::List { name, items: right };
     }
@@ -77,6 +90,13 @@ fn number_of(text: &str) -> Option<i128>
         return None;
     }
     text.parse::<i128>().ok()
+}
+
+// The decimal that a text spells, if any.
+fn decimal_of(text: &str) -> Option<Decimal>
+    ensures { (value : Decimal) → IsDecimal text.now value ↔ (result ≡ Some value) }
+{
+    Decimal::parse(text).ok()
 }
 
 /// The items of a list: the parts of its text between commas. The empty text has none.

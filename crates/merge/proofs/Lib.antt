@@ -1,3 +1,6 @@
-pub mod CsvLemmas
-pub mod LetterLemmas
-pub mod TableLemmas
+mod CsvLemmas
+mod EndingLemmas
+mod LetterLemmas
+mod LineLemmas
+mod TableLemmas
+mod ValueLemmas

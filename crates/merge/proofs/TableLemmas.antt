@@ -5,31 +5,47 @@ use Rattle.std.proofs.Common.{append-nil, append_assoc, arith, Option, None, Som
 use Rattle.std.proofs.lemmas.Iterator.{YieldsList}
 use Rattle.std.proofs.lemmas.Iterator.Consumers.{YieldsList-end, YieldsList-turn}
 use Rattle.std.proofs.lemmas.List.{get_or_default, map_more}
+use Rattle.std.proofs.lemmas.Slice.Zip.{AllZip-long, all_zipped_more}
 use Rattle.std.specs.Borrow.{Bor}
 use Rattle.std.specs.List.{list_any}
 use Rattle.std.specs.Option.{unwrap_or}
 use Rattle.std.specs.Str.{bytes_eq}
-use Rattle.merge.specs.Table.{faults_from, is_among, repeat_trouble, repeats, repeats_after}
-use Rattle.merge.specs.Table.{trouble_of, with_line}
+use Rattle.merge.specs.Table.{AreFaults, HasTrouble, is_among, repeat_trouble, repeats}
+use Rattle.merge.specs.Table.{repeats_after, told_from, with_line}
+use Rattle.merge.specs.declared.columns.Kind.{Kind}
 use Rattle.merge.specs.declared.table.LineFault.{LineFault}
+use Rattle.merge.specs.declared.table.Trouble.{Trouble}
+
+-- one trouble more
+told_more : (number : ℕ) (found : List (Option Trouble)) (trouble : Option Trouble)
+    → told_from number (found ++ (trouble ∷ []))
+    ≡ told_from number found ++ with_line (number + length found) trouble
+told_more number [] trouble =
+    let same : number + 0 ≡ number = omega arith in
+    rw same (append-nil (with_line number trouble))
+told_more number (x ∷ more) trouble =
+    let after : number + 1 + length more ≡ number + length (x ∷ more) = omega arith in
+    ap (λ (fs : List LineFault). with_line number x ++ fs)
+    (told_more (number + 1) more trouble
+    ∙ ap (λ (n : ℕ). told_from (number + 1) more ++ with_line n trouble) after)
+    ∙ sym (append_assoc (with_line number x) (told_from (number + 1) more)
+    (with_line (number + length (x ∷ more)) trouble))
 
 -- one line more
-pub faults_more : (names number : ℕ) (some_lines : List (List ℕ)) (line : List ℕ)
-    → faults_from names number (some_lines ++ (line ∷ []))
-    ≡ faults_from names number some_lines
-    ++ with_line (number + length some_lines) (trouble_of names line)
-faults_more names number [] line =
-    let same : number + 0 ≡ number = omega arith in
-    rw same (append-nil (with_line number (trouble_of names line)))
-faults_more names number (x ∷ more) line =
-    let after : number + 1 + length more ≡ number + length (x ∷ more) = omega arith in
-    ap (λ (fs : List LineFault). with_line number (trouble_of names x) ++ fs)
-    (faults_more names (number + 1) more line
-    ∙ ap (λ (n : ℕ). faults_from names (number + 1) more ++ with_line n (trouble_of names line))
-    after)
-    ∙ sym (append_assoc (with_line number (trouble_of names x))
-    (faults_from names (number + 1) more)
-    (with_line (number + length (x ∷ more)) (trouble_of names line)))
+pub faults_more : (kinds : List Kind) (number : ℕ) (some_lines : List (List ℕ)) (line : List ℕ)
+    (told : List LineFault) (trouble : Option Trouble) → AreFaults kinds number some_lines told
+    → HasTrouble kinds line trouble
+    → AreFaults kinds number (some_lines ++ (line ∷ []))
+    (told ++ with_line (number + length some_lines) trouble)
+faults_more kinds number some_lines line told trouble so_far one = record {
+  found = so_far.found ++ (trouble ∷ []);
+  each = all_zipped_more (HasTrouble kinds) some_lines so_far.found line trouble so_far.each one;
+  all = ap (λ (n : ℕ). told ++ with_line (number + n) trouble)
+      (sym (AllZip-long (HasTrouble kinds) some_lines so_far.found so_far.each))
+      ∙ (ap (λ (fs : List LineFault). fs ++ with_line (number + length so_far.found) trouble)
+      so_far.all
+      ∙ sym (told_more number so_far.found trouble));
+}
 
 -- one name more
 pub repeats_more : (before names : List (List ℕ)) (name : List ℕ)

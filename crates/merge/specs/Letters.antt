@@ -1,6 +1,6 @@
 -- What the letters of a template and a table are. Template, table, lines and fields are bytes, and
 -- letters are characters.
-use Rattle.std.specs.Prelude.{◌≡◌, ◌≢◌, ◌⊎◌, ℕ, List, [], ◌++◌, length, map}
+use Rattle.std.specs.Prelude.{◌≡◌, ◌≢◌, ◌⊎◌, ℕ, List, [], ◌++◌, map}
 use Rattle.std.specs.Prelude.{None, Some, Option, Result, MatchResult}
 use Rattle.std.specs.Borrow.{Bor}
 use Rattle.std.specs.List.{AllZip, concat}
@@ -11,55 +11,43 @@ use Rattle.interpolator.specs.Faults.{Fault as Wrong, answer_of, no_memory}
 use Rattle.interpolator.specs.Meaning.Environments.{environment}
 use Rattle.interpolator.specs.Meaning.Meanings.{Meaning, means}
 use Rattle.interpolator.specs.Prepared.Rows.{PreparedFormat, found_by_row, pair_names, row_at}
-use Rattle.interpolator.specs.Slots.{Slots, slots_of, empty_slots, with_debug_display}
+use Rattle.interpolator.specs.Slots.{slots_of}
 use Rattle.interpolator.specs.Template.Collecting.{AnswersFirst}
 use Rattle.interpolator.specs.Template.NodeSamples.{faults_over}
-use Rattle.interpolator.specs.Views.{Shown, some_text}
+use Rattle.interpolator.specs.Views.{Shown, shown_as_value}
 use Rattle.interpolator.specs.declared.Error.{Error}
 use Rattle.interpolator.specs.declared.Formattable.{Formattable}
 use Rattle.interpolator.specs.declared.Spec.{Spec}
 use Rattle.interpolator.specs.declared.Trait.{Trait}
+use Rattle.interpolator.specs.declared.View.{View}
 use Rattle.merge.specs.Csv.{fields_of}
-use Rattle.merge.specs.Table.{faults_from, faults_in, names_of, trouble_of}
+use Rattle.merge.specs.Table.{AreFaults, AreFaultsIn, HasTrouble, kinds_of, names_of}
+use Rattle.merge.specs.Values.{AreShown, IsMisfit, as_value, example_slots}
+use Rattle.merge.specs.declared.columns.Kind.{Kind}
 use Rattle.merge.specs.declared.letters.Fault.{Fault}
 use Rattle.merge.specs.declared.letters.Fault.TheVariants as why
 use Rattle.merge.specs.declared.table.LineFault.{LineFault}
 use Rattle.merge.specs.declared.table.Trouble.{Trouble}
+use Rattle.merge.specs.declared.table.Trouble.TheVariants.{NotNumber}
 
--- ---- names and fields as values
-
--- a lent text
-abbrev pub Text : Type 0
-Text = Bor (List ℕ)
+-- ---- columns and fields as values
 
 -- the values of a row
 abbrev pub Row : Type 0
-Row = List (Formattable Text)
+Row = List (Formattable View)
 
 -- the pairs of a sample
 abbrev pub Sample : Type 0
-Sample = List (Text × Formattable Text)
+Sample = List (Bor (List ℕ) × Formattable View)
 
--- what a text shows
-abbrev pub text_shows : Text → Trait → Spec → Shown
-text_shows text _ _ = some_text (chars text.now)
+-- what a view shows as a value, whatever the trait and the spec
+abbrev pub view_shows : View → Trait → Spec → Shown
+view_shows view _ _ = shown_as_value view
 
--- a value that shows a text, by display and by debug
-abbrev pub as_value : Text → Slots Text
-as_value text = with_debug_display empty_slots text
-
--- a row has these fields
-pub record HasFields (fields : List (List ℕ)) (row : Row) : Type 0 where
-  pub texts : List Text
-  pub same_fields : map (λ x. x.now) texts ≡ fields
-  pub same_values : map slots_of row ≡ map as_value texts
-
--- a sample has these names, each of which is its own example value
-pub record HasNames (names : List (List ℕ)) (sample : Sample) : Type 0 where
-  pub texts : List Text
-  pub same_texts : map (λ x. x.now) texts ≡ names
+-- a sample has these names, and under each an example of its column
+pub record HasNames (names : List (List ℕ)) (kinds : List Kind) (sample : Sample) : Type 0 where
   pub same_names : pair_names sample ≡ names
-  pub same_values : map (λ pair. slots_of pair.1) sample ≡ map as_value texts
+  pub same_values : map (λ pair. slots_of pair.1) sample ≡ map example_slots kinds
 
 -- ---- letters
 
@@ -69,27 +57,33 @@ form_of template table = record { text = template; names = names_of table }
 
 -- what it means with a row of values
 abbrev pub letter_means : PreparedFormat → Row → Meaning
-letter_means form row = means text_shows (environment (found_by_row form.names (row_at row)))
+letter_means form row = means view_shows (environment (found_by_row form.names (row_at row)))
     (outermost (chars form.text))
 
--- a text is the letter of some fields: what the template means with them, without fault
-pub record IsLetterOf (form : PreparedFormat) (fields : List (List ℕ)) (letter : List ℕ)
-    : Type 0 where
+-- a text is the letter of some views: what the template means with them, without fault
+pub record IsLetterWith (form : PreparedFormat) (views : List View) (letter : List ℕ) : Type 0 where
   pub row : Row
-  pub has : HasFields fields row
+  pub same_values : map slots_of row ≡ map as_value views
   pub sound : (letter_means form row).fault ≡ None
   pub said : letter ≡ text_of (letter_means form row).text
 
--- a text is the letter of a line, which has a field for each name, and its quotes in order
-abbrev pub IsLetter : PreparedFormat → (line letter : List ℕ) → Type 0
-IsLetter form line letter = (trouble_of (length form.names) line ≡ None)
-    × IsLetterOf form (fields_of line) letter
+-- a text is the letter of the fields of some columns
+pub record IsLetterOf (form : PreparedFormat) (kinds : List Kind) (fields : List (List ℕ))
+    (letter : List ℕ) : Type 0 where
+  pub views : List View
+  pub shown : AreShown kinds fields views
+  pub is : IsLetterWith form views letter
+
+-- a text is the letter of a line, with which nothing is wrong
+abbrev pub IsLetter : PreparedFormat → List Kind → (line letter : List ℕ) → Type 0
+IsLetter form kinds line letter =
+    HasTrouble kinds line None × IsLetterOf form kinds (fields_of line) letter
 
 -- a text is the letters of some lines, one after the other
-pub record AreLetters (form : PreparedFormat) (some_lines : List (List ℕ)) (text : List ℕ)
-    : Type 0 where
+pub record AreLetters (form : PreparedFormat) (kinds : List Kind) (some_lines : List (List ℕ))
+    (text : List ℕ) : Type 0 where
   pub letters : List (List ℕ)
-  pub each : AllZip (IsLetter form) some_lines letters
+  pub each : AllZip (IsLetter form kinds) some_lines letters
   pub all : text ≡ concat letters
 
 -- ---- faults of the template
@@ -97,48 +91,66 @@ pub record AreLetters (form : PreparedFormat) (some_lines : List (List ℕ)) (te
 -- the faults of a template with a sample
 abbrev pub faults_with : List ℕ → Sample → List Wrong
 faults_with template sample =
-    faults_over text_shows (found_by_pairs sample) (outermost (chars template))
+    faults_over view_shows (found_by_pairs sample) (outermost (chars template))
 
 -- a sample has the names, and the template has no fault with it
-pub record IsReady (form : PreparedFormat) (sample : Sample) : Type 0 where
-  pub has : HasNames form.names sample
+pub record IsReady (form : PreparedFormat) (kinds : List Kind) (sample : Sample) : Type 0 where
+  pub has : HasNames form.names kinds sample
   pub none : faults_with form.text sample ≡ []
 
--- a template has no fault with the names, each of which is its own example value
-abbrev pub IsSound : PreparedFormat → Type 0
-IsSound form = (sample : Sample) × IsReady form sample
+-- a template has no fault with an example of each column under its name
+abbrev pub IsSound : PreparedFormat → List Kind → Type 0
+IsSound form kinds = (sample : Sample) × IsReady form kinds sample
 
--- an error is the first fault that a template has with the names
-abbrev pub IsFault : PreparedFormat → Error → Type 0
-IsFault form error = (sample : Sample) × HasNames form.names sample
+-- an error is the first fault that a template has with the examples
+abbrev pub IsFault : PreparedFormat → List Kind → Error → Type 0
+IsFault form kinds error = (sample : Sample) × HasNames form.names kinds sample
     × AnswersFirst (faults_with form.text sample) (Some (answer_of error))
 
 -- a template is wrong with an error: its fault, or that memory was refused
-abbrev pub IsWrong : PreparedFormat → Error → Type 0
-IsWrong form error = (answer_of error ≡ no_memory) ⊎ IsFault form error
+abbrev pub IsWrong : PreparedFormat → List Kind → Error → Type 0
+IsWrong form kinds error = (answer_of error ≡ no_memory) ⊎ IsFault form kinds error
 
 -- ---- what is written
 
+-- views are of the columns for which a template is prepared
+pub record CanWrite (form : PreparedFormat) (sample : Sample) (views : List View) : Type 0 where
+  pub kinds : List Kind
+  pub fields : List (List ℕ)
+  pub ready : IsReady form kinds sample
+  pub shown : AreShown kinds fields views
+
 -- a letter is appended to a text, unless memory was refused
-abbrev pub PutsLetter : PreparedFormat → (fields : List (List ℕ)) → (old new : List ℕ)
+abbrev pub PutsLetter : PreparedFormat → (views : List View) → (old new : List ℕ)
     → Result (Unit {0}) Error → Type 0
-PutsLetter form fields old new result = MatchResult result
-    (λ _. (letter : List ℕ) × IsLetterOf form fields letter × (new ≡ old ++ letter))
+PutsLetter form views old new result = MatchResult result
+    (λ _. (letter : List ℕ) × IsLetterWith form views letter × (new ≡ old ++ letter))
     (λ error. answer_of error ≡ no_memory)
 
+-- the letter of the fields of a line is appended to a text, unless one is no number where one is
+-- wanted
+abbrev pub PutsFields : PreparedFormat → List Kind → (fields : List (List ℕ))
+    → (old new : List ℕ) → Option Trouble → Type 0
+PutsFields form kinds fields old new None = IsMisfit 1 kinds fields None
+    × (letter : List ℕ) × IsLetterOf form kinds fields letter × (new ≡ old ++ letter)
+PutsFields form kinds fields old new (Some trouble) = (column : ℕ)
+    × (trouble ≡ NotNumber column) × IsMisfit 1 kinds fields (Some column) × (new ≡ old)
+
 -- the letter of a line is appended to a text, unless something is wrong with the line
-abbrev pub PutsOrTells : PreparedFormat → (line old new : List ℕ) → Option Trouble → Type 0
-PutsOrTells form line old new None =
-    (letter : List ℕ) × IsLetter form line letter × (new ≡ old ++ letter)
-PutsOrTells form line old new (Some trouble) =
-    (trouble_of (length form.names) line ≡ Some trouble) × (new ≡ old)
+abbrev pub PutsOrTells : PreparedFormat → List Kind → (line old new : List ℕ) → Option Trouble
+    → Type 0
+PutsOrTells form kinds line old new None =
+    (letter : List ℕ) × IsLetter form kinds line letter × (new ≡ old ++ letter)
+PutsOrTells form kinds line old new (Some trouble) =
+    HasTrouble kinds line (Some trouble) × (new ≡ old)
 
 -- the faults of some lines are appended to others; if there are none, a text is the lines' letters
-pub record WritesRows (form : PreparedFormat) (some_lines : List (List ℕ)) (text : List ℕ)
-    (old new : List LineFault) : Type 0 where
-  pub told : new ≡ old ++ faults_from (length form.names) 2 some_lines
-  pub letters : faults_from (length form.names) 2 some_lines ≡ []
-      → AreLetters form some_lines text
+pub record WritesRows (form : PreparedFormat) (kinds : List Kind) (some_lines : List (List ℕ))
+    (text : List ℕ) (old new : List LineFault) : Type 0 where
+  pub found : List LineFault
+  pub are : AreFaults kinds 2 some_lines found
+  pub told : new ≡ old ++ found
+  pub letters : found ≡ [] → AreLetters form kinds some_lines text
 
 -- a fault is that of these lines
 abbrev pub HasLines : Fault → List LineFault → Type 0
@@ -147,6 +159,6 @@ HasLines (why.Table told) some_faults = told.items ≡ some_faults
 
 -- why there are no letters: the template is wrong with an error, or the table has these faults
 abbrev pub Prevents : (template table : List ℕ) → Fault → Type 0
-Prevents template table (why.Template error) = IsWrong (form_of template table) error
-Prevents template table (why.Table told) =
-    (told.items ≡ faults_in table) × (faults_in table ≢ [])
+Prevents template table (why.Template error) =
+    IsWrong (form_of template table) (kinds_of table) error
+Prevents template table (why.Table told) = AreFaultsIn table told.items × (told.items ≢ [])

@@ -1,10 +1,14 @@
 -- The names of a table, and what is wrong with its lines.
-use Rattle.std.specs.Prelude.{◌+◌, ◌==◌, ℕ, Bool, cond, List, [], ◌∷◌, ◌++◌, map, drop}
+use Rattle.std.specs.Prelude.{◌≡◌, ◌+◌, ◌==◌, ℕ, Bool, cond, List, [], ◌∷◌, ◌++◌, map, drop}
 use Rattle.std.specs.Prelude.{get_or, length, Option, None, Some}
-use Rattle.std.specs.List.{list_any}
-use Rattle.std.specs.Str.{bytes_eq, trim}
+use Rattle.std.specs.List.{AllZip, list_any}
+use Rattle.std.specs.Option.{option_map}
+use Rattle.std.specs.Str.{bytes_eq}
 use Rattle.std.specs.Str.Lines.{lines}
+use Rattle.merge.specs.Columns.{column_of}
 use Rattle.merge.specs.Csv.{Reading, all_fields, fields_of, read}
+use Rattle.merge.specs.Values.{IsMisfit}
+use Rattle.merge.specs.declared.columns.Kind.{Kind}
 use Rattle.merge.specs.declared.csv.Part.{Part}
 use Rattle.merge.specs.declared.csv.Part.TheVariants.{Start, Plain, Quoted, Closed, Stray}
 use Rattle.merge.specs.declared.table.LineFault.{LineFault}
@@ -15,9 +19,16 @@ use Rattle.merge.specs.declared.table.Trouble.TheVariants as troubles
 abbrev pub header_of : List ℕ → List ℕ
 header_of table = get_or (lines table) 0 []
 
--- the names of the fields: the fields of the first line, without white space around them
+-- the columns, which the fields of the first line name
+abbrev pub columns_of : List ℕ → List (List ℕ × Kind)
+columns_of table = map column_of (fields_of (header_of table))
+
+-- their names, and what the fields under them are
 abbrev pub names_of : List ℕ → List (List ℕ)
-names_of table = map trim (fields_of (header_of table))
+names_of table = map (λ column. column.0) (columns_of table)
+
+abbrev pub kinds_of : List ℕ → List Kind
+kinds_of table = map (λ column. column.1) (columns_of table)
 
 -- the lines after the first
 abbrev pub rows_of : List ℕ → List (List ℕ)
@@ -45,20 +56,39 @@ abbrev pub trouble_in : ℕ → Reading → Option Trouble
 trouble_in names reading =
     first_some (quote_trouble reading.part) (count_trouble (length (all_fields reading)) names)
 
--- what is wrong with a line, if there are so many names
+-- what is wrong with the quotes or the number of fields of a line, if there are so many names
 abbrev pub trouble_of : ℕ → List ℕ → Option Trouble
 trouble_of names line = trouble_in names (read line)
+
+-- what is wrong with the quotes or the number of fields, or else with the fields: the first that is
+-- no number where one is wanted
+abbrev pub IsTrouble : List Kind → (fields : List (List ℕ)) → (shape found : Option Trouble)
+    → Type 0
+IsTrouble kinds fields (Some trouble) found = found ≡ Some trouble
+IsTrouble kinds fields None found = (misfit : Option ℕ) × IsMisfit 1 kinds fields misfit
+    × (found ≡ option_map troubles.NotNumber misfit)
+
+-- what is wrong with a line of some columns
+abbrev pub HasTrouble : List Kind → (line : List ℕ) → Option Trouble → Type 0
+HasTrouble kinds line found =
+    IsTrouble kinds (fields_of line) (trouble_of (length kinds) line) found
 
 -- a line with what is wrong with it
 abbrev pub with_line : ℕ → Option Trouble → List LineFault
 with_line number None = []
 with_line number (Some trouble) = record { line = number; trouble = trouble } ∷ []
 
--- the faults of lines, of which the first has this number
-abbrev pub faults_from : ℕ → ℕ → List (List ℕ) → List LineFault
-faults_from names number [] = []
-faults_from names number (line ∷ more) =
-    with_line number (trouble_of names line) ++ faults_from names (number + 1) more
+-- the lines with which something is wrong, of which the first has this number
+abbrev pub told_from : ℕ → List (Option Trouble) → List LineFault
+told_from number [] = []
+told_from number (trouble ∷ more) = with_line number trouble ++ told_from (number + 1) more
+
+-- these are the faults of lines, of which the first has this number
+pub record AreFaults (kinds : List Kind) (number : ℕ) (some_lines : List (List ℕ))
+    (told : List LineFault) : Type 0 where
+  pub found : List (Option Trouble)
+  pub each : AllZip (HasTrouble kinds) some_lines found
+  pub all : told ≡ told_from number found
 
 -- a name is among others
 abbrev pub is_among : List (List ℕ) → List ℕ → Bool
@@ -79,12 +109,13 @@ repeats_after before (name ∷ more) =
 abbrev pub repeats : List (List ℕ) → List LineFault
 repeats names = repeats_after [] names
 
--- the faults of a table whose first line has its quotes in order, or not
-abbrev pub faults_by : Option Trouble → List ℕ → List LineFault
-faults_by (Some trouble) table = with_line 1 (Some trouble)
-faults_by None table =
-    repeats (names_of table) ++ faults_from (length (names_of table)) 2 (rows_of table)
+-- these are the faults of a table whose first line has its quotes in order, or not
+abbrev pub AreFaultsBy : Option Trouble → (table : List ℕ) → List LineFault → Type 0
+AreFaultsBy (Some trouble) table told = told ≡ with_line 1 (Some trouble)
+AreFaultsBy None table told = (others : List LineFault)
+    × AreFaults (kinds_of table) 2 (rows_of table) others
+    × (told ≡ repeats (names_of table) ++ others)
 
--- the faults of a table: if the names can be read, of all lines
-abbrev pub faults_in : List ℕ → List LineFault
-faults_in table = faults_by (quote_trouble (read (header_of table)).part) table
+-- these are the faults of a table: if the names can be read, of all lines
+abbrev pub AreFaultsIn : (table : List ℕ) → List LineFault → Type 0
+AreFaultsIn table told = AreFaultsBy (quote_trouble (read (header_of table)).part) table told

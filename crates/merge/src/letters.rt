@@ -7,19 +7,25 @@ ghost use Rattle.interpolator.specs.Faults.{answer_of, no_memory};
 ghost use Rattle.interpolator.specs.Prepared.Rows.{pair_names};
 ghost use Rattle.interpolator.specs.Slots.{slots_of};
 ghost use Rattle.interpolator.specs.declared.Error.TheVariants.{NoMemory};
+ghost use Rattle.merge.specs.Columns.{as_column, kinds_in};
 ghost use Rattle.merge.specs.Csv.{fields_of, read};
-ghost use Rattle.merge.specs.Letters.{AreLetters, HasLines, HasNames, IsReady, IsSound};
-ghost use Rattle.merge.specs.Letters.{IsWrong, Prevents, PutsLetter, PutsOrTells};
-ghost use Rattle.merge.specs.Letters.{WritesRows, as_value, form_of};
-ghost use Rattle.merge.specs.Table.{faults_in, header_of, quote_trouble, rows_of, with_line};
+ghost use Rattle.merge.specs.Letters.{AreLetters, CanWrite, HasLines, HasNames, IsReady, IsSound};
+ghost use Rattle.merge.specs.Letters.{IsWrong, Prevents, PutsFields, PutsLetter, PutsOrTells};
+ghost use Rattle.merge.specs.Letters.{WritesRows, form_of};
+ghost use Rattle.merge.specs.Table.{AreFaultsIn, columns_of, header_of, kinds_of, names_of};
+ghost use Rattle.merge.specs.Table.{quote_trouble, repeats, rows_of, with_line};
+ghost use Rattle.merge.specs.Values.{example_by};
 ghost use Rattle.merge.specs.declared.letters.Fault.TheVariants.{Template};
 
+use crate::columns::{Column, columns_of, names_of};
 use crate::csv::read_line;
 use crate::table::{
-    LineFault, Trouble, header_of, is_clean, names_of, push_fault, quote_trouble, repeats_of,
-    texts_of, trouble_in,
+    LineFault, Trouble, header_of, is_clean, push_fault, quote_trouble, repeats_of, trouble_in,
 };
-use interpolator::{Error, Formattable, Pairs, Prepared, Row, Template, TextBuffer, TextWrite};
+use crate::values::{example_of, row_of, views_of};
+use interpolator::{
+    Error, Formattable, Pairs, Prepared, Row, Template, TextBuffer, TextWrite, View,
+};
 use interpolator_laws::prepared::a_prepared_format_is_written;
 use interpolator_laws::samples::a_view_has_a_text_by_its_kind;
 use std::alloc::{AllocError, Global};
@@ -49,70 +55,61 @@ impl From<AllocError> for Fault {
     }
 }
 
-/// The names as a sample, in which each is its own example value.
+/// The columns of a table, and an example value of each under its name.
+#[derive(Clone, Copy)]
+struct Frame<'a> {
+    columns: &'a [Column<'a>],
+    sample: &'a [(&'a str, Formattable<'a, View<'a>>)],
+}
+
+/// An example value under the name of each column, of an example of a text and one of a number.
 fn sample_of<'a>(
     alloc: Global,
-    names: &'a [&'a str],
-) -> Result<Vec<(&'a str, Formattable<'a, &'a str>)>, AllocError>
+    columns: &'a [Column<'a>],
+    text: &'a View<'a>,
+    number: &'a View<'a>,
+) -> Result<Vec<(&'a str, Formattable<'a, View<'a>>)>, AllocError>
     ensures names { IfOk result (λ sample.
-        pair_names sample.items ≡ map (λ x. x.now) names.now) }
-    ensures values { IfOk result (λ sample.
-        map (λ pair. slots_of pair.1) sample.items ≡ map as_value names.now) }
+        pair_names sample.items ≡ map (λ column. column.name.now) columns.now) }
+    ensures values { IfOk result (λ sample. map (λ pair. slots_of pair.1) sample.items
+        ≡ map (example_by text.now number.now) (kinds_in columns.now)) }
 {
-    let mut sample = Vec::with_capacity(alloc, names.len())?;
-    for name in names.iter() {
-        sample.push((*name, Formattable::debug_display(name)))?;
+    let mut sample = Vec::with_capacity(alloc, columns.len())?;
+    for column in columns.iter() {
+        sample.push((column.name, example_of(column.kind, text, number)))?;
     }
     Ok(sample)
 }
 
 /// Prepares the template, if it has no fault with the sample.
-fn prepared_letter<'a>(
-    alloc: Global,
-    template: &Template,
-    sample: &'a [(&'a str, Formattable<'a, &'a str>)],
-) -> Result<Prepared, Error>
-    requires { HasNames (pair_names sample.now) sample.now }
+fn prepared_letter(alloc: Global, template: &Template, frame: Frame<'_>) -> Result<Prepared, Error>
+    requires { HasNames (pair_names frame.sample.now) (kinds_in frame.columns.now)
+        frame.sample.now }
     ensures form { IfOk result (λ letter. letter
-        ≡ record { text = template.now; names = pair_names sample.now }) }
-    ensures ready { IfOk result (λ letter. IsReady letter sample.now) }
-    ensures err { IfErr result
-        (IsWrong (record { text = template.now; names = pair_names sample.now })) }
+        ≡ record { text = template.now; names = pair_names frame.entry.sample.now }) }
+    ensures ready { IfOk result (λ letter.
+        IsReady letter (kinds_in frame.entry.columns.now) frame.entry.sample.now) }
+    ensures err { IfErr result (IsWrong
+        (record { text = template.now; names = pair_names frame.entry.sample.now })
+        (kinds_in frame.entry.columns.now)) }
 {
-    template.prepare(alloc, &Pairs(sample))
+    template.prepare(alloc, &Pairs(frame.sample))
 }
 
-/// The fields as the values of a row.
-fn row_of<'a>(
-    alloc: Global,
-    fields: &'a [&'a str],
-) -> Result<Vec<Formattable<'a, &'a str>>, AllocError>
-    ensures { IfOk result (λ row. map slots_of row.items ≡ map as_value fields.now) }
-{
-    let mut row = Vec::with_capacity(alloc, fields.len())?;
-    for field in fields.iter() {
-        row.push(Formattable::debug_display(field))?;
-    }
-    Ok(row)
-}
-
-/// Writes the letter of a line with these fields, one for each name of the sample with which the
+/// Writes the letter of a line with these views, one for each value of the sample with which the
 /// letter was prepared. The buffer refuses a text only if memory runs out.
 fn write_letter<'a>(
     alloc: Global,
     out: &mut TextBuffer,
     letter: &Prepared,
-    sample: &'a [(&'a str, Formattable<'a, &'a str>)],
-    fields: &[String],
+    sample: &'a [(&'a str, Formattable<'a, View<'a>>)],
+    views: &[View<'_>],
 ) -> Result<(), Error>
-    requires ready { IsReady letter.now sample.now }
-    requires whole { length fields.now ≡ length sample.now }
-    ensures { PutsLetter letter.now (map (λ field. string_bytes field) fields.now) out.old.text
-        out.new.text result }
+    requires { CanWrite letter.now sample.now views.now }
+    ensures { PutsLetter letter.now views.now out.old.text out.new.text result }
 {
     a_view_has_a_text_by_its_kind();
-    let texts = texts_of(alloc, fields)?;
-    let row = row_of(alloc, texts.as_slice())?;
+    let row = row_of(alloc, views)?;
     let answer = a_prepared_format_is_written(
         alloc,
         out,
@@ -126,48 +123,75 @@ fn write_letter<'a>(
     answer
 }
 
-/// Writes the letter of a line, or returns what is wrong with the line.
-fn write_line<'a>(
+/// Writes the letter of a line with these fields, one for each column, or returns which of them is
+/// no number though its column wants one.
+fn write_fields(
     alloc: Global,
     out: &mut TextBuffer,
     letter: &Prepared,
-    sample: &'a [(&'a str, Formattable<'a, &'a str>)],
+    frame: Frame<'_>,
+    fields: &[String],
+) -> Result<Option<Trouble>, Error>
+    requires ready { IsReady letter.now (kinds_in frame.columns.now) frame.sample.now }
+    requires whole { length fields.now ≡ length frame.columns.now }
+    ensures ok { IfOk result (λ trouble. PutsFields letter.now (kinds_in frame.entry.columns.now)
+        (map (λ field. string_bytes field) fields.now) out.old.text out.new.text trouble) }
+    ensures err { IfErr result (λ error. answer_of error ≡ no_memory) }
+{
+    let read = views_of(alloc, frame.columns, fields)?;
+    match read {
+        Ok(views) => {
+            write_letter(alloc, out, letter, frame.sample, views.as_slice())?;
+            Ok(None)
+        }
+        Err(column) => Ok(Some(Trouble::NotNumber(column))),
+    }
+}
+
+/// Writes the letter of a line, or returns what is wrong with the line.
+fn write_line(
+    alloc: Global,
+    out: &mut TextBuffer,
+    letter: &Prepared,
+    frame: Frame<'_>,
     line: &str,
 ) -> Result<Option<Trouble>, Error>
-    requires ready { IsReady letter.now sample.now }
-    ensures ok { IfOk result (λ trouble.
-        PutsOrTells letter.now line.now out.old.text out.new.text trouble) }
+    requires ready { IsReady letter.now (kinds_in frame.columns.now) frame.sample.now }
+    ensures ok { IfOk result (λ trouble. PutsOrTells letter.now (kinds_in frame.entry.columns.now)
+        line.now out.old.text out.new.text trouble) }
     ensures err { IfErr result (λ error. answer_of error ≡ no_memory) }
 {
     let reading = read_line(alloc, line)?;
-    if let Some(trouble) = trouble_in(&reading, sample.len()) {
-        return Ok(Some(trouble));
+    match trouble_in(&reading, frame.columns.len()) {
+        Some(trouble) => Ok(Some(trouble)),
+        None => {
+            let fields = reading.into_fields()?;
+            let trouble = write_fields(alloc, out, letter, frame, fields.as_slice())?;
+            Ok(trouble)
+        }
     }
-    let fields = reading.into_fields()?;
-    write_letter(alloc, out, letter, sample, fields.as_slice())?;
-    Ok(None)
 }
 
 /// Writes the letters of all lines of a table after the first, and appends the lines that have
 /// none, with what is wrong with them.
-fn write_lines<'a>(
+fn write_lines(
     alloc: Global,
     out: &mut TextBuffer,
     faults: &mut Vec<LineFault>,
     letter: &Prepared,
-    sample: &'a [(&'a str, Formattable<'a, &'a str>)],
+    frame: Frame<'_>,
     table: &str,
 ) -> Result<(), Error>
-    requires ready { IsReady letter.now sample.now }
+    requires ready { IsReady letter.now (kinds_in frame.columns.now) frame.sample.now }
     requires empty { out.old.text ≡ [] }
-    ensures ok { IfOk result (λ _. WritesRows letter.now (rows_of table.now) out.new.text
-        faults.old.items faults.new.items) }
+    ensures ok { IfOk result (λ _. WritesRows letter.now (kinds_in frame.entry.columns.now)
+        (rows_of table.now) out.new.text faults.old.items faults.new.items) }
     ensures err { IfErr result (λ error. answer_of error ≡ no_memory) }
 {
     let mut number = 1usize;
     for line in table.lines().skip(1) {
         number += 1;
-        let trouble = write_line(alloc, out, letter, sample, line)?;
+        let trouble = write_line(alloc, out, letter, frame, line)?;
         push_fault(faults, number, trouble)?;
     }
     Ok(())
@@ -196,6 +220,37 @@ fn header_fields(alloc: Global, table: &str) -> Result<Vec<String>, Fault>
     Ok(header.into_fields()?)
 }
 
+/// A letter for each line of a table, which has these columns, examples of them, and faults of the
+/// first line.
+fn letters_of<'a>(
+    alloc: Global,
+    template: &Template,
+    columns: &'a [Column<'a>],
+    sample: &'a [(&'a str, Formattable<'a, View<'a>>)],
+    mut faults: Vec<LineFault>,
+    table: &str,
+) -> Result<String, Fault>
+    requires columns { map as_column columns.now ≡ columns_of table.now }
+    requires sample { HasNames (names_of table.now) (kinds_of table.now) sample.now }
+    requires closed { quote_trouble (read (header_of table.now)).part ≡ None }
+    requires faults { faults.items ≡ repeats (names_of table.now) }
+    ensures sound { IfOk result (λ _.
+        IsSound (form_of template.now table.now) (kinds_of table.now)) }
+    ensures whole { IfOk result (λ _. AreFaultsIn table.now []) }
+    ensures letters { IfOk result (λ letters. AreLetters (form_of template.now table.now)
+        (kinds_of table.now) (rows_of table.now) (chars (string_bytes letters))) }
+    ensures fault { IfErr result (λ fault. Prevents template.now table.now fault) }
+{
+    let frame = Frame { columns, sample };
+    let letter = prepared_letter(alloc, template, frame)?;
+    let mut out = TextBuffer::new(alloc);
+    write_lines(alloc, &mut out, &mut faults, &letter, frame, table)?;
+    if is_clean(&faults) {
+        return Ok(out.into_string());
+    }
+    Err(Fault::Table(faults))
+}
+
 /// A letter for each line of the table after the first, which names the fields. The template is
 /// read, checked and prepared once, before the first letter: after that no letter can have a fault.
 ///
@@ -204,30 +259,21 @@ fn header_fields(alloc: Global, table: &str) -> Result<Vec<String>, Fault>
 /// The fault of a first line whose names cannot be read; the first fault that the template has with
 /// the names; the faults of all lines; `NoMemory`.
 pub fn merged(alloc: Global, template: &str, table: &str) -> Result<String, Fault>
-    ensures sound { IfOk result (λ _. IsSound (form_of template.now table.now)) }
-    ensures whole { IfOk result (λ _. faults_in table.now ≡ []) }
+    ensures sound { IfOk result (λ _.
+        IsSound (form_of template.now table.now) (kinds_of table.now)) }
+    ensures whole { IfOk result (λ _. AreFaultsIn table.now []) }
     ensures letters { IfOk result (λ letters. AreLetters (form_of template.now table.now)
-        (rows_of table.now) (chars (string_bytes letters))) }
+        (kinds_of table.now) (rows_of table.now) (chars (string_bytes letters))) }
     ensures fault { IfErr result (λ fault. Prevents template.now table.now fault) }
 {
     let template = Template::parse(alloc, template)?;
     let fields = header_fields(alloc, table)?;
-    let held = names_of(alloc, fields.as_slice())?;
-    let names = held.as_slice();
-    let sample = sample_of(alloc, names)?;
-    let letter = prepared_letter(alloc, &template, sample.as_slice())?;
-    let mut faults = repeats_of(alloc, names)?;
-    let mut out = TextBuffer::new(alloc);
-    write_lines(
-        alloc,
-        &mut out,
-        &mut faults,
-        &letter,
-        sample.as_slice(),
-        table,
-    )?;
-    if is_clean(&faults) {
-        return Ok(out.into_string());
-    }
-    Err(Fault::Table(faults))
+    let held = columns_of(alloc, fields.as_slice())?;
+    let columns = held.as_slice();
+    let names = names_of(alloc, columns)?;
+    let faults = repeats_of(alloc, names.as_slice())?;
+    let text = View::Character('a');
+    let number = View::Decimal { units: 0, scale: 0 };
+    let sample = sample_of(alloc, columns, &text, &number)?;
+    letters_of(alloc, &template, columns, sample.as_slice(), faults, table)
 }

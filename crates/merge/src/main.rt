@@ -1,22 +1,30 @@
 //! `merge TEMPLATE TABLE`: a letter for each row of the table.
 //!
-//! The first line of the table names its columns; white space around a name does not count. The
-//! other lines have a field for each name. Fields are as RFC 4180 has them, but within one line: a
-//! field with a comma or a quote in it stands in quotes, and a quote in it is doubled. A field that
-//! goes on in the next line is not served: its line is reported as one that does not close a quote.
-//! A blank line has one field, which is empty, so it is reported in a table of two columns or more.
-//! Lines end with a newline, or a carriage return and a newline. A byte order mark at the head of
-//! either file is skipped.
+//! The first line of the table names its columns; white space around a name does not count. A name
+//! that ends in `:`, as `price:`, is that of a column of numbers, without the `:`. Its fields are
+//! whole numbers or decimals, as -7 or 12.50, of 128 bits without the point; they keep their digits,
+//! and may have white space around them. `{price:>10.2}` shows such a field with two digits after
+//! the point, at the right of ten characters. The fields of other columns are texts.
 //!
-//! The template is checked with the names before the first letter, and its fault is shown in its
+//! The other lines have a field for each name. Fields are as RFC 4180 has them, but within one
+//! line: a field with a comma or a quote in it stands in quotes, and a quote in it is doubled. A
+//! field that goes on in the next line is not served: its line is reported as one that does not
+//! close a quote. A blank line has one field, which is empty, so it is reported in a table of two
+//! columns or more. Lines end with a newline, or a carriage return and a newline. A byte order mark
+//! at the head of either file is skipped.
+//!
+//! The template is checked with the columns before the first letter, and its fault is shown in its
 //! line, as a compiler does. All lines of the table that have a fault are reported. In both cases
-//! no letter is written. The status is 0 if the letters are written, 1 after a fault of the template
-//! or of the table, 2 after wrong use, and 3 after a refused write or for a file that cannot be read.
+//! no letter is written. The status is 0 if the letters are written, 1 after a fault of the
+//! template or of the table, 2 after wrong use, and 3 after a refused write or for a file that
+//! cannot be read.
 #![tactic(auto)]
 
+mod columns;
 mod csv;
 mod letters;
 mod table;
+mod values;
 
 use interpolator::{Error, Source, explain_with_names};
 use letters::{Fault, merged};
@@ -60,6 +68,9 @@ fn told_line(alloc: Global, table: &str, fault: LineFault, wanted: usize) -> Res
         Trouble::Twice(column) => format!(in alloc;
             "{table}:{line}: column {column} has the name of an earlier column\n"
         )?,
+        Trouble::NotNumber(column) => format!(in alloc;
+            "{table}:{line}: column {column} wants a number, such as -7 or 12.50\n"
+        )?,
     };
     Ok(told)
 }
@@ -102,7 +113,8 @@ fn told_fault(alloc: Global, files: Files<'_>, error: &Error) -> Result<String, 
         return picture(alloc, files, error, &[]);
     }
     let fields = csv::read_line(alloc, header)?.into_fields()?;
-    let names = table::names_of(alloc, fields.as_slice())?;
+    let columns = columns::columns_of(alloc, fields.as_slice())?;
+    let names = columns::names_of(alloc, columns.as_slice())?;
     picture(alloc, files, error, names.as_slice())
 }
 

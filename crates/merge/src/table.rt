@@ -1,7 +1,6 @@
-//! The names and the fields of a table, and the faults of its lines.
+//! The faults of the lines of a table.
 
-ghost use Rattle.std.specs.Prelude.{◌≡◌, ◌++◌, [], Decides, IfOk, length, map, string_bytes};
-ghost use Rattle.std.specs.Str.{trim};
+ghost use Rattle.std.specs.Prelude.{◌≡◌, ◌++◌, [], Decides, IfOk, length, map};
 ghost use Rattle.merge.specs.Csv.{reading_of};
 ghost use Rattle.merge.specs.Table.{count_trouble, header_of, is_among, quote_trouble};
 ghost use Rattle.merge.specs.Table.{repeat_trouble, repeats, trouble_in, with_line};
@@ -20,6 +19,8 @@ pub enum Trouble {
     Fields(usize),
     /// It gives the column of this number, from 1, the name of an earlier one.
     Twice(usize),
+    /// Its field in the column of this number, from 1, is no number, which the column wants.
+    NotNumber(usize),
 }
 
 /// A line, by its number from 1, and what is wrong with it.
@@ -50,7 +51,7 @@ fn count_trouble(count: usize, names: usize) -> Option<Trouble>
     Some(Trouble::Fields(count))
 }
 
-/// What is wrong with a line, if there are so many names.
+/// What is wrong with the quotes or the number of fields of a line, if there are so many names.
 pub fn trouble_in(reading: &Reading, names: usize) -> Option<Trouble>
     ensures { result ≡ trouble_in names (reading_of reading.now) }
 {
@@ -65,30 +66,6 @@ pub fn header_of(table: &str) -> &str
     ensures { result.now ≡ header_of table.now }
 {
     table.lines().next().unwrap_or("")
-}
-
-/// The fields as texts.
-pub fn texts_of(alloc: Global, fields: &[String]) -> Result<Vec<&str>, AllocError>
-    ensures { IfOk result (λ texts.
-        map (λ x. x.now) texts.items ≡ map (λ field. string_bytes field) fields.now) }
-{
-    let mut texts = Vec::with_capacity(alloc, fields.len())?;
-    for field in fields.iter() {
-        texts.push(field.as_str())?;
-    }
-    Ok(texts)
-}
-
-/// The fields as names, without white space around them.
-pub fn names_of(alloc: Global, fields: &[String]) -> Result<Vec<&str>, AllocError>
-    ensures { IfOk result (λ names.
-        map (λ x. x.now) names.items ≡ map trim (map (λ field. string_bytes field) fields.now)) }
-{
-    let mut names = Vec::with_capacity(alloc, fields.len())?;
-    for field in fields.iter() {
-        names.push(field.as_str().trim())?;
-    }
-    Ok(names)
 }
 
 /// Whether a name is among others.

@@ -1,21 +1,24 @@
 -- The total of a column, entry after entry.
-use Rattle.std.proofs.Common.{◌≡◌, ◌+◌, ◌<◌, ℕ, ℤ, pos, ◌+ℤ◌, List, [], ◌∷◌, ◌++◌, map, take, get_or, length, refl, sym, ap, subst, ◌∙◌}
+use Rattle.std.proofs.Common.{◌≡◌, ◌+◌, ◌<◌, ℕ, ℤ, pos, ◌+ℤ◌, ◌*ℤ◌, List, [], ◌∷◌, ◌++◌, map, take, get_or, length, refl, sym, ap, subst, ◌∙◌}
 use Rattle.std.proofs.lemmas.List.{map-append, map_more}
 use Rattle.std.proofs.Common.{None, Option, Some, option_map}
 use Rattle.std.proofs.lemmas.Option.{unwrap_or-slice_get}
 use Rattle.std.specs.Borrow.{Bor}
 use Rattle.std.specs.List.{slice_get}
 use Rattle.std.specs.Option.{unwrap_or}
-use Rattle.report.specs.Totals.{IsNumber, IsTotal, column, entry_at}
+use Rattle.interpolator.specs.DecimalTexts.{Spells}
+use Rattle.report.specs.Totals.{IsSum, IsTotal, column, entry_at, nothing}
+use Rattle.interpolator.specs.declared.decimal.Decimal.{Decimal}
 
 -- one entry more
-total_more : (carried : ℤ) (entries : List (List ℕ)) (entry : List ℕ) (total value new : ℤ)
-    → IsTotal carried entries total → IsNumber entry value → new ≡ total +ℤ value
+total_more : (carried : Decimal) (entries : List (List ℕ)) (entry : List ℕ)
+    (total value new : Decimal)
+    → IsTotal carried entries total → Spells entry value → IsSum total value new
     → IsTotal carried (entries ++ (entry ∷ [])) new
-total_more carried [] entry total value new h number e =
-    (value, number, e ∙ ap (λ (x : ℤ). x +ℤ value) h)
-total_more carried (x ∷ entries) entry total value new h number e =
-    (h.0, h.1, total_more (carried +ℤ h.0) entries entry total value new h.2 number e)
+total_more carried [] entry total value new h spelled sum =
+    (value, new, spelled, subst (λ x. IsSum x value new) h sum, refl)
+total_more carried (x ∷ entries) entry total value new h spelled sum =
+    (h.0, h.1, h.2, h.3, total_more h.1 entries entry total value new h.4 spelled sum)
 
 -- the entries of the lines so far, and of one more
 entries_more : (index : ℕ) (some_lines : List (Bor (List ℕ))) (n : ℕ) (line : Bor (List ℕ))
@@ -30,14 +33,14 @@ entries_more index some_lines n line within =
 
 -- so the total of the lines so far, and of one more
 pub total_step : (index : ℕ) (some_lines : List (Bor (List ℕ))) (n : ℕ) (line : Bor (List ℕ))
-    (total value new : ℤ) → n < length some_lines
-    → IsTotal (pos 0) (column index (map (λ x. x.now) (take n some_lines))) total
-    → IsNumber (entry_at index (get_or some_lines n line).now) value → new ≡ total +ℤ value
-    → IsTotal (pos 0) (column index (map (λ x. x.now) (take (n + 1) some_lines))) new
-total_step index some_lines n line total value new within h number e =
-    subst (λ entries. IsTotal (pos 0) entries new)
+    (total value new : Decimal) → n < length some_lines
+    → IsTotal nothing (column index (map (λ x. x.now) (take n some_lines))) total
+    → Spells (entry_at index (get_or some_lines n line).now) value → IsSum total value new
+    → IsTotal nothing (column index (map (λ x. x.now) (take (n + 1) some_lines))) new
+total_step index some_lines n line total value new within h spelled sum =
+    subst (λ entries. IsTotal nothing entries new)
     (sym (entries_more index some_lines n line within))
-    (total_more (pos 0) _ _ total value new h number e)
+    (total_more nothing _ _ total value new h spelled sum)
 
 -- what an iterator gives at a place, or the empty text
 pub entry_or : (r : Option (Bor (List ℕ))) (all : List (List ℕ)) (n : ℕ)

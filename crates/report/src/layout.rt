@@ -2,7 +2,8 @@
 
 use crate::totals::entry_at;
 use interpolator::{
-    Error, Formattable, Pairs, Prepared, Row, Template, TextBuffer, Value, View, items_of,
+    Decimal, Error, Formattable, Pairs, Prepared, Row, Template, TextBuffer, Value, View, iformat,
+    items_of,
 };
 use std::alloc::Global;
 
@@ -12,7 +13,7 @@ pub struct Column {
     /// How many characters the widest of its name and its entries has.
     width: usize,
     /// Its total, if all its entries are numbers.
-    total: Option<i128>,
+    total: Option<Decimal>,
 }
 
 impl Column {
@@ -26,7 +27,7 @@ impl Column {
     }
 
     /// The column with this total.
-    pub fn with_total(self, total: i128) -> Column {
+    pub fn with_total(self, total: Decimal) -> Column {
         Column {
             width: self.width,
             total: Some(total),
@@ -36,7 +37,7 @@ impl Column {
     /// The text at the foot of the column: its total, or in the first column the label of the line.
     fn foot(self, alloc: Global, is_first: bool) -> Result<String, Error> {
         match self.total {
-            Some(total) => Ok(format!(in alloc; "{total}")?),
+            Some(total) => iformat!(in alloc; "{total}", total),
             None if is_first => Ok(String::from_str(alloc, "total")?),
             None => Ok(String::new(alloc)),
         }

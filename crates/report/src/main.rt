@@ -1,10 +1,11 @@
 //! `report FILE`: prints a file of comma-separated fields as a table, with totals.
 //!
 //! The first line names the columns, and each line after it has an entry for each. A column is as
-//! wide, in characters, as the widest of its name, its entries and the text at its foot. A column in
-//! which all entries are whole numbers is aligned to the right, and has its total at its foot. If a
-//! line has another number of fields, or a number or a sum is too large, all such lines are reported,
-//! and no table is written.
+//! wide, in characters, as the widest of its name, its entries and the text at its foot. A column
+//! whose entries are all numbers, such as `7` and `-12.50`, is aligned to the right, and has its
+//! total at its foot: exactly, with as many digits after the point as the entry that has most. If a
+//! line has another number of fields, or a number or a sum is too large, all such lines are
+//! reported, and no table is written.
 #![tactic(auto)]
 
 mod layout;

@@ -1,8 +1,12 @@
 //! The total of a column.
 
-ghost use Rattle.std.specs.Prelude.{◌≡◌, ◌+ℤ◌, ℤ, FitsSigned, IfOk, IfSome, map, pos};
+ghost use Rattle.std.specs.Prelude.{◌≡◌, IfOk, IfSome, FitsSigned, map};
 ghost use Rattle.std.specs.Int.{w128};
-ghost use Rattle.report.specs.Totals.{IsNumber, IsTotal, column, entry_at};
+ghost use Rattle.interpolator.specs.DecimalTexts.{Spells};
+ghost use Rattle.report.specs.Totals.{IsSum, IsTotal, column, entry_at, nothing, units_at};
+ghost use Rattle.interpolator.specs.declared.decimal.Decimal.{Decimal};
+
+use interpolator::{Decimal, NumberError};
 
 /// The entry of a line in the column at this index: empty, if the line has none.
 pub fn entry_at(line: &str, index: usize) -> &str
@@ -11,13 +15,16 @@ pub fn entry_at(line: &str, index: usize) -> &str
     line.split(',').nth(index).unwrap_or("")
 }
 
-/// Whether an entry is a whole number: digits, with a sign before them or without.
+/// Whether an entry is a number, however large.
 fn is_number(entry: &str) -> bool {
-    let digits = entry.strip_prefix(['+', '-']).unwrap_or(entry);
-    !digits.is_empty() && digits.bytes().all(|b| b.is_ascii_digit())
+    match Decimal::parse(entry) {
+        Err(NumberError::Empty) => false,
+        Err(NumberError::InvalidDigit) => false,
+        _ => true,
+    }
 }
 
-/// Whether all entries of a column are whole numbers, however large.
+/// Whether all entries of a column are numbers, however large.
 pub fn is_numeric(lines: &[&str], index: usize) -> bool {
     for line in lines {
         if !is_number(entry_at(line, index)) {
@@ -27,29 +34,57 @@ pub fn is_numeric(lines: &[&str], index: usize) -> bool {
     true
 }
 
-/// A sum and one more entry, if the entry and the new sum are numbers of 128 bits.
-fn added(sum: i128, entry: &str) -> Option<i128>
-    ensures sum { IfSome result (λ total.
-        (value : ℤ) × IsNumber entry.now value × (total ≡ sum +ℤ value)) }
-    ensures fits { IfSome result (λ total. FitsSigned w128 total) }
+/// The units of a number at another scale, if that is greater, and if they fit.
+fn units_at(number: Decimal, other: u32) -> Option<i128>
+    ensures { IfSome result (λ units. units ≡ units_at other number.units number.scale) }
 {
-    match entry.parse::<i128>() {
-        Ok(number) => sum.checked_add(number),
+    if number.units == 0 || other <= number.scale {
+        return Some(number.units);
+    }
+    let power = 10i128.checked_pow(other - number.scale)?;
+    number.units.checked_mul(power)
+}
+
+/// The sum of two numbers, if its units fit at the greater scale of the two.
+fn sum_of(first: Decimal, second: Decimal) -> Option<Decimal>
+    ensures { IfSome result (λ sum. IsSum first second sum) }
+{
+    let units = units_at(first, second.scale)?;
+    let more = units_at(second, first.scale)?;
+    let scale = first.scale.max(second.scale);
+    let units = units.checked_add(more)?;
+    Some(Decimal { units, scale })
+}
+
+/// A sum and one more entry, if this is a number, and if both fit.
+fn added(sum: Decimal, entry: &str) -> Option<Decimal>
+    ensures { IfSome result (λ total.
+        (value : Decimal) × Spells entry.now value × IsSum sum value total) }
+{
+    match Decimal::parse(entry) {
+        Ok(number) => sum_of(sum, number),
         Err(_) => None,
     }
 }
 
-/// The total of a column: the sum of its entries.
+/// No entry yet.
+fn no_entry() -> Decimal
+    ensures { result ≡ nothing }
+{
+    Decimal { units: 0, scale: 0 }
+}
+
+/// The total of a column: the sum of its entries, with as many digits after the point as the entry
+/// has that has most.
 ///
 /// # Errors
 ///
-/// How many lines come before the first at which the entry is no number of 128 bits, or the sum is
-/// none.
-pub fn total_of(lines: &[&str], index: usize) -> Result<i128, usize>
+/// How many lines come before the first at which the entry or the sum is no number of 128 bits.
+pub fn total_of(lines: &[&str], index: usize) -> Result<Decimal, usize>
     ensures { IfOk result (λ total.
-        IsTotal (pos 0) (column index (map (λ x. x.now) lines.now)) total) }
+        IsTotal nothing (column index (map (λ x. x.now) lines.now)) total) }
 {
-    let mut total = 0i128;
+    let mut total = no_entry();
     for (before, line) in lines.iter().enumerate() {
         match added(total, entry_at(line, index)) {
             Some(sum) => total = sum,

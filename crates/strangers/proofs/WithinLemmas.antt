@@ -35,7 +35,7 @@ use Rattle.strangers.proofs.ServingLemmas.{afforded, neither}
 use Rattle.strangers.specs.declared.serving.Allowed.{Allowed}
 use Rattle.strangers.specs.declared.serving.Refused.{Refused}
 use Rattle.strangers.specs.declared.values.Datum.{Datum}
-use Rattle.strangers.specs.declared.values.Datum.TheVariants.{Text, Number}
+use Rattle.strangers.specs.declared.values.Datum.TheVariants.{Text, Number, Decimal as InDecimal}
 use Rattle.strangers.specs.declared.values.Given.{Given}
 use Rattle.strangers.specs.declared.values.Given.TheVariants.{One, Many}
 use Rattle.strangers.specs.declared.values.Word.{Word}
@@ -53,6 +53,7 @@ module _ (limits : Limits) where
       → SlotWithin shows limits.text limits.items t (Some value)
   slot_within t (Text text) h = λ spec. h
   slot_within t (Number number) h = λ spec. h
+  slot_within t (InDecimal decimal) h = λ spec. h
 
   -- a value in each slot
   value_within : (value : Datum) → DatumWithin limits.text value

@@ -1,17 +1,19 @@
 -- What words give, one after the other, up to the first that gives nothing.
 use Rattle.std.proofs.Common.{◌≡◌, ◌≢◌, ◌∙◌, refl, sym, ap, subst, ℕ, ℤ, ◌+◌, ◌<◌, ◌↔◌, suc, List}
 use Rattle.std.proofs.Common.{[], ◌∷◌, ◌++◌, length, get_or, take, drop, drop-cons, string_bytes}
-use Rattle.std.proofs.Common.{map, take-append-drop, Option, None, Some, All}
+use Rattle.std.proofs.Common.{map, take-append-drop, Option, None, Some, All, Result, Ok, Err}
 use Rattle.std.proofs.lemmas.List.{map-append, take_more}
 use Rattle.std.proofs.lemmas.List.Elements.{All-cons, All-nil}
 use Rattle.std.proofs.lemmas.Slice.Zip.{all_zipped_more}
 use Rattle.std.specs.List.{after_first, before_first, slice_split}
 use Rattle.std.specs.Prelude.{codes}
+use Rattle.std.specs.Result.{result_ok}
 use Rattle.std.specs.declared.string.String.{String}
+use Rattle.interpolator.specs.declared.Decimal.{Decimal}
 use Rattle.strangers.specs.Words.{GiveAll, GivesBy, Gives, IsFirstBad, IsGood, IsGoodBy}
-use Rattle.strangers.specs.Words.{IsNumber, Spells}
+use Rattle.strangers.specs.Words.{IsDecimal, IsDecimalOf, IsNumber, Spells}
 use Rattle.strangers.specs.Words.{is_comma, is_equals, items_of, without}
-use Rattle.strangers.specs.declared.values.Datum.TheVariants.{Text, Number}
+use Rattle.strangers.specs.declared.values.Datum.TheVariants.{Text, Number, Decimal as InDecimal}
 use Rattle.strangers.specs.declared.values.Given.{Given}
 use Rattle.strangers.specs.declared.values.Given.TheVariants.{One, Many}
 use Rattle.strangers.specs.declared.values.Word.{Word}
@@ -26,23 +28,54 @@ pub no_number : (text : List ℕ) → ((value : ℤ) → Spells text value ↔ (
     → ¬ ((value : ℤ) × Spells text value)
 no_number text h spelled = let no = (h spelled.0).0 spelled.1 in cc
 
+-- what was parsed is the decimal that a text spells, if it spells one
+pub parsed_decimal : {E : Type 0} (text : List ℕ) (parsed : Result Decimal E)
+    (found : Option Decimal) → found ≡ result_ok parsed
+    → ((value : Decimal) → IsDecimal text value ↔ (parsed ≡ Ok value))
+    → (value : Decimal) → IsDecimal text value ↔ (found ≡ Some value)
+parsed_decimal {E} text (Ok decimal) found is spells value = (
+  λ spelled. is ∙ ap (λ (r : Result Decimal E). result_ok r) ((spells value).0 spelled),
+  λ same. let this : decimal ≡ value = cc in
+      (spells value).1 (ap {B = Result Decimal E} (λ (d : Decimal). Ok d) this),
+)
+parsed_decimal text (Err error) found is spells value = (
+  λ spelled. let same = (spells value).0 spelled in cc,
+  λ same. cc,
+)
+
+-- a text that spells no decimal
+pub no_decimal : (text : List ℕ)
+    → ((value : Decimal) → IsDecimal text value ↔ (None ≡ Some value))
+    → ¬ ((value : Decimal) × IsDecimal text value)
+no_decimal text h spelled = let no = (h spelled.0).0 spelled.1 in cc
+
 -- a word that gives a value is good
 number_spelled : (text : List ℕ) (given : Given) → IsNumber text given
     → (value : ℤ) × Spells text value
 number_spelled text (One (Number number)) h = (number, h)
 number_spelled text (One (Text value)) h = absurd h
+number_spelled text (One (InDecimal decimal)) h = absurd h
 number_spelled text (Many values) h = absurd h
 
-good_by : (left right : List ℕ) (number list : Option (List ℕ)) (word : Word)
-    → GivesBy left right number list word → IsGoodBy right number
-good_by left right (Some name) list word h = number_spelled right word.given h.1
-good_by left right None list word h = tt
+decimal_spelled : (text : List ℕ) (given : Given) → IsDecimalOf text given
+    → (value : Decimal) × IsDecimal text value
+decimal_spelled text (One (InDecimal decimal)) h = (decimal, h)
+decimal_spelled text (One (Text value)) h = absurd h
+decimal_spelled text (One (Number number)) h = absurd h
+decimal_spelled text (Many values) h = absurd h
+
+good_by : (left right : List ℕ) (number decimal list : Option (List ℕ)) (word : Word)
+    → GivesBy left right number decimal list word → IsGoodBy right number decimal
+good_by left right (Some name) decimal list word h = number_spelled right word.given h.1
+good_by left right None (Some name) list word h = decimal_spelled right word.given h.1
+good_by left right None None list word h = tt
 
 gives_good : (text : List ℕ) (word : Word) → Gives text word → IsGood text
 gives_good text word h = (
   h.0,
   good_by (before_first is_equals text) (after_first is_equals text)
       (without (codes ":") (before_first is_equals text))
+      (without (codes ":.") (before_first is_equals text))
       (without (codes "[]") (before_first is_equals text)) word h.1,
 )
 

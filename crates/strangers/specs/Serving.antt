@@ -85,8 +85,8 @@ count_why count told limit = if is_past told limit then Some (past count told li
 abbrev pub value_why : Count → (told limit : ℕ) → Option Why
 value_why count told limit = if nat_lt limit told then Some (past count told limit) else None
 
--- what a word gives is rejected: a text that is too long; a list with too many items, or else for
--- the longest text among them
+-- what a word gives is rejected: a text or a decimal that is too long; a list with too many items,
+-- or else for the longest text among them
 abbrev pub given_why : Limits → Given → Option Why
 given_why limits (One value) = value_why counts.Text (characters_of value) limits.text
 given_why limits (Many values) =

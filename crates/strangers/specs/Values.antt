@@ -1,18 +1,21 @@
 -- The values that a format is given: what they show, and what limits they keep.
-use Rattle.std.specs.Prelude.{ℕ, ◌≤◌, FitsSigned, List, [], ◌∷◌, All, length, map, max, reverse}
-use Rattle.std.specs.Prelude.{Option}
+use Rattle.std.specs.Prelude.{ℕ, ◌+◌, ◌≤◌, ◌<◌, ◌^◌, FitsSigned, List, [], ◌∷◌, All, length, map}
+use Rattle.std.specs.Prelude.{Option, None, max, reverse, ◌==◌, if◌then◌else◌}
 use Rattle.std.specs.Borrow.{Bor}
 use Rattle.std.specs.Int.{w128}
 use Rattle.std.specs.List.{find}
 use Rattle.std.specs.Option.{option_map}
 use Rattle.std.specs.Str.{bytes_eq, chars, encode_utf8_all}
+use Rattle.interpolator_render.specs.Decimals.{decimal_text}
+use Rattle.interpolator_render.specs.Numbers.{distance_from_zero}
 use Rattle.interpolator.specs.Slots.{Slots, slots_of, empty_slots, with_integer, with_iter}
-use Rattle.interpolator.specs.Views.{Shown, some_text, signed_number}
+use Rattle.interpolator.specs.Views.{Shown, some_text, signed_number, decimal_number}
 use Rattle.interpolator.specs.declared.Bits.TheVariants.{B128}
+use Rattle.interpolator.specs.declared.Decimal.{Decimal}
 use Rattle.interpolator.specs.declared.Formattable.{Formattable}
 use Rattle.interpolator.specs.declared.Limits.{Limits}
 use Rattle.strangers.specs.declared.values.Datum.{Datum}
-use Rattle.strangers.specs.declared.values.Datum.TheVariants.{Text, Number}
+use Rattle.strangers.specs.declared.values.Datum.TheVariants.{Text, Number, Decimal as InDecimal}
 use Rattle.strangers.specs.declared.values.Given.{Given}
 use Rattle.strangers.specs.declared.values.Given.TheVariants.{One, Many}
 use Rattle.strangers.specs.declared.values.Word.{Word}
@@ -20,10 +23,11 @@ use Rattle.strangers.specs.declared.lending.Lent.{Lent}
 use Rattle.strangers.specs.declared.lending.Lent.TheVariants as lent
 use Rattle.strangers.specs.declared.lending.Entry.{Entry}
 
--- what a value shows: its text, or its number at 128 bits
+-- what a value shows: its text, its whole number at 128 bits, or its decimal
 abbrev pub datum_shows : Datum → Shown
 datum_shows (Text text) = some_text (chars text.now)
 datum_shows (Number number) = signed_number number B128
+datum_shows (InDecimal decimal) = decimal_number decimal.units decimal.scale
 
 -- what is given under the name of a word: one value in each slot, or a list of such values
 abbrev pub given_tree : Given → Slots Datum
@@ -64,20 +68,37 @@ found_among named name =
 abbrev pub found_by_words : List Word → List ℕ → Option (Slots Datum)
 found_by_words words = found_among (map word_named words)
 
--- how many characters a value's text has; a number has no text
+-- how many characters are after the digits before the point: the point and the digits after it,
+-- or none
+abbrev pub count_after : (scale : ℕ) → ℕ
+count_after scale = if scale == 0 then 0 else scale + 1
+
+-- how many characters a decimal has without a precision, with one for a sign
+abbrev pub decimal_characters : Decimal → ℕ
+decimal_characters decimal =
+    length (decimal_text None decimal.scale (distance_from_zero decimal.units)) + 1
+
+-- how many characters a value's text has; a whole number has no text
 abbrev pub characters_of : Datum → ℕ
 characters_of (Text text) = length (chars text.now)
 characters_of (Number number) = 0
+characters_of (InDecimal decimal) = decimal_characters decimal
 
 -- how many characters the longest text among some values has
 abbrev pub longest_of : List Datum → ℕ
 longest_of [] = 0
 longest_of (value ∷ values) = max (characters_of value) (longest_of values)
 
--- a text has at most so many characters; a number is one of 128 bits
+-- a decimal has at most so many characters, with a sign; its units and its scale are in range
+abbrev pub DecimalWithin : ℕ → Decimal → Type 0
+DecimalWithin most decimal = FitsSigned w128 decimal.units × (decimal.scale < 2 ^ 32)
+    × (length (decimal_text None decimal.scale (distance_from_zero decimal.units)) < most)
+
+-- a text has at most so many characters, and so has a decimal; a whole number is one of 128 bits
 abbrev pub DatumWithin : ℕ → Datum → Type 0
 DatumWithin most (Text text) = length (chars text.now) ≤ most
 DatumWithin most (Number number) = FitsSigned w128 number
+DatumWithin most (InDecimal decimal) = DecimalWithin most decimal
 
 -- what a word gives is within the limits
 abbrev pub GivenWithin : Limits → Given → Type 0

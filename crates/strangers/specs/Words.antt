@@ -1,15 +1,17 @@
--- What words give, by the rule of `ifmt`: a name, and a text, a number or the items of a list.
--- Texts are bytes.
-use Rattle.std.specs.Prelude.{◌≡◌, ◌⊎◌, ⊤, ℕ, ℤ, pos, neg_ℤ, Bool, ◌==◌, ◌-◌, ◌<◌, List, [], ◌∷◌}
-use Rattle.std.specs.Prelude.{◌++◌, codes, drop, length, map, take, FitsSigned, if◌then◌else◌}
-use Rattle.std.specs.Prelude.{Option, None, Some}
+-- What words give, by the rule of `ifmt`: a name, and a text, a whole number, a decimal or the
+-- items of a list. Texts are bytes.
+use Rattle.std.specs.Prelude.{◌≡◌, ◌⊎◌, ⊤, ℕ, ℤ, pos, neg_ℤ, Bool, ◌==◌, ◌-◌, ◌<◌, List, []}
+use Rattle.std.specs.Prelude.{◌∷◌, ◌++◌, codes, drop, length, map, take, FitsSigned}
+use Rattle.std.specs.Prelude.{if◌then◌else◌, Option, None, Some}
 use Rattle.std.specs.Borrow.{Bor}
 use Rattle.std.specs.Int.{w128}
 use Rattle.std.specs.List.{All, AllZip, after_first, before_first, position_or_len, slice_split}
 use Rattle.std.specs.Str.{bytes_eq}
 use Rattle.std.specs.Str.Parse.{IsNumeral, digits_value}
+use Rattle.interpolator.specs.DecimalTexts.{IsInRange, SpellsDecimal}
+use Rattle.interpolator.specs.declared.Decimal.{Decimal}
 use Rattle.strangers.specs.declared.values.Datum.{Datum}
-use Rattle.strangers.specs.declared.values.Datum.TheVariants.{Text, Number}
+use Rattle.strangers.specs.declared.values.Datum.TheVariants.{Text, Number, Decimal as InDecimal}
 use Rattle.strangers.specs.declared.values.Given.{Given}
 use Rattle.strangers.specs.declared.values.Given.TheVariants.{One, Many}
 use Rattle.strangers.specs.declared.values.Word.{Word}
@@ -34,6 +36,12 @@ pub record Spells (whole : List ℕ) (value : ℤ) : Type 0 where
       ⊎ ((whole ≡ codes "-" ++ digits) × (value ≡ neg_ℤ (pos (digits_value 10 digits))))
   pub fits : FitsSigned w128 value
 
+-- a text spells a decimal in range: an optional sign, digits, and perhaps a point with digits after
+-- it; the scale is how many those are
+abbrev pub IsDecimal : List ℕ → Decimal → Type 0
+IsDecimal whole decimal =
+    SpellsDecimal whole decimal.units decimal.scale × IsInRange decimal.units decimal.scale
+
 -- a text split at its commas, and no item for the empty text
 abbrev pub items_of : List ℕ → List (List ℕ)
 items_of [] = []
@@ -47,6 +55,7 @@ texts_of texts = map (λ text. text.now) texts
 abbrev pub text_in : Datum → Option (List ℕ)
 text_in (Text text) = Some text.now
 text_in (Number number) = None
+text_in (InDecimal decimal) = None
 
 -- values that are these texts
 abbrev pub are_texts : List (List ℕ) → List (Option (List ℕ))
@@ -62,7 +71,15 @@ without ending text =
 abbrev pub IsNumber : List ℕ → Given → Type 0
 IsNumber text (One (Number number)) = Spells text number
 IsNumber text (One (Text value)) = ⊥
+IsNumber text (One (InDecimal decimal)) = ⊥
 IsNumber text (Many values) = ⊥
+
+-- a value is the decimal that a text spells
+abbrev pub IsDecimalOf : List ℕ → Given → Type 0
+IsDecimalOf text (One (InDecimal decimal)) = IsDecimal text decimal
+IsDecimalOf text (One (Text value)) = ⊥
+IsDecimalOf text (One (Number number)) = ⊥
+IsDecimalOf text (Many values) = ⊥
 
 -- a value is the items of a text
 abbrev pub AreItems : List ℕ → Given → Type 0
@@ -74,25 +91,32 @@ abbrev pub IsText : List ℕ → Given → Type 0
 IsText text (One value) = text_in value ≡ Some text
 IsText text (Many values) = ⊥
 
--- what a word gives by the parts around its first `=`, and by the first part without `:` and
--- without `[]` at its end: a number, the items of a list, or else a text
-abbrev pub GivesBy : (left right : List ℕ) → (number list : Option (List ℕ)) → Word → Type 0
-GivesBy left right (Some name) list word = (word.name.now ≡ name) × IsNumber right word.given
-GivesBy left right None (Some name) word = (word.name.now ≡ name) × AreItems right word.given
-GivesBy left right None None word = (word.name.now ≡ left) × IsText right word.given
+-- what a word gives by the parts around its first `=`, and by the first part without `:`, without
+-- `:.` and without `[]` at its end: a whole number, a decimal, the items of a list, or else a text
+abbrev pub GivesBy : (left right : List ℕ) → (number decimal list : Option (List ℕ)) → Word
+    → Type 0
+GivesBy left right (Some name) decimal list word =
+    (word.name.now ≡ name) × IsNumber right word.given
+GivesBy left right None (Some name) list word =
+    (word.name.now ≡ name) × IsDecimalOf right word.given
+GivesBy left right None None (Some name) word = (word.name.now ≡ name) × AreItems right word.given
+GivesBy left right None None None word = (word.name.now ≡ left) × IsText right word.given
 
 -- what parts around the first `=` give
 abbrev pub PartsGive : (left right : List ℕ) → Word → Type 0
 PartsGive left right word =
-    GivesBy left right (without (codes ":") left) (without (codes "[]") left) word
+    GivesBy left right (without (codes ":") left) (without (codes ":.") left)
+    (without (codes "[]") left) word
 
--- such parts give a value, unless the second is no number
-abbrev pub IsGoodBy : List ℕ → Option (List ℕ) → Type 0
-IsGoodBy right (Some name) = (value : ℤ) × Spells right value
-IsGoodBy right None = ⊤
+-- such parts give a value, unless the second is no such number
+abbrev pub IsGoodBy : List ℕ → (number decimal : Option (List ℕ)) → Type 0
+IsGoodBy right (Some name) decimal = (value : ℤ) × Spells right value
+IsGoodBy right None (Some name) = (value : Decimal) × IsDecimal right value
+IsGoodBy right None None = ⊤
 
 abbrev pub ArePartsGood : (left right : List ℕ) → Type 0
-ArePartsGood left right = IsGoodBy right (without (codes ":") left)
+ArePartsGood left right =
+    IsGoodBy right (without (codes ":") left) (without (codes ":.") left)
 
 -- what a word gives
 abbrev pub Gives : List ℕ → Word → Type 0

@@ -1,9 +1,11 @@
-//! `strangers [FLAG NUMBER..] FORMAT [NAME=TEXT | NAME:=NUMBER | NAME[]=ITEM,ITEM..]`: formats with
-//! an untrusted format, if it has no fault with the values and cannot cost more than is allowed.
+//! `strangers [FLAG NUMBER..] FORMAT [NAME=TEXT | NAME:=NUMBER | NAME:.=DECIMAL |
+//! NAME[]=ITEM,ITEM..]`: formats with an untrusted format, if it has no fault with the values and
+//! cannot cost more than is allowed.
 //!
-//! `--text` and `--items` limit the characters of a text and the items of a list among the values:
-//! 80 and 20 by default. `--characters`, `--pieces` and `--buffered` limit the cost of the format
-//! with such values: 10000, 1000 and 10000. Put `--` before a format that begins with `--`.
+//! `--text` and `--items` limit the characters of a text or a decimal and the items of a list among
+//! the values: 80 and 20 by default. `--characters`, `--pieces` and `--buffered` limit the cost of
+//! the format with such values: 10000, 1000 and 10000. Put `--` before a format that begins with
+//! `--`.
 #![tactic(auto)]
 
 mod answering;
@@ -18,8 +20,8 @@ use serving::{Count, Refused};
 use std::process::ExitCode;
 use std::{env, io};
 
-const USAGE: &str =
-    "usage: strangers [FLAG NUMBER..] FORMAT [NAME=TEXT | NAME:=NUMBER | NAME[]=ITEM,ITEM..]";
+const USAGE: &str = "usage: strangers [FLAG NUMBER..] FORMAT \
+    [NAME=TEXT | NAME:=NUMBER | NAME:.=DECIMAL | NAME[]=ITEM,ITEM..]";
 
 const REFUSED: u8 = 1;
 

@@ -4,13 +4,15 @@ ghost use Rattle.std.specs.Prelude.{string_bytes};
 ghost use Rattle.std.specs.Option.{option_map};
 ghost use Rattle.strangers.specs.Reading.{as_asked, asked_by, is_flag, limit_of, with_flag};
 ghost use Rattle.strangers.specs.Reading.{with_limit};
-ghost use Rattle.strangers.specs.Words.{ArePartsGood, GiveAll, Gives, IsFirstBad, IsGood, IsNumber};
+ghost use Rattle.interpolator.specs.declared.Decimal.{Decimal};
+ghost use Rattle.strangers.specs.Words.{ArePartsGood, GiveAll, Gives, IsDecimal, IsDecimalOf};
+ghost use Rattle.strangers.specs.Words.{IsFirstBad, IsGood, IsNumber};
 ghost use Rattle.strangers.specs.Words.{PartsGive, Spells, are_texts, items_of, text_in};
 ghost use Rattle.strangers.specs.Words.{texts_of, without};
 
 use crate::serving::Allowed;
 use crate::values::{Datum, Given, Word};
-use interpolator::{Cost, Limits};
+use interpolator::{Cost, Decimal, Limits};
 use std::alloc::{AllocError, Global};
 
 /// The limits by default.
@@ -143,6 +145,13 @@ fn number_of(text: &str) -> Option<i128>
     text.parse::<i128>().ok()
 }
 
+/// The decimal that a text spells, if any.
+fn decimal_of(text: &str) -> Option<Decimal>
+    ensures { (value : Decimal) → IsDecimal text.now value ↔ (result ≡ Some value) }
+{
+    Decimal::parse(text).ok()
+}
+
 /// The texts of the items of a list: the parts of its text between commas. The empty text has none.
 fn items_of(alloc: Global, text: &str) -> Result<Vec<&str>, AllocError>
     ensures { IfOk result (λ items. texts_of items.items ≡ items_of text.now) }
@@ -172,7 +181,7 @@ fn without<'a>(ending: &str, text: &'a str) -> Option<&'a str>
     text.strip_suffix(ending)
 }
 
-/// The word of a number, if a text spells one.
+/// The word of a whole number, if a text spells one.
 fn numbered<'a>(name: &'a str, text: &str) -> Option<Word<'a>>
     ensures { MatchOption result (¬ ((value : ℤ) × Spells text.now value))
         (λ word. (word.name.now ≡ name.now) × IsNumber text.now word.given) }
@@ -182,6 +191,20 @@ fn numbered<'a>(name: &'a str, text: &str) -> Option<Word<'a>>
         Some(number) => Some(Word {
             name,
             given: Given::One(Datum::Number(number)),
+        }),
+    }
+}
+
+/// The word of a decimal, if a text spells one.
+fn decimal_word<'a>(name: &'a str, text: &str) -> Option<Word<'a>>
+    ensures { MatchOption result (¬ ((value : Decimal) × IsDecimal text.now value))
+        (λ word. (word.name.now ≡ name.now) × IsDecimalOf text.now word.given) }
+{
+    match decimal_of(text) {
+        None => None,
+        Some(decimal) => Some(Word {
+            name,
+            given: Given::One(Datum::Decimal(decimal)),
         }),
     }
 }
@@ -198,6 +221,9 @@ fn parts_give<'a>(
     if let Some(name) = without(":", left) {
         return Ok(numbered(name, right));
     }
+    if let Some(name) = without(":.", left) {
+        return Ok(decimal_word(name, right));
+    }
     if let Some(name) = without("[]", left) {
         let texts = items_of(alloc, right)?;
         let values = values_of(alloc, texts.as_slice())?;
@@ -212,7 +238,8 @@ fn parts_give<'a>(
     }))
 }
 
-/// Reads a word: `NAME=TEXT`, `NAME:=NUMBER` or `NAME[]=ITEM,ITEM..`; `None` for any other.
+/// Reads a word: `NAME=TEXT`, `NAME:=NUMBER`, `NAME:.=DECIMAL` or `NAME[]=ITEM,ITEM..`; `None` for
+/// any other.
 fn word_of(alloc: Global, word: &str) -> Result<Option<Word<'_>>, AllocError>
     ensures { IfOk result (λ found. MatchOption found (¬ IsGood word.now)
         (λ given. Gives word.now given)) }

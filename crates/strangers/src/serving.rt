@@ -39,7 +39,7 @@ pub enum Count {
     Pieces,
     /// The most characters that it can hold in buffers.
     Buffered,
-    /// The characters of a text among the values.
+    /// The characters of a text or a decimal among the values.
     Text,
     /// The items of a list among the values.
     Items,
@@ -182,8 +182,8 @@ fn decided<'a>(
 /// Format, words and limits determine the answer, unless memory runs out. What is rejected comes in
 /// this order, before anything is written:
 ///
-/// 1. the first word with a value past the limits: a text by its characters, a list by its items,
-///    or else by the characters of its longest text;
+/// 1. the first word with a value past the limits: a text or a decimal by its characters, a list by
+///    its items, or else by the characters of its longest text;
 /// 2. the format's first fault, by itself or with the values;
 /// 3. its cost: characters, then pieces, then buffered characters.
 ///

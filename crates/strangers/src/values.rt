@@ -1,18 +1,24 @@
 //! The values of words.
-ghost use Rattle.std.specs.Prelude.{◌≡◌, ◌↔◌, ◌≤◌, ℕ, All, FitsSigned, length};
+ghost use Rattle.std.specs.Prelude.{◌≡◌, ◌↔◌, ◌≤◌, ◌<◌, ◌+◌, ◌/◌, ◌^◌, ℕ, false, All};
+ghost use Rattle.std.specs.Prelude.{FitsSigned, None, length};
 ghost use Rattle.std.specs.Int.{w128};
 ghost use Rattle.std.specs.Str.{chars};
-ghost use Rattle.strangers.specs.Values.{DatumWithin, characters_of, longest_of};
+ghost use Rattle.interpolator_render.specs.Decimals.{decimal_text};
+ghost use Rattle.interpolator_render.specs.Digits.{digit_text};
+ghost use Rattle.strangers.specs.Values.{DatumWithin, characters_of, count_after};
+ghost use Rattle.strangers.specs.Values.{decimal_characters, longest_of};
 
-use interpolator::{Bits, Spec, Trait, Value, View};
+use interpolator::{Bits, Decimal, Spec, Trait, Value, View};
 
-/// A text or a number.
+/// A text, a whole number or a decimal.
 #[derive(Clone, Copy)]
 pub enum Datum<'a> {
     /// A text.
     Text(&'a str),
-    /// A number, of 128 bits.
+    /// A whole number, of 128 bits.
     Number(i128),
+    /// A decimal.
+    Decimal(Decimal),
 }
 
 impl<'a> Value for Datum<'a> {
@@ -24,6 +30,10 @@ impl<'a> Value for Datum<'a> {
         match self {
             Datum::Text(text) => View::Text(text),
             Datum::Number(number) => View::Signed(*number, Bits::B128),
+            Datum::Decimal(decimal) => View::Decimal {
+                units: decimal.units,
+                scale: decimal.scale,
+            },
         }
     }
 }
@@ -44,7 +54,8 @@ pub struct Word<'a> {
     pub given: Given<'a>,
 }
 
-/// How many characters a value's text has. A number has no text.
+/// How many characters a value's text has. A whole number has no text. A decimal has the text that
+/// is written without a precision, and counts one more for a sign.
 pub fn characters_of(value: &Datum<'_>) -> usize
     ensures count { result ≡ characters_of value.now }
     ensures within { (most : ℕ) → (result ≤ most) ↔ DatumWithin most value.now }
@@ -52,6 +63,7 @@ pub fn characters_of(value: &Datum<'_>) -> usize
     match value {
         Datum::Text(text) => char_count(text),
         Datum::Number(number) => characters_of_number(*number),
+        Datum::Decimal(decimal) => characters_of_decimal(*decimal),
     }
 }
 
@@ -63,13 +75,62 @@ fn char_count(text: &str) -> usize
     text.chars().count()
 }
 
-/// None: a number of 128 bits is no text.
+/// None: a whole number of 128 bits is no text.
 fn characters_of_number(number: i128) -> usize
     ensures none { result ≡ 0 }
     ensures fits { FitsSigned w128 number }
 {
     let _ = number;
     0
+}
+
+/// How many digits a number has.
+fn digit_count(number: u128) -> usize
+    ensures count { result ≡ length (digit_text 10 false number) }
+    ensures most { result ≤ 39 }
+{
+    match number.checked_ilog10() {
+        None => 1,
+        Some(power) => power as usize + 1,
+    }
+}
+
+/// How many digits a decimal has before its point.
+#[tactic(auto, using(interpolator_render::proofs::ExponentLemmas::pow_some))]
+fn whole_digits(units: u128, scale: u32) -> usize
+    ensures count { result ≡ length (digit_text 10 false (units / 10 ^ scale)) }
+    ensures most { result ≤ 39 }
+{
+    match 10u128.checked_pow(scale) {
+        None => 1,
+        Some(unit) => digit_count(units / unit),
+    }
+}
+
+/// How many characters are after those digits: the point and the digits after it, or none.
+fn count_after(scale: u32) -> usize
+    ensures { result ≡ count_after scale }
+{
+    if scale == 0 {
+        return 0;
+    }
+    scale as usize + 1
+}
+
+/// How many characters a decimal of these units has, with one for a sign.
+fn characters_of_units(units: u128, scale: u32) -> usize
+    ensures { result ≡ length (decimal_text None scale units) + 1 }
+{
+    whole_digits(units, scale) + count_after(scale) + 1
+}
+
+/// How many characters a decimal has, with one for a sign.
+fn characters_of_decimal(decimal: Decimal) -> usize
+    ensures count { result ≡ decimal_characters decimal }
+    ensures units { FitsSigned w128 decimal.units }
+    ensures scale { decimal.scale < 2 ^ 32 }
+{
+    characters_of_units(decimal.units.unsigned_abs(), decimal.scale)
 }
 
 /// How many characters the longest text has.

@@ -1,14 +1,11 @@
 //! Tests of the lines that are written, of the flush after each, and of writers that refuse.
 
 use crate::run::{complain, report, run, usage};
-use interpolator::{Bits, ContextMap, Error, Formattable, View};
+use interpolator::{ContextMap, Error};
 use std::alloc::Global;
 use std::io;
 use std::io::{ErrorKind, Write};
 use std::process::Abort;
-use std::test::Fail;
-
-const USAGE: &str = "usage: ifmt FORMAT [NAME=TEXT | NAME:=NUMBER | NAME[]=ITEM,ITEM..]\n";
 
 const NO_Q: &str = "specified value not in context `q` at 2\n";
 
@@ -105,64 +102,14 @@ const LINES: [Line; 4] = [
     ("é{", "", NO_END, 1),
 ];
 
+// `runs_write_their_line_or_want_memory` and the tests of whole command lines have the other calls.
 #[test]
-fn lines_are_written_whole(rt: HostRuntime) -> Result<(), Fail> {
-    let alloc = rt.alloc();
-    for (format, text, fault, status) in LINES {
-        let mut out = Vec::new(alloc);
-        let mut err = Vec::new(alloc);
-        let answered = run_on(alloc, format, &mut out, &mut err);
-        assert_eq!(rt; answered, status, "{format}");
-        assert_eq!(rt; out.as_slice(), text.as_bytes(), "{format}");
-        assert_eq!(rt; err.as_slice(), fault.as_bytes(), "{format}");
-    }
-    let mut out = Vec::new(alloc);
-    let mut err = Vec::new(alloc);
+fn refused_memory_is_reported(rt: HostRuntime) {
+    let mut out = Vec::new(rt.alloc());
+    let mut err = Vec::new(rt.alloc());
     assert_eq!(rt; report(Err(Error::NoMemory), &mut out, &mut err), 1);
     assert!(rt; out.is_empty());
     assert_eq!(rt; err.as_slice(), OUT_OF_MEMORY.as_bytes());
-    let mut err = Vec::new(alloc);
-    assert_eq!(rt; complain("a", &mut err), 2);
-    assert_eq!(rt; err.as_slice(), "bad word: a\n".as_bytes());
-    let mut err = Vec::new(alloc);
-    assert_eq!(rt; usage(&mut err), 2);
-    assert_eq!(rt; err.as_slice(), USAGE.as_bytes());
-    Ok(())
-}
-
-/// A format, the number under `n`, and the line that is written: by hand, from the rules of rendering
-/// in docs/DEFINITIONS.md.
-const NUMBERS: [(&str, i128, &str); 2] = [("{n}", -3, "-3\n"), ("{n:*>6}", 255, "***255\n")];
-
-/// Runs a format over a number under `n`.
-fn run_over<O: Write, E: Write>(
-    alloc: Global,
-    format: &str,
-    number: i128,
-    out: &mut O,
-    err: &mut E,
-) -> Result<u8, Error> {
-    let value = View::Signed(number, Bits::B128);
-    let mut context = ContextMap::new(alloc);
-    context.put("n", Formattable::integer(&value))?;
-    Ok(run(alloc, format, &context, out, err))
-}
-
-#[test]
-fn numbers_are_run(rt: HostRuntime) -> Result<(), Fail> {
-    let alloc = rt.alloc();
-    for (format, number, line) in NUMBERS {
-        let mut out = Vec::new(alloc);
-        let mut err = Vec::new(alloc);
-        assert_eq!(rt;
-            run_over(alloc, format, number, &mut out, &mut err)?,
-            0,
-            "{format}"
-        );
-        assert_eq!(rt; out.as_slice(), line.as_bytes(), "{format}");
-        assert!(rt; err.is_empty(), "{format}");
-    }
-    Ok(())
 }
 
 /// Whether a run writes its line, if both writers have their room before it. Else memory was

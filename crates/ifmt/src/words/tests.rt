@@ -1,7 +1,7 @@
 //! Tests of the words.
 
 use crate::words::{Word, classify, items};
-use interpolator::Error;
+use interpolator::{Decimal, Error};
 use std::alloc::{AllocError, Global};
 use std::process::Abort;
 use std::test::Fail;
@@ -15,53 +15,104 @@ const TOO_LITTLE: &str = "n:=-170141183460469231731687303715884105729";
 
 const TOO_GREAT: &str = "n:=170141183460469231731687303715884105728";
 
-/// A word, its name and its text: by hand, from the rule that the first `=` cuts it.
-const TEXTS: [(&str, &str, &str); 13] = [
-    ("a=b=c", "a", "b=c"),
-    ("a=", "a", ""),
-    ("=x", "", "x"),
-    ("=", "", ""),
-    ("a:b=c", "a:b", "c"),
-    ("n=:5", "n", ":5"),
-    ("n[=5", "n[", "5"),
-    ("n]=5", "n]", "5"),
-    ("n[] =5", "n[] ", "5"),
-    ("n[1]=5", "n[1]", "5"),
-    ("n=[]", "n", "[]"),
-    ("n =5", "n ", "5"),
-    ("é=ü", "é", "ü"),
+/// The same numbers in hundredths under the name `p`.
+const LEAST_DECIMAL: &str = "p:.=-1701411834604692317316873037158841057.28";
+
+const GREATEST_DECIMAL: &str = "p:.=1701411834604692317316873037158841057.27";
+
+const DECIMAL_TOO_LITTLE: &str = "p:.=-1701411834604692317316873037158841057.29";
+
+const DECIMAL_TOO_GREAT: &str = "p:.=1701411834604692317316873037158841057.28";
+
+/// A word, and what it means: by hand, from the rule that the first `=` cuts it. The least and the
+/// greatest number are those of Rust's `i128`.
+#[rattlefmt::skip]
+const WORDS: [(&str, Word<'static>); 68] = [
+    ("a=b=c", Word::Text { name: "a", text: "b=c" }),
+    ("a=", Word::Text { name: "a", text: "" }),
+    ("=x", Word::Text { name: "", text: "x" }),
+    ("=", Word::Text { name: "", text: "" }),
+    ("a:b=c", Word::Text { name: "a:b", text: "c" }),
+    ("n=:5", Word::Text { name: "n", text: ":5" }),
+    ("n[=5", Word::Text { name: "n[", text: "5" }),
+    ("n]=5", Word::Text { name: "n]", text: "5" }),
+    ("n[] =5", Word::Text { name: "n[] ", text: "5" }),
+    ("n[1]=5", Word::Text { name: "n[1]", text: "5" }),
+    ("n=[]", Word::Text { name: "n", text: "[]" }),
+    ("n =5", Word::Text { name: "n ", text: "5" }),
+    ("é=ü", Word::Text { name: "é", text: "ü" }),
+    ("n:=5", Word::Number { name: "n", value: 5 }),
+    ("n:=-12", Word::Number { name: "n", value: -12 }),
+    (":=5", Word::Number { name: "", value: 5 }),
+    ("a:b:=1", Word::Number { name: "a:b", value: 1 }),
+    ("n[]:=1", Word::Number { name: "n[]", value: 1 }),
+    ("n:=-0", Word::Number { name: "n", value: 0 }),
+    ("n:=007", Word::Number { name: "n", value: 7 }),
+    (LEAST, Word::Number { name: "n", value: i128::MIN }),
+    (GREATEST, Word::Number { name: "n", value: i128::MAX }),
+    ("p.=1.5", Word::Text { name: "p.", text: "1.5" }),
+    ("p:. =1.5", Word::Text { name: "p:. ", text: "1.5" }),
+    ("p.:=1", Word::Number { name: "p.", value: 1 }),
+    ("p:.[]=1", Word::List { name: "p:.", items: "1" }),
+    ("l[]=a,b", Word::List { name: "l", items: "a,b" }),
+    ("l[]=", Word::List { name: "l", items: "" }),
+    ("[]=a", Word::List { name: "", items: "a" }),
+    ("[]=", Word::List { name: "", items: "" }),
+    ("l[][]=a", Word::List { name: "l[]", items: "a" }),
+    ("n:[]=1", Word::List { name: "n:", items: "1" }),
+    ("l[]=a=b,[]=", Word::List { name: "l", items: "a=b,[]=" }),
+    ("l[]=:=1", Word::List { name: "l", items: ":=1" }),
+    ("é[]=ü", Word::List { name: "é", items: "ü" }),
+    ("a", Word::Bad),
+    ("", Word::Bad),
+    ("n:=+1", Word::Bad),
+    ("n:=", Word::Bad),
+    ("n:=-", Word::Bad),
+    ("n:=x", Word::Bad),
+    ("n:=1 ", Word::Bad),
+    ("n:= 1", Word::Bad),
+    ("n:=--1", Word::Bad),
+    ("n:=1-", Word::Bad),
+    ("n:=1=", Word::Bad),
+    ("n:=٣", Word::Bad),
+    ("n:=1.5", Word::Bad),
+    ("p:.=", Word::Bad),
+    ("p:.=-", Word::Bad),
+    ("p:.=.", Word::Bad),
+    ("p:.=1.", Word::Bad),
+    ("p:.=.5", Word::Bad),
+    ("p:.=1.2.3", Word::Bad),
+    ("p:.=1.-2", Word::Bad),
+    ("p:.=--1.5", Word::Bad),
+    ("p:.=+-1.5", Word::Bad),
+    ("p:.= 1.5", Word::Bad),
+    ("p:.=1,5", Word::Bad),
+    ("p:.=1e3", Word::Bad),
+    ("p:.=1.5=", Word::Bad),
+    ("p:.=٣.٥", Word::Bad),
+    (DECIMAL_TOO_LITTLE, Word::Bad),
+    (DECIMAL_TOO_GREAT, Word::Bad),
+    (TOO_LITTLE, Word::Bad),
+    (TOO_GREAT, Word::Bad),
+    ("a[]", Word::Bad),
+    ("l[]:=a", Word::Bad),
 ];
 
-/// A word, its name and its number: by hand, the least and the greatest those of Rust's `i128`.
-const NUMBERS: [(&str, &str, i128); 9] = [
-    ("n:=5", "n", 5),
-    ("n:=-12", "n", -12),
-    (":=5", "", 5),
-    ("a:b:=1", "a:b", 1),
-    ("n[]:=1", "n[]", 1),
-    ("n:=-0", "n", 0),
-    ("n:=007", "n", 7),
-    (LEAST, "n", i128::MIN),
-    (GREATEST, "n", i128::MAX),
-];
-
-/// A word, its name and the text of its items: by hand, from the same rule.
-const LISTS: [(&str, &str, &str); 9] = [
-    ("l[]=a,b", "l", "a,b"),
-    ("l[]=", "l", ""),
-    ("[]=a", "", "a"),
-    ("[]=", "", ""),
-    ("l[][]=a", "l[]", "a"),
-    ("n:[]=1", "n:", "1"),
-    ("l[]=a=b,[]=", "l", "a=b,[]="),
-    ("l[]=:=1", "l", ":=1"),
-    ("é[]=ü", "é", "ü"),
-];
-
-/// Words that mean nothing: by the same rule.
-const BAD: [&str; 16] = [
-    "a", "", "n:=+1", "n:=", "n:=-", "n:=x", "n:=1 ", "n:= 1", "n:=--1", "n:=1-", "n:=1=", "n:=٣",
-    TOO_LITTLE, TOO_GREAT, "a[]", "l[]:=a",
+/// A word of a decimal, its name, how many units it has, and its scale: by hand, from the rule that
+/// the digits after the point are counted and all digits together are the units.
+const DECIMALS: [(&str, &str, i128, u32); 12] = [
+    ("p:.=12.50", "p", 1250, 2),
+    ("p:.=-0.05", "p", -5, 2),
+    ("p:.=+1.5", "p", 15, 1),
+    ("p:.=7", "p", 7, 0),
+    ("p:.=007.0", "p", 70, 1),
+    ("p:.=-0.00", "p", 0, 2),
+    (":.=5", "", 5, 0),
+    ("a:b:.=1.0", "a:b", 10, 1),
+    ("p::.=1", "p:", 1, 0),
+    ("p[]:.=1", "p[]", 1, 0),
+    (LEAST_DECIMAL, "p", i128::MIN, 2),
+    (GREATEST_DECIMAL, "p", i128::MAX, 2),
 ];
 
 /// The text of a list, and its items: by hand, from the rule that each comma ends one, and that the
@@ -79,17 +130,12 @@ const ITEMS: [(&str, &[&str]); 8] = [
 
 #[test]
 fn words_mean_what_they_say(rt: HostRuntime) {
-    for (word, name, text) in TEXTS {
-        assert_eq!(rt; classify(word), Word::Text { name, text }, "{word}");
+    for (word, meaning) in WORDS {
+        assert_eq!(rt; classify(word), meaning, "{word}");
     }
-    for (word, name, value) in NUMBERS {
-        assert_eq!(rt; classify(word), Word::Number { name, value }, "{word}");
-    }
-    for (word, name, items) in LISTS {
-        assert_eq!(rt; classify(word), Word::List { name, items }, "{word}");
-    }
-    for word in BAD {
-        assert_eq!(rt; classify(word), Word::Bad, "{word}");
+    for (word, name, units, scale) in DECIMALS {
+        let value = Decimal { units, scale };
+        assert_eq!(rt; classify(word), Word::Decimal { name, value }, "{word}");
     }
 }
 

@@ -1,0 +1,14 @@
+use Rattle.std.proofs.Common.{refl}
+use Rattle.std.proofs.lemmas.Int.{to_z-of_z}
+use Rattle.std.specs.Int.{w128}
+use Rattle.catalogue.proofs.WordLemmas.{not_a_decimal}
+use Rattle.catalogue.proofs.words.decimal_view.Goals as goal
+
+pub returns-in-Some : goal.returns-in-Some
+returns-in-Some c =
+    let decimal = c.in-Some.decimal in
+    let spelled = (c.in-Some.ensures decimal).1 refl in
+    rw (to_z-of_z w128 decimal.units spelled.1.0) (decimal, spelled, refl)
+
+pub returns-in-None : goal.returns-in-None
+returns-in-None c = not_a_decimal c.args.text.now c.in-None.ensures

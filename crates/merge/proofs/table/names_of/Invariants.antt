@@ -1,7 +1,0 @@
-use Rattle.std.proofs.Common.{◌≡◌, map, take, string_bytes}
-use Rattle.std.specs.Str.{trim}
-use Rattle.merge.proofs.table.names_of.Given as goal
-
-abbrev pub invariant-loop-field : goal.invariant-loop-field
-invariant-loop-field l = map (λ x. x.now) l.names.items
-    ≡ map trim (map (λ field. string_bytes field) (take l.field-index l.fields))

@@ -1,0 +1,30 @@
+-- The columns of a table, which its first line names: of texts, or of numbers. Texts are bytes.
+use Rattle.std.specs.Prelude.{ℕ, ◌-◌, List, codes, drop, length, map, take, if◌then◌else◌}
+use Rattle.std.specs.Prelude.{Option, None, Some}
+use Rattle.std.specs.Str.{bytes_eq, trim}
+use Rattle.merge.specs.declared.columns.Column.{Column}
+use Rattle.merge.specs.declared.columns.Kind.{Kind}
+use Rattle.merge.specs.declared.columns.Kind.TheVariants as kinds
+
+-- a name and what the fields under it are, borrows aside
+abbrev pub as_column : Column → List ℕ × Kind
+as_column column = (column.name.now, column.kind)
+
+-- what the fields of columns are
+abbrev pub kinds_in : List Column → List Kind
+kinds_in columns = map (λ column. column.kind) columns
+
+-- a text without an ending, if it ends so
+abbrev pub without : (ending text : List ℕ) → Option (List ℕ)
+without ending text =
+    if bytes_eq (drop (length text - length ending) text) ending
+    then Some (take (length text - length ending) text) else None
+
+-- a column by what is before the `:` at the end of a text
+abbrev pub column_by : List ℕ → Option (List ℕ) → List ℕ × Kind
+column_by text None = (text, kinds.Text)
+column_by text (Some name) = (trim name, kinds.Number)
+
+-- the column that a field of the first line names: `name:` one of numbers, else `name` one of texts
+abbrev pub column_of : List ℕ → List ℕ × Kind
+column_of field = column_by (trim field) (without (codes ":") (trim field))

@@ -1,0 +1,67 @@
+-- The fields of a line as values: which are what their columns want, and what their views are.
+-- Fields are bytes.
+use Rattle.std.specs.Prelude.{◌≡◌, ◌⊎◌, ⊤, ℕ, ◌+◌, pos, List, [], ◌∷◌, Option, None, Some}
+use Rattle.std.specs.Borrow.{Bor}
+use Rattle.std.specs.Str.{trim}
+use Rattle.interpolator.specs.DecimalTexts.{IsInRange, SpellsDecimal}
+use Rattle.interpolator.specs.Slots.{Slots, empty_slots, with_debug_display, with_float}
+use Rattle.interpolator.specs.declared.Decimal.{Decimal}
+use Rattle.interpolator.specs.declared.View.{View}
+use Rattle.interpolator.specs.declared.View.TheVariants as forms
+use Rattle.merge.specs.declared.columns.Kind.{Kind}
+use Rattle.merge.specs.declared.columns.Kind.TheVariants as kinds
+
+-- a text spells a decimal in range: a `-` or `+` if there is one, digits, and perhaps a point with
+-- digits after it; the scale is how many those are
+abbrev pub IsDecimal : List ℕ → Decimal → Type 0
+IsDecimal text value =
+    SpellsDecimal text value.units value.scale × IsInRange value.units value.scale
+
+-- a text spells some decimal
+abbrev pub HasDecimal : List ℕ → Type 0
+HasDecimal text = (value : Decimal) × IsDecimal text value
+
+-- a view is the decimal that a text spells
+abbrev pub ShowsDecimal : List ℕ → View → Type 0
+ShowsDecimal text view = (value : Decimal) × IsDecimal text value
+    × (view ≡ forms.Decimal value.units value.scale)
+
+-- a field is what its column wants: any is a text, and white space around a number does not count
+abbrev pub Fits : Kind → List ℕ → Type 0
+Fits kinds.Text field = ⊤
+Fits kinds.Number field = HasDecimal (trim field)
+
+-- a view is that of a field in a column
+abbrev pub Shows : Kind → List ℕ → View → Type 0
+Shows kinds.Text field view = (text : Bor (List ℕ)) × (view ≡ forms.Text text) × (text.now ≡ field)
+Shows kinds.Number field view = ShowsDecimal (trim field) view
+
+-- views are those of the fields of some columns
+abbrev pub AreShown : List Kind → (fields : List (List ℕ)) → List View → Type 0
+AreShown [] [] [] = ⊤
+AreShown (kind ∷ more) (field ∷ fields) (view ∷ views) =
+    Shows kind field view × AreShown more fields views
+AreShown _ _ _ = ⊥
+
+-- the first column, of some that are numbered from here on, whose field is not what it wants
+abbrev pub IsMisfit : ℕ → List Kind → (fields : List (List ℕ)) → Option ℕ → Type 0
+IsMisfit number [] [] found = found ≡ None
+IsMisfit number (kind ∷ more) (field ∷ fields) found =
+    (Fits kind field × IsMisfit (number + 1) more fields found)
+    ⊎ (¬ Fits kind field × (found ≡ Some number))
+IsMisfit _ _ _ _ = ⊥
+
+-- a view as a value: a number fills the slots of debug, display and exponents, a text those of
+-- debug and display
+abbrev pub as_value : View → Slots View
+as_value (forms.Decimal units scale) = with_float empty_slots (forms.Decimal units scale)
+as_value view = with_debug_display empty_slots view
+
+-- an example of the fields of a column, of one of a text and one of a number
+abbrev pub example_by : (text number : View) → Kind → Slots View
+example_by text number kinds.Text = as_value text
+example_by text number kinds.Number = as_value number
+
+-- those of the examples `a` and 0
+abbrev pub example_slots : Kind → Slots View
+example_slots kind = example_by (forms.Character 97) (forms.Decimal (pos 0) 0) kind

@@ -1,0 +1,73 @@
+//! The columns of a table: their names, and what their fields are.
+
+ghost use Rattle.std.specs.Prelude.{◌≡◌, IfOk, map, string_bytes};
+ghost use Rattle.std.specs.Option.{option_map};
+ghost use Rattle.merge.specs.Columns.{as_column, column_of, without};
+
+use std::alloc::{AllocError, Global};
+
+/// What the fields of a column are.
+#[derive(Clone, Copy, Debug, PartialEq, Eq)]
+pub enum Kind {
+    /// Texts.
+    Text,
+    /// Numbers.
+    Number,
+}
+
+/// A column: its name, and what its fields are.
+#[derive(Clone, Copy, Debug)]
+pub struct Column<'a> {
+    pub name: &'a str,
+    pub kind: Kind,
+}
+
+/// A text without an ending, if it ends so.
+fn without<'a>(ending: &str, text: &'a str) -> Option<&'a str>
+    ensures { option_map (λ x. x.now) result ≡ without ending.now text.now }
+{
+    text.strip_suffix(ending)
+}
+
+/// The column that a field of the first line names: `price:` is a column of numbers with the name
+/// `price`, and any other text is the name of a column of texts. White space around a name does not
+/// count.
+fn column_of(field: &str) -> Column<'_>
+    ensures { as_column result ≡ column_of field.now }
+{
+    let name = field.trim();
+    if let Some(name) = without(":", name) {
+        return Column {
+            name: name.trim(),
+            kind: Kind::Number,
+        };
+    }
+    Column {
+        name,
+        kind: Kind::Text,
+    }
+}
+
+/// The columns that the fields of the first line name.
+pub fn columns_of(alloc: Global, fields: &[String]) -> Result<Vec<Column<'_>>, AllocError>
+    ensures { IfOk result (λ columns. map as_column columns.items
+        ≡ map column_of (map (λ field. string_bytes field) fields.now)) }
+{
+    let mut columns = Vec::with_capacity(alloc, fields.len())?;
+    for field in fields.iter() {
+        columns.push(column_of(field.as_str()))?;
+    }
+    Ok(columns)
+}
+
+/// The names of columns.
+pub fn names_of<'a>(alloc: Global, columns: &[Column<'a>]) -> Result<Vec<&'a str>, AllocError>
+    ensures { IfOk result (λ names.
+        map (λ x. x.now) names.items ≡ map (λ column. column.name.now) columns.now) }
+{
+    let mut names = Vec::with_capacity(alloc, columns.len())?;
+    for column in columns.iter() {
+        names.push(column.name)?;
+    }
+    Ok(names)
+}
