@@ -129,7 +129,7 @@ a.txt:4:7: specified value not in context `nome` at 13
 fn no_text_is_longer_than_its_cost() {
     let limits = Limits { text: 10, items: 3 };
     assert_eq!(cost("{a}{b}--", limits).characters, 82);
-    assert_eq!(cost("{l:>99i({:.2})(, )}", limits).buffered, 124);
+    assert_eq!(cost("{l:>99i({:.2})(, )}", limits).buffered, 133);
     assert_eq!(
         cost("{l:i({x:99999999999999999999})}", limits).characters,
         0

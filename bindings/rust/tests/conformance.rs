@@ -82,7 +82,7 @@ fn set_view(view: &View, slots: &[String], is_own: bool, made: &mut Formattable<
         View::Text(text) => set!(set_text text.clone()),
         View::Plain(text) => set_all(Plain(text.clone()), slots, made),
         View::Failed => set_all(Failed, slots, made),
-        View::NotImplemented => {}
+        View::Decimal | View::NotImplemented => {}
     }
 }
 

@@ -7,6 +7,8 @@ use std::alloc::{AllocError, Global};
 
 const LAYOUT: &str = "{time} {level} [{module}] {message} (line {line})";
 
+const AMOUNTS: &str = "net {net:>10.2} tax {tax:>10.2} paid {paid:>10.2} open {open:>10.2}";
+
 const NUMBER_NAMES: [&str; 32] = [
     "a", "b", "c", "d", "e", "f", "g", "h", "i", "j", "k", "l", "m", "n", "o", "p", "q", "r", "s",
     "t", "u", "v", "w", "x", "y", "z", "aa", "bb", "cc", "dd", "ee", "ff",
@@ -73,6 +75,24 @@ pub fn log_line(alloc: Global, how: How, repeats: u32) -> Result<String, Failure
         ("line", Formattable::integer(&values[4])),
     ];
     repeat_format(alloc, how, LAYOUT, &Pairs(&pairs), repeats)
+}
+
+/// A line of four amounts, one of them with more digits than are shown.
+#[rattlefmt::skip]
+pub fn amounts(alloc: Global, how: How, repeats: u32) -> Result<String, Failure> {
+    let values = [
+        View::Decimal { units: 1_234_567, scale: 2 },
+        View::Decimal { units: 24_691_340, scale: 4 },
+        View::Decimal { units: -1_400_000, scale: 2 },
+        View::Decimal { units: 81_480, scale: 2 },
+    ];
+    let pairs = [
+        ("net", Formattable::display(&values[0])),
+        ("tax", Formattable::display(&values[1])),
+        ("paid", Formattable::display(&values[2])),
+        ("open", Formattable::display(&values[3])),
+    ];
+    repeat_format(alloc, how, AMOUNTS, &Pairs(&pairs), repeats)
 }
 
 /// A format that uses thirty-two short names, with these numbers.

@@ -85,28 +85,27 @@ fn repeat_write<V: Value>(
     context: &HashMap<&str, Formattable<'_, V>>,
     repeats: u32,
 ) -> Result<String, Failure> {
-    let mut text = String::new(alloc);
+    let mut out = TextBuffer::new(alloc);
     for _ in 0..repeats {
-        text.clear();
-        text = put(alloc, text, format, template, context)?;
+        out.clear();
+        put(alloc, &mut out, format, template, context)?;
     }
-    Ok(text)
+    Ok(out.into_string())
 }
 
 // Appends the output of the template, or of the format if there is none.
 fn put<V: Value>(
     alloc: Global,
-    text: String,
+    out: &mut TextBuffer,
     format: &str,
     template: Option<&Template>,
     context: &HashMap<&str, Formattable<'_, V>>,
-) -> Result<String, Error> {
-    let mut out = TextBuffer::from_string(text);
+) -> Result<(), Error> {
     match template {
-        Some(template) => context.write_template_to(alloc, &mut out, template)?,
-        None => context.write_to(alloc, &mut out, format)?,
+        Some(template) => context.write_template_to(alloc, out, template)?,
+        None => context.write_to(alloc, out, format)?,
     }
-    Ok(out.into_string())
+    Ok(())
 }
 
 // Parses the format into a new template each time.
@@ -161,22 +160,21 @@ fn repeat_row<V: Value>(
     row: &Row<'_, V>,
     repeats: u32,
 ) -> Result<String, Failure> {
-    let mut text = String::new(alloc);
+    let mut out = TextBuffer::new(alloc);
     for _ in 0..repeats {
-        text.clear();
-        text = put_row(alloc, text, prepared, row)?;
+        out.clear();
+        put_row(alloc, &mut out, prepared, row)?;
     }
-    Ok(text)
+    Ok(out.into_string())
 }
 
 // Appends the output of the prepared format with a row.
 fn put_row<V: Value>(
     alloc: Global,
-    text: String,
+    out: &mut TextBuffer,
     prepared: &Prepared,
     row: &Row<'_, V>,
-) -> Result<String, Error> {
-    let mut out = TextBuffer::from_string(text);
-    prepared.write(alloc, &mut out, row)?;
-    Ok(out.into_string())
+) -> Result<(), Error> {
+    prepared.write(alloc, out, row)?;
+    Ok(())
 }

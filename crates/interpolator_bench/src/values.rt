@@ -28,6 +28,8 @@ pub enum Values {
     WideAccents,
     /// Whole numbers of 10 to 19 digits.
     LongDigits,
+    /// Decimals of the same digits, two of them after the point.
+    LongDecimals,
     /// Whole numbers of 60 bits, in base two.
     SixtyBits,
     /// Whole numbers of 16 digits in base sixteen.
@@ -78,6 +80,7 @@ impl Values {
             Values::Wide => repeat_wide(alloc, how, &[":1000", ":<1000", ":^1000", ":>1000", ":01000"], repeats),
             Values::WideAccents => repeat_wide(alloc, how, &[":é<1000", ":é^1000", ":é>1000"], repeats),
             Values::LongDigits => repeat(alloc, how, &LONG_DIGITS, &[""], repeats),
+            Values::LongDecimals => repeat_decimals(alloc, how, repeats),
             Values::SixtyBits => repeat(alloc, how, &SIXTY_BITS, &[":b"], repeats),
             Values::SixteenHex => repeat(alloc, how, &SIXTEEN_HEX, &[":x"], repeats),
         }
@@ -93,6 +96,18 @@ fn repeat_wide(
 ) -> Result<String, Failure> {
     let values = [View::Text("wide"), View::Unsigned(42)];
     repeat(alloc, how, &values, specs, repeats)
+}
+
+// Writes the decimals, `repeats` times.
+fn repeat_decimals(alloc: Global, how: Option<How>, repeats: u32) -> Result<String, Failure> {
+    let mut decimals = Vec::new(alloc);
+    for digits in LONG_DIGITS {
+        decimals.push(View::Decimal {
+            units: i128::from(digits),
+            scale: 2,
+        })?;
+    }
+    repeat(alloc, how, &decimals, &[""], repeats)
 }
 
 // Writes each value under each spec, `repeats` times. Returns the last text.

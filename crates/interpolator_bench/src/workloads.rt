@@ -53,6 +53,7 @@ enum Shape {
     Json,
     Letter4K,
     TableRow,
+    Amounts,
     Braces64K,
     Literal64K,
     Braces1M,
@@ -87,7 +88,7 @@ const KEPT: &[Way] = &[WRITE, TEMPLATE, PREPARED];
 
 /// Formats, each with the ways in which it is used.
 #[rattlefmt::skip]
-const SHAPES: [(&str, Shape, &[Way]); 18] = [
+const SHAPES: [(&str, Shape, &[Way]); 19] = [
     ("log-line", Shape::LogLine, ALL),
     ("names-32-numbers", Shape::NumberNames, ALL),
     ("names-32-signed", Shape::SignedNames, KEPT),
@@ -97,6 +98,7 @@ const SHAPES: [(&str, Shape, &[Way]); 18] = [
     ("json", Shape::Json, KEPT),
     ("letter-4k", Shape::Letter4K, ALL),
     ("table-row", Shape::TableRow, WRITTEN),
+    ("amounts", Shape::Amounts, KEPT),
     ("braces-64k", Shape::Braces64K, WRITTEN),
     ("literal-64k", Shape::Literal64K, ALL),
     ("braces-1m", Shape::Braces1M, &[FORMAT]),
@@ -114,7 +116,7 @@ const VALUES_WRITTEN: &[Way] = &[FORMAT_VALUES, WRITE, TEMPLATE, PREPARED];
 
 /// Values under specs, each with the ways in which their format is used. Each is also rendered.
 #[rattlefmt::skip]
-const VALUES: [(&str, Values, &[Way]); 11] = [
+const VALUES: [(&str, Values, &[Way]); 12] = [
     ("specs", Values::Specs, &[FORMAT_VALUES, WRITE, TEMPLATE, PREPARED, PARSE, PREPARE]),
     ("radix", Values::Radix, VALUES_WRITTEN),
     ("exponents", Values::Exponents, VALUES_WRITTEN),
@@ -124,6 +126,7 @@ const VALUES: [(&str, Values, &[Way]); 11] = [
     ("wide", Values::Wide, VALUES_WRITTEN),
     ("wide-accents", Values::WideAccents, KEPT),
     ("long-digits", Values::LongDigits, &[]),
+    ("long-decimals", Values::LongDecimals, &[]),
     ("60-bits", Values::SixtyBits, &[]),
     ("16-hex", Values::SixteenHex, &[]),
 ];
@@ -227,6 +230,7 @@ impl Shape {
             Shape::Json => documents::json(alloc, how, repeats),
             Shape::Letter4K => documents::letter(alloc, how, repeats),
             Shape::TableRow => documents::table_row(alloc, how, repeats),
+            Shape::Amounts => formats::amounts(alloc, how, repeats),
             Shape::Braces64K => formats::copies(alloc, how, BRACES, COPIES_64K, repeats),
             Shape::Literal64K => formats::copies(alloc, how, LITERAL, COPIES_64K, repeats),
             Shape::Braces1M => formats::copies(alloc, how, BRACES, COPIES_1M, repeats),

@@ -44,7 +44,7 @@ impl Page {
     }
 
     /// Appends the fault of the example of this name, as `Debug` shows it.
-    fn put_fault(&mut self, name: &str, error: &Error) {
+    pub fn put_fault(&mut self, name: &str, error: &Error) {
         match format!(in self.alloc; "{error:?}") {
             Ok(text) => self.put(name, text.as_str()),
             Err(_) => self.wants_memory = true,

@@ -72,28 +72,6 @@ fn listed_names(alloc: Global, header: &str, row: &str, text: &str) -> Result<St
     Pairs(&pairs).format(alloc, text)
 }
 
-/// A line for each record, with views as values.
-fn lines(alloc: Global, layout: &str, records: &[(&str, u32)]) -> Result<String, Error> {
-    let mut out = TextBuffer::new(alloc);
-    for (level, line) in records {
-        let values = [View::Text(level), View::Unsigned(u128::from(*line))];
-        Pairs(&[
-            ("level", Formattable::debug_display(&values[0])),
-            ("line", Formattable::integer(&values[1])),
-        ])
-        .write_to(alloc, &mut out, layout)?;
-    }
-    Ok(out.into_string())
-}
-
-/// Values of one kind, under `&str` names.
-fn greeting(alloc: Global, name: &str, city: &str) -> Result<String, Error> {
-    let mut context = HashMap::new(alloc);
-    context.insert("name", Formattable::display(&name))?;
-    context.insert("city", Formattable::display(&city))?;
-    context.format(alloc, "Hello {name}, how is {city}?")
-}
-
 /// Values of two kinds, as views.
 fn count(alloc: Global, name: &str, apples: i32) -> Result<String, Error> {
     let name = View::Text(name);
@@ -104,19 +82,10 @@ fn count(alloc: Global, name: &str, apples: i32) -> Result<String, Error> {
     context.format(alloc, "{name} has {{{n}}} apples")
 }
 
-/// Owned names.
-fn owned(alloc: Global, name: &str, values: &[u64]) -> Result<String, Error> {
+/// Owned names, and owned texts as values.
+fn owned(alloc: Global, name: &str, line: &String) -> Result<String, Error> {
     let mut context = HashMap::new(alloc);
-    if let Some(first) = values.first() {
-        context.insert(String::from_str(alloc, name)?, Formattable::integer(first))?;
-    }
-    context.format(alloc, "first: {first}")
-}
-
-/// Owned texts as values.
-fn quoted(alloc: Global, line: &String) -> Result<String, Error> {
-    let mut context = HashMap::new(alloc);
-    context.insert("line", Formattable::display(line))?;
+    context.insert(String::from_str(alloc, name)?, Formattable::display(line))?;
     context.format(alloc, "> {line}")
 }
 
@@ -155,29 +124,19 @@ impl Value for Degrees {
     }
 }
 
-/// A line of a report, written to a writer.
-fn line(alloc: Global, out: &mut TextBuffer, low: i32, high: Option<i32>) -> Result<(), Error> {
-    let low = Degrees { celsius: low };
-    let high = high.map(|celsius| Degrees { celsius });
-    let mut context = HashMap::new(alloc);
-    context.insert("low", Formattable::display(&low))?;
-    if let Some(high) = &high {
-        context.insert("high", Formattable::display(high))?;
-    }
-    context.write_to(alloc, out, "{low} to {high}\n")
-}
-
-/// Degrees in two locals: values from several locals are pushed to a vector.
-fn range(alloc: Global, low: i32, high: Option<i32>) -> Result<String, Error> {
-    let low = Degrees { celsius: low };
-    let high = high.map(|celsius| Degrees { celsius });
+/// A line of a report, written to a writer: values from several locals are pushed to a vector.
+fn line(
+    alloc: Global,
+    out: &mut TextBuffer,
+    low: Degrees,
+    high: Option<Degrees>,
+) -> Result<(), Error> {
     let mut pairs = Vec::new(alloc);
     pairs.push(("low", Formattable::display(&low)))?;
-    pairs.push(("high", Formattable::display(&low)))?;
     if let Some(high) = &high {
         pairs.push(("high", Formattable::display(high)))?;
     }
-    Pairs(&pairs).format(alloc, "{low} to {high}")
+    Pairs(&pairs).write_to(alloc, out, "{low} to {high}\n")
 }
 
 /// Ann in Oslo, and Béla in Győr.
@@ -208,19 +167,13 @@ fn show_pairs(page: &mut Page) {
     page.put_made("apples", apples(alloc, "Ann", -7));
     let listed = listed_names(alloc, "name,n,name", "Ann,7,Eve", "{n} {name}");
     page.put_made("listed_names", listed);
-    let levels = lines(alloc, "[{level}] {line};", &[("info", 1), ("warn", 22)]);
-    page.put_made("lines", levels);
-    page.put_made("range", range(alloc, -4, Some(3)));
-    page.put_made("range of one", range(alloc, -4, None));
 }
 
 fn show_maps(page: &mut Page) -> Result<(), Error> {
     let alloc = page.alloc;
-    page.put_made("greeting", greeting(alloc, "Ann", "Oslo"));
     page.put_made("count", count(alloc, "Ann", -7));
-    page.put_made("owned", owned(alloc, "first", &[u64::MAX]));
     let line = String::from_str(alloc, "é {line}")?;
-    page.put_made("quoted", quoted(alloc, &line));
+    page.put_made("owned", owned(alloc, "line", &line));
     page.put_made("listed", listed(alloc, "numbers", 1, -5));
     Ok(())
 }
@@ -229,10 +182,12 @@ fn show_maps(page: &mut Page) -> Result<(), Error> {
 fn show_lines(page: &mut Page) -> Result<(), Error> {
     let alloc = page.alloc;
     let mut out = TextBuffer::new(alloc);
-    line(alloc, &mut out, -4, Some(3))?;
-    let answer = line(alloc, &mut out, 5, None);
+    let low = Degrees { celsius: -4 };
+    line(alloc, &mut out, low, Some(Degrees { celsius: 3 }))?;
+    if let Err(error) = line(alloc, &mut out, low, None) {
+        page.put_fault("no high", &error);
+    }
     page.put("line", out.as_str());
-    page.put_made("no high", answer.map(|_| String::new(alloc)));
     Ok(())
 }
 

@@ -25,7 +25,7 @@ const COSTS: [Priced<'static>; 22] = [
     Priced { format: "", text: 10, items: 3, cost: (0, 0, 0) },
     Priced { format: "aé{{}", text: 10, items: 3, cost: (4, 3, 0) },
     Priced { format: "{x}{x:x}{x:#x}{x:+X}", text: 0, items: 0, cost: (40 + 32 + 34 + 33, 4, 0) },
-    Priced { format: "{x:e}{x:.0E}{x:.7e}", text: 0, items: 0, cost: (44 + 5 + 13, 3, 0) },
+    Priced { format: "{x:e}{x:.0E}{x:.7e}", text: 0, items: 0, cost: (53 + 15 + 22, 3, 0) },
     Priced { format: "{x:x?}{x:?}{x:.3?}", text: 100, items: 0, cost: (602 * 3, 3, 0) },
     Priced { format: "{x:7}{x:300}{x:300?}", text: 100, items: 0, cost: (100 + 300 + 602, 3, 0) },
     Priced { format: "{l:i}", text: 100, items: 0, cost: (0, 1, 0) },

@@ -10,6 +10,7 @@
 mod contexts;
 mod costs;
 mod counting;
+mod decimals;
 mod depth;
 mod explained;
 mod faults;
@@ -36,6 +37,7 @@ use std::{env, io};
 fn run_others(report: &mut Report) -> Result<(), Error> {
     contexts::run(report)?;
     costs::run(report)?;
+    decimals::run(report)?;
     depth::run(report)?;
     explained::run(report)?;
     faults::run(report)?;

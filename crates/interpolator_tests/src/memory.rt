@@ -3,6 +3,7 @@
 //! allocator `.ci/refuse.c` before the C library. A call whose allocation is refused returns
 //! `NoMemory` and leaves everything as it was; called again, it returns what its row says.
 
+mod decimals;
 mod lists;
 mod loaded;
 mod named;
@@ -13,6 +14,7 @@ use interpolator::Error;
 
 pub fn run(report: &mut Report) -> Result<(), Error> {
     report.begin("memory");
+    decimals::run(report)?;
     lists::run(report)?;
     loaded::run(report)?;
     named::run(report);

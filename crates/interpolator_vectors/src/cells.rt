@@ -11,6 +11,8 @@ pub enum Cell {
     I64(i64),
     I128(i128),
     Unsigned(u128),
+    /// Units, and how many digits of them are after the point.
+    Decimal(i128, u32),
     Truth(bool),
     Character(char),
     Text(String),
@@ -33,6 +35,10 @@ impl Value for Cell {
             Cell::I64(n) => View::Signed(i128::from(*n), Bits::B64),
             Cell::I128(n) => View::Signed(*n, Bits::B128),
             Cell::Unsigned(n) => View::Unsigned(*n),
+            Cell::Decimal(units, scale) => View::Decimal {
+                units: *units,
+                scale: *scale,
+            },
             Cell::Truth(truth) => View::Truth(*truth),
             Cell::Character(c) => View::Character(*c),
             Cell::Text(text) => View::Text(text.as_str()),

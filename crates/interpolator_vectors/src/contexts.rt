@@ -48,6 +48,13 @@ pub struct Holding {
 pub fn take_cell(words: &mut Words<'_>) -> Read<Cell> {
     let kind = words.bare().unwrap_or("");
     match kind {
+        "decimal" => {
+            let units = words.bare().unwrap_or("");
+            match decimal_of(units, words.bare().unwrap_or("")) {
+                Some(cell) => Ok(cell),
+                None => Err(words.trouble("the units of a decimal are wanted, and its scale")),
+            }
+        }
         "truth" => Ok(Cell::Truth(words.wanted(&TRUTHS)?)),
         "character" => Ok(Cell::Character(words.character()?)),
         "text" => Ok(Cell::Text(words.text()?)),
@@ -59,6 +66,11 @@ pub fn take_cell(words: &mut Words<'_>) -> Read<Cell> {
             None => Err(words.trouble("a view is wanted, and a number within its bits")),
         },
     }
+}
+
+/// The decimal whose units and scale two words spell.
+fn decimal_of(units: &str, scale: &str) -> Option<Cell> {
+    Some(Cell::Decimal(units.parse::<i128>().ok()?, scale.parse::<u32>().ok()?))
 }
 
 /// The unsigned number that a word spells, up to the greatest.
@@ -109,12 +121,13 @@ impl Held {
     }
 }
 
-/// The number of characters of the longest text among the values.
+/// The number of characters of the longest text among the values, a decimal's with its sign.
 fn longest_of(fills: &[Fill]) -> usize {
     let mut longest = 0usize;
     for fill in fills {
         longest = longest.max(match &fill.cell {
             Cell::Text(text) => text.chars().count(),
+            Cell::Decimal(_, scale) => (*scale as usize).saturating_add(41),
             Cell::Plain(text) => text.chars().count(),
             _ => 0,
         });

@@ -12,6 +12,8 @@ pub enum View {
     Signed(u32, i128),
     Unsigned(u32, u128),
     Truth(bool),
+    /// A decimal, which is no value of this crate.
+    Decimal,
     Character(char),
     Text(String),
     Plain(String),
@@ -49,6 +51,15 @@ impl Slots {
         self.any(&|slots| slots.list.is_some() && !slots.views.is_empty())
     }
 
+    pub fn is_decimal(&self) -> bool {
+        self.any(&|slots| {
+            slots
+                .views
+                .iter()
+                .any(|(_, view)| matches!(view, View::Decimal))
+        })
+    }
+
     pub fn is_past_ascii(&self) -> bool {
         self.any(&|slots| {
             slots.views.iter().any(|(_, view)| match view {
@@ -83,7 +94,7 @@ impl Row {
     }
 }
 
-/// The rows of all files.
+/// The rows of all files, but for those with a decimal under a name.
 pub fn rows() -> Vec<Row> {
     let folder =
         Path::new(env!("CARGO_MANIFEST_DIR")).join("../../crates/interpolator_vectors/data");
@@ -92,7 +103,9 @@ pub fn rows() -> Vec<Row> {
     let mut files: Vec<_> = files.map(|file| file.unwrap().path()).collect();
     files.sort();
     let texts = files.iter().map(|file| fs::read_to_string(file).unwrap());
-    texts.flat_map(|text| rows_of(&text)).collect()
+    let rows = texts.flat_map(|text| rows_of(&text));
+    rows.filter(|row| !row.context.values().any(Slots::is_decimal))
+        .collect()
 }
 
 fn rows_of(file: &str) -> Vec<Row> {
@@ -246,6 +259,11 @@ impl Words {
         let kind = self.plain();
         match kind.as_str() {
             "truth" => View::Truth(self.plain() == "true"),
+            "decimal" => {
+                self.number::<i128>();
+                self.number::<u32>();
+                View::Decimal
+            }
             "character" => View::Character(self.text().chars().next().unwrap()),
             "text" => View::Text(self.text()),
             "plain" => View::Plain(self.text()),

@@ -1,32 +1,40 @@
-//! Decimals, which are passed as texts; and records in columns, which a format names by position.
+//! Amounts as decimals, which a format aligns and rounds; and records in columns, which a format
+//! names by position.
 
 use crate::page::Page;
 use interpolator::{
-    ContextMap, Error, Formattable, Interpolate, Pairs, TextBuffer, View, items_of, rows_of,
+    ContextMap, Decimal, Error, Formattable, Interpolate, TextBuffer, View, iformat, items_of,
+    iwriteln, rows_of,
 };
 use std::alloc::Global;
 
-/// Appends a line of a bill. The amount is a text, and `>` aligns it to the right of its column.
-fn write_line<'a>(
-    alloc: Global,
-    out: &mut TextBuffer,
-    item: &'a str,
-    amount: &'a str,
-) -> Result<(), Error> {
-    let values = [View::Text(item), View::Text(amount)];
-    Pairs(&[
-        ("item", Formattable::display(&values[0])),
-        ("amount", Formattable::display(&values[1])),
-    ])
-    .write_line_to(alloc, out, "{item:<6}{amount:>10}")
+/// The amount of so many cents.
+fn amount(cents: i128) -> Decimal {
+    Decimal {
+        units: cents,
+        scale: 2,
+    }
 }
 
-/// A bill of things and their prices in cents.
+/// What things cost together, in cents, if an `i128` holds it.
+fn sum_of(prices: &[(&str, u64)]) -> Option<i128> {
+    let mut sum = 0i128;
+    for (_, cents) in prices {
+        sum = sum.checked_add(i128::from(*cents))?;
+    }
+    Some(sum)
+}
+
+/// A bill of things and their prices in cents, and what they cost together.
 fn bill(alloc: Global, prices: &[(&str, u64)]) -> Result<String, Error> {
     let mut out = TextBuffer::new(alloc);
     for (item, cents) in prices {
-        let amount = format!(in alloc; "{}.{:02}", *cents / 100, *cents % 100)?;
-        write_line(alloc, &mut out, item, amount.as_str())?;
+        let cents = i128::from(*cents);
+        let line = "{item:<6}{amount:>10.2}";
+        iwriteln!(in alloc; &mut out, line, item = *item, amount = amount(cents))?;
+    }
+    if let Some(sum) = sum_of(prices) {
+        iwriteln!(in alloc; &mut out, "{sum:>16.2}", sum = amount(sum))?;
     }
     Ok(out.into_string())
 }
@@ -38,7 +46,7 @@ fn records(alloc: Global, prices: &[(&str, u64)]) -> Result<String, Error> {
     let mut ends = Vec::new(alloc);
     for (item, cents) in prices {
         cells.push(View::Text(item))?;
-        cells.push(View::from(*cents))?;
+        cells.push(View::from(amount(i128::from(*cents))))?;
         ends.push(cells.len())?;
     }
     let items = items_of(alloc, &cells)?;
@@ -48,6 +56,28 @@ fn records(alloc: Global, prices: &[(&str, u64)]) -> Result<String, Error> {
     context.format(alloc, "{rows:i#({:i0({})} is {:i1({})})#(, )}")
 }
 
+/// The decimal of a float's shortest digits, as crates for that give them: its sign, the digits as
+/// a number, and the power of ten of the last one. `None` if its units are no `i128`.
+fn of_digits(negative: bool, digits: u64, exponent: i32) -> Option<Decimal> {
+    let digits = i128::from(digits);
+    let units = if negative { 0 - digits } else { digits };
+    if exponent < 0 {
+        let scale = exponent.unsigned_abs();
+        return Some(Decimal { units, scale });
+    }
+    let power = 10i128.checked_pow(exponent.unsigned_abs())?;
+    let units = units.checked_mul(power)?;
+    Some(Decimal { units, scale: 0 })
+}
+
+/// A float by its shortest digits, as it is, rounded, and in exponent form.
+fn float(alloc: Global, negative: bool, digits: u64, exponent: i32) -> Result<String, Error> {
+    match of_digits(negative, digits, exponent) {
+        Some(x) => iformat!(in alloc; "{x} {x:.2} {x:e}", x:float = x),
+        None => iformat!(in alloc; "more than 128 bits"),
+    }
+}
+
 /// Things and their prices in cents.
 const PRICES: [(&str, u64); 2] = [("bread", 250), ("crème", 123_405)];
 
@@ -55,4 +85,7 @@ pub fn show(page: &mut Page) {
     let alloc = page.alloc;
     page.put_made("bill", bill(alloc, &PRICES));
     page.put_made("records", records(alloc, &PRICES));
+    page.put_made("-0.000625", float(alloc, true, 625, -6));
+    page.put_made("2.5e21", float(alloc, false, 25, 20));
+    page.put_made("1e308", float(alloc, false, 1, 308));
 }

@@ -19,16 +19,6 @@ fn from_the_crate(alloc: Global, n: u32) -> Result<String, Error> {
     Ok(out.into_string())
 }
 
-/// Values of several types in one map.
-fn of_several_types(alloc: Global, name: &str, words: u32) -> Result<String, Error> {
-    let name = View::from(name);
-    let words = View::from(words);
-    let mut map = ContextMap::new(alloc);
-    map.put("name", Formattable::debug_display(&name))?;
-    map.put("words", Formattable::integer(&words))?;
-    map.format(alloc, "{name:?}: {words} words")
-}
-
 /// An owned text is a value as it is, or as a view.
 fn of_an_owned_text(alloc: Global, text: &String) -> Result<String, Error> {
     let view = View::from(text);
@@ -38,36 +28,16 @@ fn of_an_owned_text(alloc: Global, text: &String) -> Result<String, Error> {
     Ok(out.into_string())
 }
 
-/// A list goes into a map by `put`.
-fn of_a_list(alloc: Global, names: &[&str]) -> Result<String, Error> {
-    let mut items = Vec::new(alloc);
-    for name in names {
-        items.push(Formattable::debug_display(name))?;
-    }
-    let mut map = ContextMap::new(alloc);
-    map.put("l", Formattable::iter(&items))?;
-    map.format(alloc, "{l:i({})(, )}")
-}
-
-/// The text of a fault.
+/// The text of a fault, of which the program keeps a copy.
 fn fault_of(alloc: Global, format: &str) -> Result<String, Error> {
     let n = 7u64;
     match Pairs(&[("n", Formattable::display(&n))]).format(alloc, format) {
         Ok(text) => Ok(text),
-        Err(error) => Ok(format!(in alloc; "{error}")?),
+        Err(error) => {
+            let copy = error.try_clone(alloc)?;
+            Ok(format!(in alloc; "{copy}")?)
+        }
     }
-}
-
-/// The calls in README.
-fn show_readme(page: &mut Page) -> Result<(), Error> {
-    let alloc = page.alloc;
-    page.put_made("from_the_crate", from_the_crate(alloc, 255));
-    page.put_made("of_several_types", of_several_types(alloc, "Ann", 12));
-    let text = String::from_str(alloc, "é")?;
-    page.put_made("of_an_owned_text", of_an_owned_text(alloc, &text));
-    page.put_made("of_a_list", of_a_list(alloc, &["a", "b"]));
-    page.put_made("fault_of", fault_of(alloc, "{q}"));
-    Ok(())
 }
 
 /// Writes by each method of a context.
@@ -118,18 +88,14 @@ fn by_a_writer(alloc: Global) -> Result<String, Error> {
     Ok(format!(in alloc; "{text} {is_written} {refused} {is_endless}")?)
 }
 
-/// A copy of a fault.
-fn of_a_copy(alloc: Global) -> Result<String, Error> {
-    let copy = Error::NoMemory.try_clone(alloc)?;
-    Ok(format!(in alloc; "{copy}")?)
-}
-
 pub fn show(page: &mut Page) -> Result<(), Error> {
     let alloc = page.alloc;
-    show_readme(page)?;
+    page.put_made("from_the_crate", from_the_crate(alloc, 255));
+    let text = String::from_str(alloc, "é")?;
+    page.put_made("of_an_owned_text", of_an_owned_text(alloc, &text));
+    page.put_made("fault_of", fault_of(alloc, "{q}"));
     page.put_made("by_methods", by_methods(alloc));
     page.put_made("of_two_slots", of_two_slots(alloc));
     page.put_made("by_a_writer", by_a_writer(alloc));
-    page.put_made("of_a_copy", of_a_copy(alloc));
     Ok(())
 }

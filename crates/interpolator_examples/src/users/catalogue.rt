@@ -2,7 +2,7 @@
 
 use crate::page::Page;
 use interpolator::{ContextMap, Error, Formattable, Interpolate, Template, View};
-use std::alloc::{AllocError, Global};
+use std::alloc::Global;
 use std::collections::HashMap;
 
 /// Templates under keys: each format is parsed once.
@@ -10,25 +10,6 @@ use std::collections::HashMap;
 struct Catalogue {
     templates: HashMap<String, Template>,
     alloc: Global,
-}
-
-/// Why there is no message.
-#[derive(Debug, Drop)]
-enum MessageError {
-    NoSuchKey,
-    Format(Error),
-}
-
-impl From<Error> for MessageError {
-    fn from(error: Error) -> MessageError {
-        MessageError::Format(error)
-    }
-}
-
-impl From<AllocError> for MessageError {
-    fn from(_refused: AllocError) -> MessageError {
-        MessageError::Format(Error::NoMemory)
-    }
 }
 
 impl Catalogue {
@@ -46,23 +27,18 @@ impl Catalogue {
         Ok(())
     }
 
-    /// The message under a key. The values are views, so that one type serves for all of them, and
-    /// no lifetimes need to be written.
-    fn message(
-        &self,
-        key: &str,
-        values: &ContextMap<'_, View<'_>>,
-    ) -> Result<String, MessageError> {
-        let Some(template) = self.templates.get(key) else {
-            return Err(MessageError::NoSuchKey);
-        };
-        let message = values.format_template(self.alloc, template)?;
-        Ok(message)
+    /// The message under a key, or else the key. The values are views, so that one type serves for
+    /// all of them, and no lifetimes need to be written.
+    fn message(&self, key: &str, values: &ContextMap<'_, View<'_>>) -> Result<String, Error> {
+        match self.templates.get(key) {
+            Some(template) => values.format_template(self.alloc, template),
+            None => Ok(String::from_str(self.alloc, key)?),
+        }
     }
 }
 
 /// What a program prints when it is done, with values of its own.
-fn done(catalogue: &Catalogue, name: &str, words: u32) -> Result<String, MessageError> {
+fn done(catalogue: &Catalogue, name: &str, words: u32) -> Result<String, Error> {
     let name = View::from(name);
     let words = View::from(words);
     let mut values = ContextMap::new(catalogue.alloc);
@@ -71,28 +47,13 @@ fn done(catalogue: &Catalogue, name: &str, words: u32) -> Result<String, Message
     catalogue.message("done", &values)
 }
 
-/// A message, or why there is none.
-fn message_text(
-    alloc: Global,
-    message: Result<String, MessageError>,
-) -> Result<String, AllocError> {
-    match message {
-        Ok(message) => Ok(message),
-        Err(error) => format!(in alloc; "{error:?}"),
-    }
-}
-
 /// A message under a key that is not there, one that is there, and one whose name is missing.
 pub fn show(page: &mut Page) -> Result<(), Error> {
-    let alloc = page.alloc;
-    let mut catalogue = Catalogue::new(alloc);
-    let text = message_text(alloc, done(&catalogue, "a", 1))?;
-    page.put("no key", text.as_str());
+    let mut catalogue = Catalogue::new(page.alloc);
+    page.put_made("no key", done(&catalogue, "a", 1));
     catalogue.add("done", "{name:?}: {words} words")?;
-    let text = message_text(alloc, done(&catalogue, "a.txt", 12))?;
-    page.put("done", text.as_str());
+    page.put_made("done", done(&catalogue, "Ann", 12));
     catalogue.add("done", "{nom}")?;
-    let text = message_text(alloc, done(&catalogue, "a.txt", 12))?;
-    page.put("no name", text.as_str());
+    page.put_made("no name", done(&catalogue, "Ann", 12));
     Ok(())
 }

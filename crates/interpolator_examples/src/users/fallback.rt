@@ -1,33 +1,17 @@
 //! A context of two: a row, and what holds for all rows.
 
 use crate::page::Page;
-use interpolator::{Error, Interpolate, Or, Template, TextBuffer, Values, first_if, values};
+use interpolator::{Error, Interpolate, Or, Template, TextBuffer, first_if, values};
 use std::alloc::Global;
-
-/// The site's names, for those that a guest does not have.
-fn welcome(alloc: Global, site: &Values<'_>, name: &str, format: &str) -> Result<String, Error> {
-    let guest = values!(name);
-    Or(&guest, site).format(alloc, format)
-}
 
 /// The site's names, for those that a row does not have, by a template.
 fn prices(alloc: Global, format: &str, rows: &[(&str, u32)]) -> Result<String, Error> {
     let template = Template::parse(alloc, format)?;
     let mut out = TextBuffer::new(alloc);
-    let site = values!(n = 1u8, vat = 20u8);
+    let site = values!(n = 1u8, vat:? = 20u8);
     for (item, n) in rows {
         let row = values!(item = *item, n = *n);
         Or(&row, &site).write_template_to(alloc, &mut out, &template)?;
-    }
-    Ok(out.into_string())
-}
-
-/// A line for each row, by a template.
-fn lines(alloc: Global, format: &str, rows: &[(&str, u32)]) -> Result<String, Error> {
-    let template = Template::parse(alloc, format)?;
-    let mut out = TextBuffer::new(alloc);
-    for (item, n) in rows {
-        values!(item = *item, n = *n).write_template_line_to(alloc, &mut out, &template)?;
     }
     Ok(out.into_string())
 }
@@ -43,12 +27,9 @@ fn translated(alloc: Global, german: &str, english: &str, n: u32) -> Result<Stri
 
 pub fn show(page: &mut Page) {
     let alloc = page.alloc;
-    let site = values!(name = "guest", title:? = "Shop");
-    page.put_made("or", welcome(alloc, &site, "Ann", "{title:?}: {name}"));
-    page.put_made("or", welcome(alloc, &site, "Ann", "{name} {town}"));
     let rows = [("tea", 7), ("bread", 12)];
-    page.put_made("or", prices(alloc, "{item} {n} {vat};", &rows));
-    page.put_made("lines", lines(alloc, "{item:>6}{n:>3}", &rows));
+    page.put_made("or", prices(alloc, "{item} {n} {vat:?};", &rows));
+    page.put_made("or", prices(alloc, "{item} {town}", &rows));
     page.put_made("first_if", translated(alloc, "{n} Äpfel", "{n} apples", 3));
     page.put_made("first_if", translated(alloc, "{m} Äpfel", "{n} apples", 3));
 }

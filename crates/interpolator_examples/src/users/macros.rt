@@ -6,11 +6,6 @@ use interpolator::{
 };
 use std::alloc::Global;
 
-/// The text of a format.
-fn pair(alloc: Global) -> Result<String, Error> {
-    iformat!(in alloc; "{a}, {b:?}", a = 10u8, b:? = "test")
-}
-
 /// A receipt, line by line. The format is a text of run time.
 fn receipt(alloc: Global, layout: &str, rows: &[(&str, u32)]) -> Result<String, Error> {
     let mut out = TextBuffer::new(alloc);
@@ -34,7 +29,8 @@ fn mapped(alloc: Global, name: &str, apples: u32, format: &str) -> Result<String
 
 pub fn show(page: &mut Page) {
     let alloc = page.alloc;
-    page.put_made("iformat", pair(alloc));
+    let pair = iformat!(in alloc; "{a}, {b:?}", a = 10u8, b:? = "test");
+    page.put_made("iformat", pair);
     page.put_made("iformat", iformat!(in alloc; "no names"));
     page.put_made("iformat", iformat!(in alloc; "{a}{b}", a = 'x'));
     let format = "{name} has {n:>3}, {name:?}: {l:i({})(, )}";

@@ -32,7 +32,8 @@ fn stock(alloc: Global, format: &str, rows: &[(&str, u32)]) -> Result<String, Er
     values!(item = "bread", n:integer = 7u32).check_template(alloc, &template)?;
     let mut out = TextBuffer::new(alloc);
     for (item, n) in rows {
-        values!(item = *item, n:integer = *n).write_template_to(alloc, &mut out, &template)?;
+        let row = values!(item = *item, n:integer = *n);
+        row.write_template_line_to(alloc, &mut out, &template)?;
     }
     Ok(out.into_string())
 }
@@ -47,55 +48,39 @@ fn shout<C: Interpolate>(alloc: Global, context: &C) -> Result<String, Error> {
     context.format(alloc, "{name}, {age}, of {city}!")
 }
 
-/// Every way to name a slot, and the format that shows it.
+/// Every kind of value and every way to name a slot, in as many names as a row can have.
 #[rattlefmt::skip]
-fn slots(page: &mut Page) {
-    let alloc = page.alloc;
-    let n = 255u8;
-    let t = "é";
-    page.put_made("{t}", values!(t).format(alloc, "{t}"));
-    page.put_made("{t} {t:?}", values!(t: :?).format(alloc, "{t} {t:?}"));
-    page.put_made("{n:?}", values!(n:debug).format(alloc, "{n:?}"));
-    page.put_made("{n:>5}", values!(n:display).format(alloc, "{n:>5}"));
-    page.put_made("{n} {n:?}", values!(n:debug_display).format(alloc, "{n} {n:?}"));
-    page.put_made("{n:x} {n:#X}", values!(n:x:X).format(alloc, "{n:x} {n:#X}"));
-    page.put_made("{n:#x} {n:X}", values!(n:lower_hex:upper_hex).format(alloc, "{n:#x} {n:X}"));
-    page.put_made("{n:o} {n:b}", values!(n:o:b).format(alloc, "{n:o} {n:b}"));
-    page.put_made("{n:#o} {n:#b}", values!(n:octal:binary).format(alloc, "{n:#o} {n:#b}"));
-    page.put_made("{n:e} {n:E}", values!(n:e:E).format(alloc, "{n:e} {n:E}"));
-    page.put_made("{n:.1e} {n:.1E}", values!(n:lower_exp:upper_exp).format(alloc, "{n:.1e} {n:.1E}"));
-    page.put_made("{n:?} {n:x}", values!(n:?:x = 5u64).format(alloc, "{n:?} {n:x}"));
-    page.put_made("{n:#x} {n:b}", values!(n:integer).format(alloc, "{n:#x} {n:b}"));
-    page.put_made("{n} {n:e}", values!(n:float).format(alloc, "{n} {n:e}"));
-    page.put_made("{n:x} of float", values!(n:float).format(alloc, "{n:x}"));
-    page.put_made("{n:?} of display", values!(n).format(alloc, "{n:?}"));
-    page.put_made("{m}", values!(n, t).format(alloc, "{m}"));
-    page.put_made("two of a name", values!(n, n = 7u8).format(alloc, "{n}"));
-    page.put_made("no name", values!().format(alloc, "{{}}"));
+fn sixteen(alloc: Global) -> Result<String, Error> {
+    let (t, s, n) = ("é", 'd', 255u8);
+    values!(
+        t, s: :?, n:x:X,
+        a:debug = true, b:display = -11i8, c:debug_display = -12i16,
+        d:lower_hex:upper_hex = 255u16, e:o:b = 255u32, f:octal:binary = 255u64,
+        g:e:E = 255u128, h:lower_exp:upper_exp = 255usize, i:?:x = 5i64,
+        j:integer = -13i32, k:float = -14i128, l = -15isize, m: = "m",
+    )
+    .format(
+        alloc,
+        "{t}|{s} {s:?}|{n:x} {n:#X}|{a:?}|{b:>5}|{c} {c:?}|{d:#x} {d:X}|{e:o} {e:b}|{f:#o} {f:#b}\
+         |{g:e} {g:E}|{h:.1e} {h:.1E}|{i:?} {i:x}|{j} {j:#x}|{k} {k:e}|{l}|{m}",
+    )
 }
 
-/// As many names as a row can have.
-fn sixteen(alloc: Global) -> Result<String, Error> {
-    let (a, b, c, d) = (1u8, -2i64, true, 'd');
-    values!(
-        a,
-        b,
-        c,
-        d,
-        e = "e",
-        f = 6u16,
-        g = 7u32,
-        h = 8u64,
-        i = 9u128,
-        j = 10usize,
-        k = -11i8,
-        l = -12i16,
-        m = -13i32,
-        n = -14i128,
-        o = -15isize,
-        p = "p",
-    )
-    .format(alloc, "{a}{b}{c}{d}{e}{f}{g}{h}{i}{j}{k}{l}{m}{n}{o}{p}")
+/// Rows without the slot or the name that a format uses, one with two values under a name, and one
+/// without names.
+fn show_rows(page: &mut Page) {
+    let alloc = page.alloc;
+    let n = 255u8;
+    let rows = [
+        ("{n:x}", values!(n:float)),
+        ("{n:?}", values!(n)),
+        ("{m}", values!(n, t = "é")),
+        ("{n}", values!(n, n = 7u8)),
+        ("{{}}", values!()),
+    ];
+    for (format, row) in rows {
+        page.put_made(format, row.format(alloc, format));
+    }
 }
 
 pub fn show(page: &mut Page) {
@@ -105,10 +90,10 @@ pub fn show(page: &mut Page) {
     page.put_made("named", order(alloc, "Ann", "bread", 7));
     page.put_made(
         "named",
-        stock(alloc, "{item:<6}|{n:>4x};", &[("tea", 255), ("crème", 7)]),
+        stock(alloc, "{item:<6}|{n:>4x}", &[("tea", 255), ("crème", 7)]),
     );
     page.put_made("named", stock(alloc, "{item}{price}", &[]));
     page.put_made("named", shout(alloc, &person("Ann", 44, "Oslo")));
-    slots(page);
     page.put_made("sixteen", sixteen(alloc));
+    show_rows(page);
 }

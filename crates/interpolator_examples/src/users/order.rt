@@ -1,10 +1,10 @@
-//! A struct that is a context and contains a list.
+//! A struct that is a context and contains a list: functions like `format` need no more.
 ghost use Rattle.std.specs.Prelude.{Some, None, if◌then◌else◌, codes, map};
 ghost use Rattle.std.specs.Str.{bytes_eq, encode_utf8_all};
 ghost use Rattle.interpolator.specs.Slots.{empty_slots, slots_of, with_debug_display, with_iter};
 
 use crate::page::Page;
-use interpolator::{Context, Error, Formattable, Interpolate, View, is_name, items_of};
+use interpolator::{Context, Error, Formattable, View, format, is_name, items_of};
 use std::alloc::Global;
 
 /// What is ordered, and who pays.
@@ -35,24 +35,21 @@ impl<'a> Context for Order<'a> {
     }
 }
 
-impl<'a> Interpolate for Order<'a> {}
-
 /// An order, written by a format.
 fn ordered<'a>(
     alloc: Global,
     payer: &'a str,
     items: &'a [Formattable<'a, View<'a>>],
-    format: &str,
+    text: &str,
 ) -> Result<String, Error> {
     let payer = View::Text(payer);
-    let order = Order { payer, items };
-    order.format(alloc, format)
+    format(alloc, text, &Order { payer, items })
 }
 
 /// The order of a payer and these things, written by a format.
-fn told(alloc: Global, payer: &str, things: &[View<'_>], format: &str) -> Result<String, Error> {
+fn told(alloc: Global, payer: &str, things: &[View<'_>], text: &str) -> Result<String, Error> {
     let items = items_of(alloc, things)?;
-    ordered(alloc, payer, &items, format)
+    ordered(alloc, payer, &items, text)
 }
 
 /// What is ordered.
@@ -61,7 +58,7 @@ const THINGS: [View<'static>; 2] = [View::Text("bread"), View::Text("crème")];
 /// An order, and one whose format uses a name that no field has.
 pub fn show(page: &mut Page) {
     let alloc = page.alloc;
-    for format in ["{payer} pays {items:i({:?})( and )}", "{items:i}{payee}"] {
-        page.put_made("order", told(alloc, "Ann", &THINGS, format));
+    for text in ["{payer} pays {items:i({:?})( and )}", "{items:i}{payee}"] {
+        page.put_made("order", told(alloc, "Ann", &THINGS, text));
     }
 }

@@ -26,16 +26,6 @@ fn row(alloc: Global, name: &str, amount: Cents) -> Result<[OwnedView; 2], Error
     ])
 }
 
-/// A name and an amount.
-fn bill(alloc: Global, name: &str, amount: Cents) -> Result<String, Error> {
-    let row = row(alloc, name, amount)?;
-    Pairs(&[
-        ("name", Formattable::debug_display(&row[0])),
-        ("amount", Formattable::display(&row[1])),
-    ])
-    .format(alloc, "{name:?} pays {amount:>7}")
-}
-
 /// An owned value among others.
 fn owes(alloc: Global, name: &str, amount: Cents) -> Result<String, Error> {
     let amount = OwnedView::shown(alloc, amount)?;
@@ -91,7 +81,6 @@ fn table(alloc: Global) -> Result<String, Error> {
 
 pub fn show(page: &mut Page) {
     let alloc = page.alloc;
-    page.put_made("owned", bill(alloc, "Ann", Cents(1250)));
     page.put_made("owned", owes(alloc, "Béla", Cents(7)));
     page.put_made("owned", kinds(alloc));
     page.put_made("owned", failed(alloc));

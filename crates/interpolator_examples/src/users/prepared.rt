@@ -32,7 +32,8 @@ pub fn show(page: &mut Page) -> Result<(), Error> {
     let alloc = page.alloc;
     let line = prepared(alloc, "{count:>5} {item}")?;
     put_lines(page, &line, &[("bread", 7), ("crème", 1234)])?;
-    let refused = prepared(alloc, "{count} {name}");
-    page.put_made("not prepared", refused.map(|_| String::new(alloc)));
+    if let Err(error) = prepared(alloc, "{count} {name}") {
+        page.put_fault("not prepared", &error);
+    }
     Ok(())
 }

@@ -9,58 +9,31 @@ fn told(alloc: Global, slots: Formattable<'_, u64>, format: &str) -> Result<Stri
     Pairs(&[("n", slots)]).format(alloc, format)
 }
 
-/// Constructors.
-#[rattlefmt::skip]
-fn constructors(page: &mut Page) {
-    let alloc = page.alloc;
-    let n = 255u64;
-    let items = [Formattable::display(&n), Formattable::display(&n)];
-    let rows = [
-        (Formattable::debug_display(&n), "{n} {n:?}"),
-        (Formattable::debug(&n), "{n:?}"),
-        (Formattable::display(&n), "{n:>5}"),
-        (Formattable::integer(&n), "{n:#x}"),
-        (Formattable::float(&n), "{n:.1e}"),
-        (Formattable::binary(&n), "{n:b}"),
-        (Formattable::lower_exp(&n), "{n:e}"),
-        (Formattable::lower_hex(&n), "{n:x}"),
-        (Formattable::octal(&n), "{n:o}"),
-        (Formattable::upper_exp(&n), "{n:E}"),
-        (Formattable::upper_hex(&n), "{n:X}"),
-        (Formattable::iter(&items), "{n:i({})(, )}"),
-    ];
-    for (slots, format) in rows {
-        page.put_made(format, told(alloc, slots, format));
-    }
-}
-
 /// The uses of all slots.
 const USES: &str = "{n:>5} {n:?} {n:#b} {n:.1e} {n:x} {n:o} {n:E} {n:X} {n:i({})(, )}";
 
+/// The uses of the slots of numbers.
+const NUMBER_USES: &str = "{n} {n:?} {n:#x} {n:.1e}";
+
 /// A chain: each call fills a slot beside those that are filled.
-fn chain(alloc: Global) -> Result<String, Error> {
-    let n = 255u64;
-    let items = [Formattable::display(&n), Formattable::display(&n)];
-    let slots = Formattable::debug(&n)
-        .and_display(&n)
-        .and_binary(&n)
-        .and_lower_exp(&n)
-        .and_lower_hex(&n)
-        .and_octal(&n)
-        .and_upper_exp(&n)
-        .and_upper_hex(&n)
-        .and_iter(&items);
-    told(alloc, slots, USES)
+fn chain<'a>(n: &'a u64, items: &'a [Formattable<'a, u64>]) -> Formattable<'a, u64> {
+    Formattable::debug(n)
+        .and_display(n)
+        .and_binary(n)
+        .and_lower_exp(n)
+        .and_lower_hex(n)
+        .and_octal(n)
+        .and_upper_exp(n)
+        .and_upper_hex(n)
+        .and_iter(items)
 }
 
 /// A shorter chain.
-fn short_chain(alloc: Global) -> Result<String, Error> {
-    let n = 255u64;
-    let slots = Formattable::octal(&n)
-        .and_debug_display(&n)
-        .and_integer(&n)
-        .and_float(&n);
-    told(alloc, slots, "{n} {n:?} {n:#x} {n:.1e}")
+fn short_chain(n: &u64) -> Formattable<'_, u64> {
+    Formattable::octal(n)
+        .and_debug_display(n)
+        .and_integer(n)
+        .and_float(n)
 }
 
 /// Fills each slot in place.
@@ -87,14 +60,30 @@ fn set_several(n: &u64) -> Formattable<'_, u64> {
     slots
 }
 
+#[rattlefmt::skip]
 pub fn show(page: &mut Page) {
     let alloc = page.alloc;
     let n = 255u64;
     let items = [Formattable::display(&n), Formattable::display(&n)];
-    constructors(page);
-    page.put_made("chain", chain(alloc));
-    page.put_made("short chain", short_chain(alloc));
-    page.put_made("set", told(alloc, set(&n, &items), USES));
-    let several = told(alloc, set_several(&n), "{n} {n:?} {n:#x} {n:.1e}");
-    page.put_made("set several", several);
+    let rows = [
+        (Formattable::debug_display(&n), "{n} {n:?}"),
+        (Formattable::debug(&n), "{n:?}"),
+        (Formattable::display(&n), "{n:>5}"),
+        (Formattable::integer(&n), "{n:#x}"),
+        (Formattable::float(&n), "{n:.1e}"),
+        (Formattable::binary(&n), "{n:b}"),
+        (Formattable::lower_exp(&n), "{n:e}"),
+        (Formattable::lower_hex(&n), "{n:x}"),
+        (Formattable::octal(&n), "{n:o}"),
+        (Formattable::upper_exp(&n), "{n:E}"),
+        (Formattable::upper_hex(&n), "{n:X}"),
+        (Formattable::iter(&items), "{n:i({})(, )}"),
+        (chain(&n, &items), USES),
+        (set(&n, &items), USES),
+        (short_chain(&n), NUMBER_USES),
+        (set_several(&n), NUMBER_USES),
+    ];
+    for (slots, format) in rows {
+        page.put_made(format, told(alloc, slots, format));
+    }
 }
