@@ -1,24 +1,20 @@
 -- What is told of what was written, and of a whole text.
-use Rattle.std.proofs.lemmas.Grind.{common_steps}
-use Rattle.std.proofs.Common.{arith, ◌≡◌, inl, inr, List, [], ℕ, Option, None, Some, option_map, Bool, true, false}
-use Rattle.std.proofs.Common.{map, Result, Ok, Err, length, ◌≤◌}
-use Rattle.std.specs.Prelude.{IsSomeAnd, MatchOption, encode_utf8_all, string_bytes, ◌++◌, ◌==◌}
-use Rattle.std.specs.Str.{chars, is_utf8, IsUtf8}
-use Rattle.std.specs.declared.string.String.{String}
+use Rattle.std.specs.Prelude.{IsSomeAnd, MatchOption, string_bytes, ◌++◌}
+use Rattle.std.specs.{Str.chars, Str.is_utf8, Str.IsUtf8, declared.string.String.String}
+use Rattle.std.proofs.Common.{arith, ◌≡◌, inl, inr, List, [], ℕ, Option, None, Some, option_map}
+use Rattle.std.proofs.Common.{Bool, true, false, map, Result, length, ◌≤◌}
 use Rattle.std.proofs.lemmas.Str.{encodes-chars}
 use Rattle.interpolator_syntax.specs.At.{text_of}
 use Rattle.interpolator_syntax.specs.Faults.{Answer, Fault, fault, no_memory, answer_of}
 use Rattle.interpolator_render.specs.Written.{Written}
-use Rattle.interpolator_eval.specs.Slots.{Slots}
-use Rattle.interpolator_eval.specs.Meaning.Meanings.{Meaning}
-use Rattle.interpolator_eval.specs.Meaning.Outcomes.{Outcome}
-use Rattle.interpolator_border.specs.declared.answer.Answer.{Answer as Told_answer}
-use Rattle.interpolator_border.specs.declared.answer.Failure.{Failure}
-use Rattle.interpolator_border.specs.declared.answer.Failure.TheVariants as failure
+use Rattle.interpolator_eval.specs.{Meaning.Meanings.Meaning, Meaning.Outcomes.Outcome, Slots.Slots}
+use Rattle.interpolator_border.specs.Answers.{FormatAnswers, Means, ToldBy, WritesKnown, WritesRow}
+use Rattle.interpolator_border.specs.Answers.{FailsBy, ToldFailure, Told, TellsResult, WriteAnswers}
+use Rattle.interpolator_border.specs.Answers.{text_answer}
+use Rattle.interpolator_border.specs.Fields.{field_slots, lists_lie}
 use Rattle.interpolator_border.specs.declared.field.Field.{Field}
-use Rattle.interpolator_border.specs.Answers.{FormatAnswers, Means, ToldBy, WritesKnown, WritesRow, FailsBy}
-use Rattle.interpolator_border.specs.Answers.{ToldFailure, Told, TellsResult, WriteAnswers, text_answer}
-use Rattle.interpolator_border.specs.Fields.{all_lie_within, field_slots, lie_in_levels, lists_lie}
+use Rattle.interpolator_border.specs.declared.answer.{Answer.Answer as Told_answer, Failure.Failure}
+use Rattle.interpolator_border.specs.declared.answer.Failure.TheVariants as failure
 
 module _ {fields items : List Field} {format : List ℕ} where
   -- what holds of the meaning
@@ -32,13 +28,6 @@ pub written_known : (lie : Bool) (fields items : List Field) (format : List ℕ)
     → trees ≡ map (field_slots trees) items → WritesKnown fields trees format old new result
     → WritesRow lie fields items format old new result
 written_known lie fields items format old new trees result are wrote = grind (arith, are, wrote)
-
--- without items all are known
-pub none_known : (lie : Bool) (fields items : List Field) (format : List ℕ) (old new : Written)
-    (result : Result (Unit {0}) Failure) → (length items == 0) ≡ true
-    → WritesKnown fields [] format old new result → WritesRow lie fields items format old new result
-none_known lie fields items format old new result none wrote =
-    grind (arith, common_steps, written_known)
 
 -- ---- a writer that was empty
 
@@ -82,54 +71,13 @@ module _ (fields items : List Field) (format old new : List ℕ) (answer : Told_
             if_fault (λ a. ToldBy a 0 old new answer) _ m.fault (answer_of e) is told) fails.1,
       )
 
--- ---- a text that was written into a room
-
-module _ (fields items : List Field) (format : List ℕ) (utf8 : is_utf8 format ≡ true)
-    (new_text : Written) (old new sentence_old sentence_new : List ℕ) (answer : Told_answer)
-    (fits : length (encode_utf8_all new_text.text) ≤ length old)
-    (put : Told (encode_utf8_all new_text.text) old new) where
-  pub write_tells : (written : Result (Unit {0}) Failure)
-      → WritesRow (lists_lie fields items) fields items format blank new_text written
-      → TellsResult new_text.refused (length (encode_utf8_all new_text.text)) written sentence_old
-      sentence_new answer
-      → WriteAnswers fields items format old new sentence_old sentence_new answer
-  write_tells written wrote tells = grind (arith, wrote, tells)
-
--- ---- a row whose lists lie as they should
-
-module _ (fields items : List Field) where
-  pub none_lies : (within : Bool) → within ≡ all_lie_within fields items → within ≡ false
-      → lists_lie fields items ≡ false
-  none_lies within is none = grind arith
-
-  pub row_written : (format : List ℕ) (old new : Written) (result : Result (Unit {0}) Failure)
-      → all_lie_within fields items ≡ true
-      → WritesRow (lie_in_levels 64 items (length items)) fields items format old new result
-      → WritesRow (lists_lie fields items) fields items format old new result
-  row_written format old new result within wrote = grind (arith, within, wrote)
-
 -- ---- a new text
 
-module _ (fields items : List Field) (format text : List ℕ) (old new : Written)
-    (same : text ≡ format) (utf8 : is_utf8 format ≡ true) (empty : old ≡ blank) where
-  from_blank : (result : Result (Unit {0}) Failure)
-      → WritesRow (lists_lie fields items) fields items text old new result
-      → WritesRow (lists_lie fields items) fields items format blank new result
-  from_blank result wrote = grind arith
-
-  -- why there is no text
-  pub text_fails : (why : Failure) → new.refused ≡ false
-      → WritesRow (lists_lie fields items) fields items text old new (Err why)
-      → FailsBy fields items format why
-  text_fails why goes_on wrote = grind (arith, goes_on, wrote)
-
-  -- the text is the whole meaning's
-  pub text_made : {Z : Type 0} (s : String Z) (ok : Unit {0})
-      → WritesRow (lists_lie fields items) fields items text old new (Ok ok)
-      → chars (string_bytes s) ≡ new.text
-      → (is_utf8 format ≡ true) × Means fields items format (λ m. (m.fault ≡ None)
-      × (chars (string_bytes s) ≡ text_of m.text))
-  text_made s ok wrote is = grind (arith, wrote, is)
+from_blank : (fields items : List Field) (format text : List ℕ) (old new : Written) → text ≡ format
+    → is_utf8 format ≡ true → old ≡ blank → (result : Result (Unit {0}) Failure)
+    → WritesRow (lists_lie fields items) fields items text old new result
+    → WritesRow (lists_lie fields items) fields items format blank new result
+from_blank fields items format text old new same utf8 empty result wrote = grind arith
 
 -- the text is told, and put into the room
 pub text_told : {Z : Type 0} (fields items : List Field) (format old new bytes : List ℕ) (s : String Z)

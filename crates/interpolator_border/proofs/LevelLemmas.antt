@@ -1,14 +1,15 @@
 -- Lists in lists: once all items are known, each stands for what its field says.
-use Rattle.std.proofs.lemmas.Grind.{common_steps}
-use Rattle.std.proofs.Common.{arith, ◌≡◌, ◌∙◌, sym, refl, ap, ℕ, zero, suc, ◌-◌, ◌≤◌, ◌+◌, Bool, false, List, [], ◌∷◌}
-use Rattle.std.proofs.Common.{◌++◌, map, take, drop, length, get_or, ◌<◌}
-use Rattle.std.specs.Prelude.{if◌then◌else◌, ◌==◌, ◌&&◌, ◌||◌, nat_lt}
 use Rattle.std.specs.List.{list_any}
-use Rattle.std.proofs.lemmas.List.{take_more, length-take-le, drop-drop, drop-map, drop_all, take_all, length-map}
+use Rattle.std.specs.Prelude.{if◌then◌else◌, ◌==◌, ◌&&◌, ◌||◌, nat_lt}
+use Rattle.std.proofs.Common.{arith, ◌≡◌, ◌∙◌, sym, refl, ap, ℕ, zero, suc, ◌-◌, ◌≤◌, ◌+◌, Bool}
+use Rattle.std.proofs.Common.{false, List, [], ◌∷◌, ◌++◌, map, take, drop, length, get_or, ◌<◌}
+use Rattle.std.proofs.lemmas.Grind.{common_steps}
+use Rattle.std.proofs.lemmas.List.{take_more, length-take-le, drop-drop, drop-map, drop_all}
+use Rattle.std.proofs.lemmas.List.{take_all, length-map}
 use Rattle.interpolator_eval.specs.Slots.{Slots, with_iter}
+use Rattle.interpolator_border.specs.Fields.{begins_before, field_slots, lie_in_levels}
+use Rattle.interpolator_border.specs.Fields.{masked_slots, settled, value_slots}
 use Rattle.interpolator_border.specs.declared.field.Field.{Field}
-use Rattle.interpolator_border.specs.Fields.{begins_before, field_slots, lie_in_levels, masked_slots, settled}
-use Rattle.interpolator_border.specs.Fields.{value_slots}
 
 -- ---- the item after the last list that begins before a place
 
@@ -95,8 +96,3 @@ known_all left trees items is known = grind arith
 pub lie_deeper : (levels left : ℕ) (items : List Field) → ¬ (left ≡ 0) → ¬ (levels ≡ 0)
     → lie_in_levels (levels - 1) items (settled left items) ≡ lie_in_levels levels items left
 lie_deeper levels left items some deep = grind arith
-
--- without a level left they do not
-pub lie_no_deeper : (levels left : ℕ) (items : List Field) → ¬ (left ≡ 0) → levels ≡ 0
-    → lie_in_levels levels items left ≡ false
-lie_no_deeper levels left items some none = grind arith

@@ -1,26 +1,21 @@
 -- What is told of a table.
-use Rattle.std.proofs.Common.{arith, ◌≡◌, ◌⊎◌, inl, inr, ◌∙◌, ap, List, ℕ, Some, true, Err, length, ◌+◌, ◌*◌, ◌<◌}
-use Rattle.std.proofs.Common.{◌≤◌}
-use Rattle.std.specs.Borrow.{Bor}
-use Rattle.std.specs.Str.{chars, is_utf8, IsUtf8}
+use Rattle.std.specs.{Borrow.Bor, Str.chars, Str.is_utf8, Str.IsUtf8}
+use Rattle.std.proofs.Common.{arith, ◌≡◌, ◌⊎◌, inl, inr, ◌∙◌, ap, List, ℕ, Some, true, Err, length}
 use Rattle.std.proofs.lemmas.Str.{encodes-chars}
 use Rattle.interpolator_syntax.specs.At.{outermost}
 use Rattle.interpolator_syntax.specs.Faults.{Answer, no_memory, answer_of}
-use Rattle.interpolator_eval.specs.Contexts.{found_by_pairs}
-use Rattle.interpolator_eval.specs.declared.slots.Formattable.{Formattable}
+use Rattle.interpolator_eval.specs.{Contexts.found_by_pairs, declared.slots.Formattable.Formattable}
 use Rattle.interpolator.specs.Prepared.Rows.{PreparedFormat}
-use Rattle.interpolator.specs.Template.NodeSamples.{faults_over}
-use Rattle.interpolator.specs.Template.Collecting.{AnswersFirst}
-use Rattle.interpolator_border.specs.declared.answer.Answer.{Answer as Told_answer}
-use Rattle.interpolator_border.specs.declared.answer.Failure.{Failure}
-use Rattle.interpolator_border.specs.declared.answer.Failure.TheVariants as failure
-use Rattle.interpolator_border.specs.declared.field.Field.{Field}
-use Rattle.interpolator_border.specs.declared.table.RowFault.{RowFault}
+use Rattle.interpolator.specs.Template.{Collecting.AnswersFirst, NodeSamples.faults_over}
 use Rattle.interpolator_border.specs.Answers.{Told, ToldBy, ToldFailure, text_answer}
-use Rattle.interpolator_border.specs.Fields.{field_shows}
-use Rattle.interpolator_border.specs.Tables.{ColumnFaults, FailsIn, Prepares, RowsAnswers, AllRows, Faultless, Pairs}
-use Rattle.interpolator_border.specs.Tables.{TellsRows, ToldInRow, column_names, rows_ends, rows_text}
+use Rattle.interpolator_border.specs.Tables.{ColumnFaults, FailsIn, Prepares, RowsAnswers, AllRows}
+use Rattle.interpolator_border.specs.Tables.{Faultless, Pairs, TellsRows, ToldInRow, column_names}
+use Rattle.interpolator_border.specs.Tables.{rows_ends, rows_text}
+use Rattle.interpolator_border.specs.declared.answer.Answer.{Answer as Told_answer}
+use Rattle.interpolator_border.specs.{Fields.field_shows, declared.answer.Failure.Failure}
+use Rattle.interpolator_border.specs.{declared.field.Field.Field, declared.table.RowFault.RowFault}
 use Rattle.interpolator_border.proofs.AnswerLemmas.{out_of_memory, some_fault}
+use Rattle.interpolator_border.specs.declared.answer.Failure.TheVariants as failure
 
 module _ (names : List (List ℕ)) (format : List ℕ) (width : ℕ) (cells : List Field) where
   -- a fault of a row is told
@@ -64,11 +59,6 @@ module _ (columns cells : List Field) (format : List ℕ) (ends_old ends_new old
   columns_fail (failure.Fault e) (inl wants) told =
       inr (inr (inl (out_of_memory 0 old new answer (answer_of e) wants told)))
   columns_fail (failure.Fault e) (inr fails) told = by_answer (answer_of e) fails.0 fails.1 told
-
--- a row lies within the values
-pub in_table : (row count width n : ℕ) → row < count → n ≡ count * width
-    → row * width + width ≤ n
-in_table row count width n less is = grind (arith, less, is)
 
 -- the first fault over the columns, by the pairs that were made of them
 pub column_faults : (columns : List Field) (format text template : List ℕ)

@@ -38,6 +38,7 @@ pub struct Argument {
 }
 
 /// The bytes of a text.
+#[tactic(auto, using(interpolator_eval::proofs::FieldNameLemmas::name_bytes))]
 fn byte_length(text: &str) -> usize
     ensures length { result ≡ length text.now }
     ensures bytes { result ≡ byte_count (chars text.now) }

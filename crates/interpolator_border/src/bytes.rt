@@ -11,7 +11,7 @@ pub(crate) fn is_ascii(bytes: &[u8]) -> bool
 }
 
 /// ASCII bytes as a text.
-#[tactic(auto, using(crate::proofs::TextLemmas::ascii_utf8, crate::proofs::TextLemmas::ascii_told))]
+#[tactic(auto, using(crate::proofs::TextLemmas::utf8))]
 #[inline(always)]
 pub(crate) fn ascii_text(bytes: &[u8]) -> &str
     requires { IsAscii bytes.now }
@@ -22,7 +22,7 @@ pub(crate) fn ascii_text(bytes: &[u8]) -> &str
 }
 
 /// The bytes as a text, if they are UTF-8.
-#[tactic(auto, using(crate::proofs::TextLemmas::utf8_told, crate::proofs::TextLemmas::not_utf8))]
+#[tactic(auto, using(crate::proofs::TextLemmas::utf8))]
 #[inline(never)]
 fn checked_text(bytes: &[u8]) -> Option<&str>
     ensures { MatchOption result (is_utf8 bytes.now ≡ false)

@@ -22,7 +22,7 @@ use std::alloc::Global;
 
 /// The faults of a format over a row of examples, if what the items stand for is known from the item
 /// `left` on.
-#[tactic(auto, using(crate::proofs::CheckLemmas::found_known, crate::proofs::LevelLemmas::next_known, crate::proofs::LevelLemmas::lie_no_deeper,))]
+#[tactic(auto, using(crate::proofs::LevelLemmas::next_known, crate::proofs::LevelLemmas::lie_deeper))]
 fn find_levels<'a>(
     alloc: Global,
     template: &Template,
@@ -71,7 +71,7 @@ fn find_known<'a>(
 }
 
 /// The faults of a format over a row of examples, unless a list lies where it may not.
-#[tactic(auto, using(crate::proofs::AnswerLemmas::none_lies, crate::proofs::CheckLemmas::row_found, crate::proofs::LevelLemmas::nothing_known,))]
+#[tactic(auto, using(crate::proofs::LevelLemmas::nothing_known))]
 pub(crate) fn find_faults<'a>(
     alloc: Global,
     format: &[u8],
@@ -93,6 +93,7 @@ pub(crate) fn find_faults<'a>(
 }
 
 /// The fault of that number, from 0 on.
+#[tactic(auto, using(crate::proofs::CheckLemmas::fault_there))]
 pub(crate) fn fault_at(found: &[Error], which: usize) -> Option<&Error>
     ensures { FoundAt found.now which (option_copied result) }
 {
@@ -101,7 +102,7 @@ pub(crate) fn fault_at(found: &[Error], which: usize) -> Option<&Error>
 
 /// The first fault that a format has by itself or over a row of examples. After code 0 no row that
 /// resembles the examples makes a fault.
-#[tactic(auto, using(crate::proofs::CheckLemmas::first_told, crate::proofs::CheckLemmas::none_told, crate::proofs::CheckLemmas::find_fails,))]
+#[tactic(auto, using(crate::proofs::CheckLemmas::first_told))]
 pub fn check<'a>(
     alloc: Global,
     format: &[u8],
@@ -124,7 +125,6 @@ pub fn check<'a>(
 
 /// All faults that a format has by itself or over a row of examples. The places get as many as there
 /// are of both.
-#[tactic(auto, using(crate::proofs::CheckLemmas::faults_told, crate::proofs::CheckLemmas::find_coded))]
 pub fn faults<'a>(
     alloc: Global,
     format: &[u8],

@@ -55,7 +55,6 @@ fn picture(
 }
 
 /// Tells a fault with its picture.
-#[tactic(auto, using(crate::proofs::CheckLemmas::picture_told, crate::proofs::CheckLemmas::picture_fails,))]
 fn tell_picture(
     alloc: Global,
     source: &Source<'_>,
@@ -73,7 +72,6 @@ fn tell_picture(
 
 /// The fault of that number, from 0 on, of those that [`faults`](crate::faults) finds, as a compiler
 /// shows it. After code 0 there are not so many.
-#[tactic(auto, using(crate::proofs::CheckLemmas::explains, crate::proofs::CheckLemmas::not_found, crate::proofs::CheckLemmas::find_fails,))]
 pub fn explain<'a>(
     alloc: Global,
     source: &Source<'_>,

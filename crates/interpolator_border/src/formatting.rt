@@ -25,7 +25,6 @@ fn buffer_for(alloc: Global, format: &str) -> Result<TextBuffer, AllocError>
 }
 
 /// The text of a format over a row.
-#[tactic(auto, using(crate::proofs::AnswerLemmas::text_made))]
 fn format_row<'a>(
     alloc: Global,
     format: &[u8],

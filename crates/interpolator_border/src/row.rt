@@ -31,6 +31,7 @@ impl<'a> Context for Row<'a> {
 
     ghost finds = { λ row name. found_in row.fields.now (map slots_of row.items.now) name };
 
+    #[tactic(auto, using(interpolator_eval::proofs::FieldNameLemmas::name_bytes))]
     #[inline(always)]
     fn get(&self, key: &str) -> Option<Formattable<'_, Field<'a>>> {
         match last_field(self.fields, key) {

@@ -178,6 +178,7 @@ fn value_slots<'a>(field: &'a Field<'a>) -> Formattable<'a, Field<'a>>
 }
 
 /// The items from one place up to another; what lies past the last item is left out.
+#[tactic(auto, using(interpolator_eval::proofs::RowLemmas::cut_row))]
 fn cut<'s, 'a>(
     items: &'s [Formattable<'a, Field<'a>>],
     first: usize,

@@ -59,6 +59,7 @@ fn prepare<'a>(alloc: Global, format: &[u8], columns: &'a [Field<'a>]) -> Result
 }
 
 /// Appends a row of cells, and tells where it ends.
+#[tactic(auto, using(crate::proofs::AnswerLemmas::appended, interpolator_eval::proofs::FieldNameLemmas::name_bytes))]
 fn put_row<'a>(
     alloc: Global,
     out: &mut TextBuffer,
@@ -97,7 +98,6 @@ struct RowFault {
 }
 
 /// Appends the rows of so many cells each, and tells where each ends.
-#[tactic(auto, using(crate::proofs::TableLemmas::in_table))]
 fn put_rows<'a>(
     alloc: Global,
     out: &mut TextBuffer,

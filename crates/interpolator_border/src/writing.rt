@@ -17,7 +17,7 @@ use interpolator::{Bounded, Error, Formattable, TextWrite};
 use std::alloc::Global;
 
 /// Writes a format over a row, if what the items stand for is known from the item `left` on.
-#[tactic(auto, using(crate::proofs::AnswerLemmas::written_known, crate::proofs::LevelLemmas::next_known, crate::proofs::LevelLemmas::lie_no_deeper,))]
+#[tactic(auto, using(crate::proofs::LevelLemmas::next_known))]
 pub(crate) fn write_levels<'a, W: TextWrite>(
     alloc: Global,
     out: &mut W,
@@ -87,7 +87,7 @@ pub(crate) fn failing(written: Result<(), Error>) -> Result<(), Failure>
 }
 
 /// Writes a format over a row, unless a list lies where it may not.
-#[tactic(auto, using(crate::proofs::AnswerLemmas::none_lies, crate::proofs::AnswerLemmas::none_known, crate::proofs::AnswerLemmas::row_written, crate::proofs::LevelLemmas::nothing_known,))]
+#[tactic(auto, using(crate::proofs::LevelLemmas::nothing_known))]
 pub(crate) fn write_row<'a, W: TextWrite>(
     alloc: Global,
     out: &mut W,

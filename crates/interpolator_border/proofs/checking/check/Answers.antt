@@ -1,8 +1,7 @@
 use Rattle.std.specs.Str.{chars}
 use Rattle.interpolator_eval.specs.Meaning.Environments.{environment}
 use Rattle.interpolator_syntax.specs.At.{outermost}
-use Rattle.interpolator_border.specs.Checks.{row_faults}
-use Rattle.interpolator_border.specs.Fields.{found_in}
+use Rattle.interpolator_border.specs.{Checks.row_faults, Fields.found_in}
 use Rattle.interpolator_border.proofs.CheckLemmas.{first_told, none_first}
 use Rattle.interpolator_border.proofs.checking.check.Goals as goal
 

@@ -1,8 +1,7 @@
 use Rattle.std.proofs.Common.{◌≡◌, [], map, take}
 use Rattle.interpolator.specs.Prepared.Rows.{pair_names}
 use Rattle.interpolator_eval.specs.Slots.{slots_of}
-use Rattle.interpolator_border.specs.Fields.{field_slots}
-use Rattle.interpolator_border.specs.Tables.{column_names}
+use Rattle.interpolator_border.specs.{Fields.field_slots, Tables.column_names}
 use Rattle.interpolator_border.proofs.table.pairs_of.Given as goal
 
 -- the pairs so far are those of the columns so far

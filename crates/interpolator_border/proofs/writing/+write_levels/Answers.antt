@@ -1,7 +1,6 @@
 use Rattle.std.proofs.Common.{◌≡◌, drop, map, rules, subst}
 use Rattle.interpolator_eval.specs.Slots.{slots_of}
-use Rattle.interpolator_border.specs.Answers.{WritesRow}
-use Rattle.interpolator_border.specs.Fields.{field_slots}
+use Rattle.interpolator_border.specs.{Answers.WritesRow, Fields.field_slots}
 use Rattle.interpolator_border.proofs.AnswerLemmas.{written_known}
 use Rattle.interpolator_border.proofs.LevelLemmas.{known_all, lie_deeper}
 use Rattle.interpolator_border.proofs.writing.+write_levels.Goals as goal

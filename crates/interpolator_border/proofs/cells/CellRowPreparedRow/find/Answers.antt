@@ -1,6 +1,6 @@
 use Rattle.std.proofs.Common.{◌∙◌, [], ap, Some}
-use Rattle.interpolator_border.specs.Fields.{field_slots}
 use Rattle.interpolator_prepared.proofs.WriteLemmas.{row_found, row_short, row_absent}
+use Rattle.interpolator_border.specs.Fields.{field_slots}
 use Rattle.interpolator_border.proofs.cells.CellRowPreparedRow.find.Goals as goal
 
 pub returns-in-Some-get : goal.returns-in-Some-get
