@@ -8,9 +8,7 @@ use Rattle.std.proofs.lemmas.Str.{IsCharBoundary-at_seam, encodes-append, chars_
 use Rattle.std.proofs.lemmas.Str.{IsUtf8-append, IsUtf8-encode, IsUtf8-nil, len_utf8_bounds}
 use Rattle.std.proofs.lemmas.List.{replicate-append-replicate, take_at}
 use Rattle.std.proofs.lemmas.Nat.{mul-le}
-use Rattle.interpolator_render.specs.Copies.{IsRun}
 use Rattle.interpolator_render.specs.Written.{Written, byte_count, Appends, RefusesLong}
-use Rattle.interpolator_render.specs.declared.copies.Run.{Run}
 use Rattle.interpolator_render.proofs.LayoutLemmas.{appends_both, bytes_of_copies}
 use Rattle.interpolator_render.proofs.LayoutLemmas.{refuses_in_first, refuses_in_second}
 
@@ -28,28 +26,29 @@ chars-copies n c s =
     (IsUtf8-copies n c s) refl)
 
 -- a run, cut after the first of its copies
-copies_cut : (run : Run) (count : ℕ) → count ≤ 64 → IsRun run →
-    run.copies.now
-    ≡ encode_utf8_all (replicate count run.c) ++ encode_utf8_all (replicate (64 - count) run.c)
-copies_cut run count few h =
+copies_cut : (c count : ℕ) → count ≤ 64 →
+    encode_utf8_all (replicate 64 c)
+    ≡ encode_utf8_all (replicate count c) ++ encode_utf8_all (replicate (64 - count) c)
+copies_cut c count few =
     let all : count + (64 - count) ≡ 64 = omega arith in
-    h.copies ∙ (ap encode_utf8_all (sym (replicate-append-replicate count (64 - count) run.c
-    ∙ ap (λ (n : ℕ). replicate n run.c) all))
-    ∙ encodes-append (replicate count run.c) (replicate (64 - count) run.c))
+    ap encode_utf8_all (sym (replicate-append-replicate count (64 - count) c
+    ∙ ap (λ (n : ℕ). replicate n c) all))
+    ∙ encodes-append (replicate count c) (replicate (64 - count) c)
 
 -- the first copies of a run
-pub first_copies : (run : Run) (count : ℕ) → count ≤ 64 → IsRun run →
-    slice_range run.copies.now 0 (count * run.unit) ≡ encode_utf8_all (replicate count run.c)
-first_copies run count few h =
-    let size : count * len_utf8 run.c - 0 ≡ count * len_utf8 run.c = omega arith in
-    rw (h.unit, size, copies_cut run count few h) (take_at _ _ _ (bytes_of_copies count run.c))
+pub first_copies : (c count : ℕ) → count ≤ 64 →
+    slice_range (encode_utf8_all (replicate 64 c)) 0 (count * len_utf8 c)
+    ≡ encode_utf8_all (replicate count c)
+first_copies c count few =
+    let size : count * len_utf8 c - 0 ≡ count * len_utf8 c = omega arith in
+    rw (size, copies_cut c count few) (take_at _ _ _ (bytes_of_copies count c))
 
 -- and it may be cut after them
-pub copies_boundary : (run : Run) (count : ℕ) → IsScalar run.c → count ≤ 64 → IsRun run →
-    IsCharBoundary run.copies.now (count * run.unit)
-copies_boundary run count s few h = rw (h.unit, ← bytes_of_copies count run.c)
-    (IsCharBoundary-at_seam run.copies.now _ _ (copies_cut run count few h)
-    (IsUtf8-copies _ run.c s))
+pub copies_boundary : (c count : ℕ) → IsScalar c → count ≤ 64 →
+    IsCharBoundary (encode_utf8_all (replicate 64 c)) (count * len_utf8 c)
+copies_boundary c count s few = rw (← bytes_of_copies count c)
+    (IsCharBoundary-at_seam (encode_utf8_all (replicate 64 c)) _ _ (copies_cut c count few)
+    (IsUtf8-copies _ c s))
 
 -- at most 64 copies have at most 256 bytes
 pub few_bytes : (count c : ℕ) → count ≤ 64 → count * len_utf8 c ≤ 256

@@ -158,3 +158,12 @@ longer_decimal places scale units h =
 -- what is after the point is less than a unit before it
 pub remainder_fits : (count places : ℕ) → count % 10 ^ places < 10 ^ places
 remainder_fits count places = let unit = pow_some places in omega arith
+
+-- the unit of a short scale fits 64 bits
+pub short_unit : (scale : ℕ) → scale ≤ 19 → 10 ^ scale < 2 ^ 64
+short_unit scale h = let most = power_grows 10 scale 19 (omega arith) h in omega arith
+  where
+    power_grows : (base i j : ℕ) → 1 ≤ base → i ≤ j → base ^ i ≤ base ^ j
+    power_grows base i j b h = pow-le-pow_right b h
+
+pub ruleset short_units = (short_unit, pow_some, plain_decimal, remainder_fits)

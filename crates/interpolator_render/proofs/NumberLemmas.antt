@@ -87,3 +87,13 @@ bare_number spec negative n w z a s =
     let none : 0 ≡ missing_to spec (length sign + length digits) = rw w (omega arith) in
     ap (λ (f : List ℕ). padded_number spec f digits) front
     ∙ sym (nothing_padded spec sign digits z none)
+
+-- and a body whose front is its sign
+pub bare_body : (spec : Spec) (negative : Bool) (body : List ℕ) → spec.width ≡ None →
+    spec.zero ≡ false → spec.sign ≡ NoSign →
+    padded_number spec (sign_text negative spec.sign) body ≡ sign_text negative NoSign ++ body
+unfolding padded_number
+bare_body spec negative body w z s =
+    let sign = sign_text negative NoSign in
+    let none : 0 ≡ missing_to spec (length sign + length body) = rw w (omega arith) in
+    rw s (sym (nothing_padded spec sign body z none))

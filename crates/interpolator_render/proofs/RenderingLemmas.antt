@@ -1,18 +1,24 @@
 -- What a text is without options, and what `render` returns for what a writer returned.
 use Rattle.std.proofs.Common.{◌≡◌, ℕ, ◌-◌, List, length, refl, Result, Ok, Err, None, Some, ℤ}
-use Rattle.std.proofs.Common.{append-nil, arith, false}
+use Rattle.std.proofs.Common.{◌++◌, ◌∙◌, ap, append-nil, arith, false}
 use Rattle.interpolator_render.specs.declared.number_form.NumberForm.{NumberForm}
+use Rattle.interpolator_render.specs.declared.number_form.NumberForm.TheVariants.{Digits as InDigits}
+use Rattle.interpolator_render.specs.declared.number_form.Radix.TheVariants.{Decimal}
 use Rattle.interpolator_render.specs.declared.text_write.Refusal.{Refusal}
 use Rattle.interpolator_render.specs.declared.view.Bits.{Bits}
 use Rattle.interpolator_render.specs.declared.view.RenderFault.{RenderFault}
+use Rattle.interpolator_render.specs.declared.view.Sign.TheVariants.{Unset as NoSign}
 use Rattle.interpolator_render.specs.declared.view.Spec.{Spec}
 use Rattle.interpolator_render.specs.declared.view.Trait.{Trait}
+use Rattle.interpolator_render.specs.declared.view.Trait.TheVariants.{Display}
+use Rattle.interpolator_render.specs.Digits.{digit_text}
 use Rattle.interpolator_render.specs.Numbers.{number_form, number_text, has_minus, magnitude}
-use Rattle.interpolator_render.specs.Padding.{displayed_text, padded_text, fill_before}
+use Rattle.interpolator_render.specs.Numbers.{distance_from_zero, is_negative, sign_text}
+use Rattle.interpolator_render.specs.Padding.{displayed_text, padded_text, fill_before, unset_spec}
 use Rattle.interpolator_render.specs.Texts.{ViewText, has_text, Renders, render_answer, view_text}
-use Rattle.interpolator_render.specs.Views.{signed_number, unsigned_number}
+use Rattle.interpolator_render.specs.Views.{signed_number, some_text, unsigned_number}
 use Rattle.interpolator_render.specs.Written.{Written, Puts}
-use Rattle.interpolator_render.proofs.NumberLemmas.{before_within}
+use Rattle.interpolator_render.proofs.NumberLemmas.{bare_number, before_within}
 
 -- with neither precision nor width, a text is displayed as it is
 pub displayed_as_it_is : (spec : Spec) (text : List ℕ) → spec.precision ≡ None →
@@ -44,3 +50,20 @@ pub unsigned_text : (n : ℕ) (t : Trait) (spec : Spec) (form : NumberForm) →
     view_text (unsigned_number n) t spec ≡ has_text (number_text form spec false n)
 unfolding view_text
 unsigned_text n t spec form e = rw e refl
+
+-- ---- displayed plainly
+
+pub plain_text : (text : List ℕ) → view_text (some_text text) Display unset_spec ≡ has_text text
+unfolding view_text
+plain_text text = ap has_text (displayed_as_it_is unset_spec text refl refl)
+
+pub plain_unsigned : (n : ℕ) →
+    view_text (unsigned_number n) Display unset_spec ≡ has_text (digit_text 10 false n)
+plain_unsigned n = unsigned_text n Display unset_spec (InDigits Decimal) refl
+    ∙ ap has_text (bare_number unset_spec false n refl refl refl refl)
+
+pub plain_signed : (z : ℤ) (bits : Bits) →
+    view_text (signed_number z bits) Display unset_spec
+    ≡ has_text (sign_text (is_negative z) NoSign ++ digit_text 10 false (distance_from_zero z))
+plain_signed z bits = signed_text z bits Display unset_spec (InDigits Decimal) refl
+    ∙ ap has_text (bare_number unset_spec (is_negative z) (distance_from_zero z) refl refl refl refl)

@@ -1,12 +1,27 @@
 -- Padding: numbers and other texts, brought to their width.
 use Rattle.std.specs.Prelude.{◌≡◌, ℕ, ◌+◌, ◌-◌, ◌/◌, ◌^◌, ◌<◌, ◌≤◌, true, false, List, ◌++◌, length}
-use Rattle.std.specs.Prelude.{replicate, unwrap_or, if◌then◌else◌}
+use Rattle.std.specs.Prelude.{None, replicate, unwrap_or, if◌then◌else◌}
 use Rattle.interpolator_render.specs.declared.view.Alignment.{Alignment}
 use Rattle.interpolator_render.specs.declared.view.Alignment.TheVariants.{Unset, Left, Center}
 use Rattle.interpolator_render.specs.declared.view.Alignment.TheVariants.{Right}
+use Rattle.interpolator_render.specs.declared.view.HexDebug.TheVariants as hex_debugs
+use Rattle.interpolator_render.specs.declared.view.Sign.TheVariants as signs
 use Rattle.interpolator_render.specs.declared.view.Spec.{Spec}
 use Rattle.interpolator_render.specs.Characters.{cut, space, zero_digit}
 use Rattle.interpolator_render.specs.DigitBuffers.{Buffered}
+
+-- the spec that sets nothing
+abbrev pub unset_spec : Spec
+unset_spec = record {
+  fill = None;
+  alignment = Unset;
+  sign = signs.Unset;
+  alternate = false;
+  zero = false;
+  width = None;
+  precision = None;
+  hex_debug = hex_debugs.No;
+}
 
 -- how many characters a text of `count` lacks to the width, none if no width is set
 abbrev pub missing_to : Spec → ℕ → ℕ

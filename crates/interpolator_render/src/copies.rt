@@ -1,6 +1,6 @@
 //! Copies of a character, alone and on both sides of a text, written by slices.
 ghost use Rattle.std.specs.Prelude.{◌≡◌, ◌+◌, ◌-◌, ◌*◌, ◌++◌, ◌^◌, ◌<◌, ◌≤◌, min, replicate};
-ghost use Rattle.std.specs.Prelude.{encode_utf8};
+ghost use Rattle.std.specs.Prelude.{encode_utf8, encode_utf8_all};
 ghost use Rattle.std.specs.Char.{len_utf8};
 ghost use Rattle.std.specs.Str.{chars};
 ghost use Rattle.interpolator_render.specs.Characters.{space, zero_digit};
@@ -35,13 +35,40 @@ pub(crate) fn copies_len(c: char, count: usize) -> usize
     count.saturating_mul(c.len_utf8())
 }
 
+/// Writes the first `count` copies of a run by one call. It takes the parts of the run one by one,
+/// since they fit in registers.
+fn put_first<W: TextWrite>(
+    out: &mut W,
+    c: char,
+    unit: usize,
+    copies: &str,
+    count: usize,
+) -> Result<(), Refusal>
+    requires unit { unit ≡ len_utf8 c }
+    requires copies { copies.now ≡ encode_utf8_all (replicate 64 c) }
+    requires few { count ≤ 64 }
+    ensures { Puts (W.written out.old) (replicate count c) result (W.written out.new) }
+{
+    out.write_str(&copies[..count * unit])
+}
+
 /// Writes `count` copies, at most [`RUN`], by one call.
+#[inline(always)]
 fn put_few<W: TextWrite>(out: &mut W, run: Run<'_>, count: usize) -> Result<(), Refusal>
     requires run { IsRun run }
     requires few { count ≤ 64 }
     ensures { Puts (W.written out.old) (replicate count run.entry.c) result (W.written out.new) }
 {
-    out.write_str(&run.copies[..count * run.unit])
+    put_first(out, run.c, run.unit, run.copies, count)
+}
+
+/// Writes [`RUN`] copies by one call.
+#[inline(always)]
+fn put_whole_run<W: TextWrite>(out: &mut W, run: Run<'_>) -> Result<(), Refusal>
+    requires { IsRun run }
+    ensures { Puts (W.written out.old) (replicate 64 run.entry.c) result (W.written out.new) }
+{
+    out.write_str(run.copies)
 }
 
 /// The bytes of `count` copies of a run's character, or the greatest `usize` if they are more.
@@ -80,7 +107,7 @@ fn put_runs<W: TextWrite>(
     out.reserve(run_len(run, count.saturating_add(later)))?;
     let mut left = count;
     while left > RUN {
-        if let Err(refusal) = put_few(out, run, RUN) {
+        if let Err(refusal) = put_whole_run(out, run) {
             return Err(refused_after(run, count - left, refusal));
         }
         left -= RUN;

@@ -1,6 +1,7 @@
 //! Decimals, written by their digits.
 ghost use Rattle.std.specs.Prelude.{◌≡◌, ◌+◌, ◌^◌, ◌<◌, ◌≤◌, ◌++◌, [], false, replicate};
-ghost use Rattle.std.specs.Prelude.{if◌then◌else◌, unwrap_or, ◌==◌, ◌∷◌};
+ghost use Rattle.std.specs.Prelude.{Bool, ℕ, None, if◌then◌else◌, true, unwrap_or, ◌==◌, ◌∷◌};
+ghost use Rattle.interpolator_render.specs.declared.view.Sign.TheVariants.{Unset};
 ghost use Rattle.interpolator_render.specs.Characters.{point, zero_digit};
 ghost use Rattle.interpolator_render.specs.Decimals.{after_point, decimal_text, placed, split_text};
 ghost use Rattle.interpolator_render.specs.DigitBuffers.{put_before};
@@ -10,16 +11,17 @@ ghost use Rattle.interpolator_render.specs.Numbers.{sign_text};
 ghost use Rattle.interpolator_render.specs.Padding.{number_fill, padded_number};
 ghost use Rattle.interpolator_render.specs.Written.{Puts};
 
-use crate::decimal_digits::{DecimalDigits, decimal_digits};
+use crate::decimal_digits::{DecimalDigits, GREATEST_SHORT_SCALE, decimal_digits, short_split};
 use crate::decimal_parts::{DecimalParts, put_padded_decimal};
 use crate::digit_buffer::{BUFFER_WIDTH, DigitBuffer};
-use crate::digits::digit_str;
+use crate::digits::{GREATEST_U64, digit_str};
 use crate::layout::put_ascii;
+use crate::number::is_bare;
 use crate::number_form::NumberForm;
 use crate::number_parts::sign_str;
-use crate::number_row::{fill_byte, fits_buffer, put_around};
+use crate::number_row::{fill_byte, fits_buffer, put_around, put_sign};
 use crate::text_write::{Refusal, TextWrite};
-use crate::view::Spec;
+use crate::view::{Sign, Spec};
 
 /// Writes a number by exactly `places` digits.
 #[inline(always)]
@@ -141,6 +143,38 @@ fn put_in_parts<W: TextWrite>(
     put_padded_decimal(out, spec, number)
 }
 
+/// Writes units of 10 ^ -scale after a minus if they are negative, and nothing around them.
+#[inline(never)]
+fn put_bare_decimal<W: TextWrite>(
+    out: &mut W,
+    negative: bool,
+    units: u64,
+    scale: usize,
+) -> Result<(), Refusal>
+    requires { scale ≤ 19 }
+    ensures { Puts (W.written out.old) (sign_text negative Unset ++ decimal_text None scale units)
+        result (W.written out.new) }
+{
+    let mut buffer = DigitBuffer::new(b'0');
+    put_split(&mut buffer, short_split(units, scale));
+    put_sign(&mut buffer, negative, Sign::Unset);
+    put_ascii(out, buffer.as_str())
+}
+
+/// Whether a spec adds nothing to a decimal but a minus if it is negative.
+#[inline(always)]
+fn is_bare_decimal(spec: &Spec) -> bool
+    ensures { result ≡ true → (negative : Bool) (scale units : ℕ) →
+        padded_number spec.now (sign_text negative spec.now.sign)
+        (decimal_text spec.now.precision scale units)
+        ≡ sign_text negative Unset ++ decimal_text None scale units }
+{
+    match spec.precision {
+        None => is_bare(spec),
+        Some(_) => false,
+    }
+}
+
 /// Writes units of 10 ^ -scale after a sign.
 #[inline(never)]
 fn put_units<W: TextWrite>(
@@ -165,7 +199,7 @@ fn put_units<W: TextWrite>(
 }
 
 /// Writes units of 10 ^ -scale.
-#[inline(always)]
+#[inline(never)]
 pub(crate) fn put_decimal<W: TextWrite>(
     out: &mut W,
     spec: &Spec,
@@ -177,5 +211,10 @@ pub(crate) fn put_decimal<W: TextWrite>(
         (decimal_text spec.now.precision scale (distance_from_zero units)))
         result (W.written out.new) }
 {
-    put_units(out, spec, units < 0, units.unsigned_abs(), scale)
+    let size = units.unsigned_abs();
+    if size <= GREATEST_U64 && scale <= GREATEST_SHORT_SCALE && is_bare_decimal(spec) {
+        put_bare_decimal(out, units < 0, size as u64, scale as usize)
+    } else {
+        put_units(out, spec, units < 0, size, scale)
+    }
 }

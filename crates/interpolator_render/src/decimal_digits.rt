@@ -1,9 +1,12 @@
 //! The arithmetic of decimals: the digits that are shown before the point and after it.
-ghost use Rattle.std.specs.Prelude.{◌≡◌, ◌/◌, ◌%◌, ◌^◌, ◌<◌};
+ghost use Rattle.std.specs.Prelude.{◌≡◌, ◌/◌, ◌%◌, ◌^◌, ◌<◌, ◌≤◌, None};
 ghost use Rattle.interpolator_render.specs.Decimals.{decimal_text, split_text};
 ghost use Rattle.interpolator_render.specs.Exponent.{nearest};
 
 use crate::scientific::{divided, nearest, power};
+
+/// The greatest scale whose unit fits 64 bits.
+pub(crate) const GREATEST_SHORT_SCALE: u32 = 19;
 
 /// What is shown of a decimal without its sign: the digits of `whole`, after a point those of
 /// `part`, with zeros before them up to `places`, and then `zeros` zeros.
@@ -49,6 +52,26 @@ fn split_at_point(count: u128, places: usize, zeros: usize) -> DecimalDigits
         part,
         places,
         zeros,
+    }
+}
+
+/// As [`split_at_point`], of a number of 64 bits at a scale whose unit has as many.
+#[tactic(auto, using(crate::proofs::DecimalLemmas::short_units))]
+#[inline(always)]
+pub(crate) fn short_split(units: u64, scale: usize) -> DecimalDigits
+    requires { scale ≤ 19 }
+    ensures text { split_text result.whole result.part result.places result.zeros
+        ≡ decimal_text None scale units }
+    ensures fits { result.part < 10 ^ result.places }
+    ensures places { result.places ≡ scale }
+    ensures zeros { result.zeros ≡ 0 }
+{
+    let unit = power(scale) as u64;
+    DecimalDigits {
+        whole: (units / unit) as u128,
+        part: (units % unit) as u128,
+        places: scale,
+        zeros: 0,
     }
 }
 

@@ -125,8 +125,8 @@ impl DigitBuffer {
         self.push_front(digit_in_base(first, base, upper));
     }
 
-    /// Writes zeros in front.
-    pub(crate) fn put_zeros(&mut self, count: usize)
+    /// Writes zeros in front, one by one.
+    fn push_zeros(&mut self, count: usize)
         requires { count ≤ self.old.before }
         ensures { self.new ≡ put_before (replicate count zero_digit) self.old }
     {
@@ -134,6 +134,19 @@ impl DigitBuffer {
         while done < count {
             self.push_front(b'0');
             done += 1;
+        }
+    }
+
+    /// Writes zeros in front. If the fill is a zero, they are there already.
+    #[inline(always)]
+    pub(crate) fn put_zeros(&mut self, count: usize)
+        requires { count ≤ self.old.before }
+        ensures { self.new ≡ put_before (replicate count zero_digit) self.old }
+    {
+        if self.fill == b'0' {
+            self.pad_before(count);
+        } else {
+            self.push_zeros(count);
         }
     }
 

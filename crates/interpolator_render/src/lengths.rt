@@ -120,8 +120,8 @@ fn most_text(wanted: Trait, most: usize) -> usize
 }
 
 /// The most characters that [`render`](crate::render) writes under a trait and a spec of any view
-/// whose text has at most `most` characters, a decimal's with its sign. The greatest `usize` means that many or more. The call
-/// takes no memory.
+/// whose text has at most `most` characters, a decimal's with its sign. The greatest `usize` means
+/// that many or more. The call takes no memory.
 ///
 /// # Example
 ///

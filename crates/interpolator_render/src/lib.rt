@@ -54,7 +54,7 @@ mod view;
 pub use bounded::Bounded;
 pub use io_writer::IoWriter;
 pub use lengths::most_written;
-pub use rendering::{pad, render};
+pub use rendering::{pad, render, render_plainly};
 pub use text_buffer::TextBuffer;
 pub use text_write::{Refusal, TextWrite};
 pub use value::Value;

@@ -1,12 +1,12 @@
 //! Whole numbers, written by their digits or in exponent form.
-ghost use Rattle.std.specs.Prelude.{◌≡◌, ◌<◌, ◌≤◌, ◌++◌, Bool, false, true, ℕ, codes, length};
+ghost use Rattle.std.specs.Prelude.{◌≡◌, ◌<◌, ◌≤◌, ◌++◌, Bool, false, true, ℕ, List, codes, length};
 ghost use Rattle.std.specs.Prelude.{unwrap_or};
 ghost use Rattle.interpolator_render.specs.DigitBuffers.{put_before};
 ghost use Rattle.interpolator_render.specs.Digits.{digit_text};
 ghost use Rattle.interpolator_render.specs.declared.view.Sign.TheVariants.{Unset};
 ghost use Rattle.interpolator_render.specs.Numbers.{base_of, distance_from_zero, is_negative};
 ghost use Rattle.interpolator_render.specs.Numbers.{is_upper, number_text, sign_text};
-ghost use Rattle.interpolator_render.specs.Padding.{number_fill};
+ghost use Rattle.interpolator_render.specs.Padding.{number_fill, padded_number};
 ghost use Rattle.interpolator_render.specs.Written.{Puts};
 
 use crate::digit_buffer::DigitBuffer;
@@ -114,6 +114,17 @@ fn three_digits(n: u64) -> [u8; 3]
     [b'0' + (n / 100) as u8, tens, ones]
 }
 
+/// Writes the digits of a number in a buffer. It is a call of its own, so that a short number is
+/// written without room for the buffer.
+#[inline(never)]
+fn put_many<W: TextWrite>(out: &mut W, n: u64) -> Result<(), Refusal>
+    ensures { Puts (W.written out.old) (digit_text 10 false n) result (W.written out.new) }
+{
+    let mut buffer = DigitBuffer::new(b' ');
+    buffer.put_decimal(n as u128);
+    put_ascii(out, buffer.as_str())
+}
+
 /// Writes the digits of a number that has more than one.
 #[inline(never)]
 fn put_several<W: TextWrite>(out: &mut W, n: u64) -> Result<(), Refusal>
@@ -128,15 +139,13 @@ fn put_several<W: TextWrite>(out: &mut W, n: u64) -> Result<(), Refusal>
         let digits = three_digits(n);
         return put_ascii(out, ascii_str(&digits));
     }
-    let mut buffer = DigitBuffer::new(b' ');
-    buffer.put_decimal(n as u128);
-    put_ascii(out, buffer.as_str())
+    put_many(out, n)
 }
 
 /// Writes the digits of a number in base ten, and nothing around them. A single digit takes no
 /// call.
 #[inline(always)]
-fn put_bare<W: TextWrite>(out: &mut W, n: u64) -> Result<(), Refusal>
+pub(crate) fn put_bare<W: TextWrite>(out: &mut W, n: u64) -> Result<(), Refusal>
     ensures { Puts (W.written out.old) (digit_text 10 false n) result (W.written out.new) }
 {
     if n < 10 {
@@ -161,7 +170,7 @@ fn put_bare_negative<W: TextWrite>(out: &mut W, n: u64) -> Result<(), Refusal>
 /// Writes a number with a sign in base ten, and nothing around it. It is one call, so that the code
 /// that writes a number is no longer than for one without a sign.
 #[inline(never)]
-fn put_bare_signed<W: TextWrite>(out: &mut W, number: i64) -> Result<(), Refusal>
+pub(crate) fn put_bare_signed<W: TextWrite>(out: &mut W, number: i64) -> Result<(), Refusal>
     ensures { Puts (W.written out.old)
         (sign_text (is_negative number) Unset ++ digit_text 10 false (distance_from_zero number))
         result (W.written out.new) }
@@ -173,11 +182,15 @@ fn put_bare_signed<W: TextWrite>(out: &mut W, number: i64) -> Result<(), Refusal
     }
 }
 
-/// Whether a spec adds nothing to a number in base ten but a minus if it is negative.
-fn is_bare(spec: &Spec) -> bool
-    ensures { result ≡ true → (negative : Bool) (n : ℕ) →
+/// Whether a spec adds nothing to a number in base ten but a minus if it is negative, nor to a
+/// decimal of its own scale.
+pub(crate) fn is_bare(spec: &Spec) -> bool
+    ensures number { result ≡ true → (negative : Bool) (n : ℕ) →
         number_text (NumberForm.Digits Radix.Decimal) spec.now negative n
         ≡ sign_text negative Unset ++ digit_text 10 false n }
+    ensures body { result ≡ true → (negative : Bool) (body : List ℕ) →
+        padded_number spec.now (sign_text negative spec.now.sign) body
+        ≡ sign_text negative Unset ++ body }
 {
     if spec.zero || spec.alternate {
         return false;

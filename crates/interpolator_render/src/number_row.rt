@@ -35,7 +35,7 @@ pub(crate) fn fill_byte(spec: &Spec) -> u8
 }
 
 #[inline(always)]
-fn put_sign(buffer: &mut DigitBuffer, negative: bool, sign: Sign)
+pub(crate) fn put_sign(buffer: &mut DigitBuffer, negative: bool, sign: Sign)
     requires { 1 ≤ buffer.old.before }
     ensures { buffer.new ≡ put_before (sign_text negative sign) buffer.old }
 {

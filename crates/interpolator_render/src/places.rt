@@ -1,9 +1,34 @@
 //! A row of bytes with places that are ready for more.
-ghost use Rattle.std.specs.Prelude.{◌≡◌, ◌+◌, ◌≤◌, ◌++◌, length, take, drop, vec_capacity};
+ghost use Rattle.std.specs.Prelude.{◌≡◌, ◌+◌, ◌<◌, ◌≤◌, ◌++◌, length, take, drop, vec_capacity};
 
 /// How many places are made ready at once. A text that grows by little then seldom asks for more,
 /// and a buffer with much room is not written as a whole.
 const READY: usize = 1024;
+
+/// The bytes of a text of `N`, as a value. A copy that is read as a whole before it is written needs
+/// no test whether the two places overlap.
+#[inline(always)]
+fn block_of<const N: usize>(text: &[u8]) -> [u8; N]
+    requires { length text.now ≡ N }
+    ensures { result ≡ text.now }
+{
+    match text.as_array::<N>() {
+        Some(block) => *block,
+        None => unreachable!(),
+    }
+}
+
+/// Writes a block over `N` places.
+#[inline(always)]
+fn put_block<const N: usize>(to: &mut [u8], block: [u8; N])
+    requires { length to.old ≡ N }
+    ensures { to.new ≡ block.entry }
+{
+    match to.as_mut_array::<N>() {
+        Some(places) => *places = block,
+        None => unreachable!(),
+    }
+}
 
 /// Copies a text of `N` to twice `N` bytes by its two ends, which may overlap.
 #[inline(always)]
@@ -14,31 +39,46 @@ fn copy_ends<const N: usize>(to: &mut [u8], from: &[u8])
     ensures { to.new ≡ from.now }
 {
     let rest = from.len() - N;
-    to[..N].copy_from_slice(&from[..N]);
-    to[rest..].copy_from_slice(&from[rest..]);
+    let front = block_of::<N>(&from[..N]);
+    let back = block_of::<N>(&from[rest..]);
+    put_block(&mut to[..N], front);
+    put_block(&mut to[rest..], back);
 }
 
-/// Copies a text into as many places. A short one takes no call.
+/// Copies a text of less than eight bytes into as many places.
+#[inline(always)]
+fn copy_short(to: &mut [u8], from: &[u8])
+    requires same { length to.old ≡ length from.now }
+    requires short { length from.now < 8 }
+    ensures { to.new ≡ from.now }
+{
+    let count = from.len();
+    if count >= 4 {
+        copy_ends::<4>(to, from);
+    } else if count >= 2 {
+        copy_ends::<2>(to, from);
+    } else if count == 1 {
+        to[0] = from[0];
+    }
+}
+
+/// Copies a text into as many places. Up to 64 bytes it takes no call.
 #[inline(always)]
 fn copy_text(to: &mut [u8], from: &[u8])
     requires { length to.old ≡ length from.now }
     ensures { to.new ≡ from.now }
 {
     let count = from.len();
-    if count > 64 {
-        to.copy_from_slice(from);
-    } else if count >= 32 {
-        copy_ends::<32>(to, from);
-    } else if count >= 16 {
-        copy_ends::<16>(to, from);
-    } else if count >= 8 {
+    if count < 8 {
+        copy_short(to, from);
+    } else if count <= 16 {
         copy_ends::<8>(to, from);
-    } else if count >= 4 {
-        copy_ends::<4>(to, from);
-    } else if count >= 2 {
-        copy_ends::<2>(to, from);
-    } else if count == 1 {
-        to[0] = from[0];
+    } else if count <= 32 {
+        copy_ends::<16>(to, from);
+    } else if count <= 64 {
+        copy_ends::<32>(to, from);
+    } else {
+        to.copy_from_slice(from);
     }
 }
 

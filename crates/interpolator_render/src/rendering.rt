@@ -1,5 +1,5 @@
 //! The text of a view, written.
-ghost use Rattle.std.specs.Prelude.{◌≡◌, ◌∷◌, [], ◌<◌, Some};
+ghost use Rattle.std.specs.Prelude.{◌≡◌, ◌∷◌, [], ◌<◌, ◌≤◌, Some};
 ghost use Rattle.std.specs.Str.{chars};
 ghost use Rattle.interpolator_render.specs.Characters.{single_quote};
 ghost use Rattle.interpolator_render.specs.Padding.{displayed_text};
@@ -8,6 +8,8 @@ ghost use Rattle.interpolator_render.specs.Decimals.{decimal_body};
 ghost use Rattle.interpolator_render.specs.Texts.{padded_decimal, under, truth_text, view_text};
 ghost use Rattle.interpolator_render.specs.Texts.{render_answer, Renders};
 ghost use Rattle.interpolator_render.specs.Numbers.{distance_from_zero, is_negative, number_form};
+ghost use Rattle.interpolator_render.specs.declared.view.Trait.TheVariants.{Display};
+ghost use Rattle.interpolator_render.specs.Padding.{unset_spec};
 ghost use Rattle.interpolator_render.specs.Views.{IsInRange, shown_by};
 ghost use Rattle.interpolator_render.specs.Written.{Puts};
 
@@ -15,8 +17,9 @@ use crate::characters::cut;
 use crate::copies::{put_between, put_between_spaces};
 use crate::decimal::put_decimal;
 use crate::decimal_exponent::put_decimal_exponent;
+use crate::digits::GREATEST_U64;
 use crate::layout::{fill_before, put_text};
-use crate::number::{put_integer, put_natural, put_number};
+use crate::number::{put_bare, put_bare_signed, put_integer, put_natural, put_number};
 use crate::number_form::{NumberForm, number_form, sign_and_magnitude};
 use crate::quoting::put_quoted;
 use crate::text_write::{Refusal, TextWrite};
@@ -206,8 +209,56 @@ pub fn render<W: TextWrite>(
         if let View::Signed(number, _) = view {
             return refused(put_integer(out, spec, number));
         }
+        if let View::Decimal { units, scale } = view {
+            return refused(put_decimal(out, spec, units, scale));
+        }
     }
     render_any(out, view, wanted, spec)
+}
+
+/// Writes the text of a view displayed plainly: under display and a spec that sets nothing.
+///
+/// It is [`render`] under these, without a spec in memory for a text or a whole number.
+///
+/// # Errors
+///
+/// Those of [`render`].
+///
+/// # Examples
+///
+/// ```text
+/// render_plainly(&mut out, View::Unsigned(7))   // appends "7"
+/// ```
+#[inline(always)]
+pub fn render_plainly<W: TextWrite>(out: &mut W, view: View<'_>) -> Result<(), RenderFault>
+    requires { IsInRange (shown_by view) }
+    ensures { Renders (view_text (shown_by view.entry) Display unset_spec) (W.written out.old) result
+        (W.written out.new) }
+{
+    if let View::Text(text) = view {
+        return refused(put_text(out, text));
+    }
+    if let View::Unsigned(number) = view {
+        if number <= GREATEST_U64 {
+            return refused(put_bare(out, number as u64));
+        }
+    }
+    if let View::Signed(number, _) = view {
+        if i64::MIN as i128 <= number && number <= i64::MAX as i128 {
+            return refused(put_bare_signed(out, number as i64));
+        }
+    }
+    render_unset(out, view)
+}
+
+/// As [`render_plainly`], for every view.
+#[inline(never)]
+fn render_unset<W: TextWrite>(out: &mut W, view: View<'_>) -> Result<(), RenderFault>
+    requires { IsInRange (shown_by view) }
+    ensures { Renders (view_text (shown_by view.entry) Display unset_spec) (W.written out.old) result
+        (W.written out.new) }
+{
+    render(out, view, Trait::Display, &Spec::default())
 }
 
 /// As [`render`], for every view and trait; [`render`] tries the most likely ones first.

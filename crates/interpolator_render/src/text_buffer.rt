@@ -166,6 +166,24 @@ impl TextBuffer {
     }
 }
 
+impl TextBuffer {
+    /// Appends a character that is not ASCII or for which no place is ready.
+    #[inline(never)]
+    fn append_encoded(&mut self, c: char) -> Result<(), Refusal>
+        ensures written { MatchResult result
+            (λ _. Appends (as_writer self.old) (c ∷ []) (as_writer self.new))
+            (λ refusal. Refuses (as_writer self.old) (c ∷ []) refusal.taken
+            (as_writer self.new)) }
+        ensures whole { MatchResult result (λ _. Unit {0})
+            (λ refusal. RefusesWhole (as_writer self.old) refusal.taken (as_writer self.new)) }
+        ensures full { OnErr result (MayRefuse self.old (length (encode_utf8 c))) }
+        ensures room { self.old.room ≤ self.new.room }
+    {
+        let mut buffer = [0; 4];
+        self.write_str(c.encode_utf8(&mut buffer))
+    }
+}
+
 impl TextWrite for TextBuffer {
     ghost written = { λ buffer. as_writer buffer };
 
@@ -189,6 +207,7 @@ impl TextWrite for TextBuffer {
         self.append_slowly(text)
     }
 
+    #[inline(always)]
     fn write_char(&mut self, c: char) -> Result<(), Refusal>
         ensures written { MatchResult result
             (λ _. Appends (as_writer self.old) (c ∷ []) (as_writer self.new))
@@ -204,8 +223,7 @@ impl TextWrite for TextBuffer {
             self.len += 1;
             return Ok(());
         }
-        let mut buffer = [0; 4];
-        self.write_str(c.encode_utf8(&mut buffer))
+        self.append_encoded(c)
     }
 
     fn refused(&self) -> bool {

@@ -14,7 +14,9 @@ ghost use Rattle.interpolator_eval.specs.Meaning.Outcomes.{Outcome};
 ghost use Rattle.interpolator_eval.specs.Meaning.Sinks.{HasRoom, Writes, write_answered};
 ghost use Rattle.interpolator_eval.specs.Meaning.Sinks.{write_fault_answer};
 
-use interpolator_render::{Bounded, RenderFault, Spec, TextWrite, Trait, Value, View, pad, render};
+use interpolator_render::{
+    Bounded, RenderFault, Spec, TextWrite, Trait, Value, View, pad, render, render_plainly,
+};
 use interpolator_syntax::Error;
 use std::fmt;
 
@@ -123,7 +125,7 @@ fn write_text_at<W: TextWrite>(out: &mut W, text: &str, place: usize) -> Result<
     }
 }
 
-/// Writes a view under the plain spec.
+/// Writes a view displayed plainly.
 #[inline(always)]
 fn write_displayed<W: TextWrite>(
     out: &mut W,
@@ -135,7 +137,14 @@ fn write_displayed<W: TextWrite>(
         (view_means Display place (view_text (shown_by view.entry) Display plain_spec))
         (W.written out.old) (W.written out.new) (write_answered result) }
 {
-    write_view(out, view, Trait::Display, &Spec::default(), place)
+    match render_plainly(out, view) {
+        Ok(()) => Ok(()),
+        Err(RenderFault::NotImplemented) => {
+            Err(WriteFault::MissingTraitImpl(Trait::Display, place))
+        }
+        Err(RenderFault::Failed) => Err(WriteFault::Fmt(place)),
+        Err(RenderFault::Refused) => Err(WriteFault::Fmt(place)),
+    }
 }
 
 /// Writes a text padded to the width, with all its characters at one place.
@@ -189,6 +198,20 @@ pub fn write_plain<W: TextWrite, V: Value>(
     };
     let view = value.view(Trait::Display, &Spec::default());
     write_plain_view(out, view, place)
+}
+
+/// As [`write_plain`], by a call. A buffer is for lists under a width alone, and the code for it would
+/// make that of each other list longer.
+#[inline(never)]
+fn write_plain_apart<W: TextWrite, V: Value>(
+    out: &mut W,
+    value: Option<&V>,
+    place: usize,
+) -> Result<(), WriteFault>
+    ensures outcome { Outcome (value_means V.shows Display plain_spec place (option_copied value.entry))
+        (W.written out.old) (W.written out.new) (write_answered result) }
+{
+    write_plain(out, value, place)
 }
 
 /// Where text goes: to the writer, or into a buffer, for a list that is padded when it is whole.
@@ -275,7 +298,7 @@ impl<'s, W: TextWrite> Sink<'s, W> {
     {
         match self {
             Sink::Writer(out) => write_plain(&mut **out, value, place),
-            Sink::Buffer(buffer) => write_plain(&mut **buffer, value, place),
+            Sink::Buffer(buffer) => write_plain_apart(&mut **buffer, value, place),
         }
     }
 }

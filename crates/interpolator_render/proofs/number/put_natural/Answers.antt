@@ -3,4 +3,4 @@ use Rattle.interpolator_render.proofs.number.put_natural.Goals as goal
 
 pub returns-then-is_bare : goal.returns-then-is_bare
 returns-then-is_bare g c =
-    rw (c.is_bare.ensures c.if-is_bare.true false c.args.n) c.put_bare.ensures
+    rw (c.is_bare.ensures.number c.if-is_bare.true false c.args.n) c.put_bare.ensures

@@ -1,6 +1,5 @@
 use Rattle.std.proofs.Common.{◌∙◌, arith, false, sym, subst, IsAscii}
 use Rattle.interpolator_render.proofs.DigitLemmas.{pair_alone, digits_ascii}
-use Rattle.interpolator_render.proofs.DigitBufferLemmas.{few_decimals}
 use Rattle.interpolator_render.proofs.number.put_several.Goals as goal
 
 pub returns-then-n-lt100 : goal.returns-then-n-lt100
@@ -22,7 +21,3 @@ pub put_ascii-requires-then-n-lt1000 : goal.put_ascii-requires-then-n-lt1000
 put_ascii-requires-then-n-lt1000 g c =
     subst IsAscii (sym (c.ascii_str-then-n-lt1000.ensures ∙ c.three_digits-digits.ensures))
     (digits_ascii 10 false c.args.n (omega arith) (omega arith))
-
-pub put_decimal-requires : goal.put_decimal-requires
-put_decimal-requires g c = let few = few_decimals c.args.n c.ranges.n.fits in
-    rw c.new-buffer.ensures (omega arith)

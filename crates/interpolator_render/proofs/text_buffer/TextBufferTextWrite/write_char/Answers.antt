@@ -1,4 +1,4 @@
-use Rattle.std.proofs.Common.{◌≡◌, ◌<◌, ◌∙◌, ◌∷◌, [], true, sym, ap, subst, arith}
+use Rattle.std.proofs.Common.{◌≡◌, ◌<◌, ◌∙◌, true, sym, ap, subst, arith}
 use Rattle.std.proofs.Common.{chars, length, IsUtf8}
 use Rattle.std.specs.Char.{is_ascii}
 use Rattle.std.proofs.lemmas.Str.{IsUtf8-encode}
@@ -27,9 +27,3 @@ returns-then-self-len-clause-written c =
     appends_byte (as_writer c.args.self.now) row.items c.self.inside.len c.args.c
     c.self.inside.refused c.self.invariant (ap as_writer c.self.view_is) (omega arith)
     (ap chars (sym (ascii_alone c.args.c low)) ∙ chars-encode c.args.c c.ranges.c.0)
-
-pub returns-clause-written : goal.returns-clause-written
-returns-clause-written c =
-    let alone : chars c.encode_utf8.result.now ≡ c.args.c ∷ [] =
-    ap chars c.encode_utf8.ensures.value ∙ chars-encode c.args.c c.ranges.c.0 in
-    rw alone at c.write_str.ensures.written
