@@ -5,6 +5,8 @@ ghost use Rattle.std.specs.Str.{chars};
 ghost use Rattle.interpolator_syntax.specs.At.{placed_from};
 ghost use Rattle.interpolator_syntax.specs.Faults.{result_answer};
 ghost use Rattle.interpolator_syntax.specs.Nodes.{argument_content, target_value};
+ghost use Rattle.interpolator_syntax.specs.SpecTexts.{plain_spec};
+ghost use Rattle.interpolator_render.specs.declared.view.Trait.TheVariants.{Display};
 ghost use Rattle.interpolator_syntax.specs.declared.piece_kind.PieceKind.TheVariants.{Closed};
 ghost use Rattle.interpolator_eval.specs.Meaning.Meanings.{items_mean, text_alone};
 ghost use Rattle.interpolator_eval.specs.Meaning.CodeEnvironments.{environment_of};
@@ -17,7 +19,8 @@ ghost use Rattle.interpolator_pieces.specs.declared.piece.Form.TheVariants as fo
 ghost use Rattle.interpolator_pieces.specs.declared.piece.Piece.TheViews.{out-Piece};
 
 use interpolator_eval::{
-    Context, Environment, Formattable, Sink, WriteFault, chosen_list, write_slot, write_uncounted,
+    Context, Environment, Formattable, Sink, WriteFault, chosen_list, slot_of, write_slot,
+    write_uncounted,
 };
 use interpolator_pieces::{Form, Piece, Stored, name_of, require_closed, text_of, unboxed};
 use interpolator_render::{Spec, TextWrite, Trait, Value};
@@ -114,7 +117,61 @@ fn run_simple_list<'a, W: TextWrite, C: Context>(
     require_closed(piece)
 }
 
+/// Whether items in this form are displayed plainly.
+fn is_plain(form: &ItemForm) -> bool
+    ensures { result ≡ true → (form.now.slot ≡ Display) × (form.now.spec ≡ plain_spec) }
+{
+    match form.slot {
+        Trait::Display => form.spec == Spec::default(),
+        _ => false,
+    }
+}
+
+/// Writes an item in this form. The compiler knows whether it is a plain one, and then looks at no
+/// spec.
+#[inline(always)]
+fn put_item<'a, W: TextWrite, V: Value, const PLAIN: bool>(
+    sink: &mut Sink<'_, W>,
+    item: &'a Formattable<'a, V>,
+    form: &ItemForm,
+) -> Result<(), WriteFault>
+    requires plain { PLAIN ≡ true → (form.now.slot ≡ Display) × (form.now.spec ≡ plain_spec) }
+    ensures writes { Writes W.written (value_under V.shows form.now (slots_of item.now))
+        sink.old sink.new (write_answered result) }
+{
+    if PLAIN {
+        return sink.put_plain(slot_of(item, Trait::Display), form.end);
+    }
+    write_slot(sink, item, form.slot, &form.spec, form.end)
+}
+
 /// Writes items, each in this form, with this text, which is at a place, between each two.
+fn put_each<'a, W: TextWrite, V: Value, const PLAIN: bool>(
+    sink: &mut Sink<'_, W>,
+    items: &'a [Formattable<'a, V>],
+    form: &ItemForm,
+    place: usize,
+    join: &str,
+) -> Result<(), WriteFault>
+    requires plain { PLAIN ≡ true → (form.now.slot ≡ Display) × (form.now.spec ≡ plain_spec) }
+    requires fits { place + length join.now < 2 ^ 64 }
+    ensures writes { Writes W.written
+        (items_mean (text_alone (placed_from place (chars join.now))) (value_under V.shows form.now)
+        (map slots_of items.now))
+        sink.old sink.new (write_answered result) }
+{
+    let Some((first, rest)) = items.split_first() else {
+        return Ok(());
+    };
+    put_item::<W, V, PLAIN>(sink, first, form)?;
+    for item in rest {
+        sink.put_run(join, place)?;
+        put_item::<W, V, PLAIN>(sink, item, form)?;
+    }
+    Ok(())
+}
+
+/// As [`put_each`], for any form.
 fn put_items<'a, W: TextWrite, V: Value>(
     sink: &mut Sink<'_, W>,
     items: &'a [Formattable<'a, V>],
@@ -128,15 +185,11 @@ fn put_items<'a, W: TextWrite, V: Value>(
         (map slots_of items.now))
         sink.old sink.new (write_answered result) }
 {
-    let Some((first, rest)) = items.split_first() else {
-        return Ok(());
-    };
-    write_slot(sink, first, form.slot, &form.spec, form.end)?;
-    for item in rest {
-        sink.put_run(join, place)?;
-        write_slot(sink, item, form.slot, &form.spec, form.end)?;
+    if is_plain(form) {
+        put_each::<W, V, true>(sink, items, form, place, join)
+    } else {
+        put_each::<W, V, false>(sink, items, form, place, join)
     }
-    Ok(())
 }
 
 /// How the items of a list are written, if each is one value.

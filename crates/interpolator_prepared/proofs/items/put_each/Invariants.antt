@@ -8,7 +8,7 @@ use Rattle.interpolator_eval.specs.Meaning.Outcomes.{Outcome}
 use Rattle.interpolator_render.specs.Written.{Written}
 use Rattle.interpolator_eval.specs.Meaning.Sinks.{SameEnd, taken_by}
 use Rattle.interpolator_prepared.specs.Items.{value_under}
-use Rattle.interpolator_prepared.proofs.items.put_items.Given as goal
+use Rattle.interpolator_prepared.proofs.items.put_each.Given as goal
 
 -- what was written, and then what the items that are left mean, is what all of them mean
 abbrev pub invariant-loop-item : goal.invariant-loop-item
