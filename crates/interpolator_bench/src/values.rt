@@ -3,7 +3,7 @@
 use crate::failure::Failure;
 use crate::uses::{How, repeat_format};
 use interpolator::{
-    Formattable, Kind, Pairs, Spec, Template, TextBuffer, Trait, Value, View, render,
+    Decimal, Formattable, Kind, Pairs, Spec, Template, TextBuffer, Trait, Value, View, render,
 };
 use std::alloc::{AllocError, Global};
 
@@ -102,7 +102,7 @@ fn repeat_wide(
 fn repeat_decimals(alloc: Global, how: Option<How>, repeats: u32) -> Result<String, Failure> {
     let mut decimals = Vec::new(alloc);
     for digits in LONG_DIGITS {
-        decimals.push(View::Decimal {
+        decimals.push(Decimal {
             units: i128::from(digits),
             scale: 2,
         })?;
