@@ -1,6 +1,6 @@
 -- What an insertion into a map of names leaves, and what a loan of a value does.
 use Rattle.std.proofs.Common.{◌≡◌, ◌≢◌, refl, sym, ◌∙◌, ℕ, ◌+◌, List, Option, None, Some}
-use Rattle.std.proofs.Common.{MatchOption, true, false, arith, String, Global}
+use Rattle.std.proofs.Common.{true, false, arith, String, Global}
 use Rattle.std.specs.Borrow.{Bor, MutBor}
 use Rattle.std.specs.Option.{option_copied, option_copied_mut, is_some, OnSome}
 use Rattle.std.specs.Str.{bytes_eq, encode_utf8_all}
@@ -17,10 +17,7 @@ use Rattle.interpolator_eval.specs.declared.context_map.NameMap.{NameMap}
 -- two names with the same bytes are the same name
 other_bytes : (name other : List ℕ) → other ≢ name
     → bytes_eq (encode_utf8_all name) (encode_utf8_all other) ≡ false
-other_bytes name other differs = false_from_ne_true _
-    (λ e. differs
-    (sym (encodes_same name other
-    ((bytes_eq-Decides (encode_utf8_all name) (encode_utf8_all other)).0 e))))
+other_bytes name other differs = grind (arith, false_from_ne_true, encodes_same, bytes_eq-Decides)
 
 module _ {T : Type 0} where
   -- a change at the bytes of one name leaves the others
@@ -50,7 +47,7 @@ module _ {T : Type 0} where
       }
 
   pub same : (old new : NameMap T) → new.map ≡ old.map → IsSame old new
-  same old new e = record { finds = λ name. rw e refl; count = rw e refl }
+  same old new e = grind arith
 
   -- what an insertion under a name leaves
   pub put_in : (old new : NameMap T) (key : String Global) (name : List ℕ) (value : T)
@@ -70,8 +67,7 @@ module _ {T : Type 0} where
       (old : NameMap T) (name : List ℕ) (found : Option (Bor T))
       → option_copied found ≡ under old name
       → is_some found ≡ false → under old name ≡ None
-  absent_name old name None value e = sym value
-  absent_name old name (Some there) value e = cc
+  absent_name old name found value e = grind arith
 
   module _ (IsDefault : T → Type 0) where
     -- a name that was there
@@ -79,56 +75,22 @@ module _ {T : Type 0} where
         (old : NameMap T) (name : List ℕ) (found : Option (Bor T))
         → option_copied found ≡ under old name
         → is_some found ≡ true → HasAdded IsDefault old name old
-    kept old name None value e = cc
-    kept old name (Some there) value e =
-        rw (← value) (record { finds = λ other. refl; count = refl })
+    kept old name found value e = grind arith
 
     -- a name that was absent
     pub new_name :
         (old new : NameMap T) (name : List ℕ) (value : T) → under old name ≡ None → IsDefault value
         → HasPut old name value new → HasAdded IsDefault old name new
-    new_name old new name value e default put = rw e (value, (default, put))
-
-    put_cases :
-        (old added new : NameMap T) (name : List ℕ) (last : T) (was : Option T)
-        → under old name ≡ was
-        → MatchOption was ((value : T) × (IsDefault value × HasPut old name value added))
-        (λ _. IsSame old added)
-        → HasPut added name last new → HasPut old name last new
-    put_cases old added new name last None e put written = let first = put.1.1 in record {
-      here = written.here;
-      others = λ other differs. written.others other differs ∙ first.others other differs;
-      count =
-          let after : name_count new ≡ name_count added + 0 = written.count ∙ rw first.here refl in
-          let before : name_count added ≡ name_count old + 1 = first.count ∙ rw e refl in
-          rw e (omega (arith, after, before));
-    }
-    put_cases old added new name last (Some value) e as_before written = record {
-      here = written.here;
-      others = λ other differs. written.others other differs ∙ as_before.finds other;
-      count = written.count ∙ rw (as_before.finds name, as_before.count) refl;
-    }
+    new_name old new name value e default put = grind arith
 
     -- the last value after a loan of a name that was put in first
     pub put_after :
         (old added new : NameMap T) (name : List ℕ) (last : T) → HasAdded IsDefault old name added
         → HasPut added name last new → HasPut old name last new
-    put_after old added new name last adds written =
-        put_cases old added new name last (under old name) refl adds written
-
-    value_cases :
-        (old added : NameMap T) (name : List ℕ) (lent : T) (was : Option T) → under old name ≡ was
-        → MatchOption was ((value : T) × (IsDefault value × HasPut old name value added))
-        (λ _. IsSame old added)
-        → Some lent ≡ under added name → MatchOption was (IsDefault lent) (λ value. lent ≡ value)
-    value_cases old added name lent None e put found =
-        let same_value : lent ≡ put.0 = (let here = put.1.1.here in cc) in rw same_value put.1.0
-    value_cases old added name lent (Some value) e as_before found =
-        let there = as_before.finds name in cc
+    put_after old added new name last adds written = grind arith
 
     -- the value that is lent for a name that was put in first
     pub value_after :
         (old added : NameMap T) (name : List ℕ) (lent : T) → HasAdded IsDefault old name added
         → Some lent ≡ under added name → IsEntry IsDefault old name lent
-    value_after old added name lent adds found =
-        value_cases old added name lent (under old name) refl adds found
+    value_after old added name lent adds found = grind arith

@@ -1,19 +1,18 @@
 -- The first fault of stored pieces, from those of their parts.
-use Rattle.std.proofs.Common.{◌≡◌, ◌∙◌, refl, sym, ap, ℕ, true, List, [], ◌∷◌, ◌++◌}
-use Rattle.std.proofs.Common.{Option, Some, None, IsSome, option_map, Result, Ok, Err, IsErr}
+use Rattle.std.proofs.Common.{◌≡◌, ◌∙◌, refl, sym, ap, ℕ, true, List, [], ◌∷◌, ◌++◌, Option, Some}
+use Rattle.std.proofs.Common.{None, option_map, Result, Ok, Err, inl, inr}
 use Rattle.interpolator_syntax.specs.At.{At}
-use Rattle.interpolator_syntax.specs.Faults.{Fault, Answer, fault}
+use Rattle.interpolator_syntax.specs.Faults.{Fault, Answer, fault, result_answer, answer_of}
 use Rattle.interpolator_pieces.specs.NodeChecks.{fault_list, first_fault, form_fault}
 use Rattle.interpolator_pieces.specs.NodeChecks.{form_end_fault, stored_own_fault}
 use Rattle.interpolator_pieces.specs.NodeChecks.{stored_end_fault, visit_faults, text_faults}
 use Rattle.interpolator_pieces.specs.Visits.{Visit, enter, leave, Walks, text_visits}
 use Rattle.interpolator_pieces.specs.declared.walk.Level.{Level}
-use Rattle.interpolator_syntax.specs.Faults.{result_answer, answer_of}
 use Rattle.interpolator_syntax.specs.declared.error.Error.{Error}
-use Rattle.interpolator_pieces.proofs.VisitLemmas.{collects_first, text_tells}
+use Rattle.interpolator_pieces.proofs.VisitLemmas.{text_tells}
+use Rattle.std.specs.Prelude.{flat_map}
 use Rattle.interpolator_syntax.specs.Nodes.{Node, Content, node}
-use Rattle.interpolator_pieces.specs.Stored.{content_of, node_of}
-use Rattle.interpolator_pieces.specs.Stored.{branch_of, node_whole}
+use Rattle.interpolator_pieces.specs.Stored.{content_of, node_of, branch_of, node_whole}
 use Rattle.interpolator_pieces.specs.declared.piece.Form.{Form}
 use Rattle.interpolator_pieces.specs.declared.piece.Piece.{Piece}
 use Rattle.interpolator_pieces.specs.declared.piece.Piece.TheViews.{out-Piece}
@@ -73,19 +72,21 @@ module _ (bs : List ℕ) (x : Piece) (whole : node_whole (node_of bs x) ≡ true
 
 -- ---- the first fault of a text
 
-told_some : (answer : Result (Unit {0}) Error) → IsErr answer → IsSome (result_answer answer)
-told_some (Ok u) bad = absurd (cc)
-told_some (Err e) bad = refl
+module _ {V : Type 0} (step : V → Visit → V → Result (Unit {0}) Error → Type 0)
+    (tells : (old new : V) (x : Visit) (answer : Result (Unit {0}) Error) → step old x new answer
+    → result_answer answer ≡ told (visit_faults x)) where
+  visits_told : (old new : V) (xs : List Visit) (answer : Result (Unit {0}) Error)
+      → Walks step old xs new answer → result_answer answer ≡ told (flat_map visit_faults xs)
+  visits_told old new [] answer h = ap result_answer h.1
+  visits_told old new (x ∷ xs) (Ok u) (inl h) = let wrong = h.1 in absurd (cc)
+  visits_told old new (x ∷ xs) (Err e) (inl h) =
+      told_first (visit_faults x) (flat_map visit_faults xs) (answer_of e)
+      (tells old new x (Err e) h.0)
+  visits_told old new (x ∷ xs) answer (inr (mid, (s, h))) =
+      visits_told mid new xs answer h
+      ∙ told_after (visit_faults x) (flat_map visit_faults xs) (tells old mid x (Ok tt) s)
 
-pub text_told : {V : Type 0} (step : V → Visit → V → Result (Unit {0}) Error → Type 0)
-    → ((old new : V) (x : Visit) (answer : Result (Unit {0}) Error) → step old x new answer
-    → result_answer answer ≡ told (visit_faults x))
-    → (a : At) (old new : V) (answer : Result (Unit {0}) Error)
-    → Walks step old (text_visits a) new answer → result_answer answer ≡ told (text_faults a)
-text_told {V = V} step collects a old new answer h =
-    let keeps : V → Type 0 = λ v. Unit {0} in
-    (collects_first step visit_faults told result_answer keeps refl
-    (λ e xs ys some k. told_first xs ys (answer_of e) k) (λ xs ys k. told_after xs ys k)
-    (λ old new x answer k s. (tt, collects old new x answer s, told_some answer))
-    old new (text_visits a) answer tt h).0
-    ∙ ap told (text_tells a)
+  pub text_told : (a : At) (old new : V) (answer : Result (Unit {0}) Error)
+      → Walks step old (text_visits a) new answer → result_answer answer ≡ told (text_faults a)
+  text_told a old new answer h =
+      visits_told old new (text_visits a) answer h ∙ ap told (text_tells a)

@@ -1,12 +1,11 @@
 -- Within limits, writing what pieces mean costs no more than their cost.
-use Rattle.std.proofs.Common.{◌≡◌, refl, sym, subst, arith, ℕ, suc, ◌+◌, ◌-◌, ◌*◌, ◌≤◌, max}
-use Rattle.std.proofs.Common.{Bool, true, false, List, [], ◌∷◌, ◌++◌, length, Option, None, Some}
-use Rattle.std.proofs.Common.{length-append, ◌≢◌, ◌^◌}
+use Rattle.std.proofs.Common.{rules, ◌≡◌, refl, arith, ℕ, suc, ◌+◌, ◌-◌, ◌*◌, ◌≤◌, max, Bool, true}
+use Rattle.std.proofs.Common.{false, List, [], ◌∷◌, ◌++◌, length, Option, None, Some, length-append}
+use Rattle.std.proofs.Common.{◌≢◌, ◌^◌}
 use Rattle.std.proofs.lemmas.List.{length-map}
 use Rattle.std.specs.Prelude.{⊤}
 use Rattle.std.specs.Char.{len_utf8}
-use Rattle.interpolator_render.specs.Lengths.{HasAtMost, usize_count}
-use Rattle.interpolator_render.specs.Texts.{ViewText}
+use Rattle.interpolator_render.specs.Lengths.{usize_count}
 use Rattle.interpolator_render.specs.Views.{Shown}
 use Rattle.interpolator_render.specs.declared.view.Spec.{Spec}
 use Rattle.interpolator_render.specs.declared.view.Trait.{Trait}
@@ -21,29 +20,24 @@ use Rattle.interpolator_syntax.specs.Nodes.{nodes_and, as_forest, nodes, Content
 use Rattle.interpolator_syntax.specs.Nodes.{fault_content, Target, target_value, target_list}
 use Rattle.interpolator_syntax.specs.declared.piece_kind.PieceKind.{PieceKind}
 use Rattle.interpolator_syntax.specs.declared.range.Range.{Range}
-use Rattle.interpolator_eval.specs.Slots.{Slots, SlotsList, bare, listed, no_slots, slots_and}
+use Rattle.interpolator_eval.specs.Slots.{Slots, SlotsList, no_slots, slots_and}
 use Rattle.interpolator_eval.specs.Slots.{values_of, items, slot_at, slots_listed}
-use Rattle.interpolator_eval.specs.Meaning.AskedNames.{asked_names}
+use Rattle.interpolator_eval.specs.Meaning.AskedNames.{asked_names, context_names, content_names}
 use Rattle.interpolator_eval.specs.Meaning.Choices.{chosen_items}
 use Rattle.interpolator_eval.specs.Meaning.Environments.{Environment, slots_under, bind}
 use Rattle.interpolator_eval.specs.Meaning.Limits.{SlotWithin, ValuesWithin, SlotsWithin, ItemsWithin}
 use Rattle.interpolator_eval.specs.Meaning.Limits.{FoundWithin, IsWithin, most_chosen}
-use Rattle.interpolator_eval.specs.Meaning.Meanings.{Meaning, chain}
-use Rattle.interpolator_eval.specs.Meaning.Meanings.{view_means, value_means}
-use Rattle.interpolator_eval.specs.Meaning.Meanings.{items_after, items_mean, under_name}
-use Rattle.interpolator_eval.specs.Meaning.Meanings.{listed_means, means, padded_list}
+use Rattle.interpolator_eval.specs.Meaning.Meanings.{Meaning, chain, value_means, items_after}
+use Rattle.interpolator_eval.specs.Meaning.Meanings.{items_mean, under_name, listed_means, means}
+use Rattle.interpolator_eval.specs.Meaning.Meanings.{padded_list, and_closed, target_means}
+use Rattle.interpolator_eval.specs.Meaning.Meanings.{content_means, node_means, join_branch_means}
 use Rattle.interpolator_eval.proofs.MeaningLemmas.EqualLemmas.{bound_same}
 use Rattle.interpolator_pieces.specs.NodeCosts.{piece_cost, then_cost}
 use Rattle.interpolator_pieces.specs.NodeCosts.{items_cost, padded_cost, value_cost}
 use Rattle.interpolator_pieces.specs.NodeCosts.{content_cost, node_cost, item_branch_cost}
 use Rattle.interpolator_pieces.specs.NodeCosts.{join_branch_cost, forest_cost, text_cost}
-use Rattle.interpolator_eval.specs.Meaning.Meanings.{and_closed, target_means, content_means}
-use Rattle.interpolator_eval.specs.Meaning.Meanings.{node_means}
-use Rattle.interpolator_eval.specs.Meaning.Meanings.{join_branch_means}
 use Rattle.interpolator_eval.specs.Meaning.Meanings.{item_branch_means, forest_means}
-use Rattle.interpolator_eval.specs.Meaning.AskedNames.{context_names, content_names, node_asks}
-use Rattle.interpolator_eval.specs.Meaning.AskedNames.{branch_asks}
-use Rattle.interpolator_eval.specs.Meaning.AskedNames.{forest_asks}
+use Rattle.interpolator_eval.specs.Meaning.AskedNames.{node_asks, branch_asks, forest_asks}
 use Rattle.interpolator_eval.specs.Meaning.Work.{Work, no_work, piece_and, or_stop}
 use Rattle.interpolator_eval.specs.Meaning.Work.{work_after, items_work, chosen_work, listed_work}
 use Rattle.interpolator_eval.specs.Meaning.Work.{under_work, target_work, content_work, node_work}
@@ -63,7 +57,7 @@ pub record AtMost (m : Meaning) (w : Work) (c : Cost) : Type 0 where
 
 joined_at_most : (m k : Meaning) (w v : Work) (c d : Cost) → AtMost m w c → AtMost k v d
     → AtMost (chain m k) (or_stop m.fault w v) (then_cost c d)
-joined_at_most m k w v c d h j = grind (arith, length-append, h, j)
+joined_at_most m k w v c d h j = grind (arith, length-append)
 
 -- ---- items
 
@@ -137,8 +131,7 @@ module _ {X : Type 0} (shows : X → Trait → Spec → Shown) (limits : Limits)
 
   values_within : (tree : Slots X) → Slotted tree
       → ValuesWithin shows limits.text limits.items (values_of tree)
-  values_within (bare filled) h = h
-  values_within (listed filled others) h = h.0
+  values_within tree h = grind arith
 
   each_listed : (others : SlotsList X) → ItemsWithin shows limits.text limits.items others
       → Each Slotted (slots_listed others)
@@ -147,9 +140,7 @@ module _ {X : Type 0} (shows : X → Trait → Spec → Shown) (limits : Limits)
 
   items_within : (tree : Slots X) → Slotted tree → (ts : List (Slots X)) → items tree ≡ Some ts
       → Each Slotted ts × (length ts ≤ limits.items)
-  items_within (bare filled) h ts e = absurd (cc)
-  items_within (listed filled others) h ts e =
-      subst (λ xs. Each Slotted xs × (length xs ≤ limits.items)) (cc) (each_listed others h.2, h.1)
+  items_within tree h ts e = grind (arith, each_listed)
 
   -- ---- names
 
@@ -164,7 +155,7 @@ module _ {X : Type 0} (shows : X → Trait → Spec → Shown) (limits : Limits)
   within_bound e tree [] k h = tt
   within_bound e tree ([] ∷ names) k h = (k, within_bound e tree names k h.1)
   within_bound e tree ((c ∷ cs) ∷ names) k h =
-      (subst Found (sym (bound_same e tree c cs)) h.0, within_bound e tree names k h.1)
+      grind (arith, bound_same, within_bound e tree names k h.1)
 
   -- there the empty name is not among the names that are looked up
   abbrev Inner : (in_item : Bool) → Environment X → Type 0
@@ -173,20 +164,14 @@ module _ {X : Type 0} (shows : X → Trait → Spec → Shown) (limits : Limits)
 
   own_within : (in_item : Bool) (e : Environment X) (name : List ℕ) → Inner in_item e
       → Within e (context_names in_item name) → Found (slots_under e name)
-  own_within true e [] i h = i
-  own_within true e (c ∷ cs) i h = h.0
-  own_within false e name i h = h.0
+  own_within in_item e name i h = grind arith
 
   -- ---- one piece
-
-  view_at_most : (t : Trait) (q : ℕ) (v : ViewText) (most : ℕ) → HasAtMost most v
-      → AtMost (view_means t q v) (piece_and no_work) (piece_cost most)
-  view_at_most t q v most h = grind (arith, length-map, h)
 
   slot_at_most : (t : Trait) (spec : Spec) (q : ℕ) (o : Option X)
       → SlotWithin shows limits.text limits.items t o
       → AtMost (value_means shows t spec q o) (piece_and no_work) (value_cost limits t spec)
-  slot_at_most t spec q o h = grind (arith, view_at_most, view_within)
+  slot_at_most t spec q o h = grind (arith, length-map, view_within)
 
   module _ (join : Meaning) (joins : Work) (joined_by : Cost) (one : Cost)
       (join_costs : AtMost join joins joined_by) where
@@ -206,7 +191,7 @@ module _ {X : Type 0} (shows : X → Trait → Spec → Shown) (limits : Limits)
 
   closed_at_most : (kind : PieceKind) (q : ℕ) (m : Meaning) (w : Work) (c : Cost) → AtMost m w c
       → AtMost (and_closed kind q m) w c
-  closed_at_most kind q m w c a = grind (arith, length-append, a)
+  closed_at_most kind q m w c a = grind (arith, length-append)
 
   length-placed : (p : ℕ) (cs : List ℕ) → length (placed_from p cs) ≡ length cs
   length-placed p [] = refl
@@ -277,12 +262,11 @@ module _ {X : Type 0} (shows : X → Trait → Spec → Shown) (limits : Limits)
 
   pub text_at_most : (e : Environment X) (a : At) → Within e (asked_names a)
       → AtMost (means shows e a) (text_work shows e a) (text_cost limits a)
-  text_at_most e a h =
-      forest_at_most (as_forest (nodes a)) false e tt h
+  text_at_most e a h = search (rules, forest_at_most)
 
 -- a count that is reported below the greatest `usize` is exact
 pub told_exactly : (n count : ℕ) → n ≤ count → usize_count count ≢ 2 ^ 64 - 1 → n ≤ usize_count count
-told_exactly n count h k = omega (arith, h, k)
+told_exactly n count h k = grind arith
 
 -- ---- no memory
 
@@ -301,18 +285,16 @@ not_missing (Some (missing_value name place)) n = absurd (n name place refl)
 not_missing _ n = refl
 
 unheld_joined : (m k : Meaning) → Unheld m → Unheld k → Unheld (chain m k)
-unheld_joined m k h j = grind (arith)
+unheld_joined m k h j = grind arith
 
 module _ {A : Type 0} (join : Meaning) (item : A → Meaning) (joins : Unheld join)
     (each : (x : A) → Unheld (item x)) where
   unheld_after : (xs : List A) → Unheld (items_after join item xs)
   unheld_after [] = λ e. refl
-  unheld_after (x ∷ xs) =
-      unheld_joined _ _ joins (unheld_joined _ _ (each x) (unheld_after xs))
+  unheld_after (x ∷ xs) = grind (arith, unheld_joined, unheld_after xs)
 
   unheld_items : (xs : List A) → Unheld (items_mean join item xs)
-  unheld_items [] = λ e. refl
-  unheld_items (x ∷ xs) = unheld_joined _ _ (each x) (unheld_after xs)
+  unheld_items xs = grind (arith, unheld_joined, unheld_after)
 
 -- the items of a list are not held
 no_width : (width : Option ℕ) (c : Cost) → (then_cost (piece_cost 0) (padded_cost width c)).buffered ≡ 0
@@ -335,8 +317,7 @@ module _ {X : Type 0} (shows : X → Trait → Spec → Shown) (limits : Limits)
   unheld_held e kind (argument_content start name spec (target_value t) q) join item one joined_by h j i =
       grind (arith, unheld_slot)
   unheld_held e kind (argument_content start name spec (target_list range) q) join item one joined_by h j i =
-      let w = no_width spec.width (items_cost (most_chosen limits.items range) one joined_by) h in
-      grind (arith, unheld_items join (item q) (j (omega (arith, w.1))) (λ x. i q x (omega (arith, w.1))))
+      grind (arith, no_width, unheld_items)
 
   mutual
     unheld_node : (x : Node) (e : Environment X) → (node_cost limits x).buffered ≡ 0

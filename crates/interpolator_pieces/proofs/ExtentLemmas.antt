@@ -1,7 +1,6 @@
 -- How wide and how deep stored pieces are, each when it is entered, and those of a text.
-use Rattle.std.proofs.Common.{◌≡◌, ◌∙◌, refl, sym, ap, arith, rules, ℕ, ◌+◌, ◌<◌, true}
-use Rattle.std.proofs.Common.{nat_cmp, List}
-use Rattle.std.proofs.Common.{Option, Some, None, IsSome, Result, Ok, ◌^◌}
+use Rattle.std.proofs.Common.{◌≡◌, ◌∙◌, refl, sym, ap, arith, rules, ℕ, ◌+◌, ◌<◌, true, nat_cmp}
+use Rattle.std.proofs.Common.{List, Option, Some, None, IsSome, Result, Ok, ◌^◌}
 use Rattle.std.proofs.Math.Nat.{zero-max}
 use Rattle.std.specs.Ordering.{ord_max}
 use Rattle.std.specs.Prelude.{max}
@@ -14,8 +13,7 @@ use Rattle.interpolator_pieces.proofs.VisitLemmas.{gathers_greatest}
 use Rattle.interpolator_syntax.specs.At.{At}
 use Rattle.std.specs.Global.{Vec}
 use Rattle.interpolator_syntax.specs.Nodes.{Content}
-use Rattle.interpolator_pieces.specs.Stored.{node_of}
-use Rattle.interpolator_pieces.specs.Stored.{branch_of, node_whole}
+use Rattle.interpolator_pieces.specs.Stored.{node_of, branch_of, node_whole}
 use Rattle.interpolator_pieces.specs.declared.piece.Form.{Form}
 use Rattle.interpolator_pieces.specs.declared.piece.Piece.{Piece}
 use Rattle.interpolator_pieces.specs.declared.piece.Piece.TheViews.{out-Piece}

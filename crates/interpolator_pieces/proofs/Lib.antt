@@ -3,7 +3,6 @@ pub mod AllArgumentLemmas
 pub mod CheckLemmas
 pub mod CheckPlaceLemmas
 pub mod CollectLemmas
-pub mod CopyLemmas
 pub mod CostLawLemmas
 pub mod CostLemmas
 pub mod DepthLemmas
@@ -11,7 +10,6 @@ pub mod ExtentLemmas
 pub mod LineLemmas
 pub mod ParseLemmas
 pub mod PartLemmas
-pub mod PlaceLemmas
 pub mod RangeLemmas
 pub mod RunLemmas
 pub mod StoredLemmas

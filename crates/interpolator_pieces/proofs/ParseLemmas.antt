@@ -1,6 +1,6 @@
 -- What is stored of a text that is read: of one piece, of an argument, and of all that was read.
 use Rattle.std.proofs.Common.{◌≡◌, ℕ, suc, ◌+◌, ◌<◌, ◌≤◌, List, [], ◌∷◌, ◌++◌, length, arith, refl, ap}
-use Rattle.std.proofs.Common.{◌∙◌, sym, subst, Option, Some, None, Result, Ok, Err, append_assoc}
+use Rattle.std.proofs.Common.{◌∙◌, sym, Option, Some, None, Ok, Err, append_assoc}
 use Rattle.std.proofs.lemmas.List.{append-nil}
 use Rattle.std.specs.Prelude.{option_map}
 use Rattle.std.specs.Global.{Vec, Box}
@@ -8,18 +8,16 @@ use Rattle.std.specs.Str.{chars, IsUtf8}
 use Rattle.interpolator_render.specs.declared.view.Trait.{Trait}
 use Rattle.interpolator_render.specs.declared.view.Trait.TheVariants as traits
 use Rattle.interpolator_syntax.specs.At.{At, at, size, strip, after, all_after, outermost}
-use Rattle.interpolator_syntax.specs.Arguments.{Argument, argument, argument_at, asked_at}
+use Rattle.interpolator_syntax.specs.Arguments.{Argument, argument, argument_at}
 use Rattle.interpolator_syntax.specs.Arguments.{named_argument, request_of, kind_of_request, taken_read}
 use Rattle.interpolator_syntax.specs.Arguments.{argument_after, plain_argument, list_of}
 use Rattle.interpolator_syntax.specs.Classes.{close_brace, in_class, front_of}
 use Rattle.interpolator_syntax.specs.Faults.{Fault}
-use Rattle.interpolator_syntax.specs.Groups.{Group, group_of}
+use Rattle.interpolator_syntax.specs.Groups.{Group, group_of, inside}
 use Rattle.interpolator_syntax.specs.Pieces.{argument_from, argument_step, takes_all, broken}
-use Rattle.interpolator_syntax.specs.Readers.{on, give}
 use Rattle.interpolator_syntax.specs.SpecTexts.{Request, of_value, of_list, plain_spec}
 use Rattle.interpolator_syntax.specs.Tokens.{Token, literals, doubled, lone_close}
-use Rattle.interpolator_syntax.specs.Tokens.{argument as argument_token}
-use Rattle.interpolator_syntax.specs.Tokens.{first_token, past_token}
+use Rattle.interpolator_syntax.specs.Tokens.{argument as argument_token, first_token, past_token}
 use Rattle.interpolator_syntax.specs.declared.argument.ArgumentName.{ArgumentName}
 use Rattle.interpolator_syntax.specs.declared.argument.Request as code_request
 use Rattle.interpolator_syntax.specs.declared.argument.TakenArgument.{TakenArgument}
@@ -33,14 +31,12 @@ use Rattle.interpolator_syntax.proofs.LocalityLemmas.{takes_shorter, takes_reach
 use Rattle.interpolator_syntax.proofs.LongestLemmas.{at_same}
 use Rattle.interpolator_syntax.proofs.PieceLemmas.{read_alone}
 use Rattle.interpolator_syntax.proofs.ReaderLemmas.{argument_takes}
-use Rattle.interpolator_syntax.proofs.SizeLemmas.{GroupIfIn, KindIn, ListIn, argument_in}
-use Rattle.interpolator_syntax.specs.Groups.{inside}
+use Rattle.interpolator_syntax.proofs.SizeLemmas.{GroupIfIn, ListIn, argument_in}
 use Rattle.interpolator_syntax.specs.Nodes.{Node, node, Branch, no_branch, Content, text_content, argument_content}
 use Rattle.interpolator_syntax.specs.Nodes.{target_of, nodes, piece_node}
 use Rattle.interpolator_syntax.specs.Nodes.{token_node, group_branch, item_branch, join_branch}
 use Rattle.interpolator_pieces.specs.Reading.{taken_step, ending_kind, ending_rest}
-use Rattle.interpolator_pieces.specs.Stored.{Within, StandFor, Pushed, GroupStands}
-use Rattle.interpolator_pieces.specs.Stored.{part, name_part}
+use Rattle.interpolator_pieces.specs.Stored.{Within, StandFor, Pushed, GroupStands, part, name_part}
 use Rattle.interpolator_pieces.specs.Stored.{node_of, nodes_of, branch_of, stored_content, range_of}
 use Rattle.interpolator_pieces.specs.declared.piece.Form.TheVariants as forms
 use Rattle.interpolator_pieces.specs.declared.piece.Piece.{Piece}
@@ -52,7 +48,7 @@ use Rattle.interpolator_syntax.proofs.NodeLemmas.{nodes_first, nodes_none}
 use Rattle.interpolator_pieces.proofs.PartLemmas.{part_lies, name_lies}
 use Rattle.interpolator_pieces.proofs.StoredLemmas.{nodes_of_push}
 use Rattle.interpolator_pieces.proofs.WithinLemmas.{within_then, after_front, front_within}
-use Rattle.interpolator_pieces.proofs.WithinLemmas.{group_stands, name_within}
+use Rattle.interpolator_pieces.proofs.WithinLemmas.{group_stands, name_within, within_same}
 use Rattle.interpolator_syntax.proofs.TokenTextLemmas.{written_text, takes_token, scan_taken}
 
 -- ---- what follows all of a text
@@ -60,17 +56,12 @@ use Rattle.interpolator_syntax.proofs.TokenTextLemmas.{written_text, takes_token
 -- after as many bytes as the text has, none is left
 pub all_skipped : (p : ℕ) (bs rest : List ℕ) → IsUtf8 bs → length rest ≡ 0
     → stands (p + length bs) (chars rest) ≡ all_after (stands p (chars bs))
-all_skipped p bs rest u e = rw (chars_of_end rest e, size-chars bs u) refl
-
--- what follows all of a text also follows all of what is left of it
-ends_same : (a q : At) → Takes a q → all_after q ≡ all_after a
-ends_same a q t = at_same (takes_reaches _ a q t refl) refl
+all_skipped p bs rest u e = grind (arith, chars_of_end, size-chars)
 
 -- what follows an argument, by how it ends
 pub ending_is : (p : ℕ) (a : At) (x : Argument) (q : At) (o : Option At) → argument_at a ≡ Ok (x, q)
     → ending_rest q o ≡ (argument_step p a x q o).rest
-ending_is p a x q None e = ends_same a q (argument_takes a x q e)
-ending_is p a x q (Some rest) e = refl
+ending_is p a x q o e = grind (arith, at_same, takes_reaches, argument_takes)
 
 -- ---- texts
 
@@ -92,18 +83,18 @@ module _ (bs : List ℕ) (u : IsUtf8 bs) (a : At) (w : Within (outermost (chars 
       node a.place end kind (option_map (λ cs. text_content a.place cs) (part bs a.place to))
       no_branch no_branch
 
-  literals_node : (cs : List ℕ) (b : At) → first_token a ≡ Some (literals cs, b)
+  pub literals_node : (cs : List ℕ) (b : At) → first_token a ≡ Some (literals cs, b)
       → TextNode b.place Literal b.place ≡ token_node nodes a.place (literals cs) b
   literals_node cs b e =
       rw (written_part (literals cs) b b.place e (takes_token a (literals cs, b) e).size) refl
 
-  doubled_node : (c : ℕ) (b : At) → first_token a ≡ Some (doubled c, b)
+  pub doubled_node : (c : ℕ) (b : At) → first_token a ≡ Some (doubled c, b)
       → TextNode b.place Doubled (a.place + 1) ≡ token_node nodes a.place (doubled c) b
   doubled_node c b e =
       let one = (takes_token a (doubled c, b) e).size.0 in
       rw (written_part (doubled c) b (a.place + 1) e (omega (arith, one))) refl
 
-  lone_node : (b : At) → first_token a ≡ Some (lone_close, b)
+  pub lone_node : (b : At) → first_token a ≡ Some (lone_close, b)
       → TextNode b.place LoneClose b.place ≡ token_node nodes a.place lone_close b
   lone_node b e =
       let one = (takes_token a (lone_close, b) e).size in
@@ -123,17 +114,9 @@ module _ (a : At) where
   abbrev Named : Request → Argument
   Named asked = argument (front_of (in_class Name) From.text) From.place asked
 
-  by_asked :
-      (x : Argument) (q : At) (r : Result (Request × At) Fault)
-      → on r (λ asked. give (Named asked)) ≡ Ok (x, q) → NameStands a x
-  by_asked x q (Ok v) h =
-      let same : (Named v.0, v.1) ≡ (x, q) = cc in
-      subst (NameStands a) (ap (λ (r : Argument × At). r.0) same) (record { within = name_within a; after = omega arith })
-  by_asked x q (Err f) h = absurd (err_ok h)
-
   name_stands : (x : Argument) (q : At) → argument_at a ≡ Ok (x, q) → NameStands a x
   unfolding argument_at
-  name_stands x q e = by_asked x q (asked_at a.place (after (in_class Name) From)) e
+  name_stands x q e = grind (arith, name_within, err_ok)
 
 -- the node of an argument, by what it holds and by its groups
 argument_stands :
@@ -155,7 +138,7 @@ module _ (place : ℕ) (b : At) (n : ArgumentName) (x : code_request.Request) (e
   taken = named_argument n (request_of x)
 
   begins_after : b.place ≡ suc place
-  begins_after = omega (arith, start)
+  begins_after = grind arith
 
   module _ (bs : List ℕ) (u : IsUtf8 bs) (w : Within (outermost (chars bs)) b) where
     taken_name : name_part bs place n.place n.end.place ≡ Some taken.name
@@ -164,16 +147,11 @@ module _ (place : ℕ) (b : At) (n : ArgumentName) (x : code_request.Request) (e
         name_lies bs place n.place taken.name n.end.place u (within_then _ b _ w name.within)
         name_end (omega (arith, name.after, start))
 
-    value_held : (slot : Trait) → kind_of_request x ≡ of_value slot
-        → stored_content bs place n.place n.end.place end.place x.spec (forms.Value slot)
-        ≡ Some (argument_content b.place taken.name taken.spec (target_of taken.kind) end.place)
-    value_held slot k = rw (taken_name, k, begins_after) refl
-
     list_held : (range : Option (Box Range)) → range_of range ≡ x.list.range
         → kind_of_request x ≡ of_list (list_of x.list)
         → stored_content bs place n.place n.end.place end.place x.spec (forms.List range)
         ≡ Some (argument_content b.place taken.name taken.spec (target_of taken.kind) end.place)
-    list_held range r k = rw (taken_name, k, begins_after, r) refl
+    list_held range r k = grind (arith, taken_name, begins_after)
 
     group_is : (o : Option Group) (xs : Option (Vec Piece)) → GroupIfIn o b → GroupStands xs o
         → branch_of bs xs ≡ group_branch nodes o
@@ -181,18 +159,17 @@ module _ (place : ℕ) (b : At) (n : ArgumentName) (x : code_request.Request) (e
     group_is (Some g) xs h k = k bs u (within_then _ b (inside g) w (group_stands b g h))
 
     groups_in : kind_of_request x ≡ of_list (list_of x.list) → ListIn (list_of x.list) b
-    groups_in k = subst (λ kind. KindIn kind b) k (argument_in b taken (at end) read)
+    groups_in k = grind (arith, argument_in)
 
   -- the argument from its brace on
   step_is : argument_from b.place b
       ≡ argument_step b.place b taken (at end) (strip close_brace (at end))
   unfolding argument_from
-  step_is = rw read refl
+  step_is = grind arith
 
   pub rest_is : (rest : At) → rest ≡ ending_rest (at end) (strip close_brace (at end))
       → rest ≡ (argument_from b.place b).rest
-  rest_is rest e =
-      rw step_is (e ∙ ending_is b.place b taken (at end) (strip close_brace (at end)) read)
+  rest_is rest e = grind (arith, step_is, ending_is)
 
   module _ (old new : List Piece) (piece : Piece) (rest : At) (kind : told.PieceKind)
       (ends : rest ≡ ending_rest (at end) (strip close_brace (at end)))
@@ -207,9 +184,7 @@ module _ (place : ℕ) (b : At) (n : ArgumentName) (x : code_request.Request) (e
         → held ≡ Some (argument_content b.place taken.name taken.spec (target_of taken.kind) end.place)
         → item ≡ item_branch nodes taken.kind → join ≡ join_branch nodes taken.kind
         → node place rest.place kind held item join ≡ Taken
-    by_parts held item join h i j =
-        rw (is, ends ∙ ending_is b.place b taken (at end) (strip close_brace (at end)) read)
-        (argument_stands place b taken (at end) (strip close_brace (at end)) held item join h i j)
+    by_parts held item join h i j = grind (arith, ending_is)
 
     pub value_pushed :
         (slot : Trait) → kind_of_request x ≡ of_value slot
@@ -217,14 +192,7 @@ module _ (place : ℕ) (b : At) (n : ArgumentName) (x : code_request.Request) (e
         ≡ node place rest.place kind (stored_content bs place n.place n.end.place end.place x.spec
         (forms.Value slot)) no_branch no_branch)
         → Pushed old new (token_node nodes place argument_token b) b
-    value_pushed slot k stored =
-        rw step_is (record {
-          piece = piece;
-          added = added;
-          stands = λ bs u w.
-              stored bs
-              ∙ by_parts _ _ _ (value_held bs u w slot k) (rw k refl) (rw k refl);
-        })
+    value_pushed slot k stored = grind (arith, step_is, stands, by_parts, taken_name, begins_after)
 
     pub list_pushed :
         (range : Option (Box Range)) (item join : Option (Vec Piece))
@@ -260,10 +228,10 @@ module _ (place : ℕ) (b : At) (n : ArgumentName) (rest : At)
     (named : argument_at b ≡ argument_after b.place (plain_argument n) (at n.end))
     (closed : Some rest ≡ strip close_brace (at n.end)) where
   alone_ends : rest ≡ ending_rest (at n.end) (strip close_brace (at n.end))
-  alone_ends = rw (← closed) refl
+  alone_ends = grind arith
 
   alone_closed : Closed ≡ ending_kind (strip close_brace (at n.end))
-  alone_closed = rw (← closed) refl
+  alone_closed = grind arith
 
   module _ (start : b.place ≡ place + 1)
       (name_end : n.end.place ≡ n.place + size (chars n.name.now)) where
@@ -286,20 +254,19 @@ module _ (place : ℕ) (b : At) (n : ArgumentName) (rest : At)
 pub list_within : (b : At) (n : ArgumentName) (x : code_request.Request) (end : At)
     → argument_at b ≡ Ok (named_argument n (request_of x), end)
     → kind_of_request x ≡ of_list (list_of x.list) → list_size (list_of x.list) ≤ length b.text
-list_within b n x end read k =
-    rw k at (groups_within b (named_argument n (request_of x)) end read)
+list_within b n x end read k = grind (arith, groups_within)
 
 -- the argument from its brace on, if it was read
 pub taken_is : (b : At) (t : TakenArgument) → taken_read (Ok t) ≡ argument_at b
     → option_map at t.rest ≡ strip close_brace (at t.end) → argument_from b.place b ≡ taken_step b t
 unfolding argument_from
-taken_is b t e r = rw (← e, ← r) refl
+taken_is b t e r = grind arith
 
 -- and if it is broken
 pub broken_is : (b : At) (f : Fault) → Err f ≡ argument_at b
     → argument_from b.place b ≡ takes_all b.place b (broken f)
 unfolding argument_from
-broken_is b f e = rw (← e) refl
+broken_is b f e = grind arith
 
 -- ---- all that was read
 
@@ -314,7 +281,7 @@ pub record Reading (text : At) (stored : List Piece) (here : At) : Type 0 where
 module _ (text a : At) (stored : List Piece) (reading : Reading text stored a) where
   -- what is left is no longer than the text
   pub left_within : length a.text ≤ length text.text
-  left_within = takes_shorter text a reading.taken
+  left_within = grind (arith, takes_shorter)
 
   -- a token of the scan, whose text begins at c, is stored
   pub reads_on :
@@ -335,43 +302,17 @@ module _ (text a : At) (stored : List Piece) (reading : Reading text stored a) w
         ∙ reading.so_far bs u w;
   }
 
+  -- a text that the scan hands on is stored as a piece that is written as it is
+  pub text_reads :
+      (x : Token) (b : At) (new : List Piece) (piece : Piece) → first_token a ≡ Some (x, b)
+      → b ≡ past_token x b → new ≡ stored ++ (piece ∷ [])
+      → ((bs : List ℕ) → IsUtf8 bs → Within (outermost (chars bs)) a
+      → node_of bs piece ≡ token_node nodes a.place x b)
+      → Reading text new b
+  text_reads x b new piece e past added stands =
+      reads_on b x a b new e (within_same a)
+      (record { piece = piece; added = added; stands = stands }) past
+
   -- nothing is left
   pub all_read : first_token a ≡ None → StandFor stored text
-  all_read e = λ bs u w.
-      sym (append-nil (nodes_of bs stored))
-      ∙ ap (λ ns. nodes_of bs stored ++ ns) (sym (nodes_none a e)) ∙ reading.so_far bs u w
-
--- a text that the scan hands on is stored as a piece that is written as it is
-module _ (a b : At) (old new : List Piece) (piece : Piece) (added : new ≡ old ++ (piece ∷ [])) where
-  abbrev Stores : (end : ℕ) → told.PieceKind → (to : ℕ) → Type 0
-  Stores end kind to =
-      (bs : List ℕ) → node_of bs piece
-      ≡ node a.place end kind (option_map (λ cs. text_content a.place cs) (part bs a.place to))
-      no_branch no_branch
-
-  pub literals_pushed :
-      (cs : List ℕ) → first_token a ≡ Some (literals cs, b) → Stores b.place Literal b.place
-      → Pushed old new (token_node nodes a.place (literals cs) b) a
-  literals_pushed cs e n = record {
-    piece = piece;
-    added = added;
-    stands = λ bs u w. n bs ∙ literals_node bs u a w cs b e;
-  }
-
-  pub doubled_pushed :
-      (c : ℕ) → first_token a ≡ Some (doubled c, b) → Stores b.place Doubled (a.place + 1)
-      → Pushed old new (token_node nodes a.place (doubled c) b) a
-  doubled_pushed c e n = record {
-    piece = piece;
-    added = added;
-    stands = λ bs u w. n bs ∙ doubled_node bs u a w c b e;
-  }
-
-  pub lone_pushed :
-      first_token a ≡ Some (lone_close, b) → Stores b.place LoneClose b.place
-      → Pushed old new (token_node nodes a.place lone_close b) a
-  lone_pushed e n = record {
-    piece = piece;
-    added = added;
-    stands = λ bs u w. n bs ∙ lone_node bs u a w b e;
-  }
+  all_read e = grind (arith, append-nil, nodes_none)

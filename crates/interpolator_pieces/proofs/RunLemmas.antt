@@ -1,11 +1,10 @@
 -- What writing stored pieces needs to know of them: where their text is cut from, what they hold,
 -- and the outcome of pieces, from that of the first and that of the rest.
-use Rattle.std.proofs.Common.{◌≡◌, ◌≢◌, ◌∙◌, refl, sym, add-one, arith, ℕ, suc, ◌+◌, ◌-◌, ◌≤◌}
-use Rattle.std.proofs.Common.{Bool, true, false, not, ◌&&◌, nat_lt, List, [], ◌∷◌, take}
-use Rattle.std.proofs.Common.{ap, drop, get_or, Option, None, Some, IsSome, option_map}
+use Rattle.std.proofs.Common.{◌≡◌, ◌≢◌, refl, add-one, arith, ℕ, suc, ◌+◌, ◌-◌, ◌≤◌}
+use Rattle.std.proofs.Common.{true, false, nat_lt, List, [], ◌∷◌, take}
+use Rattle.std.proofs.Common.{drop, get_or, Option, None, Some, IsSome, option_map}
 use Rattle.std.proofs.lemmas.List.{drop-map}
 use Rattle.std.specs.Global.{Box}
-use Rattle.std.specs.Prelude.{if◌then◌else◌, is_some}
 use Rattle.std.specs.Str.{chars, IsUtf8, IsCharBoundary}
 use Rattle.interpolator_render.specs.declared.view.Trait.{Trait}
 use Rattle.interpolator_render.specs.declared.view.Trait.TheVariants as traits
@@ -18,21 +17,18 @@ use Rattle.interpolator_syntax.specs.SpecTexts.{plain_spec}
 use Rattle.interpolator_syntax.specs.declared.argument_fault.ArgumentFault.{ArgumentFault}
 use Rattle.interpolator_syntax.specs.declared.range.Range.{Range}
 use Rattle.interpolator_eval.specs.Meaning.Environments.{Environment, slots_under}
-use Rattle.interpolator_eval.specs.Meaning.Meanings.{Meaning, text_alone, under_name}
-use Rattle.interpolator_eval.specs.Meaning.Meanings.{means}
+use Rattle.interpolator_eval.specs.Meaning.Meanings.{Meaning, text_alone, under_name, means}
+use Rattle.interpolator_eval.specs.Meaning.Meanings.{and_closed, target_means, content_means}
 use Rattle.interpolator_eval.specs.Meaning.Outcomes.{Outcome}
 use Rattle.interpolator_eval.specs.Meaning.Sinks.{Writes}
 use Rattle.interpolator_eval.specs.Meaning.Work.{forest_work, node_work, text_work}
-use Rattle.interpolator_syntax.specs.Nodes.{node, Branch}
 use Rattle.interpolator_syntax.specs.Nodes.{Content, text_content, argument_content, fault_content, Target}
 use Rattle.interpolator_syntax.specs.Nodes.{target_value, target_list, as_forest, nodes}
-use Rattle.interpolator_eval.specs.Meaning.Meanings.{and_closed, target_means, content_means}
 use Rattle.interpolator_eval.specs.Meaning.Meanings.{forest_means}
 use Rattle.interpolator_eval.specs.Meaning.Sources.{FirstAsks, asks_list, first_holds, holds_list}
 use Rattle.interpolator_eval.specs.Meaning.Sources.{unlisted_means}
-use Rattle.interpolator_pieces.specs.Stored.{may_cut, part, range_of, content_of, stored_content}
-use Rattle.interpolator_pieces.specs.Stored.{branch_of, node_of, nodes_of, StandFor}
-use Rattle.interpolator_pieces.specs.Stored.{forest_whole, node_whole}
+use Rattle.interpolator_pieces.specs.Stored.{part, range_of, content_of, node_of, nodes_of}
+use Rattle.interpolator_pieces.specs.Stored.{StandFor, forest_whole, node_whole}
 use Rattle.interpolator_pieces.specs.StoredLists.{begins_list, is_list_form, stored_list}
 use Rattle.interpolator_pieces.specs.StoredLists.{stored_rest}
 use Rattle.interpolator_pieces.specs.declared.piece.Form.{Form}
@@ -45,25 +41,14 @@ use Rattle.interpolator_pieces.specs.declared.piece.Form.TheVariants as forms
 use Rattle.interpolator_pieces.specs.declared.piece.Piece.{Piece}
 use Rattle.interpolator_pieces.specs.declared.piece.Piece.TheViews.{out-Piece}
 use Rattle.interpolator_syntax.specs.declared.piece_kind.PieceKind.{PieceKind}
-use Rattle.interpolator_syntax.specs.declared.piece_kind.PieceKind.TheVariants as kinds
 use Rattle.interpolator_eval.proofs.MeaningLemmas.SinkLemmas.{and_then, fault_first, nothing_done, ended}
 use Rattle.interpolator_eval.proofs.MeaningLemmas.SinkLemmas.{same_end}
-use Rattle.interpolator_pieces.proofs.StoredLemmas.{node_of_out}
+use Rattle.interpolator_pieces.proofs.StoredLemmas.{node_of_out, by_form}
 use Rattle.interpolator_pieces.proofs.WholeLemmas.{nodes_whole}
 use Rattle.interpolator_pieces.proofs.WholePieceLemmas.{both, fits_text, pieces_whole}
 use Rattle.interpolator_pieces.proofs.WithinLemmas.{within_same}
 
 -- ---- where a text may be cut
-
-cut_boundary : (bs : List ℕ) (i : ℕ) → may_cut bs i ≡ true → IsCharBoundary bs i
-cut_boundary bs i h = grind arith
-
-all_three : (a b c : Bool) (x : List ℕ) → IsSome (if a && (b && c) then Some x else None)
-    → (a ≡ true) × (b ≡ true) × (c ≡ true)
-all_three true true true x h = (refl, refl, refl)
-all_three true true false x h = absurd (cc)
-all_three true false c x h = absurd (cc)
-all_three false b c x h = absurd (cc)
 
 -- the text may be cut at both ends of a part, and these are in order
 pub record Cut (bs : List ℕ) (from to : ℕ) : Type 0 where
@@ -74,47 +59,39 @@ pub record Cut (bs : List ℕ) (from to : ℕ) : Type 0 where
 
 pub cut_of : (bs : List ℕ) (from to : ℕ) → IsSome (part bs from to) → Cut bs from to
 unfolding part
-cut_of bs from to h =
-    let (a, b, c) = all_three (not (nat_lt to from)) (may_cut bs from) (may_cut bs to) _ h in
-    record {
-      order = grind arith;
-      first = cut_boundary bs from b;
-      last = cut_boundary bs to c;
-      cut = rw (a, b, c) refl;
-    }
+cut_of bs from to h = grind (arith, nat_lt)
 
 -- ---- what a stored piece holds that fits its text
 
 some_of : {A B : Type 0} (f : A → B) (o : Option A) → IsSome (option_map f o) → IsSome o
-some_of f None h = h
-some_of f (Some x) h = refl
+some_of f o h = grind arith
 
 module _ (bs : List ℕ) (x : Piece) where
   -- a text that is written
   pub text_fits : (out-Piece x).form ≡ forms.Text → IsSome (content_of bs x)
       → IsSome (stored_part bs x)
-  text_fits form h = some_of _ (stored_part bs x) (rw form at h)
+  text_fits form h = grind (arith, some_of)
 
   -- a name, of each kind of argument
   pub name_fits : (out-Piece x).form ≡ forms.Plain → IsSome (content_of bs x)
       → IsSome (stored_name bs x)
-  name_fits form h = some_of _ (stored_name bs x) (rw form at h)
+  name_fits form h = grind (arith, some_of)
 
   pub value_fits : (t : Trait) → (out-Piece x).form ≡ forms.Value t → IsSome (content_of bs x)
       → IsSome (stored_name bs x)
-  value_fits t form h = some_of _ (stored_name bs x) (rw form at h)
+  value_fits t form h = grind (arith, some_of)
 
   pub list_fits : (range : Option (Box Range)) → (out-Piece x).form ≡ forms.List range
       → IsSome (content_of bs x) → IsSome (stored_name bs x)
-  list_fits range form h = some_of _ (stored_name bs x) (rw form at h)
+  list_fits range form h = grind (arith, some_of)
 
   pub text_held : (cs : List ℕ) → (out-Piece x).form ≡ forms.Text → Some cs ≡ stored_part bs x
       → content_of bs x ≡ Some (text_content (out-Piece x).from cs)
-  text_held cs form h = rw (form, ← h) refl
+  text_held cs form h = grind arith
 
   pub broken_held : (f : Box ArgumentFault) → (out-Piece x).form ≡ forms.Broken f
       → content_of bs x ≡ Some (fault_content (argument_fault_of f.value))
-  broken_held f form = rw form refl
+  broken_held f form = grind arith
 
   module _ (start : ℕ) (name : List ℕ) (first : start ≡ (out-Piece x).place + 1)
       (is : Some name ≡ stored_name bs x) where
@@ -122,106 +99,50 @@ module _ (bs : List ℕ) (x : Piece) where
     Valued spec target = Some (argument_content start name spec target (out-Piece x).spec_end)
 
     begins : suc (out-Piece x).place ≡ start
-    begins = sym (first ∙ add-one (out-Piece x).place)
+    begins = grind (arith, add-one)
 
     pub name_held : (out-Piece x).form ≡ forms.Plain
         → content_of bs x ≡ Valued plain_spec (target_value traits.Display)
-    name_held form = rw (form, ← is, begins) refl
+    name_held form = grind (arith, begins)
 
     pub value_held : (t : Trait) → (out-Piece x).form ≡ forms.Value t
         → content_of bs x ≡ Valued (out-Piece x).spec (target_value t)
-    value_held t form = rw (form, ← is, begins) refl
+    value_held t form = grind (arith, begins)
 
     pub list_held : (range : Option (Box Range)) → (out-Piece x).form ≡ forms.List range
         → content_of bs x ≡ Valued (out-Piece x).spec (target_list (range_of range))
-    list_held range form = rw (form, ← is, begins) refl
+    list_held range form = grind (arith, begins)
 
 -- ---- what asks for a list
 
-mapped_holds : {A : Type 0} (f : A → Content) (o : Option A) (b : Bool) → IsSome (option_map f o)
-    → ((a : A) → holds_list (Some (f a)) ≡ b) → holds_list (option_map f o) ≡ b
-mapped_holds f None b some h = absurd (cc)
-mapped_holds f (Some a) b some h = h a
+listed_form : (f : Form) → is_list_form f ≡ true
+    → (range : Option (Box Range)) × (f ≡ forms.List range)
+listed_form (forms.List range) h = (range, refl)
+listed_form _ h = absurd (cc)
 
 module _ (bs : List ℕ) (x : Piece) where
-  asks_held : (h : Content) → content_of bs x ≡ Some h
-      → asks_list (node_of bs x) ≡ holds_list (Some h)
-  asks_held h is = rw (node_of_out bs x, is) refl
-
   -- a piece that fits its text asks for a list exactly if its form is a list
   pub asks_form : IsSome (content_of bs x)
       → asks_list (node_of bs x) ≡ is_list_form (out-Piece x).form
-  asks_form some = rw (node_of_out bs x) (by_form (out-Piece x).form some)
-    where
-      by_form : (f : Form)
-          → IsSome (stored_content bs (out-Piece x).place (out-Piece x).from (out-Piece x).to
-          (out-Piece x).spec_end (out-Piece x).spec f)
-          → holds_list (stored_content bs (out-Piece x).place (out-Piece x).from (out-Piece x).to
-          (out-Piece x).spec_end (out-Piece x).spec f)
-          ≡ is_list_form f
-      by_form forms.Text some = mapped_holds _ _ _ some (λ cs. refl)
-      by_form forms.Plain some = mapped_holds _ _ _ some (λ name. refl)
-      by_form (forms.Value t) some = mapped_holds _ _ _ some (λ name. refl)
-      by_form (forms.List range) some = mapped_holds _ _ _ some (λ name. refl)
-      by_form (forms.Broken f) some = refl
+  asks_form some = grind (arith, node_of_out, by_form)
 
   -- the list that it asks for, and what follows it
   pub first_list : (xs : List Piece) → is_list_form (out-Piece x).form ≡ true → IsSome (content_of bs x)
       → FirstAsks (stored_list bs (x ∷ xs)) (stored_rest bs (x ∷ xs))
       (as_forest (nodes_of bs (x ∷ xs)))
-  first_list xs listed some = by_form (out-Piece x).form refl
-    where
-      by_name : (range : Option (Box Range)) → (out-Piece x).form ≡ forms.List range
-          → (o : Option (List ℕ)) → stored_name bs x ≡ o
-          → FirstAsks (stored_list bs (x ∷ xs)) (stored_rest bs (x ∷ xs))
-          (as_forest (nodes_of bs (x ∷ xs)))
-      by_name range form None none = absurd (let fits = list_fits bs x range form some in cc)
-      by_name range form (Some name) is = record {
-        place = (out-Piece x).place;
-        last = (out-Piece x).end;
-        kind = (out-Piece x).kind;
-        rest = as_forest (nodes_of bs xs);
-        first = rw (node_of_out bs x, form, is) refl;
-        closing = refl;
-      }
-
-      by_form : (f : Form) → (out-Piece x).form ≡ f
-          → FirstAsks (stored_list bs (x ∷ xs)) (stored_rest bs (x ∷ xs))
-          (as_forest (nodes_of bs (x ∷ xs)))
-      by_form forms.Text form = absurd (let h = rw form at listed in cc)
-      by_form forms.Plain form = absurd (let h = rw form at listed in cc)
-      by_form (forms.Value t) form = absurd (let h = rw form at listed in cc)
-      by_form (forms.List range) form = by_name range form (stored_name bs x) refl
-      by_form (forms.Broken f) form = absurd (let h = rw form at listed in cc)
+  first_list xs listed some = grind (arith, list_fits, node_of_out)
 
   -- it counts as at least one piece
   pub piece_counts :
       {X : Type 0} (shows : X → Trait → Spec → Shown) (e : Environment X) → IsSome (content_of bs x)
       → 1 ≤ (node_work shows e (node_of bs x)).pieces
-  piece_counts shows e some =
-      let y = out-Piece x in
-      rw (node_of_out bs x) (by_content (content_of bs x) some y.place y.end y.kind
-      (branch_of bs y.item) (branch_of bs y.join))
-    where
-      by_content : (o : Option Content) → IsSome o → (place end : ℕ) (kind : PieceKind)
-          (item join : Branch) → 1 ≤ (node_work shows e (node place end kind o item join)).pieces
-      by_content None some place end kind item join = absurd (cc)
-      by_content (Some (text_content from cs)) some place end kind item join = omega arith
-      by_content (Some (argument_content start name spec target q)) some place end kind item join =
-          omega arith
-      by_content (Some (fault_content f)) some place end kind item join = omega arith
+  piece_counts shows e some = grind (arith, node_of_out)
 
 -- the first of pieces that fit their text holds something
 pub pieces_hold : (bs : List ℕ) (xs : List Piece) → forest_whole (as_forest (nodes_of bs xs)) ≡ true
     → xs ≢ [] → first_holds (as_forest (nodes_of bs xs)) ≡ true
 pieces_hold bs [] whole some = absurd (some refl)
-pieces_hold bs (x ∷ xs) whole some =
-    let fits = (both (node_whole (node_of bs x)) (forest_whole (as_forest (nodes_of bs xs))) whole).0 in
-    rw (node_of_out bs x) (by_content (content_of bs x) (fits_text bs x fits).held)
-  where
-    by_content : (o : Option Content) → IsSome o → is_some o ≡ true
-    by_content None some = absurd (cc)
-    by_content (Some held) some = refl
+pieces_hold bs (x ∷ xs) whole some = grind (arith, both, node_of_out, fits_text)
 
 -- the first piece, if pieces begin with a list
 pub record FirstPiece (bs : List ℕ) (x : Piece) : Type 0 where
@@ -231,21 +152,7 @@ pub record FirstPiece (bs : List ℕ) (x : Piece) : Type 0 where
 pub first_piece :
     (bs : List ℕ) (xs : List Piece) (x : Piece) → begins_list xs ≡ true → x ≡ get_or xs 0 x
     → forest_whole (as_forest (nodes_of bs xs)) ≡ true → FirstPiece bs x
-first_piece bs [] x listed is whole = absurd (cc)
-first_piece bs (y ∷ ys) x listed is whole =
-    let fits = (both (node_whole (node_of bs y)) (forest_whole (as_forest (nodes_of bs ys))) whole).0 in
-    rw is (record {
-      whole = fits;
-      name = by_form (out-Piece y).form refl listed (fits_text bs y fits).held;
-    })
-  where
-    by_form : (f : Form) → (out-Piece y).form ≡ f → is_list_form f ≡ true → IsSome (content_of bs y)
-        → IsSome (stored_name bs y)
-    by_form forms.Text form listed some = absurd (cc)
-    by_form forms.Plain form listed some = absurd (cc)
-    by_form (forms.Value t) form listed some = absurd (cc)
-    by_form (forms.List range) form listed some = list_fits bs y range form some
-    by_form (forms.Broken f) form listed some = absurd (cc)
+first_piece bs xs x listed is whole = grind (arith, both, list_fits, fits_text)
 
 -- ---- the outcome of one piece
 
@@ -253,24 +160,12 @@ module _ {W : Type 0} (into : W → Written) (m : Meaning) (s t : Sink W) (end :
   -- after a fault it does not matter whether the argument is closed
   closed_fault : (kind : PieceKind) (q : Answer) → Writes into m s t (Some q)
       → Writes into (and_closed kind end m) s t (Some q)
-  closed_fault kinds.Literal q o = o
-  closed_fault kinds.Doubled q o = o
-  closed_fault kinds.LoneClose q o = o
-  closed_fault kinds.Closed q o = o
-  closed_fault kinds.Unclosed q o =
-      record { outcome = fault_first _ _ _ _ q o.outcome; same = o.same }
-  closed_fault kinds.Broken q o = o
+  closed_fault kind q o = grind (arith, fault_first)
 
   -- if all was written, a closed argument adds nothing, and an unclosed one its fault
   closed_done : (kind : PieceKind) → Writes into m s t None
       → Writes into (and_closed kind end m) s t (option_map fault (unclosed_fault_of kind end))
-  closed_done kinds.Literal o = o
-  closed_done kinds.Doubled o = o
-  closed_done kinds.LoneClose o = o
-  closed_done kinds.Closed o = o
-  closed_done kinds.Unclosed o =
-      record { outcome = and_then _ _ _ _ _ _ o.outcome (ended _ _); same = o.same }
-  closed_done kinds.Broken o = o
+  closed_done kind o = grind (arith, and_then, ended)
 
 module _ {X W : Type 0} (shows : X → Trait → Spec → Shown) (into : W → Written)
     (e : Environment X) (bs : List ℕ) where
@@ -281,19 +176,18 @@ module _ {X W : Type 0} (shows : X → Trait → Spec → Shown) (into : W → W
     means_held : (h : Content) → content_of bs x ≡ Some h
         → Means ≡ content_means shows e (out-Piece x).kind h (stored_join_means shows e bs x)
         (stored_item_means shows e bs x)
-    means_held h is = rw (node_of_out bs x, is) refl
+    means_held h is = grind (arith, node_of_out)
 
     -- what it holds asks for no list
     pub unlisted : (r : Option Answer) (h : Content) → content_of bs x ≡ Some h
         → holds_list (Some h) ≡ false → Writes into Means s t r
         → Writes into (unlisted_means shows e (node_of bs x)) s t r
-    unlisted r h is other o =
-        record { outcome = rw (asks_held bs x h is ∙ other) o.outcome; same = o.same }
+    unlisted r h is other o = grind (arith, node_of_out)
 
     -- it asks for a list, and nothing of it is written yet
     pub list_waits : asks_list (node_of bs x) ≡ true
         → Writes into (unlisted_means shows e (node_of bs x)) s s None
-    list_waits listed = record { outcome = rw listed (nothing_done _); same = same_end s }
+    list_waits listed = grind (arith, nothing_done, same_end)
 
     -- a text that is written
     pub text_writes : (r : Option Answer) (from : ℕ) (cs : List ℕ)
@@ -345,15 +239,9 @@ module _ (bs : List ℕ) (xs : List Piece) (a : At) (same : nodes_of bs xs ≡ n
       (answer : Option Answer) → f ≡ e
       → Outcome (stored_pieces_mean shows f bs xs) old new answer
       → Outcome (means shows e a) old new answer
-  text_outcome shows e f old new answer is o =
-      let mean : stored_pieces_mean shows f bs xs ≡ means shows e a =
-      rw (same, is) refl in
-      rw mean at o
+  text_outcome shows e f old new answer is o = grind arith
 
   module _ (skipped : ℕ) where
-    rest_is : nodes_of bs (drop skipped xs) ≡ drop skipped (nodes a)
-    rest_is = sym (drop-map (node_of bs) skipped xs) ∙ ap (λ ns. drop skipped ns) same
-
     -- those after the first ones fit it
     pub rest_whole : forest_whole (as_forest (nodes_of bs (drop skipped xs))) ≡ true
     rest_whole = pieces_whole bs xs skipped text_whole
@@ -364,20 +252,17 @@ module _ (bs : List ℕ) (xs : List Piece) (a : At) (same : nodes_of bs xs ≡ n
         (answer : Option Answer) → f ≡ e
         → Outcome (stored_pieces_mean shows f bs (drop skipped xs)) old new answer
         → Outcome (forest_means shows e (as_forest (drop skipped (nodes a)))) old new answer
-    rest_outcome shows e f old new answer is o =
-        let mean : stored_pieces_mean shows f bs (drop skipped xs)
-        ≡ forest_means shows e (as_forest (drop skipped (nodes a))) = rw (rest_is, is) refl in
-        rw mean at o
+    rest_outcome shows e f old new answer is o = grind (arith, drop-map)
 
 -- the pieces that stand for a whole format are its own
 pub format_stands :
     (bs : List ℕ) (xs : List Piece) → IsUtf8 bs → StandFor xs (outermost (chars bs))
     → nodes_of bs xs ≡ nodes (outermost (chars bs))
-format_stands bs xs utf8 stand = stand bs utf8 (within_same (outermost (chars bs)))
+format_stands bs xs utf8 stand = grind (arith, within_same)
 
 -- writing them goes through as many pieces as writing the text
 pub text_goes :
     {X : Type 0} (shows : X → Trait → Spec → Shown) (e f : Environment X) (bs : List ℕ)
     (xs : List Piece) (a : At) → nodes_of bs xs ≡ nodes a → f ≡ e
     → (forest_work shows f (as_forest (nodes_of bs xs))).pieces ≡ (text_work shows e a).pieces
-text_goes shows e f bs xs a same is = rw (same, is) refl
+text_goes shows e f bs xs a same is = grind arith

@@ -1,6 +1,9 @@
 -- The node of a stored piece, one layer at a time.
 use Rattle.std.proofs.Common.{◌≡◌, refl, ap, ◌∙◌, ℕ, suc, List, [], ◌∷◌, ◌++◌, Option, Some, None}
-use Rattle.std.proofs.Common.{Bool, true, false, nat_lt, IsSome, option_map}
+use Rattle.std.proofs.Common.{Bool, true, false, nat_lt, IsSome, option_map, sym, ◌+◌, ◌<◌, ◌≤◌}
+use Rattle.std.proofs.Common.{length, drop, get_or}
+use Rattle.std.proofs.lemmas.List.{drop_more, drop_all}
+use Rattle.interpolator_syntax.specs.Nodes.{Forest, no_nodes, nodes_and, as_forest}
 use Rattle.std.specs.Prelude.{if◌then◌else◌}
 use Rattle.std.specs.Global.{Vec, Box}
 use Rattle.interpolator_render.specs.declared.view.Trait.{Trait}
@@ -14,7 +17,6 @@ use Rattle.interpolator_syntax.specs.declared.argument_fault.ArgumentFault.{Argu
 use Rattle.interpolator_syntax.specs.declared.range.Range.{Range}
 use Rattle.interpolator_pieces.specs.Stored.{node_step, node_of, nodes_of, branch_of, content_of}
 use Rattle.interpolator_pieces.specs.Stored.{stored_content, part, range_of}
-use Rattle.interpolator_syntax.specs.declared.piece_kind.PieceKind.{PieceKind}
 use Rattle.interpolator_pieces.specs.declared.piece.Form.{Form}
 use Rattle.interpolator_pieces.specs.declared.piece.Form.TheVariants as forms
 use Rattle.interpolator_pieces.specs.declared.piece.Piece.{Piece}
@@ -24,26 +26,14 @@ use Rattle.interpolator_pieces.specs.declared.piece.Piece.TheFolds.{map-Piece, f
 use Rattle.interpolator_pieces.specs.declared.piece.Piece.TheFolds.{fold_out-Piece}
 
 at_groups :
-    (bs : List ℕ) (item join : Option (Vec Piece)) (place end : ℕ) (kind : PieceKind)
-    (from to spec_end : ℕ) (spec : Spec) (form : Form)
-    → node_step bs (map-Piece Piece Node (node_of bs) (record {
-      place = place;
-      end = end;
-      kind = kind;
-      item = item;
-      join = join;
-      from = from;
-      to = to;
-      spec_end = spec_end;
-      spec = spec;
-      form = form;
-    }))
-    ≡ node place end kind (stored_content bs place from to spec_end spec form) (branch_of bs item)
-    (branch_of bs join)
-at_groups bs None None place end kind from to spec_end spec form = refl
-at_groups bs None (Some w) place end kind from to spec_end spec form = refl
-at_groups bs (Some v) None place end kind from to spec_end spec form = refl
-at_groups bs (Some v) (Some w) place end kind from to spec_end spec form = refl
+    (bs : List ℕ) (x : Piece-F Piece) (item join : Option (Vec Piece))
+    → node_step bs (map-Piece Piece Node (node_of bs) (record x { item = item; join = join }))
+    ≡ node x.place x.end x.kind (stored_content bs x.place x.from x.to x.spec_end x.spec x.form)
+    (branch_of bs item) (branch_of bs join)
+at_groups bs x None None = refl
+at_groups bs x None (Some w) = refl
+at_groups bs x (Some v) None = refl
+at_groups bs x (Some v) (Some w) = refl
 
 -- the node of a piece that was made of its parts
 pub node_of_roll :
@@ -52,8 +42,7 @@ pub node_of_roll :
     (branch_of bs x.item) (branch_of bs x.join)
 unfolding node_of
 node_of_roll bs x =
-    fold-roll-Piece Node (node_step bs) x
-    ∙ at_groups bs x.item x.join x.place x.end x.kind x.from x.to x.spec_end x.spec x.form
+    fold-roll-Piece Node (node_step bs) x ∙ at_groups bs x x.item x.join
 
 -- the node of a piece, by its parts
 pub node_of_out :
@@ -63,8 +52,7 @@ pub node_of_out :
 unfolding node_of
 node_of_out bs x =
     let y = out-Piece x in
-    fold_out-Piece Node (node_step bs) x
-    ∙ at_groups bs y.item y.join y.place y.end y.kind y.from y.to y.spec_end y.spec y.form
+    fold_out-Piece Node (node_step bs) x ∙ at_groups bs y y.item y.join
 
 -- one more piece is one more node
 pub nodes_of_push :
@@ -72,6 +60,20 @@ pub nodes_of_push :
     → nodes_of bs (xs ++ (x ∷ [])) ≡ nodes_of bs xs ++ (node_of bs x ∷ [])
 nodes_of_push bs [] x = refl
 nodes_of_push bs (y ∷ xs) x = ap (λ ys. node_of bs y ∷ ys) (nodes_of_push bs xs x)
+
+-- the nodes of the pieces that are left: that of the first and those of the others, or none
+module _ (bs : List ℕ) (xs : List Piece) where
+  abbrev pub left : ℕ → Forest
+  left n = as_forest (nodes_of bs (drop n xs))
+
+  pub left_next : (i : ℕ) (x : Piece) → i < length xs → x ≡ get_or xs i x
+      → left i ≡ nodes_and (node_of bs x) (left (i + 1))
+  left_next i x l is =
+      ap (λ ys. as_forest (nodes_of bs ys)) (drop_more xs i x l)
+      ∙ ap (λ y. nodes_and (node_of bs y) (left (i + 1))) (sym is)
+
+  pub left_none : (i : ℕ) → length xs ≤ i → left i ≡ no_nodes
+  left_none i l = ap (λ ys. as_forest (nodes_of bs ys)) (drop_all i xs l)
 
 -- what a stored piece that fits its text holds, by its form
 module _ (bs : List ℕ) (place from to end : ℕ) (spec : Spec) (P : Form → Option Content → Type 0)

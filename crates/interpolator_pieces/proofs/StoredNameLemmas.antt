@@ -1,7 +1,6 @@
 -- The names that stored pieces use, one name and one piece at a time.
-use Rattle.std.proofs.Common.{◌≡◌, ◌∙◌, refl, sym, ap, ℕ, Bool, true, false}
-use Rattle.std.proofs.Common.{List, [], ◌∷◌, ◌++◌, length}
-use Rattle.std.proofs.Common.{Option, Some, None, IsSome, option_map, Result, Ok}
+use Rattle.std.proofs.Common.{arith, ◌≡◌, ◌∙◌, refl, sym, ap, ℕ, Bool, true, false, List, [], ◌∷◌}
+use Rattle.std.proofs.Common.{◌++◌, length, Option, Some, None, IsSome, option_map, Result, Ok}
 use Rattle.std.proofs.lemmas.List.{append-nil}
 use Rattle.std.specs.Global.{Box}
 use Rattle.std.specs.Prelude.{string_bytes, ◌==◌}
@@ -16,8 +15,7 @@ use Rattle.interpolator_pieces.specs.Visits.{Visit, enter, Walks, text_visits}
 use Rattle.interpolator_pieces.specs.declared.walk.Level.{Level}
 use Rattle.interpolator_pieces.proofs.VisitLemmas.{gathers, text_asks}
 use Rattle.interpolator_syntax.specs.Nodes.{Content}
-use Rattle.interpolator_pieces.specs.Stored.{part, content_of, node_of}
-use Rattle.interpolator_pieces.specs.Stored.{node_whole}
+use Rattle.interpolator_pieces.specs.Stored.{part, content_of, node_of, node_whole}
 use Rattle.interpolator_pieces.specs.StoredMeanings.{stored_part}
 use Rattle.interpolator_pieces.specs.declared.piece.Form.{Form}
 use Rattle.interpolator_pieces.specs.declared.piece.Form.TheVariants as forms
@@ -40,8 +38,7 @@ pub asked_outside : (in_item : Bool) (name : List ℕ) → in_item ≡ false
 asked_outside in_item name e = rw e refl
 
 some_name : (name : List ℕ) → ¬ (name ≡ []) → context_names true name ≡ name ∷ []
-some_name [] n = absurd (n refl)
-some_name (c ∷ cs) n = refl
+some_name name n = grind arith
 
 -- a name that is not empty
 pub asked_named : (in_item : Bool) (bs : List ℕ) (r : Bool) → IsUtf8 bs → in_item ≡ true
@@ -53,21 +50,19 @@ asked_named in_item bs r u e told h =
 pub asked_push : {Z : Type 0} (names : List (String Z)) (name : String Z)
     → name_texts (names ++ (name ∷ [])) ≡ name_texts names ++ (chars (string_bytes name) ∷ [])
 asked_push [] name = refl
-asked_push (x ∷ names) name = ap (λ ns. chars (string_bytes x) ∷ ns) (asked_push names name)
+asked_push (x ∷ names) name = grind (arith, asked_push names name)
 
 -- no name is added
 pub asked_none : {X : Type 0} (names asks : List (List ℕ)) (o : Option X) (text : X → List ℕ)
     → o ≡ None → name_list (option_map text o) ≡ asks → names ≡ names ++ asks
-asked_none names asks o text is h = rw (← h, is) (sym (append-nil names))
+asked_none names asks o text is h = grind (arith, append-nil)
 
 -- a copy of the name is added
 pub asked_some : {X Z : Type 0} (old new : List (String Z)) (copy : String Z) (asks : List (List ℕ))
     (o : Option X) (text : X → List ℕ) (x : X) → o ≡ Some x → name_list (option_map text o) ≡ asks
     → new ≡ old ++ (copy ∷ []) → chars (string_bytes copy) ≡ text x
     → name_texts new ≡ name_texts old ++ asks
-asked_some old new copy asks o text x is h push same =
-    ap name_texts push ∙ asked_push old copy
-    ∙ rw (← h, is, same) refl
+asked_some old new copy asks o text x is h push same = grind (arith, asked_push)
 
 -- ---- the name of a stored argument
 
@@ -86,9 +81,7 @@ Asks part form held =
 asks_name : (part : Option (List ℕ)) (name : List ℕ) → part ≡ Some name
     → IsSome part × ((in_item : Bool) (other : List ℕ) → Some other ≡ part
     → context_names in_item name ≡ context_names in_item other)
-asks_name None name is = absurd (cc)
-asks_name (Some found) name is =
-    (refl, λ in_item other e. let same : name ≡ other = cc in ap (context_names in_item) same)
+asks_name part name is = grind arith
 
 module _ (bs : List ℕ) (x : Piece) (no_text : ¬ ((out-Piece x).form ≡ forms.Text))
     (no_fault : (fault : Box ArgumentFault) → ¬ ((out-Piece x).form ≡ forms.Broken fault))
@@ -104,17 +97,17 @@ module _ (bs : List ℕ) (x : Piece) (no_text : ¬ ((out-Piece x).form ≡ forms
 
   -- the name of an argument is cut from its text
   pub asked_part : IsSome (stored_part bs x)
-  asked_part = (asks (no_text, no_fault)).0
+  asked_part = grind (arith, asks)
 
   -- and it is the name that the piece uses
   pub asked_held : (in_item : Bool) (name : List ℕ) → Some name ≡ stored_part bs x
       → context_names in_item name ≡ content_names in_item (content_of bs x)
-  asked_held in_item name e = sym ((asks (no_text, no_fault)).1 in_item name e)
+  asked_held in_item name e = grind (arith, asks)
 
 -- the name that is met when a piece is entered
 pub asked_entered : (level : Level) (bs : List ℕ) (x : Piece)
     → content_names level.in_item (content_of bs x) ≡ visit_asks (enter level (node_of bs x))
-asked_entered level bs x = sym (ap (λ n. visit_asks (enter level n)) (node_of_out bs x))
+asked_entered level bs x = grind (arith, node_of_out)
 
 -- ---- the names of a text
 

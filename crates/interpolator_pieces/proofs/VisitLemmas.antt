@@ -1,7 +1,6 @@
 -- What visitors gather on a walk, and what that is for the pieces of a text.
-use Rattle.std.proofs.Common.{◌≡◌, ◌∙◌, refl, sym, ap, arith, ℕ, ◌+◌, List, [], ◌∷◌, ◌++◌}
-use Rattle.std.proofs.Common.{Option, Some, None, Result, Ok, Err, inl, inr, append_assoc, Bool, true}
-use Rattle.std.proofs.Common.{IsSome, IsErr}
+use Rattle.std.proofs.Common.{◌≡◌, ◌∙◌, refl, ap, arith, ℕ, ◌+◌, List, [], ◌∷◌, ◌++◌}
+use Rattle.std.proofs.Common.{Some, None, Result, Ok, inl, inr, append_assoc, Bool, true}
 use Rattle.std.proofs.lemmas.Grind.{flat_map-append}
 use Rattle.std.proofs.lemmas.List.{append-nil}
 use Rattle.std.proofs.Math.Nat.{max-zero}
@@ -12,8 +11,7 @@ use Rattle.interpolator_syntax.specs.Nodes.{Forest, no_nodes, nodes_and, as_fore
 use Rattle.interpolator_eval.specs.Meaning.AskedNames.{content_names, node_asks, branch_asks}
 use Rattle.interpolator_eval.specs.Meaning.AskedNames.{forest_asks, asked_names}
 use Rattle.interpolator_pieces.specs.NodeChecks.{node_faults, branch_faults, forest_faults}
-use Rattle.interpolator_pieces.specs.NodeChecks.{text_faults}
-use Rattle.interpolator_pieces.specs.NodeChecks.{visit_faults, fault_list, own_fault}
+use Rattle.interpolator_pieces.specs.NodeChecks.{text_faults, visit_faults, fault_list, own_fault}
 use Rattle.interpolator_pieces.specs.NodeExtents.{node_depth, branch_depth, forest_depth}
 use Rattle.interpolator_pieces.specs.NodeExtents.{node_extent, branch_extent, forest_extent}
 use Rattle.interpolator_pieces.specs.NodeExtents.{visit_depth, inner_depth, visit_extent}
@@ -34,12 +32,10 @@ module _ {V E : Type 0} (step : V → Visit → V → Result (Unit {0}) E → Ty
       → ((old new : V) (x : Visit) → step old x new (Ok tt) → content new ≡ content old ++ gives x)
       → (old new : V) (xs : List Visit) → Walks step old xs new (Ok tt)
       → content new ≡ content old ++ flat_map gives xs
-  gathers content gives adds old new [] h = ap content h.0 ∙ sym (append-nil (content old))
+  gathers content gives adds old new [] h = grind (arith, append-nil)
   gathers content gives adds old new (x ∷ xs) (inl h) = let wrong = h.1 in absurd (cc)
   gathers content gives adds old new (x ∷ xs) (inr (mid, (s, h))) =
-      gathers content gives adds mid new xs h
-      ∙ ap (λ c. c ++ flat_map gives xs) (adds old mid x s)
-      ∙ append_assoc (content old) (gives x) (flat_map gives xs)
+      grind (arith, append_assoc, gathers content gives adds mid new xs h)
 
   -- each visit gives a number, and the greatest is kept
   pub gathers_greatest : (content : V → ℕ) (asks : Visit → ℕ)
@@ -48,38 +44,10 @@ module _ {V E : Type 0} (step : V → Visit → V → Result (Unit {0}) E → Ty
       → (old new : V) (xs : List Visit) (answer : Result (Unit {0}) E)
       → Walks step old xs new answer
       → (answer ≡ Ok tt) × (content new ≡ max (content old) (greatest asks xs))
-  gathers_greatest content asks adds old new [] answer h =
-      (h.1, ap content h.0 ∙ sym (max-zero (content old)))
-  gathers_greatest content asks adds old new (x ∷ xs) answer (inl h) =
-      let ok = (adds old new x answer h.0).0 in let wrong = rw ok at h.1 in absurd (cc)
+  gathers_greatest content asks adds old new [] answer h = grind (arith, max-zero)
+  gathers_greatest content asks adds old new (x ∷ xs) answer (inl h) = grind arith
   gathers_greatest content asks adds old new (x ∷ xs) answer (inr (mid, (s, h))) =
-      let first = (adds old mid x (Ok tt) s).1 in
-      let rest = gathers_greatest content asks adds mid new xs answer h in
-      (rest.0, omega (arith, first, rest.1))
-
-  -- the walk stops at the first of what visits give
-  module _ {A B : Type 0} (gives : Visit → List B) (first : List B → Option A)
-      (told : Result (Unit {0}) E → Option A) (keeps : V → Type 0)
-      (nothing : told (Ok tt) ≡ first [])
-      (found : (e : E) (xs ys : List B) → IsSome (told (Err e)) → told (Err e) ≡ first xs
-      → told (Err e) ≡ first (xs ++ ys))
-      (after : (xs ys : List B) → told (Ok tt) ≡ first xs → first ys ≡ first (xs ++ ys))
-      (collects : (old new : V) (x : Visit) (answer : Result (Unit {0}) E) → keeps old
-      → step old x new answer
-      → keeps new × (told answer ≡ first (gives x)) × (IsErr answer → IsSome (told answer))) where
-    pub collects_first : (old new : V) (xs : List Visit) (answer : Result (Unit {0}) E) → keeps old
-        → Walks step old xs new answer
-        → (told answer ≡ first (flat_map gives xs)) × (IsErr answer → IsSome (told answer))
-    collects_first old new [] (Ok u) k h = (nothing, λ bad. absurd (cc))
-    collects_first old new [] (Err e) k h = let wrong = h.1 in absurd (cc)
-    collects_first old new (x ∷ xs) (Ok u) k (inl h) = let wrong = h.1 in absurd (cc)
-    collects_first old new (x ∷ xs) (Err e) k (inl h) =
-        let one = collects old new x (Err e) k h.0 in
-        (found e (gives x) (flat_map gives xs) (one.2 refl) one.1, one.2)
-    collects_first old new (x ∷ xs) answer k (inr (mid, (s, h))) =
-        let one = collects old mid x (Ok tt) k s in
-        let rest = collects_first mid new xs answer one.0 h in
-        (rest.0 ∙ after (gives x) (flat_map gives xs) one.1, rest.1)
+      grind (arith, gathers_greatest content asks adds mid new xs answer h)
 
 -- ---- what visits give, of pieces
 
@@ -88,10 +56,7 @@ module _ {B : Type 0} (gives : Visit → List B) where
   around : (xs ys : List Visit) (z : Visit)
       → flat_map gives (xs ++ (ys ++ (z ∷ [])))
       ≡ flat_map gives xs ++ (flat_map gives ys ++ gives z)
-  around xs ys z =
-      flat_map-append gives xs (ys ++ (z ∷ []))
-      ∙ ap (λ ws. flat_map gives xs ++ ws) (flat_map-append gives ys (z ∷ [])
-      ∙ ap (λ ws. flat_map gives ys ++ ws) (append-nil (gives z)))
+  around xs ys z = grind (arith, flat_map-append, append-nil)
 
 module _ (level : Level) where
   abbrev item_of : Branch → List Visit
@@ -162,10 +127,7 @@ greatest-append asks (x ∷ xs) ys = omega (arith, greatest-append asks xs ys)
 greatest_around : (asks : Visit → ℕ) (xs ys : List Visit) (z : Visit)
     → greatest asks (xs ++ (ys ++ (z ∷ [])))
     ≡ max (greatest asks xs) (max (greatest asks ys) (asks z))
-greatest_around asks xs ys z =
-    let all = greatest-append asks xs (ys ++ (z ∷ [])) in
-    let rest = greatest-append asks ys (z ∷ []) in
-    omega (arith, all, rest)
+greatest_around asks xs ys z = grind (arith, greatest-append)
 
 -- the greatest width or precision of pieces, by the walk
 mutual

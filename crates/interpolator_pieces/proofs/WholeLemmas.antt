@@ -1,21 +1,18 @@
 -- All that the pieces of a text hold fits it.
-use Rattle.std.proofs.Common.{◌≡◌, ℕ, ◌<◌, true, length, refl, Option, Some, None}
-use Rattle.std.proofs.Common.{arith}
+use Rattle.std.proofs.Common.{◌≡◌, ℕ, ◌<◌, true, length, refl, Option, Some, None, arith}
 use Rattle.interpolator_syntax.specs.At.{At}
 use Rattle.interpolator_syntax.specs.Arguments.{Argument}
-use Rattle.interpolator_syntax.specs.Groups.{Group}
+use Rattle.interpolator_syntax.specs.Groups.{Group, inside}
 use Rattle.interpolator_syntax.specs.Pieces.{argument_from}
 use Rattle.interpolator_syntax.specs.SpecTexts.{Kind, of_value, of_list}
 use Rattle.interpolator_syntax.specs.Tokens.{Token, first_token, past_token, argument}
-use Rattle.interpolator_syntax.specs.Groups.{inside}
 use Rattle.interpolator_syntax.specs.Nodes.{as_forest, group_branch, argument_node, piece_node}
 use Rattle.interpolator_syntax.specs.Nodes.{token_node, nodes}
 use Rattle.interpolator_pieces.specs.Stored.{node_whole, branch_whole, forest_whole}
 use Rattle.interpolator_syntax.specs.declared.piece_kind.PieceKind as told
 use Rattle.interpolator_syntax.specs.declared.piece_kind.PieceKind.TheVariants.{Closed, Unclosed}
 use Rattle.interpolator_syntax.proofs.TokenLemmas.{token_shorter, scan_shorter}
-use Rattle.interpolator_syntax.proofs.NodeLemmas.{by_length, argument_kind, nodes_first}
-use Rattle.interpolator_syntax.proofs.NodeLemmas.{nodes_none}
+use Rattle.interpolator_syntax.proofs.NodeLemmas.{by_length, argument_kind, nodes_first, nodes_none}
 use Rattle.interpolator_syntax.proofs.SizeLemmas.{GroupIfIn, KindIn}
 
 abbrev Whole : At → Type 0

@@ -1,16 +1,15 @@
 -- What is known of a stored piece that fits its text, of pieces in order, and of the groups of one.
 use denote.Param.Weighed.{most}
-use Rattle.std.proofs.Common.{◌≡◌, refl, ap, arith, ℕ, zero, suc, ◌<◌, ◌≤◌, Bool, true, false, ◌&&◌}
+use Rattle.std.proofs.Common.{◌≡◌, refl, ap, arith, ℕ, zero, suc, ◌<◌, ◌≤◌, Bool, true, ◌&&◌}
 use Rattle.std.proofs.Common.{List, [], ◌∷◌, ◌++◌, length, drop, get_or, Option, None, Some, IsSome}
 use Rattle.std.proofs.lemmas.List.{drop_more}
 use Rattle.std.specs.Global.{Vec}
-use Rattle.interpolator_syntax.specs.Nodes.{Node, Branch, Content, node, as_forest}
+use Rattle.interpolator_syntax.specs.Nodes.{Node, as_forest}
 use Rattle.interpolator_pieces.specs.Stored.{content_of, node_of, nodes_of, branch_of}
 use Rattle.interpolator_pieces.specs.Stored.{node_whole, branch_whole, forest_whole}
 use Rattle.interpolator_pieces.specs.declared.piece.Piece.{Piece}
 use Rattle.interpolator_pieces.specs.declared.piece.Piece.TheViews.{out-Piece, size-Piece}
 use Rattle.interpolator_pieces.specs.declared.piece.Piece.TheViews.{size_is-Piece}
-use Rattle.interpolator_syntax.specs.declared.piece_kind.PieceKind.{PieceKind}
 use Rattle.interpolator_pieces.proofs.StoredLemmas.{node_of_out}
 
 -- the piece holds something, and its groups fit its text too
@@ -20,23 +19,10 @@ pub record FitsText (bs : List ℕ) (x : Piece) : Type 0 where
   pub join : branch_whole (branch_of bs (out-Piece x).join) ≡ true
 
 pub both : (a b : Bool) → (a && b) ≡ true → (a ≡ true) × (b ≡ true)
-both true b h = (refl, h)
-both false b h = absurd (cc)
-
-node_parts :
-    (place end : ℕ) (kind : PieceKind) (held : Option Content) (item join : Branch)
-    → node_whole (node place end kind held item join) ≡ true
-    → IsSome held × (branch_whole item ≡ true) × (branch_whole join ≡ true)
-node_parts place end kind None item join h = absurd (cc)
-node_parts place end kind (Some x) item join h =
-    let (i, j) = both (branch_whole item) (branch_whole join) h in (refl, i, j)
+both a b h = grind arith
 
 pub fits_text : (bs : List ℕ) (x : Piece) → node_whole (node_of bs x) ≡ true → FitsText bs x
-fits_text bs x h =
-    let y = out-Piece x in
-    let (held, item, join) = node_parts y.place y.end y.kind (content_of bs x) (branch_of bs y.item)
-    (branch_of bs y.join) (rw (node_of_out bs x) at h) in
-    record { held = held; item = item; join = join }
+fits_text bs x h = grind (arith, both, node_of_out)
 
 -- if pieces fit their text, the last of them do
 pub rest_fits :
@@ -60,9 +46,7 @@ pub piece_whole :
     (bs : List ℕ) (xs : List Piece) (i : ℕ) (x : Piece)
     → forest_whole (as_forest (nodes_of bs xs)) ≡ true → i < length xs → x ≡ get_or xs i x
     → node_whole (node_of bs x) ≡ true
-piece_whole bs xs i x h l is =
-    let left = pieces_whole bs xs i h in
-    (both (node_whole (node_of bs x)) _ (rw (drop_more xs i x l, ← is) at left)).0
+piece_whole bs xs i x h l is = grind (arith, pieces_whole bs xs i h, drop_more xs i x l)
 
 -- none is greater than the greatest
 pub most_at :
@@ -77,7 +61,7 @@ pub group_whole :
     (bs : List ℕ) (group : Option (Vec Piece)) (v : Vec Piece) (xs : List Piece)
     → branch_whole (branch_of bs group) ≡ true → group ≡ Some v → xs ≡ v.items
     → forest_whole (as_forest (nodes_of bs xs)) ≡ true
-group_whole bs group v xs h is same = rw same (rw is at h)
+group_whole bs group v xs h is same = grind arith
 
 -- the size of the greatest piece of a group
 abbrev pub group_most : Option (Vec Piece) → ℕ
@@ -95,15 +79,15 @@ module _ (x : Piece) where
 
   -- a group is smaller than its piece
   pub item_smaller : group_most (out-Piece x).item < size-Piece x
-  item_smaller = item_by (out-Piece x).item refl
+  item_smaller = grind (arith, item_by)
 
   pub join_smaller : group_most (out-Piece x).join < size-Piece x
-  join_smaller = join_by (out-Piece x).join refl
+  join_smaller = grind (arith, join_by)
 
 -- the pieces of a group are no greater than it
 pub group_smaller : (group : Option (Vec Piece)) (v : Vec Piece) (xs : List Piece)
     → group ≡ Some v → xs ≡ v.items → most size-Piece xs ≡ group_most group
-group_smaller group v xs is same = rw (same, is) refl
+group_smaller group v xs is same = grind arith
 
 -- the pieces of a group of a piece: they fit the text, and are smaller than the piece
 pub record InGroup (bs : List ℕ) (x : Piece) (xs : List Piece) : Type 0 where

@@ -1,6 +1,5 @@
 -- Texts that lie in another text, each at its place.
-use Rattle.std.proofs.Common.{◌≡◌, List, [], ◌++◌, ℕ}
-use Rattle.std.proofs.Common.{arith, ap, ◌∙◌, sym, append_assoc}
+use Rattle.std.proofs.Common.{◌≡◌, List, [], ◌++◌, ℕ, arith, ap, ◌∙◌, sym, append_assoc}
 use Rattle.std.proofs.lemmas.List.{append-nil}
 use Rattle.interpolator_syntax.specs.At.{At, after}
 use Rattle.interpolator_syntax.specs.Classes.{front_of, after_of, in_class}

@@ -1,6 +1,7 @@
 -- A text means the same in two contexts that have equal values under the names that it uses.
 use Rattle.std.proofs.Common.{◌≡◌, ℕ, zero, suc, Bool, true, false, cond, List, [], ◌∷◌, ◌++◌}
-use Rattle.std.proofs.Common.{length, take, drop, arith, refl, ap, ◌∙◌, sym, subst, Option, Some, None}
+use Rattle.std.proofs.Common.{length, take, drop, arith, refl, subst, Option, Some, None}
+use Rattle.std.specs.List.{AllZip}
 use Rattle.std.specs.Prelude.{⊤}
 use Rattle.interpolator_render.specs.declared.view.Trait.{Trait}
 use Rattle.interpolator_render.specs.declared.view.Trait.TheVariants as traits
@@ -8,11 +9,11 @@ use Rattle.interpolator_render.specs.declared.view.Spec.{Spec}
 use Rattle.interpolator_render.specs.Views.{Shown}
 use Rattle.interpolator_render.specs.Written.{Written}
 use Rattle.interpolator_syntax.specs.At.{At}
-use Rattle.interpolator_syntax.specs.Faults.{Answer, parse, iter}
-use Rattle.interpolator_syntax.specs.Nodes.{Node, node, Branch, no_branch, branch, as_forest}
-use Rattle.interpolator_syntax.specs.Nodes.{Forest, no_nodes, nodes_and, nodes}
-use Rattle.interpolator_syntax.specs.Nodes.{Content, text_content, argument_content, fault_content}
-use Rattle.interpolator_syntax.specs.Nodes.{Target, target_value, target_list}
+use Rattle.interpolator_syntax.specs.Faults.{Answer}
+use Rattle.interpolator_syntax.specs.Nodes.{Node, node, Branch, no_branch, branch}
+use Rattle.interpolator_syntax.specs.Nodes.{Forest, no_nodes, nodes_and}
+use Rattle.interpolator_syntax.specs.Nodes.{Content}
+use Rattle.interpolator_syntax.specs.Nodes.{Target}
 use Rattle.interpolator_syntax.specs.SpecTexts.{plain_spec}
 use Rattle.interpolator_syntax.specs.declared.piece_kind.PieceKind.{PieceKind}
 use Rattle.interpolator_syntax.specs.declared.range.Range.{Range}
@@ -21,14 +22,13 @@ use Rattle.interpolator_eval.specs.Slots.{Values, slot_at, slots_listed, items}
 use Rattle.interpolator_eval.specs.Meaning.AskedNames.{without_empty, content_names, node_asks}
 use Rattle.interpolator_eval.specs.Meaning.AskedNames.{branch_asks}
 use Rattle.interpolator_eval.specs.Meaning.AskedNames.{forest_asks, asked_names, AgreeOn}
-use Rattle.interpolator_eval.specs.Meaning.Choices.{chosen_places, items_between, chosen_items}
+use Rattle.interpolator_eval.specs.Meaning.Choices.{chosen_items}
 use Rattle.interpolator_eval.specs.Meaning.Environments.{Environment, slots_under, bind}
 use Rattle.interpolator_eval.specs.Meaning.EqualValues.{EqualSlot, EqualValues, EqualSlots, EqualItems}
 use Rattle.interpolator_eval.specs.Meaning.EqualValues.{EqualFound, EqualOn}
-use Rattle.interpolator_eval.specs.Meaning.Meanings.{Meaning, fault_alone, chain, view_means, value_means}
-use Rattle.interpolator_eval.specs.Meaning.Meanings.{forbids_list, padded_list, items_after}
+use Rattle.interpolator_eval.specs.Meaning.Meanings.{Meaning, chain, value_means}
+use Rattle.interpolator_eval.specs.Meaning.Meanings.{items_after}
 use Rattle.interpolator_eval.specs.Meaning.Meanings.{items_mean, listed_means, under_name}
-use Rattle.interpolator_eval.specs.Meaning.Meanings.{and_closed}
 use Rattle.interpolator_eval.specs.Meaning.Meanings.{target_means, content_means, node_means, means}
 use Rattle.interpolator_eval.specs.Meaning.Meanings.{join_branch_means, item_branch_means}
 use Rattle.interpolator_eval.specs.Meaning.Meanings.{forest_means}
@@ -44,8 +44,7 @@ both_same : {m k l o : Meaning} → m ≡ k → l ≡ o → chain m l ≡ chain 
 both_same e h = cc
 
 by_test : (b : Bool) (m k l : Meaning) → k ≡ l → cond b m k ≡ cond b m l
-by_test true m k l e = refl
-by_test false m k l e = e
+by_test b m k l e = grind arith
 
 module _ {X Y : Type 0} (shows : X → Trait → Spec → Shown) (others : Y → Trait → Spec → Shown) where
   -- ---- what is under a name
@@ -54,97 +53,71 @@ module _ {X Y : Type 0} (shows : X → Trait → Spec → Shown) (others : Y →
       (t : Trait) (spec : Spec) (q : ℕ) (o : Option X) (k : Option Y)
       → EqualSlot shows others t o k
       → value_means shows t spec q o ≡ value_means others t spec q k
-  value_equal t spec q None None h = refl
-  value_equal t spec q (Some x) (Some y) h = ap (view_means t q) (h spec)
-  value_equal t spec q None (Some y) h = absurd h
-  value_equal t spec q (Some x) None h = absurd h
+  value_equal t spec q o k h = grind arith
 
   abbrev Equal : Slots X → Slots Y → Type 0
   Equal tree other = EqualSlots shows others tree other
 
   values_equal : (tree : Slots X) (other : Slots Y) → Equal tree other
       → EqualValues shows others (values_of tree) (values_of other)
-  values_equal (bare f) (bare g) h = h
-  values_equal (listed f us) (listed g vs) h = h.0
-  values_equal (bare f) (listed g vs) h = absurd h
-  values_equal (listed f us) (bare g) h = absurd h
+  values_equal tree other h = grind arith
 
-  -- each item is equal to the one at the same index
-  abbrev EachEqual : List (Slots X) → List (Slots Y) → Type 0
-  EachEqual [] [] = ⊤
-  EachEqual (x ∷ xs) (y ∷ ys) = Equal x y × EachEqual xs ys
-  EachEqual _ _ = ⊥
+  -- ---- lists whose items are equal one by one
 
   bind_each : (us : SlotsList X) (vs : SlotsList Y) → EqualItems shows others us vs
-      → EachEqual (slots_listed us) (slots_listed vs)
+      → AllZip Equal (slots_listed us) (slots_listed vs)
   bind_each no_slots no_slots h = tt
   bind_each (slots_and t us) (slots_and u vs) h = (h.0, bind_each us vs h.1)
-  bind_each no_slots (slots_and u vs) h = absurd h
-  bind_each (slots_and t us) no_slots h = absurd h
+  bind_each _ _ h = absurd h
 
   abbrev EqualLists : Option (List (Slots X)) → Option (List (Slots Y)) → Type 0
   EqualLists None None = ⊤
-  EqualLists (Some xs) (Some ys) = EachEqual xs ys
+  EqualLists (Some xs) (Some ys) = AllZip Equal xs ys
   EqualLists _ _ = ⊥
 
   items_equal : (tree : Slots X) (other : Slots Y) → Equal tree other
       → EqualLists (items tree) (items other)
-  items_equal (bare f) (bare g) h = tt
-  items_equal (listed f us) (listed g vs) h = bind_each us vs h.1
-  items_equal (bare f) (listed g vs) h = absurd h
-  items_equal (listed f us) (bare g) h = absurd h
+  items_equal tree other h = grind (arith, bind_each)
 
   -- ---- chosen items
 
-  each_length : (xs : List (Slots X)) (ys : List (Slots Y)) → EachEqual xs ys
+  each_length : (xs : List (Slots X)) (ys : List (Slots Y)) → AllZip Equal xs ys
       → length xs ≡ length ys
   each_length [] [] h = refl
   each_length (x ∷ xs) (y ∷ ys) h = omega (arith, each_length xs ys h.1)
-  each_length [] (y ∷ ys) h = absurd h
-  each_length (x ∷ xs) [] h = absurd h
+  each_length _ _ h = absurd h
 
-  each_take : (n : ℕ) (xs : List (Slots X)) (ys : List (Slots Y)) → EachEqual xs ys
-      → EachEqual (take n xs) (take n ys)
+  each_take : (n : ℕ) (xs : List (Slots X)) (ys : List (Slots Y)) → AllZip Equal xs ys
+      → AllZip Equal (take n xs) (take n ys)
   each_take zero [] [] h = tt
   each_take zero (x ∷ xs) (y ∷ ys) h = tt
   each_take (suc n) [] [] h = tt
   each_take (suc n) (x ∷ xs) (y ∷ ys) h = (h.0, each_take n xs ys h.1)
-  each_take n [] (y ∷ ys) h = absurd h
-  each_take n (x ∷ xs) [] h = absurd h
+  each_take n _ _ h = absurd h
 
-  each_drop : (n : ℕ) (xs : List (Slots X)) (ys : List (Slots Y)) → EachEqual xs ys
-      → EachEqual (drop n xs) (drop n ys)
+  each_drop : (n : ℕ) (xs : List (Slots X)) (ys : List (Slots Y)) → AllZip Equal xs ys
+      → AllZip Equal (drop n xs) (drop n ys)
   each_drop zero [] [] h = tt
   each_drop zero (x ∷ xs) (y ∷ ys) h = h
   each_drop (suc n) [] [] h = tt
   each_drop (suc n) (x ∷ xs) (y ∷ ys) h = each_drop n xs ys h.1
-  each_drop n [] (y ∷ ys) h = absurd h
-  each_drop n (x ∷ xs) [] h = absurd h
+  each_drop n _ _ h = absurd h
 
   chosen_equal : (range : Option Range) (xs : List (Slots X)) (ys : List (Slots Y))
-      → EachEqual xs ys → EachEqual (chosen_items range xs) (chosen_items range ys)
-  chosen_equal range xs ys h =
-      let places = chosen_places (length xs) range in
-      subst (λ n. EachEqual (chosen_items range xs) (items_between (chosen_places n range) ys))
-      (each_length xs ys h)
-      (each_drop places.0 (take places.1 xs) (take places.1 ys) (each_take places.1 xs ys h))
+      → AllZip Equal xs ys → AllZip Equal (chosen_items range xs) (chosen_items range ys)
+  chosen_equal range xs ys h = grind (arith, each_length, each_drop, each_take)
 
   module _ (j k : Meaning) (f : Slots X → Meaning) (g : Slots Y → Meaning) (joins : j ≡ k)
       (each : (x : Slots X) (y : Slots Y) → Equal x y → f x ≡ g y) where
-    after_equal : (xs : List (Slots X)) (ys : List (Slots Y)) → EachEqual xs ys
+    after_equal : (xs : List (Slots X)) (ys : List (Slots Y)) → AllZip Equal xs ys
         → items_after j f xs ≡ items_after k g ys
     after_equal [] [] h = refl
-    after_equal (x ∷ xs) (y ∷ ys) h =
-        both_same joins (both_same (each x y h.0) (after_equal xs ys h.1))
-    after_equal [] (y ∷ ys) h = absurd h
-    after_equal (x ∷ xs) [] h = absurd h
+    after_equal (x ∷ xs) (y ∷ ys) h = grind (arith, both_same, after_equal xs ys h.1)
+    after_equal _ _ h = absurd h
 
-    items_mean_equal : (xs : List (Slots X)) (ys : List (Slots Y)) → EachEqual xs ys
+    items_mean_equal : (xs : List (Slots X)) (ys : List (Slots Y)) → AllZip Equal xs ys
         → items_mean j f xs ≡ items_mean k g ys
-    items_mean_equal [] [] h = refl
-    items_mean_equal (x ∷ xs) (y ∷ ys) h = both_same (each x y h.0) (after_equal xs ys h.1)
-    items_mean_equal [] (y ∷ ys) h = absurd h
-    items_mean_equal (x ∷ xs) [] h = absurd h
+    items_mean_equal xs ys h = grind (arith, both_same, after_equal)
 
   -- ---- environments
 
@@ -162,11 +135,8 @@ module _ {X Y : Type 0} (shows : X → Trait → Spec → Shown) (others : Y →
       → Agree (bind e t) (bind d u) names
   agree_bound e d t u [] k h = tt
   agree_bound e d t u ([] ∷ names) k h = (k, agree_bound e d t u names k h)
-  agree_bound e d t u ((c ∷ cs) ∷ names) k h = (
-    subst (λ o. EqualFound shows others o (slots_under (bind d u) (c ∷ cs))) (sym (bound_same e t c cs))
-        (subst (EqualFound shows others (slots_under e (c ∷ cs))) (sym (bound_same d u c cs)) h.0),
-    agree_bound e d t u names k h.1,
-  )
+  agree_bound e d t u ((c ∷ cs) ∷ names) k h =
+      grind (arith, bound_same, agree_bound e d t u names k h.1)
 
   -- ---- a text
 
@@ -174,45 +144,28 @@ module _ {X Y : Type 0} (shows : X → Trait → Spec → Shown) (others : Y →
       (g : Slots Y → Meaning) (o : Option (List (Slots X))) (p : Option (List (Slots Y))) → j ≡ k
       → ((x : Slots X) (y : Slots Y) → Equal x y → f x ≡ g y) → EqualLists o p
       → listed_means range spec q j f o ≡ listed_means range spec q k g p
-  list_equal range spec q j k f g None None joins each h = refl
-  list_equal range spec q j k f g (Some xs) (Some ys) joins each h =
-      by_test (forbids_list spec) (fault_alone (parse (iter q))) _ _
-      (ap (padded_list spec q)
-      (items_mean_equal j k f g joins each (chosen_items range xs) (chosen_items range ys)
-      (chosen_equal range xs ys h)))
-  list_equal range spec q j k f g None (Some ys) joins each h = absurd h
-  list_equal range spec q j k f g (Some xs) None joins each h = absurd h
+  list_equal range spec q j k f g o p joins each h =
+      grind (arith, by_test, items_mean_equal, chosen_equal)
 
   target_equal : (asked : Target) (spec : Spec) (q : ℕ) (j k : Meaning) (f : Slots X → Meaning)
       (g : Slots Y → Meaning) (x : Slots X) (y : Slots Y) → j ≡ k
       → ((x : Slots X) (y : Slots Y) → Equal x y → f x ≡ g y) → Equal x y
       → target_means shows asked spec q j f x ≡ target_means others asked spec q k g y
-  target_equal (target_value t) spec q j k f g x y joins each h =
-      value_equal t spec q _ _ (values_equal x y h t)
-  target_equal (target_list range) spec q j k f g x y joins each h =
-      list_equal range spec q j k f g (items x) (items y) joins each (items_equal x y h)
+  target_equal asked spec q j k f g x y joins each h =
+      grind (arith, value_equal, values_equal, list_equal, items_equal)
 
   found_equal : (name : List ℕ) (start : ℕ) (means : Slots X → Meaning) (mean : Slots Y → Meaning)
       (o : Option (Slots X)) (p : Option (Slots Y))
       → ((x : Slots X) (y : Slots Y) → Equal x y → means x ≡ mean y) → EqualFound shows others o p
       → under_name name start means o ≡ under_name name start mean p
-  found_equal name start means mean None None each h = refl
-  found_equal name start means mean (Some x) (Some y) each h = each x y h
-  found_equal name start means mean None (Some y) each h = absurd h
-  found_equal name start means mean (Some x) None each h = absurd h
+  found_equal name start means mean o p each h = grind arith
 
   content_equal : (e : Environment X) (d : Environment Y) (kind : PieceKind) (held : Content)
       (j k : Meaning) (f : ℕ → Slots X → Meaning) (g : ℕ → Slots Y → Meaning) → j ≡ k
       → ((q : ℕ) (x : Slots X) (y : Slots Y) → Equal x y → f q x ≡ g q y)
       → Agree e d (content_names false (Some held))
       → content_means shows e kind held j f ≡ content_means others d kind held k g
-  content_equal e d kind (text_content from cs) j k f g joins each h = refl
-  content_equal e d kind (argument_content start name spec asked q) j k f g joins each h =
-      ap (and_closed kind q)
-      (found_equal name start (target_means shows asked spec q j (f q))
-      (target_means others asked spec q k (g q)) (slots_under e name) (slots_under d name)
-      (λ x y same. target_equal asked spec q j k (f q) (g q) x y joins (each q) same) h.0)
-  content_equal e d kind (fault_content fault) j k f g joins each h = refl
+  content_equal e d kind held j k f g joins each h = grind (arith, found_equal, target_equal)
 
   mutual
     node_equal : (x : Node) (e : Environment X) (d : Environment Y) → Agree e d (node_asks false x)
@@ -253,22 +206,9 @@ module _ {X Y : Type 0} (shows : X → Trait → Spec → Shown) (others : Y →
   -- with equal values under the names that are used, a text means the same
   pub means_equal : (e : Environment X) (d : Environment Y) (a : At) → Agree e d (asked_names a)
       → means shows e a ≡ means others d a
-  means_equal e d a h = forest_equal (as_forest (nodes a)) e d h
+  means_equal e d a h = grind (arith, forest_equal)
 
   -- ---- outcomes
-
-  written_same : {text other : List ℕ} {flag mark : Bool} → text ≡ other → flag ≡ mark
-      → ◌≡◌ {A = Written} (record { text = text; refused = flag })
-      (record { text = other; refused = mark })
-  written_same e h = cc
-
-  one_outcome :
-      (m : Meaning) (old new other : Written) (answer told : Option Answer)
-      → Finished m old new answer → Finished m old other told → (new ≡ other) × (answer ≡ told)
-  one_outcome m old new other answer told h k = (
-    written_same (h.all.appended ∙ sym k.all.appended) (h.all.same_flag ∙ sym k.all.same_flag),
-    h.told ∙ sym k.told,
-  )
 
   -- so if both finish, they have the same outcome
   pub outcomes_equal :
@@ -276,9 +216,7 @@ module _ {X Y : Type 0} (shows : X → Trait → Spec → Shown) (others : Y →
       (answer told : Option Answer) → Agree e d (asked_names a)
       → Finished (means shows e a) old new answer → Finished (means others d a) old other told
       → (new ≡ other) × (answer ≡ told)
-  outcomes_equal e d a old new other answer told agree h k =
-      one_outcome (means shows e a) old new other answer told h
-      (subst (λ m. Finished m old other told) (sym (means_equal e d a agree)) k)
+  outcomes_equal e d a old new other answer told agree h k = grind (arith, means_equal)
 
 -- ---- one type of values
 
@@ -314,4 +252,4 @@ module _ {X : Type 0} (shows : X → Trait → Spec → Shown) where
   -- what environments have under names that are not used does not matter
   pub means_same : (e d : Environment X) (a : At) → AgreeOn e d (asked_names a)
       → means shows e a ≡ means shows d a
-  means_same e d a h = means_equal shows shows e d a (agree_equal e d (asked_names a) h)
+  means_same e d a h = grind (arith, means_equal, agree_equal)

@@ -1,14 +1,15 @@
 -- What a list argument means, in the words of the laws: its padding, its width, its faults.
-use Rattle.std.proofs.Common.{◌≡◌, ◌∙◌, ℕ, ◌+◌, ◌-◌, Bool, false, cond, List, [], ◌∷◌, ◌++◌}
+use Rattle.std.proofs.lemmas.Grind.{common_steps}
+use Rattle.std.proofs.Common.{◌≡◌, ◌∙◌, ℕ, false, cond, List, [], ◌∷◌, ◌++◌}
 use Rattle.std.proofs.Common.{length, flat_map, append_assoc, arith, refl, ap, sym, ◌⊎◌, inl, inr}
-use Rattle.std.proofs.Common.{Option, Some, None}
-use Rattle.std.specs.Prelude.{is_some, max, replicate, unwrap_or}
+use Rattle.std.proofs.Common.{Some, None}
+use Rattle.std.specs.Prelude.{max, replicate, unwrap_or}
 use Rattle.std.proofs.lemmas.List.{append-nil, length-map, replicate-append-replicate}
 use Rattle.interpolator_render.proofs.LawLemmas.{padded_text_count}
 use Rattle.interpolator_render.proofs.NumberLemmas.{before_within}
 use Rattle.interpolator_render.specs.declared.view.Trait.{Trait}
 use Rattle.interpolator_render.specs.declared.view.Spec.{Spec}
-use Rattle.interpolator_render.specs.Padding.{missing_to, fill_before, fill_of, padded_text}
+use Rattle.interpolator_render.specs.Padding.{fill_of, padded_text}
 use Rattle.interpolator_render.specs.Views.{Shown}
 use Rattle.interpolator_syntax.specs.At.{Placed, placed_at, text_of}
 use Rattle.interpolator_syntax.specs.Arguments.{Argument}
@@ -30,26 +31,14 @@ use Rattle.interpolator_syntax.proofs.CaseLemmas.{none_some}
 padded_nothing : (spec : Spec)
     → padded_text spec [] ≡ replicate (unwrap_or spec.width 0) (fill_of spec)
 unfolding padded_text
-padded_nothing spec =
-    let missing = missing_to spec 0 in
-    let before = fill_before spec.alignment missing 0 in
-    let within = before_within spec.alignment missing 0 (omega arith) in
-    let all : before + (missing - before) ≡ unwrap_or spec.width 0 = omega (arith, within) in
-    replicate-append-replicate before (missing - before) (fill_of spec)
-    ∙ ap (λ n. replicate n (fill_of spec)) all
+padded_nothing spec = grind (arith, before_within, replicate-append-replicate)
 
 -- no text, made whole or not, is as many copies of the fill as the width says
 nothing_padded :
     (spec : Spec) (q : ℕ)
     → (padded_list spec q nothing).text
     ≡ placed_at q (replicate (unwrap_or spec.width 0) (fill_of spec))
-nothing_padded spec q =
-    elim spec.width as (λ o. spec.width ≡ o
-    → (cond (is_some o) (buffered_means spec q None []) nothing).text
-    ≡ placed_at q (replicate (unwrap_or o 0) (fill_of spec))) [
-      | None ↦ λ e. refl
-      | Some width ↦ λ e. ap (placed_at q) (padded_nothing spec ∙ rw e refl)
-    ] refl
+nothing_padded spec q = grind (arith, padded_nothing)
 
 -- ---- one meaning after another
 
@@ -82,41 +71,19 @@ module _ {A : Type 0} (join : Meaning) (item : A → Meaning) where
       (front : List A) (z : A)
       → join.text ++ joined_texts join item (front ++ (z ∷ []))
       ≡ flat_map after_join (front ++ (z ∷ []))
-  texts_after [] z = sym (append_assoc join.text (item z).text [])
-  texts_after (w ∷ front) z =
-      sym (append_assoc join.text (item w).text (flat_map after_join (front ++ (z ∷ []))))
-
-  abbrev Finishes : List A → Type 0
-  Finishes xs =
-      (items_mean join item xs).fault ≡ None
-      → AllFinish join item xs × ((items_mean join item xs).text ≡ joined_texts join item xs)
-
-  finish_after : (x : A) (xs : List A) → Finishes xs → Finishes (x ∷ xs)
-  finish_after x [] further h = let first = joined_finishes (item x) nothing h in
-      ((first.0, tt), first.2)
-  finish_after x (y ∷ ys) further h =
-      let first = joined_finishes (item x) (items_after join item (y ∷ ys)) h in
-      let second = joined_finishes join (items_mean join item (y ∷ ys)) first.1 in
-      let rest = further second.1 in (
-        (first.0, rest.0),
-        first.2 ∙ ap (λ text. (item x).text ++ text)
-            (second.2 ∙ ap (λ text. join.text ++ text) rest.1
-            ∙ sym (append_assoc join.text (item y).text (flat_map after_join ys))),
-      )
+  texts_after front z = grind (arith, common_steps, append_assoc, flat_map)
 
   pub items_finish :
       (xs : List A) → (items_mean join item xs).fault ≡ None
       → AllFinish join item xs × ((items_mean join item xs).text ≡ joined_texts join item xs)
   items_finish [] h = (tt, refl)
-  items_finish (x ∷ xs) h = finish_after x xs (items_finish xs) h
+  items_finish (x ∷ xs) h = grind (arith, joined_finishes, append_assoc, flat_map, items_finish xs)
 
   -- with a second item the join is written too
   pub join_finishes :
       (x y : A) (more : List A) → (items_mean join item (x ∷ y ∷ more)).fault ≡ None
       → join.fault ≡ None
-  join_finishes x y more h =
-      let first = joined_finishes (item x) (items_after join item (y ∷ more)) h in
-      (joined_finishes join (items_mean join item (y ∷ more)) first.1).0
+  join_finishes x y more h = grind (arith, joined_finishes)
 
   -- the first fault of some items
   abbrev Fails : List A → Fault → Type 0
@@ -175,22 +142,10 @@ of_list_means spec q m =
 module _ {X : Type 0} (shows : X → Trait → Spec → Shown) (e : Environment X) (start q : ℕ)
     (x : Argument) (l : ListRequest) (ts : List (Slots X)) (f : FindsList e x l ts) where
   list_is : argument_meaning shows e start x q ≡ of_list_means x.spec q (items_alone shows e l q ts)
-  list_is = rw (f.gives, f.asked, f.listed) refl
-
-  -- a list without a fault is one that its spec allows
-  allowed : (b : Bool) (m : Meaning) → (cond b (fault_alone (parse (iter q))) m).fault ≡ None
-      → b ≡ false
-  allowed b m h = grind arith
-
-  by_test : (b : Bool)
-      → (cond b (fault_alone (parse (iter q))) (padded_list x.spec q nothing)).fault
-      ≡ cond b (Some (parse (iter q))) None
-  by_test b = grind arith
+  list_is = grind arith
 
   succeeds : (argument_meaning shows e start x q).fault ≡ None → forbids_list x.spec ≡ false
-  succeeds h =
-      allowed (forbids_list x.spec) (padded_list x.spec q (items_alone shows e l q ts))
-      (sym (ap (λ (m : Meaning). m.fault) list_is) ∙ h)
+  succeeds h = grind (arith, list_is)
 
   is_padded : forbids_list x.spec ≡ false
       → argument_meaning shows e start x q ≡ padded_list x.spec q (items_alone shows e l q ts)
@@ -200,21 +155,16 @@ module _ {X : Type 0} (shows : X → Trait → Spec → Shown) (e : Environment 
 
   module _ (none : chosen_items l.range ts ≡ []) where
     unpadded_is : items_alone shows e l q ts ≡ nothing
-    unpadded_is = rw none refl
+    unpadded_is = grind arith
 
     pub empty_text : (argument_meaning shows e start x q).fault ≡ None
         → (argument_meaning shows e start x q).text
         ≡ placed_at q (replicate (unwrap_or x.spec.width 0) (fill_of x.spec))
-    empty_text h =
-        ap (λ (m : Meaning). m.text)
-        (is_padded (succeeds h) ∙ ap (padded_list x.spec q) unpadded_is)
-        ∙ nothing_padded x.spec q
+    empty_text h = grind (arith, is_padded, succeeds, unpadded_is, nothing_padded)
 
     pub empty_fault : (argument_meaning shows e start x q).fault
         ≡ cond (forbids_list x.spec) (Some (parse (iter q))) None
-    empty_fault =
-        ap (λ (m : Meaning). m.fault) (list_is ∙ ap (of_list_means x.spec q) unpadded_is)
-        ∙ by_test (forbids_list x.spec)
+    empty_fault = grind (arith, list_is, unpadded_is)
 
   -- ---- a width
 
@@ -223,38 +173,22 @@ module _ {X : Type 0} (shows : X → Trait → Spec → Shown) (e : Environment 
         → argument_meaning shows e start x q
         ≡ buffered_means x.spec q (items_alone shows e l q ts).fault
         (text_of (items_alone shows e l q ts).text)
-    whole_is h = is_padded h ∙ rw wide refl
-
-    whole_text : (o : Option Fault) (cs : List ℕ) → (buffered_means x.spec q o cs).fault ≡ None
-        → (buffered_means x.spec q o cs).text ≡ placed_at q (padded_text x.spec cs)
-    whole_text o cs h = grind arith
+    whole_is h = grind (arith, is_padded)
 
     pub wide_text : (argument_meaning shows e start x q).fault ≡ None
         → (argument_meaning shows e start x q).text
         ≡ placed_at q (padded_text x.spec (text_of (items_alone shows e l q ts).text))
-    wide_text h =
-        let is = whole_is (succeeds h) in
-        let m = items_alone shows e l q ts in
-        ap (λ (k : Meaning). k.text) is
-        ∙ whole_text m.fault (text_of m.text) (sym (ap (λ (k : Meaning). k.fault) is) ∙ h)
+    wide_text h = grind (arith, whole_is, succeeds)
 
     pub wide_count : (argument_meaning shows e start x q).fault ≡ None
         → length (argument_meaning shows e start x q).text
         ≡ max width (length (items_alone shows e l q ts).text)
-    wide_count h =
-        let m = items_alone shows e l q ts in
-        let cs = text_of m.text in
-        ap length (wide_text h) ∙ length-map (padded_text x.spec cs) (λ c. (c, q))
-        ∙ padded_text_count x.spec cs
-        ∙ rw (wide, length-map m.text (λ (w : ℕ × ℕ). w.0)) refl
+    wide_count h = grind (arith, wide_text, length-map, padded_text_count)
 
     pub wide_fault : (d : Fault) → forbids_list x.spec ≡ false
         → (items_alone shows e l q ts).fault ≡ Some d
         → ((argument_meaning shows e start x q).text ≡ []) × ((argument_meaning shows e start x q).fault ≡ Some d)
-    wide_fault d h k =
-        let m = items_alone shows e l q ts in
-        let is = whole_is h ∙ ap (λ o. buffered_means x.spec q o (text_of m.text)) k in
-        (ap (λ (n : Meaning). n.text) is, ap (λ (n : Meaning). n.fault) is)
+    wide_fault d h k = grind (arith, whole_is)
 
   -- ---- no width
 

@@ -1,9 +1,11 @@
 -- One outcome after another.
-use Rattle.std.proofs.Common.{◌≡◌, refl, sym, ◌∙◌, ap, ◌+◌, List, ◌++◌, map, length}
+use Rattle.std.proofs.Common.{arith}
+use Rattle.std.proofs.lemmas.Grind.{common_steps}
+use Rattle.std.proofs.Common.{◌≡◌, sym, ◌∙◌, ap, ◌+◌, List, ◌++◌, map, length}
 use Rattle.std.proofs.Common.{Option, None, Some, option_map, inl, inr, append_assoc, length-append}
 use Rattle.std.proofs.lemmas.List.{map-append, length-map}
 use Rattle.std.proofs.Math.ListN.{get_or-map}
-use Rattle.std.proofs.lemmas.List.Elements.{Contains-append_left, Contains-append_right}
+use Rattle.std.proofs.lemmas.List.Elements.{Contains-append_right}
 use Rattle.std.specs.List.{Contains}
 use Rattle.interpolator_render.proofs.LayoutLemmas.{appends_both}
 use Rattle.interpolator_render.specs.Written.{Written}
@@ -13,11 +15,10 @@ use Rattle.interpolator_eval.specs.Meaning.Meanings.{Meaning, or_fault, chain}
 use Rattle.interpolator_eval.specs.Meaning.Outcomes.{Finished, Outcome}
 
 text_of-append : (xs ys : Placed) → text_of (xs ++ ys) ≡ text_of xs ++ text_of ys
-text_of-append xs ys = map-append (λ c. c.0) xs ys
+text_of-append xs ys = grind (arith, map-append)
 
 pub no_fault : (o : Option Fault) → None ≡ option_map fault o → o ≡ None
-no_fault None e = refl
-no_fault (Some f) e = cc
+no_fault o e = grind arith
 
 -- of the three outcomes, only the first can be without a fault
 pub finished_if_none : (m : Meaning) (old new : Written) → Outcome m old new None
@@ -28,7 +29,7 @@ finished_if_none m old new (inr (inr h)) = absurd (let e = h.told in cc)
 
 Contains-map :
     {A B : Type 0} (f : A → B) (xs : List A) (x : A) → Contains xs x → Contains (map f xs) (f x)
-Contains-map f xs x h = let k = h.1 in (h.0, rw length-map k, get_or-map f xs h.0 x ∙ ap f h.2)
+Contains-map f xs x h = grind (arith, length-map, get_or-map)
 
 -- after a meaning that was finished without a fault
 pub after_finished :
@@ -70,26 +71,4 @@ after_finished m k old mid new answer h (inr (inr o)) = rw (no_fault m.fault h.t
 pub before_fault :
     (m k : Meaning) (old new : Written) (q : Answer) (o : Option Fault) → m.fault ≡ o
     → Outcome m old new (Some q) → Outcome (or_fault o m k) old new (Some q)
-before_fault m k old new q (Some _) e h = h
-before_fault m k old new q None e (inl h) = absurd (let f = h.told ∙ ap (option_map fault) e in cc)
-before_fault m k old new q None e (inr (inl h)) =
-    inr (inl (record {
-      front = h.front;
-      c = h.c;
-      place = h.place;
-      back = h.back ++ k.text;
-      split = ap (λ l. l ++ k.text) h.split ∙ append_assoc h.front _ k.text;
-      appended = h.appended;
-      flag = h.flag;
-      none_after_refusal = h.none_after_refusal;
-      told = h.told;
-    }))
-before_fault m k old new q None e (inr (inr h)) =
-    inr (inr (record {
-      front = h.front;
-      back = h.back ++ k.text;
-      split = ap (λ l. l ++ k.text) h.split ∙ append_assoc h.front _ k.text;
-      point = Contains-append_left m.memory_points _ _ h.point;
-      begun = h.begun;
-      told = h.told;
-    }))
+before_fault m k old new q o e h = grind (arith, common_steps, append_assoc)

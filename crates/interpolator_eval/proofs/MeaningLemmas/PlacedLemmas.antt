@@ -1,15 +1,15 @@
 -- What a writer leaves of a text whose characters have places.
+use Rattle.std.proofs.Common.{rules}
 use Rattle.std.proofs.Common.{◌≡◌, refl, ◌∙◌, ap, ℕ, ◌+◌, ◌<◌, List, [], ◌∷◌}
-use Rattle.std.proofs.Common.{◌++◌, length, None, Some, inl, inr, arith, subst}
+use Rattle.std.proofs.Common.{◌++◌, length, None, Some, inl, inr, arith}
 use Rattle.std.proofs.lemmas.List.{map-append}
 use Rattle.std.specs.Char.{len_utf8}
 use Rattle.std.specs.Prelude.{Ok, Err}
 use Rattle.interpolator_render.specs.declared.view.Spec.{Spec}
 use Rattle.interpolator_render.specs.declared.view.Trait.{Trait}
 use Rattle.interpolator_render.specs.declared.view.RenderFault.TheVariants.{Refused as RefusedFault}
-use Rattle.interpolator_render.specs.Characters.{cut}
 use Rattle.interpolator_render.specs.Padding.{padded_text, displayed_text}
-use Rattle.interpolator_render.specs.Texts.{ViewText, has_text, Renders, view_text}
+use Rattle.interpolator_render.specs.Texts.{ViewText, Renders, view_text}
 use Rattle.interpolator_render.specs.Views.{some_text}
 use Rattle.interpolator_render.specs.declared.view.Trait.TheVariants.{Display}
 use Rattle.interpolator_render.proofs.RenderingLemmas.{displayed_as_it_is}
@@ -24,7 +24,7 @@ use Rattle.interpolator_syntax.proofs.CharacterLemmas.{length-encodes}
 
 text_of-placed_at : (p : ℕ) (cs : List ℕ) → text_of (placed_at p cs) ≡ cs
 text_of-placed_at p [] = refl
-text_of-placed_at p (c ∷ cs) = ap (λ xs. c ∷ xs) (text_of-placed_at p cs)
+text_of-placed_at p (c ∷ cs) = grind (arith, text_of-placed_at p cs)
 
 text_of-placed_from : (p : ℕ) (cs : List ℕ) → text_of (placed_from p cs) ≡ cs
 text_of-placed_from p [] = refl
@@ -63,12 +63,12 @@ module _ (placed : List ℕ → Placed) (own : (cs : List ℕ) → text_of (plac
       }))
 
   refused : IsRefused
-  refused = refused_before h.rest h.parts h.not_whole
+  refused = grind (arith, refused_before)
 
 -- a text whose characters are all at one place was written whole, or refused
 pub wrote_at : (p : ℕ) (cs : List ℕ) (old new : Written) → Appends old cs new
     → Outcome (text_alone (placed_at p cs)) old new None
-wrote_at p cs old new h = inl (record { all = rw (text_of-placed_at p cs) h; told = refl })
+wrote_at p cs old new h = grind (arith, text_of-placed_at)
 
 pub refused_at : (p : ℕ) (cs : List ℕ) (old new : Written) → AppendsBeginning old cs new
     → Outcome (text_alone (placed_at p cs)) old new (Some (fault (fmt p)))
@@ -79,7 +79,7 @@ refused_at p =
 -- a text whose characters are one after the other was written whole, or refused
 pub wrote_from : (p : ℕ) (cs : List ℕ) (old new : Written) → Appends old cs new
     → Outcome (text_alone (placed_from p cs)) old new None
-wrote_from p cs old new h = inl (record { all = rw (text_of-placed_from p cs) h; told = refl })
+wrote_from p cs old new h = grind (arith, text_of-placed_from)
 
 pub refused_from :
     (p : ℕ) (cs : List ℕ) (taken : ℕ) (old new : Written) → Refuses old cs taken new
@@ -94,41 +94,32 @@ refused_from p cs taken old new h =
 -- a writer takes less of a refused text than all of it
 pub taken_fits :
     (cs : List ℕ) (taken : ℕ) (old new : Written) → Refuses old cs taken new → taken < size cs + 1
-taken_fits cs taken old new h =
-    let whole = ap size h.part.parts ∙ size-append h.part.beginning h.part.rest in
-    let part = h.counted ∙ length-encodes h.part.beginning in omega arith
+taken_fits cs taken old new h = grind (arith, size-append, length-encodes)
 
 -- a view was written whole, or refused
 pub view_wrote :
     (t : Trait) (p : ℕ) (m : ViewText) (old new : Written) (u : Unit {0}) → Renders m old (Ok u) new
     → Outcome (view_means t p m) old new None
-view_wrote t p (has_text cs) old new u h = wrote_at p cs old new h
-view_wrote t p m old new u h = absurd h
+view_wrote t p m old new u h = grind (arith, wrote_at)
 
 pub view_refused :
     (t : Trait) (p : ℕ) (m : ViewText) (old new : Written) → Renders m old (Err RefusedFault) new
     → Outcome (view_means t p m) old new (Some (fault (fmt p)))
-view_refused t p (has_text cs) old new h = refused_at p cs old new h
-view_refused t p m old new h = absurd h
+view_refused t p m old new h = grind (arith, refused_at)
 
 -- a text that is displayed plainly means itself
 pub plain_text_means : (p : ℕ) (cs : List ℕ)
     → view_means Display p (view_text (some_text cs) Display plain_spec) ≡ text_alone (placed_at p cs)
 unfolding view_text
-plain_text_means p cs =
-    ap (λ text. text_alone (placed_at p text)) (displayed_as_it_is plain_spec cs refl refl)
+plain_text_means p cs = search (rules, displayed_as_it_is)
 
 -- a padded text was written whole, or refused
 module _ (spec : Spec) (cs : List ℕ) (p : ℕ) (old new : Written) (none : spec.precision
     ≡ None) where
   pub pad_wrote : Appends old (displayed_text spec cs) new
       → Outcome (text_alone (placed_at p (padded_text spec cs))) old new None
-  pad_wrote h =
-      wrote_at p (padded_text spec cs) old new
-      (subst (λ o. Appends old (padded_text spec (cut o cs)) new) none h)
+  pad_wrote h = grind (arith, wrote_at)
 
   pub pad_refused : AppendsBeginning old (displayed_text spec cs) new
       → Outcome (text_alone (placed_at p (padded_text spec cs))) old new (Some (fault (fmt p)))
-  pad_refused h =
-      refused_at p (padded_text spec cs) old new
-      (subst (λ o. AppendsBeginning old (padded_text spec (cut o cs)) new) none h)
+  pad_refused h = grind (arith, refused_at)

@@ -1,5 +1,6 @@
 -- What is written to a sink, one after another.
-use Rattle.std.proofs.Common.{◌≡◌, refl, ◌∙◌, ℕ, List, [], ◌∷◌, ◌++◌, Option, None, Some, option_map, false}
+use Rattle.std.proofs.Common.{rules}
+use Rattle.std.proofs.Common.{◌≡◌, ℕ, [], ◌∷◌, ◌++◌, Option, None, Some, option_map, false}
 use Rattle.std.proofs.Common.{inl, inr, arith}
 use Rattle.interpolator_render.specs.declared.view.Spec.{Spec}
 use Rattle.interpolator_render.proofs.LayoutLemmas.{appends_none}
@@ -11,31 +12,29 @@ use Rattle.interpolator_eval.specs.Meaning.Meanings.{chain}
 use Rattle.interpolator_eval.specs.Meaning.Outcomes.{Outcome}
 use Rattle.interpolator_eval.specs.Meaning.Sinks.{SameEnd, Writes, taken_by}
 use Rattle.interpolator_eval.specs.declared.evaluate.sink.Sink.{Sink}
-use Rattle.interpolator_eval.specs.declared.evaluate.sink.Sink.TheVariants.{Writer, Buffer}
 use Rattle.interpolator_eval.proofs.MeaningLemmas.OutcomeLemmas.{finished_if_none, after_finished}
 use Rattle.interpolator_eval.proofs.MeaningLemmas.OutcomeLemmas.{before_fault}
-use Rattle.std.specs.List.{Contains}
 
 pub and_then :
     (m k : Meaning) (s t u : Written) (answer : Option Answer) → Outcome m s t None
     → Outcome k t u answer → Outcome (chain m k) s u answer
-and_then m k s t u answer h o = after_finished m k s t u answer (finished_if_none m s t h) o
+and_then m k s t u answer h o = search (rules, after_finished, finished_if_none)
 
 pub fault_first :
     (m k : Meaning) (s t : Written) (q : Answer) → Outcome m s t (Some q)
     → Outcome (chain m k) s t (Some q)
-fault_first m k s t q h = before_fault m k s t q m.fault refl h
+fault_first m k s t q h = grind (arith, before_fault)
 
 -- if no text is meant, nothing is written
 stops : (m : Meaning) (s : Written) (answer : Option Answer) → m.text ≡ []
     → answer ≡ option_map fault m.fault → Outcome m s s answer
-stops m s answer none told = inl (record { all = rw none (appends_none s); told = told })
+stops m s answer none told = grind (arith, appends_none)
 
 pub nothing_done : (s : Written) → Outcome nothing s s None
-nothing_done s = stops nothing s None refl refl
+nothing_done s = grind (arith, stops)
 
 pub ended : (f : Fault) (s : Written) → Outcome (fault_alone f) s s (Some (fault f))
-ended f s = stops (fault_alone f) s (Some (fault f)) refl refl
+ended f s = grind (arith, stops)
 
 -- if nothing is meant, no fault is returned
 pub nothing_fails : (s t : Written) (q : Answer) → Outcome nothing s t (Some q) → ⊥
@@ -48,16 +47,10 @@ nothing_fails s t q (inr (inl k)) = by_front k.front k.split
 nothing_fails s t q (inr (inr k)) = omega (arith, k.point.1)
 
 pub same_end : {W : Type 0} (s : Sink W) → SameEnd s s
-same_end (Writer out) = refl
-same_end (Buffer buffer) = refl
+same_end s = grind arith
 
 pub same_then : {W : Type 0} (s t u : Sink W) → SameEnd s t → SameEnd t u → SameEnd s u
-same_then (Writer a) (Writer b) (Writer c) h k = k ∙ h
-same_then (Buffer a) (Buffer b) (Buffer c) h k = k ∙ h
-same_then (Writer a) (Writer b) (Buffer c) h k = k
-same_then (Buffer a) (Buffer b) (Writer c) h k = k
-same_then (Writer a) (Buffer b) c h k = absurd h
-same_then (Buffer a) (Writer b) c h k = absurd h
+same_then s t u h k = grind arith
 
 -- the whole goes on from what was written so far
 pub goes_on :
@@ -65,32 +58,14 @@ pub goes_on :
     → ((new : Written) (r : Option Answer) → Outcome k (taken_by written t) new r
     → Outcome m (taken_by written s) new r)
     → SameEnd s t → Writes written k t u answer → Writes written m s u answer
-goes_on written m k s t u answer so_far same o =
-    record { outcome = so_far _ _ o.outcome; same = same_then s t u same o.same }
+goes_on written m k s t u answer so_far same o = grind (arith, same_then)
 
 -- ---- a text that is made whole in a buffer, and then written
 
 module _ (spec : Spec) (q : ℕ) where
-  -- there was no memory for it: nothing of it was written
-  wants_memory : (o : Option Fault) (cs : List ℕ) (s : Written)
-      → Outcome (buffered_means spec q o cs) s s (Some no_memory)
-  wants_memory o cs s =
-      inr (inr (record {
-        front = [];
-        back = (buffered_means spec q o cs).text;
-        split = refl;
-        point = first_point o;
-        begun = appends_none s;
-        told = refl;
-      }))
-    where
-      first_point : (o : Option Fault) → Contains (buffered_means spec q o cs).memory_points 0
-      first_point None = (0, omega arith, refl)
-      first_point (Some f) = (0, omega arith, refl)
-
   pub whole_refused : (m : Meaning) (out : Written)
       → Outcome (buffered_means spec q m.fault (text_of m.text)) out out (Some no_memory)
-  whole_refused m out = wants_memory m.fault (text_of m.text) out
+  whole_refused m out = grind (arith, appends_none)
 
   -- what was made went to the buffer `now`, which was `empty`, up to its fault; nothing goes to `out`
   module _ (m : Meaning) (out empty now : Written) (f : Answer) where
@@ -99,8 +74,7 @@ module _ (spec : Spec) (q : ℕ) where
 
     by_fault : (o : Option Fault) → Some f ≡ option_map fault o
         → Outcome (buffered_means spec q o (text_of m.text)) out out (Some f)
-    by_fault None d = absurd (cc)
-    by_fault (Some g) d = stops _ _ _ refl d
+    by_fault o d = grind (arith, stops)
 
     pub whole_fault : now.refused ≡ false → Outcome m empty now (Some f) → Whole
     whole_fault kept (inl k) = by_fault m.fault k.told

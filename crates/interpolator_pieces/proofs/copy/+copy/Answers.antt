@@ -1,5 +1,4 @@
 use Rattle.std.proofs.Common.{◌∙◌, sym}
-use Rattle.interpolator_pieces.proofs.CopyLemmas.{same_node}
 use Rattle.interpolator_pieces.proofs.StoredLemmas.{node_of_out, node_of_roll}
 use Rattle.interpolator_pieces.proofs.copy.+copy.Goals as goal
 
@@ -7,7 +6,10 @@ pub copy_piece-returns : goal.copy_piece-returns
 copy_piece-returns t c =
     record {
       same = λ bs. node_of_roll bs _
-          ∙ same_node _ _ _ _ _ _ _ _ _ (c.in_ok-form.ensures.same bs _ _ _ _ _)
-          (c.in_ok-item.ensures.same bs) (c.in_ok-join.ensures.same bs)
-          ∙ sym (node_of_out bs c.args.piece.now);
+          ∙ rw (
+            c.in_ok-form.ensures.same bs,
+            c.in_ok-item.ensures.same bs,
+            c.in_ok-join.ensures.same bs,
+          )
+          (sym (node_of_out bs c.args.piece.now));
     }

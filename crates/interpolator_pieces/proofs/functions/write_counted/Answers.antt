@@ -19,8 +19,8 @@ invariant_of-source g c = record {
 pub returns-clause-outcome : goal.returns-clause-outcome
 returns-clause-outcome g c =
     let e = environment (g.C.Context.finds c.args.context.now) in
-    let o = text_outcome c.args.format.now c.args.pieces.now (outermost (chars c.args.format.now))
-    c.requires.pieces g.C.Object.Value.shows e _ _ _ _ c.outermost-environment.ensures
+    let o = text_outcome _ _ _ c.requires.pieces g.C.Object.Value.shows e _ _ _ _
+    c.outermost-environment.ensures
     (rw c.in-Writer.is at c.write_source-answer.ensures.writes.outcome) in
     search rules
 
@@ -28,27 +28,24 @@ pub returns-clause-asked : goal.returns-clause-asked
 returns-clause-asked g c =
     let e = environment (g.C.Context.finds c.args.context.now) in
     let a = outermost (chars c.args.format.now) in
-    let o = text_outcome c.args.format.now c.args.pieces.now a c.requires.pieces
-    g.C.Object.Value.shows e _ _ _ _ c.outermost-environment.ensures
+    let o = text_outcome _ _ _ c.requires.pieces g.C.Object.Value.shows e _ _ _ _
+    c.outermost-environment.ensures
     (rw c.in-Writer.is at c.write_source-answer.ensures.writes.outcome) in
     asked_outcome g.C.Object.Value.shows e a _ _ _ (search rules)
 
 pub returns-clause-place : goal.returns-clause-place
 returns-clause-place g c =
     let e = environment (g.C.Context.finds c.args.context.now) in
-    let a = outermost (chars c.args.format.now) in
     outcome_lies_from g.C.Object.Value.shows e 0 (chars c.args.format.now)
     (length c.args.format.now) _ _ _ (omega (arith, size-chars c.args.format.now c.utf8.format))
-    (text_outcome c.args.format.now c.args.pieces.now a c.requires.pieces
-    g.C.Object.Value.shows e _ _ _ _ c.outermost-environment.ensures
+    (text_outcome _ _ _ c.requires.pieces g.C.Object.Value.shows e _ _ _ _
+    c.outermost-environment.ensures
     (rw c.in-Writer.is at c.write_source-answer.ensures.writes.outcome))
 
 pub returns-clause-gone : goal.returns-clause-gone
 returns-clause-gone g c =
     let e = environment (g.C.Context.finds c.args.context.now) in
-    let a = outermost (chars c.args.format.now) in
-    let shows = g.C.Object.Value.shows in
-    let goes = text_goes shows e _ c.args.format.now c.args.pieces.now a c.requires.pieces
+    let goes = text_goes g.C.Object.Value.shows e _ _ _ _ c.requires.pieces
     c.outermost-environment.ensures in
     omega (arith, c.write_source-answer.ensures.gone, goes)
 
@@ -56,17 +53,14 @@ pub returns-clause-within : goal.returns-clause-within
 returns-clause-within g c limits within =
     let e = environment (g.C.Context.finds c.args.context.now) in
     let a = outermost (chars c.args.format.now) in
-    let shows = g.C.Object.Value.shows in
-    let goes = text_goes shows e _ c.args.format.now c.args.pieces.now a c.requires.pieces
+    let goes = text_goes g.C.Object.Value.shows e _ _ _ _ c.requires.pieces
     c.outermost-environment.ensures in
-    let cost = text_at_most shows limits e a within in
+    let cost = text_at_most g.C.Object.Value.shows limits e a within in
     omega (arith, c.write_source-answer.ensures.gone, goes, cost.pieces)
 
 pub returns-clause-exact : goal.returns-clause-exact
 returns-clause-exact g c =
     let e = environment (g.C.Context.finds c.args.context.now) in
-    let a = outermost (chars c.args.format.now) in
-    let shows = g.C.Object.Value.shows in
-    let goes = text_goes shows e _ c.args.format.now c.args.pieces.now a c.requires.pieces
+    let goes = text_goes g.C.Object.Value.shows e _ _ _ _ c.requires.pieces
     c.outermost-environment.ensures in
     rw (← goes) c.write_source-answer.ensures.exact

@@ -1,8 +1,7 @@
 use Rattle.std.proofs.Common.{◌≡◌, [], ◌∷◌, sym}
 use Rattle.std.specs.Str.{chars}
 use Rattle.interpolator_eval.specs.Meaning.AskedNames.{context_names}
-use Rattle.interpolator_pieces.proofs.StoredNameLemmas.{asked_empty, asked_outside}
-use Rattle.interpolator_pieces.proofs.StoredNameLemmas.{asked_named}
+use Rattle.interpolator_pieces.proofs.StoredNameLemmas.{asked_empty, asked_outside, asked_named}
 use Rattle.interpolator_pieces.proofs.names.context_name.Goals as goal
 use Rattle.interpolator_pieces.proofs.names.context_name.Goals.{else-in_item-via-then-in_item+else-is_empty}
 use Rattle.interpolator_pieces.proofs.names.context_name.Goals.{else-in_item-via-else-in_item}

@@ -1,18 +1,15 @@
-use Rattle.std.proofs.Common.{◌≡◌, refl, sym, arith}
-use Rattle.std.proofs.Common.{Some, rules}
+use Rattle.std.proofs.Common.{◌≡◌, ◌∙◌, refl, sym, arith, Some, rules}
 use Rattle.std.specs.Str.{chars}
 use Rattle.interpolator_syntax.specs.At.{at}
 use Rattle.interpolator_syntax.specs.Tokens.{literals, doubled, lone_close, argument, first_token}
 use Rattle.interpolator_syntax.proofs.TokenLemmas.{scan_shorter, token_shorter}
 use Rattle.interpolator_eval.proofs.MeaningLemmas.ScanLemmas.{asked_ok, asked_broken}
-use Rattle.interpolator_pieces.proofs.WithinLemmas.{after_front, within_same}
+use Rattle.interpolator_pieces.proofs.WithinLemmas.{after_front}
 use Rattle.interpolator_syntax.proofs.TokenTextLemmas.{takes_token}
-use Rattle.interpolator_pieces.proofs.ParseLemmas.{rest_is, list_pushed, list_within}
-use Rattle.interpolator_pieces.proofs.ParseLemmas.{broken_is, doubled_ends}
-use Rattle.interpolator_pieces.proofs.ParseLemmas.{literals_pushed, doubled_pushed}
-use Rattle.interpolator_pieces.proofs.ParseLemmas.{lone_pushed, left_within}
-use Rattle.interpolator_pieces.proofs.ParseLemmas.{name_pushed, name_rest}
-use Rattle.interpolator_pieces.proofs.ParseLemmas.{reads_on, all_read}
+use Rattle.interpolator_pieces.proofs.ParseLemmas.{rest_is, list_pushed, list_within, broken_is}
+use Rattle.interpolator_pieces.proofs.ParseLemmas.{doubled_ends, literals_node, doubled_node}
+use Rattle.interpolator_pieces.proofs.ParseLemmas.{lone_node, left_within, text_reads, name_pushed}
+use Rattle.interpolator_pieces.proofs.ParseLemmas.{name_rest, reads_on, all_read}
 use Rattle.interpolator_pieces.proofs.StoredLemmas.{node_of_roll}
 use Rattle.interpolator_pieces.proofs.parse.+parse.Goals as goal
 
@@ -42,17 +39,14 @@ parse_pieces-loop-token-smaller-in_ok-push_piece-in-Literals t c =
 pub parse_pieces-loop-token-preserved-in_ok-push_piece-in-Literals :
     goal.parse_pieces-loop-token-preserved-in_ok-push_piece-in-Literals
 parse_pieces-loop-token-preserved-in_ok-push_piece-in-Literals t c =
-    let text = at c.args.text in
     let here = at c.loop-token.here in
     let rest = at c.in-Some.rest in
-    let old = c.loop-token.pieces.items in
     let cs = chars c.in-Literals.field-0.now in
     let token : first_token here ≡ Some (literals cs, rest) =
     rw c.in-Literals.is at (sym c.in-Some.ensures.token) in
-    reads_on text here old c.loop-token.invariant rest (literals cs) here rest _ token
-    (within_same here)
-    (literals_pushed here rest old _ c.text_piece-piece.result
-    c.in_ok-push_piece-in-Literals.ensures cs token c.text_piece-piece.ensures.node) refl
+    text_reads (at c.args.text) here _ c.loop-token.invariant (literals cs) rest _ _ token refl
+    c.in_ok-push_piece-in-Literals.ensures
+    (λ bs u w. c.text_piece-piece.ensures.node bs ∙ literals_node bs u here w cs rest token)
 
 pub parse_pieces-loop-token-smaller-in_ok-push_piece-in-Doubled :
     goal.parse_pieces-loop-token-smaller-in_ok-push_piece-in-Doubled
@@ -62,18 +56,15 @@ parse_pieces-loop-token-smaller-in_ok-push_piece-in-Doubled t c =
 pub parse_pieces-loop-token-preserved-in_ok-push_piece-in-Doubled :
     goal.parse_pieces-loop-token-preserved-in_ok-push_piece-in-Doubled
 parse_pieces-loop-token-preserved-in_ok-push_piece-in-Doubled t c =
-    let text = at c.args.text in
     let here = at c.loop-token.here in
     let rest = at c.in-Some.rest in
-    let old = c.loop-token.pieces.items in
     let brace = c.in-Doubled.field-0 in
     let token : first_token here ≡ Some (doubled brace, rest) =
     rw c.in-Doubled.is at (sym c.in-Some.ensures.token) in
-    reads_on text here old c.loop-token.invariant rest (doubled brace) here rest _ token
-    (within_same here)
-    (doubled_pushed here rest old _ c.text_piece-piece-in-Doubled.result
-    c.in_ok-push_piece-in-Doubled.ensures brace token
-    c.text_piece-piece-in-Doubled.ensures.node) refl
+    text_reads (at c.args.text) here _ c.loop-token.invariant (doubled brace) rest _ _ token refl
+    c.in_ok-push_piece-in-Doubled.ensures
+    (λ bs u w. c.text_piece-piece-in-Doubled.ensures.node bs
+    ∙ doubled_node bs u here w brace rest token)
 
 pub parse_pieces-loop-token-smaller-in_ok-push_piece-in-LoneClose :
     goal.parse_pieces-loop-token-smaller-in_ok-push_piece-in-LoneClose
@@ -83,17 +74,13 @@ parse_pieces-loop-token-smaller-in_ok-push_piece-in-LoneClose t c =
 pub parse_pieces-loop-token-preserved-in_ok-push_piece-in-LoneClose :
     goal.parse_pieces-loop-token-preserved-in_ok-push_piece-in-LoneClose
 parse_pieces-loop-token-preserved-in_ok-push_piece-in-LoneClose t c =
-    let text = at c.args.text in
     let here = at c.loop-token.here in
     let rest = at c.in-Some.rest in
-    let old = c.loop-token.pieces.items in
     let token : first_token here ≡ Some (lone_close, rest) =
     rw c.in-LoneClose.is at (sym c.in-Some.ensures.token) in
-    reads_on text here old c.loop-token.invariant rest lone_close here rest _ token
-    (within_same here)
-    (lone_pushed here rest old _ c.text_piece-piece-in-LoneClose.result
-    c.in_ok-push_piece-in-LoneClose.ensures token
-    c.text_piece-piece-in-LoneClose.ensures.node) refl
+    text_reads (at c.args.text) here _ c.loop-token.invariant lone_close rest _ _ token refl
+    c.in_ok-push_piece-in-LoneClose.ensures
+    (λ bs u w. c.text_piece-piece-in-LoneClose.ensures.node bs ∙ lone_node bs u here w rest token)
 
 pub parse_pieces-loop-token-smaller : goal.parse_pieces-loop-token-smaller
 parse_pieces-loop-token-smaller t c =

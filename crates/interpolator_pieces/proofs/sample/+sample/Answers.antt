@@ -3,13 +3,10 @@ use Rattle.std.proofs.lemmas.Result.{err_from_is_err_and}
 use Rattle.interpolator_syntax.specs.Faults.{answer_of}
 use Rattle.interpolator_eval.specs.Meaning.Samples.{sample_of, level_in, bind_each}
 use Rattle.interpolator_pieces.specs.NodeChecks.{stored_own_fault, stored_end_fault}
-use Rattle.interpolator_pieces.specs.Stored.{content_of}
-use Rattle.interpolator_pieces.specs.declared.piece.Piece.TheViews.{out-Piece}
 use Rattle.interpolator_pieces.proofs.CollectLemmas.{piece_ends, piece_goes_on, pieces_over}
-use Rattle.interpolator_pieces.proofs.CollectLemmas.{piece_deep, item_deep, join_deep}
-use Rattle.interpolator_pieces.proofs.CollectLemmas.{group_deep, item_told}
-use Rattle.interpolator_pieces.proofs.CollectLemmas.{asked_ends, own_ends, item_ends}
-use Rattle.interpolator_pieces.proofs.CollectLemmas.{join_ends, last_told}
+use Rattle.interpolator_pieces.proofs.CollectLemmas.{group_deep, item_told, asked_ends, own_ends}
+use Rattle.interpolator_pieces.proofs.WalkLemmas.{piece_depth, piece_within}
+use Rattle.interpolator_pieces.proofs.CollectLemmas.{item_ends, join_ends, last_told}
 use Rattle.interpolator_pieces.proofs.WholePieceLemmas.{in_item, in_join, fits_text}
 use Rattle.interpolator_pieces.proofs.WholePieceLemmas.{piece_whole, most_at}
 use Rattle.interpolator_pieces.proofs.piece.Piece.TheLaws.{the_size}
@@ -27,10 +24,9 @@ collect_pieces-collect_piece-requires g t c κs within =
     let x = c.piece-item.result in
     let whole = piece_whole c.args.text.now xs i x (search rules) c.loop-piece-test.true
     c.piece-item.is in
-    let deep = piece_deep c.args.text.now xs i x (level_in c.args.sample.now) _
-    c.loop-piece-test.true c.piece-item.is (search rules) in
+    let within_all = piece_within c.args.text.now xs i x c.loop-piece-test.true c.piece-item.is in
     let smaller = most_at the_size xs i x c.loop-piece-test.true c.piece-item.is in
-    (search (rules, smaller), (within.0, (within.1, (whole, deep))))
+    (search (rules, smaller), (within.0, (within.1, (whole, omega (arith, within_all)))))
 
 pub collect_pieces-returns-in_err-collect_piece : goal.collect_pieces-returns-in_err-collect_piece
 collect_pieces-returns-in_err-collect_piece g t c =
@@ -38,47 +34,39 @@ collect_pieces-returns-in_err-collect_piece g t c =
     rw (err.1, err.2) (record {
       collects = c.loop-piece.invariant c.collect_piece.new.collector
           (Some (answer_of c.in_err-collect_piece.field-0.0))
-          (piece_ends g.C.Object.Value.shows (sample_of g.C.Context.finds c.args.sample.now)
-          c.args.text.now c.args.pieces.now c.loop-piece.piece-index c.piece-item.result
-          c.loop-piece.collector c.collect_piece.new.collector _ c.loop-piece-test.true c.piece-item.is
-          c.in_err-collect_piece.ensures.collects);
+          (piece_ends _ _ _ _ _ _ c.loop-piece.collector c.collect_piece.new.collector _
+          c.loop-piece-test.true c.piece-item.is c.in_err-collect_piece.ensures.collects);
     })
 
 pub collect_pieces-loop-piece-preserved : goal.collect_pieces-loop-piece-preserved
 collect_pieces-loop-piece-preserved g t c = λ new r k.
     c.loop-piece.invariant new r
-    (piece_goes_on g.C.Object.Value.shows (sample_of g.C.Context.finds c.args.sample.now)
-    c.args.text.now c.args.pieces.now c.loop-piece.piece-index c.piece-item.result c.loop-piece.collector
-    c.collect_piece.new.collector new r c.loop-piece-test.true c.piece-item.is c.in_ok-collect_piece.ensures.collects k)
+    (piece_goes_on _ _ _ _ _ _ c.loop-piece.collector c.collect_piece.new.collector new r
+    c.loop-piece-test.true c.piece-item.is c.in_ok-collect_piece.ensures.collects k)
 
 pub collect_pieces-returns : goal.collect_pieces-returns
 collect_pieces-returns g t c = record {
   collects = c.loop-piece.invariant c.loop-piece.collector None
-      (pieces_over g.C.Object.Value.shows (sample_of g.C.Context.finds c.args.sample.now)
-      c.args.text.now c.args.pieces.now c.loop-piece.piece-index c.loop-piece.collector
-      c.loop-piece-test.false);
+      (pieces_over _ _ _ _ _ c.loop-piece.collector c.loop-piece-test.false);
 }
 
 -- ---- one piece
 
 pub collect_piece-collect_item-requires : goal.collect_piece-collect_item-requires
 collect_piece-collect_item-requires g t c κs within =
-    let deep = item_deep c.args.text.now c.args.piece.now (level_in c.args.sample.now) _
-    (search rules) in
-    (search rules, (within.0, (within.1, (search rules, deep))))
+    let depth = piece_depth c.args.text.now c.args.piece.now in
+    (search rules, (within.0, (within.1, (search rules, omega (arith, depth)))))
 
 pub collect_piece-collect_join-requires : goal.collect_piece-collect_join-requires
 collect_piece-collect_join-requires g t c κs within =
-    let deep = join_deep c.args.text.now c.args.piece.now (level_in c.args.sample.now) _
-    (search rules) in
-    (search rules, (within.0, (within.1, (search rules, deep))))
+    let depth = piece_depth c.args.text.now c.args.piece.now in
+    (search rules, (within.0, (within.1, (search rules, omega (arith, depth)))))
 
 pub collect_piece-returns-in_err-collect_asked : goal.collect_piece-returns-in_err-collect_asked
 collect_piece-returns-in_err-collect_asked g t c =
     let err = err_from_is_err_and c.from_residual.result c.from_residual.ensures.1 in
     rw (err.1, err.2) (record {
-      collects = asked_ends g.C.Object.Value.shows (sample_of g.C.Context.finds c.args.sample.now)
-          c.args.text.now c.args.piece.now (search rules) c.args.collector.now
+      collects = asked_ends _ _ c.args.text.now c.args.piece.now (search rules) c.args.collector.now
           c.collect_asked.new.collector _ c.in_err-collect_asked.ensures.collects;
     })
 
@@ -87,8 +75,7 @@ collect_piece-returns-in_err-collect_checked g t c =
     let residual = c.from_residual-in_err-collect_checked in
     let err = err_from_is_err_and residual.result residual.ensures.1 in
     rw (err.1, err.2) (record {
-      collects = own_ends g.C.Object.Value.shows (sample_of g.C.Context.finds c.args.sample.now)
-          c.args.text.now c.args.piece.now (search rules) c.args.collector.now
+      collects = own_ends _ _ c.args.text.now c.args.piece.now (search rules) c.args.collector.now
           c.collect_asked.new.collector c.in_ok-collect_asked.ensures.collects c.collect_checked.new.self _
           (c.in_err-collect_checked.ensures (stored_own_fault c.args.piece.now)
           c.check_own.ensures.own);
@@ -99,8 +86,7 @@ collect_piece-returns-in_err-collect_item g t c =
     let residual = c.from_residual-in_err-collect_item in
     let err = err_from_is_err_and residual.result residual.ensures.1 in
     rw (err.1, err.2) (record {
-      collects = item_ends g.C.Object.Value.shows (sample_of g.C.Context.finds c.args.sample.now)
-          c.args.text.now c.args.piece.now (search rules) c.args.collector.now
+      collects = item_ends _ _ c.args.text.now c.args.piece.now (search rules) c.args.collector.now
           c.collect_asked.new.collector c.in_ok-collect_asked.ensures.collects c.collect_checked.new.self
           (c.in_ok-collect_checked.ensures (stored_own_fault c.args.piece.now)
           c.check_own.ensures.own)
@@ -112,8 +98,7 @@ collect_piece-returns-in_err-collect_join g t c =
     let residual = c.from_residual-in_err-collect_join in
     let err = err_from_is_err_and residual.result residual.ensures.1 in
     rw (err.1, err.2) (record {
-      collects = join_ends g.C.Object.Value.shows (sample_of g.C.Context.finds c.args.sample.now)
-          c.args.text.now c.args.piece.now (search rules) c.args.collector.now
+      collects = join_ends _ _ c.args.text.now c.args.piece.now (search rules) c.args.collector.now
           c.collect_asked.new.collector c.in_ok-collect_asked.ensures.collects c.collect_checked.new.self
           (c.in_ok-collect_checked.ensures (stored_own_fault c.args.piece.now)
           c.check_own.ensures.own)
@@ -123,8 +108,7 @@ collect_piece-returns-in_err-collect_join g t c =
 
 pub collect_piece-returns : goal.collect_piece-returns
 collect_piece-returns g t c = record {
-  collects = last_told g.C.Object.Value.shows (sample_of g.C.Context.finds c.args.sample.now)
-      c.args.text.now c.args.piece.now (search rules) c.args.collector.now
+  collects = last_told _ _ c.args.text.now c.args.piece.now (search rules) c.args.collector.now
       c.collect_asked.new.collector c.in_ok-collect_asked.ensures.collects c.collect_checked.new.self
       (c.in_ok-collect_checked.ensures (stored_own_fault c.args.piece.now)
       c.check_own.ensures.own)
@@ -140,10 +124,8 @@ collect_item-returns-in-Some g t c =
     let s = sample_of g.C.Context.finds c.args.sample.now in
     let fits = fits_text c.args.text.now c.args.piece.now (search rules) in
     record {
-      collects = item_told g.C.Object.Value.shows s c.args.text.now
-          (content_of c.args.text.now c.args.piece.now) (out-Piece c.args.piece.now).item _
-          c.deref.result.now (sample_of g.C.Context.finds c.bind_each.result) c.args.collector.now
-          c.collect_pieces.new.collector _ fits.held c.in-Some.is c.deref.ensures.value
+      collects = item_told _ _ _ _ _ _ _ _ c.args.collector.now c.collect_pieces.new.collector _
+          fits.held c.in-Some.is c.deref.ensures.value
           (c.bind_each.ensures.sample ∙ ap (bind_each s) c.items_of-items.ensures.items)
           c.collect_pieces.ensures.collects;
     }

@@ -8,18 +8,15 @@ use Rattle.interpolator_pieces.proofs.sample.collect_asked.Goals as goal
 
 pub name_of-start-requires : goal.name_of-start-requires
 name_of-start-requires g c =
-    let fits = fits_text c.args.text.now c.args.piece.now c.requires.whole in
-    record { fits = name_fits c.args.text.now c.args.piece.now c.in-Plain.is fits.held }
+    record { fits = name_fits _ _ c.in-Plain.is (fits_text _ _ c.requires.whole).held }
 
 pub name_of-start-requires-in-Value : goal.name_of-start-requires-in-Value
 name_of-start-requires-in-Value g c =
-    let fits = fits_text c.args.text.now c.args.piece.now c.requires.whole in
-    record { fits = value_fits c.args.text.now c.args.piece.now _ c.in-Value.is fits.held }
+    record { fits = value_fits _ _ _ c.in-Value.is (fits_text _ _ c.requires.whole).held }
 
 pub name_of-start-requires-in-List : goal.name_of-start-requires-in-List
 name_of-start-requires-in-List g c =
-    let fits = fits_text c.args.text.now c.args.piece.now c.requires.whole in
-    record { fits = list_fits c.args.text.now c.args.piece.now _ c.in-List.is fits.held }
+    record { fits = list_fits _ _ _ c.in-List.is (fits_text _ _ c.requires.whole).held }
 
 pub returns-in-Plain : goal.returns-in-Plain
 returns-in-Plain g c =

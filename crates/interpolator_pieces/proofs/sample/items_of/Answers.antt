@@ -4,5 +4,4 @@ use Rattle.interpolator_pieces.proofs.sample.items_of.Goals as goal
 
 pub name_of-requires : goal.name_of-requires
 name_of-requires g c =
-    let fits = fits_text c.args.text.now c.args.piece.now c.requires.whole in
-    record { fits = list_fits c.args.text.now c.args.piece.now _ c.in-List.is fits.held }
+    record { fits = list_fits _ _ _ c.in-List.is (fits_text _ _ c.requires.whole).held }

@@ -13,8 +13,7 @@ use Rattle.interpolator_pieces.proofs.stored_source.run_piece.Goals as goal
 
 pub text_of-requires : goal.text_of-requires
 text_of-requires g c =
-    let fits = fits_text c.args.text.now c.args.piece.now c.requires.whole in
-    record { fits = text_fits c.args.text.now c.args.piece.now c.in-Text.is fits.held }
+    record { fits = text_fits _ _ c.in-Text.is (fits_text _ _ c.requires.whole).held }
 
 pub put_run-requires : goal.put_run-requires
 put_run-requires g c = record { fits = c.text_of.ensures.fits }
@@ -38,13 +37,11 @@ returns-in_ok-put_run-in-Text-clause-writes g c =
 
 pub name_of-start-requires : goal.name_of-start-requires
 name_of-start-requires g c =
-    let fits = fits_text c.args.text.now c.args.piece.now c.requires.whole in
-    record { fits = name_fits c.args.text.now c.args.piece.now c.in-Plain.is fits.held }
+    record { fits = name_fits _ _ c.in-Plain.is (fits_text _ _ c.requires.whole).held }
 
 pub name_of-start-requires-in-Value : goal.name_of-start-requires-in-Value
 name_of-start-requires-in-Value g c =
-    let fits = fits_text c.args.text.now c.args.piece.now c.requires.whole in
-    record { fits = value_fits c.args.text.now c.args.piece.now _ c.in-Value.is fits.held }
+    record { fits = value_fits _ _ _ c.in-Value.is (fits_text _ _ c.requires.whole).held }
 
 pub returns-in_err-write_plain_value-in-Plain-clause-writes : goal.returns-in_err-write_plain_value-in-Plain-clause-writes
 returns-in_err-write_plain_value-in-Plain-clause-writes g c =

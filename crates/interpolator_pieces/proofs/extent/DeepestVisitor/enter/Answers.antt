@@ -1,18 +1,18 @@
-use Rattle.std.proofs.Common.{refl, ap, ◌∙◌}
+use Rattle.std.proofs.Common.{arith, refl, ap, ◌∙◌}
 use Rattle.std.specs.Prelude.{max}
 use Rattle.interpolator_pieces.proofs.ExtentLemmas.{depth_entered, group_fits}
-use Rattle.interpolator_pieces.proofs.WalkLemmas.{item_fits, join_fits}
+use Rattle.interpolator_pieces.proofs.WalkLemmas.{piece_depth}
 use Rattle.interpolator_pieces.proofs.extent.DeepestVisitor.enter.Goals as goal
 
 pub inner_depth-item-requires : goal.inner_depth-item-requires
 inner_depth-item-requires c =
-    group_fits c.args.level.depth c.args._text.now _
-    (item_fits c.args.level.depth c.args._text.now c.args.piece.now c.requires.fits)
+    let depth = piece_depth c.args._text.now c.args.piece.now in
+    group_fits c.args.level.depth c.args._text.now _ (omega (arith, depth, c.requires.fits))
 
 pub inner_depth-join-requires : goal.inner_depth-join-requires
 inner_depth-join-requires c =
-    group_fits c.args.level.depth c.args._text.now _
-    (join_fits c.args.level.depth c.args._text.now c.args.piece.now c.requires.fits)
+    let depth = piece_depth c.args._text.now c.args.piece.now in
+    group_fits c.args.level.depth c.args._text.now _ (omega (arith, depth, c.requires.fits))
 
 pub returns : goal.returns
 returns c =

@@ -1,7 +1,6 @@
 use Rattle.std.proofs.Common.{◌∙◌, ap}
 use Rattle.std.specs.Str.{chars}
-use Rattle.interpolator_pieces.proofs.StoredNameLemmas.{asked_none, asked_some}
-use Rattle.interpolator_pieces.proofs.StoredNameLemmas.{asked_entered}
+use Rattle.interpolator_pieces.proofs.StoredNameLemmas.{asked_none, asked_some, asked_entered}
 use Rattle.interpolator_pieces.proofs.names.NamesVisitor.enter.Goals as goal
 
 pub returns-in_ok-push-in-Some : goal.returns-in_ok-push-in-Some
