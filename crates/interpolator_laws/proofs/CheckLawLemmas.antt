@@ -1,7 +1,7 @@
 -- The faults that a text has by itself: a meaning has no other `Parse` or `UnsupportedOption`, and
--- they are those of the pieces.
-use Rattle.std.proofs.Common.{◌≡◌, refl, ap, arith, ℕ, List, [], ◌∷◌, ◌++◌, inl, inr, Some}
-use Rattle.std.proofs.Common.{None}
+-- they are those of the pieces. And the name of a missing value is one that the text uses.
+use Rattle.std.proofs.Common.{◌≡◌, refl, sym, ap, subst, arith, ℕ, false, List, [], ◌∷◌, ◌++◌, inl, inr}
+use Rattle.std.proofs.Common.{Option, Some, None}
 use Rattle.std.proofs.lemmas.List.Elements.{Contains-append_left, Contains-append_right}
 use Rattle.std.proofs.lemmas.List.Elements.{Contains-append_cases}
 use Rattle.std.specs.Prelude.{Contains}
@@ -9,74 +9,49 @@ use Rattle.interpolator_render.specs.Views.{Shown}
 use Rattle.interpolator_render.specs.declared.view.Spec.{Spec}
 use Rattle.interpolator_render.specs.declared.view.Trait.{Trait}
 use Rattle.interpolator_syntax.specs.At.{At}
-use Rattle.interpolator_syntax.specs.Faults.{Fault}
+use Rattle.interpolator_syntax.specs.Faults.{Fault, missing_value}
+use Rattle.interpolator_syntax.specs.Nodes.{Node, node, Branch, no_branch, branch, Forest}
+use Rattle.interpolator_syntax.specs.Nodes.{no_nodes, nodes_and, as_forest, nodes}
 use Rattle.interpolator_eval.specs.Slots.{Slots}
-use Rattle.interpolator_eval.specs.Meaning.Environments.{Environment, bind}
+use Rattle.interpolator_eval.specs.Meaning.AskedNames.{asked_names}
+use Rattle.interpolator_eval.specs.Meaning.Environments.{Environment, environment}
 use Rattle.interpolator_eval.specs.Meaning.Meanings.{means}
 use Rattle.interpolator_pieces.specs.NodeChecks.{fault_list, first_fault, own_fault, end_fault}
 use Rattle.interpolator_pieces.specs.NodeChecks.{node_faults, branch_faults, forest_faults}
 use Rattle.interpolator_pieces.specs.NodeChecks.{text_faults, IsOfText, NodeHas, BranchHas}
 use Rattle.interpolator_pieces.specs.NodeChecks.{ForestHas, FirstFaulty}
-use Rattle.interpolator_eval.specs.Meaning.Meanings.{node_means, join_branch_means}
-use Rattle.interpolator_eval.specs.Meaning.Meanings.{item_branch_means, forest_means}
-use Rattle.interpolator_syntax.specs.Nodes.{Node, node, Branch, no_branch, branch, Forest}
-use Rattle.interpolator_syntax.specs.Nodes.{no_nodes, nodes_and, as_forest, nodes}
-use Rattle.interpolator_laws.proofs.FaultLemmas.{May, may_none, may_joined, may_plain}
-use Rattle.interpolator_laws.proofs.FaultLemmas.{may_content, in_one, one_in, none_in}
-use Rattle.interpolator_laws.proofs.FaultLemmas.{in_first, in_second, in_third, in_fourth}
+use Rattle.interpolator_pieces.proofs.CheckPlaceLemmas.{faults_of_text}
+use Rattle.interpolator_laws.proofs.FaultLemmas.{forest_cause, in_one, one_in, none_in, in_first}
+use Rattle.interpolator_laws.proofs.FaultLemmas.{in_second, in_third, in_fourth}
 
--- ---- a fault of the text is among those that it has by itself
-
-abbrev Among : List Fault → Fault → Type 0
-Among xs f = IsOfText f → Contains xs f
+-- ---- the faults of a meaning
 
 module _ {X : Type 0} (shows : X → Trait → Spec → Shown) where
-  mutual
-    node_among : (x : Node) (e : Environment X) → May (Among (node_faults x)) (node_means shows e x)
-    node_among (node place end kind None item join) e = may_none _
-    node_among (node place end kind (Some held) item join) e =
-        let own = fault_list (own_fault held) in
-        let last = fault_list (end_fault kind held) in
-        let items = branch_faults item in
-        let joins = branch_faults join in
-        may_content (Among (own ++ (items ++ (joins ++ last)))) (λ t q no. absurd no)
-        (λ q no. absurd no) shows e kind held (join_branch_means shows e join)
-        (item_branch_means shows e item)
-        (λ f h t. in_first own items joins last f (one_in (own_fault held) f h))
-        (λ f h t. in_fourth own items joins last f (one_in (end_fault kind held) f h))
-        (λ start q name spec target h n no. absurd no)
-        (λ f h t. in_third own items joins last f (join_among join e f h t))
-        (λ q x f h t. in_second own items joins last f (item_among item e q x f h t))
-
-    join_among : (b : Branch) (e : Environment X)
-        → May (Among (branch_faults b)) (join_branch_means shows e b)
-    join_among no_branch e = may_none _
-    join_among (branch xs) e = forest_among xs e
-
-    item_among : (b : Branch) (e : Environment X) (q : ℕ) (x : Slots X)
-        → May (Among (branch_faults b)) (item_branch_means shows e b q x)
-    item_among no_branch e q x =
-        may_plain (Among []) (λ t q no. absurd no) (λ q no. absurd no) shows q x
-    item_among (branch xs) e q x = forest_among xs (bind e x)
-
-    forest_among : (xs : Forest) (e : Environment X)
-        → May (Among (forest_faults xs)) (forest_means shows e xs)
-    forest_among no_nodes e = may_none _
-    forest_among (nodes_and x xs) e =
-        may_joined (Among (node_faults x ++ forest_faults xs)) _ _
-        (λ f h t.
-        Contains-append_left (node_faults x) (forest_faults xs) f (node_among x e f h t))
-        (λ f h t.
-        Contains-append_right (node_faults x) (forest_faults xs) f (forest_among xs e f h t))
-
+  -- a fault of the text is among those that it has by itself
   pub fault_among : (e : Environment X) (a : At) (f : Fault) → (means shows e a).fault ≡ Some f
       → IsOfText f → Contains (text_faults a) f
-  fault_among e a f h =
-      forest_among (as_forest (nodes a)) e f h
+  fault_among e a f h t =
+      elim (forest_cause f (λ r q is. subst IsOfText (sym is) t) (λ q is. subst IsOfText (sym is) t)
+      shows (as_forest (nodes a)) false e tt h) [
+        | inl k ↦ k
+        | inr k ↦ absurd (subst IsOfText (sym k.2) t)
+      ]
 
   pub no_own_fault : (e : Environment X) (a : At) → first_fault (text_faults a) ≡ None
       → (f : Fault) → (means shows e a).fault ≡ Some f → ¬ (IsOfText f)
   no_own_fault e a none f h t = none_in (text_faults a) f none (fault_among e a f h t)
+
+  -- the name of a missing value is one that the text uses, and the context has nothing under it
+  pub value_missed : (finds : List ℕ → Option (Slots X)) (a : At) (name : List ℕ) (place : ℕ)
+      → (means shows (environment finds) a).fault ≡ Some (missing_value name place)
+      → Contains (asked_names a) name × (finds name ≡ None)
+  value_missed finds a name place h =
+      elim (forest_cause (missing_value name place) (λ r q is. absurd (cc)) (λ q is. absurd (cc)) shows
+      (as_forest (nodes a)) false (environment finds) tt h) [
+        | inl k ↦ absurd (faults_of_text a (missing_value name place) k)
+        | inr k ↦ let same : k.0 ≡ name = cc in
+            subst (λ n. Contains (asked_names a) n × (finds n ≡ None)) same (k.3, k.4)
+      ]
 
 -- ---- the faults of pieces
 

@@ -1,26 +1,20 @@
 -- The nodes of a text follow one another, and those of a group are in their argument.
 use Rattle.std.proofs.Common.{◌≡◌, ℕ, ◌+◌, ◌<◌, ◌≤◌, List, [], ◌∷◌, length, length-append, arith}
-use Rattle.std.proofs.Common.{refl, ap, ◌∙◌, sym}
+use Rattle.std.proofs.Common.{refl, ap, sym}
 use Rattle.std.proofs.lemmas.Str.{len_utf8_bounds}
-use Rattle.std.proofs.Common.{inl, inr, subst, Option, Some, None, Result, Ok, Err}
-use Rattle.std.specs.Prelude.{⊤, flat_map}
-use Rattle.interpolator_render.specs.declared.view.Trait.{Trait}
-use Rattle.interpolator_render.specs.declared.view.Trait.TheVariants as traits
+use Rattle.std.proofs.Common.{subst, Option, Some, None, Result, Ok, Err}
+use Rattle.std.specs.Prelude.{⊤}
 use Rattle.interpolator_syntax.specs.ArgumentGrammar.{Asks, request_in}
 use Rattle.interpolator_syntax.specs.Arguments.{Argument, argument_at}
 use Rattle.interpolator_syntax.specs.At.{At, size, strip}
 use Rattle.interpolator_syntax.specs.Classes.{close_brace}
 use Rattle.interpolator_syntax.specs.Faults.{Fault}
-use Rattle.interpolator_syntax.specs.GroupGrammar.{IsGroup}
 use Rattle.interpolator_syntax.specs.Groups.{Group}
-use Rattle.interpolator_syntax.specs.ListGrammar.{group_there, IsList}
-use Rattle.interpolator_syntax.specs.Lists.{ListRequest}
-use Rattle.interpolator_syntax.specs.Pieces.{Piece, argument_from, argument_or_broken}
+use Rattle.interpolator_syntax.specs.Pieces.{argument_from, argument_or_broken}
 use Rattle.interpolator_syntax.specs.Pieces.{argument_step}
-use Rattle.interpolator_syntax.specs.SpecGrammar.{kind, parts, IsSpec}
+use Rattle.interpolator_syntax.specs.SpecGrammar.{kind}
 use Rattle.interpolator_syntax.specs.SpecTexts.{Kind, of_value, of_list, Request}
 use Rattle.interpolator_syntax.specs.Tokens.{Token, argument, first_token, past_token}
-use Rattle.interpolator_syntax.specs.Groups.{inside}
 use Rattle.interpolator_syntax.specs.Nodes.{as_forest, group_branch, item_branch, join_branch}
 use Rattle.interpolator_syntax.specs.Nodes.{piece_node, token_node, nodes}
 use Rattle.interpolator_syntax.specs.Splits.{node_place, node_end, Contiguous, GroupsInside}
@@ -34,7 +28,7 @@ use Rattle.interpolator_syntax.proofs.ReaderLemmas.{argument_takes}
 use Rattle.interpolator_syntax.proofs.ScanLemmas.{hands_nothing}
 use Rattle.interpolator_syntax.proofs.SizeLemmas.{GroupIfIn, KindIn, argument_in}
 use Rattle.interpolator_syntax.proofs.TokenLemmas.{scan_shorter, token_shorter}
-use Rattle.interpolator_syntax.proofs.NodeLemmas.{by_length, argument_kind, nodes_first}
+use Rattle.interpolator_syntax.proofs.NodeLemmas.{by_length, nodes_first}
 use Rattle.interpolator_syntax.proofs.NodeLemmas.{nodes_none}
 use Rattle.interpolator_syntax.proofs.SplitLemmas.{texts}
 use Rattle.interpolator_syntax.proofs.TokenTextLemmas.{takes_token, scan_taken}
@@ -51,50 +45,11 @@ KindBefore n (of_value t) = ⊤
 KindBefore n (of_list l) = GroupBefore n l.item × GroupBefore n l.join
 
 group_later : (o : Option Group) (m n : ℕ) → m ≤ n → GroupBefore m o → GroupBefore n o
-group_later None m n h k = tt
-group_later (Some g) m n h k = omega (arith, h, k)
-
-group_ends : (a : At) (g : Group) (q : At) → IsGroup a g q
-    → (a.place ≤ q.place) × (g.place + size g.text < q.place)
-group_ends a g q h = (omega (arith, h.place, h.end_place), omega (arith, h.end_place, size-append))
-
-group_before : (start : ℕ) (a : At) (o : Option Group) (q : At) → (group_there start).is a o q
-    → (a.place ≤ q.place) × GroupBefore q.place o
-group_before start a o q (inl h) =
-    rw (h.1.3.0, h.1.3.1) (group_ends a h.1.0 h.1.1 h.1.2)
-group_before start a o q (inr h) = rw (h.1, h.2) (omega arith, tt)
-
-list_before : (start : ℕ) (a : At) (l : ListRequest) (q : At) → IsList start a l q
-    → KindBefore q.place (of_list l)
-list_before start a l q h =
-    let item = h.3 in
-    let join = item.3 in
-    let first = group_before start h.1 item.0 item.1 item.2 in
-    let second = group_before start item.1 join.0 join.1 join.2 in
-    rw (join.3.0, join.3.1) (group_later item.0 item.1.place join.1.place second.0 first.1, second.1)
-
-kind_before : (start : ℕ) (slot : Trait) (a : At) (k : Kind) (q : At) → (kind start slot).is a k q
-    → KindBefore q.place k
-kind_before start traits.Iter a k q h =
-    rw (h.3.0, h.3.1) (list_before start a h.0 h.1 h.2)
-kind_before start slot a k q h = rw h.0 tt
-
-parts_before : (start : ℕ) (a : At) (x : Request) (q : At) → (parts start).is a x q
-    → KindBefore q.place x.kind
-parts_before start a x q h =
-    let shown = h.3.3.3.3.3.3.3 in
-    let end = shown.3 in
-    rw (end.3.0, end.3.1) (kind_before start shown.0.slot shown.1 end.0 end.1 end.2)
-
-spec_before : (start : ℕ) (a : At) (x : Request) (q : At) → IsSpec start a x q
-    → KindBefore q.place x.kind
-spec_before start a x q (inl h) = rw h.1 tt
-spec_before start a x q (inr h) = parts_before start a x q h.1
+group_later o m n h k = grind arith
 
 asks_before : (start : ℕ) (a : At) (x : Request) (q : At) → Asks start a x q
     → KindBefore q.place x.kind
-asks_before start a x q (inl h) = rw h.1 tt
-asks_before start a x q (inr h) = spec_before start h.0 x q h.2
+asks_before start a x q asks = grind (arith, size-append, group_later)
 
 -- the groups of an argument end in front of the byte after its spec
 argument_before : (a : At) (x : Argument) (q : At) → argument_at a ≡ Ok (x, q)
@@ -116,9 +71,7 @@ module _ (p end : ℕ) (kind : told.PieceKind) (has : HasGroups kind) (b : At) (
     (more : ShorterReach b) where
   one_inside : (o : Option Group) → GroupIfIn o b → GroupBefore end o
       → GroupInside p end kind (group_branch nodes o)
-  one_inside None h k = tt
-  one_inside (Some g) h k =
-      (has, g.place, g.place + size g.text, omega (arith, start, h.place), k, more (inside g) h.shorter)
+  one_inside o h k = grind arith
 
   both_inside : (k : Kind) → KindIn k b → KindBefore end k
       → GroupInside p end kind (item_branch nodes k)
@@ -127,8 +80,7 @@ module _ (p end : ℕ) (kind : told.PieceKind) (has : HasGroups kind) (b : At) (
   both_inside (of_list l) h k = (one_inside l.item h.item k.0, one_inside l.join h.join k.1)
 
 kind_later : (k : Kind) (m n : ℕ) → m ≤ n → KindBefore m k → KindBefore n k
-kind_later (of_value t) m n h k = tt
-kind_later (of_list l) m n h k = (group_later l.item m n h k.0, group_later l.join m n h k.1)
+kind_later k m n h before = grind (arith, group_later)
 
 module _ (p : ℕ) (b : At) (start : p < b.place) (more : ShorterReach b) where
   kind_inside : (end : ℕ) (kind : told.PieceKind) → HasGroups kind → (x : Argument) (q : At)
@@ -170,20 +122,11 @@ token_inside a t b e more = (tt, tt)
 
 -- ---- one after the other
 
--- the node of an argument, broken or not, has the place and the end that are given
-argument_stands : (p end : ℕ) (b : At)
-    → (let x = piece_node nodes p end (argument_from b.place b).piece.kind in
-    (node_place x ≡ p) × (node_end x ≡ end))
-argument_stands p end b =
-    argument_kind (λ k. (node_place (piece_node nodes p end k) ≡ p)
-    × (node_end (piece_node nodes p end k) ≡ end)) b
-    (λ start x q h. ((refl, refl), (refl, refl)), λ f. (refl, refl))
-
+-- the node of a token has the place and the end that are given
 token_stands : (p : ℕ) (t : Token) (b : At)
     → (node_place (token_node nodes p t b) ≡ p)
     × (node_end (token_node nodes p t b) ≡ (past_token t b).place)
-token_stands p argument b = argument_stands p (argument_from b.place b).rest.place b
-token_stands p t b = (refl, refl)
+token_stands p t b = grind arith
 
 -- a text has a byte at least for each character
 length_le_size : (cs : List ℕ) → length cs ≤ size cs
@@ -205,9 +148,7 @@ goes_on a w e =
     )
 
 nothing_left : (a : At) → first_token a ≡ None → a.place ≡ a.place + size a.text
-nothing_left a e =
-    let none = sym (texts a) ∙ ap (flat_map (λ (x : Piece). x.text)) (hands_nothing a e) in
-    omega (arith, ap size none)
+nothing_left a e = grind (arith, texts a, hands_nothing a e)
 
 -- the nodes of a text do so, if those of each shorter text do
 first_reaches : (a : At) (w : Token × At) → first_token a ≡ Some w → ShorterReach a → Reaches a

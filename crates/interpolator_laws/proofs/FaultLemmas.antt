@@ -1,161 +1,39 @@
--- Which fault a meaning can have, from those that its parts can have; and faults in lists of
--- faults.
-use Rattle.std.proofs.Common.{◌≡◌, refl, ap, subst, arith, ℕ, zero, suc, ◌<◌, Bool, true, false}
-use Rattle.std.proofs.Common.{List, [], ◌∷◌, ◌++◌, Option, Some, None, is_some}
+-- What a fault of a meaning comes from: it is one that the text has by itself, or that of a missing
+-- value, unless some value has no slot or fails; and faults in lists of faults.
+use Rattle.std.proofs.lemmas.Grind.{common_steps}
+use Rattle.std.proofs.Common.{◌≡◌, refl, arith, ℕ, Bool, true, false}
+use Rattle.std.proofs.Common.{List, [], ◌∷◌, ◌++◌, Option, Some, None, inl, inr, ◌⊎◌}
 use Rattle.std.proofs.lemmas.List.Elements.{Contains-append_left, Contains-append_right}
-use Rattle.std.specs.Prelude.{Contains, slice_index_or, if◌then◌else◌}
-use Rattle.interpolator_render.specs.Texts.{ViewText, has_text, has_no_text, has_failed, view_text}
+use Rattle.std.specs.Prelude.{⊤, Contains}
 use Rattle.interpolator_render.specs.Views.{Shown}
 use Rattle.interpolator_render.specs.declared.view.Spec.{Spec}
 use Rattle.interpolator_render.specs.declared.view.Trait.{Trait}
 use Rattle.interpolator_render.specs.declared.view.Trait.TheVariants as traits
-use Rattle.interpolator_syntax.specs.At.{text_of}
-use Rattle.interpolator_syntax.specs.Faults.{Fault, parse, iter, missing_trait_impl, fmt}
+use Rattle.interpolator_syntax.specs.Faults.{Fault, missing_trait_impl, fmt}
 use Rattle.interpolator_syntax.specs.Faults.{missing_value}
 use Rattle.interpolator_syntax.specs.SpecTexts.{plain_spec}
-use Rattle.interpolator_syntax.specs.declared.range.Range.{Range}
-use Rattle.interpolator_syntax.proofs.CaseLemmas.{in_both}
-use Rattle.interpolator_eval.specs.Slots.{Slots, values_of, items, slot_at}
-use Rattle.interpolator_eval.specs.Meaning.Choices.{chosen_items}
-use Rattle.interpolator_eval.specs.Meaning.Environments.{Environment, slots_under}
-use Rattle.interpolator_eval.specs.Meaning.Meanings.{Meaning, fault_alone, or_fault, chain, view_means}
-use Rattle.interpolator_eval.specs.Meaning.Meanings.{value_means, forbids_list, buffered_means}
-use Rattle.interpolator_eval.specs.Meaning.Meanings.{padded_list}
-use Rattle.interpolator_eval.specs.Meaning.Meanings.{items_after, items_mean, under_name, listed_means}
-use Rattle.interpolator_pieces.specs.NodeChecks.{fault_list, first_fault, own_fault, end_fault}
-use Rattle.interpolator_eval.specs.Meaning.Meanings.{and_closed, target_means, content_means}
-use Rattle.interpolator_eval.specs.Meaning.Meanings.{plain_item_means}
-use Rattle.interpolator_syntax.specs.Nodes.{Content, text_content, argument_content, fault_content, Target, target_value}
-use Rattle.interpolator_syntax.specs.Nodes.{target_list}
+use Rattle.interpolator_syntax.specs.Nodes.{Node, node, Branch, no_branch, branch, Forest, no_nodes}
+use Rattle.interpolator_syntax.specs.Nodes.{nodes_and, Content, text_content, argument_content, fault_content}
+use Rattle.interpolator_syntax.specs.Nodes.{Target, target_value, target_list}
 use Rattle.interpolator_syntax.specs.declared.piece_kind.PieceKind.{PieceKind}
-use Rattle.interpolator_syntax.specs.declared.piece_kind.PieceKind.TheVariants as kinds
-
--- ---- meanings whose fault, if they have one, is of some kind
-
-abbrev pub May : (Fault → Type 0) → Meaning → Type 0
-May P m = (f : Fault) → m.fault ≡ Some f → P f
-
-module _ (P : Fault → Type 0) where
-  pub may_none : (f : Fault) → ◌≡◌ {A = Option Fault} None (Some f) → P f
-  may_none f e = absurd (cc)
-
-  may_one : (g : Fault) → P g → (f : Fault) → Some g ≡ Some f → P f
-  may_one g h f e = let same : g ≡ f = cc in subst P same h
-
-  pub may_joined : (m k : Meaning) → May P m → May P k → May P (chain m k)
-  may_joined m k h j = elim m.fault as (λ o. May P (or_fault o m k)) [ Some g ↦ h | None ↦ j ]
-
-  may_whole : (spec : Spec) (q : ℕ) (o : Option Fault) (cs : List ℕ)
-      → ((f : Fault) → o ≡ Some f → P f) → May P (buffered_means spec q o cs)
-  may_whole spec q None cs h = may_none
-  may_whole spec q (Some g) cs h = h
-
-  may_padded : (spec : Spec) (q : ℕ) (m : Meaning) → May P m → May P (padded_list spec q m)
-  may_padded spec q m h =
-      in_both (May P) (is_some spec.width) _ _ (may_whole spec q m.fault (text_of m.text) h) h
-
-  module _ {A : Type 0} (join : Meaning) (item : A → Meaning) (joins : May P join)
-      (each : (x : A) → May P (item x)) where
-    may_after : (xs : List A) → May P (items_after join item xs)
-    may_after [] = may_none
-    may_after (x ∷ xs) = may_joined _ _ joins (may_joined _ _ (each x) (may_after xs))
-
-    may_items : (xs : List A) → May P (items_mean join item xs)
-    may_items [] = may_none
-    may_items (x ∷ xs) = may_joined _ _ (each x) (may_after xs)
-
-  -- a value under a trait may have no slot or fail, wherever it is
-  module _ (no_slot : (t : Trait) (q : ℕ) → P (missing_trait_impl t q))
-      (failed : (q : ℕ) → P (fmt q)) where
-    may_view : (t : Trait) (q : ℕ) (v : ViewText) → May P (view_means t q v)
-    may_view t q (has_text cs) = may_none
-    may_view t q has_no_text = may_one _ (no_slot t q)
-    may_view t q has_failed = may_one _ (failed q)
-
-    may_listed : {X : Type 0} (range : Option Range) (spec : Spec) (q : ℕ) (join : Meaning)
-        (item : X → Meaning) → ((f : Fault)
-        → (if forbids_list spec then Some (parse (iter q)) else None) ≡ Some f → P f)
-        → May P join → ((x : X) → May P (item x)) → (o : Option (List X))
-        → May P (listed_means range spec q join item o)
-    may_listed range spec q join item own j i None = may_one _ (no_slot traits.Iter q)
-    may_listed range spec q join item own j i (Some xs) =
-        by_test (forbids_list spec) own
-      where
-        by_test : (b : Bool)
-            → ((f : Fault) → (if b then Some (parse (iter q)) else None) ≡ Some f → P f)
-            → May P (if b then fault_alone (parse (iter q))
-            else padded_list spec q (items_mean join item (chosen_items range xs)))
-        by_test true h = h
-        by_test false h =
-            may_padded spec q _ (may_items join item j i (chosen_items range xs))
-
-    module _ {X : Type 0} (shows : X → Trait → Spec → Shown) where
-      may_value : (t : Trait) (spec : Spec) (q : ℕ) (o : Option X)
-          → May P (value_means shows t spec q o)
-      may_value t spec q None = may_one _ (no_slot t q)
-      may_value t spec q (Some x) = may_view t q (view_text (shows x t spec) t spec)
-
-      pub may_plain : (q : ℕ) (x : Slots X) → May P (plain_item_means shows q x)
-      may_plain q x =
-          may_value traits.Display plain_spec q (slot_at traits.Display (values_of x))
-
-      may_target : (start : ℕ) (name : List ℕ) (target : Target) (spec : Spec) (q : ℕ) (join : Meaning)
-          (item : Slots X → Meaning)
-          → ((f : Fault) → own_fault (argument_content start name spec target q) ≡ Some f → P f)
-          → May P join → ((x : Slots X) → May P (item x)) → (found : Slots X)
-          → May P (target_means shows target spec q join item found)
-      may_target start name (target_value t) spec q join item own j i found =
-          may_value t spec q (slot_at t (values_of found))
-      may_target start name (target_list range) spec q join item own j i found =
-          may_listed range spec q join item own j i (items found)
-
-      may_found : (start : ℕ) (name : List ℕ) (meant : Slots X → Meaning) (o : Option (Slots X))
-          → (o ≡ None → P (missing_value name start)) → ((found : Slots X) → May P (meant found))
-          → May P (under_name name start meant o)
-      may_found start name meant None missing i = may_one _ (missing refl)
-      may_found start name meant (Some found) missing i = i found
-
-      may_closed : (kind : PieceKind) (start : ℕ) (name : List ℕ) (spec : Spec) (target : Target)
-          (q : ℕ) (m : Meaning)
-          → ((f : Fault) → end_fault kind (argument_content start name spec target q) ≡ Some f → P f)
-          → May P m → May P (and_closed kind q m)
-      may_closed kinds.Literal start name spec target q m last h = h
-      may_closed kinds.Doubled start name spec target q m last h = h
-      may_closed kinds.LoneClose start name spec target q m last h = h
-      may_closed kinds.Closed start name spec target q m last h = h
-      may_closed kinds.Unclosed start name spec target q m last h = may_joined _ _ h last
-      may_closed kinds.Broken start name spec target q m last h = h
-
-      -- what a piece holds
-      pub may_content : (e : Environment X) (kind : PieceKind) (held : Content) (join : Meaning)
-          (item : ℕ → Slots X → Meaning)
-          → ((f : Fault) → own_fault held ≡ Some f → P f)
-          → ((f : Fault) → end_fault kind held ≡ Some f → P f)
-          → ((start q : ℕ) (name : List ℕ) (spec : Spec) (target : Target)
-          → held ≡ argument_content start name spec target q → slots_under e name ≡ None
-          → P (missing_value name start))
-          → May P join → ((q : ℕ) (x : Slots X) → May P (item q x))
-          → May P (content_means shows e kind held join item)
-      may_content e kind (text_content from cs) join item own last missing j i = may_none
-      may_content e kind (argument_content start name spec target q) join item own last missing j i =
-          may_closed kind start name spec target q _ last
-          (may_found start name _ (slots_under e name) (missing start q name spec target refl)
-          (may_target start name target spec q join (item q) own j (i q)))
-      may_content e kind (fault_content g) join item own last missing j i = own
+use Rattle.interpolator_eval.specs.Slots.{Slots, values_of, slot_at}
+use Rattle.interpolator_eval.specs.Meaning.AskedNames.{context_names, content_names, node_asks}
+use Rattle.interpolator_eval.specs.Meaning.AskedNames.{branch_asks, forest_asks}
+use Rattle.interpolator_eval.specs.Meaning.Environments.{Environment, slots_under, bind}
+use Rattle.interpolator_eval.specs.Meaning.Meanings.{Meaning, chain, value_means, items_after, items_mean}
+use Rattle.interpolator_eval.specs.Meaning.Meanings.{content_means, node_means, join_branch_means}
+use Rattle.interpolator_eval.specs.Meaning.Meanings.{item_branch_means, forest_means}
+use Rattle.interpolator_eval.proofs.MeaningLemmas.EqualLemmas.{bound_same}
+use Rattle.interpolator_pieces.specs.NodeChecks.{fault_list, first_fault, own_fault, end_fault}
+use Rattle.interpolator_pieces.specs.NodeChecks.{node_faults, branch_faults, forest_faults}
 
 -- ---- lists of faults
 
 pub in_one : (o : Option Fault) (f : Fault) → Contains (fault_list o) f → o ≡ Some f
-in_one None f h = absurd (omega (arith, h.1))
-in_one (Some g) f h = at_index h.0 h.1 h.2
-  where
-    at_index : (k : ℕ) → k < 1 → slice_index_or (g ∷ []) k f ≡ f → Some g ≡ Some f
-    at_index zero l e = ap Some e
-    at_index (suc k) l e = absurd (omega (arith, l))
+in_one o f h = grind arith
 
 pub one_in : (o : Option Fault) (f : Fault) → o ≡ Some f → Contains (fault_list o) f
-one_in None f h = absurd (cc)
-one_in (Some g) f h = let same : g ≡ f = cc in (0, omega arith, same)
+one_in o f h = grind arith
 
 pub none_in : (xs : List Fault) (f : Fault) → first_fault xs ≡ None → ¬ (Contains xs f)
 none_in [] f h k = absurd (omega (arith, k.1))
@@ -167,7 +45,7 @@ module _ (xs ys zs ws : List Fault) (f : Fault) where
   all_four = xs ++ (ys ++ (zs ++ ws))
 
   pub in_first : Contains xs f → Contains all_four f
-  in_first h = Contains-append_left xs (ys ++ (zs ++ ws)) f h
+  in_first h = grind (arith, common_steps)
 
   pub in_second : Contains ys f → Contains all_four f
   in_second h =
@@ -182,3 +60,145 @@ module _ (xs ys zs ws : List Fault) (f : Fault) where
   in_fourth h =
       Contains-append_right xs (ys ++ (zs ++ ws)) f
       (Contains-append_right ys (zs ++ ws) f (Contains-append_right zs ws f h))
+
+-- ---- names that nothing is under
+
+-- in an item format the environment gives the item under the empty name
+abbrev pub Bound : {X : Type 0} → (in_item : Bool) → Environment X → Type 0
+Bound {X} true e = (t : Slots X) × (e.inner ≡ Some t)
+Bound false e = ⊤
+
+module _ {X : Type 0} where
+  -- an argument's own name
+  own_missed : (in_item : Bool) (e : Environment X) (name : List ℕ) → Bound in_item e
+      → slots_under e name ≡ None → Contains (context_names in_item name) name
+  own_missed in_item e name b h = grind arith
+
+-- ---- a fault that is not a value's
+
+module _ (f : Fault) (filled : (t : Trait) (q : ℕ) → ¬ (missing_trait_impl t q ≡ f))
+    (written : (q : ℕ) → ¬ (fmt q ≡ f)) where
+  -- what follows if a meaning has the fault
+  abbrev If : Type 0 → Meaning → Type 0
+  If R m = m.fault ≡ Some f → R
+
+  module _ (R : Type 0) where
+    if_joined : (m k : Meaning) → If R m → If R k → If R (chain m k)
+    if_joined m k h j e = grind arith
+
+    module _ {A : Type 0} (join : Meaning) (item : A → Meaning) (joins : If R join)
+        (each : (x : A) → If R (item x)) where
+      if_after : (xs : List A) → If R (items_after join item xs)
+      if_after [] e = absurd (cc)
+      if_after (x ∷ xs) e = grind (arith, joins, each x, if_after xs)
+
+      if_items : (xs : List A) → If R (items_mean join item xs)
+      if_items xs e = grind (arith, if_after)
+
+    module _ {X : Type 0} (shows : X → Trait → Spec → Shown) where
+      if_value : (t : Trait) (spec : Spec) (q : ℕ) (o : Option X) → If R (value_means shows t spec q o)
+      if_value t spec q o e = grind arith
+
+      -- what a piece holds
+      if_content : (e : Environment X) (kind : PieceKind) (held : Content) (join : Meaning)
+          (item : ℕ → Slots X → Meaning) → (own_fault held ≡ Some f → R)
+          → (end_fault kind held ≡ Some f → R)
+          → ((start q : ℕ) (name : List ℕ) (spec : Spec) (target : Target)
+          → held ≡ argument_content start name spec target q → slots_under e name ≡ None
+          → missing_value name start ≡ f → R)
+          → If R join → ((q : ℕ) (x : Slots X) → If R (item q x))
+          → If R (content_means shows e kind held join item)
+      if_content e kind (text_content from cs) join item own last missing j i is = absurd (cc)
+      if_content e kind (fault_content g) join item own last missing j i is = own is
+      if_content e kind (argument_content start name spec (target_value t) q) join item own last missing j i
+          is =
+          grind (arith, last, missing start q name spec (target_value t) refl, if_value)
+      if_content e kind (argument_content start name spec (target_list range) q) join item own last missing j i
+          is =
+          grind (
+            arith,
+            filled,
+            own,
+            last,
+            missing start q name spec (target_list range) refl,
+            if_items join (item q) j (i q),
+          )
+
+  -- the fault is among these, or that of a missing value whose name is one of these, and the
+  -- environment gives nothing under it
+  abbrev pub Cause : {X : Type 0} → Environment X → List Fault → List (List ℕ) → Type 0
+  Cause e faults names =
+      Contains faults f ⊎ ((name : List ℕ) × (place : ℕ) × (missing_value name place ≡ f)
+      × Contains names name × (slots_under e name ≡ None))
+
+  module _ {X : Type 0} where
+    cause_more : (e : Environment X) (faults more : List Fault) (names others : List (List ℕ))
+        → (Contains faults f → Contains more f)
+        → ((name : List ℕ) → Contains names name → Contains others name) → Cause e faults names
+        → Cause e more others
+    cause_more e faults more names others into among cause = grind arith
+
+    cause_outside : (e : Environment X) (t : Slots X) (faults : List Fault) (names : List (List ℕ))
+        → Cause (bind e t) faults names → Cause e faults names
+    cause_outside e t faults names cause = grind (arith, bound_same)
+
+  module _ {X : Type 0} (shows : X → Trait → Spec → Shown) where
+    mutual
+      node_cause : (x : Node) (in_item : Bool) (e : Environment X) → Bound in_item e
+          → If (Cause e (node_faults x) (node_asks in_item x)) (node_means shows e x)
+      node_cause (node place end kind None item join) in_item e b is = absurd (cc)
+      node_cause (node place end kind (Some held) item join) in_item e b is =
+          let own = fault_list (own_fault held) in
+          let last = fault_list (end_fault kind held) in
+          let items = branch_faults item in
+          let joins = branch_faults join in
+          let mine = content_names in_item (Some held) in
+          let inner = branch_asks true item in
+          let between = branch_asks in_item join in
+          if_content (Cause e (own ++ (items ++ (joins ++ last))) (mine ++ (inner ++ between))) shows e
+          kind held (join_branch_means shows e join) (item_branch_means shows e item)
+          (λ h. inl (in_first own items joins last f (one_in (own_fault held) f h)))
+          (λ h. inl (in_fourth own items joins last f (one_in (end_fault kind held) f h)))
+          (λ start q name spec target at none same. inr (
+            name,
+            start,
+            same,
+            Contains-append_left mine (inner ++ between) name (rw at (own_missed in_item e name b none)),
+            none,
+          ))
+          (λ h. cause_more e joins _ between _ (in_third own items joins last f)
+          (λ n k.
+          Contains-append_right mine (inner ++ between) n (Contains-append_right inner between n k))
+          (join_cause join in_item e b h))
+          (λ q x h. cause_more e items _ inner _ (in_second own items joins last f)
+          (λ n k.
+          Contains-append_right mine (inner ++ between) n (Contains-append_left inner between n k))
+          (item_cause item e q x h)) is
+
+      join_cause : (x : Branch) (in_item : Bool) (e : Environment X) → Bound in_item e
+          → If (Cause e (branch_faults x) (branch_asks in_item x)) (join_branch_means shows e x)
+      join_cause no_branch in_item e b is = absurd (cc)
+      join_cause (branch xs) in_item e b is = forest_cause xs in_item e b is
+
+      item_cause : (x : Branch) (e : Environment X) (q : ℕ) (found : Slots X)
+          → If (Cause e (branch_faults x) (branch_asks true x)) (item_branch_means shows e x q found)
+      item_cause no_branch e q found is =
+          if_value _ shows traits.Display plain_spec q (slot_at traits.Display (values_of found)) is
+      item_cause (branch xs) e q found is =
+          cause_outside e found (forest_faults xs) (forest_asks true xs)
+          (forest_cause xs true (bind e found) (found, refl) is)
+
+      pub forest_cause : (xs : Forest) (in_item : Bool) (e : Environment X) → Bound in_item e
+          → If (Cause e (forest_faults xs) (forest_asks in_item xs)) (forest_means shows e xs)
+      forest_cause no_nodes in_item e b is = absurd (cc)
+      forest_cause (nodes_and x xs) in_item e b is =
+          let first = cause_more e (node_faults x) (node_faults x ++ forest_faults xs) (node_asks in_item x)
+          (node_asks in_item x ++ forest_asks in_item xs)
+          (Contains-append_left (node_faults x) (forest_faults xs) f)
+          (Contains-append_left (node_asks in_item x) (forest_asks in_item xs)) in
+          let rest = cause_more e (forest_faults xs) (node_faults x ++ forest_faults xs)
+          (forest_asks in_item xs) (node_asks in_item x ++ forest_asks in_item xs)
+          (Contains-append_right (node_faults x) (forest_faults xs) f)
+          (Contains-append_right (node_asks in_item x) (forest_asks in_item xs)) in
+          if_joined _ _ _ (λ h. first (node_cause x in_item e b h))
+          (λ h. rest (forest_cause xs in_item e b h)) is

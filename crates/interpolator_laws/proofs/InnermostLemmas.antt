@@ -75,16 +75,14 @@ module _ (place : ℕ) (x : Node) (has : node_has place x ≡ true) where
 
 by_found : {A : Type 0} (b : Bool) (x : A) (o : Option A) → (if b then Some x else o) ≡ None
     → (b ≡ false) × (o ≡ None)
-by_found true x o h = absurd (cc)
-by_found false x o h = (refl, h)
+by_found b x o h = grind arith
 
 -- none of these has the place
 abbrev NoneHas : ℕ → Forest → Type 0
 NoneHas place xs = (x : Node) → InForest x xs → node_has place x ≡ false
 
 not_true : (b : Bool) → (b ≡ true → ⊥) → b ≡ false
-not_true true h = absurd (h refl)
-not_true false h = refl
+not_true b h = grind arith
 
 forest_without : (place p : ℕ) (xs : Forest) (end : ℕ) → Contiguous p xs end
     → argument_among place xs ≡ None → NoneHas place xs
@@ -102,8 +100,7 @@ branch_without : (place from end : ℕ) (kind : PieceKind) (xs : Branch)
     → GroupInside from end kind xs → argument_in place xs ≡ None → (x : Node) → InBranch x xs
     → node_has place x ≡ false
 branch_without place from end kind no_branch h none x g = absurd g
-branch_without place from end kind (branch xs) h none x g =
-    forest_without place h.1 xs h.2 h.5 none x g
+branch_without place from end kind (branch xs) h none x g = grind (arith, forest_without)
 
 -- ---- where one is found
 
@@ -113,61 +110,24 @@ record IsAlone (place : ℕ) (argument : Node) (bytes : ℕ × ℕ) : Type 0 whe
   bytes_are : (node_place argument, node_end argument) ≡ bytes
   alone : (x : Node) → InGroups x argument → node_has place x ≡ false
 
--- such an argument is a node, or in its groups; or it is in a group
-abbrev OfNode : ℕ → ℕ × ℕ → Node → Type 0
-OfNode place bytes y =
-    (argument : Node) × ((argument ≡ y) ⊎ InGroups argument y) × IsAlone place argument bytes
-
+-- such an argument is in a group
 abbrev OfBranch : ℕ → ℕ × ℕ → Branch → Type 0
 OfBranch place bytes xs = (argument : Node) × InBranch argument xs × IsAlone place argument bytes
 
-innermost_of : (place : ℕ) (xs : Forest) (bytes : ℕ × ℕ) (argument : Node) → InForest argument xs
-    → IsAlone place argument bytes → IsInnermost place xs bytes
-innermost_of place xs bytes argument there is = record {
-  argument = argument;
-  there = there;
-  has = is.has;
-  bytes_are = is.bytes_are;
-  alone = is.alone;
-}
-
-among_first : (argument y : Node) (ys : Forest) → (argument ≡ y) ⊎ InGroups argument y
-    → InForest argument (nodes_and y ys)
-among_first argument y ys (inl e) = inl e
-among_first argument y ys (inr g) = inr (inl g)
-
--- among nodes it is that of the first, or of the rest
-first_or_rest : (place : ℕ) (y : Node) (ys : Forest) (bytes : ℕ × ℕ) (b : Bool)
-    → (b ≡ true → innermost place y ≡ bytes → OfNode place bytes y)
-    → (argument_among place ys ≡ Some bytes → IsInnermost place ys bytes)
-    → (if b then Some (innermost place y) else argument_among place ys) ≡ Some bytes
-    → IsInnermost place (nodes_and y ys) bytes
-first_or_rest place y ys bytes true first rest e =
-    let one = first refl (some_same e) in
-    innermost_of place (nodes_and y ys) bytes one.0 (among_first one.0 y ys one.1) one.2
-first_or_rest place y ys bytes false first rest e =
-    let one = rest e in record {
-      argument = one.argument;
-      there = inr (inr one.there);
-      has = one.has;
-      bytes_are = one.bytes_are;
-      alone = one.alone;
-    }
-
 -- in a node it is that of its item format, or of its join, or the node itself
 in_groups : (place from end : ℕ) (kind : PieceKind) (held : Option Content) (item join : Branch)
-    (bytes : ℕ × ℕ) → GroupsInside (node from end kind held item join)
+    (ys : Forest) (bytes : ℕ × ℕ) → GroupsInside (node from end kind held item join)
     → has_place place from end kind ≡ true → (i j : Option (ℕ × ℕ)) → argument_in place item ≡ i
     → argument_in place join ≡ j
     → (argument_in place item ≡ Some bytes → OfBranch place bytes item)
     → (argument_in place join ≡ Some bytes → OfBranch place bytes join)
     → unwrap_or (option_or i j) (from, end) ≡ bytes
-    → OfNode place bytes (node from end kind held item join)
-in_groups place from end kind held item join bytes h has (Some own) j e f first second is =
-    let one = first (e ∙ ap Some is) in (one.0, inr (inl one.1), one.2)
-in_groups place from end kind held item join bytes h has None (Some own) e f first second is =
-    let one = second (f ∙ ap Some is) in (one.0, inr (inr one.1), one.2)
-in_groups place from end kind held item join bytes h has None None e f first second is = (
+    → OfBranch place bytes (branch (nodes_and (node from end kind held item join) ys))
+in_groups place from end kind held item join ys bytes h has (Some own) j e f first second is =
+    let one = first (e ∙ ap Some is) in (one.0, inr (inl (inl one.1)), one.2)
+in_groups place from end kind held item join ys bytes h has None (Some own) e f first second is =
+    let one = second (f ∙ ap Some is) in (one.0, inr (inl (inr one.1)), one.2)
+in_groups place from end kind held item join ys bytes h has None None e f first second is = (
   node from end kind held item join,
   inl refl,
   record { has = has; bytes_are = is; alone = none_inside },
@@ -178,32 +138,32 @@ in_groups place from end kind held item join bytes h has None None e f first sec
     none_inside x (inr g) = branch_without place from end kind join h.1 f x g
 
 mutual
+  -- among nodes it is that of the first, or of the rest
   forest_innermost : (place p : ℕ) (xs : Forest) (end : ℕ) (bytes : ℕ × ℕ) → Contiguous p xs end
-      → argument_among place xs ≡ Some bytes → IsInnermost place xs bytes
+      → argument_among place xs ≡ Some bytes → OfBranch place bytes (branch xs)
   forest_innermost place p no_nodes end bytes h found = absurd (cc)
   forest_innermost place p (nodes_and y ys) end bytes h found =
-      first_or_rest place y ys bytes (node_has place y)
-      (λ has is. node_innermost place y bytes h.2 has is)
-      (λ e. forest_innermost place (node_end y) ys end bytes h.3 e) found
+      grind (
+        arith,
+        some_same,
+        node_innermost place y ys bytes h.2,
+        forest_innermost place (node_end y) ys end bytes h.3,
+      )
 
   branch_innermost : (place from end : ℕ) (kind : PieceKind) (xs : Branch) (bytes : ℕ × ℕ)
       → GroupInside from end kind xs → argument_in place xs ≡ Some bytes
       → OfBranch place bytes xs
   branch_innermost place from end kind no_branch bytes h found = absurd (cc)
   branch_innermost place from end kind (branch xs) bytes h found =
-      let one = forest_innermost place h.1 xs h.2 bytes h.5 found in (
-        one.argument,
-        one.there,
-        record { has = one.has; bytes_are = one.bytes_are; alone = one.alone },
-      )
+      forest_innermost place h.1 xs h.2 bytes h.5 found
 
-  node_innermost : (place : ℕ) (y : Node) (bytes : ℕ × ℕ) → GroupsInside y
-      → node_has place y ≡ true → innermost place y ≡ bytes → OfNode place bytes y
-  node_innermost place (node from end kind held item join) bytes h has is =
-      in_groups place from end kind held item join bytes h has (argument_in place item)
-      (argument_in place join) refl refl
-      (λ e. branch_innermost place from end kind item bytes h.0 e)
-      (λ e. branch_innermost place from end kind join bytes h.1 e) is
+  node_innermost : (place : ℕ) (y : Node) (ys : Forest) (bytes : ℕ × ℕ) → GroupsInside y
+      → node_has place y ≡ true → innermost place y ≡ bytes
+      → OfBranch place bytes (branch (nodes_and y ys))
+  node_innermost place (node from end kind held item join) ys bytes h has is =
+      in_groups place from end kind held item join ys bytes h has (argument_in place item)
+      (argument_in place join) refl refl (branch_innermost place from end kind item bytes h.0)
+      (branch_innermost place from end kind join bytes h.1) is
 
 -- ---- of a text
 
@@ -211,7 +171,8 @@ pub innermost_found : (a : At) (place : ℕ) (bytes : ℕ × ℕ)
     → argument_among place (as_forest (nodes a)) ≡ Some bytes
     → IsInnermost place (as_forest (nodes a)) bytes
 innermost_found a place bytes e =
-    forest_innermost place a.place (as_forest (nodes a)) _ bytes (nodes_contiguous a) e
+    let one = forest_innermost place a.place (as_forest (nodes a)) _ bytes (nodes_contiguous a) e in
+    grind (arith, one)
 
 pub none_found : (a : At) (place : ℕ) → argument_among place (as_forest (nodes a)) ≡ None
     → NoneHas place (as_forest (nodes a))

@@ -4,7 +4,6 @@ pub mod ContiguousLemmas
 pub mod FaultLemmas
 pub mod InnermostLemmas
 pub mod ItselfLemmas
-pub mod MissedLemmas
 pub mod ResembleLemmas
 pub mod RowSampleLemmas
 pub mod SamplePairLemmas

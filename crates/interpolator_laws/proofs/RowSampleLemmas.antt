@@ -1,7 +1,7 @@
 -- A row means what pairs of its names and values mean, and resembles a sample if they do.
-use Rattle.std.proofs.Common.{◌≡◌, ◌≢◌, ◌∙◌, refl, sym, ap, subst, ℕ, Bool, true, false, cond}
+use Rattle.std.proofs.Common.{◌≡◌, ◌≢◌, ◌∙◌, refl, sym, ap, ℕ, Bool, false, cond}
 use Rattle.std.proofs.Common.{List, [], ◌∷◌, ◌≤◌, length, map, arith}
-use Rattle.std.proofs.Common.{Option, Some, None, option_map}
+use Rattle.std.proofs.Common.{Option, Some, None, option_map, rules}
 use Rattle.std.proofs.lemmas.List.{reverse-append}
 use Rattle.std.proofs.lemmas.List.Folds.{find-append}
 use Rattle.std.specs.Borrow.{Bor}
@@ -16,11 +16,11 @@ use Rattle.interpolator_render.specs.declared.view.Trait.{Trait}
 use Rattle.interpolator_syntax.specs.At.{At}
 use Rattle.interpolator_syntax.specs.Faults.{Answer, no_memory}
 use Rattle.interpolator_eval.specs.Contexts.{found_by_pairs}
-use Rattle.interpolator_eval.specs.Meaning.AskedNames.{asked_names, AgreeOn}
-use Rattle.interpolator_eval.specs.Meaning.Environments.{Environment, environment, slots_under}
+use Rattle.interpolator_eval.specs.Meaning.AskedNames.{asked_names}
+use Rattle.interpolator_eval.specs.Meaning.Environments.{Environment, environment}
 use Rattle.interpolator_eval.specs.Meaning.Meanings.{means}
 use Rattle.interpolator_eval.specs.Meaning.Outcomes.{Outcome}
-use Rattle.interpolator_eval.specs.Meaning.Resembling.{ResemblesFound, ResemblesOn}
+use Rattle.interpolator_eval.specs.Meaning.Resembling.{ResemblesOn}
 use Rattle.interpolator_eval.specs.Slots.{slots_of}
 use Rattle.interpolator_eval.specs.declared.slots.Formattable.{Formattable}
 use Rattle.interpolator_eval.proofs.MeaningLemmas.EqualLemmas.{means_same}
@@ -49,20 +49,13 @@ module _ {Y : Type 0} (bytes : List ℕ) where
       (x : Formattable Y) (row : List (Formattable Y)) (name : Bor (List ℕ)) (o : Option ℕ)
       (r : Option (Bor (List ℕ) × Formattable Y)) (b : Bool) → Agree row o r
       → Agree (x ∷ row) (later_or_first o b) (option_or r (cond b (Some (name, x)) None))
-  agree_more x row name (Some k) (Some p) b h = h
-  agree_more x row name (Some k) None b h = absurd h
-  agree_more x row name None (Some p) b h = absurd h
-  agree_more x row name None None true h = refl
-  agree_more x row name None None false h = tt
+  agree_more x row name o r b h = grind arith
 
   agree_found :
       (row : List (Formattable Y)) (o : Option ℕ) (r : Option (Bor (List ℕ) × Formattable Y))
       → Agree row o r
       → option_and_then (row_at row) o ≡ option_map slots_of (option_map (λ pair. pair.1) r)
-  agree_found row (Some k) (Some p) h = h
-  agree_found row (Some k) None h = absurd h
-  agree_found row None (Some p) h = absurd h
-  agree_found row None None h = refl
+  agree_found row o r h = grind arith
 
 module _ {Y : Type 0} where
   agree : (row : List (Formattable Y)) (names : List (Bor (List ℕ))) (bytes : List ℕ)
@@ -92,22 +85,12 @@ module _ {Y : Type 0} where
       sym (agree_found bytes row (last_position (map (λ own. own.now) names) bytes)
       (find (is_named bytes) (reverse (zip names row))) (agree row names bytes h))
 
-  rows_agree : (row : List (Formattable Y)) (names : List (Bor (List ℕ))) (asked : List (List ℕ))
-      → length names ≤ length row
-      → AgreeOn (environment (found_by_row (map (λ own. own.now) names) (row_at row)))
-      (environment (found_by_pairs (zip names row))) asked
-  rows_agree row names [] h = tt
-  rows_agree row names (name ∷ asked) h =
-      (sym (found_in_pairs row names name h), rows_agree row names asked h)
-
   -- so a format means with a row what it means with these pairs
   pub row_means : (shows : Y → Trait → Spec → Shown) (row : List (Formattable Y))
       (names : List (Bor (List ℕ))) (a : At) → length names ≤ length row
       → means shows (environment (found_by_row (map (λ own. own.now) names) (row_at row))) a
       ≡ means shows (environment (found_by_pairs (zip names row))) a
-  row_means shows row names a h =
-      means_same shows (environment (found_by_row (map (λ own. own.now) names) (row_at row)))
-      (environment (found_by_pairs (zip names row))) a (rows_agree row names (asked_names a) h)
+  row_means shows row names a h = grind (arith, means_same, found_in_pairs)
 
 -- ---- the sample
 
@@ -118,7 +101,7 @@ module _ {X Y : Type 0} (shows : X → Trait → Spec → Shown) (others : Y →
   names_shown : (sample : List (Bor (List ℕ) × Formattable X))
       → map (λ name. name.now) (names_in sample) ≡ pair_names sample
   names_shown [] = refl
-  names_shown (q ∷ qs) = ap (λ names. q.0.now ∷ names) (names_shown qs)
+  names_shown (q ∷ qs) = grind (arith, names_shown qs)
 
   reached : (row : List (Formattable Y)) (sample : List (Bor (List ℕ) × Formattable X))
       → RowResembles shows others row sample → length (names_in sample) ≤ length row
@@ -141,24 +124,14 @@ module _ {X Y : Type 0} (shows : X → Trait → Spec → Shown) (others : Y →
       (environment (found_by_pairs sample)) names
   of_pairs row sample [] h k = tt
   of_pairs row sample (name ∷ names) h k =
-      let same : found_by_pairs (zip (names_in sample) row) name
-      ≡ found_by_row (pair_names sample) (row_at row) name =
-      found_in_pairs row (names_in sample) name (reached row sample h)
-      ∙ ap (λ own. found_by_row own (row_at row) name) (names_shown sample) in (
-        subst (λ o. ResemblesFound shows others o (slots_under (environment (found_by_pairs sample)) name))
-            same k.0,
-        of_pairs row sample names h k.1,
-      )
+      grind (arith, found_in_pairs, reached, names_shown, of_pairs row sample names h k.1)
 
   -- a row resembles a sample under whatever names
   pub row_resembles : (row : List (Formattable Y)) (sample : List (Bor (List ℕ) × Formattable X))
       (names : List (List ℕ)) → RowResembles shows others row sample
       → ResemblesOn shows others (environment (found_by_row (pair_names sample) (row_at row)))
       (environment (found_by_pairs sample)) names
-  row_resembles row sample names h =
-      of_pairs row sample names h
-      (pairs_resemble shows others (zip (names_in sample) row) sample names
-      (pairs_alike row sample h))
+  row_resembles row sample names h = search (rules, of_pairs, pairs_resemble, pairs_alike)
 
 -- ---- what is written
 
@@ -171,29 +144,24 @@ module _ {X Y : Type 0} (shows : X → Trait → Spec → Shown) (others : Y →
       (like : RowResembles shows others row sample) where
     like_on : ResemblesOn shows others (by_names (pair_names sample))
         (environment (found_by_pairs sample)) (asked_names a)
-    like_on = row_resembles shows others row sample (asked_names a) like
+    like_on = search (rules, row_resembles)
 
     -- no fault is meant
     row_fault : (means others (by_names (pair_names sample)) a).fault ≡ None
-    row_fault =
-        no_fault shows others (found_by_pairs sample) (by_names (pair_names sample)) a none like_on
+    row_fault = grind (arith, no_fault, like_on)
 
     module _ (names : List (List ℕ)) (named : names ≡ pair_names sample) (old new : Written)
         (answer : Option Answer) (o : Outcome (means others (by_names names) a) old new answer) where
       no_fault_named : (means others (by_names names) a).fault ≡ None
-      no_fault_named = ap (λ ns. (means others (by_names ns) a).fault) named ∙ row_fault
+      no_fault_named = grind (arith, row_fault)
 
       -- so all is written, unless the writer has refused or there was no memory
       pub writes_all : OnlyRefused new answer
-      writes_all = only_refused (means others (by_names names) a) old new answer no_fault_named o
+      writes_all = grind (arith, only_refused, no_fault_named)
 
       -- and none is taken, if no list is under a width
       pub wants_no_memory : pads_a_list a ≡ false → answer ≢ Some no_memory
-      wants_no_memory pads =
-          wants_none (means others (by_names names) a) old new answer no_fault_named
-          (ap (λ ns. (means others (by_names ns) a).memory_points) named
-          ∙ no_memory_point shows others (found_by_pairs sample) (by_names (pair_names sample)) a
-          none like_on pads) o
+      wants_no_memory pads = grind (arith, wants_none, no_fault_named, no_memory_point, like_on)
 
   pub means_no_fault : (a : At) → faults_over shows (found_by_pairs sample) a ≡ []
       → RowResembles shows others row sample

@@ -1,4 +1,4 @@
-use Rattle.interpolator_laws.proofs.MissedLemmas.{value_missed}
+use Rattle.interpolator_laws.proofs.CheckLawLemmas.{value_missed}
 use Rattle.interpolator_laws.proofs.checks.a_missing_value_is_an_asked_name.Goals as goal
 
 pub returns : goal.returns
