@@ -13,7 +13,7 @@ use Rattle.std.specs.declared.vec.Vec.{Vec}
 use Rattle.catalogue.specs.Entries.{Pair}
 use Rattle.catalogue.specs.Picks.{ArePicked}
 use Rattle.interpolator.specs.Faults.{Fault}
-use Rattle.catalogue.proofs.KindLemmas.{IsGiven, all_given, none_fails}
+use Rattle.catalogue.proofs.KindLemmas.{IsGiven, NoneFails, all_given}
 use Rattle.catalogue.proofs.SoundLemmas.{sound_among}
 use Rattle.catalogue.specs.Messages.{format_of}
 use Rattle.catalogue.specs.Declarations.{Declared, nothing, these, broken}
@@ -41,96 +41,98 @@ found_under file number line format declared lacks (Some one) h =
       ap (λ x. x.4) e ∙ ap declared_of (sym same),
     )
 
--- a sound line whose message has a fault over what is picked of given values declares nothing
-only_plain : (format : List ℕ) (declared : Declared) (values picked : List Object)
-    (pairs : List Pair) (f : Fault) → IsSoundOver declared format → All IsGiven values
-    → ArePicked declared values picked → HoldAll picked pairs
-    → (message_means format pairs).fault ≡ Some f → (declared ≡ nothing) × (picked ≡ values)
-only_plain format nothing values picked pairs f sound given are held told = (refl, are)
-only_plain format (these ds) values picked pairs f sound given are held told =
-    absurd (not_none f (sym told ∙ none_fails format ds values picked pairs sound given are held))
-only_plain format (broken place) values picked pairs f sound given are held told = absurd sound
+module _ (none_fails : NoneFails) where
+  -- a sound line whose message has a fault over what is picked of given values declares nothing
+  only_plain : (format : List ℕ) (declared : Declared) (values picked : List Object)
+      (pairs : List Pair) (f : Fault) → IsSoundOver declared format → All IsGiven values
+      → ArePicked declared values picked → HoldAll picked pairs
+      → (message_means format pairs).fault ≡ Some f → (declared ≡ nothing) × (picked ≡ values)
+  only_plain format nothing values picked pairs f sound given are held told = (refl, are)
+  only_plain format (these ds) values picked pairs f sound given are held told =
+      absurd (not_none f (sym told ∙ none_fails format ds values picked pairs sound given are held))
+  only_plain format (broken place) values picked pairs f sound given are held told = absurd sound
 
--- the message of the line, what value it lacks, or its fault, is the answer
-pub answers_message : {Y : Type 0} (files : List (List ℕ × List ℕ)) (key : List ℕ)
-    (words : List (String Y)) (file : List ℕ) (number : ℕ) (line : List ℕ) (values : List Object)
-    (result : Result Answer Error)
-    → All IsSoundFile files → found_among values key files ≡ Some (file, number, line, None)
-    → GiveValues words values
-    → IfOk result (λ answer. Replies file number line key (format_of line) (declared_of line)
-    values answer) → IfOk result (λ answer. Answers files key words answer)
-answers_message files key words file number line values (Ok (Message m)) sound under given h =
-    record {
-      sound = sound;
-      file = file;
-      number = number;
-      line = line;
-      under = under;
-      values = values;
-      given = given;
-      picked = h.picked;
-      are = h.are;
-      made = h.made;
-    }
-answers_message files key words file number line values (Ok (Faults told)) sound under given
-    (inl h) = inr (inr (inr (inl (record {
-      sound = sound;
-      file = file;
-      number = number;
-      line = line;
-      under = under;
-      values = values;
-      given = given;
-      lacks = h;
-    }))))
-answers_message files key words file number line values (Ok (Faults told)) sound under given
-    (inr h) =
-    let plain = only_plain (format_of line) (declared_of line) values h.picked
-    h.made.faulty.pairs h.made.f (sound_among values key files (file, number, line, None) sound under)
-    (all_given string_bytes words values given) h.are h.made.faulty.shown h.made.faulty.told in
-    inr (inr (inr (inr (record {
-      sound = sound;
-      file = file;
-      number = number;
-      line = line;
-      under = under;
-      plain = plain.0;
-      values = values;
-      given = given;
-      faulty = subst (λ vs. IsToldOf file number line (format_of line) vs (string_bytes told))
-          plain.1 h.made;
-    }))))
-answers_message files key words file number line values (Ok (BadWord word)) sound under given h =
-    absurd h
-answers_message files key words file number line values (Err e) sound under given h = h
+  -- the message of the line, what value it lacks, or its fault, is the answer
+  pub answers_message : {Y : Type 0} (files : List (List ℕ × List ℕ)) (key : List ℕ)
+      (words : List (String Y)) (file : List ℕ) (number : ℕ) (line : List ℕ) (values : List Object)
+      (result : Result Answer Error)
+      → All IsSoundFile files → found_among values key files ≡ Some (file, number, line, None)
+      → GiveValues words values
+      → IfOk result (λ answer. Replies file number line key (format_of line) (declared_of line)
+      values answer) → IfOk result (λ answer. Answers files key words answer)
+  answers_message files key words file number line values (Ok (Message m)) sound under given h =
+      record {
+        sound = sound;
+        file = file;
+        number = number;
+        line = line;
+        under = under;
+        values = values;
+        given = given;
+        picked = h.picked;
+        are = h.are;
+        made = h.made;
+      }
+  answers_message files key words file number line values (Ok (Faults told)) sound under given
+      (inl h) = inr (inr (inr (inl (record {
+        sound = sound;
+        file = file;
+        number = number;
+        line = line;
+        under = under;
+        values = values;
+        given = given;
+        lacks = h;
+      }))))
+  answers_message files key words file number line values (Ok (Faults told)) sound under given
+      (inr h) =
+      let plain = only_plain (format_of line) (declared_of line) values h.picked
+      h.made.faulty.pairs h.made.f
+      (sound_among values key files (file, number, line, None) sound under)
+      (all_given string_bytes words values given) h.are h.made.faulty.shown h.made.faulty.told in
+      inr (inr (inr (inr (record {
+        sound = sound;
+        file = file;
+        number = number;
+        line = line;
+        under = under;
+        plain = plain.0;
+        values = values;
+        given = given;
+        faulty = subst (λ vs. IsToldOf file number line (format_of line) vs (string_bytes told))
+            plain.1 h.made;
+      }))))
+  answers_message files key words file number line values (Ok (BadWord word)) sound under given h =
+      absurd h
+  answers_message files key words file number line values (Err e) sound under given h = h
 
--- the number that its form lacks, or else that
-pub answers_reply : {Y : Type 0} (files : List (List ℕ × List ℕ)) (key : List ℕ)
-    (words : List (String Y)) (file : List ℕ) (number : ℕ) (line : List ℕ)
-    (lacks : Option (List ℕ)) (values : List Object) (result : Result Answer Error)
-    → All IsSoundFile files → found_among values key files ≡ Some (file, number, line, lacks)
-    → GiveValues words values
-    → IfOk result (λ answer. RepliesFor lacks file number line key (format_of line)
-    (declared_of line) values answer) → IfOk result (λ answer. Answers files key words answer)
-answers_reply files key words file number line None values result sound under given h =
-    answers_message files key words file number line values result sound under given h
-answers_reply files key words file number line (Some name) values (Ok (Message m)) sound under given
-    h = absurd h
-answers_reply files key words file number line (Some name) values (Ok (BadWord w)) sound under given
-    h = absurd h
-answers_reply files key words file number line (Some name) values (Ok (Faults told)) sound under
-    given h = inr (inr (inl (record {
-      sound = sound;
-      file = file;
-      number = number;
-      line = line;
-      name = name;
-      values = values;
-      given = given;
-      under = under;
-      says = h;
-    })))
-answers_reply files key words file number line (Some name) values (Err e) sound under given h = h
+  -- the number that its form lacks, or else that
+  pub answers_reply : {Y : Type 0} (files : List (List ℕ × List ℕ)) (key : List ℕ)
+      (words : List (String Y)) (file : List ℕ) (number : ℕ) (line : List ℕ)
+      (lacks : Option (List ℕ)) (values : List Object) (result : Result Answer Error)
+      → All IsSoundFile files → found_among values key files ≡ Some (file, number, line, lacks)
+      → GiveValues words values
+      → IfOk result (λ answer. RepliesFor lacks file number line key (format_of line)
+      (declared_of line) values answer) → IfOk result (λ answer. Answers files key words answer)
+  answers_reply files key words file number line None values result sound under given h =
+      answers_message files key words file number line values result sound under given h
+  answers_reply files key words file number line (Some name) values (Ok (Message m)) sound under
+      given h = absurd h
+  answers_reply files key words file number line (Some name) values (Ok (BadWord w)) sound under
+      given h = absurd h
+  answers_reply files key words file number line (Some name) values (Ok (Faults told)) sound under
+      given h = inr (inr (inl (record {
+        sound = sound;
+        file = file;
+        number = number;
+        line = line;
+        name = name;
+        values = values;
+        given = given;
+        under = under;
+        says = h;
+      })))
+  answers_reply files key words file number line (Some name) values (Err e) sound under given h = h
 
 -- what words give, or that one of them gives nothing
 pub may_give : {Y Z : Type 0} (words : List (String Y))

@@ -4,7 +4,6 @@ pub mod PartLemmas
 pub mod ExampleLemmas
 pub mod EntryLemmas
 pub mod OwnLemmas
-pub mod EndingLemmas
 pub mod WordLemmas
 pub mod KindLemmas
 pub mod SoundLemmas

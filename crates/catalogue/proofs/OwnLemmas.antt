@@ -5,7 +5,6 @@ use Rattle.std.proofs.lemmas.List.Elements.{filter-append}
 use Rattle.std.specs.List.{filter, list_any}
 use Rattle.std.specs.Prelude.{Contains}
 use Rattle.std.specs.Str.{chars}
-use Rattle.interpolator_pieces.proofs.CheckPlaceLemmas.{faults_of_text}
 use Rattle.interpolator.specs.At.{outermost}
 use Rattle.interpolator.specs.Faults.{Fault, fmt, missing_trait_impl, missing_value}
 use Rattle.interpolator.specs.Faults.{parse, unsupported_option}
@@ -138,12 +137,16 @@ all_own [] h = refl
 all_own (f ∷ fs) h = rw (of_text_own f (h f (0, omega arith, refl))) (ap (λ gs. f ∷ gs)
     (all_own fs (λ g has. h g (suc has.0, omega (arith, has.1), has.2))))
 
+-- each fault that a format has by itself is one of its text
+abbrev pub AreOfText : List ℕ → Type 0
+AreOfText format =
+    (f : Fault) → Contains (text_faults (outermost (chars format))) f → IsOfText f
+
 -- those that a format has by itself, of all that it has with a sample
 pub own_faults : {X : Type 0} (shows : X → Trait → Spec → Shown)
-    (finds : List ℕ → Option (Slots X)) (format : List ℕ)
+    (finds : List ℕ → Option (Slots X)) (format : List ℕ) → AreOfText format
     → own (forest_faults_in shows (sample finds) (as_forest (nodes (outermost (chars format)))))
     ≡ text_faults (outermost (chars format))
-own_faults shows finds format =
+own_faults shows finds format of_text =
     own_of_forest shows (sample finds) (as_forest (nodes (outermost (chars format))))
-    ∙ all_own (text_faults (outermost (chars format)))
-    (faults_of_text (outermost (chars format)))
+    ∙ all_own (text_faults (outermost (chars format))) of_text

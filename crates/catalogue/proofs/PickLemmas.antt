@@ -1,7 +1,7 @@
 -- What is picked for declarations, one after the other, and the first that lacks it.
 use Rattle.std.proofs.Common.{◌≡◌, ◌∙◌, ap, sym, ℕ, ◌+◌, ◌<◌, ◌≤◌, List, [], ◌∷◌, ◌++◌, map, take}
-use Rattle.std.proofs.Common.{drop, length, get_or, append_assoc}
-use Rattle.std.proofs.lemmas.List.{map-append, take-append-drop, take_all, take_more}
+use Rattle.std.proofs.Common.{drop, length, get_or}
+use Rattle.std.proofs.lemmas.List.{at_drop_more, map-append, take-append-drop, take_all}
 use Rattle.std.proofs.lemmas.List.Elements.{All-cons, All-nil}
 use Rattle.std.specs.List.{All, AllZip}
 use Rattle.catalogue.proofs.ExampleLemmas.{zip_mapped}
@@ -47,9 +47,8 @@ each_picked objects (d ∷ ds) (e ∷ es) h =
 -- a list is its front, an element and the rest
 pub split_at : {A : Type 0} (xs : List A) (i : ℕ) (d : A) → i < length xs
     → xs ≡ take i xs ++ (get_or xs i d ∷ drop (i + 1) xs)
-split_at xs i d within = sym (take-append-drop (i + 1) xs)
-    ∙ (ap (λ l. l ++ drop (i + 1) xs) (take_more xs i d within)
-    ∙ append_assoc (take i xs) (get_or xs i d ∷ []) (drop (i + 1) xs))
+split_at xs i d within =
+    sym (take-append-drop i xs) ∙ at_drop_more (λ l. take i xs ++ l) xs i d within
 
 -- the first that lacks a pick
 pub first_lacks : (objects : List Object) (ds : List Declaration) (i : ℕ) (d : Declaration)

@@ -10,7 +10,7 @@ use Rattle.catalogue.specs.Examples.{example_faults, example_under, faults_of, f
 use Rattle.catalogue.specs.Examples.{view_shows}
 use Rattle.catalogue.specs.Messages.{told_of_fault, told_of_faults, told_of_replies}
 use Rattle.catalogue.specs.declared.declarations.Kind.{Kind}
-use Rattle.catalogue.proofs.OwnLemmas.{own_faults}
+use Rattle.catalogue.proofs.OwnLemmas.{AreOfText, own_faults}
 
 module _ (file : List ℕ) (number : ℕ) (line format : List ℕ) where
   -- if nothing is declared, of those that the format has by itself
@@ -34,21 +34,22 @@ module _ (file : List ℕ) (number : ℕ) (line format : List ℕ) where
   told_all declared (f ∷ fs) =
       ap (λ t. told_of_fault file number line format (fault f) ++ t) (told_all declared fs)
 
-  told_same : (declared : Declared)
+  told_same : AreOfText format → (declared : Declared)
       → told_of_replies file number line format declared (map fault (found_faults declared format))
       ≡ told_of_faults file number line format (faults_of declared format)
-  told_same nothing = told_own (example_faults [] format)
+  told_same of_text nothing = told_own (example_faults [] format)
       ∙ ap (λ fs. told_of_faults file number line format fs)
-      (own_faults view_shows (example_under []) format)
-  told_same (these declared) = told_all declared (example_faults declared format)
-  told_same (broken place) = refl
+      (own_faults view_shows (example_under []) format of_text)
+  told_same of_text (these declared) = told_all declared (example_faults declared format)
+  told_same of_text (broken place) = refl
 
-  pub told_found : {Z : Type 0} (declared : Declared) (whys : List Reply)
+  pub told_found : AreOfText format → {Z : Type 0} (declared : Declared) (whys : List Reply)
       (result : Result (String Z) Error) → whys ≡ map fault (found_faults declared format)
       → IfOk result (λ told. string_bytes told
       ≡ told_of_replies file number line format declared whys)
       → IfOk result (λ told. string_bytes told
       ≡ told_of_faults file number line format (faults_of declared format))
-  told_found declared whys (Ok told) found says = says
-      ∙ (ap (λ w. told_of_replies file number line format declared w) found ∙ told_same declared)
-  told_found declared whys (Err error) found says = tt
+  told_found of_text declared whys (Ok told) found says = says
+      ∙ (ap (λ w. told_of_replies file number line format declared w) found
+      ∙ told_same of_text declared)
+  told_found of_text declared whys (Err error) found says = tt

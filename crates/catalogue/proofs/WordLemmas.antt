@@ -4,10 +4,9 @@ use Rattle.std.proofs.Common.{None, Some, ◌<◌, ◌↔◌, All, drop, get_or,
 use Rattle.std.proofs.lemmas.List.Elements.{All-cons, All-nil}
 use Rattle.std.specs.List.{AllZip, slice_split}
 use Rattle.std.specs.declared.string.String.{String}
-use Rattle.interpolator.specs.declared.Decimal.{Decimal}
 use Rattle.interpolator.specs.declared.View.{View}
 use Rattle.catalogue.specs.Declarations.{is_comma}
-use Rattle.catalogue.specs.Words.{Cuts, Fits, Gives, HasDecimal, IsCut, IsDecimal, IsFirstBad}
+use Rattle.catalogue.specs.Words.{Cuts, Fits, Gives, IsCut, IsFirstBad}
 use Rattle.catalogue.specs.Words.{IsGood, ShowsAs, Spells, items_of}
 use Rattle.catalogue.specs.declared.declarations.Kind.TheVariants as kinds
 use Rattle.catalogue.specs.declared.declarations.Kind.{Kind}
@@ -35,11 +34,6 @@ unfit word declared text cuts none good =
 pub not_a_number : (text : List ℕ) → ((value : ℤ) → Spells text value ↔ (None ≡ Some value))
     → ¬ Fits kinds.Number text
 not_a_number text h fits = let no = (h fits.0).0 fits.1 in cc
-
--- a text that spells no decimal is none
-pub not_a_decimal : (text : List ℕ)
-    → ((value : Decimal) → IsDecimal text value ↔ (None ≡ Some value)) → ¬ HasDecimal text
-not_a_decimal text h has = let no = (h has.0).0 has.1 in cc
 
 -- a value that shows what a text is of a kind, fits
 shown_fits : (kind : Kind) (text : List ℕ) (view : View) → ShowsAs kind text view → Fits kind text

@@ -1,9 +1,10 @@
 -- What the head of a line declares: names, each with a kind of value. Texts are bytes.
 use Rattle.std.specs.Prelude.{ℕ, Bool, not, ◌&&◌, ◌==◌, ◌-◌, nat_lt, List, [], ◌∷◌, ◌++◌}
-use Rattle.std.specs.Prelude.{drop, length, map, take}
+use Rattle.std.specs.Prelude.{eqb, length, map, take}
 use Rattle.std.specs.Prelude.{codes, if◌then◌else◌, Option, None, Some}
 use Rattle.std.specs.Option.{option_or}
-use Rattle.std.specs.List.{before_first, after_first, list_any, position_or_len, slice_split}
+use Rattle.std.specs.List.{before_first, after_first, ends_with, list_any, position_or_len}
+use Rattle.std.specs.List.{slice_split}
 use Rattle.std.specs.Char.{is_whitespace}
 use Rattle.std.specs.Str.{bytes_eq, chars, trim, trim_start}
 use Rattle.interpolator.specs.Explained.{usize_sum}
@@ -38,8 +39,7 @@ if_whole whole declared = if whole then Some declared else None
 -- a text without an ending, if it ends so
 abbrev pub without : (ending text : List ℕ) → Option (List ℕ)
 without ending text =
-    if bytes_eq (drop (length text - length ending) text) ending
-    then Some (take (length text - length ending) text) else None
+    if ends_with eqb text ending then Some (take (length text - length ending) text) else None
 
 -- the name and the kind by what is before `:`, before `:.`, and before `[]`, at the end of a text
 abbrev pub by_ending : List ℕ → (number decimal list : Option (List ℕ)) → List ℕ × Kind

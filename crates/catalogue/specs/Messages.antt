@@ -17,7 +17,8 @@ use Rattle.interpolator.specs.declared.Source.{Source}
 use Rattle.interpolator.specs.Meaning.Environments.{environment}
 use Rattle.interpolator.specs.Meaning.Meanings.{Meaning, means}
 use Rattle.interpolator.specs.Meaning.Outcomes.{Formats}
-use Rattle.catalogue.specs.Declarations.{Declared, nothing, these, broken, declared_in, has, key_in}
+use Rattle.catalogue.specs.Declarations.{Declared, nothing, these, broken, declared_by}
+use Rattle.catalogue.specs.Declarations.{declared_in, has, key_in}
 use Rattle.catalogue.specs.Entries.{Holds, Pair}
 use Rattle.catalogue.specs.Examples.{faults_of, reply_counts, view_shows}
 use Rattle.catalogue.specs.Forms.{Chosen, choice_with, first_given, key_by, or_form, rule_of}
@@ -26,6 +27,7 @@ use Rattle.catalogue.specs.Picks.{ArePicked, IsLacking, told_of_lacking}
 use Rattle.catalogue.specs.Reports.{lent, told_at}
 use Rattle.catalogue.specs.Rules.{broken_in, rule_head, rule_in}
 use Rattle.catalogue.specs.Words.{Gives, HasEquals, IsFirstBad, is_equals}
+use Rattle.catalogue.specs.declared.checks.Found.{Found}
 use Rattle.catalogue.specs.declared.declarations.Kind.{Kind}
 use Rattle.catalogue.specs.declared.declarations.Kind.TheVariants as kinds
 use Rattle.catalogue.specs.declared.entries.Object.{Object}
@@ -163,6 +165,13 @@ with_lack lacks one = (one.0, one.1, one.2, one.3, one.4, lacks)
 
 abbrev pub line_with_format : FoundLine → Known
 line_with_format one = with_lack one.3 (with_format one.0 (one.1, one.2))
+
+-- the same of a line as the program finds it
+abbrev pub as_line : Found → List ℕ × ℕ × List ℕ × List ℕ × Declared
+as_line one = (one.file.now, one.number, one.text.now, one.template, declared_by one.heading)
+
+abbrev pub as_known : Found → Known
+as_known one = with_lack (option_map (λ name. name.now) one.lacks) (as_line one)
 
 -- a file: its name and its text
 abbrev pub as_file : File → List ℕ × List ℕ

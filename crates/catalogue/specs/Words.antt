@@ -8,7 +8,7 @@ use Rattle.std.specs.List.{All, after_first, before_first, position_or_len, slic
 use Rattle.std.specs.Str.{chars}
 use Rattle.std.specs.Str.Parse.{IsNumeral, digits_value}
 use Rattle.std.specs.declared.string.String.{String}
-use Rattle.interpolator.specs.DecimalTexts.{IsInRange, SpellsDecimal}
+use Rattle.interpolator.specs.DecimalTexts.{Spells as IsDecimal}
 use Rattle.interpolator.specs.Views.{Shown, decimal_number, shown_as_value, signed_number}
 use Rattle.interpolator.specs.Views.{some_text}
 use Rattle.interpolator.specs.declared.Bits.TheVariants.{B128}
@@ -35,21 +35,6 @@ pub record Spells (whole : List ℕ) (value : ℤ) : Type 0 where
       ⊎ ((whole ≡ codes "-" ++ digits) × (value ≡ neg_ℤ (pos (digits_value 10 digits))))
   pub fits : FitsSigned w128 value
 
--- a text spells a decimal in range: a `-` or `+` if there is one, digits, and perhaps a point with
--- digits after it; the scale is how many those are
-abbrev pub IsDecimal : List ℕ → Decimal → Type 0
-IsDecimal text value =
-    SpellsDecimal text value.units value.scale × IsInRange value.units value.scale
-
--- a text spells some decimal
-abbrev pub HasDecimal : List ℕ → Type 0
-HasDecimal text = (value : Decimal) × IsDecimal text value
-
--- a view shows the decimal that a text spells
-abbrev pub ShowsDecimal : List ℕ → View → Type 0
-ShowsDecimal text view = (value : Decimal) × IsDecimal text value
-    × (shown_as_value view ≡ decimal_number value.units value.scale)
-
 -- a text split at its commas, and no item for the empty text
 abbrev pub items_of : List ℕ → List (List ℕ)
 items_of [] = []
@@ -63,11 +48,12 @@ texts_of texts = map (λ text. text.now) texts
 abbrev pub texts_show : List (List ℕ) → List Shown
 texts_show texts = map (λ text. some_text (chars text)) texts
 
--- a text is one of a kind: of a number or a decimal, that it spells one
+-- a text is one of a kind: of a number or a decimal, that it spells one (a decimal as the library's
+-- `Decimal::parse` reads it)
 abbrev pub Fits : Kind → List ℕ → Type 0
 Fits kinds.Text text = ⊤
 Fits kinds.Number text = (value : ℤ) × Spells text value
-Fits kinds.Decimal text = HasDecimal text
+Fits kinds.Decimal text = (value : Decimal) × IsDecimal text value
 Fits kinds.List text = ⊤
 
 -- a view shows what a text is of a kind; a list shows its items alone
@@ -75,7 +61,8 @@ abbrev pub ShowsAs : Kind → List ℕ → View → Type 0
 ShowsAs kinds.Text text view = shown_as_value view ≡ some_text (chars text)
 ShowsAs kinds.Number text view =
     (value : ℤ) × Spells text value × (shown_as_value view ≡ signed_number value B128)
-ShowsAs kinds.Decimal text view = ShowsDecimal text view
+ShowsAs kinds.Decimal text view = (value : Decimal) × IsDecimal text value
+    × (shown_as_value view ≡ decimal_number value.units value.scale)
 ShowsAs kinds.List text view = ⊤
 
 -- what the items of a list show; a value of another kind has none

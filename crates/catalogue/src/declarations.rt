@@ -55,11 +55,16 @@ fn if_whole(name: &str, kind: Kind, whole: bool) -> Option<Declaration<'_>>
     }
 }
 
-/// A text without an ending, if it ends so.
-fn without<'a>(ending: &str, text: &'a str) -> Option<&'a str>
-    ensures { option_map (λ x. x.now) result ≡ without ending.now text.now }
+/// The name before an ending, and the kind that the ending is of, if a text ends so.
+#[tactic(auto, using(std::proofs::lemmas::Slice::Eq::ends_is))]
+fn with_ending<'a>(ending: &str, kind: Kind, text: &'a str) -> Option<Declaration<'a>>
+    ensures { option_map as_declaration result
+        ≡ option_map (λ name. (name, kind)) (without ending.now text.now) }
 {
-    text.strip_suffix(ending)
+    match text.strip_suffix(ending) {
+        Some(name) => Some(Declaration { name, kind }),
+        None => None,
+    }
 }
 
 /// The name and the kind that a text gives: `NAME:` is a whole number, `NAME:.` a decimal, `NAME[]`
@@ -68,23 +73,14 @@ fn without<'a>(ending: &str, text: &'a str) -> Option<&'a str>
 pub fn declaration_of(text: &str) -> Declaration<'_>
     ensures { as_declaration result ≡ declaration_of text.now }
 {
-    if let Some(name) = without(":", text) {
-        return Declaration {
-            name,
-            kind: Kind::Number,
-        };
+    if let Some(declared) = with_ending(":", Kind::Number, text) {
+        return declared;
     }
-    if let Some(name) = without(":.", text) {
-        return Declaration {
-            name,
-            kind: Kind::Decimal,
-        };
+    if let Some(declared) = with_ending(":.", Kind::Decimal, text) {
+        return declared;
     }
-    if let Some(name) = without("[]", text) {
-        return Declaration {
-            name,
-            kind: Kind::List,
-        };
+    if let Some(declared) = with_ending("[]", Kind::List, text) {
+        return declared;
     }
     Declaration {
         name: text,

@@ -23,12 +23,14 @@
 //! a bad word, and 3 if a file cannot be read or the output cannot be written.
 #![tactic(auto)]
 
+mod checks;
 mod declarations;
 mod entries;
 mod examples;
 mod files;
 mod forms;
 mod keys;
+mod line_faults;
 mod lines;
 mod messages;
 mod picks;
@@ -36,8 +38,9 @@ mod reports;
 mod rules;
 mod words;
 
+use checks::check;
 use files::File;
-use messages::{Answer, check, look_up};
+use messages::{Answer, look_up};
 use std::process::ExitCode;
 use std::{env, fs, io};
 

@@ -5,11 +5,9 @@ ghost use Rattle.std.specs.Prelude.{string_bytes};
 ghost use Rattle.std.specs.List.{AllZip};
 ghost use Rattle.interpolator.specs.Faults.{answer_of, no_memory};
 ghost use Rattle.interpolator.specs.Views.{shown_as_value};
-ghost use Rattle.interpolator.specs.declared.Decimal.{Decimal};
 ghost use Rattle.catalogue.specs.Declarations.{as_declaration};
-ghost use Rattle.catalogue.specs.Words.{Spells, IsDecimal, HasDecimal, ShowsDecimal, Fits, ShowsAs};
-ghost use Rattle.catalogue.specs.Words.{Cuts, IsCut, IsGood, Gives, IsFirstBad, items_of, items_in};
-ghost use Rattle.catalogue.specs.Words.{texts_of, texts_show};
+ghost use Rattle.catalogue.specs.Words.{Spells, Fits, ShowsAs, Cuts, IsCut, IsGood, Gives};
+ghost use Rattle.catalogue.specs.Words.{IsFirstBad, items_of, items_in, texts_of, texts_show};
 
 use crate::declarations::{Declaration, Kind, declaration_of};
 use crate::entries::Object;
@@ -26,26 +24,6 @@ fn number_of(text: &str) -> Option<i128>
     text.parse::<i128>().ok()
 }
 
-/// The decimal that a text spells, if any.
-fn decimal_of(text: &str) -> Option<Decimal>
-    ensures { (value : Decimal) → IsDecimal text.now value ↔ (result ≡ Some value) }
-{
-    Decimal::parse(text).ok()
-}
-
-/// The view of the decimal that a text spells, if any.
-fn decimal_view(text: &str) -> Option<View<'_>>
-    ensures { MatchOption result (¬ HasDecimal text.now) (λ view. ShowsDecimal text.now view) }
-{
-    match decimal_of(text) {
-        Some(decimal) => Some(View::Decimal {
-            units: decimal.units,
-            scale: decimal.scale,
-        }),
-        None => None,
-    }
-}
-
 /// The view of a text as a value of a kind, if it is one; a list has views of its items alone.
 fn value_of(kind: Kind, text: &str) -> Option<View<'_>>
     ensures { MatchOption result (¬ Fits kind text.now) (λ view. ShowsAs kind text.now view) }
@@ -56,7 +34,13 @@ fn value_of(kind: Kind, text: &str) -> Option<View<'_>>
             Some(number) => Some(View::Signed(number, Bits::B128)),
             None => None,
         },
-        Kind::Decimal => decimal_view(text),
+        Kind::Decimal => match Decimal::parse(text) {
+            Ok(decimal) => Some(View::Decimal {
+                units: decimal.units,
+                scale: decimal.scale,
+            }),
+            Err(_) => None,
+        },
         Kind::List => Some(View::NotImplemented),
     }
 }

@@ -1,5 +1,4 @@
 mod CsvLemmas
-mod EndingLemmas
 mod LetterLemmas
 mod LineLemmas
 mod TableLemmas

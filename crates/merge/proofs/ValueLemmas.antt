@@ -1,22 +1,16 @@
 -- The views of the fields of a line, one after the other.
 use Rattle.std.proofs.Common.{◌≡◌, ◌∙◌, refl, sym, ap, subst, inl, inr, ℕ, ◌+◌, ◌<◌, List, []}
 use Rattle.std.proofs.Common.{◌∷◌, ◌++◌, length, map, take, drop, get_or, arith, string_bytes}
-use Rattle.std.proofs.Common.{append_assoc, Option, None, Some, ◌↔◌}
+use Rattle.std.proofs.Common.{Option, None, Some}
 use Rattle.std.proofs.lemmas.List.{length-map, length-take-le, map-append, map_more}
-use Rattle.std.proofs.lemmas.List.{take-append-drop, take_more}
+use Rattle.std.proofs.lemmas.List.{at_drop_more, take-append-drop}
 use Rattle.std.specs.declared.string.String.{String}
-use Rattle.interpolator.specs.declared.Decimal.{Decimal}
 use Rattle.interpolator.specs.declared.View.{View}
 use Rattle.merge.specs.Columns.{kinds_in}
-use Rattle.merge.specs.Values.{AreShown, Fits, HasDecimal, IsDecimal, IsMisfit, Shows}
+use Rattle.merge.specs.Values.{AreShown, Fits, IsMisfit, Shows}
 use Rattle.merge.specs.declared.columns.Column.{Column}
 use Rattle.merge.specs.declared.columns.Kind.{Kind}
 use Rattle.merge.specs.declared.columns.Kind.TheVariants as kinds
-
--- a text that spells no decimal is none
-pub not_a_decimal : (text : List ℕ)
-    → ((value : Decimal) → IsDecimal text value ↔ (None ≡ Some value)) → ¬ HasDecimal text
-not_a_decimal text h has = let no = (h has.0).0 has.1 in cc
 
 -- a field whose view there is is what its column wants
 shown_fits : (kind : Kind) (field : List ℕ) (view : View) → Shows kind field view → Fits kind field
@@ -66,9 +60,8 @@ shown_many (k ∷ ks) (f ∷ fs) (v ∷ vs) h =
 -- a list is its front, an element and the rest
 split_at : {A : Type 0} (xs : List A) (i : ℕ) (d : A) → i < length xs
     → xs ≡ take i xs ++ (get_or xs i d ∷ drop (i + 1) xs)
-split_at xs i d within = sym (take-append-drop (i + 1) xs)
-    ∙ (ap (λ l. l ++ drop (i + 1) xs) (take_more xs i d within)
-    ∙ append_assoc (take i xs) (get_or xs i d ∷ []) (drop (i + 1) xs))
+split_at xs i d within =
+    sym (take-append-drop i xs) ∙ at_drop_more (λ l. take i xs ++ l) xs i d within
 
 -- after some views the next field is the first misfit
 misfit_after : (number : ℕ) (ks : List Kind) (fs : List (List ℕ)) (vs : List View)

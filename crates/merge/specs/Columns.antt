@@ -1,7 +1,8 @@
 -- The columns of a table, which its first line names: of texts, or of numbers. Texts are bytes.
-use Rattle.std.specs.Prelude.{ℕ, ◌-◌, List, codes, drop, length, map, take, if◌then◌else◌}
+use Rattle.std.specs.Prelude.{ℕ, ◌-◌, List, codes, eqb, length, map, take, if◌then◌else◌}
 use Rattle.std.specs.Prelude.{Option, None, Some}
-use Rattle.std.specs.Str.{bytes_eq, trim}
+use Rattle.std.specs.List.{ends_with}
+use Rattle.std.specs.Str.{trim}
 use Rattle.merge.specs.declared.columns.Column.{Column}
 use Rattle.merge.specs.declared.columns.Kind.{Kind}
 use Rattle.merge.specs.declared.columns.Kind.TheVariants as kinds
@@ -17,8 +18,7 @@ kinds_in columns = map (λ column. column.kind) columns
 -- a text without an ending, if it ends so
 abbrev pub without : (ending text : List ℕ) → Option (List ℕ)
 without ending text =
-    if bytes_eq (drop (length text - length ending) text) ending
-    then Some (take (length text - length ending) text) else None
+    if ends_with eqb text ending then Some (take (length text - length ending) text) else None
 
 -- a column by what is before the `:` at the end of a text
 abbrev pub column_by : List ℕ → Option (List ℕ) → List ℕ × Kind

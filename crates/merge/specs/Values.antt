@@ -3,7 +3,7 @@
 use Rattle.std.specs.Prelude.{◌≡◌, ◌⊎◌, ⊤, ℕ, ◌+◌, pos, List, [], ◌∷◌, Option, None, Some}
 use Rattle.std.specs.Borrow.{Bor}
 use Rattle.std.specs.Str.{trim}
-use Rattle.interpolator.specs.DecimalTexts.{IsInRange, SpellsDecimal}
+use Rattle.interpolator.specs.DecimalTexts.{Spells}
 use Rattle.interpolator.specs.Slots.{Slots, empty_slots, with_debug_display, with_float}
 use Rattle.interpolator.specs.declared.Decimal.{Decimal}
 use Rattle.interpolator.specs.declared.View.{View}
@@ -11,30 +11,17 @@ use Rattle.interpolator.specs.declared.View.TheVariants as forms
 use Rattle.merge.specs.declared.columns.Kind.{Kind}
 use Rattle.merge.specs.declared.columns.Kind.TheVariants as kinds
 
--- a text spells a decimal in range: a `-` or `+` if there is one, digits, and perhaps a point with
--- digits after it; the scale is how many those are
-abbrev pub IsDecimal : List ℕ → Decimal → Type 0
-IsDecimal text value =
-    SpellsDecimal text value.units value.scale × IsInRange value.units value.scale
-
--- a text spells some decimal
-abbrev pub HasDecimal : List ℕ → Type 0
-HasDecimal text = (value : Decimal) × IsDecimal text value
-
--- a view is the decimal that a text spells
-abbrev pub ShowsDecimal : List ℕ → View → Type 0
-ShowsDecimal text view = (value : Decimal) × IsDecimal text value
-    × (view ≡ forms.Decimal value.units value.scale)
-
--- a field is what its column wants: any is a text, and white space around a number does not count
+-- a field is what its column wants: any is a text, and a number is spelled as the library's
+-- `Decimal::parse` reads it, but for white space around it
 abbrev pub Fits : Kind → List ℕ → Type 0
 Fits kinds.Text field = ⊤
-Fits kinds.Number field = HasDecimal (trim field)
+Fits kinds.Number field = (value : Decimal) × Spells (trim field) value
 
 -- a view is that of a field in a column
 abbrev pub Shows : Kind → List ℕ → View → Type 0
 Shows kinds.Text field view = (text : Bor (List ℕ)) × (view ≡ forms.Text text) × (text.now ≡ field)
-Shows kinds.Number field view = ShowsDecimal (trim field) view
+Shows kinds.Number field view = (value : Decimal) × Spells (trim field) value
+    × (view ≡ forms.Decimal value.units value.scale)
 
 -- views are those of the fields of some columns
 abbrev pub AreShown : List Kind → (fields : List (List ℕ)) → List View → Type 0

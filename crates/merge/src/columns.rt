@@ -1,8 +1,7 @@
 //! The columns of a table: their names, and what their fields are.
 
 ghost use Rattle.std.specs.Prelude.{◌≡◌, IfOk, map, string_bytes};
-ghost use Rattle.std.specs.Option.{option_map};
-ghost use Rattle.merge.specs.Columns.{as_column, column_of, without};
+ghost use Rattle.merge.specs.Columns.{as_column, column_of};
 
 use std::alloc::{AllocError, Global};
 
@@ -22,29 +21,23 @@ pub struct Column<'a> {
     pub kind: Kind,
 }
 
-/// A text without an ending, if it ends so.
-fn without<'a>(ending: &str, text: &'a str) -> Option<&'a str>
-    ensures { option_map (λ x. x.now) result ≡ without ending.now text.now }
-{
-    text.strip_suffix(ending)
-}
-
 /// The column that a field of the first line names: `price:` is a column of numbers with the name
 /// `price`, and any other text is the name of a column of texts. White space around a name does not
 /// count.
+#[tactic(auto, using(std::proofs::lemmas::Slice::Eq::ends_is))]
 fn column_of(field: &str) -> Column<'_>
     ensures { as_column result ≡ column_of field.now }
 {
     let name = field.trim();
-    if let Some(name) = without(":", name) {
-        return Column {
+    match name.strip_suffix(":") {
+        Some(name) => Column {
             name: name.trim(),
             kind: Kind::Number,
-        };
-    }
-    Column {
-        name,
-        kind: Kind::Text,
+        },
+        None => Column {
+            name,
+            kind: Kind::Text,
+        },
     }
 }
 

@@ -1,45 +1,36 @@
 //! The fields of a line as values, each as its column wants it.
 
-ghost use Rattle.std.specs.Prelude.{◌≡◌, ◌↔◌, IfOk, MatchOption, MatchResult, Some, length, map};
+ghost use Rattle.std.specs.Prelude.{◌≡◌, IfOk, MatchOption, MatchResult, Some, length, map};
 ghost use Rattle.std.specs.Prelude.{string_bytes};
 ghost use Rattle.interpolator.specs.Slots.{slots_of};
-ghost use Rattle.interpolator.specs.declared.Decimal.{Decimal};
 ghost use Rattle.merge.specs.Columns.{kinds_in};
-ghost use Rattle.merge.specs.Values.{AreShown, Fits, HasDecimal, IsDecimal, IsMisfit, Shows};
-ghost use Rattle.merge.specs.Values.{ShowsDecimal, as_value, example_by};
+ghost use Rattle.merge.specs.Values.{AreShown, Fits, IsMisfit, Shows, as_value, example_by};
+ghost use Rattle.merge.specs.declared.columns.Kind.TheVariants.{Number};
 
 use crate::columns::{Column, Kind};
 use interpolator::{Decimal, Formattable, View};
 use std::alloc::{AllocError, Global};
 
-/// The decimal that a text spells, if any.
-fn decimal_of(text: &str) -> Option<Decimal>
-    ensures { (value : Decimal) → IsDecimal text.now value ↔ (result ≡ Some value) }
+/// The view of the number in a field, if it has one, with white space around it or none.
+fn number_in(field: &str) -> Option<View<'_>>
+    ensures { MatchOption result (¬ Fits Number field.now) (λ view. Shows Number field.now view) }
 {
-    Decimal::parse(text).ok()
-}
-
-/// The view of the decimal that a text spells, if any.
-fn decimal_view(text: &str) -> Option<View<'_>>
-    ensures { MatchOption result (¬ HasDecimal text.now) (λ view. ShowsDecimal text.now view) }
-{
-    match decimal_of(text) {
-        Some(decimal) => Some(View::Decimal {
+    match Decimal::parse(field.trim()) {
+        Ok(decimal) => Some(View::Decimal {
             units: decimal.units,
             scale: decimal.scale,
         }),
-        None => None,
+        Err(_) => None,
     }
 }
 
-/// The view of a field in a column, if it is what the column wants: a number has white space around
-/// it, or none.
+/// The view of a field in a column, if it is what the column wants.
 fn view_of(kind: Kind, field: &str) -> Option<View<'_>>
     ensures { MatchOption result (¬ Fits kind field.now) (λ view. Shows kind field.now view) }
 {
     match kind {
         Kind::Text => Some(View::Text(field)),
-        Kind::Number => decimal_view(field.trim()),
+        Kind::Number => number_in(field),
     }
 }
 

@@ -1,5 +1,4 @@
 pub mod DecimalLemmas
-pub mod EndingLemmas
 pub mod ReadingLemmas
 pub mod ServingLemmas
 pub mod ValueLemmas

@@ -1,9 +1,9 @@
 -- Which values of words are let through, and which word is rejected first.
 use Rattle.std.proofs.Common.{◌≡◌, ◌∙◌, refl, sym, ap, ℕ, ◌+◌, ◌<◌, ◌≤◌, arith, List, []}
-use Rattle.std.proofs.Common.{◌∷◌, ◌++◌, take, drop, length, get_or, max, append_assoc, None, Some}
+use Rattle.std.proofs.Common.{◌∷◌, ◌++◌, take, drop, length, get_or, max, None, Some}
 use Rattle.std.proofs.Common.{Option, Ok, Err, Result}
 use Rattle.std.proofs.lemmas.Bool.Decides.{nat_tests}
-use Rattle.std.proofs.lemmas.List.{take-append-drop, take_more}
+use Rattle.std.proofs.lemmas.List.{at_drop_more, take-append-drop, take_more}
 use Rattle.std.specs.Option.{option_or}
 use Rattle.std.specs.Prelude.{OnOk}
 use Rattle.interpolator.specs.declared.Limits.{Limits}
@@ -27,9 +27,8 @@ within_if_ok P count told limit (Err refused) same h = tt
 -- a list is its front, an element and the rest
 split_at : {A : Type 0} (xs : List A) (i : ℕ) (d : A) → i < length xs
     → xs ≡ take i xs ++ (get_or xs i d ∷ drop (i + 1) xs)
-split_at xs i d within = sym (take-append-drop (i + 1) xs)
-    ∙ (ap (λ l. l ++ drop (i + 1) xs) (take_more xs i d within)
-    ∙ append_assoc (take i xs) (get_or xs i d ∷ []) (drop (i + 1) xs))
+split_at xs i d within =
+    sym (take-append-drop i xs) ∙ at_drop_more (λ l. take i xs ++ l) xs i d within
 
 -- the longest text among values and one more
 longest_after : (values : List Datum) (value : Datum)

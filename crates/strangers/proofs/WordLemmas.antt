@@ -7,11 +7,11 @@ use Rattle.std.proofs.lemmas.List.Elements.{All-cons, All-nil}
 use Rattle.std.proofs.lemmas.Slice.Zip.{all_zipped_more}
 use Rattle.std.specs.List.{after_first, before_first, slice_split}
 use Rattle.std.specs.Prelude.{codes}
-use Rattle.std.specs.Result.{result_ok}
 use Rattle.std.specs.declared.string.String.{String}
+use Rattle.interpolator.specs.DecimalTexts.{Spells as IsDecimal}
 use Rattle.interpolator.specs.declared.Decimal.{Decimal}
 use Rattle.strangers.specs.Words.{GiveAll, GivesBy, Gives, IsFirstBad, IsGood, IsGoodBy}
-use Rattle.strangers.specs.Words.{IsDecimal, IsDecimalOf, IsNumber, Spells}
+use Rattle.strangers.specs.Words.{IsDecimalOf, IsNumber, Spells}
 use Rattle.strangers.specs.Words.{is_comma, is_equals, items_of, without}
 use Rattle.strangers.specs.declared.values.Datum.TheVariants.{Text, Number, Decimal as InDecimal}
 use Rattle.strangers.specs.declared.values.Given.{Given}
@@ -27,27 +27,6 @@ some_items (c ∷ cs) some = refl
 pub no_number : (text : List ℕ) → ((value : ℤ) → Spells text value ↔ (None ≡ Some value))
     → ¬ ((value : ℤ) × Spells text value)
 no_number text h spelled = let no = (h spelled.0).0 spelled.1 in cc
-
--- what was parsed is the decimal that a text spells, if it spells one
-pub parsed_decimal : {E : Type 0} (text : List ℕ) (parsed : Result Decimal E)
-    (found : Option Decimal) → found ≡ result_ok parsed
-    → ((value : Decimal) → IsDecimal text value ↔ (parsed ≡ Ok value))
-    → (value : Decimal) → IsDecimal text value ↔ (found ≡ Some value)
-parsed_decimal {E} text (Ok decimal) found is spells value = (
-  λ spelled. is ∙ ap (λ (r : Result Decimal E). result_ok r) ((spells value).0 spelled),
-  λ same. let this : decimal ≡ value = cc in
-      (spells value).1 (ap {B = Result Decimal E} (λ (d : Decimal). Ok d) this),
-)
-parsed_decimal text (Err error) found is spells value = (
-  λ spelled. let same = (spells value).0 spelled in cc,
-  λ same. cc,
-)
-
--- a text that spells no decimal
-pub no_decimal : (text : List ℕ)
-    → ((value : Decimal) → IsDecimal text value ↔ (None ≡ Some value))
-    → ¬ ((value : Decimal) × IsDecimal text value)
-no_decimal text h spelled = let no = (h spelled.0).0 spelled.1 in cc
 
 -- a word that gives a value is good
 number_spelled : (text : List ℕ) (given : Given) → IsNumber text given

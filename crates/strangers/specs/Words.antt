@@ -1,14 +1,14 @@
 -- What words give, by the rule of `ifmt`: a name, and a text, a whole number, a decimal or the
 -- items of a list. Texts are bytes.
 use Rattle.std.specs.Prelude.{◌≡◌, ◌⊎◌, ⊤, ℕ, ℤ, pos, neg_ℤ, Bool, ◌==◌, ◌-◌, ◌<◌, List, []}
-use Rattle.std.specs.Prelude.{◌∷◌, ◌++◌, codes, drop, length, map, take, FitsSigned}
+use Rattle.std.specs.Prelude.{◌∷◌, ◌++◌, codes, eqb, length, map, take, FitsSigned}
 use Rattle.std.specs.Prelude.{if◌then◌else◌, Option, None, Some}
 use Rattle.std.specs.Borrow.{Bor}
 use Rattle.std.specs.Int.{w128}
-use Rattle.std.specs.List.{All, AllZip, after_first, before_first, position_or_len, slice_split}
-use Rattle.std.specs.Str.{bytes_eq}
+use Rattle.std.specs.List.{All, AllZip, after_first, before_first, ends_with, position_or_len}
+use Rattle.std.specs.List.{slice_split}
 use Rattle.std.specs.Str.Parse.{IsNumeral, digits_value}
-use Rattle.interpolator.specs.DecimalTexts.{IsInRange, SpellsDecimal}
+use Rattle.interpolator.specs.DecimalTexts.{Spells as IsDecimal}
 use Rattle.interpolator.specs.declared.Decimal.{Decimal}
 use Rattle.strangers.specs.declared.values.Datum.{Datum}
 use Rattle.strangers.specs.declared.values.Datum.TheVariants.{Text, Number, Decimal as InDecimal}
@@ -36,12 +36,6 @@ pub record Spells (whole : List ℕ) (value : ℤ) : Type 0 where
       ⊎ ((whole ≡ codes "-" ++ digits) × (value ≡ neg_ℤ (pos (digits_value 10 digits))))
   pub fits : FitsSigned w128 value
 
--- a text spells a decimal in range: an optional sign, digits, and perhaps a point with digits after
--- it; the scale is how many those are
-abbrev pub IsDecimal : List ℕ → Decimal → Type 0
-IsDecimal whole decimal =
-    SpellsDecimal whole decimal.units decimal.scale × IsInRange decimal.units decimal.scale
-
 -- a text split at its commas, and no item for the empty text
 abbrev pub items_of : List ℕ → List (List ℕ)
 items_of [] = []
@@ -64,8 +58,7 @@ are_texts texts = map (λ text. Some text) texts
 -- a text without an ending, if it ends so
 abbrev pub without : (ending text : List ℕ) → Option (List ℕ)
 without ending text =
-    if bytes_eq (drop (length text - length ending) text) ending
-    then Some (take (length text - length ending) text) else None
+    if ends_with eqb text ending then Some (take (length text - length ending) text) else None
 
 -- a value is the number that a text spells
 abbrev pub IsNumber : List ℕ → Given → Type 0
@@ -74,7 +67,7 @@ IsNumber text (One (Text value)) = ⊥
 IsNumber text (One (InDecimal decimal)) = ⊥
 IsNumber text (Many values) = ⊥
 
--- a value is the decimal that a text spells
+-- a value is the decimal that a text spells as the library's `Decimal::parse` reads it
 abbrev pub IsDecimalOf : List ℕ → Given → Type 0
 IsDecimalOf text (One (InDecimal decimal)) = IsDecimal text decimal
 IsDecimalOf text (One (Text value)) = ⊥

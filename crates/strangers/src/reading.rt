@@ -4,9 +4,10 @@ ghost use Rattle.std.specs.Prelude.{string_bytes};
 ghost use Rattle.std.specs.Option.{option_map};
 ghost use Rattle.strangers.specs.Reading.{as_asked, asked_by, is_flag, limit_of, with_flag};
 ghost use Rattle.strangers.specs.Reading.{with_limit};
+ghost use Rattle.interpolator.specs.DecimalTexts.{Spells as IsDecimal};
 ghost use Rattle.interpolator.specs.declared.Decimal.{Decimal};
-ghost use Rattle.strangers.specs.Words.{ArePartsGood, GiveAll, Gives, IsDecimal, IsDecimalOf};
-ghost use Rattle.strangers.specs.Words.{IsFirstBad, IsGood, IsNumber};
+ghost use Rattle.strangers.specs.Words.{ArePartsGood, GiveAll, Gives, IsDecimalOf, IsFirstBad};
+ghost use Rattle.strangers.specs.Words.{IsGood, IsNumber};
 ghost use Rattle.strangers.specs.Words.{PartsGive, Spells, are_texts, items_of, text_in};
 ghost use Rattle.strangers.specs.Words.{texts_of, without};
 
@@ -145,13 +146,6 @@ fn number_of(text: &str) -> Option<i128>
     text.parse::<i128>().ok()
 }
 
-/// The decimal that a text spells, if any.
-fn decimal_of(text: &str) -> Option<Decimal>
-    ensures { (value : Decimal) → IsDecimal text.now value ↔ (result ≡ Some value) }
-{
-    Decimal::parse(text).ok()
-}
-
 /// The texts of the items of a list: the parts of its text between commas. The empty text has none.
 fn items_of(alloc: Global, text: &str) -> Result<Vec<&str>, AllocError>
     ensures { IfOk result (λ items. texts_of items.items ≡ items_of text.now) }
@@ -200,12 +194,12 @@ fn decimal_word<'a>(name: &'a str, text: &str) -> Option<Word<'a>>
     ensures { MatchOption result (¬ ((value : Decimal) × IsDecimal text.now value))
         (λ word. (word.name.now ≡ name.now) × IsDecimalOf text.now word.given) }
 {
-    match decimal_of(text) {
-        None => None,
-        Some(decimal) => Some(Word {
+    match Decimal::parse(text) {
+        Ok(decimal) => Some(Word {
             name,
             given: Given::One(Datum::Decimal(decimal)),
         }),
+        Err(_) => None,
     }
 }
 

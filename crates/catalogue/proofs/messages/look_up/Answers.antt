@@ -4,6 +4,7 @@ use Rattle.std.specs.Option.{option_map}
 use Rattle.catalogue.specs.Messages.{as_file, found_among}
 use Rattle.catalogue.proofs.AnswerLemmas.{answers_reply, found_under, given_values, may_give}
 use Rattle.catalogue.proofs.AnswerLemmas.{none_under}
+use Rattle.catalogue.proofs.KindLemmas.{none_fails}
 use Rattle.catalogue.proofs.SoundLemmas.{clean_files}
 use Rattle.catalogue.proofs.messages.look_up.Goals as goal
 
@@ -15,7 +16,9 @@ returns-in-Ok-clause-answers c =
     let lacks = option_map (λ name. name.now) found.lacks in
     let line = found_under found.file.now found.number found.text.now found.template _ lacks _
     (rw c.in-Some.is at c.in_ok-told.ensures.found) in
-    answers_reply files c.args.key.now c.args.words.now found.file.now found.number
+    let sound_over = none_fails c.a_view_has_a_text_by_its_kind.ensures.kind
+    c.a_checked_format_means_no_fault.ensures.fault in
+    answers_reply sound_over files c.args.key.now c.args.words.now found.file.now found.number
     found.text.now lacks c.given-objects.result.now c.reply.result
     (clean_files files (rw c.in_ok-told.ensures.told at clean)) line.0
     (rw c.given-objects.ensures

@@ -1,5 +1,8 @@
-use Rattle.strangers.proofs.WordLemmas.{no_decimal}
+use Rattle.std.proofs.Common.{refl}
 use Rattle.strangers.proofs.reading.decimal_word.Goals as goal
 
-pub returns-in-None : goal.returns-in-None
-returns-in-None c = no_decimal c.args.text.now c.in-None.ensures
+pub returns-in-Ok : goal.returns-in-Ok
+returns-in-Ok c = (refl, (c.in-Ok.ensures.spelled c.in-Ok.decimal).1 refl)
+
+pub returns-in-Err : goal.returns-in-Err
+returns-in-Err c spelled = let no = (c.in-Err.ensures.spelled spelled.0).0 spelled.1 in cc

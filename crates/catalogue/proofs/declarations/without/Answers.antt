@@ -1,6 +1,0 @@
-use Rattle.catalogue.proofs.EndingLemmas.{stripped}
-use Rattle.catalogue.proofs.declarations.without.Goals as goal
-
-pub returns : goal.returns
-returns c = stripped c.args.ending.now c.args.text.now c.strip_suffix.result
-    c.strip_suffix.ensures.cases
