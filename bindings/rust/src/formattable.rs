@@ -2,6 +2,7 @@
 use std::fmt::{self, Binary, Debug, Display, LowerExp, LowerHex, Octal, UpperExp, UpperHex};
 
 use crate::known::Known;
+use crate::sys::{Field, Request};
 
 /// The numbers of the slots in a request; as masks, they are the header's.
 pub(crate) mod slot {
@@ -166,10 +167,12 @@ impl<'a> Formattable<'a> {
         self.iter
     }
 
-    /// What the library writes by itself, and the slots of it.
-    #[inline]
-    pub(crate) fn known(&self) -> (Known<'a>, u32) {
-        (self.known, self.covered)
+    /// The list, if there is one and no slot is filled besides.
+    pub(crate) fn list_alone(&self) -> Option<&'a [Formattable<'a>]> {
+        match self.filled == mask(slot::ITER) {
+            true => self.iter,
+            false => None,
+        }
     }
 
     /// Whether the library writes all of it by itself.
@@ -184,9 +187,44 @@ impl<'a> Formattable<'a> {
         self.covered & mask(slot::DEBUG) != 0 && self.known.is_past_ascii()
     }
 
-    /// Whether the slot is filled with what the library writes by itself, or not at all.
-    pub(crate) fn is_known_under(&self, slot: u32) -> bool {
-        self.covered & mask(slot) != 0 || !self.has(slot)
+    /// The field for what the library writes by itself, without a name.
+    #[inline]
+    pub(crate) fn known_field(&self) -> Field<'a> {
+        match self.covered {
+            0 => Field::NOTHING,
+            covered => self.known.field(covered),
+        }
+    }
+
+    /// The same for an item of a list.
+    #[inline]
+    pub(crate) fn known_item(&self) -> Field<'a> {
+        match self.covered {
+            0 => Field::NOTHING,
+            covered => self.known.field(covered).with_own_slots(),
+        }
+    }
+
+    /// The same, but without the debug of a text of which std escapes more, so that a format that asks
+    /// for it has a fault.
+    pub(crate) fn known_alike(&self) -> Field<'a> {
+        let escaped = match self.is_escaped() {
+            true => mask(slot::DEBUG),
+            false => 0,
+        };
+        match self.covered & !escaped {
+            0 => Field::NOTHING,
+            covered => self.known.field(covered).with_own_slots(),
+        }
+    }
+
+    /// Whether the library writes the value by itself under a request, or it has no such slot.
+    pub(crate) fn is_known_by(&self, request: &Request) -> bool {
+        if !self.has(request.slot) {
+            return true;
+        }
+        let is_escaped = request.slot == slot::DEBUG && self.is_escaped();
+        self.covered & mask(request.slot) != 0 && !is_escaped
     }
 
     /// Whether the slot is filled.

@@ -69,6 +69,7 @@ impl<'a> Known<'a> {
 
     /// Whether it is a text or a character past ASCII, of which std's debug escapes more than the
     /// library's.
+    #[inline]
     pub(crate) fn is_past_ascii(&self) -> bool {
         match self {
             Known::Text(text) => !text.is_ascii(),

@@ -35,10 +35,12 @@ use std::hash::{BuildHasher, Hash};
 mod error;
 mod formattable;
 mod known;
+mod laid;
 mod macros;
 mod quick;
 mod request;
 mod row;
+mod simple;
 mod sys;
 mod table;
 mod uses;
@@ -48,7 +50,7 @@ pub use formattable::Formattable;
 pub use table::{rows, Rows, RowsError};
 
 use row::Row;
-use sys::{code, Answer, Bytes};
+use sys::{code, Answer, Bytes, Field};
 
 /// Where a format finds the values of its names.
 ///
@@ -88,6 +90,13 @@ pub trait Context {
         false
     }
 }
+
+/// The most bytes that a text leaves free beyond as many as it has.
+const MOST_SPARE: usize = 512;
+
+/// Up to so many bytes, a room is taken as other small things are: the program ends if there is no
+/// memory.
+const MOST_AT_ONCE: usize = 4096;
 
 /// What takes a name and its value.
 type Take<'t, 'c> = &'t mut dyn FnMut(&'c str, &Formattable<'c>);
@@ -205,7 +214,7 @@ pub fn write(
 /// ```
 pub fn check(format: &str, context: &(impl Context + ?Sized)) -> Result<()> {
     let row = Row::of(format, &context)?;
-    let answer = row.lend(|fields, items| sys::check(format, fields, items));
+    let answer = row.lend(format, |fields, items, _| sys::check(format, fields, items));
     outcome(&answer, format)
 }
 
@@ -240,7 +249,7 @@ pub fn faults(format: &str, context: &(impl Context + ?Sized)) -> Vec<Error> {
         Err(error) => return vec![error],
     };
     let mut faults = Vec::new();
-    row.lend(|fields, items| {
+    row.lend(format, |fields, items, _| {
         let mut answer = sys::faults(format, fields, items, &mut faults);
         if answer.length > faults.capacity() {
             faults.reserve_exact(answer.length);
@@ -339,13 +348,13 @@ fn pictures(source: &Source<'_>, format: &str, context: &dyn Context, most: usiz
         first_line: source.first_line,
         start: source.start,
     };
-    row.lend(|fields, items| {
+    row.lend(format, |fields, items, _| {
         let mut pictures = Vec::new();
         while pictures.len() < most {
             let which = pictures.len();
             let explain =
                 |room: &mut String| sys::explain(&source, format, fields, items, which, room);
-            let mut room = quick::room_for(format);
+            let mut room = String::with_capacity(laid::room_for(format));
             let mut answer = explain(&mut room);
             if answer.message > room.capacity() {
                 room.reserve_exact(answer.message);
@@ -421,53 +430,92 @@ fn outcome(answer: &Answer, format: &str) -> Result<()> {
 }
 
 fn text(format: &str, context: &dyn Context) -> Result<String> {
-    match quick::text(format, context) {
-        Some(text) => Ok(text),
-        None => whole(format, &Row::of(format, context)?),
+    let by_short_way = quick::lend(
+        format,
+        context,
+        |fields, items, bytes| whole(format, fields, items, bytes),
+        Result::is_err,
+    );
+    match by_short_way {
+        Some(text) => text,
+        None => Row::of(format, context)?.lend(format, |fields, items, bytes| {
+            whole(format, fields, items, bytes)
+        }),
     }
 }
 
-/// The whole text of a row.
-fn whole(format: &str, row: &Row<'_, '_>) -> Result<String> {
-    row.lend(|fields, items| {
-        let mut room = quick::room_for(format);
-        let mut answer = sys::format(format, fields, items, &mut room);
-        if answer.code == code::OK && answer.length > room.capacity() {
-            if room.try_reserve_exact(answer.length).is_err() {
-                return Err(Error::refused());
-            }
-            answer = sys::format(format, fields, items, &mut room);
-        }
-        outcome(&answer, format).map(|()| room)
-    })
+/// An empty text with room for so many bytes, if memory takes it.
+#[inline]
+fn room(bytes: usize) -> Result<String> {
+    if bytes <= MOST_AT_ONCE {
+        return Ok(String::with_capacity(bytes));
+    }
+    let mut room = String::new();
+    match room.try_reserve_exact(bytes) {
+        Ok(()) => Ok(room),
+        Err(_) => Err(Error::refused()),
+    }
+}
+
+/// The whole text of a row, which has so many bytes, about.
+#[inline]
+fn whole(format: &str, fields: &[Field<'_>], items: &[Field<'_>], bytes: usize) -> Result<String> {
+    let mut text = room(bytes).or_else(|_| room(laid::room_for(format)))?;
+    let mut answer = sys::format(format, fields, items, &mut text);
+    if answer.code == code::OK && answer.length > text.capacity() {
+        text = room(answer.length)?;
+        answer = sys::format(format, fields, items, &mut text);
+    }
+    if answer.code != code::OK {
+        return Err(Error::of(answer.fault(), format));
+    }
+    if text.capacity() - text.len() > text.len() + MOST_SPARE {
+        text.shrink_to_fit();
+    }
+    Ok(text)
 }
 
 /// The text of a row up to its first fault, and the fault.
 fn beginning(format: &str, context: &dyn Context) -> (String, Result<()>) {
-    if let Some(text) = quick::text(format, context) {
-        return (text, Ok(()));
+    let by_short_way = quick::lend(
+        format,
+        context,
+        |fields, items, bytes| written(format, fields, items, bytes),
+        |(_, result)| result.is_err(),
+    );
+    if let Some(written) = by_short_way {
+        return written;
     }
-    let row = match Row::of(format, context) {
-        Ok(row) => row,
-        Err(error) => return (String::new(), Err(error)),
-    };
-    match whole(format, &row) {
+    match Row::of(format, context) {
+        Ok(row) => row.lend(format, |fields, items, bytes| {
+            written(format, fields, items, bytes)
+        }),
+        Err(error) => (String::new(), Err(error)),
+    }
+}
+
+/// The text of a row up to its first fault, and the fault.
+fn written(
+    format: &str,
+    fields: &[Field<'_>],
+    items: &[Field<'_>],
+    bytes: usize,
+) -> (String, Result<()>) {
+    match whole(format, fields, items, bytes) {
         Ok(text) => (text, Ok(())),
-        Err(error) => (before_fault(format, &row), Err(error)),
+        Err(error) => (before_fault(format, fields, items, bytes), Err(error)),
     }
 }
 
 /// The text of a row before its first fault, if memory takes it.
-fn before_fault(format: &str, row: &Row<'_, '_>) -> String {
-    row.lend(|fields, items| {
-        let mut room = quick::room_for(format);
-        loop {
-            let answer = sys::write(format, fields, items, &mut room);
-            let is_short = matches!(answer.code, code::FULL | code::NO_MEMORY);
-            let more = room.capacity().saturating_mul(4) - room.len();
-            if !is_short || room.try_reserve_exact(more).is_err() {
-                return room;
-            }
+fn before_fault(format: &str, fields: &[Field<'_>], items: &[Field<'_>], bytes: usize) -> String {
+    let mut text = room(bytes).unwrap_or_default();
+    loop {
+        let answer = sys::write(format, fields, items, &mut text);
+        let is_short = matches!(answer.code, code::FULL | code::NO_MEMORY);
+        let more = text.capacity().saturating_mul(4) - text.len();
+        if !is_short || text.try_reserve_exact(more).is_err() {
+            return text;
         }
-    })
+    }
 }

@@ -33,6 +33,9 @@ pub(crate) const WIDTH: u32 = 1;
 /// The bit of `given` for a precision.
 pub(crate) const PRECISION: u32 = 2;
 
+/// Bytes that are no UTF-8, for which the library returns the fault of a value that fails.
+pub(crate) const FAILED: &[u8] = b"\xff";
+
 /// The trait of a list in a request.
 pub(crate) const ITER: u32 = 8;
 
@@ -101,6 +104,12 @@ pub(crate) mod kind {
     pub(crate) const LENT: u32 = 12;
     /// None of the header's: a value without slots.
     pub(crate) const NOTHING: u32 = u32::MAX;
+}
+
+/// The slots of the kinds.
+mod slots {
+    pub(super) const DEBUG_DISPLAY: u32 = 3;
+    pub(super) const ALL: u32 = 255;
 }
 
 /// A value under a name, or an item of a list.
@@ -182,24 +191,72 @@ impl<'a> Field<'a> {
         }
     }
 
-    /// The items from `first` up to `end`, and the texts that were made of the value for other slots.
-    pub(crate) fn list(first: usize, end: usize, lent: &'a [Lent<'a>]) -> Self {
-        let masks = lent.iter().map(|lent| 1 << lent.request.slot);
+    /// The items from `first` up to `end`, and for other slots the texts that [`settle`](Self::settle)
+    /// puts in.
+    pub(crate) const fn list(first: usize, end: usize, texts: (usize, usize)) -> Self {
         Field {
             first,
             end,
-            kind: kind::LIST,
-            slots: masks.fold(0, |slots, mask: u32| slots | mask),
-            ..Field::lending(lent)
+            ..Field::awaiting(kind::LIST, texts)
         }
     }
 
-    /// A value by the texts that were made of it.
-    pub(crate) const fn lending(lent: &'a [Lent<'a>]) -> Self {
+    /// A value by the texts that [`settle`](Self::settle) puts in: from one up to another.
+    pub(crate) const fn lending(texts: (usize, usize)) -> Self {
+        Field::awaiting(kind::LENT, texts)
+    }
+
+    /// From where to where it is put in stands in members that such a field leaves free.
+    const fn awaiting(kind: u32, from_to: (usize, usize)) -> Self {
         Field {
-            lent: lent.as_ptr(),
-            lent_count: lent.len(),
-            ..Field::of(kind::LENT)
+            natural: from_to.0 as u64,
+            upper: from_to.1 as u64,
+            ..Field::of(kind)
+        }
+    }
+
+    /// Puts in the texts that were made of the value, which are among these.
+    #[inline]
+    pub(crate) fn settle(&mut self, lent: &'a [Lent<'a>]) {
+        if !matches!(self.kind, kind::LENT | kind::LIST) {
+            return;
+        }
+        let (first, end) = (self.natural as usize, self.upper as usize);
+        (self.natural, self.upper) = (0, 0);
+        let lent = &lent[first..end];
+        (self.lent, self.lent_count) = (lent.as_ptr(), lent.len());
+        if self.kind == kind::LIST {
+            let masks = lent.iter().map(|lent| 1 << lent.request.slot);
+            self.slots = masks.fold(0, |slots, mask: u32| slots | mask);
+        }
+    }
+
+    /// How many bytes its text has; 0 if it is no text.
+    pub(crate) const fn text_bytes(&self) -> usize {
+        self.text.length
+    }
+
+    /// How many bytes it is written with, about, if it is a text, or a number of at most 64 bits in base
+    /// ten: each ten bits make at most four digits.
+    #[inline]
+    pub(crate) const fn bytes(&self) -> usize {
+        let number = self.natural | self.number.unsigned_abs();
+        let bits = u64::BITS - number.leading_zeros();
+        self.text.length + 2 + bits as usize * 4 / 10
+    }
+
+    /// The same, but with the mask 0 if its slots are those of its kind: the library takes such an item
+    /// faster.
+    #[inline]
+    pub(crate) const fn with_own_slots(self) -> Self {
+        let own = match self.kind {
+            kind::TEXT..=kind::CHARACTER => slots::DEBUG_DISPLAY,
+            _ => slots::ALL,
+        };
+        if self.slots == own {
+            self.with_slots(0)
+        } else {
+            self
         }
     }
 
@@ -305,6 +362,13 @@ pub(crate) struct Argument {
     pub(crate) item_end: usize,
     pub(crate) join_first: usize,
     pub(crate) join_end: usize,
+}
+
+impl Argument {
+    /// The name that stands in the argument of this format; of an item it is empty.
+    pub(crate) fn name<'f>(&self, format: &'f str) -> &'f str {
+        &format[self.name_first..self.name_end]
+    }
 }
 
 mod library {

@@ -3,7 +3,7 @@ use std::fmt::{self, Display};
 
 use crate::row::Row;
 use crate::sys::{self, code};
-use crate::{quick, Error, Formattable};
+use crate::{laid, room, Error, Formattable};
 
 /// The texts of the rows of a table.
 #[derive(Debug, Clone, PartialEq, Eq)]
@@ -115,21 +115,22 @@ pub fn rows(
     }
     let fault = |row: usize, error: Error| RowsError::Fault { row, error };
     let row = Row::table(format, columns, cells).map_err(|error| fault(0, error))?;
-    if row.has_lists() {
+    let Some(laid) = row else {
         return Err(RowsError::List);
-    }
+    };
     let mut ends = vec![0; count];
-    let mut room = quick::room_for(format);
-    row.lend(|columns, cells| {
-        let mut answer = sys::rows(format, columns, cells, &mut ends, &mut room);
-        if answer.code == code::OK && answer.length > room.capacity() {
-            if room.try_reserve_exact(answer.length).is_err() {
-                return Err(fault(0, Error::refused()));
-            }
-            answer = sys::rows(format, columns, cells, &mut ends, &mut room);
+    laid.lend(format, |columns, cells, bytes| {
+        let bytes = bytes.saturating_add(count.saturating_mul(format.len()));
+        let mut text = room(bytes)
+            .or_else(|_| room(laid::room_for(format)))
+            .map_err(|error| fault(0, error))?;
+        let mut answer = sys::rows(format, columns, cells, &mut ends, &mut text);
+        if answer.code == code::OK && answer.length > text.capacity() {
+            text = room(answer.length).map_err(|error| fault(0, error))?;
+            answer = sys::rows(format, columns, cells, &mut ends, &mut text);
         }
         match answer.code {
-            code::OK => Ok(Rows { text: room, ends }),
+            code::OK => Ok(Rows { text, ends }),
             _ => Err(fault(answer.row, Error::of(answer.fault(), format))),
         }
     })

@@ -27,7 +27,7 @@ impl<'f> Uses<'f> {
         let binders = binders(&arguments);
         let mut order = Vec::with_capacity(arguments.len());
         for (index, argument) in arguments.iter().enumerate() {
-            let about = match &format[argument.name_first..argument.name_end] {
+            let about = match argument.name(format) {
                 "" => (binders[index], ""),
                 name => (None, name),
             };

@@ -17,7 +17,7 @@ type Values<'a> = HashMap<&'a str, Formattable<'a>>;
 /// Makes a text so often, and returns the last one.
 type Task = fn(u32) -> String;
 
-const WORKLOADS: [(&str, Task); 29] = [
+const WORKLOADS: [(&str, Task); 31] = [
     ("log-line", log_line),
     ("names-32-numbers", number_names),
     ("names-18-texts", text_names),
@@ -27,6 +27,8 @@ const WORKLOADS: [(&str, Task); 29] = [
     ("format-padded-texts", padded_texts),
     ("format-starred-texts", starred_texts),
     ("format-wide", wide),
+    ("table-row", table_row),
+    ("amounts", amounts),
     ("list-1000", list),
     ("list-1000-angled", angled_list),
     ("lists-32-deep", nested_lists),
@@ -202,6 +204,38 @@ fn wide(count: u32) -> String {
     repeat_specs(
         &values,
         &[":1000", ":<1000", ":^1000", ":>1000", ":01000"],
+        count,
+    )
+}
+
+fn table_row(count: u32) -> String {
+    let values = HashMap::from([
+        ("id", Formattable::integer(&48213u64)),
+        ("goods", Formattable::display(&"rye")),
+        ("city", Formattable::display(&"Oslo")),
+        ("count", Formattable::integer(&3u64)),
+        ("price", Formattable::display(&"147.50")),
+        ("change", Formattable::integer(&-12i64)),
+        ("code", Formattable::integer(&48879u64)),
+        ("name", Formattable::display(&"Ann Svensson")),
+    ]);
+    repeat(
+        "{id:>6}|{goods:<16}|{city:^12}|{count:5}|{price:>10}|{change:>+8}|{code:#010x}|{name:20}\n",
+        &values,
+        count,
+    )
+}
+
+fn amounts(count: u32) -> String {
+    let values = HashMap::from([
+        ("net", Formattable::float(&12345.67)),
+        ("tax", Formattable::float(&2469.1340)),
+        ("paid", Formattable::float(&-14000.0)),
+        ("open", Formattable::float(&814.80)),
+    ]);
+    repeat(
+        "net {net:>10.2} tax {tax:>10.2} paid {paid:>10.2} open {open:>10.2}",
+        &values,
         count,
     )
 }
