@@ -192,7 +192,8 @@ using Make = void (*)(Out &);
     TIMES_4(format) TIMES_4(format) TIMES_4(format) TIMES_4(format) TWICE(format)
 #define TIMES_32(format) TIMES_4(TWICE(TIMES_4(format)))
 
-// ---- By {fmt}.
+// ---- By {fmt}, whose buffer keeps its room and looks for room before each piece, as the texts of
+// the benchmark do. An array without such a look takes far less, and a std::string mostly more.
 
 #define PUT(format, ...) fmt::format_to(fmt::appender(out.buffer), FMT_COMPILE(format), __VA_ARGS__)
 
@@ -255,6 +256,7 @@ static void fmt_specs(Out &out) {
     PUT(SPECS("0") SPECS("1") SPECS("2") SPECS("3"), ALL_4(v));
 }
 
+// The `0o` stands in the format, since {fmt} writes `{:#o}` with another prefix, `0`.
 static void fmt_radix(Out &out) {
     const auto &v = hidden(BITS);
 #define BASES(n) \
@@ -394,6 +396,7 @@ static void c_specs(Out &out) {
     }
 }
 
+// glibc has `%b` since 2.35; `%#o` has the prefix `0`.
 static void c_radix(Out &out) {
     for (uint32_t n : hidden(BITS))
         PRINT("%b %o %x %X %#b 0o%o %#010x %8X ", n, n, n, n, n, n, n, n);
@@ -436,7 +439,8 @@ static void c_merge(Out &out) {
     }
 }
 
-// ---- By Abseil: StrAppend, and StrAppendFormat where there are widths.
+// ---- By Abseil: StrAppend, and StrAppendFormat where there are widths. Neither writes base two,
+// which `radix` has.
 
 // Abseil as Debian builds it has a view of its own.
 static absl::string_view a(std::string_view text) {

@@ -574,7 +574,8 @@ static POWERS_OF_TEN: [u64; 20] = {
     powers
 };
 
-/// The digits of a number, at the end of a place that has room for any in base two.
+/// The digits of a number, at the end of a place that has room for any in base two, after spaces.
+#[derive(Clone, Copy)]
 struct Digits {
     room: [u8; 64],
     start: usize,
@@ -583,7 +584,7 @@ struct Digits {
 impl Digits {
     fn of(mut number: u64) -> Digits {
         let mut digits = Digits {
-            room: [0; 64],
+            room: [b' '; 64],
             start: 64,
         };
         while number >= 100 {
@@ -600,7 +601,7 @@ impl Digits {
 
     fn in_bits(mut number: u64, bits: u32, letters: &[u8; 16]) -> Digits {
         let mut digits = Digits {
-            room: [0; 64],
+            room: [b' '; 64],
             start: 64,
         };
         loop {
@@ -623,8 +624,20 @@ impl Digits {
     }
 
     fn text(&self) -> &str {
-        // Sound, since only ASCII digits and letters are pushed.
-        unsafe { std::str::from_utf8_unchecked(&self.room[self.start..]) }
+        self.right(0)
+    }
+
+    /// The text at the right of a width of at most 64, after spaces.
+    #[inline(always)]
+    fn right(&self, width: usize) -> &str {
+        // Sound, since only ASCII digits, letters and signs are pushed.
+        unsafe { std::str::from_utf8_unchecked(&self.room[self.start.min(64 - width)..]) }
+    }
+
+    /// The same with this sign before it.
+    fn signed(mut self, sign: &str) -> Digits {
+        sign.bytes().for_each(|byte| self.push(byte));
+        self
     }
 }
 
@@ -682,13 +695,6 @@ fn put_centred(out: &mut String, text: &str, fills: &str, width: usize) {
     fill(out, fills, free - free / 2);
 }
 
-/// Appends a sign and digits at the right of a width, after spaces.
-fn put_number(out: &mut String, sign: &str, digits: &str, width: usize) {
-    fill(out, " ", width.saturating_sub(sign.len() + digits.len()));
-    out.push_str(sign);
-    out.push_str(digits);
-}
-
 /// Appends a sign, zeros and digits, which are as long as a width together.
 fn put_zeros(out: &mut String, sign: &str, digits: &str, width: usize) {
     out.push_str(sign);
@@ -737,18 +743,21 @@ fn hand_letter(out: &mut String) {
 
 fn hand_row(out: &mut String) {
     let v = black_box(&ROW);
-    put_number(out, "", Digits::of(v.id).text(), 6);
+    put!(out, Digits::of(v.id).right(6));
     put!(out, "|");
     put_left(out, v.goods, " ", 16);
     put!(out, "|");
     put_centred(out, v.city, " ", 12);
     put!(out, "|");
-    put_number(out, "", Digits::of(v.count).text(), 5);
+    put!(out, Digits::of(v.count).right(5));
     put!(out, "|");
     put_right(out, v.price, " ", 10);
     put!(out, "|");
     let sign = if v.change < 0 { "-" } else { "+" };
-    put_number(out, sign, Digits::of(v.change.unsigned_abs()).text(), 8);
+    put!(
+        out,
+        Digits::of(v.change.unsigned_abs()).signed(sign).right(8)
+    );
     put!(out, "|");
     put_zeros(
         out,
@@ -792,26 +801,30 @@ fn put_amount(out: &mut String, (units, scale): (i64, usize), width: usize) {
 
 fn hand_specs(out: &mut String) {
     for number in black_box(&SIGNED) {
-        let digits = Digits::of(number.unsigned_abs());
-        let digits = digits.text();
         let (minus, sign) = if *number < 0 { ("-", "-") } else { ("", "+") };
-        put!(out, minus, digits, " ", sign, digits, " ");
-        put_number(out, minus, digits, 6);
+        let digits = Digits::of(number.unsigned_abs());
+        let plain = digits.signed(minus);
+        let signed = digits.signed(sign);
+        put!(
+            out,
+            plain.text(),
+            " ",
+            signed.text(),
+            " ",
+            plain.right(6),
+            " "
+        );
+        put_zeros(out, minus, digits.text(), 6);
         put!(out, " ");
-        put_zeros(out, minus, digits, 6);
-        put!(out, " ");
-        put_zeros(out, sign, digits, 8);
-        put!(out, " ", minus, digits);
-        let len = minus.len() + digits.len();
-        fill(out, " ", 8usize.saturating_sub(len));
-        let free = 9usize.saturating_sub(len);
+        put_zeros(out, sign, digits.text(), 8);
+        put!(out, " ", plain.text());
+        fill(out, " ", 8usize.saturating_sub(plain.text().len()));
+        let free = 9usize.saturating_sub(plain.text().len());
         put!(out, " ");
         fill(out, " ", free / 2);
-        put!(out, minus, digits);
+        put!(out, plain.text());
         fill(out, " ", free - free / 2);
-        put!(out, " ");
-        put_number(out, sign, digits, 12);
-        put!(out, " ");
+        put!(out, " ", signed.right(12), " ");
     }
 }
 
@@ -837,8 +850,7 @@ fn hand_radix(out: &mut String) {
         put!(out, " 0b", binary.text(), " 0o", octal.text(), " ");
         put_zeros(out, "0x", lower.text(), 10);
         put!(out, " ");
-        put_number(out, "", upper.text(), 8);
-        put!(out, " ");
+        put!(out, upper.right(8), " ");
     }
 }
 
