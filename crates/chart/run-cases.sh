@@ -53,7 +53,7 @@ fault_cases() {
     fault $'t:2:1: 0 numbers, but line 1 has 2\n'"t:3:3: \`y\` $range"$'\nt:3:4: 1 number, but line 1 has 2' \
         $'a 1 2\n\nb y\n'
     printf '%s' 'log 1 2 3 4' >t
-    case_of file file 1 '' $'t:1:12: 4 numbers, but at least 5 are drawn\n' \
+    case_of file file 1 '' $'t:1:12: 4 numbers, but at least 6 are drawn\n' \
         "$here/data/chart.svg.txt" t
     printf '%s' '{rows:i#({:i-7({})})#}' >f
     case_of file file 0 '1' '' f t
