@@ -44,10 +44,8 @@ pub left_after : (b : BoundedText) (text bytes more after : List ℕ) (refused r
       most = most;
       room = room;
     }) ≤ bytes_left b)
-left_after b text bytes more after refused refused_after most room (Ok x) u v e n fits ok =
-    let all = ap length ok.0 in let sum = length-append bytes more in
-    rw (← e, encodes-chars bytes u, encodes-chars after v, ok.1, ok.2) (omega (arith, n))
-left_after b text bytes more after refused refused_after most room (Err x) u v e n fits ok = tt
+left_after b text bytes more after refused refused_after most room answer u v e n fits ok =
+    grind (arith, encodes-chars, length-append)
 
 -- a text that fits was appended, or nothing was
 pub within_after : (bytes more after : List ℕ) (refused refused_after : Bool) (most : ℕ)
@@ -55,11 +53,8 @@ pub within_after : (bytes more after : List ℕ) (refused refused_after : Bool) 
     → OnOk answer ((after ≡ bytes ++ more) × (refused ≡ false) × (refused_after ≡ false))
     → OnErr answer ((after ≡ bytes) × (refused_after ≡ true))
     → byte_count (chars after) ≤ most
-within_after bytes more after refused refused_after most (Ok x) u fits ok err =
-    let n = ap length ok.0 in let m = length-append bytes more in
-    rw (encodes-chars after u) (omega arith)
-within_after bytes more after refused refused_after most (Err x) u fits ok err =
-    let n = ap length err.0 in rw (encodes-chars after u) (omega arith)
+within_after bytes more after refused refused_after most answer u fits ok err =
+    grind (arith, encodes-chars, length-append)
 
 -- a text under the bound is refused after a refusal, or for memory
 pub refused_under_bound : (old : BoundedText) (text bytes after : List ℕ)
@@ -193,9 +188,7 @@ pub within_beginning : (bytes after text : List ℕ) (most taken left : ℕ) →
     → after ≡ bytes ++ take taken text → most ≡ length bytes + left → taken ≤ left
     → left < length text → byte_count (chars after) ≤ most
 within_beginning bytes after text most taken left u n m fits short =
-    let size = length-take-le taken text (omega arith) in
-    let all = ap length n in let parts = length-append bytes (take taken text) in
-    rw (encodes-chars after u) (omega arith)
+    grind (arith, encodes-chars, length-take-le, length-append)
 
 -- a character over the bound
 pub character_over_bound : (old : BoundedText) (bytes : List ℕ) (refused refused_after : Bool)

@@ -1,9 +1,8 @@
 -- Texts walked character by character: where a number of characters ends.
-use Rattle.std.proofs.Common.{◌≡◌, ℕ, ◌-◌, ◌+◌, List, [], ◌∷◌, Bool, true, ◌&&◌, ◌++◌, length, take}
+use Rattle.std.proofs.Common.{◌≡◌, ℕ, ◌-◌, ◌+◌, List, [], ◌∷◌, ◌++◌, length, take}
 use Rattle.std.proofs.Common.{refl, sym, ◌∙◌, ap, arith, append_assoc, append-nil, length-append}
 use Rattle.std.proofs.Common.{encode_utf8, chars, IsUtf8, IsCharBoundary}
 use Rattle.std.specs.Char.{IsScalar}
-use lib.Utf8.{scalars}
 use Rattle.std.proofs.lemmas.Str.{chars-append, chars-nil, IsUtf8-append, IsUtf8-encode, IsUtf8-nil}
 use Rattle.std.proofs.lemmas.Str.{IsCharBoundary-at_seam, cons_from_encodes, IsUtf8-past_char}
 use Rattle.std.proofs.Math.Seq.{take-append_seam}
@@ -11,12 +10,7 @@ use Rattle.interpolator_render.proofs.WrittenLemmas.{chars-encode}
 
 pub scalar_first : (rest after : List ℕ) (c : ℕ) → IsUtf8 rest → rest ≡ encode_utf8 c ++ after →
     IsScalar c
-scalar_first rest after c u e = let p = cons_from_encodes u.0 after c (u.1.1 ∙ e) in
-    let all : scalars (c ∷ p.0) ≡ true = rw p.1 at u.1.0 in
-    and_true_left _ _ all
-  where
-    and_true_left : (a b : Bool) → (a && b) ≡ true → a ≡ true
-    and_true_left a b h = grind arith
+scalar_first rest after c u e = grind (arith, cons_from_encodes)
 
 -- `count` characters of the text were passed, and `rest` is to come
 pub record Walked (text rest : List ℕ) (count : ℕ) : Type 0 where
@@ -27,13 +21,7 @@ pub record Walked (text rest : List ℕ) (count : ℕ) : Type 0 where
   pub rest_valid : IsUtf8 rest
 
 pub walked_none : (text : List ℕ) → IsUtf8 text → Walked text text 0
-walked_none text u = record {
-  after = [];
-  parts = refl;
-  counted = ap length chars-nil;
-  after_valid = IsUtf8-nil;
-  rest_valid = u;
-}
+walked_none text u = grind (arith, chars-nil, IsUtf8-nil)
 
 pub walked_more : (text rest after : List ℕ) (count c : ℕ) → rest ≡ encode_utf8 c ++ after →
     Walked text rest count → Walked text after (count + 1)
@@ -51,15 +39,11 @@ walked_more text rest after count c e w = let s = scalar_first rest after c w.re
 -- where the first `count` characters end
 pub walked_chars : (text rest : List ℕ) (count : ℕ) → (w : Walked text rest count) →
     chars w.after ≡ take count (chars text)
-walked_chars text rest count w =
-    let split : chars text ≡ chars w.after ++ chars rest = ap chars w.parts
-    ∙ chars-append w.after rest w.after_valid in
-    rw (split, ← w.counted) (sym (take-append_seam (chars w.after) (chars rest)))
+walked_chars text rest count w = grind (arith, chars-append, take-append_seam)
 
 walked_length : (text rest : List ℕ) (count : ℕ) → (w : Walked text rest count) →
     length text - length rest ≡ length w.after
-walked_length text rest count w =
-    let n = ap length w.parts ∙ length-append w.after rest in omega arith
+walked_length text rest count w = omega (arith, ap length w.parts, length-append {A = ℕ})
 
 pub walked_take : (text rest : List ℕ) (count : ℕ) → (w : Walked text rest count) →
     take (length text - length rest) text ≡ w.after
@@ -86,5 +70,4 @@ walked_all text (b ∷ bs) count e w = absurd (omega arith)
 -- the characters walked are as many as were counted
 pub walked_count : (text rest : List ℕ) (count : ℕ) → Walked text rest count →
     length (chars (take (length text - length rest) text)) ≡ count
-walked_count text rest count w =
-    ap (λ (x : List ℕ). length (chars x)) (walked_take text rest count w) ∙ w.counted
+walked_count text rest count w = rw (walked_take text rest count w) w.counted

@@ -1,7 +1,6 @@
 -- Runs of copies of a character, and what is written of them.
-use Rattle.std.proofs.Common.{◌≡◌, ℕ, zero, suc, ◌≤◌, ◌-◌, ◌+◌, ◌*◌, ◌^◌, min, ◌++◌}
-use Rattle.std.proofs.Common.{refl, sym, ◌∙◌, ap, arith, replicate, IsUtf8, chars, encode_utf8}
-use Rattle.std.proofs.Common.{encode_utf8_all, slice_range}
+use Rattle.std.proofs.Common.{◌≡◌, ℕ, zero, suc, ◌≤◌, ◌-◌, ◌+◌, ◌*◌, ◌^◌, min, ◌++◌, refl, arith}
+use Rattle.std.proofs.Common.{replicate, IsUtf8, chars, encode_utf8, encode_utf8_all, slice_range}
 use Rattle.std.specs.Str.{IsCharBoundary}
 use Rattle.std.specs.Char.{IsScalar, len_utf8}
 use Rattle.std.proofs.lemmas.Str.{IsCharBoundary-at_seam, encodes-append, chars_from_encodes}
@@ -9,8 +8,8 @@ use Rattle.std.proofs.lemmas.Str.{IsUtf8-append, IsUtf8-encode, IsUtf8-nil, len_
 use Rattle.std.proofs.lemmas.List.{replicate-append-replicate, take_at}
 use Rattle.std.proofs.lemmas.Nat.{mul-le}
 use Rattle.interpolator_render.specs.Written.{Written, byte_count, Appends, RefusesLong}
-use Rattle.interpolator_render.proofs.LayoutLemmas.{appends_both, bytes_of_copies}
-use Rattle.interpolator_render.proofs.LayoutLemmas.{refuses_in_first, refuses_in_second}
+use Rattle.interpolator_render.proofs.LayoutLemmas.{appends_both, bytes_of_copies, refuses_in_first}
+use Rattle.interpolator_render.proofs.LayoutLemmas.{refuses_in_second}
 
 -- copies of a character are UTF-8
 pub IsUtf8-copies : (n c : ℕ) → IsScalar c → IsUtf8 (encode_utf8_all (replicate n c))
@@ -21,19 +20,16 @@ IsUtf8-copies (suc n) c s =
 
 pub chars-copies : (n c : ℕ) → IsScalar c →
     chars (encode_utf8_all (replicate n c)) ≡ replicate n c
-chars-copies n c s =
-    sym (chars_from_encodes (replicate n c) (encode_utf8_all (replicate n c))
-    (IsUtf8-copies n c s) refl)
+chars-copies n c s = grind (arith, chars_from_encodes, IsUtf8-copies)
 
 -- a run, cut after the first of its copies
 copies_cut : (c count : ℕ) → count ≤ 64 →
     encode_utf8_all (replicate 64 c)
     ≡ encode_utf8_all (replicate count c) ++ encode_utf8_all (replicate (64 - count) c)
 copies_cut c count few =
-    let all : count + (64 - count) ≡ 64 = omega arith in
-    ap encode_utf8_all (sym (replicate-append-replicate count (64 - count) c
-    ∙ ap (λ (n : ℕ). replicate n c) all))
-    ∙ encodes-append (replicate count c) (replicate (64 - count) c)
+    let all = replicate-append-replicate count (64 - count) c in
+    let some : count + (64 - count) ≡ 64 = omega arith in
+    rw (← encodes-append, all, some) refl
 
 -- the first copies of a run
 pub first_copies : (c count : ℕ) → count ≤ 64 →
@@ -57,8 +53,7 @@ few_bytes count c few = mul-le count (len_utf8 c) 64 4 few (len_utf8_bounds c).1
 -- the copies that are done, and those that come
 pub copies_split : (count left k c : ℕ) → k ≤ left → left ≤ count → replicate (count - left) c
     ++ replicate k c ≡ replicate (count - (left - k)) c
-copies_split count left k c h l = let e : count - left + k ≡ count - (left - k) = omega arith in
-    replicate-append-replicate (count - left) k c ∙ ap (λ (n : ℕ). replicate n c) e
+copies_split count left k c h l = grind (arith, replicate-append-replicate)
 
 -- a piece of a run was written
 pub copies_more : (a b d : Written) (count left k c : ℕ) → k ≤ left → left ≤ count →
@@ -75,7 +70,6 @@ pub copies_stop : (a b d : Written) (count left k c done taken all : ℕ) → k 
     RefusesLong a (replicate count c) all d
 copies_stop a b d count left k c done taken all m l n e p q =
     let whole : replicate (count - (left - k)) c ++ replicate (left - k) c ≡ replicate count c =
-    replicate-append-replicate (count - (left - k)) (left - k) c
-    ∙ ap (λ (n : ℕ). replicate n c) (omega arith) in
+    grind (arith, replicate-append-replicate) in
     rw (← whole, ← copies_split count left k c m l)
     (refuses_in_first a d _ _ all (refuses_in_second a b d _ _ done taken all n e p q))

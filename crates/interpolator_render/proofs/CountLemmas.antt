@@ -1,4 +1,5 @@
 -- How many digits a number has in exponent form, and between which powers it lies.
+use Rattle.std.proofs.lemmas.Grind.{common_steps}
 use Rattle.std.proofs.Common.{◌≡◌, ℕ, ◌<◌, ◌≤◌, ◌-◌, ◌+◌, ◌*◌, ◌^◌, true, false, List, length}
 use Rattle.std.proofs.Common.{replicate, ◌++◌, zero, refl, sym, ◌∙◌, ap, arith, rules}
 use Rattle.std.proofs.Common.{length-append, ◌==◌, suc, inl, inr, Some, pow-add, pow-suc}
@@ -33,11 +34,7 @@ digits_between n places low high =
 -- the nearest number of units lies between the powers that the quotient lies between
 nearest_within : (n unit low high count : ℕ) → 0 < unit → low * unit ≤ n → n < high * unit →
     IsNearest n unit count → (low ≤ count) × (count ≤ high)
-nearest_within n unit low high count u l h p =
-    let near = p.near in
-    let least : low < count + 1 = lt_of_mul-lt-mul_right unit (omega arith) in
-    let most : count < high + 1 = lt_of_mul-lt-mul_right unit (omega arith) in
-    (omega arith, omega arith)
+nearest_within n unit low high count u l h p = grind (arith, lt_of_mul-lt-mul_right)
 
 -- what the exponent says of a number, split at the places that are kept
 split_bounds : (n places rest exponent : ℕ) → places + rest ≡ exponent → 10 ^ exponent ≤ n →
@@ -50,15 +47,10 @@ split_bounds n places rest exponent e low high =
     (omega arith, omega arith)
 
 next_power : (places : ℕ) → 10 ^ places < 10 ^ (places + 1)
-next_power places =
-    let some = pow_some places in let next : places + 1 ≡ suc places = omega arith in
-    rw (next, pow-suc 10 places) (omega arith)
+next_power places = grind (arith, common_steps, pow_some, pow-suc)
 
 some_exponent : (n : ℕ) → 0 < exponent_of n → 0 < n
-some_exponent n h = elim (eq-zero-or-pos n) [
-  | inl e ↦ let one = ap length (digit_text_zero 10 false n e) in absurd (omega arith)
-  | inr some ↦ some
-]
+some_exponent n h = grind (arith, eq-zero-or-pos, digit_text_zero)
 
 rounded_count : (places n : ℕ) → places < exponent_of n →
     length (rounding places n (exponent_of n)).digits ≡ places + 1
@@ -79,11 +71,8 @@ rounded_count places n h =
 
 -- with a precision there are exactly that many digits after the first
 pub scientific_count : (places n : ℕ) → length (scientific (Some places) n).digits ≡ places + 1
-scientific_count places n = elim (cases_lt places (exponent_of n)) [
-  | inl fewer ↦ rw (scientific_long places n fewer) (rounded_count places n fewer)
-  | inr enough ↦ rw (scientific_placed places n enough, length-append, length-replicate)
-      (let some = digit_text_some 10 n false (omega arith) in omega arith)
-]
+scientific_count places n =
+    grind (arith, cases_lt, scientific_long, rounded_count, scientific_placed, length-append, length-replicate, digit_text_some)
 
 -- ---- what the digits make
 
@@ -96,11 +85,7 @@ value_of_zeros (suc count) digits = value_of_zeros count digits
 pub scientific_whole : (places n : ℕ) → exponent_of n ≤ places →
     ((scientific (Some places) n).exponent ≡ exponent_of n)
     × (digits_value 10 (scientific (Some places) n).digits ≡ n * 10 ^ (places - exponent_of n))
-scientific_whole places n h =
-    let scaled = n * 10 ^ (places - exponent_of n) in
-    let value = value_of_zeros (places + 1 - length (digit_text 10 false scaled)) _
-    ∙ digits_read 10 scaled false (omega arith) (omega arith) in
-    rw (scientific_short places n h) (refl, value)
+scientific_whole places n h = grind (arith, value_of_zeros, digits_read, scientific_short)
 
 -- a carry raises the exponent by one
 carry_value : (places exponent : ℕ) → places < exponent → 10 ^ places * 10 ^ (exponent + 1 - places)
@@ -116,16 +101,7 @@ rounded_value : (places n exponent : ℕ) → places < exponent →
     × (digits_value 10 (rounding places n
     exponent).digits * 10 ^ ((rounding places n exponent).exponent - places)
     ≡ nearest n (10 ^ (exponent - places)) * 10 ^ (exponent - places))
-rounded_value places n exponent h =
-    let mantissa = nearest n (10 ^ (exponent - places)) in
-    elim (cases_eq mantissa (10 ^ (places + 1))) [
-      | inl carry ↦ let t : (mantissa == 10 ^ (places + 1)) ≡ true = search rules in
-          rw (t, carry, digits_read 10 (10 ^ places) false (omega arith) (omega arith))
-          (omega arith, carry_value places exponent h)
-      | inr none ↦ let f : (mantissa == 10 ^ (places + 1)) ≡ false = search rules in
-          rw (f, digits_read 10 mantissa false (omega arith) (omega arith))
-          (omega arith, refl)
-    ]
+rounded_value places n exponent h = grind (arith, cases_eq, digits_read, carry_value)
 
 -- if it has more, they and the exponent make the nearest number of units
 pub scientific_rounded : (places n : ℕ) → places < exponent_of n →
@@ -133,7 +109,6 @@ pub scientific_rounded : (places n : ℕ) → places < exponent_of n →
     × (digits_value 10 (scientific (Some places)
     n).digits * 10 ^ ((scientific (Some places) n).exponent - places)
     ≡ nearest n (10 ^ (exponent_of n - places)) * 10 ^ (exponent_of n - places))
-scientific_rounded places n h = rw (scientific_long places n h)
-    (rounded_value places n (exponent_of n) h)
+scientific_rounded places n h = grind (arith, scientific_long, rounded_value)
 
 pub ruleset scientific_laws = (scientific_count, scientific_whole, scientific_rounded)

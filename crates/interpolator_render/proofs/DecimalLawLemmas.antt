@@ -1,15 +1,13 @@
 -- What the text of a decimal spells, and how far it is from the decimal.
-use Rattle.std.proofs.Common.{◌≡◌, ℕ, ◌<◌, ◌≤◌, ◌-◌, ◌+◌, ◌*◌, ◌/◌, ◌%◌, ◌^◌, true, false, List, []}
-use Rattle.std.proofs.Common.{◌∷◌, ◌++◌, length, refl, ◌∙◌, ap, arith, rules, pow-suc}
-use Rattle.std.proofs.Common.{nat_lt, None, Some, Option, inl, inr, eq-zero-or-pos, append-nil}
-use Rattle.std.proofs.Common.{Bool, ◌==◌, if◌then◌else◌}
+use Rattle.std.proofs.Common.{◌≡◌, ℕ, ◌<◌, ◌≤◌, ◌-◌, ◌+◌, ◌*◌, ◌/◌, ◌%◌, ◌^◌, false, List, []}
+use Rattle.std.proofs.Common.{◌∷◌, ◌++◌, length, refl, ◌∙◌, arith, rules, pow-suc, nat_lt, None}
+use Rattle.std.proofs.Common.{Some, Option, append-nil, Bool}
 use Rattle.std.specs.Char.{digit_value}
 use Rattle.std.specs.Str.Parse.{digits_value, digits_value_after}
 use Rattle.interpolator_render.specs.Decimals.{SpellsUnits, decimal_exponent_text, decimal_text}
-use Rattle.interpolator_render.specs.Decimals.{placed, scale_of, scaled_tail, units_at, units_text}
+use Rattle.interpolator_render.specs.Decimals.{placed, units_at, units_text}
 use Rattle.interpolator_render.specs.Digits.{digit_text}
-use Rattle.interpolator_render.specs.Exponent.{IsNearest, exponent_tail, exponent_text}
-use Rattle.interpolator_render.specs.Exponent.{scientific, with_point}
+use Rattle.interpolator_render.specs.Exponent.{IsNearest, exponent_text}
 use Rattle.interpolator_render.proofs.CountLemmas.{value_of_zeros}
 use Rattle.interpolator_render.proofs.DecimalLemmas.{length-placed, placed_none, placed_some}
 use Rattle.interpolator_render.proofs.DecimalLemmas.{remainder_fits}
@@ -37,13 +35,8 @@ value_both : (before after : List ℕ) → digits_value 10 (before ++ after)
 value_both before after = value_over 0 before after ∙ value_after (digits_value 10 before) after
 
 placed_value : (places part : ℕ) → part < 10 ^ places → digits_value 10 (placed places part) ≡ part
-placed_value places part h = elim (eq-zero-or-pos places) [
-  | inl e ↦ let low : part < 10 ^ 0 = rw e at h in
-      let none : 0 ≡ part = omega arith in rw (placed_none places part e) none
-  | inr some ↦ rw (placed_some places part some)
-      (value_of_zeros (places - length (digit_text 10 false part)) (digit_text 10 false part)
-      ∙ digits_read 10 part false (omega arith) (omega arith))
-]
+placed_value places part h =
+    grind (arith, placed_none, placed_some, value_of_zeros, digits_read 10 part false)
 
 -- ---- decimals
 
@@ -78,14 +71,11 @@ precise_spelled places scale units = units_spelled places (units_at places scale
 
 pub rounded_nearest : (places scale units : ℕ) → places < scale →
     IsNearest units (10 ^ (scale - places)) (units_at places scale units)
-rounded_nearest places scale units h =
-    let t : nat_lt places scale ≡ true = search rules in
-    rw t (nearest_is_nearest units (10 ^ (scale - places)) (pow_some (scale - places)))
+rounded_nearest places scale units h = grind (arith, nearest_is_nearest, pow_some)
 
 pub longer_same : (places scale units : ℕ) → scale ≤ places →
     units_at places scale units ≡ units * 10 ^ (places - scale)
-longer_same places scale units h =
-    let f : nat_lt places scale ≡ false = search rules in rw f refl
+longer_same places scale units h = grind (arith, nat_lt)
 
 pub ruleset decimal_laws = (plain_spelled, precise_spelled, rounded_nearest, longer_same)
 
@@ -93,25 +83,11 @@ pub ruleset decimal_laws = (plain_spelled, precise_spelled, rounded_nearest, lon
 
 pub plain_whole : (n : ℕ) → decimal_text None 0 n ≡ digit_text 10 false n
 unfolding decimal_text
-plain_whole n =
-    let one : n * 10 ^ 0 / 10 ^ 0 ≡ n = omega arith in
-    rw one (append-nil (digit_text 10 false n))
-
-same_either : (b : Bool) (n : ℕ) → (if b then n else n) ≡ n
-same_either true n = refl
-same_either false n = refl
-
-whole_tail : (upper : Bool) (exponent scale : ℕ) → scale ≡ 0 →
-    scaled_tail upper exponent scale ≡ exponent_tail upper exponent
-whole_tail upper exponent scale e =
-    let f : nat_lt exponent 0 ≡ false = search rules in
-    let same : exponent - 0 ≡ exponent = omega arith in rw (e, f, same) refl
+plain_whole n = grind (arith, append-nil)
 
 pub exponent_whole : (upper : Bool) (precision : Option ℕ) (n : ℕ) →
     decimal_exponent_text upper precision 0 n ≡ exponent_text upper precision n
 unfolding decimal_exponent_text exponent_text
-exponent_whole upper precision n =
-    ap (λ (tail : List ℕ). with_point (scientific precision n).digits ++ tail)
-    (whole_tail upper (scientific precision n).exponent (scale_of 0 n) (same_either (n == 0) 0))
+exponent_whole upper precision n = grind (arith, nat_lt)
 
 pub ruleset whole_laws = (plain_whole, exponent_whole)

@@ -9,10 +9,6 @@ use Rattle.std.proofs.lemmas.Str.{IsAscii-take, IsAscii-drop, IsAscii-append}
 use Rattle.std.proofs.Math.Seq.{take-append-add, drop-append-add}
 use Rattle.std.proofs.Math.Nat.{pow-le-pow_left}
 use Rattle.interpolator_render.specs.declared.number_form.Radix.{Radix}
-use Rattle.interpolator_render.specs.declared.number_form.Radix.TheVariants.{Decimal, Binary as InBinary}
-use Rattle.interpolator_render.specs.declared.number_form.Radix.TheVariants.{Octal as InOctal}
-use Rattle.interpolator_render.specs.declared.number_form.Radix.TheVariants.{LowerHex as InLowerHex}
-use Rattle.interpolator_render.specs.declared.number_form.Radix.TheVariants.{UpperHex as InUpperHex}
 use Rattle.interpolator_render.specs.declared.view.Spec.{Spec}
 use Rattle.interpolator_render.specs.Digits.{digit_text}
 use Rattle.interpolator_render.specs.Numbers.{base_of, is_upper}
@@ -26,13 +22,8 @@ pub row_grows : (old new piece : List ℕ) (fill from start end : ℕ) (row : Bu
     from + length piece ≡ start → drop from new ≡ piece ++ drop start old →
     buffer_row old fill start end ≡ row → buffer_row new fill from end ≡ put_before piece row
 row_grows old new piece fill from start end row h s e v =
-    let place : from ≡ start - length piece = omega arith in
     let long : end - from ≡ length piece + (end - start) = omega arith in
-    let text : slice_range new from end ≡ piece ++ slice_range old start end =
-    ap (λ (x : List ℕ). take (end - from) x) e
-    ∙ (ap (λ (k : ℕ). take k (piece ++ drop start old)) long
-    ∙ take-append-add piece (drop start old) (end - start)) in
-    rw (← v, text, ← place) refl
+    grind (arith, take-append-add, long)
 
 pub IsBuffered-grows : (old new piece : List ℕ) (fill from start end : ℕ) → IsAscii piece →
     from + length piece ≡ start → take from new ≡ take from old →
@@ -66,8 +57,7 @@ IsBuffered-grows old new piece fill from start end a s t e row =
 -- one byte more
 pub byte_in_front : (old : List ℕ) (start byte : ℕ) → 1 ≤ start → start ≤ length old →
     drop (start - 1) (set old (start - 1) byte) ≡ (byte ∷ []) ++ drop start old
-byte_in_front old start byte h l = let n : start - 1 + 1 ≡ start = omega arith in
-    drop-set old (start - 1) byte (omega arith) ∙ ap (λ (k : ℕ). byte ∷ drop k old) n
+byte_in_front old start byte h l = grind (arith, drop-set old (start - 1))
 
 -- copies of the fill are in front of the text already
 pub copies_in_front : (old : List ℕ) (fill count start end : ℕ) → count ≤ start →
@@ -76,11 +66,10 @@ pub copies_in_front : (old : List ℕ) (fill count start end : ℕ) → count �
 copies_in_front old fill count start end h l row =
     let size = length-take-le start old l in
     let rest : start - (start - count) ≡ count = omega arith in
-    ap (drop (start - count)) (sym (take-append-drop start old))
-    ∙ (drop-append-le (start - count) (take start old) (drop start old) (omega arith)
-    ∙ ap (λ (x : List ℕ). x ++ drop start old)
-    (ap (drop (start - count)) row.filled_before
-    ∙ (drop-replicate (start - count) start fill ∙ ap (λ (k : ℕ). replicate k fill) rest)))
+    let before : drop (start - count) (take start old) ≡ replicate count fill =
+    rw (row.filled_before, drop-replicate (start - count) start fill, rest) refl in
+    let split = drop-append-le (start - count) (take start old) (drop start old) (omega arith) in
+    grind (arith, take-append-drop, split, before)
 
 -- and after it
 pub row_grows_after : (old : List ℕ) (fill count start end : ℕ) → end + count ≤ 128 →
@@ -130,17 +119,13 @@ new_row fill a = record {
 }
 
 pub base_from_2 : (radix : Radix) → 2 ≤ base_of radix
-base_from_2 Decimal = omega arith
-base_from_2 InBinary = omega arith
-base_from_2 InOctal = omega arith
-base_from_2 InLowerHex = omega arith
-base_from_2 InUpperHex = omega arith
+base_from_2 radix = grind arith
 
 -- a number below 2 ^ 64 has at most 64 digits
 pub short_digits : (base n : ℕ) (upper : Bool) → 2 ≤ base → n < 2 ^ 64 →
     length (digit_text base upper n) ≤ 64
-short_digits base n upper b s = let wide : 2 ^ 64 ≤ base ^ 64 = pow-le-pow_left b 64 in
-    length-digit_text-le base 64 n upper b (omega arith) (omega arith)
+short_digits base n upper b s =
+    let wide = pow-le-pow_left b 64 in grind (arith, length-digit_text-le)
 
 -- for the digits of 64 bits in base ten
 pub few_decimals : (n : ℕ) → n < 2 ^ 64 → length (digit_text 10 false n) ≤ 64
@@ -152,22 +137,13 @@ pub number_row : (spec : Spec) (radix : Radix) (n : ℕ) (empty row : Buffered) 
     empty ≡ record { before = 88; text = []; after = 40; fill = fill } →
     row ≡ put_before (digit_text (base_of radix) (is_upper radix) n) empty → IsNumberRow spec row
 number_row spec radix n empty row fill w s f e r =
-    let base = base_of radix in
-    let few = short_digits base n (is_upper radix) (base_from_2 radix) s in
-    let size = length-append (digit_text base (is_upper radix) n) [] in
-    rw (r, e) (record {
-      narrow = w;
-      fill = f;
-      before = omega arith;
-      front = omega arith;
-      after = refl;
-    })
+    grind (arith, short_digits, base_from_2, length-append)
 
 -- one piece in front of another
 pub grown_twice : (first second : List ℕ) (row : Buffered) → put_before first (put_before second row)
     ≡ put_before (first ++ second) row
-grown_twice first second row =
-    let size = length-append first second in
-    let room : row.before - length second - length first
-    ≡ row.before - length (first ++ second) = omega arith in
-    rw (room, append_assoc first second row.text) refl
+grown_twice first second row = grind (arith, length-append, append_assoc)
+
+pub ruleset front_steps = (byte_in_front, row_grows)
+
+pub ruleset after_grows = (IsBuffered-grows_after, row_grows_after)

@@ -1,8 +1,8 @@
 -- The digits of a number in a buffer, written from its end: one, two or four more.
-use Rattle.std.proofs.Common.{◌≡◌, ◌≢◌, ℕ, ◌<◌, ◌≤◌, ◌+◌, ◌-◌, ◌/◌, ◌%◌, ◌^◌, Bool, false, List, []}
+use Rattle.std.proofs.Common.{◌≡◌, ℕ, ◌<◌, ◌≤◌, ◌+◌, ◌-◌, ◌/◌, ◌%◌, ◌^◌, Bool, false, List, []}
 use Rattle.std.proofs.Common.{◌∷◌, ◌++◌, length, take, drop, map, set, get_or, refl, sym, ◌∙◌, ap}
-use Rattle.std.proofs.Common.{arith, rules, append_assoc, length-append, length-drop, length-set}
-use Rattle.std.proofs.Common.{◌==◌, inl, inr, take-take, IsAscii, mod-eq_of_lt, div-le_self}
+use Rattle.std.proofs.Common.{arith, append_assoc, length-append, length-drop, length-set}
+use Rattle.std.proofs.Common.{inl, inr, take-take, IsAscii, mod-eq_of_lt, div-le_self}
 use Rattle.std.proofs.Common.{eq-zero-or-pos, le-div_iff_mul-le, append-nil}
 use Rattle.std.specs.Fmt.{digit_glyph}
 use Rattle.std.specs.Int.Digits.{digits_of, AllBelowBase}
@@ -25,30 +25,26 @@ digit_text_zero base upper n e = rw e refl
 pub digit_text_map : (base n : ℕ) (upper : Bool) → 0 < n →
     digit_text base upper n ≡ map (digit_glyph upper) (digits_of base n)
 unfolding digit_text
-digit_text_map base n upper h = let f : (n == 0) ≡ false = let k : n ≢ 0 = omega arith in
-    search rules in rw f refl
+digit_text_map base n upper h = grind (arith, nat_tests)
 
 -- a number has a digit at least
 pub digit_text_some : (base n : ℕ) (upper : Bool) → 2 ≤ base → 0 < length (digit_text base upper n)
-digit_text_some base n upper b = elim (eq-zero-or-pos n) [
-  | inl e ↦ rw (digit_text_zero base upper n e) (omega arith)
-  | inr h ↦ rw (digit_text_map base n upper h, length-map)
-      (omega (arith, length-digits_of_step base n b h))
-]
+unfolding digit_text
+digit_text_some base n upper b =
+    grind (arith, nat_tests, length-map, length-digits_of_step base n b)
 
 -- a number below a power of the base has at most as many digits as the power says
 pub length-digit_text-le : (base k n : ℕ) (upper : Bool) → 2 ≤ base → 0 < k → n < base ^ k →
     length (digit_text base upper n) ≤ k
-length-digit_text-le base k n upper b p h = elim (eq-zero-or-pos n) [
-  | inl e ↦ rw (digit_text_zero base upper n e) (omega arith)
-  | inr m ↦ rw (digit_text_map base n upper m, length-map) (length-digits_of-le base k n b h)
-]
+unfolding digit_text
+length-digit_text-le base k n upper b p h =
+    grind (arith, nat_tests, length-map, length-digits_of-le base k n b h)
 
 -- the buffer has room for the digits of any number
 pub text_fits : (base n : ℕ) (upper : Bool) → 2 ≤ base → n < 2 ^ 128 →
     length (digit_text base upper n) ≤ 128
-text_fits base n upper b s = let wide : 2 ^ 128 ≤ base ^ 128 = pow-le-pow_left b 128 in
-    length-digit_text-le base 128 n upper b (omega arith) (omega arith)
+text_fits base n upper b s =
+    let wide = pow-le-pow_left b 128 in grind (arith, length-digit_text-le)
 
 -- ---- the buffer
 
@@ -84,37 +80,29 @@ pub ruleset ascii_texts = IsUtf8-from_ascii
 pub digit_text_step : (base n : ℕ) (upper : Bool) → 2 ≤ base → base ≤ n →
     digit_text base upper n ≡ digit_text base upper (n / base) ++ digit_glyph upper (n % base) ∷ []
 digit_text_step base n upper b h =
-    let some = (le-div_iff_mul-le {k = base} {x = 1} {y = n} (omega arith)).1 (omega arith) in
-    rw (digit_text_map base n upper (omega arith), digits_of_step base n b (omega arith))
-    (rw (map-append, ← digit_text_map base (n / base) upper some) refl)
+    grind (arith, le-div_iff_mul-le, digit_text_map, digits_of_step, map-append)
 
 pub digit_count_step : (base n : ℕ) (upper : Bool) → 2 ≤ base → base ≤ n →
     length (digit_text base upper n) ≡ length (digit_text base upper (n / base)) + 1
-digit_count_step base n upper b h = ap length (digit_text_step base n upper b h)
-    ∙ length-append (digit_text base upper (n / base)) (digit_glyph upper (n % base) ∷ [])
+digit_count_step base n upper b h = grind (arith, digit_text_step, length-append)
 
 -- one digit
 pub digit_text_one : (base n : ℕ) (upper : Bool) → 2 ≤ base → n < base →
     digit_text base upper n ≡ digit_glyph upper n ∷ []
-digit_text_one base n upper b h = elim (eq-zero-or-pos n) [
-  | inl e ↦ rw (digit_text_zero base upper n e, e) refl
-  | inr m ↦ rw (digit_text_map base n upper m, digits_of_step base n b m)
-      (rw (div-eq_of_lt h, mod-eq_of_lt h) refl)
-]
+unfolding digit_text
+digit_text_one base n upper b h =
+    grind (arith, nat_tests, digits_of_step base n b, div-eq_of_lt, mod-eq_of_lt)
 
 pub one_count : (base n : ℕ) (upper : Bool) → 2 ≤ base → n < base →
     length (digit_text base upper n) ≡ 1
-one_count base n upper b h = ap length (digit_text_one base n upper b h)
+one_count base n upper b h = grind (arith, digit_text_one)
 
 -- one digit more in front
 pub low_step : (base n at : ℕ) (upper : Bool) (out : List ℕ) → 2 ≤ base → base ≤ n → 0 < at →
     at ≤ length out →
     digit_text base upper (n / base) ++ drop (at - 1)
     (set out (at - 1) (digit_glyph upper (n % base))) ≡ digit_text base upper n ++ drop at out
-low_step base n at upper out b h p l =
-    let place : at - 1 + 1 ≡ at = omega arith in
-    rw (drop-set out (at - 1) (digit_glyph upper (n % base)) (omega arith), place)
-    (rw (digit_text_step base n upper b h, append_assoc) refl)
+low_step base n at upper out b h p l = grind (arith, drop-set, digit_text_step, append_assoc)
 
 pub ruleset last_steps = (low_step, take-set)
 
@@ -122,14 +110,7 @@ pub ruleset last_steps = (low_step, take-set)
 pub four_count : (base n : ℕ) (upper : Bool) → 2 ≤ base → base ≤ n / base / base / base →
     length (digit_text base upper n) ≡ length
     (digit_text base upper (n / base / base / base / base)) + 4
-four_count base n upper b h =
-    let more = div-le_self (n / base / base) base in
-    let most = div-le_self (n / base) base in
-    let all = div-le_self n base in
-    let one = digit_count_step base n upper b (omega arith) in
-    let two = digit_count_step base (n / base) upper b (omega arith) in
-    let three = digit_count_step base (n / base / base) upper b (omega arith) in
-    let four = digit_count_step base (n / base / base / base) upper b h in omega arith
+four_count base n upper b h = grind (arith, div-le_self, digit_count_step)
 
 pub led : (text after there : List ℕ) (first : ℕ) → 0 < length text →
     first ∷ there ≡ text ++ after → (text ≡ first ∷ drop 1 text) × (there ≡ drop 1 text ++ after)
@@ -145,16 +126,13 @@ pub low_written : (base n rest first at end : ℕ) (upper : Bool) (new mid old :
     (digit_text base upper n ≡ digit_glyph upper first ∷ drop 1 (digit_text base upper n))
     × (new ≡ drop 1 (digit_text base upper n) ++ drop end old)
 low_written base n rest first at end upper new mid old b leads written all =
-    led (digit_text base upper n) (drop end old) new (digit_glyph upper first)
-    (digit_text_some base n upper b)
-    (ap (λ (x : List ℕ). digit_glyph upper first ∷ x) written
-    ∙ (ap (λ (x : List ℕ). x ++ drop at mid) (sym leads) ∙ all))
+    grind (arith, led, digit_text_some)
 
 -- all digits but the first
 pub low_count : (base n : ℕ) (upper : Bool) → 2 ≤ base →
     length (drop 1 (digit_text base upper n)) + 1 ≡ length (digit_text base upper n)
-low_count base n upper b = let some = digit_text_some base n upper b in
-    let less = length-drop 1 (digit_text base upper n) in omega arith
+low_count base n upper b =
+    omega (arith, digit_text_some base n upper b, length-drop 1 (digit_text base upper n))
 
 -- for digits written one at a time
 pub ruleset one_steps = (digit_count_step, one_count, low_count)
@@ -185,39 +163,21 @@ pair_step n at out h p l =
 pub pair_count : (n : ℕ) → 100 ≤ n → length (digit_text 10 false n)
     ≡ length (digit_text 10 false (n / 100)) + 2
 pair_count n h =
-    let once = digit_count_step 10 n false (omega arith) (omega arith) in
-    let twice = digit_count_step 10 (n / 10) false (omega arith) (omega arith) in
-    let rest : n / 10 / 10 ≡ n / 100 = omega arith in
-    let count = rw rest at twice in omega arith
+    let rest : n / 10 / 10 ≡ n / 100 = omega arith in grind (arith, digit_count_step)
 
 -- a number of two digits alone
 pub pair_alone : (n : ℕ) → 10 ≤ n → n < 100 →
     digit_text 10 false n ≡ (48 + n / 10) ∷ (48 + n % 10) ∷ []
-pair_alone n l h =
-    let tens : digit_glyph false (n / 10) ≡ 48 + n / 10 = grind (arith, nat_tests) in
-    let ones : digit_glyph false (n % 10) ≡ 48 + n % 10 = grind (arith, nat_tests) in
-    rw (
-      digit_text_step 10 n false (omega arith) l,
-      digit_text_one 10 (n / 10) false (omega arith) (omega arith),
-      tens,
-      ones,
-    ) refl
+pair_alone n l h = grind (arith, digit_text_step, digit_text_one, nat_tests)
 
 -- of three
 pub three_alone : (n : ℕ) → 100 ≤ n → n < 1000 →
     digit_text 10 false n ≡ (48 + n / 100) ∷ (48 + n % 100 / 10) ∷ (48 + n % 100 % 10) ∷ []
-three_alone n l h =
-    let hundreds : n / 10 / 10 ≡ n / 100 = omega arith in
-    let tens : n / 10 % 10 ≡ n % 100 / 10 = omega arith in
-    let ones : n % 10 ≡ n % 100 % 10 = omega arith in
-    let last : digit_glyph false (n % 10) ≡ 48 + n % 10 = grind (arith, nat_tests) in
-    digit_text_step 10 n false (omega arith) (omega arith)
-    ∙ rw (pair_alone (n / 10) (omega arith) (omega arith), last, hundreds, tens, ones) refl
+three_alone n l h = grind (arith, digit_text_step, pair_alone, nat_tests)
 
 -- and of one
 pub one_alone : (n : ℕ) → n < 10 → digit_text 10 false n ≡ (48 + n) ∷ []
-one_alone n h = let glyph : digit_glyph false n ≡ 48 + n = grind (arith, nat_tests) in
-    rw (digit_text_one 10 n false (omega arith) h, glyph) refl
+one_alone n h = rw (digit_text_one 10 n false (omega arith) h) (grind (arith, nat_tests))
 
 pub take_less : (k at : ℕ) (new old : List ℕ) → k ≤ at → take at new ≡ take at old →
     take k new ≡ take k old
@@ -226,20 +186,9 @@ take_less k at new old h e = sym (take-take k at new h) ∙ (ap (take k) e ∙ t
 pub pair_in_front : (out old : List ℕ) (at first second : ℕ) → 2 ≤ at → take at out ≡ take at old →
     take (at - 2) (set (set out (at - 1) first) (at - 2) second) ≡ take (at - 2) old
 pair_in_front out old at first second h e =
-    take-set-le (at - 2) (set out (at - 1) first) (at - 2) second (omega arith)
-    ∙ (take-set-le (at - 2) out (at - 1) first (omega arith)
-    ∙ take_less (at - 2) at out old (omega arith) e)
+    grind (arith, take-set-le, take_less (at - 2) at out old)
 
 -- ---- the whole number at the end of the buffer
-
--- there is a place for the first digit
-pub first_place : (base n rest few many : ℕ) (upper : Bool) → 2 ≤ base → n < 2 ^ 128 →
-    many + length (digit_text base upper n) ≡ 128 + length (digit_text base upper rest) →
-    many ≤ 128 → few + length (drop 1 (digit_text base upper rest)) ≡ many →
-    (1 ≤ few) × (few - 1 < 128)
-first_place base n rest few many upper b s begins place low =
-    let fits = text_fits base n upper b s in
-    let count = low_count base rest upper b in (omega arith, omega arith)
 
 pub text_written : (base n rest first few many : ℕ) (upper : Bool) (low wide old : List ℕ)
     (glyph : ℕ) → length old ≡ 128 → length low ≡ 128 → 1 ≤ few → few - 1 < 128 →
@@ -250,11 +199,17 @@ pub text_written : (base n rest first few many : ℕ) (upper : Bool) (low wide o
     drop (few - 1) (set low (few - 1) glyph) ≡ digit_text base upper n
 text_written base n rest first few many upper low wide old glyph size long some within g leads l w =
     let place : few - 1 + 1 ≡ few = omega arith in
-    let digits : digit_text base upper rest ++ drop many wide
-    ≡ digit_text base upper n = w ∙ (ap (λ (x : List ℕ). digit_text base upper n ++ x)
-    (nothing_after old 128 size) ∙ append-nil (digit_text base upper n)) in
-    let all : digit_glyph upper first ∷ drop few low ≡ digit_text base upper rest
-    ++ drop many wide = ap (λ (x : List ℕ). digit_glyph upper first ∷ x) l
-    ∙ ap (λ (x : List ℕ). x ++ drop many wide) (sym leads) in
-    drop-set low (few - 1) glyph (omega arith)
-    ∙ (rw (place, g) (all ∙ digits))
+    rw (drop-set low (few - 1) glyph (omega arith), place, g, l)
+    (ap (λ (x : List ℕ). x ++ drop many wide) (sym leads)
+    ∙ (w ∙ rw (nothing_after old 128 size) (append-nil _)))
+
+-- for digits written two, three or four at a time
+pub ruleset pair_texts = (digits_ascii, pair_alone)
+
+pub ruleset pair_steps = (pair_count, length-set, pair_in_front, pair_step)
+
+pub ruleset four_steps = (four_count, take_less)
+
+pub ruleset wide_steps = (digit_count_step, length-set, low_step, take-set, take_less)
+
+pub ruleset low_decimal_steps = (low_count, low_written, take_less)

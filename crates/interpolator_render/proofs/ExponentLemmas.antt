@@ -1,31 +1,29 @@
 -- Exponent form as it is defined: powers of ten, zeros at the end and after.
-use Rattle.std.proofs.Common.{◌≡◌, ◌≢◌, ℕ, zero, suc, ◌<◌, ◌≤◌, ◌-◌, ◌+◌, ◌*◌, ◌/◌, ◌%◌, ◌^◌}
-use Rattle.std.proofs.Common.{true, false, List, [], ◌∷◌, ◌++◌, length, map}
-use Rattle.std.proofs.Common.{replicate, refl, sym, ◌∙◌, ap, arith, rules}
-use Rattle.std.proofs.Common.{append_assoc, append-nil, length-append}
-use Rattle.std.proofs.Common.{◌==◌, inl, inr, None, Some, nat_lt}
-use Rattle.std.proofs.Common.{pow-suc, mul_assoc, mul-le-mul_left}
+use Rattle.std.proofs.lemmas.Grind.{common_steps}
+use Rattle.std.proofs.Common.{◌≡◌, ◌≢◌, ℕ, zero, suc, ◌<◌, ◌≤◌, ◌-◌, ◌+◌, ◌*◌, ◌/◌, ◌%◌, ◌^◌, true}
+use Rattle.std.proofs.Common.{false, List, [], ◌∷◌, ◌++◌, length, map, replicate, refl, sym, ◌∙◌}
+use Rattle.std.proofs.Common.{ap, arith, rules, append_assoc, append-nil, length-append, ◌==◌, inl}
+use Rattle.std.proofs.Common.{inr, None, Some, nat_lt, pow-suc, mul_assoc, mul-le-mul_left}
 use Rattle.std.proofs.Common.{eq-zero-or-pos}
 use Rattle.std.specs.Fmt.{digit_glyph}
 use Rattle.std.specs.Int.Digits.{digits_of}
 use Rattle.std.proofs.lemmas.Int.Digits.{digits_of_step}
-use Rattle.std.proofs.lemmas.List.{map-append, replicate-append-replicate}
-use Rattle.std.proofs.lemmas.List.{length-replicate}
+use Rattle.std.proofs.lemmas.List.{map-append, replicate-append-replicate, length-replicate}
 use Rattle.std.proofs.Math.Nat.{one-le-pow}
 use Rattle.std.proofs.Math.Bool.{and-false}
 use Rattle.interpolator_render.specs.Digits.{digit_text}
-use Rattle.interpolator_render.specs.Exponent.{exponent_of, less_zeros, significant_digits, with_zeros}
-use Rattle.interpolator_render.specs.Exponent.{scientific, rounding}
+use Rattle.interpolator_render.specs.Exponent.{exponent_of, less_zeros, significant_digits}
+use Rattle.interpolator_render.specs.Exponent.{with_zeros, scientific, rounding}
 use Rattle.interpolator_render.proofs.DigitLemmas.{digit_text_zero, digit_text_map, digit_text_some}
 
 -- ---- powers of ten
 
 pub pow_some : (k : ℕ) → 0 < 10 ^ k
-pow_some k = let one = one-le-pow k 10 (omega arith) in omega arith
+pow_some k = grind (arith, one-le-pow)
 
 pub pow_more : (k : ℕ) → 0 < k → 10 ≤ 10 ^ k
 pow_more zero h = absurd (omega arith)
-pow_more (suc k) h = let one = one-le-pow k 10 (omega arith) in rw (pow-suc 10 k) (omega arith)
+pow_more (suc k) h = grind (arith, one-le-pow, pow-suc)
 
 -- ---- the zeros at the end
 
@@ -35,23 +33,18 @@ less_zeros_zero (digit ∷ digits) = rw (less_zeros_zero digits) refl
 
 less_zeros_other : (digits : List ℕ) (last : ℕ) → last ≢ 48 → less_zeros (digits ++ last ∷ [])
     ≡ digits ++ last ∷ []
-less_zeros_other [] last h = let f : (last == 48) ≡ false = search rules in rw f refl
+less_zeros_other [] last h = grind arith
 less_zeros_other (digit ∷ digits) last h =
-    let some : (length (digits ++ last ∷ []) == 0) ≡ false =
-    let n = length-append digits (last ∷ []) in
-    let k : length (digits ++ last ∷ []) ≢ 0 = omega arith in search rules in
-    rw (less_zeros_other digits last h, some, and-false (digit == 48)) refl
+    grind (arith, length-append, and-false, less_zeros_other digits last h)
 
 pub trimmed_zero : (digits : List ℕ) → 0 < length digits → significant_digits (digits ++ 48 ∷ [])
     ≡ significant_digits digits
-trimmed_zero [] h = absurd (omega arith)
-trimmed_zero (digit ∷ digits) h = ap (λ (x : List ℕ). digit ∷ x) (less_zeros_zero digits)
+trimmed_zero digits h = grind (arith, less_zeros_zero)
 
 pub trimmed_other : (digits : List ℕ) (last : ℕ) → last ≢ 48 → significant_digits (digits ++ last ∷ [])
     ≡ digits ++ last ∷ []
 trimmed_other [] last h = refl
-trimmed_other (digit ∷ digits) last h = ap (λ (x : List ℕ). digit ∷ x)
-    (less_zeros_other digits last h)
+trimmed_other (digit ∷ digits) last h = grind (arith, less_zeros_other)
 
 -- ---- zeros after
 
@@ -73,43 +66,19 @@ digits_scaled n (suc k) h =
 
 glyphs_of_zeros : (k : ℕ) → map (digit_glyph false) (replicate k 0) ≡ replicate k 48
 glyphs_of_zeros zero = refl
-glyphs_of_zeros (suc k) = ap (λ (x : List ℕ). 48 ∷ x) (glyphs_of_zeros k)
+glyphs_of_zeros (suc k) = grind (arith, glyphs_of_zeros k)
 
 pub digit_text_scaled : (n k : ℕ) → 0 < n → digit_text 10 false (n * 10 ^ k) ≡ digit_text 10 false n
     ++ replicate k 48
 digit_text_scaled n k h =
-    let some : 0 < n * 10 ^ k = let more = mul-le-mul_left n (one-le-pow k 10 (omega arith)) in
-    omega arith in
-    rw (digit_text_map 10 (n * 10 ^ k) false some, digits_scaled n k h, map-append)
-    (rw (glyphs_of_zeros k, ← digit_text_map 10 n false h) refl)
-
-extended_whole : (count : ℕ) (digits : List ℕ) → length digits ≡ count →
-    digits ≡ with_zeros count digits
-extended_whole count digits e = let none : count - length digits ≡ 0 = omega arith in rw none refl
-
-zero_placed : (n places : ℕ) → n ≡ 0 →
-    digit_text 10 false n ++ replicate (places - exponent_of n) 48
-    ≡ with_zeros (places + 1) (digit_text 10 false (n * 10 ^ (places - exponent_of n)))
-zero_placed n places e =
-    let none : n * 10 ^ (places - exponent_of n) ≡ 0 = rw e (omega arith) in
-    let z = digit_text_zero 10 false 0 refl in
-    let k : places - 0 ≡ places = omega arith in let m : places + 1 - 1 ≡ places = omega arith in
-    let o : places + 1 ≡ suc places = omega arith in
-    rw (none, e, z, k, m) (sym (replicate-append-replicate places 1 48
-    ∙ ap (λ (x : ℕ). replicate x 48) o))
+    grind (arith, mul-le-mul_left, one-le-pow, digit_text_map, digits_scaled, map-append, glyphs_of_zeros)
 
 -- the digits and the zeros after them are the digits of the number with so many places
 pub digits_placed : (n places : ℕ) → exponent_of n ≤ places →
     digit_text 10 false n ++ replicate (places - exponent_of n) 48
     ≡ with_zeros (places + 1) (digit_text 10 false (n * 10 ^ (places - exponent_of n)))
-digits_placed n places h = elim (eq-zero-or-pos n) [
-  | inl e ↦ zero_placed n places e
-  | inr m ↦ rw (digit_text_scaled n (places - exponent_of n) m)
-      (extended_whole (places + 1) _ (let l = length-append (digit_text 10 false n)
-      (replicate (places - exponent_of n) 48) in
-      let r = length-replicate {A = ℕ} (places - exponent_of n) 48 in
-      let s = digit_text_some 10 n false (omega arith) in omega arith))
-]
+digits_placed n places h =
+    grind (arith, common_steps, eq-zero-or-pos, digit_text_zero, replicate-append-replicate, digit_text_scaled, length-append, length-replicate, digit_text_some)
 
 pub scientific_plain : (n : ℕ) → scientific None n
     ≡ record { digits = significant_digits (digit_text 10 false n); exponent = exponent_of n }
@@ -122,8 +91,7 @@ pub scientific_short : (places n : ℕ) → exponent_of n ≤ places → scienti
       exponent = exponent_of n;
     }
 unfolding scientific
-scientific_short places n h = let f : nat_lt places (exponent_of n) ≡ false = search rules in
-    rw f refl
+scientific_short places n h = grind (arith, nat_lt)
 
 -- a short number as its own digits, with the zeros after them
 pub scientific_placed : (places n : ℕ) → exponent_of n ≤ places → scientific (Some places) n
@@ -131,13 +99,12 @@ pub scientific_placed : (places n : ℕ) → exponent_of n ≤ places → scient
       digits = digit_text 10 false n ++ replicate (places - exponent_of n) 48;
       exponent = exponent_of n;
     }
-scientific_placed places n h = rw (scientific_short places n h, ← digits_placed n places h) refl
+scientific_placed places n h = grind (arith, scientific_short, digits_placed)
 
 pub scientific_long : (places n : ℕ) → places < exponent_of n →
     scientific (Some places) n ≡ rounding places n (exponent_of n)
 unfolding scientific
-scientific_long places n h = let f : nat_lt places (exponent_of n) ≡ true = search rules in
-    rw f refl
+scientific_long places n h = grind (arith, nat_lt)
 
 -- for digits and exponent at a precision
 pub ruleset scientific_steps = (scientific_plain, scientific_long, scientific_placed, append-nil)

@@ -1,8 +1,7 @@
 -- Exponent form in a row: digits with their point, zeros, and the exponent after its mark.
-use Rattle.std.proofs.Common.{◌≡◌, ℕ, ◌<◌, ◌≤◌, ◌+◌, ◌/◌, ◌^◌, false}
-use Rattle.std.proofs.Common.{Bool, List, [], ◌∷◌, ◌++◌, length, drop, replicate, refl, sym}
-use Rattle.std.proofs.Common.{◌∙◌, ap, arith, append-nil, append_assoc, length-append}
-use Rattle.std.proofs.Common.{Option, unwrap_or}
+use Rattle.std.proofs.Common.{◌≡◌, ℕ, ◌<◌, ◌≤◌, ◌+◌, ◌^◌, false, Bool, List, [], ◌∷◌, ◌++◌}
+use Rattle.std.proofs.Common.{length, drop, replicate, refl, ap, arith, append-nil}
+use Rattle.std.proofs.Common.{append_assoc, length-append, Option, unwrap_or}
 use Rattle.std.specs.Fmt.{digit_glyph}
 use Rattle.std.proofs.lemmas.Bool.Decides.{nat_tests}
 use Rattle.std.proofs.lemmas.List.{length-replicate}
@@ -19,50 +18,34 @@ use Rattle.interpolator_render.proofs.DigitBufferLemmas.{grown_twice}
 -- ---- room
 
 pub two_digits : (n : ℕ) → n ≤ 39 → length (digit_text 10 false n) ≤ 2
-two_digits n h = length-digit_text-le 10 2 n false (omega arith) (omega arith) (omega arith)
+two_digits n h = grind (arith, length-digit_text-le)
 
 pub ruleset tail_steps = (two_digits, grown_twice)
 
 pub decimal_digits : (n : ℕ) → n < 2 ^ 128 → length (digit_text 10 false n) ≤ 39
-decimal_digits n h = length-digit_text-le 10 39 n false (omega arith) (omega arith) (omega arith)
-
--- room for point and first digit
-pub ruleset leading_counts = (decimal_digits, low_count)
+decimal_digits n h = grind (arith, length-digit_text-le)
 
 -- ---- the point
 
 length-leading : (digits after : List ℕ) → length (leading digits after) ≤ length digits + 1
-length-leading [] after = omega arith
-length-leading (first ∷ []) [] = omega arith
-length-leading (first ∷ []) (next ∷ after) = omega arith
-length-leading (first ∷ second ∷ more) after = omega arith
+length-leading digits after = grind arith
 
 -- what comes before the zeros, and the zeros, are the digits with their point
 leading_then : (digits after : List ℕ) → 0 < length digits →
     leading digits after ++ after ≡ with_point (digits ++ after)
-leading_then [] after h = absurd (omega arith)
-leading_then (first ∷ []) [] h = refl
-leading_then (first ∷ []) (next ∷ after) h = refl
-leading_then (first ∷ second ∷ more) after h = refl
+leading_then digits after h = grind arith
 
 leading_more : (digits after : List ℕ) (first : ℕ) → digits ≡ first ∷ drop 1 digits →
     1 < length digits + length after → leading digits after ≡ first ∷ 46 ∷ drop 1 digits
-leading_more [] after first e h = absurd (omega (arith, ap length e))
-leading_more (x ∷ []) [] first e h = absurd (omega arith)
-leading_more (x ∷ []) (next ∷ after) first e h = ap (λ (l : List ℕ). leading l (next ∷ after)) e
-leading_more (x ∷ second ∷ more) after first e h = ap (λ (l : List ℕ). leading l after) e
+leading_more digits after first e h = grind (arith, ap length e)
 
 leading_alone : (digits after : List ℕ) (first : ℕ) → digits ≡ first ∷ drop 1 digits →
     length digits + length after ≡ 1 → leading digits after ≡ first ∷ []
-leading_alone [] after first e h = absurd (omega (arith, ap length e))
-leading_alone (x ∷ []) [] first e h = ap (λ (l : List ℕ). leading l []) e
-leading_alone (x ∷ []) (next ∷ after) first e h = absurd (omega arith)
-leading_alone (x ∷ second ∷ more) after first e h = absurd (omega arith)
+leading_alone digits after first e h = grind (arith, ap length e)
 
 -- how many digits a number has
 pub more_digits : (n : ℕ) → 10 ≤ n → 1 < length (digit_text 10 false n)
-more_digits n h = let step = digit_count_step 10 n false (omega arith) h in
-    let some = digit_text_some 10 (n / 10) false (omega arith) in omega arith
+more_digits n h = grind (arith, digit_count_step, digit_text_some)
 
 pub small_glyph : (d : ℕ) → d < 10 → digit_glyph false d ≡ 48 + d
 small_glyph d h = grind (arith, nat_tests)
@@ -75,26 +58,14 @@ pub leading_pieces : (digits after : List ℕ) (first : ℕ) (row low point all 
     point ≡ put_before (46 ∷ []) low → all ≡ put_before ((48 + first) ∷ []) point →
     all ≡ put_before (leading digits after) row
 leading_pieces digits after first row low point all h e more a b c =
-    let leads : digits ≡ (48 + first) ∷ drop 1 digits = rw (small_glyph first h) at e in
-    rw (leading_more digits after (48 + first) leads more, c, b, a)
-    (ap (put_before ((48 + first) ∷ [])) (grown_twice (46 ∷ []) (drop 1 digits) row)
-    ∙ grown_twice ((48 + first) ∷ []) (46 ∷ drop 1 digits) row)
+    grind (arith, small_glyph, leading_more, grown_twice)
 
 pub alone_pieces : (digits after : List ℕ) (first : ℕ) (row low all : Buffered) → first < 10 →
     digits ≡ digit_glyph false first ∷ drop 1 digits → length digits + length after ≡ 1 →
     low ≡ put_before (drop 1 digits) row → all ≡ put_before ((48 + first) ∷ []) low →
     all ≡ put_before (leading digits after) row
 alone_pieces digits after first row low all h e single a b =
-    let leads : digits ≡ (48 + first) ∷ drop 1 digits = rw (small_glyph first h) at e in
-    let none : drop 1 digits ≡ [] = nothing_left digits (omega arith) in
-    rw (leading_alone digits after (48 + first) leads single, b, a)
-    (grown_twice ((48 + first) ∷ []) (drop 1 digits) row
-    ∙ ap (λ (x : List ℕ). put_before ((48 + first) ∷ x) row) none)
-  where
-    nothing_left : (text : List ℕ) → length text ≤ 1 → drop 1 text ≡ []
-    nothing_left [] h = refl
-    nothing_left (x ∷ []) h = refl
-    nothing_left (x ∷ y ∷ more) h = absurd (omega arith)
+    grind (arith, small_glyph, leading_alone, grown_twice)
 
 -- digits and zeros in front of any text
 pub digits_before : (digits zeros : ℕ) (after : List ℕ) (row tail padded all : Buffered) →
@@ -102,13 +73,7 @@ pub digits_before : (digits zeros : ℕ) (after : List ℕ) (row tail padded all
     all ≡ put_before (leading (digit_text 10 false digits) (replicate zeros 48)) padded →
     all ≡ put_before (with_point (digit_text 10 false digits ++ replicate zeros 48) ++ after) row
 digits_before digits zeros after row tail padded all a b c =
-    let head = leading (digit_text 10 false digits) (replicate zeros 48) in
-    let whole = leading_then (digit_text 10 false digits) (replicate zeros 48)
-    (digit_text_some 10 digits false (omega arith)) in
-    rw (c, b, a) (ap (put_before head) (grown_twice (replicate zeros 48) after row)
-    ∙ (grown_twice head (replicate zeros 48 ++ after) row
-    ∙ ap (λ (x : List ℕ). put_before x row) (sym (append_assoc head (replicate zeros 48) _)
-    ∙ ap (λ (x : List ℕ). x ++ after) whole)))
+    grind (arith, grown_twice, append_assoc, leading_then, digit_text_some)
 
 pub shown_pieces : (upper : Bool) (digits zeros exponent : ℕ) (row tail padded all : Buffered) →
     tail ≡ put_before (exponent_tail upper exponent) row → padded ≡ put_before (replicate zeros 48) tail →
@@ -126,24 +91,9 @@ pub digits_row : (spec : Spec) (digits zeros : ℕ) (after : List ℕ) (empty ro
     row ≡ put_before (with_point (digit_text 10 false digits ++ replicate zeros 48) ++ after) empty →
     IsNumberRow spec row
 digits_row spec digits zeros after empty row fill w d z f e r =
-    let few = decimal_digits digits d in
-    let n = length-replicate {A = ℕ} zeros 48 in
-    let head = leading (digit_text 10 false digits) (replicate zeros 48) in
-    let point = length-leading (digit_text 10 false digits) (replicate zeros 48) in
-    let whole = leading_then (digit_text 10 false digits) (replicate zeros 48)
-    (digit_text_some 10 digits false (omega arith)) in
-    let body = ap length whole in
-    let parts = length-append head (replicate zeros 48) in
-    let text = length-append (with_point (digit_text 10 false digits ++ replicate zeros 48)) after in
-    let size = length-append (with_point (digit_text 10 false digits ++ replicate zeros 48) ++ after)
-    [] in
-    rw (r, e) (record {
-      narrow = w;
-      fill = f;
-      before = omega arith;
-      front = omega arith;
-      after = refl;
-    })
+    let whole = ap length (leading_then (digit_text 10 false digits) (replicate zeros 48)
+    (digit_text_some 10 digits false (omega arith))) in
+    grind (arith, decimal_digits, length-leading, length-append, length-replicate)
 
 -- an exponent form alone in a row
 pub exponent_row : (spec : Spec) (digits zeros exponent : ℕ) (upper : Bool) (empty row : Buffered)
@@ -151,9 +101,8 @@ pub exponent_row : (spec : Spec) (digits zeros exponent : ℕ) (upper : Bool) (e
     fill ≡ number_fill spec → empty ≡ record { before = 88; text = []; after = 40; fill = fill } →
     row ≡ put_before (shown_text upper digits zeros exponent) empty → IsNumberRow spec row
 exponent_row spec digits zeros exponent upper empty row fill w d z s f e r =
-    let two = two_digits exponent s in
-    digits_row spec digits zeros (exponent_tail upper exponent) empty row fill w d (omega arith) f e
-    r
+    digits_row spec digits zeros (exponent_tail upper exponent) empty row fill w d
+    (grind (arith, two_digits)) f e r
 
 -- head, zeros and any text after them are the whole
 pub digits_parts : (digits count : ℕ) (head tail after : List ℕ) →
@@ -161,11 +110,7 @@ pub digits_parts : (digits count : ℕ) (head tail after : List ℕ) →
     head ++ (replicate count 48 ++ tail)
     ≡ with_point (digit_text 10 false digits ++ replicate count 48) ++ after
 digits_parts digits count head tail after h t =
-    let whole = leading_then (digit_text 10 false digits) (replicate count 48)
-    (digit_text_some 10 digits false (omega arith)) in
-    rw (h, t) (sym (append_assoc (leading (digit_text 10 false digits) (replicate count 48))
-    (replicate count 48) after)
-    ∙ ap (λ (x : List ℕ). x ++ after) whole)
+    grind (arith, append_assoc, leading_then, digit_text_some)
 
 -- head, zeros and tail are the whole
 pub exponent_parts : (upper : Bool) (digits count exponent : ℕ) (head tail : List ℕ) →
@@ -178,8 +123,7 @@ exponent_parts upper digits count exponent head tail h t =
 -- a text alone in a row
 pub grown_alone : (text : List ℕ) (row empty : Buffered) → empty.text ≡ [] →
     row ≡ put_before text empty → row.text ≡ text
-grown_alone text row empty e r = ap (λ (x : Buffered). x.text) r
-    ∙ (ap (λ (x : List ℕ). text ++ x) e ∙ append-nil text)
+grown_alone text row empty e r = grind (arith, append-nil)
 
 -- which the exponent form of a number is
 pub shown_exponent : (upper : Bool) (precision : Option ℕ) (n digits count exponent : ℕ) →
@@ -188,3 +132,10 @@ pub shown_exponent : (upper : Bool) (precision : Option ℕ) (n digits count exp
     shown_text upper digits count exponent ≡ exponent_text upper precision n
 unfolding exponent_text
 shown_exponent upper precision n digits count exponent d e = rw (d, e) refl
+
+pub ruleset shown_steps = (length-replicate, shown_pieces, two_digits)
+
+pub ruleset part_steps = (append-nil, digits_parts, exponent_parts, grown_alone)
+
+-- room for point and first digit
+pub ruleset leading_counts = (decimal_digits, low_count)

@@ -1,14 +1,13 @@
 -- What a writer over a writer of bytes takes and hands on.
-use Rattle.std.proofs.Common.{◌≡◌, ℕ, ◌<◌, List, [], ◌++◌, Option, None, Some, length}
-use Rattle.std.proofs.Common.{take, drop, refl, sym, ◌∙◌, ap, subst, append_assoc, append-nil}
-use Rattle.std.proofs.Common.{Bool, true, false, Result, Ok, Err, OnOk, OnErr, MatchResult}
-use Rattle.std.proofs.Common.{string_bytes, encode_utf8_all, chars, IsUtf8}
+use Rattle.std.proofs.Common.{arith, ◌≡◌, ℕ, ◌<◌, List, [], ◌++◌, Option, length, take, sym, ◌∙◌}
+use Rattle.std.proofs.Common.{ap, subst, append_assoc, append-nil, Bool, true, false, Result, Ok}
+use Rattle.std.proofs.Common.{Err, OnOk, OnErr, MatchResult, string_bytes, encode_utf8_all, chars}
+use Rattle.std.proofs.Common.{IsUtf8}
 use Rattle.std.specs.Io.KnownBytes.{Appends, Keeps}
 use Rattle.std.proofs.lemmas.List.{take-append-drop}
 use Rattle.std.proofs.lemmas.Str.{chars-append, encodes-append, encodes-chars, IsUtf8-string_bytes}
 use Rattle.interpolator_render.specs.IoWriters.{GotPrefix, HandsOn, io_written, KeepsPrefix}
-use Rattle.interpolator_render.specs.Written.{Written, Refuses, RefusesWhole}
-use Rattle.interpolator_render.specs.Written.{Appends as Extends}
+use Rattle.interpolator_render.specs.Written.{Written, Refuses, RefusesWhole, Appends as Extends}
 use Rattle.interpolator_render.specs.declared.ghost_log.GhostLog.{GhostLog}
 use Rattle.interpolator_render.specs.declared.io_writer.IoWriter.{IoWriter}
 use Rattle.interpolator_render.specs.declared.text_write.Refusal.{Refusal}
@@ -17,28 +16,18 @@ use Rattle.interpolator_render.proofs.WrittenLemmas.{refuses_all}
 -- bytes that grow by some and then by more
 pub gets_more : (a b c : Option (List ℕ)) (bs cs : List ℕ) → Appends a b bs → Appends b c cs
     → Appends a c (bs ++ cs)
-gets_more None b c bs cs p q = tt
-gets_more (Some x) None c bs cs p q = absurd p
-gets_more (Some x) (Some y) None bs cs p q = absurd q
-gets_more (Some x) (Some y) (Some z) bs cs p q =
-    q ∙ (ap (λ (l : List ℕ). l ++ cs) p ∙ append_assoc x bs cs)
+gets_more a b c bs cs p q = grind (arith, append_assoc)
 
 -- bytes that stay grow by none
 pub gets_none : (a b : Option (List ℕ)) → Keeps a b → Appends a b []
-gets_none None b p = tt
-gets_none (Some x) None p = absurd p
-gets_none (Some x) (Some y) p = p ∙ sym (append-nil x)
+gets_none a b p = grind (arith, append-nil)
 
 -- bytes that stay after they grew
 pub gets_kept : (a b c : Option (List ℕ)) (bs : List ℕ) → Appends a b bs → Keeps b c → Appends a c bs
-gets_kept None b c bs p q = tt
-gets_kept (Some x) None c bs p q = absurd p
-gets_kept (Some x) (Some y) None bs p q = absurd q
-gets_kept (Some x) (Some y) (Some z) bs p q = q ∙ p
+gets_kept a b c bs p q = grind arith
 
 pub keeps_all : (a : Option (List ℕ)) → Keeps a a
-keeps_all None = tt
-keeps_all (Some x) = refl
+keeps_all a = grind arith
 
 -- a writer after a text
 abbrev pub after_text : List ℕ → Written → Written
@@ -74,23 +63,12 @@ pub writes_on : (front text : List ℕ) (whole old new : Written) (answer : Resu
     → MatchResult answer (λ _. Extends old text new) (λ r. Refuses old text r.taken new)
     → MatchResult answer (λ _. Extends whole text (after_text front new))
     (λ r. Refuses whole text r.taken (after_text front new))
-writes_on front text whole old new answer e h =
-    subst (λ (w : Written). MatchResult answer (λ _. Extends w text (after_text front new))
-    (λ r. Refuses w text r.taken (after_text front new))) e
-    (written_after front text old new answer h)
+writes_on front text whole old new answer e h = grind (arith, written_after)
 
 -- a refusal of all that follows is one of a text
 pub refuses_whole : (old new : Written) (text : List ℕ) (taken : ℕ) → 0 < length text
     → RefusesWhole old taken new → Refuses old text taken new
-refuses_whole old new text taken n h =
-    rw h.0 (refuses_all old new text n (ap (λ (w : Written). w.text) h.1)
-    (ap (λ (w : Written). w.refused) h.1))
-
--- two writers of which as much is known
-pub same_written : (a b : Written) → a.text ≡ b.text → a.refused ≡ b.refused → a ≡ b
-same_written a b e f =
-    ap (λ (t : List ℕ). record { text = t; refused = a.refused }) e
-    ∙ ap (λ (r : Bool). record { text = b.text; refused = r }) f
+refuses_whole old new text taken n h = grind (arith, refuses_all)
 
 -- ---- what is passed on
 
@@ -98,38 +76,17 @@ not_refused : (b : Bool) (A : Type 0) → b ≡ true → b ≡ false → A
 not_refused b A e f = absurd (cc)
 
 module _ {W : Type 0} (told : W → Option (List ℕ)) where
-  -- nothing
-  pub hands_none : (w : IoWriter W) → HandsOn told w w []
-  hands_none w = record {
-    front = [];
-    rest = string_bytes w.held;
-    parts = append-nil (string_bytes w.held);
-    got = gets_none _ _ (keeps_all (told w.inner));
-    held = λ _. refl;
-  }
-
   -- all that was held
   pub hands_all : (old new : IoWriter W) → string_bytes new.held ≡ []
       → Appends (told old.inner) (told new.inner) (string_bytes old.held) → HandsOn told old new []
-  hands_all old new e g = record {
-    front = string_bytes old.held;
-    rest = [];
-    parts = refl;
-    got = g;
-    held = λ _. e;
-  }
+  hands_all old new e g = grind (arith, string_bytes)
 
   -- a part of it, before a write failed
   pub hands_part : (old new : IoWriter W) (count : ℕ) (bytes : List ℕ)
       → bytes ≡ string_bytes old.held → new.refused ≡ true
       → Appends (told old.inner) (told new.inner) (take count bytes) → HandsOn told old new []
-  hands_part old new count bytes e r g = record {
-    front = take count bytes;
-    rest = drop count bytes;
-    parts = append-nil (string_bytes old.held) ∙ (sym e ∙ sym (take-append-drop count bytes));
-    got = g;
-    held = λ f. not_refused new.refused _ r f;
-  }
+  hands_part old new count bytes e r g =
+      grind (arith, append-nil (string_bytes old.held), string_bytes old.held, take-append-drop count bytes)
 
   -- and more was gathered, or refused
   pub hands_more : (old mid new : IoWriter W) (more : List ℕ) (answer : Result (Unit {0}) Refusal)
@@ -138,34 +95,15 @@ module _ {W : Type 0} (told : W → Option (List ℕ)) where
       × (mid.refused ≡ false) × (new.refused ≡ false))
       → OnErr answer ((string_bytes new.held ≡ string_bytes mid.held) × (new.refused ≡ true))
       → MatchResult answer (λ _. HandsOn told old new more) (λ _. HandsOn told old new [])
-  hands_more old mid new more (Ok x) h same ok err = record {
-    front = h.front;
-    rest = h.rest ++ more;
-    parts = ap (λ (l : List ℕ). l ++ more) (sym (append-nil (string_bytes old.held)) ∙ h.parts)
-        ∙ append_assoc h.front h.rest more;
-    got = subst (λ (w : W). Appends (told old.inner) (told w) h.front) (sym same) h.got;
-    held = λ _. ok.0 ∙ ap (λ (l : List ℕ). l ++ more) (h.held ok.1);
-  }
-  hands_more old mid new more (Err r) h same ok err = record {
-    front = h.front;
-    rest = h.rest;
-    parts = h.parts;
-    got = subst (λ (w : W). Appends (told old.inner) (told w) h.front) (sym same) h.got;
-    held = λ f. not_refused new.refused _ err.1 f;
-  }
+  hands_more old mid new more answer h same ok err =
+      grind (arith, append-nil, string_bytes, append_assoc, not_refused)
 
   -- ---- what was passed on since the beginning
 
   -- a writer that has taken nothing
   pub prefix_of_none : (w : IoWriter W) (start : Option (List ℕ)) → (io_written w).text ≡ []
       → string_bytes w.held ≡ [] → told w.inner ≡ start → GotPrefix told start w
-  prefix_of_none w start e h same = record {
-    front = [];
-    rest = [];
-    parts = ap encode_utf8_all e;
-    got = gets_none _ _ (subst (λ (t : Option (List ℕ)). Keeps start t) (sym same) (keeps_all start));
-    held = λ _. h;
-  }
+  prefix_of_none w start e h same = grind (arith, encode_utf8_all, gets_none, keeps_all)
 
   -- a writer that nothing was done to
   pub prefix_stays : (old new : IoWriter W) → new ≡ old → KeepsPrefix told old new
@@ -175,15 +113,7 @@ module _ {W : Type 0} (told : W → Option (List ℕ)) where
   pub prefix_grows : (old new : IoWriter W) (more : List ℕ) → old.refused ≡ false
       → encode_utf8_all (io_written new).text ≡ encode_utf8_all (io_written old).text ++ more
       → HandsOn told old new more → KeepsPrefix told old new
-  prefix_grows old new more f e s start h = record {
-    front = h.front ++ s.front;
-    rest = s.rest;
-    parts = e ∙ (ap (λ (l : List ℕ). l ++ more) h.parts ∙ (append_assoc h.front h.rest more
-        ∙ (ap (λ (l : List ℕ). h.front ++ (l ++ more)) (sym (h.held f))
-        ∙ (ap (λ (l : List ℕ). h.front ++ l) s.parts ∙ sym (append_assoc h.front s.front s.rest)))));
-    got = gets_more _ _ _ _ _ h.got s.got;
-    held = s.held;
-  }
+  prefix_grows old new more f e s start h = grind (arith, append_assoc, gets_more)
 
   -- a writer that took nothing more
   pub prefix_kept : (old new : IoWriter W) → old.refused ≡ false
@@ -196,8 +126,7 @@ module _ {W : Type 0} (told : W → Option (List ℕ)) where
   pub prefix_refused : (old new : IoWriter W) (refused : Bool) → old.refused ≡ refused
       → (old.refused ≡ true → new ≡ old) → (io_written new).text ≡ (io_written old).text
       → HandsOn told old new [] → KeepsPrefix told old new
-  prefix_refused old new true e quiet same s = prefix_stays old new (quiet e)
-  prefix_refused old new false e quiet same s = prefix_kept old new e same s
+  prefix_refused old new refused e quiet same s = grind (arith, prefix_stays, prefix_kept)
 
   -- a writer that passed on all that it held, and whose flush below did nothing or failed
   pub prefix_flushed : (old mid new : IoWriter W) → old.refused ≡ false
@@ -207,8 +136,7 @@ module _ {W : Type 0} (told : W → Option (List ℕ)) where
       → Keeps (told mid.inner) (told new.inner)
       → KeepsPrefix told old new
   prefix_flushed old mid new f same none got passed held keeps =
-      prefix_kept old new f (rw (passed, held) same)
-      (hands_all old new (rw held none) (gets_kept _ _ _ _ got keeps))
+      grind (arith, prefix_kept, hands_all, gets_kept)
 
   -- a writer that made way for bytes, and then gathered them or refused them
   pub prefix_after : (old mid new : IoWriter W) (more : List ℕ) (answer : Result (Unit {0}) Refusal)

@@ -1,14 +1,12 @@
 -- Texts written part after part, up to a refusal.
-use Rattle.std.proofs.Common.{◌≡◌, ℕ, zero, suc, ◌<◌, ◌≤◌, ◌-◌, ◌+◌, ◌*◌, ◌^◌, min, List, [], ◌∷◌, ◌++◌}
-use Rattle.std.proofs.Common.{length, refl, sym, ◌∙◌, ap, arith, append_assoc, append-nil}
-use Rattle.std.proofs.Common.{length-append, replicate, take, drop, get_or, Result, Ok, Err}
-use Rattle.std.proofs.Common.{MatchResult, encode_utf8, take-append-drop, chars, IsAscii, IsUtf8}
-use Rattle.std.proofs.Common.{flat_map}
-use Rattle.std.proofs.lemmas.Str.{IsCharBoundary-at_seam}
+use Rattle.std.proofs.Common.{take-append-drop, length-append, append_assoc, MatchResult, replicate}
+use Rattle.std.proofs.Common.{append-nil, flat_map, IsAscii, length, get_or, Result, ℕ}
+use Rattle.std.proofs.Common.{IsUtf8, arith, chars, zero, List, ◌++◌, refl, take, drop, ◌≡◌, suc}
+use Rattle.std.proofs.Common.{◌<◌, ◌≤◌, ◌-◌, ◌+◌, ◌*◌, ◌^◌, min, ◌∷◌, sym, ◌∙◌, Err, [], ap, Ok}
+use Rattle.std.proofs.lemmas.Str.{IsCharBoundary-at_seam, chars_from_encodes, encodes-IsAscii}
+use Rattle.std.proofs.lemmas.Str.{len_utf8_bounds, encodes-append, chars-IsAscii, encodes-chars}
+use Rattle.std.proofs.lemmas.Str.{IsUtf8-append, IsUtf8-encode, length-encode, IsUtf8-nil}
 use Rattle.std.specs.Char.{len_utf8}
-use Rattle.std.proofs.lemmas.Str.{chars-IsAscii, encodes-chars, encodes-append, encodes-IsAscii}
-use Rattle.std.proofs.lemmas.Str.{chars_from_encodes, IsUtf8-append, IsUtf8-encode, IsUtf8-nil}
-use Rattle.std.proofs.lemmas.Str.{length-encode, len_utf8_bounds}
 use Rattle.std.proofs.lemmas.Str.Ascii.{IsAscii-cons}
 use Rattle.std.proofs.lemmas.List.{take_more}
 use Rattle.std.proofs.lemmas.Grind.{flat_map-append}
@@ -18,47 +16,22 @@ use Rattle.interpolator_render.specs.Written.{Refuses, RefusesLong, RefusesWhole
 
 -- nothing was written
 pub appends_none : (a : Written) → Appends a [] a
-appends_none a = record {
-  appended = sym (append-nil a.text);
-  same_flag = refl;
-  only_empty = λ _. refl;
-}
+appends_none a = grind (arith, append-nil)
 
 -- two texts, one after the other
 pub appends_both : (a b c : Written) (t u : List ℕ) → Appends a t b → Appends b u c →
     Appends a (t ++ u) c
-appends_both a b c t u p q = record {
-  appended = q.appended ∙ (ap (λ (x : List ℕ). x ++ u) p.appended ∙ append_assoc a.text t u);
-  same_flag = q.same_flag ∙ p.same_flag;
-  only_empty = λ h. rw (p.only_empty h, q.only_empty (p.same_flag ∙ h)) refl;
-}
+appends_both a b c t u p q = grind (arith, append_assoc)
 
 -- the second of two texts was refused
 pub stops_in_second : (a b c : Written) (t u : List ℕ) → Appends a t b → AppendsBeginning b u c →
     AppendsBeginning a (t ++ u) c
-stops_in_second a b c t u p q = record {
-  beginning = t ++ q.beginning;
-  rest = q.rest;
-  parts = ap (λ (x : List ℕ). t ++ x) q.parts ∙ sym (append_assoc t q.beginning q.rest);
-  not_whole = q.not_whole;
-  appended = q.appended ∙ (ap (λ (x : List ℕ). x ++ q.beginning) p.appended
-      ∙ append_assoc a.text t q.beginning);
-  flag_set = q.flag_set;
-  none_after_refusal = λ h. rw (p.only_empty h, q.none_after_refusal (p.same_flag ∙ h)) refl;
-}
+stops_in_second a b c t u p q = grind (arith, append_assoc)
 
 -- the first of two texts was refused
 pub stops_in_first : (a b : Written) (t u : List ℕ) → AppendsBeginning a t b →
     AppendsBeginning a (t ++ u) b
-stops_in_first a b t u p = record {
-  beginning = p.beginning;
-  rest = p.rest ++ u;
-  parts = ap (λ (x : List ℕ). x ++ u) p.parts ∙ append_assoc p.beginning p.rest u;
-  not_whole = let l = length-append p.rest u in let h = p.not_whole in omega arith;
-  appended = p.appended;
-  flag_set = p.flag_set;
-  none_after_refusal = p.none_after_refusal;
-}
+stops_in_first a b t u p = grind (arith, append_assoc, length-append)
 
 -- what a call returned, whatever its error says
 pub writes_from_puts : (a b : Written) (t : List ℕ) (r : Result (Unit {0}) Refusal) → Puts a t r b →
@@ -73,7 +46,7 @@ writes_second a b c t u (Ok x) p q = appends_both a b c t u p q
 writes_second a b c t u (Err refusal) p q = stops_in_second a b c t u p q
 
 pub byte_count-append : (t u : List ℕ) → byte_count (t ++ u) ≡ byte_count t + byte_count u
-byte_count-append t u = ap length (encodes-append t u) ∙ length-append _ _
+byte_count-append t u = grind (arith, encodes-append, length-append)
 
 -- a refusal in the second text or in the first, with its counts: `done` counts the first text
 pub refuses_in_second : (a b c : Written) (t u : List ℕ) (done taken all : ℕ) →
@@ -98,9 +71,7 @@ pub puts_from_write : (a b : Written) (t : List ℕ) (r : Result (Unit {0}) Refu
 puts_from_write a b t (Ok x) f p = p
 puts_from_write a b t (Err x) f p = record {
   part = p.part;
-  counted =
-      let e = p.counted in let n = byte_count-append p.part.beginning p.part.rest in
-      let d = ap byte_count p.part.parts in omega arith;
+  counted = let d = ap byte_count p.part.parts in omega (arith, p.counted, byte_count-append);
 }
 
 pub IsAscii-replicate : (n c : ℕ) → c < 128 → IsAscii (replicate n c)
@@ -108,11 +79,8 @@ IsAscii-replicate zero c h = λ i. omega arith
 IsAscii-replicate (suc n) c h = IsAscii-cons c (replicate n c) h (IsAscii-replicate n c h)
 
 pub bytes_of_copies : (n c : ℕ) → byte_count (replicate n c) ≡ n * len_utf8 c
-bytes_of_copies zero c = let e : 0 * len_utf8 c ≡ 0 = omega arith in sym e
-bytes_of_copies (suc n) c =
-    let here = byte_count-append (c ∷ []) (replicate n c) in
-    let one = length-append (encode_utf8 c) [] in let size = length-encode c in
-    let rest = bytes_of_copies n c in omega arith
+bytes_of_copies zero c = omega arith
+bytes_of_copies (suc n) c = omega (arith, length-append {A = ℕ}, length-encode c, bytes_of_copies n c)
 
 pub byte_count-chars : (bytes : List ℕ) → IsUtf8 bytes → byte_count (chars bytes) ≡ length bytes
 byte_count-chars bytes u = ap length (encodes-chars bytes u)
@@ -120,9 +88,7 @@ byte_count-chars bytes u = ap length (encodes-chars bytes u)
 -- the pieces up to one, and that one
 pub parts_more : {X : Type 0} (f : X → List ℕ) (parts : List X) (i : ℕ) (d : X) → i < length parts →
     flat_map f (take i parts) ++ f (get_or parts i d) ≡ flat_map f (take (i + 1) parts)
-parts_more f parts i d h =
-    rw (take_more parts i d h, flat_map-append f (take i parts) (get_or parts i d ∷ []), append-nil)
-    refl
+parts_more f parts i d h = rw (take_more parts i d h) (simp (flat_map-append, append-nil))
 
 pub parts_all : {X : Type 0} (f : X → List ℕ) (parts : List X) (i : ℕ) → flat_map f (take i parts)
     ++ flat_map f (drop i parts) ≡ flat_map f parts
@@ -146,7 +112,7 @@ pub parts_count : {X : Type 0} (f : X → List ℕ) (parts : List X) (i : ℕ) (
     more ≡ min (done + len) (2 ^ 64 - 1) →
     more ≡ min (byte_count (flat_map f (take (i + 1) parts))) (2 ^ 64 - 1)
 parts_count f parts i d done len more h e k l = rw (← parts_more f parts i d h)
-    (let n = byte_count-append (flat_map f (take i parts)) (f (get_or parts i d)) in omega arith)
+    (omega (arith, byte_count-append))
 
 pub parts_append : {X : Type 0} (f : X → List ℕ) (a b c : Written) (parts : List X) (i : ℕ)
     (d : X) → i < length parts →
@@ -156,8 +122,7 @@ parts_append f a b c parts i d h p q = rw (← parts_more f parts i d h) (append
 
 -- a character's bytes are at most four
 pub bytes_of_character : (c : ℕ) → byte_count (c ∷ []) ≤ 4
-bytes_of_character c = let n = length-append (encode_utf8 c) [] in let k = length-encode c in
-    let m = len_utf8_bounds c in omega arith
+bytes_of_character c = omega (arith, length-append {A = ℕ}, length-encode c, (len_utf8_bounds c).1)
 
 -- for one call of a writer
 pub ruleset one_write = (puts_from_write, byte_count-chars, bytes_of_character, chars-IsAscii)
@@ -177,3 +142,5 @@ refused_whole a b t r l h = record {
   };
   counted = rw h.0 refl;
 }
+
+pub ruleset run_outcomes = (stops_in_first, writes_from_puts, writes_second)

@@ -1,6 +1,6 @@
 -- A text at the front of a row of places.
 use Rattle.std.proofs.Common.{◌≡◌, ℕ, ◌+◌, ◌-◌, ◌<◌, ◌≤◌, true, false, Bool, List, [], ◌∷◌, ◌++◌}
-use Rattle.std.proofs.Common.{length, take, drop, set, refl, sym, ◌∙◌, ap, subst, arith}
+use Rattle.std.proofs.Common.{length, take, drop, set, sym, ◌∙◌, ap, subst, arith}
 use Rattle.std.proofs.Common.{chars, IsUtf8, encode_utf8, length-append}
 use Rattle.std.proofs.Common.{length-drop, length-take-le, length-set, take_all}
 use Rattle.std.proofs.lemmas.List.{take-take, take_at, take_more_set}
@@ -14,18 +14,12 @@ use Rattle.interpolator_render.specs.Written.{Written, Appends, HoldsText, byte_
 pub written_length : (row run : List ℕ) (at : ℕ) → at + length run ≤ length row →
     length ((take at row ++ run) ++ drop (at + length run) row) ≡ length row
 written_length row run at within =
-    let front = length-append (take at row) run in
-    let all = length-append (take at row ++ run) (drop (at + length run) row) in
-    let rest = length-drop (at + length run) row in
-    let before = length-take-le at row (omega arith) in omega arith
+    grind (arith, length-append, length-drop, length-take-le at row)
 
 -- a row in which a run follows a beginning
 pub written_front : (row run rest : List ℕ) (at : ℕ) → at ≤ length row →
     take (at + length run) ((take at row ++ run) ++ rest) ≡ take at row ++ run
-written_front row run rest at within =
-    let front = length-append (take at row) run in
-    let before = length-take-le at row within in
-    take_at (take at row ++ run) rest (at + length run) (omega arith)
+written_front row run rest at within = grind (arith, length-take-le, take_at, length-append)
 
 -- a row holds a text that is longer by another
 pub holds_more : (row after text : List ℕ) (len : ℕ) (refused : Bool) → HoldsText row len refused →
@@ -58,24 +52,17 @@ pub appends_bytes : (old : Written) (front text whole : List ℕ) (refused : Boo
     record { text = chars front; refused = refused } ≡ old → whole ≡ front ++ text →
     (refused ≡ true → length text ≡ 0) →
     Appends old (chars text) (record { text = chars whole; refused = refused })
-appends_bytes old front text whole refused utf8 is both none = rw (← is) (record {
-  appended = ap chars both ∙ chars-append front text utf8;
-  same_flag = refl;
-  only_empty = λ set. no_characters text (none set);
-})
+appends_bytes old front text whole refused utf8 is both none =
+    grind (arith, chars-append, no_characters)
 
 -- what is cut off behind a text is no part of it
 pub kept_front : (row cut : List ℕ) (len : ℕ) → cut ≡ take len row → take len cut ≡ take len row
-kept_front row cut len e = ap (take len) e ∙ take-take len len row (omega arith)
+kept_front row cut len e = grind (arith, take-take)
 
 -- a row that is a text as a whole
 pub holds_whole : (row : List ℕ) (len : ℕ) → IsUtf8 row → len ≡ length row →
     HoldsText row len false
-holds_whole row len utf8 whole = record {
-  within = omega arith;
-  utf8 = subst IsUtf8 (sym (take_all len row (omega arith))) utf8;
-  none_ready = λ set. cc;
-}
+holds_whole row len utf8 whole = grind (arith, take_all)
 
 -- the bytes of the text that a row holds
 pub held_count : (row : List ℕ) (len : ℕ) (refused : Bool) → HoldsText row len refused →
@@ -87,26 +74,21 @@ held_count row len refused held =
 pub ready_room : (row : List ℕ) (len room more : ℕ) (refused : Bool) → HoldsText row len refused →
     more ≤ room - len → length row ≤ room → byte_count (chars (take len row)) + more ≤ room
 ready_room row len room more refused held few most =
-    let count = held_count row len refused held in
-    let within : len ≤ length row = held.within in omega arith
+    omega (arith, held_count row len refused held, held.within)
 
 -- so is what was made behind the text
 pub made_room : (row cut : List ℕ) (len long room more : ℕ) (refused : Bool) →
     HoldsText row len refused → cut ≡ take len row → long ≡ length cut → long + more ≤ room →
     byte_count (chars (take len cut)) + more ≤ room
 made_room row cut len long room more refused held is count made =
-    let same : byte_count (chars (take len cut)) ≡ byte_count (chars (take len row)) =
-    ap (λ (bytes : List ℕ). byte_count (chars bytes)) (kept_front row cut len is) in
-    let all = held_count row len refused held in
-    let whole : length cut ≡ len = ap length is ∙ length-take-le len row held.within in omega arith
+    grind (arith, kept_front, held_count row len refused held, length-take-le len row held.within)
 
 -- and the lack of it
 pub lacks_places : (row cut : List ℕ) (len long room more : ℕ) (refused : Bool) →
     HoldsText row len refused → cut ≡ take len row → long ≡ length cut → room < long + more →
     room < byte_count (chars (take len row)) + more
 lacks_places row cut len long room more refused held is count lack =
-    let all = held_count row len refused held in
-    let whole : length cut ≡ len = ap length is ∙ length-take-le len row held.within in omega arith
+    grind (arith, held_count row len refused held, length-take-le len row held.within)
 
 -- a text written over places that are ready
 pub wrote_front : (row after run text : List ℕ) (len : ℕ) → len ≤ length row → run ≡ text →
@@ -120,16 +102,15 @@ pub wrote_text : (row after run text : List ℕ) (len : ℕ) (refused : Bool) �
     after ≡ (take len row ++ run) ++ drop (len + length run) row →
     HoldsText after (len + length text) refused
 wrote_text row after run text len refused held utf8 same few is =
-    let within : len ≤ length row = held.within in
+    let within = held.within in
     let room : len + length text ≤ length row = omega arith in
-    let long : length after ≡ length row = rw (is, same) (written_length row text len room) in
-    holds_more row after text len refused held utf8 room long
-    (wrote_front row after run text len within same is)
+    holds_more row after text len refused held utf8 room
+    (rw (is, same) (written_length row text len room)) (wrote_front row after run text len within same is)
 
 -- none of a text is written once one was refused
 pub none_fits : (row text : List ℕ) (len : ℕ) (refused : Bool) → HoldsText row len refused →
     length text ≤ length row - len → refused ≡ true → length text ≡ 0
-none_fits row text len refused held few set = let full = held.none_ready set in omega arith
+none_fits row text len refused held few set = omega (arith, held.none_ready set)
 
 -- a byte written to a place that is ready
 pub wrote_byte : (row : List ℕ) (len byte : ℕ) (refused : Bool) → HoldsText row len refused →
@@ -140,7 +121,7 @@ wrote_byte row len byte refused held utf8 ready =
 
 -- the one byte of an ASCII character
 pub ascii_alone : (c : ℕ) → is_ascii c ≡ true → encode_utf8 c ≡ c ∷ []
-ascii_alone c e = let low : c < 128 = grind (arith, nat_tests) in encode_ascii c low
+ascii_alone c e = encode_ascii c (grind (arith, nat_tests))
 
 -- a writer with one more character, of one byte
 pub appends_byte : (old : Written) (row : List ℕ) (len c : ℕ) (refused : Bool) →

@@ -8,17 +8,15 @@ use Rattle.std.proofs.Common.{chars, IsUtf8, IsCharBoundary}
 use Rattle.std.proofs.lemmas.Bool.{cases_lt}
 use Rattle.std.proofs.lemmas.Grind.{flat_map-append}
 use Rattle.std.proofs.lemmas.List.{drop-take, take_more}
-use Rattle.std.proofs.lemmas.Str.{chars-append, chars-IsAscii, encode_ascii, encodes-chars}
-use Rattle.std.proofs.lemmas.Str.{IsUtf8-take, IsUtf8-drop, IsUtf8-between}
 use Rattle.std.proofs.lemmas.Str.{IsCharBoundary-before_ascii, IsCharBoundary-after_ascii}
-use Rattle.std.proofs.lemmas.Str.{IsCharBoundary-start, chars-nil}
+use Rattle.std.proofs.lemmas.Str.{IsCharBoundary-start, IsUtf8-between, chars-IsAscii, chars-append}
+use Rattle.std.proofs.lemmas.Str.{encodes-chars, encode_ascii, IsUtf8-take, IsUtf8-drop, chars-nil}
 use Rattle.std.proofs.lemmas.Str.Ascii.{IsAscii-cons}
 use Rattle.interpolator_render.specs.declared.text_write.Refusal.{Refusal}
 use Rattle.interpolator_render.specs.Quoting.{escape_of}
 use Rattle.interpolator_render.specs.Written.{Written, Appends, AppendsBeginning, Puts, Writes}
-use Rattle.interpolator_render.proofs.LayoutLemmas.{appends_none, appends_both, stops_in_first}
-use Rattle.interpolator_render.proofs.LayoutLemmas.{stops_in_second, writes_second}
-use Rattle.interpolator_render.proofs.LayoutLemmas.{writes_from_puts}
+use Rattle.interpolator_render.proofs.LayoutLemmas.{writes_from_puts, stops_in_second, appends_none}
+use Rattle.interpolator_render.proofs.LayoutLemmas.{stops_in_first, writes_second, appends_both}
 use Rattle.std.proofs.lemmas.Bool.Decides.{nat_tests}
 
 -- ---- characters that are written as they are
@@ -67,11 +65,8 @@ pub split_at : (f : ℕ → List ℕ) (text : List ℕ) (place : ℕ) → IsUtf8
     flat_map f (chars text) ≡ flat_map f (chars (take place text))
     ++ flat_map f (chars (drop place text))
 split_at f text place u b =
-    let parts = take-append-drop place text in
-    ap (λ (x : List ℕ). flat_map f (chars x)) (sym parts)
-    ∙ (ap (flat_map f) (chars-append (take place text) (drop place text)
-    (IsUtf8-take text place u b))
-    ∙ flat_map-append f (chars (take place text)) (chars (drop place text)))
+    let whole = chars-append (take place text) (drop place text) (IsUtf8-take text place u b) in
+    grind (arith, take-append-drop, whole, flat_map-append)
 
 run_plain : (f : ℕ → List ℕ) (text : List ℕ) (start index k : ℕ) → start ≤ index →
     index < length text →
@@ -79,10 +74,7 @@ run_plain : (f : ℕ → List ℕ) (text : List ℕ) (start index k : ℕ) → s
     k < length (slice_range text start index) →
     f (get_or (slice_range text start index) k 0) ≡ get_or (slice_range text start index) k 0 ∷ []
 run_plain f text start index k s l plain h =
-    let size = length-take (index - start) (drop start text) in
-    let within : k < index - start = omega arith in
-    rw (get_or-take (index - start) (drop start text) k 0 within, get_or-drop start text k 0)
-    (plain (start + k) (omega arith) (omega arith))
+    grind (arith, length-take, get_or-take, get_or-drop, plain (start + k))
 
 -- a run of characters that are written as they are, and one ASCII character after it
 pub run_more : (f : ℕ → List ℕ) (text : List ℕ) (start index : ℕ) →
@@ -114,12 +106,9 @@ pub run_to_end : (f : ℕ → List ℕ) (text : List ℕ) (start : ℕ) → ((c 
     ((k : ℕ) → start ≤ k → k < length text → f (get_or text k 0) ≡ get_or text k 0 ∷ []) →
     flat_map f (chars (take start text)) ++ chars (drop start text) ≡ flat_map f (chars text)
 run_to_end f text start wide u b plain =
-    let as_is : flat_map f (chars (drop start text))
-    ≡ chars (drop start text) = plain_run f (drop start text) wide (IsUtf8-drop text start u b)
-    (λ k h. let size = length-drop start text in
-    rw get_or-drop (plain (start + k) (omega arith) (omega arith))) in
-    sym (split_at f text start u b ∙ ap (λ (x : List ℕ). flat_map f (chars (take start text)) ++ x)
-    as_is)
+    let as_is = plain_run f (drop start text) wide (IsUtf8-drop text start u b)
+    (λ k h. grind (arith, length-drop, get_or-drop, plain (start + k))) in
+    grind (arith, split_at f text start u b, as_is)
 
 -- ---- what was written
 
@@ -133,24 +122,13 @@ pub record Runs (f : ℕ → List ℕ) (text : List ℕ) (start index : ℕ) (be
 
 pub runs_none : (f : ℕ → List ℕ) (text : List ℕ) (before : Written) → IsUtf8 text →
     Runs f text 0 0 before before
-runs_none f text before u = record {
-  below = omega arith;
-  boundary = IsCharBoundary-start text u;
-  plain = λ k l h. absurd (omega arith);
-  written = rw chars-nil (appends_none before);
-}
+runs_none f text before u = grind (arith, IsCharBoundary-start, chars-nil, appends_none)
 
 -- one byte more that needs no escape
 pub runs_plain : (f : ℕ → List ℕ) (text : List ℕ) (start index : ℕ) (before now : Written) →
     f (get_or text index 0) ≡ get_or text index 0 ∷ [] →
     Runs f text start index before now → Runs f text start (index + 1) before now
-runs_plain f text start index before now here runs = record {
-  below = let h = runs.below in omega arith;
-  boundary = runs.boundary;
-  plain = λ k l h. below_more (λ j. start ≤ j → f (get_or text j 0) ≡ get_or text j 0 ∷ []) index
-      (λ j b s. runs.plain j s b) (λ s. here) k h l;
-  written = runs.written;
-}
+runs_plain f text start index before now here runs = grind (arith, below_more)
 
 -- an ASCII character that does not, written after the run
 pub runs_escaped : (f : ℕ → List ℕ) (text : List ℕ) (start index : ℕ) (before now after : Written) →

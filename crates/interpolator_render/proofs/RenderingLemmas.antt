@@ -1,5 +1,5 @@
 -- What a text is without options, and what `render` returns for what a writer returned.
-use Rattle.std.proofs.Common.{◌≡◌, ℕ, ◌-◌, List, length, refl, Result, Ok, Err, None, Some, ℤ}
+use Rattle.std.proofs.Common.{◌≡◌, ℕ, List, refl, Result, Ok, Err, None, Some, ℤ}
 use Rattle.std.proofs.Common.{◌++◌, ◌∙◌, ap, append-nil, arith, false}
 use Rattle.interpolator_render.specs.declared.number_form.NumberForm.{NumberForm}
 use Rattle.interpolator_render.specs.declared.number_form.NumberForm.TheVariants.{Digits as InDigits}
@@ -14,7 +14,7 @@ use Rattle.interpolator_render.specs.declared.view.Trait.TheVariants.{Display}
 use Rattle.interpolator_render.specs.Digits.{digit_text}
 use Rattle.interpolator_render.specs.Numbers.{number_form, number_text, has_minus, magnitude}
 use Rattle.interpolator_render.specs.Numbers.{distance_from_zero, is_negative, sign_text}
-use Rattle.interpolator_render.specs.Padding.{displayed_text, padded_text, fill_before, unset_spec}
+use Rattle.interpolator_render.specs.Padding.{displayed_text, padded_text, unset_spec}
 use Rattle.interpolator_render.specs.Texts.{ViewText, has_text, Renders, render_answer, view_text}
 use Rattle.interpolator_render.specs.Views.{signed_number, some_text, unsigned_number}
 use Rattle.interpolator_render.specs.Written.{Written, Puts}
@@ -25,10 +25,7 @@ pub displayed_as_it_is : (spec : Spec) (text : List ℕ) → spec.precision ≡ 
     spec.width ≡ None → displayed_text spec text ≡ text
 unfolding padded_text
 displayed_as_it_is spec text p w =
-    let none = before_within spec.alignment 0 0 (omega arith) in
-    let all : fill_before spec.alignment 0 0 ≡ 0 = omega arith in
-    let missing : 0 - length text ≡ 0 = omega arith in
-    rw (p, w, missing, all) (append-nil text)
+    grind (arith, before_within spec.alignment 0 0, append-nil)
 
 -- what a writer returned is what `render` returns
 pub renders_puts : (old new : Written) (text : List ℕ) (answer : Result (Unit {0}) Refusal)

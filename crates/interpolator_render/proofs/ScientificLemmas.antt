@@ -1,8 +1,6 @@
 -- What exponent form shows of a number, found by powers of ten and by remainders.
-use Rattle.std.proofs.Common.{◌≡◌, ◌≢◌, ℕ, ◌<◌, ◌≤◌, ◌+◌, ◌/◌, ◌%◌, ◌^◌, false}
-use Rattle.std.proofs.Common.{get_or, refl, sym, arith, inl, inr, eqb, eqb→eq}
-use Rattle.std.proofs.Common.{eq-zero-or-pos}
-use Rattle.std.specs.Fmt.{digit_glyph}
+use Rattle.std.proofs.Common.{◌≡◌, ◌≢◌, ℕ, ◌<◌, ◌≤◌, ◌+◌, ◌/◌, ◌%◌, ◌^◌, false, get_or, refl, sym}
+use Rattle.std.proofs.Common.{arith, inl, inr, eqb, eqb→eq, eq-zero-or-pos}
 use Rattle.interpolator_render.specs.declared.scientific.TheConstants.{POWERS}
 use Rattle.interpolator_render.specs.Digits.{digit_text}
 use Rattle.interpolator_render.specs.Exponent.{exponent_of, significant_digits}
@@ -29,16 +27,13 @@ exponent_found n e low high = elim (eq-zero-or-pos e) [
 
 pub trim_zero : (n : ℕ) → 10 ≤ n → n % 10 ≡ 0 → significant_digits (digit_text 10 false (n / 10))
     ≡ significant_digits (digit_text 10 false n)
-trim_zero n h z = rw (digit_text_step 10 n false (omega arith) h, z)
-    (sym (trimmed_zero (digit_text 10 false (n / 10))
-    (digit_text_some 10 (n / 10) false (omega arith))))
+trim_zero n h z =
+    rw (digit_text_step 10 n false (omega arith) h, z)
+    (sym (trimmed_zero _ (digit_text_some 10 (n / 10) false (omega arith))))
 
 pub trim_done : (n : ℕ) → 10 ≤ n → n % 10 ≢ 0 →
     digit_text 10 false n ≡ significant_digits (digit_text 10 false n)
-trim_done n h z = let some : 0 < n % 10 = omega (arith, z) in
-    rw (digit_text_step 10 n false (omega arith) h)
-    (sym (trimmed_other (digit_text 10 false (n / 10)) (digit_glyph false (n % 10))
-    (glyph_some (n % 10) false some)))
+trim_done n h z = grind (arith, digit_text_step, trimmed_other, glyph_some)
 
 pub trim_short : (n : ℕ) → n < 10 → digit_text 10 false n ≡ significant_digits (digit_text 10 false n)
 trim_short n h = rw (digit_text_one 10 n false (omega arith) h) refl

@@ -1,8 +1,8 @@
 -- Equality of specs, field by field.
-use Rattle.std.proofs.Common.{◌≡◌, ℕ, Bool, true, ◌&&◌, Option, eqb, refl, rules, arith}
+use Rattle.std.proofs.Common.{◌≡◌, ℕ, Bool, true, ◌&&◌, Option, eqb, rules, arith}
 use Rattle.std.specs.Option.{option_eq}
 use mathlib.Core.Bool.{beq}
-use denote.Enum.Bare.{sameb, same_true, true_same}
+use denote.Enum.Bare.{sameb, same_true}
 use Rattle.interpolator_render.specs.declared.view.Alignment.{Alignment}
 use Rattle.interpolator_render.specs.declared.view.HexDebug.{HexDebug}
 use Rattle.interpolator_render.specs.declared.view.Sign.{Sign}
@@ -55,11 +55,7 @@ joined : (left right : Spec) → left.fill ≡ right.fill → left.alignment ≡
     left.alternate ≡ right.alternate → left.zero ≡ right.zero →
     left.width ≡ right.width → left.precision ≡ right.precision → left.hex_debug ≡ right.hex_debug →
     left ≡ right
-joined left right l a s t z w p h =
-    let same : made left.fill left.alignment left.sign left.alternate left.zero left.width
-    left.precision left.hex_debug
-    ≡ made right.fill right.alignment right.sign right.alternate right.zero right.width
-    right.precision right.hex_debug = rw (l, a, s, t, z, w, p, h) refl in same
+joined left right l a s t z w p h = grind arith
 
 pub same_from_fields : (left right : Spec) → same_fields left right ≡ true → left ≡ right
 same_from_fields left right e =
@@ -75,10 +71,4 @@ same_from_fields left right e =
     (same_true hex_debugs (search rules) left.hex_debug right.hex_debug g.1)
 
 pub fields_from_same : (spec : Spec) → same_fields spec spec ≡ true
-fields_from_same spec =
-    let a = true_same alignments spec.alignment spec.alignment refl in
-    let s = true_same signs spec.sign spec.sign refl in
-    let d = true_same hex_debugs spec.hex_debug spec.hex_debug refl in
-    let l = option_refl spec.fill in let w = option_refl spec.width in
-    let p = option_refl spec.precision in
-    rw (l, a, s, beq_refl spec.alternate, beq_refl spec.zero, w, p, d) refl
+fields_from_same spec = grind (arith, option_refl, beq_refl)

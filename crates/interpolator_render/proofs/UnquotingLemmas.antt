@@ -1,8 +1,7 @@
 -- A quoted text, read back, is the text.
-use Rattle.std.proofs.Common.{◌≡◌, ◌≢◌, ℕ, ◌<◌, ◌+◌, ◌*◌, inl, inr, true, false, List, [], ◌∷◌}
-use Rattle.std.proofs.Common.{◌++◌, ◌==◌, ◌||◌, if◌then◌else◌, map, refl, ◌∙◌, ap, arith, rules}
-use Rattle.std.proofs.Common.{append_assoc, Some, None, nat_lt, codes, flat_map, eq-zero-or-pos}
-use Rattle.std.proofs.Common.{Option}
+use Rattle.std.proofs.Common.{eq-zero-or-pos, append_assoc, flat_map, Option}
+use Rattle.std.proofs.Common.{false, arith, rules, codes, true, List, ◌++◌, ◌==◌, refl, Some}
+use Rattle.std.proofs.Common.{None, ◌≡◌, ◌≢◌, ◌<◌, ◌+◌, ◌*◌, inl, inr, ◌∷◌, map, ◌∙◌, [], ap, ℕ}
 use Rattle.std.specs.Char.{digit_value}
 use Rattle.std.specs.Fmt.{digit_glyph}
 use Rattle.std.specs.Int.Digits.{digits_of, AllBelowBase}
@@ -23,8 +22,7 @@ record StandsForItself (quote : ℕ) : Type 0 where
   own : escape_meaning quote ≡ quote
 
 quotes_stand : (quote : ℕ) → IsQuote quote → StandsForItself quote
-quotes_stand quote (inl e) = rw e (record { slash = refl; letter = refl; own = refl })
-quotes_stand quote (inr e) = rw e (record { slash = refl; letter = refl; own = refl })
+quotes_stand quote q = grind (arith, q)
 
 -- ---- numbers
 
@@ -54,11 +52,7 @@ code_read : (quote c : ℕ) (rest : List ℕ) → StandsForItself quote →
     unquoted_from quote at_character ((codes "\\u{" ++ (digit_text 16 false c ++ codes "}"))
     ++ rest)
     ≡ preceded_by c (unquoted_from quote at_character rest)
-code_read quote c rest p =
-    rw (p.slash, append_assoc (digit_text 16 false c) (125 ∷ []) rest)
-    (text_read quote c rest
-    ∙ ap (λ (n : ℕ). preceded_by n (unquoted_from quote at_character rest))
-    (digits_read 16 c false (omega arith) (omega arith)))
+code_read quote c rest p = grind (arith, append_assoc, text_read, digits_read)
 
 -- ---- characters
 
@@ -66,15 +60,7 @@ none_read : (quote c : ℕ) (rest : List ℕ) → StandsForItself quote → c �
     escape_letter quote c ≡ None →
     unquoted_from quote at_character (escape_of quote c ++ rest)
     ≡ preceded_by c (unquoted_from quote at_character rest)
-none_read quote c rest p q s e =
-    let other : (c == quote) ≡ false = search rules in
-    let slash : (c == 92) ≡ false = search rules in
-    rw e (elim (nat_lt c 32 || (c == 127)) as (λ b. unquoted_from quote at_character
-    ((if b then codes "\\u{" ++ (digit_text 16 false c ++ codes "}") else c ∷ []) ++ rest)
-    ≡ preceded_by c (unquoted_from quote at_character rest)) [
-      | true ↦ code_read quote c rest p
-      | false ↦ rw (other, slash) refl
-    ])
+none_read quote c rest p q s e = grind (arith, nat_tests, code_read)
 
 -- a letter after a backslash stands for its character
 letter_meaning : (quote c letter : ℕ) → StandsForItself quote
@@ -103,7 +89,4 @@ inside_read quote (c ∷ cs) after p =
 
 pub quoted_read : (quote : ℕ) (text after : List ℕ) → IsQuote quote →
     text_in_quotes quote (quotation quote text ++ after) ≡ Some (record { text = text; after = after })
-quoted_read quote text after q =
-    let t : (quote == quote) ≡ true = search rules in
-    rw (t, append_assoc (flat_map (escape_of quote) text) (quote ∷ []) after)
-    (ap Some (inside_read quote text after (quotes_stand quote q)))
+quoted_read quote text after q = grind (arith, append_assoc, inside_read, quotes_stand)

@@ -1,5 +1,5 @@
 -- What a writer over a `String` took or refused.
-use Rattle.std.proofs.Common.{◌≡◌, ◌⊎◌, ℕ, ◌+◌, ◌<◌, ◌≤◌, true, false, List, [], ◌∷◌, ◌++◌, length, refl}
+use Rattle.std.proofs.Common.{◌≡◌, ℕ, ◌+◌, ◌<◌, ◌≤◌, true, false, List, [], ◌∷◌, ◌++◌, length, refl}
 use Rattle.std.proofs.Common.{sym, ◌∙◌, ap, arith, append-nil, encode_utf8, encode_utf8_all, Bool}
 use Rattle.std.proofs.Common.{Result, Ok, Err, OnOk, OnErr, MatchResult, Option, None, Some}
 use Rattle.std.proofs.Common.{chars, IsUtf8}
@@ -7,16 +7,12 @@ use Rattle.interpolator_render.specs.declared.text_write.Refusal.{Refusal}
 use Rattle.std.specs.Char.{IsScalar}
 use Rattle.std.proofs.lemmas.Str.{chars-append, chars-nil, IsUtf8-encode, chars_past_char}
 use Rattle.std.proofs.lemmas.Str.{encodes-chars}
-use Rattle.interpolator_render.specs.Written.{Written, Buffered, Appends, Refuses, MayRefuse}
+use Rattle.interpolator_render.specs.Written.{Written, Appends, Refuses}
 use Rattle.interpolator_render.specs.Written.{AppendsWithin, StaysWithin, byte_count}
 
 -- an empty text changes nothing
 pub appends_nothing : (w : Written) (bytes : List ℕ) → length bytes ≡ 0 → Appends w (chars bytes) w
-appends_nothing w [] e = record {
-  appended = simp (chars-nil, append-nil);
-  same_flag = refl;
-  only_empty = λ _. chars-nil;
-}
+appends_nothing w [] e = grind (arith, chars-nil, append-nil)
 appends_nothing w (b ∷ bs) e = cc
 
 pub ruleset empty_text = chars-nil
@@ -25,16 +21,11 @@ pub ruleset empty_text = chars-nil
 pub buffer_appends : (now new : Written) (a b : List ℕ) → IsUtf8 a → now.text ≡ chars a →
     now.refused ≡ false →
     new.text ≡ chars (a ++ b) → new.refused ≡ false → Appends now (chars b) new
-buffer_appends now new a b u s f t g = record {
-  appended = t ∙ (chars-append a b u ∙ ap (λ (x : List ℕ). x ++ chars b) (sym s));
-  same_flag = g ∙ sym f;
-  only_empty = λ h. cc;
-}
+buffer_appends now new a b u s f t g = grind (arith, chars-append)
 
 pub chars-encode : (c : ℕ) → IsScalar c → chars (encode_utf8 c) ≡ c ∷ []
-chars-encode c s = let nil : encode_utf8 c ≡ encode_utf8 c
-    ++ [] = sym (append-nil (encode_utf8 c)) in
-    chars_past_char (encode_utf8 c) [] c (IsUtf8-encode c s) nil
+chars-encode c s =
+    chars_past_char (encode_utf8 c) [] c (IsUtf8-encode c s) (sym (append-nil (encode_utf8 c)))
     ∙ ap (λ (x : List ℕ). c ∷ x) chars-nil
 
 pub ruleset one_character = chars-encode
@@ -56,8 +47,7 @@ whatever_limit limit after now new text (Err r) p = p
 
 pub stays_within : (limit after : Option ℕ) (now new : Written) →
     StaysWithin limit after now new → new ≡ now
-stays_within None after now new p = p
-stays_within (Some most) after now new p = p.0
+stays_within limit after now new p = grind arith
 
 -- nothing was taken of a text that is not empty
 pub refuses_all : (now new : Written) (text : List ℕ) → 0 < length text → new.text ≡ now.text →
@@ -80,7 +70,7 @@ pub chars_nonempty : (bytes : List ℕ) → IsUtf8 bytes → 0 < length bytes �
 chars_nonempty bytes u ne = at (chars bytes) (encodes-chars bytes u)
   where
     at : (cs : List ℕ) → encode_utf8_all cs ≡ bytes → 0 < length cs
-    at [] e = let h : length bytes ≡ 0 = sym (ap length e) in absurd (omega arith)
+    at [] e = absurd (omega (arith, ap length e))
     at (c ∷ cs) e = omega arith
 
 -- what a buffer took of a text, or did not
@@ -100,26 +90,15 @@ buffer_writes old bytes after more text refused refused_after (Ok x) u e t n ok 
 buffer_writes old bytes after more text refused refused_after (Err refusal) u e t n ok err none =
     rw (← e, none) (refuses_all _ _ text n (ap chars err.0) err.1)
 
--- a buffer whose `String` has no room may refuse
-pub may_refuse : (old : Buffered) (bytes : List ℕ) (room count : ℕ) (refused : Bool)
-    (answer : Result (Unit {0}) Refusal) → IsUtf8 bytes →
-    record { text = chars bytes; refused = refused; room = room } ≡ old →
-    OnErr answer ((refused ≡ true) ⊎ (room < length bytes + count)) →
-    OnErr answer (MayRefuse old count)
-may_refuse old bytes room count refused (Ok x) u e h = tt
-may_refuse old bytes room count refused (Err r) u e h = rw (← e, encodes-chars bytes u) h
-
 -- the room of a `String` for this many more bytes, by its characters
 pub ready_for : (after : List ℕ) (room count : ℕ) (refused refused_after : Bool)
     (answer : Result (Unit {0}) Refusal) → IsUtf8 after →
     OnOk answer ((refused_after ≡ refused) × (length after + count ≤ room)) →
     OnOk answer (byte_count (chars after) + count ≤ room)
-ready_for after room count refused refused_after (Ok x) u h = rw (encodes-chars after u) h.1
-ready_for after room count refused refused_after (Err r) u h = tt
+ready_for after room count refused refused_after answer u h = grind (arith, encodes-chars)
 
 -- and the lack of it
 pub lacks_room : (bytes : List ℕ) (room count : ℕ) (answer : Result (Unit {0}) Refusal) →
     IsUtf8 bytes → OnErr answer (room < length bytes + count) →
     OnErr answer (room < byte_count (chars bytes) + count)
-lacks_room bytes room count (Ok x) u h = tt
-lacks_room bytes room count (Err r) u h = rw (encodes-chars bytes u) h
+lacks_room bytes room count answer u h = grind (arith, encodes-chars)

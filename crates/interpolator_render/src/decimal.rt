@@ -59,7 +59,7 @@ fn put_after_point(buffer: &mut DigitBuffer, shown: DecimalDigits)
 }
 
 /// Writes a decimal without its sign.
-#[tactic(auto, using(crate::proofs::DigitBufferLemmas::grown_twice))]
+#[tactic(auto, using(crate::proofs::DecimalRowLemmas::split_steps))]
 #[inline(always)]
 fn put_split(buffer: &mut DigitBuffer, shown: DecimalDigits)
     requires fits { shown.part < 10 ^ shown.places }
@@ -119,6 +119,7 @@ fn part_str(part: u128, places: usize, buffer: &mut [u8; 128]) -> &str
 /// Writes a decimal part by part, which serves any width, scale and precision.
 #[cold]
 #[inline(never)]
+#[tactic(auto, using(crate::proofs::DecimalRowLemmas::decimal_body))]
 fn put_in_parts<W: TextWrite>(
     out: &mut W,
     spec: &Spec,

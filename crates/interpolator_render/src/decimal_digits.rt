@@ -76,6 +76,7 @@ pub(crate) fn short_split(units: u64, scale: usize) -> DecimalDigits
 }
 
 /// What is shown of units of 10 ^ -scale at a precision.
+#[tactic(auto, using(crate::proofs::DecimalLemmas::point_splits))]
 pub(crate) fn decimal_digits(units: u128, scale: u32, precision: Option<usize>) -> DecimalDigits
     ensures text { split_text result.whole result.part result.places result.zeros
         ≡ decimal_text precision scale units }

@@ -36,6 +36,7 @@ fn scale_of(scale: u32, units: u128) -> u32
 }
 
 /// What exponent form shows of units of 10 ^ -scale at a precision.
+#[tactic(auto, using(crate::proofs::DecimalRowLemmas::scaled_exponent))]
 fn scaled_shown(units: u128, scale: u32, precision: Option<usize>) -> ScaledShown
     ensures text { (upper : Bool) → shown_scaled upper result.shown.digits result.shown.zeros
         result.shown.exponent result.scale ≡ decimal_exponent_text upper precision scale units }
@@ -67,6 +68,7 @@ fn put_scaled_tail(buffer: &mut DigitBuffer, upper: bool, exponent: usize, scale
 
 /// Writes a decimal in exponent form, without its sign.
 #[inline(always)]
+#[tactic(auto, using(crate::proofs::DecimalRowLemmas::shown_scaled_steps))]
 fn put_scaled(buffer: &mut DigitBuffer, upper: bool, number: ScaledShown)
     requires small { number.shown.exponent ≤ 39 }
     requires few { number.shown.zeros ≤ 30 }
@@ -106,6 +108,7 @@ fn put_in_row<W: TextWrite>(
 /// Writes a decimal in exponent form part by part, which serves any width and precision.
 #[cold]
 #[inline(never)]
+#[tactic(auto, using(crate::proofs::ExponentRowLemmas::part_steps))]
 fn put_in_parts<W: TextWrite>(
     out: &mut W,
     upper: bool,

@@ -65,6 +65,7 @@ impl DigitBuffer {
     }
 
     /// Writes a byte in front.
+    #[tactic(auto, using(crate::proofs::DigitBufferLemmas::front_steps))]
     pub(crate) fn push_front(&mut self, byte: u8)
         requires ascii { byte < 128 }
         requires room { 1 ≤ self.old.before }
@@ -159,6 +160,7 @@ impl DigitBuffer {
     }
 
     /// Lengthens the text at its end by copies of the fill.
+    #[tactic(auto, using(crate::proofs::DigitBufferLemmas::after_grows))]
     pub(crate) fn pad_after(&mut self, count: usize)
         requires { count ≤ self.old.after }
         ensures { self.new ≡ put_after (replicate count self.old.fill) self.old }

@@ -17,7 +17,7 @@ pub(crate) const GREATEST_U64: u128 = 0xffff_ffff_ffff_ffff;
 /// the number fits 64 bits. Returns where the digits begin, and what is left.
 ///
 /// The rest is then divided as a `u64`, which costs a fraction of a division of a `u128`.
-#[tactic(auto, using(crate::proofs::DigitLemmas::digit_count_step))]
+#[tactic(auto, using(crate::proofs::DigitLemmas::wide_steps))]
 #[inline(always)]
 fn write_wide(n: u128, base: u64, upper: bool, end: usize, out: &mut [u8; 128]) -> (usize, u64)
     requires lowest { 2 ≤ base }
@@ -83,7 +83,7 @@ fn write_last_four(n: u64, base: u64, upper: bool, at: usize, out: &mut [u8; 128
 
 /// Writes digits of a number from the last one on, ending at the place `end` and four at a time,
 /// until one to four are left. Returns where the digits begin, and what is left of the number.
-#[tactic(auto, using(crate::proofs::DigitLemmas::four_count))]
+#[tactic(auto, using(crate::proofs::DigitLemmas::four_steps))]
 #[inline(always)]
 fn write_fours(n: u64, base: u64, upper: bool, end: usize, out: &mut [u8; 128]) -> (usize, u64)
     requires lowest { 2 ≤ base }
@@ -156,7 +156,7 @@ pub(crate) fn write_low(
 }
 
 /// As [`write_fours`], in base ten: two digits by each division, until one or two are left.
-#[tactic(auto, using(crate::proofs::DigitLemmas::pair_count))]
+#[tactic(auto, using(crate::proofs::DigitLemmas::pair_steps))]
 #[inline(always)]
 fn write_pairs(n: u64, end: usize, out: &mut [u8; 128]) -> (usize, u64)
     requires place { end ≤ 128 }
@@ -181,7 +181,7 @@ fn write_pairs(n: u64, end: usize, out: &mut [u8; 128]) -> (usize, u64)
 }
 
 /// As [`write_ones`], in base ten and of a number of any width.
-#[tactic(auto, using(crate::proofs::DigitLemmas::low_count))]
+#[tactic(auto, using(crate::proofs::DigitLemmas::low_decimal_steps))]
 #[inline(always)]
 pub(crate) fn write_low_decimal(n: u128, end: usize, out: &mut [u8; 128]) -> (usize, u64)
     requires place { end ≤ 128 }

@@ -57,6 +57,7 @@ pub(crate) fn put_leading(buffer: &mut DigitBuffer, digits: u128, zeros: usize)
 
 /// Writes a number in exponent form, without its sign.
 #[inline(always)]
+#[tactic(auto, using(crate::proofs::ExponentRowLemmas::shown_steps))]
 fn put_shown(buffer: &mut DigitBuffer, upper: bool, shown: Shown)
     requires small { shown.exponent ≤ 39 }
     requires few { shown.zeros ≤ 40 }
@@ -95,6 +96,7 @@ fn put_in_row<W: TextWrite>(
 /// Writes a number in exponent form part by part, which serves any width and precision.
 #[cold]
 #[inline(never)]
+#[tactic(auto, using(crate::proofs::ExponentRowLemmas::part_steps))]
 fn put_in_parts<W: TextWrite>(
     out: &mut W,
     upper: bool,
@@ -122,6 +124,7 @@ fn put_in_parts<W: TextWrite>(
 
 /// Writes a number in exponent form.
 #[inline(never)]
+#[tactic(auto, using(crate::proofs::ExponentRowLemmas::shown_exponent))]
 pub(crate) fn put_exponent<W: TextWrite>(
     out: &mut W,
     upper: bool,

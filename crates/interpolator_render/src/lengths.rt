@@ -129,6 +129,7 @@ fn most_text(wanted: Trait, most: usize) -> usize
 /// most_written(Trait::Binary, &Spec::default(), 10)   // 128: a number may be longer than the text
 /// most_written(Trait::Debug, &Spec::default(), 10)    // 62: six for each character, and two quotes
 /// ```
+#[tactic(auto, using(crate::proofs::LengthLemmas::most_told))]
 pub fn most_written(wanted: Trait, spec: &Spec, most: usize) -> usize
     ensures { result ≡ usize_count (most_written wanted spec.now most) }
 {

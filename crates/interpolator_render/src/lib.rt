@@ -52,6 +52,7 @@ mod value;
 mod view;
 
 pub use bounded::Bounded;
+pub use characters::char_count;
 pub use io_writer::IoWriter;
 pub use lengths::most_written;
 pub use rendering::{pad, render, render_plainly};

@@ -105,6 +105,7 @@ fn put_digits<W: TextWrite>(
 
 /// The digits of a number that has three.
 #[inline(always)]
+#[tactic(auto, using(crate::proofs::DigitLemmas::three_alone))]
 fn three_digits(n: u64) -> [u8; 3]
     requires least { 100 ≤ n }
     requires most { n < 1000 }
@@ -117,6 +118,7 @@ fn three_digits(n: u64) -> [u8; 3]
 /// Writes the digits of a number in a buffer. It is a call of its own, so that a short number is
 /// written without room for the buffer.
 #[inline(never)]
+#[tactic(auto, using(crate::proofs::DigitBufferLemmas::few_decimals))]
 fn put_many<W: TextWrite>(out: &mut W, n: u64) -> Result<(), Refusal>
     ensures { Puts (W.written out.old) (digit_text 10 false n) result (W.written out.new) }
 {
@@ -127,6 +129,7 @@ fn put_many<W: TextWrite>(out: &mut W, n: u64) -> Result<(), Refusal>
 
 /// Writes the digits of a number that has more than one.
 #[inline(never)]
+#[tactic(auto, using(crate::proofs::DigitLemmas::pair_texts))]
 fn put_several<W: TextWrite>(out: &mut W, n: u64) -> Result<(), Refusal>
     requires { 10 ≤ n }
     ensures { Puts (W.written out.old) (digit_text 10 false n) result (W.written out.new) }
@@ -184,6 +187,7 @@ pub(crate) fn put_bare_signed<W: TextWrite>(out: &mut W, number: i64) -> Result<
 
 /// Whether a spec adds nothing to a number in base ten but a minus if it is negative, nor to a
 /// decimal of its own scale.
+#[tactic(auto, using(crate::proofs::NumberLemmas::bare_texts))]
 pub(crate) fn is_bare(spec: &Spec) -> bool
     ensures number { result ≡ true → (negative : Bool) (n : ℕ) →
         number_text (NumberForm.Digits Radix.Decimal) spec.now negative n

@@ -94,6 +94,7 @@ fn front_len(form: NumberForm, spec: &Spec, negative: bool) -> usize
 
 /// Writes sign and prefix in front of a number's body, and pads it.
 #[inline(always)]
+#[tactic(auto, using(crate::proofs::NumberLemmas::row_paddings))]
 pub(crate) fn put_around(buffer: &mut DigitBuffer, form: NumberForm, spec: &Spec, negative: bool)
     requires { IsNumberRow spec.now buffer.old }
     ensures { buffer.new.text

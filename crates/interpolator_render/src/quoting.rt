@@ -83,6 +83,7 @@ fn is_escaped(quote: char, byte: u8) -> bool
 }
 
 /// Writes a run of characters as they are, and the escaped one after it.
+#[tactic(auto, using(crate::proofs::LayoutLemmas::run_outcomes))]
 fn put_run<W: TextWrite>(out: &mut W, quote: char, run: &str, c: char) -> Result<(), Refusal>
     ensures { Writes (W.written out.old) (chars run.now ++ escape_of quote c) result
         (W.written out.new) }

@@ -42,6 +42,7 @@ use crate::view::{RenderFault, Spec, Trait, View};
 /// // appends " é "
 /// ```
 #[inline(always)]
+#[tactic(auto, using(crate::proofs::RenderingLemmas::displayed_as_it_is))]
 pub fn pad<W: TextWrite>(out: &mut W, text: &str, spec: &Spec) -> Result<(), Refusal>
     ensures { Puts (W.written out.old) (displayed_text spec.now (chars text.now)) result
         (W.written out.new) }

@@ -169,6 +169,7 @@ impl TextBuffer {
 impl TextBuffer {
     /// Appends a character that is not ASCII or for which no place is ready.
     #[inline(never)]
+    #[tactic(auto, using(crate::proofs::WrittenLemmas::one_character))]
     fn append_encoded(&mut self, c: char) -> Result<(), Refusal>
         ensures written { MatchResult result
             (λ _. Appends (as_writer self.old) (c ∷ []) (as_writer self.new))

@@ -1,6 +1,6 @@
+use Rattle.std.proofs.Common.{arith}
 use Rattle.std.proofs.lemmas.Str.{IsCharBoundary-start}
 use Rattle.interpolator_render.proofs.bounded.append_beginning.Goals as goal
 
 pub returns-in-Err-clause-boundary : goal.returns-in-Err-clause-boundary
-returns-in-Err-clause-boundary c =
-    rw c.in-Err.ensures.taken (IsCharBoundary-start c.args.text.now c.utf8.text)
+returns-in-Err-clause-boundary c = grind (arith, IsCharBoundary-start)

@@ -8,16 +8,13 @@ pub walk-init : goal.walk-init
 walk-init c = rw c.chars-rest.ensures.rest (walked_none c.args.text.now c.utf8.text)
 
 pub walk-preserved : goal.walk-preserved
-walk-preserved c = walked_more _ _ _ c.walk.done c.in-Some.field-0 c.in-Some.ensures.steps.0
-    c.walk.invariant
+walk-preserved c = grind (arith, walked_more)
 
 pub range-requires-clause-end_boundary : goal.range-requires-clause-end_boundary
 range-requires-clause-end_boundary c = rw c.as_str.ensures (walked_boundary _ _ _ c.walk.invariant)
 
 pub returns-clause-text : goal.returns-clause-text
-returns-clause-text c = let e : c.walk.done ≡ c.args.count = omega arith in
-    rw (c.range.ensures.value, between_from_start, c.as_str.ensures)
-    (walked_end _ _ c.args.count (rw e at c.walk.invariant))
+returns-clause-text c = grind (arith, between_from_start, walked_end)
 
 pub returns-clause-count : goal.returns-clause-count
 returns-clause-count c = let e : c.walk.done ≡ c.args.count = omega arith in

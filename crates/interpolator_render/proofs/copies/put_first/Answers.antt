@@ -7,9 +7,7 @@ use Rattle.interpolator_render.proofs.WrittenLemmas.{whatever_limit}
 use Rattle.interpolator_render.proofs.copies.put_first.Goals as goal
 
 pub range-requires-clause-end_boundary : goal.range-requires-clause-end_boundary
-range-requires-clause-end_boundary g c =
-    let s : IsScalar c.args.c = search rules in
-    rw (c.requires.copies, c.requires.unit) (copies_boundary c.args.c c.args.count s c.requires.few)
+range-requires-clause-end_boundary g c = grind (arith, copies_boundary)
 
 pub returns : goal.returns
 returns g c =

@@ -1,16 +1,12 @@
 use Rattle.std.proofs.Common.{◌≡◌, ◌-◌, arith, refl}
 use Rattle.std.proofs.lemmas.List.{length-replicate}
-use Rattle.std.proofs.lemmas.Result.{err_from_is_err_and}
 use Rattle.interpolator_render.proofs.CopyLemmas.{copies_more, copies_stop}
 use Rattle.interpolator_render.proofs.LayoutLemmas.{refused_whole}
 use Rattle.interpolator_render.proofs.WrittenLemmas.{stays_within}
 use Rattle.interpolator_render.proofs.copies.put_runs.Goals as goal
 
 pub returns-in_err-reserve : goal.returns-in_err-reserve
-returns-in_err-reserve g c =
-    let p = err_from_is_err_and c.from_residual.result c.from_residual.ensures.1 in
-    let some = length-replicate c.args.count c.args.run.c in
-    rw (p.1, p.2) (refused_whole _ _ _ _ (omega (arith, some)) c.in_err-reserve.ensures)
+returns-in_err-reserve g c = grind (arith, length-replicate, refused_whole)
 
 pub returns-in-Err : goal.returns-in-Err
 returns-in-Err g c = let l = c.loop-left in rw (← stays_within _ _ _ _ c.in_ok-reserve.ensures)

@@ -5,29 +5,19 @@ use Rattle.interpolator_render.proofs.DecimalRowLemmas.{nothing_placed, part_dig
 use Rattle.interpolator_render.proofs.decimal.put_placed.Goals as goal
 
 pub returns-then-places-eq0 : goal.returns-then-places-eq0
-returns-then-places-eq0 c = nothing_placed c.args.places c.args.part _ c.if-places-eq0.true
+returns-then-places-eq0 c = grind (arith, nothing_placed)
 
 pub put_decimal-requires : goal.put_decimal-requires
-put_decimal-requires c =
-    let digits = part_digits c.args.places c.args.part (omega arith) c.requires.fits in omega arith
+put_decimal-requires c = grind (arith, part_digits)
 
 pub overflow_sub-count : goal.overflow_sub-count
-overflow_sub-count c =
-    let text = ap (λ (r : Buffered). length r.text) c.put_decimal.ensures in
-    let sum = length-append (digit_text 10 false c.args.part) c.args.buffer.now.text in omega arith
+overflow_sub-count c = grind (arith, length-append)
 
 pub overflow_sub-missing : goal.overflow_sub-missing
-overflow_sub-missing c =
-    let text = ap (λ (r : Buffered). length r.text) c.put_decimal.ensures in
-    let sum = length-append (digit_text 10 false c.args.part) c.args.buffer.now.text in
-    let digits = part_digits c.args.places c.args.part (omega arith) c.requires.fits in omega arith
+overflow_sub-missing c = grind (arith, length-append, part_digits)
 
 pub put_zeros-requires : goal.put_zeros-requires
-put_zeros-requires c =
-    let text = ap (λ (r : Buffered). length r.text) c.put_decimal.ensures in
-    let before = ap (λ (r : Buffered). r.before) c.put_decimal.ensures in
-    let sum = length-append (digit_text 10 false c.args.part) c.args.buffer.now.text in
-    let digits = part_digits c.args.places c.args.part (omega arith) c.requires.fits in omega arith
+put_zeros-requires c = grind (arith, length-append, part_digits)
 
 pub returns : goal.returns
 returns c =

@@ -1,4 +1,4 @@
-use Rattle.std.proofs.Common.{◌∙◌, arith}
+use Rattle.std.proofs.Common.{arith}
 use Rattle.interpolator_render.proofs.DigitLemmas.{low_written, take_less}
 use Rattle.interpolator_render.proofs.digits.write_low.Goals as goal
 
@@ -15,9 +15,4 @@ returns-clause-written c = let many = c.write_fours-at in let ones = c.write_one
     c.args.out.now c.requires.lowest ones.ensures.leads ones.ensures.written many.ensures.written).1
 
 pub returns-clause-front : goal.returns-clause-front
-returns-clause-front c =
-    let many = c.write_fours-at in
-    let ones = c.write_ones in
-    let begins = ones.ensures.begins in
-    ones.ensures.front ∙ take_less _ many.result.0 many.new.out c.args.out.now (omega arith)
-    many.ensures.front
+returns-clause-front c = grind (arith, take_less)

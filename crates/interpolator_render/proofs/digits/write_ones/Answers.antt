@@ -1,5 +1,4 @@
-use Rattle.std.proofs.Common.{◌≡◌, ◌∙◌, ◌<◌, ◌≤◌, ◌-◌, Bool, drop, ◌++◌, List, ℕ, ◌∷◌}
-use Rattle.std.proofs.Common.{arith}
+use Rattle.std.proofs.Common.{◌≡◌, ◌<◌, ◌≤◌, Bool, drop, ◌++◌, List, ℕ, ◌∷◌, arith}
 use Rattle.std.specs.Fmt.{digit_glyph}
 use Rattle.interpolator_render.specs.Digits.{digit_text}
 use Rattle.interpolator_render.proofs.DigitLemmas.{digit_text_some, digit_count_step}
@@ -7,20 +6,7 @@ use Rattle.interpolator_render.proofs.DigitLemmas.{digit_text_one, led, take_les
 use Rattle.interpolator_render.proofs.digits.write_ones.Goals as goal
 
 pub loop-rest-preserved : goal.loop-rest-preserved
-loop-rest-preserved c =
-    let l = c.loop-rest in
-    let put = c.write_last-rest in
-    let begins = l.invariant.begins in
-    let step = digit_count_step c.args.base l.rest c.args.upper c.requires.lowest
-    c.loop-rest-test.true in
-    record {
-      place = omega arith;
-      size = put.array_long;
-      begins = rw put.ensures.rest (omega arith);
-      written = put.ensures.written ∙ l.invariant.written;
-      front = put.ensures.front ∙ take_less (l.at - 1) l.at l.out c.args.out.now (omega arith)
-          l.invariant.front;
-    }
+loop-rest-preserved c = grind (arith, digit_count_step, take_less)
 
 -- the last that is left is the first
 one_left : (base n rest at end : ℕ) (upper : Bool) (out old : List ℕ) → 2 ≤ base → rest < base →
@@ -32,9 +18,7 @@ one_left base n rest at end upper out old b h e =
     (digit_text_some base n upper b) (rw (digit_text_one base rest upper b h) at e)
 
 pub returns-clause-leads : goal.returns-clause-leads
-returns-clause-leads c = let l = c.loop-rest in
-    (one_left c.args.base c.args.n l.rest l.at c.args.end c.args.upper l.out c.args.out.now
-    c.requires.lowest (omega arith) l.invariant.written).0
+returns-clause-leads c = grind (arith, one_left)
 
 pub returns-clause-written : goal.returns-clause-written
 returns-clause-written c = let l = c.loop-rest in

@@ -1,4 +1,4 @@
-use Rattle.std.proofs.Common.{◌≡◌, ◌<◌, length, get_or, arith}
+use Rattle.std.proofs.Common.{◌<◌, length, get_or, arith}
 use Rattle.std.proofs.lemmas.Result.{err_from_is_err_and}
 use Rattle.interpolator_render.specs.Quoting.{escape_of}
 use Rattle.interpolator_render.proofs.QuotingLemmas.{escaped_wide, runs_none, runs_plain}
@@ -42,10 +42,4 @@ loop-index-preserved g c =
     ]
 
 pub returns : goal.returns
-returns g c =
-    let bytes = c.as_bytes-bytes.ensures.value in
-    let all : c.loop-index.index ≡ length c.as_bytes-bytes.result.now = omega arith in
-    let whole : c.loop-index.index ≡ length c.args.text.now = rw bytes at all in
-    runs_last (escape_of c.args.quote) c.args.text.now c.loop-index.start _ _ _ c.put_text.result
-    (λ x. escaped_wide c.args.quote x c.requires) c.utf8.text
-    (rw whole at c.loop-index.invariant) (rw c.range_from.ensures.value at c.put_text.ensures)
+returns g c = grind (arith, runs_last, escaped_wide)

@@ -1,15 +1,10 @@
-use Rattle.std.proofs.Common.{string_bytes}
+use Rattle.std.proofs.Common.{arith}
 use Rattle.std.proofs.lemmas.Str.{IsUtf8-string_bytes}
 use Rattle.interpolator_render.proofs.WrittenLemmas.{ready_for, lacks_room}
 use Rattle.interpolator_render.proofs.bounded.BoundedTextWrite.reserve.Goals as goal
 
 pub returns-clause-ready : goal.returns-clause-ready
-returns-clause-ready c = let put = c.make_room in
-    rw (← c.left.ensures.left, ← c.min-fitting.ensures)
-    (ready_for _ _ _ _ _ put.result (IsUtf8-string_bytes put.new.held) put.ensures.ok)
+returns-clause-ready c = grind (arith, ready_for, IsUtf8-string_bytes)
 
 pub returns-clause-full : goal.returns-clause-full
-returns-clause-full c =
-    rw (← c.left.ensures.left, ← c.min-fitting.ensures, ← c.self.view_is)
-    (lacks_room (string_bytes c.self.inside.text) _ _ c.make_room.result
-    (IsUtf8-string_bytes c.self.inside.text) c.make_room.ensures.full)
+returns-clause-full c = grind (arith, lacks_room, IsUtf8-string_bytes)

@@ -1,7 +1,7 @@
-use Rattle.std.proofs.Common.{◌≡◌, [], ◌∷◌, ap, sym, refl, length, append-nil, arith, rules}
+use Rattle.std.proofs.Common.{◌≡◌, [], ◌∷◌, ap, length, append-nil, arith, rules}
 use Rattle.std.proofs.Common.{encode_utf8, string_bytes}
 use Rattle.std.proofs.lemmas.Str.{IsUtf8-string_bytes}
-use Rattle.interpolator_render.specs.Bounds.{BoundedText, bounded_writer}
+use Rattle.interpolator_render.specs.Bounds.{bounded_writer}
 use Rattle.interpolator_render.proofs.WrittenLemmas.{buffer_writes, chars-encode, refuses_all}
 use Rattle.interpolator_render.proofs.BoundLemmas.{refused_under_bound, within_after, within_bytes}
 use Rattle.interpolator_render.proofs.BoundLemmas.{character_over_bound, left_after}
@@ -26,15 +26,8 @@ returns-then-len_utf8-self-clause-left c = let put = c.append_char in
     (ap length (append-nil (encode_utf8 c.args.c))) (omega arith) put.ensures.ok
 
 pub returns-then-len_utf8-self-clause-why : goal.returns-then-len_utf8-self-clause-why
-returns-then-len_utf8-self-clause-why c = let put = c.append_char in
-    let size : c.len_utf8.result ≡ length (encode_utf8 c.args.c) = search rules in
-    let held : c.len.result ≡ length (string_bytes c.self.inside.text) = search rules in
-    let within = c.self.invariant in
-    let fits = c.if-len_utf8-self.true in
-    refused_under_bound _ _ (string_bytes c.self.inside.text) _ c.self.inside.refused _ _ _ _
-    (length (encode_utf8 c.args.c)) put.result (IsUtf8-string_bytes c.self.inside.text)
-    (ap length (sym (append-nil (encode_utf8 c.args.c)))) c.self.view_is (omega arith)
-    put.ensures.err put.ensures.full
+returns-then-len_utf8-self-clause-why c =
+    grind (arith, refused_under_bound, IsUtf8-string_bytes, append-nil)
 
 pub returns-then-len_utf8-self-clause-within : goal.returns-then-len_utf8-self-clause-within
 returns-then-len_utf8-self-clause-within c = let put = c.append_char in
@@ -46,8 +39,7 @@ returns-then-len_utf8-self-clause-within c = let put = c.append_char in
     _ _ put.result (IsUtf8-string_bytes put.new.held) (omega arith) put.ensures.ok put.ensures.err
 
 pub returns-clause-written : goal.returns-clause-written
-returns-clause-written c =
-    refuses_all _ _ _ (omega arith) (ap (λ (b : BoundedText). b.text) c.self.view_is) refl
+returns-clause-written c = grind (arith, refuses_all)
 
 pub returns-clause-why : goal.returns-clause-why
 returns-clause-why c =
@@ -58,6 +50,4 @@ returns-clause-why c =
     (IsUtf8-string_bytes c.self.inside.text) c.self.view_is (omega arith)
 
 pub returns-clause-within : goal.returns-clause-within
-returns-clause-within c =
-    within_bytes (string_bytes c.self.inside.text) _ (IsUtf8-string_bytes c.self.inside.text)
-    c.self.invariant
+returns-clause-within c = grind (arith, within_bytes, IsUtf8-string_bytes)

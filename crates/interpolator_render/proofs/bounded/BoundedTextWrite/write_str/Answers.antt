@@ -1,7 +1,6 @@
-use Rattle.std.proofs.Common.{◌≡◌, ◌-◌, ap, sym, refl, ◌∙◌, length, arith, rules, string_bytes}
-use Rattle.std.proofs.Common.{chars}
+use Rattle.std.proofs.Common.{◌≡◌, ◌-◌, ap, refl, length, arith, rules, string_bytes}
 use Rattle.std.proofs.lemmas.Str.{IsUtf8-string_bytes, encodes-chars}
-use Rattle.interpolator_render.specs.Bounds.{BoundedText, bounded_writer}
+use Rattle.interpolator_render.specs.Bounds.{bounded_writer}
 use Rattle.interpolator_render.proofs.WrittenLemmas.{appends_nothing, buffer_writes, chars_nonempty}
 use Rattle.interpolator_render.proofs.BoundLemmas.{refused_under_bound, within_after, within_bound}
 use Rattle.interpolator_render.proofs.BoundLemmas.{beginning_refused, refused_over_bound}
@@ -24,9 +23,7 @@ returns-then-text-left-clause-written c = let put = c.append in
     put.ensures.taken
 
 pub returns-then-is_empty-clause-left : goal.returns-then-is_empty-clause-left
-returns-then-is_empty-clause-left c =
-    let empty : length c.args.text.now ≡ 0 = search rules in
-    rw (encodes-chars c.args.text.now c.utf8.text) (omega (arith, empty))
+returns-then-is_empty-clause-left c = grind (arith, encodes-chars)
 
 pub returns-then-text-left-clause-left : goal.returns-then-text-left-clause-left
 returns-then-text-left-clause-left c = let put = c.append in
@@ -39,14 +36,8 @@ returns-then-text-left-clause-left c = let put = c.append in
     put.ensures.ok
 
 pub returns-then-text-left-clause-why : goal.returns-then-text-left-clause-why
-returns-then-text-left-clause-why c = let put = c.append in
-    let held : c.len.result ≡ length (string_bytes c.self.inside.text) = search rules in
-    let within = c.self.invariant in
-    let fits = c.if-text-left.true in
-    refused_under_bound _ _ (string_bytes c.self.inside.text) _ c.self.inside.refused _ _ _ _
-    (length c.args.text.now) put.result (IsUtf8-string_bytes c.self.inside.text)
-    (ap length (sym (encodes-chars c.args.text.now c.utf8.text))) c.self.view_is (omega arith)
-    put.ensures.err put.ensures.full
+returns-then-text-left-clause-why c =
+    grind (arith, refused_under_bound, IsUtf8-string_bytes, encodes-chars)
 
 pub returns-then-text-left-clause-within : goal.returns-then-text-left-clause-within
 returns-then-text-left-clause-within c = let put = c.append in
@@ -57,13 +48,7 @@ returns-then-text-left-clause-within c = let put = c.append in
     put.result (IsUtf8-string_bytes put.new.held) (omega arith) put.ensures.ok put.ensures.err
 
 pub returns-clause-written : goal.returns-clause-written
-returns-clause-written c = let put = c.append_beginning in
-    let over = c.if-text-left.false in let fits = put.ensures.fits in
-    beginning_refused _ _ (string_bytes c.self.inside.text) c.args.text.now put.result.taken
-    (IsUtf8-string_bytes c.self.inside.text) c.utf8.text
-    (sym (ap (λ (b : BoundedText). b.text) c.self.view_is)) (ap chars put.ensures.bytes)
-    put.ensures.flag put.ensures.boundary (omega arith)
-    (λ h. put.ensures.none (ap (λ (b : BoundedText). b.refused) c.self.view_is ∙ h))
+returns-clause-written c = grind (arith, beginning_refused, IsUtf8-string_bytes)
 
 pub returns-clause-why : goal.returns-clause-why
 returns-clause-why c = let put = c.append_beginning in

@@ -1,11 +1,10 @@
-use Rattle.std.proofs.Common.{refl, ◌∙◌, append-nil}
+use Rattle.std.proofs.Common.{arith, refl, ◌∙◌, append-nil}
 use Rattle.std.proofs.lemmas.Str.{chars-nil}
 use Rattle.interpolator_render.proofs.IoWriterLemmas.{hands_part}
 use Rattle.interpolator_render.proofs.io_writer.IoWriter.hand_on.Goals as goal
 
 pub returns-in-Ok-clause-text : goal.returns-in-Ok-clause-text
-returns-in-Ok-clause-text g c =
-    rw (c.and-self.ensures, c.clear.ensures.bytes, chars-nil) (append-nil _)
+returns-in-Ok-clause-text g c = grind (arith, chars-nil, append-nil)
 
 pub returns-in-Err-clause-err : goal.returns-in-Err-clause-err
 returns-in-Err-clause-err g c = (

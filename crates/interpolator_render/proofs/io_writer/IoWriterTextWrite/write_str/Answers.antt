@@ -1,4 +1,4 @@
-use Rattle.std.proofs.Common.{ap, refl, rules, string_bytes}
+use Rattle.std.proofs.Common.{arith, ap, refl, rules, string_bytes}
 use Rattle.std.proofs.lemmas.Str.{IsUtf8-string_bytes}
 use Rattle.interpolator_render.specs.Written.{Written}
 use Rattle.interpolator_render.proofs.IoWriterLemmas.{hands_more, prefix_after, prefix_refused}
@@ -25,9 +25,7 @@ returns-in-Ok-clause-passed_on g c =
     c.in-Ok.ensures.ok.1 refl c.append.ensures.ok c.append.ensures.err
 
 pub returns-in-Err-clause-written : goal.returns-in-Err-clause-written
-returns-in-Err-clause-written g c =
-    refuses_whole _ _ _ _ (chars_nonempty c.args.text.now c.utf8.text (search rules))
-    c.in-Err.ensures.err.0
+returns-in-Err-clause-written g c = grind (arith, refuses_whole, chars_nonempty)
 
 pub returns-in-Ok-clause-history : goal.returns-in-Ok-clause-history
 returns-in-Ok-clause-history g c =

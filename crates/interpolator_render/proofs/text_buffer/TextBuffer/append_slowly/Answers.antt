@@ -1,19 +1,13 @@
-use Rattle.std.proofs.Common.{◌≡◌, ◌+◌, ◌<◌, ◌++◌, ◌∙◌, ap, arith, inr, chars, false, length}
-use Rattle.std.proofs.Common.{take, List, ℕ, refl}
-use Rattle.interpolator_render.specs.Written.{Buffered, as_writer}
+use Rattle.std.proofs.Common.{◌≡◌, ◌+◌, ◌<◌, ◌++◌, ◌∙◌, ap, arith, inr, false, length}
+use Rattle.std.proofs.Common.{take, List, ℕ}
+use Rattle.interpolator_render.specs.Written.{as_writer}
 use Rattle.interpolator_render.proofs.WrittenLemmas.{refuses_all, chars_nonempty}
 use Rattle.interpolator_render.proofs.PlaceLemmas.{kept_front, holds_both, appends_bytes}
 use Rattle.interpolator_render.proofs.PlaceLemmas.{lacks_places}
 use Rattle.interpolator_render.proofs.text_buffer.TextBuffer.append_slowly.Goals as goal
 
 pub returns-then-self-clause-written : goal.returns-then-self-clause-written
-returns-then-self-clause-written c =
-    let row = c.self.inside.bytes.items in
-    refuses_all _ _ (chars c.args.text.now)
-    (chars_nonempty c.args.text.now c.utf8.text c.requires)
-    (ap chars (kept_front row c.truncate.new.self.items c.self.inside.len c.truncate.ensures.items)
-    ∙ ap (λ (b : Buffered). b.text) c.self.view_is)
-    c.if-self.true
+returns-then-self-clause-written c = grind (arith, refuses_all, chars_nonempty, kept_front)
 
 pub invariant_of-self-in-Ok : goal.invariant_of-self-in-Ok
 invariant_of-self-in-Ok c =
@@ -51,14 +45,7 @@ returns-in-Ok-clause-written c =
     (λ set. cc)
 
 pub returns-in-Err-clause-written : goal.returns-in-Err-clause-written
-returns-in-Err-clause-written c =
-    let row = c.self.inside.bytes.items in
-    refuses_all _ _ (chars c.args.text.now)
-    (chars_nonempty c.args.text.now c.utf8.text c.requires)
-    (ap chars (kept_front row c.extend_from_slice.new.self.items c.self.inside.len
-    (c.in-Err.ensures.items ∙ c.truncate.ensures.items))
-    ∙ ap (λ (b : Buffered). b.text) c.self.view_is)
-    refl
+returns-in-Err-clause-written c = grind (arith, refuses_all, chars_nonempty, kept_front)
 
 pub returns-in-Err-clause-full : goal.returns-in-Err-clause-full
 returns-in-Err-clause-full c =

@@ -1,5 +1,4 @@
-use Rattle.std.proofs.Common.{◌≡◌, ◌<◌, ◌∙◌, true, sym, ap, subst, arith}
-use Rattle.std.proofs.Common.{chars, length, IsUtf8}
+use Rattle.std.proofs.Common.{◌≡◌, ◌<◌, ◌∙◌, true, sym, ap, subst, arith, chars, length, IsUtf8}
 use Rattle.std.specs.Char.{is_ascii}
 use Rattle.std.proofs.lemmas.Str.{IsUtf8-encode}
 use Rattle.interpolator_render.specs.Written.{as_writer}
