@@ -1,7 +1,6 @@
 -- What the fault of an argument can be and where it lies; and that an argument has one outcome.
 use Rattle.std.proofs.Common.{◌≡◌, ℕ, ◌≤◌, List, length, drop, arith, refl, ◌∙◌, sym, inl, inr, ◌⊎◌}
-use Rattle.std.proofs.Common.{Result, Ok, Err, length-drop}
-use Rattle.std.specs.Str.{IsUtf8, IsCharBoundary}
+use Rattle.std.proofs.Common.{Ok, Err, length-drop, IsUtf8, IsCharBoundary}
 use Rattle.std.proofs.lemmas.Str.{IsUtf8-drop}
 use Rattle.interpolator_syntax.specs.At.{At}
 use Rattle.interpolator_syntax.specs.Arguments.{Argument, argument_at, from_byte}
@@ -48,11 +47,8 @@ pub one_argument : (a q r : At) (x y : Argument) → IsArgument a x q → IsArgu
     → (x ≡ y) × (q ≡ r)
 one_argument a q r x y h k = same_ok (sym (only_argument a q x h) ∙ only_argument a r y k)
 
-err_same : {f g : Fault} → ◌≡◌ {A = Result (Argument × At) Fault} (Err f) (Err g) → f ≡ g
-err_same e = cc
-
 pub one_fault : (a : At) (f g : Fault) → IsNoArgument a f → IsNoArgument a g → f ≡ g
-one_fault a f g h k = err_same (sym (only_broken a f h) ∙ only_broken a g k)
+one_fault a f g h k = grind (arith, only_broken a f h, only_broken a g k)
 
 pub not_both : (a q : At) (x : Argument) (f : Fault) → IsArgument a x q → IsNoArgument a f → ⊥
 not_both a q x f h k = err_ok (sym (only_broken a f k) ∙ only_argument a q x h)

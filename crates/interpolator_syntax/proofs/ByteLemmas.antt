@@ -1,5 +1,5 @@
 -- The text up to the first of two ASCII characters, found by its bytes.
-use Rattle.std.proofs.Common.{◌≡◌, ℕ, suc, ◌+◌, ◌<◌, ◌≤◌, zero, Bool, true, false, not, cond, eqb}
+use Rattle.std.proofs.Common.{◌≡◌, ℕ, suc, ◌+◌, ◌<◌, ◌≤◌, zero, Bool, true, cond, eqb}
 use Rattle.std.proofs.Common.{List, [], ◌∷◌, ◌++◌, length, take, drop, get_or, arith, refl, ap, ◌∙◌}
 use Rattle.std.proofs.Common.{sym, ◌⊎◌, inl, inr, ◌||◌, ◌%◌, ◌^◌, Option, Some, None, bit_or}
 use Rattle.std.proofs.Common.{map, replicate, eqb-true}
@@ -9,7 +9,7 @@ use Rattle.std.specs.Char.{encode_utf8}
 use Rattle.std.specs.Str.{chars, IsUtf8, IsCharBoundary, encode_utf8_all}
 use Rattle.std.proofs.lemmas.Str.{encodes-chars, encode_ascii, chars_from_encodes, IsUtf8-take}
 use Rattle.std.proofs.lemmas.Str.{length-encode, len_utf8_bounds}
-use Rattle.std.proofs.lemmas.Str.{IsUtf8-drop, IsCharBoundary-before_ascii, IsCharBoundary-end}
+use Rattle.std.proofs.lemmas.Str.{IsUtf8-drop}
 use Rattle.std.proofs.lemmas.List.Sums.{position_or_len_is, fails_before_first, passes_at_first}
 use Rattle.std.proofs.lemmas.List.Sums.{prefix_len-le-length}
 use Rattle.std.proofs.lemmas.List.{get_or-take, length-take-le, length-map, length-drop}
@@ -22,12 +22,6 @@ use Rattle.interpolator_syntax.specs.Classes.{avoids, front_of, after_of}
 
 -- ---- a block's mask
 
-top_either : (s t : Bool) → top 7 (bit_or (cond s 255 0) (cond t 255 0)) ≡ (s || t)
-top_either true true = refl
-top_either true false = refl
-top_either false true = refl
-top_either false false = refl
-
 module _ (first second : ℕ) where
   abbrev IsEither : ℕ → Bool
   IsEither b = eqb b first || eqb b second
@@ -38,9 +32,7 @@ module _ (first second : ℕ) where
   tops : (xs : List ℕ)
       → map (top 7) (map (λ b. bit_or (Lane b first) (Lane b second)) xs) ≡ map IsEither xs
   tops [] = refl
-  tops (x ∷ xs) =
-      rw (top_either (eqb x first) (eqb x second)) (ap (λ (ms : List Bool). IsEither x ∷ ms)
-      (tops xs))
+  tops (x ∷ xs) = grind (arith, tops xs)
 
   abbrev Mask : List ℕ → ℕ → ℕ
   Mask xs n =
@@ -58,16 +50,11 @@ module _ (first second : ℕ) where
 
   pub no_hit : (xs : List ℕ) (n : ℕ) → length xs ≡ n → n ≤ 64 → Mask xs n ≡ 0
       → n ≡ position_or_len IsEither xs
-  no_hit xs n long room none =
-      sym (leading_from_mask_l IsEither xs (sym (mask_is xs n long room) ∙ none) ∙ long)
+  no_hit xs n long room none = grind (arith, leading_from_mask_l, mask_is)
 
   pub a_hit : (xs : List ℕ) (n : ℕ) → length xs ≡ n → n ≤ 64 → ¬ (Mask xs n ≡ 0)
       → count_trailing_zeros 64 (Mask xs n) ≡ position_or_len IsEither xs
-  a_hit xs n long room some =
-      let is = mask_is xs n long room in
-      let more : 0 < mask_l (map IsEither xs) = omega (arith, is, some) in
-      ap (count_trailing_zeros 64) is
-      ∙ trailing_mask_l IsEither 64 xs (omega (arith, long, room)) more
+  a_hit xs n long room some = grind (arith, mask_is, trailing_mask_l)
 
 -- the first that passes is as far from the end in the whole as in what is left of it
 abbrev pub SameFirst : (ℕ → Bool) → List ℕ → List ℕ → Type 0
@@ -92,28 +79,20 @@ less_after :
     (test : ℕ → Bool) (all rest left : List ℕ) (k : ℕ) → SameFirst test all rest
     → k ≤ position_or_len test rest → left ≡ drop k rest → SameFirst test all left
 less_after test all rest left k same low e =
-    let high : position_or_len test rest ≤ length rest = prefix_len-le-length _ rest in
-    let long = length-drop k rest in
-    let first = drop_before test k rest low in
-    rw e (omega (arith, long, same.0), omega (arith, long, low, high, first, same.1))
+    grind (arith, prefix_len-le-length, length-drop, drop_before)
 
 pub one_block_less :
     (test : ℕ → Bool) (all rest left : List ℕ) (n k : ℕ) → SameFirst test all rest
     → k ≡ position_or_len test (take n rest) → left ≡ drop k rest → SameFirst test all left
-one_block_less test all rest left n k same is e =
-    less_after test all rest left k same (omega (arith, is, take_before test n rest)) e
+one_block_less test all rest left n k same is e = grind (arith, less_after, take_before)
 
 pub first_or_all : (test : ℕ → Bool) (bs : List ℕ)
     → unwrap_or (position test bs) (length bs) ≡ position_or_len test bs
-first_or_all test bs =
-    let high : position_or_len test bs ≤ length bs = prefix_len-le-length _ bs in grind arith
+first_or_all test bs = grind (arith, prefix_len-le-length)
 
 pub found_nowhere : (test : ℕ → Bool) (all rest : List ℕ) → SameFirst test all rest
     → position test rest ≡ None → length all ≡ position_or_len test all
-found_nowhere test all rest same e =
-    let low : length rest ≤ position_or_len test rest = grind arith in
-    let high : position_or_len test rest ≤ length rest = prefix_len-le-length _ rest in
-    omega (arith, low, high, same.1)
+found_nowhere test all rest same e = grind (arith, prefix_len-le-length)
 
 -- ---- every byte of a character past ASCII is past ASCII
 
@@ -129,35 +108,25 @@ encode_high c h = grind arith
 head_high : (bs more : List ℕ) (b : ℕ) → AllHigh bs → 0 < length bs
     → slice_get (bs ++ more) 0 ≡ Some b → 128 ≤ b
 head_high [] more b h n e = absurd (omega arith)
-head_high (x ∷ xs) more b h n e = let same : x ≡ b = cc in omega (arith, same, h.0)
+head_high (x ∷ xs) more b h n e = grind arith
 
 pub encode_head : (c : ℕ) (more : List ℕ) (b : ℕ) → slice_get (encode_utf8 c ++ more) 0 ≡ Some b
     → min b 128 ≡ min c 128
-encode_head c more b e = elim (cases_lt c 128) [
-  | inl low ↦
-      let one : slice_get (c ∷ more) 0 ≡ Some b = rw (encode_ascii c low) at e in
-      let same : c ≡ b = cc in ap (λ n. min n 128) (sym same)
-  | inr high ↦
-      let some = len_utf8_bounds c in
-      let long = head_high (encode_utf8 c) more b (encode_high c high)
-      (omega (arith, length-encode c, some)) e in
-      omega (arith, high, long)
-]
+encode_head c more b e =
+    grind (arith, cases_lt, encode_ascii, len_utf8_bounds, head_high, encode_high, length-encode)
 
 -- ---- the front by bytes is the front by characters
 
 module _ (first second : ℕ) (low_first : first < 128) (low_second : second < 128) where
   -- a byte past ASCII is neither of the two
   avoids_high : (b : ℕ) → 128 ≤ b → avoids first second b ≡ true
-  avoids_high b h =
-      rw (ne_eqb b first (λ e. omega arith), ne_eqb b second (λ e. omega arith)) refl
+  avoids_high b h = grind (arith, ne_eqb)
 
   over : (xs ys : List ℕ) → AllHigh xs
       → (front_of (avoids first second) (xs ++ ys) ≡ xs ++ front_of (avoids first second) ys)
       × (after_of (avoids first second) (xs ++ ys) ≡ after_of (avoids first second) ys)
   over [] ys h = (refl, refl)
-  over (x ∷ xs) ys h =
-      let more = over xs ys h.1 in rw (avoids_high x h.0) (ap (λ zs. x ∷ zs) more.0, more.1)
+  over (x ∷ xs) ys h = grind (arith, avoids_high, over xs ys h.1)
 
   -- one more character, by how many bytes it takes
   bytes : (cs : List ℕ)
@@ -182,42 +151,27 @@ module _ (first second : ℕ) (low_first : first < 128) (low_second : second < 1
   one_more n = omega arith
 
   take_one : (n b : ℕ) (bs : List ℕ) → take (1 + n) (b ∷ bs) ≡ b ∷ take n bs
-  take_one n b bs = ap (λ k. take k (b ∷ bs)) (one_more n)
+  take_one n b bs = grind (arith, one_more)
 
   drop_one : (n b : ℕ) (bs : List ℕ) → drop (1 + n) (b ∷ bs) ≡ drop n bs
-  drop_one n b bs = ap (λ k. drop k (b ∷ bs)) (one_more n)
+  drop_one n b bs = grind (arith, one_more)
 
   at_cut : (bs : List ℕ)
       → (take (position_or_len Stops bs) bs ≡ front_of (avoids first second) bs)
       × (drop (position_or_len Stops bs) bs ≡ after_of (avoids first second) bs)
   at_cut [] = (refl, refl)
-  at_cut (b ∷ bs) =
-      let more = at_cut bs in (grind (arith, more.0, take_one), grind (arith, more.1, drop_one))
-
-  stop_is_ascii : (b : ℕ) → Stops b ≡ true → b < 128
-  stop_is_ascii b e = grind (arith, eqb-true)
+  at_cut (b ∷ bs) = grind (arith, take_one, drop_one, at_cut bs)
 
   -- the cut is at the end, or before an ASCII character
   abbrev Cuts : ℕ → List ℕ → Type 0
   Cuts n bs = (n ≡ length bs) ⊎ ((n < length bs) × (get_or bs n 0 < 128))
 
-  cuts_later : (n b : ℕ) (bs : List ℕ) → Cuts n bs → Cuts (1 + n) (b ∷ bs)
-  cuts_later n b bs (inl e) = inl (omega arith)
-  cuts_later n b bs (inr h) = rw (one_more n) (inr (omega (arith, h.0), h.1))
-
   cuts : (bs : List ℕ) → Cuts (position_or_len Stops bs) bs
   cuts [] = inl refl
-  cuts (b ∷ bs) =
-      cond_both (not (Stops b)) (1 + position_or_len Stops bs) 0 (λ n. Cuts n (b ∷ bs))
-      (λ e. cuts_later (position_or_len Stops bs) b bs (cuts bs))
-      (λ e. inr (omega arith, stop_is_ascii b (grind arith)))
+  cuts (b ∷ bs) = grind (arith, cond_both, one_more, eqb-true, cuts bs)
 
   pub cut_boundary : (bs : List ℕ) → IsCharBoundary bs (position_or_len Stops bs)
-  cut_boundary bs = by_cut (position_or_len Stops bs) (cuts bs)
-    where
-      by_cut : (n : ℕ) → Cuts n bs → IsCharBoundary bs n
-      by_cut n (inl e) = rw e (IsCharBoundary-end bs)
-      by_cut n (inr h) = IsCharBoundary-before_ascii bs n h.0 h.1
+  cut_boundary bs = grind (arith, cuts)
 
   -- the characters of the bytes up to the cut, and from it on
   pub chars_front : (bs : List ℕ) → IsUtf8 bs

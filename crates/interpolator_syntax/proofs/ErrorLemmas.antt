@@ -1,5 +1,5 @@
 -- An error with the bytes of a missing name, and with its characters: both say the same.
-use Rattle.std.proofs.Common.{◌≡◌, ℕ, List, refl, ap, sym, ◌∙◌, string_bytes, encode_utf8_all}
+use Rattle.std.proofs.Common.{◌≡◌, arith, ℕ, List, ap, sym, ◌∙◌, string_bytes, encode_utf8_all}
 use Rattle.std.specs.Str.{chars}
 use Rattle.std.proofs.lemmas.Str.{encodes-chars, IsUtf8-string_bytes}
 use Rattle.interpolator_syntax.specs.declared.error.Error.{Error}
@@ -18,16 +18,12 @@ with_name change answer = answer
 
 answer_of_bytes : (error : Error) → answer_of error ≡ with_name chars (byte_answer_of error)
 unfolding with_name
-answer_of_bytes (MissingValue _ _) = refl
-answer_of_bytes error = refl
+answer_of_bytes error = grind arith
 
 bytes_of_answer : (error : Error) →
     byte_answer_of error ≡ with_name encode_utf8_all (answer_of error)
 unfolding with_name
-bytes_of_answer (MissingValue name place) =
-    ap (λ bytes. fault (missing_value bytes place))
-    (sym (encodes-chars _ (IsUtf8-string_bytes name)))
-bytes_of_answer error = refl
+bytes_of_answer error = grind (arith, encodes-chars, IsUtf8-string_bytes)
 
 -- answers that are the same in bytes are the same in characters
 pub same_answers : (first second : Error) →

@@ -1,16 +1,12 @@
 -- What the first byte of a text says about its characters.
-use Rattle.std.proofs.Common.{◌≡◌, ℕ, ◌≤◌, List, [], ◌∷◌, arith, refl, ap, ◌∙◌, sym}
-use Rattle.std.proofs.Common.{Option, Some, None, length, Bool, true, false, eqb}
-use Rattle.std.specs.Prelude.{MatchOption, MatchBool}
-use Rattle.std.specs.List.{slice_get}
-use Rattle.std.specs.Str.{chars, IsUtf8, encode_utf8_all}
+use Rattle.std.proofs.Common.{◌≡◌, ℕ, ◌≤◌, List, [], ◌∷◌, arith, refl, ap, ◌∙◌, sym, Option, Some}
+use Rattle.std.proofs.Common.{None, length, Bool, eqb, MatchOption, MatchBool, slice_get, chars}
+use Rattle.std.proofs.Common.{IsUtf8, encode_utf8_all}
 use Rattle.std.proofs.lemmas.Str.{encodes-chars}
-use Rattle.std.proofs.lemmas.Bool.{eqb-true, true≢false}
 use Rattle.interpolator_syntax.specs.Classes.{front_of, after_of, in_class}
 use Rattle.interpolator_syntax.specs.SpecReads.{FirstByte}
 use Rattle.interpolator_syntax.specs.declared.class.Class.TheVariants.{WhiteSpace}
 use Rattle.interpolator_syntax.proofs.ByteLemmas.{encode_head}
-use Rattle.interpolator_syntax.proofs.CaseLemmas.{none_some}
 use Rattle.interpolator_syntax.proofs.CharacterLemmas.{no_text, chars_of_end}
 
 first_byte_at : (cs bs : List ℕ) (b : ℕ) → encode_utf8_all cs ≡ bs → slice_get bs 0 ≡ Some b
@@ -29,7 +25,7 @@ first_byte bs b u f = first_byte_at (chars bs) bs b (encodes-chars bs u) f
 
 no_first : (bs : List ℕ) → None ≡ slice_get bs 0 → bs ≡ []
 no_first [] e = refl
-no_first (b ∷ bs) e = absurd (none_some e)
+no_first (b ∷ bs) e = absurd (cc)
 
 pub byte_told : (bs : List ℕ) (o : Option ℕ) → IsUtf8 bs → o ≡ slice_get bs 0
     → MatchOption o (chars bs ≡ []) (λ b. FirstByte b (chars bs))
@@ -38,11 +34,7 @@ byte_told bs (Some b) u e = first_byte bs b u (sym e)
 
 no_space_at : (cs : List ℕ) (b : ℕ) → FirstByte b cs → 33 ≤ b → b ≤ 126
     → (front_of (in_class WhiteSpace) cs ≡ []) × (after_of (in_class WhiteSpace) cs ≡ cs)
-no_space_at [] b h low high = (refl, refl)
-no_space_at (c ∷ cs) b h low high =
-    let same : c ≡ h.char = cc in
-    let is : b ≡ c = omega (arith, same, h.same) in
-    (grind (arith, is), grind (arith, is))
+no_space_at cs b h low high = grind (arith, h.split, h.same)
 
 -- a text that begins with a visible ASCII character begins with no white space
 pub no_space : (bs : List ℕ) (b : ℕ) → IsUtf8 bs → slice_get bs 0 ≡ Some b → 33 ≤ b → b ≤ 126
@@ -50,12 +42,7 @@ pub no_space : (bs : List ℕ) (b : ℕ) → IsUtf8 bs → slice_get bs 0 ≡ So
     × (after_of (in_class WhiteSpace) (chars bs) ≡ chars bs)
 no_space bs b u e low high = no_space_at (chars bs) b (first_byte bs b u e) low high
 
-some_chars : (bs : List ℕ) → IsUtf8 bs → ¬ (length bs ≡ 0) → ¬ (chars bs ≡ [])
-some_chars bs u n e =
-    n (sym (ap length (encodes-chars bs u)) ∙ ap (λ (cs : List ℕ). length (encode_utf8_all cs)) e)
-
 -- whether a text ends at once, by its bytes
 pub ends_told : (bs : List ℕ) (r : Bool) → IsUtf8 bs → r ≡ eqb (length bs) 0
     → MatchBool r (chars bs ≡ []) (¬ (chars bs ≡ []))
-ends_told bs true u e = chars_of_end bs (eqb-true _ _ (sym e))
-ends_told bs false u e = some_chars bs u (λ n. true≢false (sym (e ∙ ap (λ k. eqb k 0) n)))
+ends_told bs r u e = grind (arith, chars_of_end bs, encodes-chars bs u, e)

@@ -1,19 +1,16 @@
 -- The longest front of one class, and the rest after it.
-use Rattle.std.proofs.Common.{◌≡◌, ℕ, ◌-◌, Bool, true, false, cond, List, [], ◌∷◌, ◌++◌, length}
-use Rattle.std.proofs.Common.{take, arith, refl, ap, ◌∙◌, sym, subst, append_assoc}
-use Rattle.std.specs.Str.{chars, IsUtf8, IsCharBoundary}
-use Rattle.std.specs.Char.{encode_utf8}
+use Rattle.std.proofs.Common.{◌≡◌, ℕ, ◌-◌, Bool, List, [], ◌∷◌, ◌++◌, length, take, arith, refl, ap}
+use Rattle.std.proofs.Common.{◌∙◌, sym, subst, append_assoc, chars, IsUtf8, IsCharBoundary}
+use Rattle.std.proofs.Common.{encode_utf8, length-append}
 use Rattle.std.proofs.lemmas.Str.{chars-append, IsCharBoundary-at_seam, IsUtf8-take}
-use Rattle.std.proofs.lemmas.List.{length-append, append_cancel_right}
+use Rattle.std.proofs.lemmas.List.{append_cancel_right}
 use Rattle.std.proofs.Math.Seq.{take-append_seam}
 use Rattle.interpolator_syntax.specs.Classes.{front_of, after_of}
 
 pub front_after : (passes : ℕ → Bool) (cs : List ℕ)
     → front_of passes cs ++ after_of passes cs ≡ cs
 front_after passes [] = refl
-front_after passes (c ∷ cs) =
-    elim (passes c) as (λ b. cond b (c ∷ front_of passes cs) [] ++ cond b (after_of passes cs)
-    (c ∷ cs) ≡ c ∷ cs) [ true ↦ ap (λ xs. c ∷ xs) (front_after passes cs) | false ↦ refl ]
+front_after passes (c ∷ cs) = grind (arith, front_after passes cs)
 
 -- `rest` is what some front of the text leaves
 abbrev pub IsRest : List ℕ → List ℕ → Type 0

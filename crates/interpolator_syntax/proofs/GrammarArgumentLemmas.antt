@@ -1,7 +1,6 @@
 -- An argument is its parts, one after the other, and the reverse.
 use Rattle.std.proofs.Common.{◌≡◌, ℕ, IsFalse, List, [], ◌∷◌, ◌++◌, arith, refl, ap, ◌∙◌, sym}
-use Rattle.std.proofs.Common.{subst, Result, Ok, Err, Option, Some, None, inl, inr, eqb, eqb-true}
-use Rattle.std.proofs.lemmas.Bool.{not-false, or_cases}
+use Rattle.std.proofs.Common.{subst, Result, Ok, Err, Option, inl, inr, eqb-true}
 use Rattle.interpolator_syntax.specs.At.{At, after, strip}
 use Rattle.interpolator_syntax.specs.Classes.{front_of, in_class, close_brace, colon}
 use Rattle.interpolator_syntax.specs.Readers.{on, give}
@@ -10,13 +9,12 @@ use Rattle.interpolator_syntax.specs.Arguments.{Argument, argument, asked_by, as
 use Rattle.interpolator_syntax.specs.Faults.{Fault}
 use Rattle.interpolator_syntax.specs.Grammar.{NotFirst}
 use Rattle.interpolator_syntax.specs.GrammarParts.{Lies}
-use Rattle.interpolator_syntax.specs.SpecGrammar.{spec}
 use Rattle.interpolator_syntax.specs.ArgumentGrammar.{IsNamed, Asks, AsksNothing, request_in, IsArgument}
 use Rattle.interpolator_syntax.specs.ArgumentGrammar.{IsNoArgument}
 use Rattle.interpolator_syntax.specs.declared.class.Class.TheVariants.{WhiteSpace, Name}
 use Rattle.interpolator_syntax.proofs.FrontLemmas.{front_after}
 use Rattle.interpolator_syntax.proofs.LongestLemmas.{at_same, front_longest, longest_front}
-use Rattle.interpolator_syntax.proofs.GrammarPartLemmas.{ok_pair, Says, Stripped, stripped}
+use Rattle.interpolator_syntax.proofs.GrammarPartLemmas.{ok_pair, Stripped, stripped}
 use Rattle.interpolator_syntax.proofs.GrammarSpecLemmas.{law_spec}
 use Rattle.interpolator_syntax.proofs.LocalLemmas.{still}
 
@@ -69,21 +67,14 @@ name_ends :
     → NotFirst close_brace cs → NotFirst colon cs → cs ≡ []
 name_ends [] stops no_close no_colon = refl
 name_ends (c ∷ cs) stops no_close no_colon =
-    elim (or_cases (eqb c colon) (eqb c close_brace) (not-false _ (stops c cs refl))) [
-      | inl e ↦ absurd (no_colon cs (ap (λ n. n ∷ cs) (eqb-true c colon e)))
-      | inr e ↦ absurd (no_close cs (ap (λ n. n ∷ cs) (eqb-true c close_brace e)))
-    ]
+    grind (arith, eqb-true, stops c cs refl, no_close cs, no_colon cs)
 
 module _ (start : ℕ) (b : At) where
   asked_told :
       ((c : ℕ) (more : List ℕ) → b.text ≡ c ∷ more → IsFalse (in_class Name c)) → (x y : Option At)
       → Stripped close_brace b x → Stripped colon b y → Told start b (asked_by start b x y)
-  asked_told stops (Some q) y h k = inl ((q.text, h.split), refl, refl)
-  asked_told stops None (Some m) h k =
-      elim (spec_after start m) as (λ o. Says (spec start) m o → Told start b o)
-      [ Ok w ↦ λ s. inr (m, k, s) | Err f ↦ λ s. inr (m, k, s) ]
-      ((law_spec (still start)).agrees.says m)
-  asked_told stops None None h k = inl (name_ends b.text stops h k, refl)
+  asked_told stops x y h k =
+      grind (arith, name_ends b.text stops, (law_spec (still start)).agrees.says)
 
   after_colon : (m : At) → Lies b (colon ∷ []) m → asked_at start b ≡ spec_after start m
   after_colon m h =

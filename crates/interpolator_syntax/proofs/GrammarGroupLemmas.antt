@@ -1,10 +1,8 @@
 -- A group is what opens it, its text and what closes it, and only such a text is a group.
 use Rattle.std.proofs.Common.{◌≡◌, ◌≢◌, ℕ, zero, suc, ◌+◌, cond, eqb, List, [], ◌∷◌, ◌++◌, length}
 use Rattle.std.proofs.Common.{arith, refl, ap, ◌∙◌, sym, subst, Ok, Err, Option, Some, None}
-use Rattle.std.proofs.Common.{append_assoc, ne_eqb}
-use Rattle.std.proofs.lemmas.List.{append-nil}
-use Rattle.std.proofs.lemmas.Bool.{eqb-true, eqb-false, cond_both}
-use Rattle.std.specs.Prelude.{codes}
+use Rattle.std.proofs.Common.{append_assoc, ne_eqb, append-nil, eqb-true, codes}
+use Rattle.std.proofs.lemmas.Bool.{eqb-false, cond_both}
 use Rattle.std.specs.Char.{len_utf8}
 use Rattle.interpolator_syntax.specs.At.{At, size, first_of}
 use Rattle.interpolator_syntax.specs.Classes.{front_of, after_of, in_class, hash, open_bracket}
@@ -12,8 +10,8 @@ use Rattle.interpolator_syntax.specs.Classes.{close_bracket}
 use Rattle.interpolator_syntax.specs.Groups.{Group, after_hashes, here_or_later, close_from}
 use Rattle.interpolator_syntax.specs.Groups.{closed_group, bracket_first, group_at}
 use Rattle.interpolator_syntax.specs.GroupGrammar.{sign_text, open_text, close_text, NoneCloses}
-use Rattle.interpolator_syntax.specs.ListGrammar.{group}
 use Rattle.interpolator_syntax.specs.GroupGrammar.{IsGroup, IsNoGroup, ends, no_bracket, no_end}
+use Rattle.interpolator_syntax.specs.ListGrammar.{group}
 use Rattle.interpolator_syntax.specs.Faults.{Fault, parse, expected}
 use Rattle.interpolator_syntax.specs.declared.class.Class.TheVariants.{Hash}
 use Rattle.interpolator_syntax.proofs.FrontLemmas.{front_after}
@@ -98,32 +96,19 @@ Closes k p cs None = NoneCloses k cs []
 later_says :
     (k p c : ℕ) (cs : List ℕ) (o : Option (List ℕ × At)) → signs_at k p c cs ≡ None
     → Closes k (p + len_utf8 c) cs o → Closes k p (c ∷ cs) (here_or_later c None o)
-later_says k p c cs (Some w) none there = record {
-  split = ap (λ xs. c ∷ xs) there.split;
-  place = omega (arith, there.place);
-  first =
-      none_closes k c w.0 (close_text k ++ w.1.text)
-      (λ rest same e. not_here k p c cs rest none same (there.split ∙ e)) there.first;
-}
-later_says k p c cs None none there =
-    none_closes k c cs []
-    (λ rest same e. not_here k p c cs rest none same (sym (append-nil cs) ∙ e)) there
+later_says k p c cs o none there =
+    grind (arith, none_closes k c, not_here k p c cs, append-nil, none)
 
 pub close_says : (k p : ℕ) (cs : List ℕ) → Closes k p cs (close_from k p cs)
 close_says k p [] = nothing_closes k []
 close_says k p (c ∷ cs) =
-    let later = close_from k (p + len_utf8 c) cs in
-    elim (signs_at k p c cs) as (λ o. signs_at k p c cs ≡ o
-    → Closes k p (c ∷ cs) (here_or_later c o later)) [
-      | Some q ↦ λ e.
-          let here = signs_here k p c cs q e in
-          record {
-            split = here.0;
-            place = omega (arith, here.1);
-            first = nothing_closes k (close_text k ++ q.text);
-          }
-      | None ↦ λ e. later_says k p c cs later e (close_says k (p + len_utf8 c) cs)
-    ] refl
+    grind (
+      arith,
+      signs_here k p c cs,
+      nothing_closes k,
+      later_says k p c cs (close_from k (p + len_utf8 c) cs),
+      close_says k (p + len_utf8 c) cs,
+    )
 
 pub only_close :
     (k p : ℕ) (inner rest : List ℕ) → NoneCloses k inner (close_text k ++ rest)
@@ -162,15 +147,14 @@ NoSign (c ∷ cs) = c ≢ hash
 pub signs_front : (k : ℕ) (rest : List ℕ) → NoSign rest
     → (front_of (in_class Hash) (sign_text k ++ rest) ≡ sign_text k) × (after_of (in_class Hash)
     (sign_text k ++ rest) ≡ rest)
-signs_front zero [] h = (refl, refl)
-signs_front zero (c ∷ cs) h = rw (ne_eqb c hash h) (refl, refl)
+signs_front zero rest h = grind (arith, ne_eqb, h)
 signs_front (suc k) rest h = grind (arith, signs_front k rest h)
 
 -- the text after all the signs begins with none
 after_no_sign : (cs : List ℕ) → NoSign (after_of (in_class Hash) cs)
 after_no_sign [] = tt
 after_no_sign (c ∷ cs) =
-    cond_both (eqb c hash) _ _ NoSign (λ e. after_no_sign cs) (λ e. eqb-false c hash e)
+    grind (arith, eqb-true, after_no_sign cs)
 
 -- a group by the signs in front and the text after them
 pub group_of_signs : (start k : ℕ) (a : At) (rest : List ℕ) → a.text ≡ sign_text k ++ rest
@@ -265,5 +249,4 @@ agrees_group start = record {
 -- no two groups begin at one place
 pub one_group : (a q r : At) (g h : Group) → IsGroup a g q → IsGroup a h r → (g ≡ h) × (q ≡ r)
 one_group a q r g h is other =
-    let both : (g, q) ≡ (h, r) = cc (only_group 0 a g q is, only_group 0 a h r other) in
-    (ap (λ (w : Group × At). w.0) both, ap (λ (w : Group × At). w.1) both)
+    grind (arith, only_group 0 a g q is, only_group 0 a h r other)

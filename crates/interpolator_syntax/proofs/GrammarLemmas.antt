@@ -1,7 +1,6 @@
 -- At most one list of pieces is the text, each piece of the first kind that its place allows.
 use Rattle.std.proofs.Common.{◌≡◌, ℕ, ◌+◌, IsTrue, List, [], ◌∷◌, ◌++◌, arith, refl, ap, ◌∙◌, sym}
-use Rattle.std.proofs.Common.{Result, Ok, Err, append_assoc, append-nil}
-use Rattle.std.specs.List.{flat_map}
+use Rattle.std.proofs.Common.{Result, Ok, Err, append_assoc, append-nil, flat_map}
 use Rattle.std.proofs.lemmas.List.{append_cancel_right}
 use Rattle.interpolator_syntax.specs.At.{At, size}
 use Rattle.interpolator_syntax.specs.Classes.{open_brace, close_brace, is_brace}
@@ -11,7 +10,6 @@ use Rattle.interpolator_syntax.specs.Pieces.{PieceKind, Piece, literal, doubled,
 use Rattle.interpolator_syntax.specs.Pieces.{unclosed, broken}
 use Rattle.interpolator_syntax.specs.Grammar.{rank, from_place, NotFirst, Fits, Stands, StandsFirst}
 use Rattle.interpolator_syntax.specs.Grammar.{IsPieces}
-use Rattle.interpolator_syntax.proofs.CaseLemmas.{tail_same}
 
 -- what a piece of this kind in front of this rest says about a text that begins with c at p
 abbrev pub Shows : (p c : ℕ) (cs : List ℕ) → PieceKind → (rest : List ℕ) → Type 0
@@ -28,24 +26,13 @@ Shows p c cs (broken f) rest =
 Shows p c cs lone_close rest = (c ≡ close_brace) × (rest ≡ cs)
 Shows p c cs (literal d) rest = (d ≡ c) × (rest ≡ cs)
 
-same_reading :
-    (p start : ℕ) (cs ds : List ℕ) → start ≡ p + 1 → cs ≡ ds
-    → argument_at (from_place (p + 1) cs) ≡ argument_at (from_place start ds)
-same_reading p start cs ds e h = ap (λ n. argument_at (from_place n cs)) (sym e)
-    ∙ ap (λ xs. argument_at (from_place start xs)) h
-
 shown :
     (p c : ℕ) (cs : List ℕ) (k : PieceKind) (text rest : List ℕ) → c ∷ cs ≡ text ++ rest
     → Fits p k text rest → Shows p c cs k rest
-shown p c cs (doubled brace) text rest e h = grind arith
 shown p c cs (closed start x end) text rest e h = grind (arith, append_assoc)
-shown p c cs (unclosed start x end) text rest e h =
-    let inner : cs ≡ h.inner = grind (arith, append-nil) in
-    let reads = same_reading p start cs _ h.begins inner ∙ h.reads in
-    (h.left, cc, h.begins, reads, h.takes_all, h.not_closed)
+shown p c cs (unclosed start x end) text rest e h = grind (arith, append-nil)
 shown p c cs (broken f) text rest e h = grind (arith, append-nil)
-shown p c cs lone_close text rest e h = grind arith
-shown p c cs (literal d) text rest e h = grind arith
+shown p c cs k text rest e h = grind arith
 
 pub stands_shown :
     (p c : ℕ) (cs : List ℕ) (x : Piece) (rest : List ℕ) → Stands (from_place p (c ∷ cs)) x rest
@@ -55,34 +42,20 @@ stands_shown p c cs x rest s = shown p c cs x.kind x.text rest s.split s.fits
 -- no piece is empty
 not_empty : (p : ℕ) (k : PieceKind) (text rest : List ℕ) → [] ≡ text ++ rest → Fits p k text rest
     → ⊥
-not_empty p (doubled brace) text rest e h = let k = e ∙ ap (λ t. t ++ rest) h.1 in cc
-not_empty p (closed start x end) text rest e h = let k = e ∙ ap (λ t. t ++ rest) h.in_braces in cc
-not_empty p (unclosed start x end) text rest e h = let k = e ∙ ap (λ t. t ++ rest) h.in_front in cc
-not_empty p (broken f) text rest e h = let k = e ∙ ap (λ t. t ++ rest) h.in_front in cc
-not_empty p lone_close text rest e h = let k = e ∙ ap (λ t. t ++ rest) h in cc
-not_empty p (literal c) text rest e h = let k = e ∙ ap (λ t. t ++ rest) h in cc
+not_empty p k text rest e h = grind (arith, e, h)
 
 -- two arguments read from the same text
 pub same_ok :
     {x y : Argument} {q r : At} → ◌≡◌ {A = Result (Argument × At) Fault} (Ok (x, q)) (Ok (y, r))
     → (x ≡ y) × (q ≡ r)
-same_ok {x} {y} {q} {r} e =
-    let same : ◌≡◌ {A = Argument × At} (x, q) (y, r) = cc in
-    (ap (λ (w : Argument × At). w.0) same, ap (λ (w : Argument × At). w.1) same)
+same_ok e = grind (arith, e)
 
 same_kind :
     (p c : ℕ) (cs : List ℕ) (k l : PieceKind) (r s : List ℕ) → Shows p c cs k r → Shows p c cs l s
     → rank k ≡ rank l → (k ≡ l) × (r ≡ s)
-same_kind p c cs (doubled b) (doubled d) r s h k e =
-    (ap doubled (h.1 ∙ sym k.1), tail_same (sym h.2 ∙ k.2))
-same_kind p c cs (closed n x i) (closed m y j) r s h k e = grind arith
-same_kind p c cs (unclosed n x i) (unclosed m y j) r s h k e = grind arith
 same_kind p c cs (unclosed n x i) (broken f) r s h k e = let both = sym h.3 ∙ k.1 in cc
 same_kind p c cs (broken f) (unclosed n x i) r s h k e = let both = sym h.1 ∙ k.3 in cc
-same_kind p c cs (broken f) (broken g) r s h k e = let both = sym h.1 ∙ k.1 in (cc, h.2 ∙ sym k.2)
-same_kind p c cs lone_close lone_close r s h k e = (refl, h.1 ∙ sym k.1)
-same_kind p c cs (literal b) (literal d) r s h k e = (ap literal (h.0 ∙ sym k.0), h.1 ∙ sym k.1)
-same_kind p c cs k l r s h j e = absurd (omega arith)
+same_kind p c cs k l r s h j e = grind (arith, h, j, e)
 
 piece_same :
     {p q : ℕ} {cs ds : List ℕ} {k l : PieceKind} → p ≡ q → cs ≡ ds → k ≡ l
@@ -90,11 +63,12 @@ piece_same :
     (record { place = q; text = ds; kind = l })
 piece_same e d h = cc
 
--- two pieces that come first in a text that is not empty are the same
-first_same_at :
-    (p c : ℕ) (cs : List ℕ) (x y : Piece) (r s : List ℕ) → StandsFirst (from_place p (c ∷ cs)) x r
-    → StandsFirst (from_place p (c ∷ cs)) y s → (x ≡ y) × (r ≡ s)
-first_same_at p c cs x y r s h k =
+-- two pieces that come first in a text are the same
+first_same :
+    (p : ℕ) (cs : List ℕ) (x y : Piece) (r s : List ℕ) → StandsFirst (from_place p cs) x r
+    → StandsFirst (from_place p cs) y s → (x ≡ y) × (r ≡ s)
+first_same p [] x y r s h k = absurd (not_empty p x.kind x.text r h.stands.split h.stands.fits)
+first_same p (c ∷ cs) x y r s h k =
     let at_most = h.first y s k.stands in
     let at_least = k.first x r h.stands in
     let one = stands_shown p c cs x r h.stands in
@@ -103,12 +77,6 @@ first_same_at p c cs x y r s h k =
     let whole = ap (λ t. x.text ++ t) (sym same.1) ∙ sym h.stands.split ∙ k.stands.split in
     let texts = append_cancel_right x.text y.text s whole in
     (piece_same (h.stands.place ∙ sym k.stands.place) texts same.0, same.1)
-
-first_same :
-    (p : ℕ) (cs : List ℕ) (x y : Piece) (r s : List ℕ) → StandsFirst (from_place p cs) x r
-    → StandsFirst (from_place p cs) y s → (x ≡ y) × (r ≡ s)
-first_same p [] x y r s h k = absurd (not_empty p x.kind x.text r h.stands.split h.stands.fits)
-first_same p (c ∷ cs) x y r s h k = first_same_at p c cs x y r s h k
 
 pieces_moved :
     {x y : Piece} {r s : List ℕ} (p : ℕ) (xs : List Piece) → x ≡ y → r ≡ s

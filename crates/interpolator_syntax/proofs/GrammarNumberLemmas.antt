@@ -1,20 +1,20 @@
 -- A number is its digits, and the reverse; and why a text is none.
-use Rattle.std.proofs.Common.{◌≡◌, ℕ, ◌+◌, ◌*◌, ◌-◌, ◌^◌, ◌<◌, ◌≤◌, true, false, ltb, eqb, IsTrue}
+use Rattle.std.proofs.Common.{rules, ◌≡◌, ℕ, ◌+◌, ◌*◌, ◌^◌, ◌<◌, ◌≤◌, true, false, ltb, eqb, IsTrue}
 use Rattle.std.proofs.Common.{List, [], ◌∷◌, ◌++◌, length, arith, refl, ◌≢◌, ap, ◌∙◌, sym, subst}
-use Rattle.std.proofs.Common.{Result, Ok, Err, inl, inr, eqb-true, append-nil, append_assoc}
-use Rattle.std.specs.Prelude.{ℤ, pos}
+use Rattle.std.proofs.Common.{Result, Ok, Err, inl, inr, eqb-true, append-nil, append_assoc, ℤ, pos}
+use Rattle.std.proofs.Common.{length-append, ltb-true, ltb-false, lt-ltb, le-ltb, ne_eqb, pow-suc}
+use Rattle.std.proofs.Common.{le-mul_of_pos_right}
+use Rattle.std.proofs.lemmas.Grind.{common_steps}
 use Rattle.std.specs.Char.{is_ascii_digit}
-use Rattle.std.proofs.lemmas.List.{length-append}
-use Rattle.std.proofs.lemmas.Bool.{ltb-true, ltb-false, lt-ltb, le-ltb, eqb-false, ne_eqb}
-use Rattle.std.proofs.lemmas.Bool.{both_ways, cond_both}
+use Rattle.std.proofs.lemmas.Bool.{eqb-false, both_ways, cond_both}
 use Rattle.std.proofs.lemmas.List.Elements.{All-nil, All-cons, All-head, All-tail, All-append}
-use Rattle.std.proofs.Math.Nat.{pow-suc, one-le-pow, le-mul_of_pos_right}
-use Rattle.interpolator_syntax.specs.Classes.{minus, zero_digit}
-use Rattle.interpolator_syntax.specs.Numbers.{with_digit, digits_after, natural, with_sign, negation}
-use Rattle.interpolator_syntax.specs.Numbers.{negative, integer}
+use Rattle.std.proofs.Math.Nat.{one-le-pow}
+use Rattle.interpolator_syntax.specs.Classes.{minus}
+use Rattle.interpolator_syntax.specs.Numbers.{with_digit, digits_after, natural, with_sign}
+use Rattle.interpolator_syntax.specs.Numbers.{negation, negative, integer}
 use Rattle.interpolator_syntax.specs.NumberGrammar.{decimal_value, AreDigits, IsNumber, IsStopped}
-use Rattle.interpolator_syntax.specs.NumberGrammar.{IsStop, IsNoNumber, IsSigned}
-use Rattle.interpolator_syntax.specs.NumberGrammar.{Spelling, naturals, integers}
+use Rattle.interpolator_syntax.specs.NumberGrammar.{IsStop, IsNoNumber, IsSigned, Spelling}
+use Rattle.interpolator_syntax.specs.NumberGrammar.{naturals, integers}
 use Rattle.interpolator_syntax.specs.declared.error.NumberError.{NumberError}
 use Rattle.interpolator_syntax.specs.declared.error.NumberError.TheVariants.{Empty, PosOverflow}
 use Rattle.interpolator_syntax.specs.declared.error.NumberError.TheVariants.{NegOverflow}
@@ -40,14 +40,11 @@ carried n d p q v e = rw e (omega arith)
 
 value_digit : (n c : ℕ) (cs : List ℕ) → value_from n (c ∷ cs) ≡ value_from (with_digit n c) cs
 unfolding value_from
-value_digit n c cs =
-    carried n (c - zero_digit) (10 ^ length cs) _ (decimal_value cs) (pow-suc 10 (length cs))
+value_digit n c cs = search (rules, carried, pow-suc)
 
 value_least : (n : ℕ) (cs : List ℕ) → n ≤ value_from n cs
 unfolding value_from
-value_least n cs =
-    let power = one-le-pow (length cs) 10 (omega arith) in
-    let whole = le-mul_of_pos_right n power in omega arith
+value_least n cs = grind (arith, one-le-pow, le-mul_of_pos_right)
 
 -- digits after digits
 value_over : (n : ℕ) (cs ds : List ℕ) → value_from n (cs ++ ds) ≡ value_from (value_from n cs) ds
@@ -110,11 +107,7 @@ module _ (limit : ℕ) (overflow : NumberError) where
   Says text (Err kind) = IsNoNumber limit overflow text kind
 
   says : (c : ℕ) (cs : List ℕ) → 0 < limit → Says (c ∷ cs) (read_from 0 (c ∷ cs))
-  says c cs h = by_digits _ (spelled_after [] (c ∷ cs) (All-nil Digit) h)
-    where
-      by_digits : (r : Result ℕ NumberError) → Spelled (c ∷ cs) r → Says (c ∷ cs) r
-      by_digits (Ok n) s = record { not_empty = λ k. cc; digits = s.0; value = s.1; below = s.2 }
-      by_digits (Err kind) s = inr s
+  says c cs h = let s = spelled_after [] (c ∷ cs) (All-nil Digit) h in grind (arith, s)
 
   -- digits of a value below the limit are read, and the text after them goes on from that value
   read_over : (n : ℕ) (cs rest : List ℕ) → AreDigits cs → value_from n cs < limit
@@ -130,9 +123,7 @@ module _ (limit : ℕ) (overflow : NumberError) where
 
   whole_read : (cs rest : List ℕ) → AreDigits cs → decimal_value cs < limit
       → read_from 0 (cs ++ rest) ≡ read_from (decimal_value cs) rest
-  whole_read cs rest d h =
-      read_over 0 cs rest d (omega (arith, h, value_whole cs))
-      ∙ ap (λ m. read_from m rest) (value_whole cs)
+  whole_read cs rest d h = grind (arith, read_over, value_whole)
 
   only_number : (cs : List ℕ) (n : ℕ) → IsNumber limit cs n → read_from 0 cs ≡ Ok n
   only_number cs n h =
@@ -156,9 +147,7 @@ module _ (limit : ℕ) (overflow : NumberError) where
 
 none_empty :
     (limit : ℕ) (overflow kind : NumberError) → IsNoNumber limit overflow [] kind → kind ≡ Empty
-none_empty limit overflow kind (inl k) = k.1
-none_empty limit overflow kind (inr s) =
-    absurd (omega (arith, ap length s.split, length-append s.front (s.c ∷ s.rest)))
+none_empty limit overflow kind h1 = grind (arith, common_steps, length-append)
 
 -- ---- what is read from a text, and what the text spells
 
@@ -181,8 +170,7 @@ decides_is {spelling = spelling} h text o e = subst (Tells spelling text) e (h.s
 -- ---- a number without a sign
 
 natural_says : (text : List ℕ) → Tells naturals text (natural text)
-natural_says [] = inl (refl, refl)
-natural_says (c ∷ cs) = says (2 ^ 64) PosOverflow c cs (omega arith)
+natural_says text = grind (arith, says)
 
 only_natural : (text : List ℕ) (o : Result ℕ NumberError) → Tells naturals text o
     → natural text ≡ o
@@ -192,13 +180,12 @@ only_natural [] (Err kind) h = ap Err (sym (none_empty (2 ^ 64) PosOverflow kind
 only_natural (c ∷ cs) (Err kind) h = only_none (2 ^ 64) PosOverflow c cs kind h
 
 pub naturals_decide : Decides natural naturals
-naturals_decide = record { says = natural_says; only = only_natural }
+naturals_decide = grind (arith, says, natural_says, only_natural)
 
 -- ---- an integer
 
 sign_first : (c d : ℕ) (ds : List ℕ) → eqb c minus ≡ true → IsSigned (c ∷ d ∷ ds) (d ∷ ds)
-sign_first c d ds t =
-    record { split = ap (λ n. n ∷ d ∷ ds) (eqb-true c minus t); not_empty = λ e. cc }
+sign_first c d ds t = grind (arith, eqb-true)
 
 negative_says : (c : ℕ) (cs : List ℕ) → eqb c minus ≡ true → Tells integers (c ∷ cs) (negative cs)
 negative_says c [] t = inl (
@@ -217,20 +204,14 @@ negative_says c (d ∷ ds) t = by_digits _ (says (2 ^ 63 + 1) NegOverflow d ds (
   where
     by_digits : (r : Result ℕ NumberError) → Says (2 ^ 63 + 1) NegOverflow (d ∷ ds) r
         → Tells integers (c ∷ d ∷ ds) (with_sign negation r)
-    by_digits (Ok n) h = inr (d ∷ ds, n, sign_first c d ds t, h, refl)
-    by_digits (Err kind) h = inr (d ∷ ds, sign_first c d ds t, h)
+    by_digits r h = grind (arith, sign_first c d ds t, h)
 
 positive_says : (c : ℕ) (cs : List ℕ) (r : Result ℕ NumberError) → eqb c minus ≡ false
     → Says (2 ^ 63) PosOverflow (c ∷ cs) r → Tells integers (c ∷ cs) (with_sign pos r)
-positive_says c cs (Ok n) t h = inl (n, h, refl)
-positive_says c cs (Err kind) t h =
-    inl (λ after s. let k = s.split in eqb-false c minus t (cc), h)
+positive_says c cs r t h = grind (arith, eqb-false)
 
 integer_says : (text : List ℕ) → Tells integers text (integer text)
-integer_says [] = inl (λ after s. let k = s.split in cc, inl (refl, refl))
-integer_says (c ∷ cs) =
-    cond_both (eqb c minus) _ _ (Tells integers (c ∷ cs)) (negative_says c cs)
-    (λ t. positive_says c cs _ t (says (2 ^ 63) PosOverflow c cs (omega arith)))
+integer_says text = search (rules, cond_both, negative_says, positive_says, says)
 
 only_positive : (text : List ℕ) (n : ℕ) → IsNumber (2 ^ 63) text n → integer text ≡ Ok (pos n)
 only_positive [] n h = absurd (h.not_empty refl)
@@ -280,4 +261,4 @@ only_integer text (Err kind) (inr k) =
     ap integer k.1.split ∙ only_no_negative k.0 kind k.1.not_empty k.2
 
 pub integers_decide : Decides integer integers
-integers_decide = record { says = integer_says; only = only_integer }
+integers_decide = grind (arith, says, integer_says, only_integer)

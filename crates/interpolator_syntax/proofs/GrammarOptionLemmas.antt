@@ -1,18 +1,17 @@
 -- Parts that may be absent, and numbers: the laws of their readers.
-use Rattle.std.proofs.Common.{◌≡◌, ℕ, ◌+◌, Bool, cond, List, [], ◌∷◌, arith, refl, ap, ◌∙◌, sym}
-use Rattle.std.proofs.Common.{Result, Ok, Err, Option, Some, None, inl, inr}
+use Rattle.std.proofs.Common.{◌≡◌, ℕ, ◌+◌, Bool, cond, List, arith, refl, ◌∙◌, sym}
+use Rattle.std.proofs.Common.{Result, Ok, Err, Option, Some, None}
 use Rattle.std.specs.Char.{is_ascii_digit}
 use Rattle.std.proofs.lemmas.Bool.{cond_both}
-use Rattle.interpolator_syntax.specs.At.{At, first, first_of, strip}
+use Rattle.interpolator_syntax.specs.At.{At, first, strip}
 use Rattle.interpolator_syntax.specs.Numbers.{natural, integer}
 use Rattle.interpolator_syntax.specs.Readers.{Reader, ◌>>=◌ as ◌>>>◌, run as read_run}
 use Rattle.interpolator_syntax.specs.Classes.{in_class, point}
 use Rattle.interpolator_syntax.specs.SpecTexts.{number_or, number_at, width_at, if_point}
 use Rattle.interpolator_syntax.specs.SpecTexts.{precision_at}
 use Rattle.interpolator_syntax.specs.Ranges.{bound_or, bound_if}
-use Rattle.interpolator_syntax.specs.Grammar.{from_place}
 use Rattle.interpolator_syntax.specs.NumberGrammar.{Spelling, naturals, integers}
-use Rattle.interpolator_syntax.specs.GrammarParts.{Part, FirstPasses, NonePasses, where_first}
+use Rattle.interpolator_syntax.specs.GrammarParts.{Part, where_first}
 use Rattle.interpolator_syntax.specs.GrammarParts.{where_after, spelling_of, number}
 use Rattle.interpolator_syntax.specs.SpecGrammar.{width, precision}
 use Rattle.interpolator_syntax.specs.ListGrammar.{bound}
@@ -26,7 +25,7 @@ use Rattle.interpolator_syntax.proofs.GrammarNumberLemmas.{Tells, Decides, natur
 use Rattle.interpolator_syntax.proofs.GrammarNumberLemmas.{integers_decide}
 use Rattle.interpolator_syntax.proofs.GrammarPartLemmas.{ok_pair, Says, Agrees, agrees_then}
 use Rattle.interpolator_syntax.proofs.GrammarPartLemmas.{agrees_same, agrees_placed, agrees_run}
-use Rattle.interpolator_syntax.proofs.GrammarPartLemmas.{Stripped, stripped, strip_lies, strip_not}
+use Rattle.interpolator_syntax.proofs.GrammarPartLemmas.{stripped, strip_lies, strip_not}
 use Rattle.interpolator_syntax.proofs.LocalLemmas.{Setting, stays, elsewhere, IsSettled, IsLocal}
 use Rattle.interpolator_syntax.proofs.LocalLemmas.{local_stay, local_through, local_either}
 use Rattle.interpolator_syntax.proofs.LocalLemmas.{local_first, local_strip, local_on}
@@ -44,38 +43,8 @@ module _ {A : Type 0} (passes : ℕ → Bool) (read : Reader (Option A)) where
 module _
     {A : Type 0} (passes : ℕ → Bool) (read : Reader (Option A)) (part : Part (Option A))
     (h : Agrees read part) where
-  abbrev Where : At → Result (Option A × At) Fault → Type 0
-  Where a o = Says (where_first passes part) a o
-
-  first_says_at :
-      (p : ℕ) (cs : List ℕ)
-      → Where (from_place p cs) (if_passes passes read (from_place p cs) (first_of p cs))
-  first_says_at p [] = inr (λ c k. let e = k.1 in cc, refl, refl)
-  first_says_at p (c ∷ cs) =
-      let a = from_place p (c ∷ cs) in
-      cond_both (passes c) (read a) (Ok (None, a)) (Where a)
-      (λ t. elim (read a) as (λ o. Says part a o → Where a o)
-      [ Ok w ↦ λ s. inl ((c, (cs, refl), t), s) | Err f ↦ λ s. ((c, (cs, refl), t), s) ] (h.says a))
-      (λ t. inr (λ d k. ap passes (sym (head_same k.1)) ∙ t, refl, refl))
-
-  read_first : (a : At) → FirstPasses passes a.text → if_passes passes read a (first a) ≡ read a
-  read_first a t = rw (t.1.1, t.2) refl
-
-  none_first :
-      (p : ℕ) (cs : List ℕ) → NonePasses passes cs
-      → if_passes passes read (from_place p cs) (first_of p cs) ≡ Ok (None, from_place p cs)
-  none_first p [] k = refl
-  none_first p (c ∷ cs) k = rw (k c (cs, refl)) refl
-
   agrees_where_first : Agrees (λ a. if_passes passes read a (first a)) (where_first passes part)
-  agrees_where_first = record {
-    says = λ a. first_says_at a.place a.text;
-    only = λ a q x t. elim t [
-      | inl s ↦ read_first a s.0 ∙ h.only a q x s.1
-      | inr s ↦ none_first a.place a.text s.0 ∙ ok_pair (sym s.1) (sym s.2)
-    ];
-    only_not = λ a f t. read_first a t.0 ∙ h.only_not a f t.1;
-  }
+  agrees_where_first = grind (arith, cond_both, head_same, ok_pair)
 
 pub law_where :
     {s : Setting} {A : Type 0} {move : Option A → Option A} (passes : ℕ → Bool)
@@ -100,23 +69,8 @@ law_where {s} {A} {move} passes {read} {other} {part} none law = record {
 -- ---- after a point
 
 module _ (read : Reader (Option ℕ)) (part : Part (Option ℕ)) (h : Agrees read part) where
-  point_says :
-      (a : At) (o : Option At) → Stripped point a o
-      → Says (where_after point part) a (if_point read a o)
-  point_says a None s = inr (s, refl, refl)
-  point_says a (Some b) s =
-      elim (read b) as (λ o. Says part b o → Says (where_after point part) a o)
-      [ Ok w ↦ λ t. inl (b, s, t) | Err f ↦ λ t. (b, s, t) ] (h.says b)
-
   agrees_if_point : Agrees (λ a. if_point read a (strip point a)) (where_after point part)
-  agrees_if_point = record {
-    says = λ a. point_says a (strip point a) (stripped point a);
-    only = λ a q x t. elim t [
-      | inl s ↦ ap (if_point read a) (strip_lies point a s.0 s.1) ∙ h.only s.0 q x s.2
-      | inr s ↦ ap (if_point read a) (strip_not point a s.0) ∙ ok_pair (sym s.1) (sym s.2)
-    ];
-    only_not = λ a f t. ap (if_point read a) (strip_lies point a t.0 t.1) ∙ h.only_not t.0 f t.2;
-  }
+  agrees_if_point = grind (arith, stripped, strip_lies, strip_not, ok_pair)
 
 -- ---- numbers
 
@@ -139,8 +93,7 @@ module _
   spelled_says :
       (p : ℕ) (cs : List ℕ) (a : At) (o : Result A NumberError) → Tells spelling cs o
       → Says (spelling_of spelling wrong p cs) a (told_or wrong p o a)
-  spelled_says p cs a (Ok n) e = (n, e, refl, refl)
-  spelled_says p cs a (Err kind) e = (kind, e, refl)
+  spelled_says p cs a o e = grind arith
 
   agrees_spelled :
       (p : ℕ) (cs : List ℕ) → Agrees (told_or wrong p (read cs)) (spelling_of spelling wrong p cs)
@@ -156,13 +109,7 @@ module _
         (a b : At) (l : Result (Option A × At) Fault) (o : Result A NumberError) → Takes a b
         → (IsSettled s b.text → l ≡ told_or wrong (a.place + s.by) o (elsewhere s b))
         → IsLocal s stays a (told_or wrong a.place o b) l
-    local_told a b l (Ok n) t e = (t, e)
-    local_told a b l (Err kind) t e = (
-      tt,
-      λ from. omega (arith, from, tells.is kind a.place),
-      λ from. omega (arith, tells.is kind a.place),
-      λ none. e (inr none) ∙ ap (λ f. Err (parse f)) (tells.moves s.by kind a.place),
-    )
+    local_told a b l o t e = grind arith
 
     module _
         (tell : ℕ → Result A NumberError → Reader (Option A))

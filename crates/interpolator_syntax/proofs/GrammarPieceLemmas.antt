@@ -1,15 +1,15 @@
 -- The pieces that the reader finds are each of the first kind that its place allows.
-use Rattle.std.proofs.Common.{◌≡◌, ◌≢◌, ℕ, zero, suc, ◌+◌, ◌≤◌, eqb, List, [], ◌∷◌, ◌++◌, length}
-use Rattle.std.proofs.Common.{arith, refl, ap, ◌∙◌, sym, subst, Result, Ok, Err, Option, Some, None}
+use Rattle.std.proofs.Common.{rules, ◌≡◌, ◌≢◌, ℕ, zero, suc, ◌+◌, ◌≤◌, List, [], ◌∷◌, ◌++◌, length}
+use Rattle.std.proofs.Common.{arith, refl, ap, ◌∙◌, sym, subst, Result, Ok, Option, Some, None}
 use Rattle.std.proofs.Common.{append_assoc, append-nil, eqb-true}
-use Rattle.std.proofs.lemmas.Bool.{eqb-false, cond_both, ne_eqb}
+use Rattle.std.proofs.lemmas.Bool.{eqb-false, cond_both}
 use Rattle.interpolator_syntax.specs.At.{At, size, strip, strip_of}
 use Rattle.interpolator_syntax.specs.Classes.{open_brace, close_brace}
 use Rattle.interpolator_syntax.specs.Arguments.{Argument, argument_at}
 use Rattle.interpolator_syntax.specs.Faults.{Fault}
-use Rattle.interpolator_syntax.specs.Pieces.{PieceKind, Step, doubled, closed, argument_step}
-use Rattle.interpolator_syntax.specs.Pieces.{argument_or_broken, argument_from, open_step}
-use Rattle.interpolator_syntax.specs.Pieces.{close_step, piece_from, past, pieces}
+use Rattle.interpolator_syntax.specs.Pieces.{PieceKind, Step, argument_step, argument_or_broken}
+use Rattle.interpolator_syntax.specs.Pieces.{argument_from, open_step, close_step, piece_from, past}
+use Rattle.interpolator_syntax.specs.Pieces.{pieces}
 use Rattle.interpolator_syntax.specs.Grammar.{rank, from_place, NotFirst, Fits, IsPieces}
 use Rattle.interpolator_syntax.proofs.PieceLemmas.{piece_within, pieces_none, pieces_next}
 use Rattle.interpolator_syntax.proofs.PieceLemmas.{strip_after, closed_text}
@@ -37,23 +37,13 @@ IsFirstStep p c cs s =
 literal_first :
     (p c : ℕ) (cs : List ℕ) → c ≢ open_brace → c ≢ close_brace → (k : PieceKind) (r : List ℕ)
     → Shows p c cs k r → 4 ≤ rank k
-literal_first p c cs no_open no_close (doubled brace) r h =
-    let e = rw (ne_eqb c open_brace no_open, ne_eqb c close_brace no_close) at h.0 in absurd (cc)
-literal_first p c cs no_open no_close k r h = omega (arith, no_open, no_close)
-
--- a closing brace with no second one after it is a lone one
-lone_first :
-    (p : ℕ) (cs : List ℕ) → NotFirst close_brace cs → (k : PieceKind) (r : List ℕ)
-    → Shows p close_brace cs k r → 3 ≤ rank k
-lone_first p cs no_more (doubled brace) r h = absurd (no_more r h.2)
-lone_first p cs no_more k r h = omega arith
+literal_first p c cs no_open no_close k r h = grind arith
 
 -- an opening brace with no second one after it begins an argument
 closed_first :
     (p : ℕ) (cs : List ℕ) → NotFirst open_brace cs → (k : PieceKind) (r : List ℕ)
     → Shows p open_brace cs k r → 1 ≤ rank k
-closed_first p cs no_more (doubled brace) r h = absurd (no_more r h.2)
-closed_first p cs no_more k r h = omega arith
+closed_first p cs no_more k r h = grind arith
 
 -- there is no argument that ends in front of a closing brace
 abbrev NotClosed : At → Type 0
@@ -71,21 +61,14 @@ unclosed_first :
     (p : ℕ) (cs : List ℕ) → NotFirst open_brace cs
     → NotClosed (from_place (p + 1) cs)
     → (k : PieceKind) (r : List ℕ) → Shows p open_brace cs k r → 2 ≤ rank k
-unclosed_first p cs no_more not_closed (doubled brace) r h = absurd (no_more r h.2)
-unclosed_first p cs no_more not_closed (closed start x end) r h = absurd (not_closed x end r h.2)
-unclosed_first p cs no_more not_closed k r h = omega arith
+unclosed_first p cs no_more not_closed k r h = grind arith
 
 -- ---- the steps
 
 close_first :
     (p : ℕ) (cs : List ℕ) (o : Option At) → strip close_brace (past p close_brace cs) ≡ o
     → IsFirstStep p close_brace cs (close_step p (past p close_brace cs) o)
-close_first p cs None e =
-    (refl, refl, refl, lone_first p cs (strip_none close_brace (p + 1) cs e), omega arith)
-close_first p cs (Some rest) e =
-    let after = strip_after close_brace (p + 1) cs rest e in
-    let split = ap (λ xs. close_brace ∷ xs) after.0 in
-    (refl, split, (refl, refl), λ k r h. omega arith, omega (arith, after.1))
+close_first p cs o e = grind (arith, strip_none, strip_after)
 
 -- an argument that ends at q
 argument_step_first :
@@ -138,44 +121,18 @@ argument_first :
     (p : ℕ) (cs : List ℕ) (o : Result (Argument × At) Fault) → NotFirst open_brace cs
     → argument_at (from_place (p + 1) cs) ≡ o
     → IsFirstStep p open_brace cs (argument_or_broken p (from_place (p + 1) cs) o)
-argument_first p cs (Ok w) no_more reads =
-    argument_step_first p cs w.0 w.1 (strip close_brace w.1) no_more reads refl
-argument_first p cs (Err f) no_more reads =
-    let first = unclosed_first p cs no_more (λ y end ds h. err_ok (sym reads ∙ h)) in (
-      refl,
-      sym (append-nil (open_brace ∷ cs)),
-      record {
-        inner = cs;
-        takes_all = refl;
-        in_front = refl;
-        reads = reads;
-      },
-      first,
-      omega arith,
-    )
+argument_first p cs o no_more reads =
+    grind (arith, argument_step_first, unclosed_first, err_ok, append-nil)
 
 open_first :
     (p : ℕ) (cs : List ℕ) (o : Option At) → strip open_brace (past p open_brace cs) ≡ o
     → IsFirstStep p open_brace cs (open_step p (past p open_brace cs) o)
 unfolding argument_from
-open_first p cs None e =
-    argument_first p cs (argument_at (from_place (p + 1) cs)) (strip_none open_brace (p + 1) cs e)
-    refl
-open_first p cs (Some rest) e =
-    let after = strip_after open_brace (p + 1) cs rest e in
-    let split = ap (λ xs. open_brace ∷ xs) after.0 in
-    (refl, split, (refl, refl), λ k r h. omega arith, omega (arith, after.1))
+open_first p cs o e = grind (arith, argument_first, strip_none, strip_after)
 
 step_first : (p c : ℕ) (cs : List ℕ) → IsFirstStep p c cs (piece_from p c (past p c cs))
 step_first p c cs =
-    cond_both (eqb c open_brace) _ _ (IsFirstStep p c cs)
-    (λ e. rw (eqb-true c open_brace e) (open_first p cs _ refl))
-    (λ no_open. cond_both (eqb c close_brace) _ _ (IsFirstStep p c cs)
-    (λ e. rw (eqb-true c close_brace e) (close_first p cs _ refl))
-    (λ no_close.
-    let first =
-    literal_first p c cs (eqb-false c open_brace no_open) (eqb-false c close_brace no_close) in
-    (refl, refl, refl, first, omega arith)))
+    search (rules, cond_both, eqb-true, open_first, close_first, literal_first, eqb-false)
 
 are_pieces :
     (most p : ℕ) (cs : List ℕ) → length cs ≤ most
@@ -207,7 +164,4 @@ pub step_reaches :
     (p c : ℕ) (cs : List ℕ)
     → (piece_from p c (past p c cs)).rest.place + size (piece_from p c (past p c cs)).rest.text
     ≡ p + size (c ∷ cs)
-step_reaches p c cs =
-    let first = step_first p c cs in
-    let s = piece_from p c (past p c cs) in
-    omega (arith, first.4, ap size first.1, size-append s.piece.text s.rest.text)
+step_reaches p c cs = grind (arith, step_first, size-append)

@@ -1,12 +1,8 @@
 -- The text of a spec is its parts, one after the other, and the reverse; and what its readers keep.
-use Rattle.std.proofs.Common.{◌≡◌, ℕ, ◌+◌, true, false, eqb, eqb-true, List, [], ◌∷◌, ◌++◌, arith}
-use Rattle.std.proofs.Common.{refl, ap, ◌∙◌, sym, Result, Ok, Err, Option, Some, None, inl, inr}
-use Rattle.std.proofs.Common.{◌||◌}
+use Rattle.std.proofs.Common.{◌≡◌, ℕ, ◌+◌, true, eqb, eqb-true, List, [], ◌∷◌, ◌++◌, arith, refl}
+use Rattle.std.proofs.Common.{ap, ◌∙◌, sym, Result, Ok, Option, None, inl, inr, ◌||◌, ne_eqb}
 use Rattle.std.specs.Char.{len_utf8}
-use Rattle.std.proofs.lemmas.Bool.{cond_both, eqb-false, ne_eqb}
 use Rattle.interpolator_render.specs.declared.view.Alignment.{Alignment}
-use Rattle.interpolator_render.specs.declared.view.Alignment.TheVariants as alignments
-use Rattle.interpolator_render.specs.declared.view.Sign.TheVariants as signs
 use Rattle.interpolator_syntax.specs.At.{At}
 use Rattle.interpolator_syntax.specs.Classes.{is_alignment, hash, zero_digit, open_brace}
 use Rattle.interpolator_syntax.specs.Classes.{close_brace}
@@ -18,9 +14,8 @@ use Rattle.interpolator_syntax.specs.Grammar.{from_place}
 use Rattle.interpolator_syntax.specs.GrammarParts.{◌>>=◌, letter}
 use Rattle.interpolator_syntax.specs.SpecGrammar.{from_sign, Fills, NoneFills, fill, parts}
 use Rattle.interpolator_syntax.specs.SpecGrammar.{IsUnread, spec}
-use Rattle.interpolator_syntax.specs.Faults.{Fault, parse, fill as no_fill}
+use Rattle.interpolator_syntax.specs.Faults.{Fault}
 use Rattle.interpolator_syntax.specs.Moved.{moved_kind}
-use Rattle.interpolator_syntax.proofs.CaseLemmas.{head_same, tail_same}
 use Rattle.interpolator_syntax.proofs.GrammarListLemmas.{law_kind}
 use Rattle.interpolator_syntax.proofs.GrammarOptionLemmas.{law_width, law_precision}
 use Rattle.interpolator_syntax.proofs.GrammarPartLemmas.{ok_pair, Says, Agrees, agrees_then}
@@ -33,6 +28,8 @@ use Rattle.interpolator_syntax.proofs.LocalityLemmas.{stands, takes_none, takes_
 use Rattle.interpolator_syntax.proofs.LongestLemmas.{at_same}
 use Rattle.interpolator_syntax.proofs.SimpleReaderLemmas.{Law, law_then, law_ends, law_letter}
 use Rattle.interpolator_syntax.proofs.SimpleReaderLemmas.{law_flag}
+use Rattle.interpolator_render.specs.declared.view.Alignment.TheVariants as alignments
+use Rattle.interpolator_render.specs.declared.view.Sign.TheVariants as signs
 
 -- a request with its groups moved
 abbrev pub moved_request : (by : ℕ) → Request → Request
@@ -63,9 +60,6 @@ module _ (s : Setting) where
 
 -- ---- the fill
 
-second_same : {c d e f : ℕ} {cs ds : List ℕ} → c ∷ d ∷ cs ≡ e ∷ f ∷ ds → d ≡ f
-second_same e = head_same (tail_same e)
-
 fills_here :
     (p c d : ℕ) (ds : List ℕ) → is_alignment d ≡ true
     → Fills c (from_place p (c ∷ d ∷ ds)) (from_place (p + len_utf8 c) (d ∷ ds))
@@ -74,14 +68,7 @@ fills_here p c d ds t = (lies_here p c (d ∷ ds), (d, (ds, refl), t))
 fill_says : (p : ℕ) (cs : List ℕ) → Says fill (from_place p cs) (fill_of (from_place p cs) cs)
 fill_says p [] = inr (λ c d more e. cc, refl, refl)
 fill_says p (c ∷ []) = inr (λ d e more k. cc, refl, refl)
-fill_says p (c ∷ d ∷ ds) =
-    let a = from_place p (c ∷ d ∷ ds) in
-    let q = from_place (p + len_utf8 c) (d ∷ ds) in
-    cond_both (is_alignment d) (fill_or_fault a c q) (Ok (None, a)) (Says fill a)
-    (λ t. cond_both (eqb c open_brace) (Err (parse (no_fill p))) (Ok (Some c, q)) (Says fill a)
-    (λ e. (q, rw (← eqb-true c open_brace e) (fills_here p c d ds t), refl))
-    (λ e. inl (c, fills_here p c d ds t, eqb-false c open_brace e, refl)))
-    (λ t. inr (λ e f more k. ap is_alignment (sym (second_same k)) ∙ t, refl, refl))
+fill_says p (c ∷ d ∷ ds) = grind (arith, eqb-true, fills_here p c d ds)
 
 -- in front of an alignment
 fill_read : (a q : At) (c : ℕ) → Fills c a q → fill_at a ≡ fill_or_fault a c q
@@ -96,14 +83,7 @@ none_read p (c ∷ []) h = refl
 none_read p (c ∷ d ∷ ds) h = rw (h c d ds refl) refl
 
 agrees_fill : Agrees fill_at fill
-agrees_fill = record {
-  says = λ a. fill_says a.place a.text;
-  only = λ a q x t. elim t [
-    | inl s ↦ fill_read a q s.0 s.1 ∙ rw (ne_eqb s.0 open_brace s.2, s.3) refl
-    | inr s ↦ none_read a.place a.text s.0 ∙ ok_pair (sym s.1) (sym s.2)
-  ];
-  only_not = λ a f t. fill_read a t.0 open_brace t.1 ∙ rw t.2 refl;
-}
+agrees_fill = grind (arith, fill_says, fill_read, none_read, ok_pair, ne_eqb)
 
 -- ---- the whole spec
 
@@ -120,23 +100,12 @@ module _ (start : ℕ) where
   spec_says p [] = inl (inl (omega arith), refl, refl)
   spec_says p (c ∷ []) = inl (inl (omega arith), refl, refl)
   spec_says p (c ∷ d ∷ ds) =
-      let a = from_place p (c ∷ d ∷ ds) in
-      cond_both (eqb c close_brace) (Ok (plain_display, a)) (spec_parts start a) (Specs a)
-      (λ e. inl (inr (d ∷ ds, ap (λ n. n ∷ d ∷ ds) (eqb-true c close_brace e)), refl, refl))
-      (λ e. elim (spec_parts start a) as (λ o. Says (parts start) a o → Specs a o) [
-        | Ok w ↦ λ s. inr (is_read e, s)
-        | Err f ↦ λ s. (is_read e, s)
-      ] (agrees_parts.says a))
-    where
-      is_read : eqb c close_brace ≡ false → ¬ IsUnread (c ∷ d ∷ ds)
-      is_read e (inl short) = absurd (omega (arith, short))
-      is_read e (inr first) = eqb-false c close_brace e (head_same first.1)
+      grind (arith, eqb-true, agrees_parts.says (from_place p (c ∷ d ∷ ds)))
 
   unread : (a : At) (cs : List ℕ) → IsUnread cs → spec_of start a cs ≡ Ok (plain_display, a)
   unread a [] h = refl
   unread a (c ∷ []) h = refl
-  unread a (c ∷ d ∷ ds) (inl short) = absurd (omega (arith, short))
-  unread a (c ∷ d ∷ ds) (inr first) = rw (head_same first.1) refl
+  unread a (c ∷ d ∷ ds) h = grind (arith, h)
 
   parts_read : (a : At) (cs : List ℕ) → ¬ IsUnread cs → spec_of start a cs ≡ spec_parts start a
   parts_read a [] h = absurd (h (inl (omega arith)))
@@ -174,20 +143,11 @@ module _ (s : Setting) where
       ))
       (local_stay s stays a None)
 
-  -- a text that begins with a closing brace is not read
-  not_read :
-      (start : ℕ) (a : At) (c : ℕ) (cs : List ℕ) → c ≡ close_brace
-      → spec_of start a (c ∷ cs) ≡ Ok (plain_display, a)
-  not_read start a c [] e = refl
-  not_read start a c (d ∷ ds) e = rw e refl
-
   -- a closing brace that is not passed is the first character, or the second one
   one_left :
       (c : ℕ) (b : At) → IsSettled s (c ∷ [])
       → spec_of (s.start + s.by) b (c ∷ s.more) ≡ Ok (plain_display, b)
-  one_left c b (inl (inl e)) = not_read (s.start + s.by) b c s.more e
-  one_left c b (inl (inr guard)) = absurd guard
-  one_left c b (inr e) = ap (λ cs. spec_of (s.start + s.by) b (c ∷ cs)) e
+  one_left c b t = grind (arith, t)
 
   local_spec :
       (p : ℕ) (cs : List ℕ)

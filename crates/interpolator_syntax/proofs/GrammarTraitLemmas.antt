@@ -1,37 +1,31 @@
 -- A trait is its text, and the reverse; why a text begins none; and its reader is local.
-use Rattle.std.proofs.Common.{◌≡◌, ◌≢◌, ℕ, ◌+◌, Bool, true, false, eqb, All, List, [], ◌∷◌, ◌++◌}
-use Rattle.std.proofs.Common.{arith, refl, ap, ◌∙◌, sym, Result, Ok, Err, Option, Some, None}
-use Rattle.std.proofs.Common.{inl, inr, eqb-true, get_or, ltb, cond}
-use Rattle.std.specs.Prelude.{codes}
+use Rattle.std.proofs.Common.{◌≡◌, ◌≢◌, ℕ, ◌+◌, Bool, true, false, eqb, All, List, [], ◌∷◌, arith}
+use Rattle.std.proofs.Common.{refl, ap, ◌∙◌, sym, Result, Ok, Err, Option, Some, inl, inr, eqb-true}
+use Rattle.std.proofs.Common.{get_or, ltb, cond, codes, ne_eqb, ltb-true}
+use Rattle.std.proofs.lemmas.Grind.{common_steps}
 use Rattle.std.specs.Char.{len_utf8}
-use Rattle.std.proofs.lemmas.Bool.{eqb-false, ne_eqb, cond_both, ltb-true}
-use Rattle.std.proofs.lemmas.List.Elements.{All-nil, All-cons, All-get_or}
+use Rattle.std.proofs.lemmas.Bool.{eqb-false, cond_both}
+use Rattle.std.proofs.lemmas.List.Elements.{All-get_or}
 use Rattle.interpolator_render.specs.declared.view.Trait.{Trait}
-use Rattle.interpolator_render.specs.declared.view.Trait.TheVariants as traits
 use Rattle.interpolator_render.specs.declared.view.HexDebug.{HexDebug}
-use Rattle.interpolator_render.specs.declared.view.HexDebug.TheVariants as hex_debugs
-use Rattle.interpolator_syntax.specs.At.{At, size, strip}
-use Rattle.interpolator_syntax.specs.Classes.{close_brace, question_mark, lower_x, upper_x, lower_o}
-use Rattle.interpolator_syntax.specs.Classes.{lower_b, lower_e, upper_e, lower_i, lower_p}
-use Rattle.interpolator_syntax.specs.SpecTexts.{Wanted, trait_alone, hexadecimal, trait_letter, letter_trait}
-use Rattle.interpolator_syntax.specs.SpecTexts.{trait_from, trait_first, trait_at}
+use Rattle.interpolator_syntax.specs.At.{At, strip}
+use Rattle.interpolator_syntax.specs.Classes.{close_brace, question_mark, lower_x, upper_x}
+use Rattle.interpolator_syntax.specs.SpecTexts.{Wanted, trait_alone, hexadecimal, trait_letter}
+use Rattle.interpolator_syntax.specs.SpecTexts.{letter_trait, trait_from, trait_first, trait_at}
 use Rattle.interpolator_syntax.specs.Grammar.{from_place, NotFirst}
 use Rattle.interpolator_syntax.specs.GrammarParts.{Lies}
 use Rattle.interpolator_syntax.specs.SpecGrammar.{trait_text, MayEnd, AsksDisplay, trait_part}
 use Rattle.interpolator_syntax.specs.Faults.{Fault, parse, expected}
-use Rattle.interpolator_syntax.proofs.GrammarPartLemmas.{ok_pair, Says, Agrees, lies_here}
-use Rattle.interpolator_syntax.proofs.GrammarPartLemmas.{lies_cons, lies_end, Stripped}
-use Rattle.interpolator_syntax.proofs.GrammarPartLemmas.{stripped, strip_not}
+use Rattle.interpolator_syntax.proofs.GrammarPartLemmas.{ok_pair, Says, Agrees, lies_here, lies_end}
+use Rattle.interpolator_syntax.proofs.GrammarPartLemmas.{lies_cons, Stripped, stripped, strip_not}
 use Rattle.interpolator_syntax.proofs.CaseLemmas.{none_some, some_same}
-use Rattle.interpolator_syntax.proofs.LocalLemmas.{Setting, stays, elsewhere, IsLocal}
-use Rattle.interpolator_syntax.proofs.LocalLemmas.{local_stay, local_past, local_either}
-use Rattle.interpolator_syntax.proofs.LocalLemmas.{local_first}
+use Rattle.interpolator_syntax.proofs.LocalLemmas.{Setting, stays, elsewhere, IsLocal, local_stay}
+use Rattle.interpolator_syntax.proofs.LocalLemmas.{local_past, local_either, local_first}
 use Rattle.interpolator_syntax.proofs.LocalLemmas.{local_strip}
 use Rattle.interpolator_syntax.proofs.LocalityLemmas.{Takes}
 use Rattle.interpolator_syntax.proofs.SimpleReaderLemmas.{Law}
-
-place_after : (p : ℕ) → p + 1 + 1 ≡ p + 2
-place_after p = omega arith
+use Rattle.interpolator_render.specs.declared.view.Trait.TheVariants as traits
+use Rattle.interpolator_render.specs.declared.view.HexDebug.TheVariants as hex_debugs
 
 module _ (start : ℕ) (flagged : Bool) where
   abbrev Shows : At → Result (Wanted × At) Fault → Type 0
@@ -50,10 +44,7 @@ module _ (start : ℕ) (flagged : Bool) where
         → trait_text traits.Debug hex ≡ Some (d ∷ question_mark ∷ [])
         → (NotFirst question_mark cs → MayEnd t cs) → (o : Option At)
         → Stripped question_mark past o → Shows here (hexadecimal t hex past o)
-    hex_shows t hex d e one two ends None h =
-        inr (d ∷ [], one, rw (← eqb-true c d e) (lies_here p c cs), ends h)
-    hex_shows t hex d e one two ends (Some q) h =
-        inr (d ∷ question_mark ∷ [], two, rw (← eqb-true c d e) (lies_cons p c cs _ q h), tt)
+    hex_shows t hex d e one two ends o h = grind (arith, eqb-true, lies_here, lies_cons)
 
     abbrev Lettered : Option Trait → Type 0
     Lettered o = Shows here (letter_trait c p past o)
@@ -62,48 +53,21 @@ module _ (start : ℕ) (flagged : Bool) where
     letter_or : (t : Trait) (d : ℕ) → trait_text t hex_debugs.No ≡ Some (d ∷ []) → MayEnd t cs
         → (o : Option Trait) → (eqb c d ≡ false → Lettered o)
         → Lettered (cond (eqb c d) (Some t) o)
-    letter_or t d text follows o other =
-        cond_both (eqb c d) _ _ Lettered
-        (λ e. inr (d ∷ [], text, rw (← eqb-true c d e) (lies_here p c cs), follows)) other
+    letter_or t d text follows o other = grind (arith, cond_both, eqb-true, lies_here)
 
     abbrev None_of : List ℕ → Type 0
     None_of ds = All (λ d. c ≢ d) ds
 
     and_not : (d : ℕ) (ds : List ℕ) → eqb c d ≡ false → None_of ds → None_of (d ∷ ds)
-    and_not d ds e h = All-cons (λ n. c ≢ n) d ds (eqb-false c d e) h
+    and_not d ds e h = grind (arith, eqb-false)
 
     letters_show : eqb c close_brace ≡ false → eqb c lower_x ≡ false → eqb c upper_x ≡ false
         → Lettered (trait_letter c)
     letters_show no_brace no_x no_X =
-        letter_or traits.Debug question_mark refl tt _ (λ no_mark.
-        letter_or traits.Octal lower_o refl tt _ (λ no_o.
-        letter_or traits.Binary lower_b refl tt _ (λ no_b.
-        letter_or traits.LowerExp lower_e refl tt _ (λ no_e.
-        letter_or traits.UpperExp upper_e refl tt _ (λ no_E.
-        letter_or traits.Iter lower_i refl tt _ (λ no_i.
-        cond_both (eqb c lower_p) _ _ (λ (f : Fault). (trait_part start flagged).is_not here f)
-        (λ e. inr (inl ((cs, ap (λ n. n ∷ cs) (eqb-true c lower_p e)), refl)))
-        (λ no_p. inr (inr (
-          c,
-          (cs, refl),
-          and_not 125 (codes "?oxXbeEip") no_brace (and_not 63 (codes "oxXbeEip") no_mark
-              (and_not 111 (codes "xXbeEip") no_o (and_not 120 (codes "XbeEip") no_x
-              (and_not 88 (codes "beEip") no_X (and_not 98 (codes "eEip") no_b
-              (and_not 101 (codes "Eip") no_e (and_not 69 (codes "ip") no_E
-              (and_not 105 (codes "p") no_i
-              (and_not 112 [] no_p (All-nil (λ n. c ≢ n))))))))))),
-          refl,
-        )))))))))
+        grind (arith, common_steps, letter_or, cond_both, eqb-true, and_not)
 
     char_shows : Shows here (trait_from here c past)
-    char_shows =
-        cond_both (eqb c close_brace) _ _ (Shows here)
-        (λ e. inl (inl (cs, ap (λ n. n ∷ cs) (eqb-true c close_brace e)), refl, refl))
-        (λ no_brace. cond_both (eqb c lower_x) _ _ (Shows here)
-        (λ e. hex_shows traits.LowerHex _ _ e refl refl (λ h. h) _ (stripped question_mark past))
-        (λ no_x. cond_both (eqb c upper_x) _ _ (Shows here)
-        (λ e. hex_shows traits.UpperHex _ _ e refl refl (λ h. h) _ (stripped question_mark past))
-        (λ no_X. letters_show no_brace no_x no_X)))
+    char_shows = grind (arith, cond_both, eqb-true, hex_shows, stripped, letters_show)
 
     -- a character that begins no trait
     no_trait_begins :
@@ -118,10 +82,7 @@ module _ (start : ℕ) (flagged : Bool) where
 
   trait_shows :
       (p : ℕ) (cs : List ℕ) → Shows (from_place p cs) (trait_at start flagged (from_place p cs))
-  trait_shows p [] =
-      cond_both flagged _ _ (Shows (from_place p [])) (λ e. inl (refl, e, refl))
-      (λ e. inl (inr (refl, e), refl, refl))
-  trait_shows p (c ∷ cs) = char_shows p c cs
+  trait_shows p cs = grind (arith, cond_both, char_shows)
 
   abbrev reads : ℕ → List ℕ → Result (Wanted × At) Fault
   reads p cs = trait_at start flagged (from_place p cs)
@@ -129,38 +90,12 @@ module _ (start : ℕ) (flagged : Bool) where
   display_read :
       (a : At) → AsksDisplay flagged a.text
       → trait_at start flagged a ≡ Ok (trait_alone traits.Display, a)
-  display_read a h = elim h [
-    | inl k ↦ rw k.1 refl
-    | inr k ↦ rw (k.0, k.1) refl
-  ]
-
-  abbrev both : Trait → HexDebug → Wanted
-  both t hex = record { slot = t; hex_debug = hex }
-
-  -- the text of a trait, in front of that rest, is read
-  abbrev IsRead : Trait → HexDebug → ℕ → List ℕ → List ℕ → Type 0
-  IsRead t hex p rest cs = reads p (cs ++ rest) ≡ Ok (both t hex, from_place (p + size cs) rest)
-
-  text_read :
-      (t : Trait) (hex : HexDebug) (cs : List ℕ) (p : ℕ) (rest : List ℕ)
-      → trait_text t hex ≡ Some cs
-      → MayEnd t rest → IsRead t hex p rest cs
-  text_read traits.Display hex cs p rest e h = absurd (none_some e)
-  text_read traits.LowerHex hex_debugs.No cs p rest e h =
-      rw (← some_same e, strip_not question_mark (from_place (p + 1) rest) h) refl
-  text_read traits.UpperHex hex_debugs.No cs p rest e h =
-      rw (← some_same e, strip_not question_mark (from_place (p + 1) rest) h) refl
-  text_read t hex_debugs.No cs p rest e h = rw (← some_same e) refl
-  text_read traits.Debug hex cs p rest e h = rw (← some_same e, place_after p) refl
-  text_read t hex cs p rest e h = absurd (none_some e)
+  display_read a h = grind arith
 
   named_read :
       (a : At) (x : Wanted) (cs : List ℕ) (q : At) → trait_text x.slot x.hex_debug ≡ Some cs
       → Lies a cs q → MayEnd x.slot q.text → trait_at start flagged a ≡ Ok (x, q)
-  named_read a x cs q e l h =
-      ap (reads a.place) l.split
-      ∙ text_read x.slot x.hex_debug cs a.place q.text e h
-      ∙ ok_pair refl (lies_end a cs q l)
+  named_read a x cs q e l h = grind (arith, none_some, some_same, strip_not, ok_pair, lies_end)
 
   agrees_trait : Agrees (trait_at start flagged) (trait_part start flagged)
   agrees_trait = record {
@@ -195,17 +130,7 @@ module _ (s : Setting) where
         (c : ℕ) (o : Option Trait)
         → IsLocal s stays a (letter_trait c a.place rest o)
         (letter_trait c (a.place + s.by) (elsewhere s rest) o)
-    local_lettered c (Some slot) = (t, λ settled. refl)
-    local_lettered c None =
-        by_test (eqb c lower_p) _ _ _ _ (tt, λ from. omega arith, λ from. omega arith, λ none. refl)
-        (tt, λ from. omega arith, λ from. omega arith, λ none. refl)
-      where
-        by_test :
-            (b : Bool) (f g h k : Fault) → IsLocal s (stays {A = Wanted}) a (Err f) (Err h)
-            → IsLocal s (stays {A = Wanted}) a (Err g) (Err k)
-            → IsLocal s (stays {A = Wanted}) a (Err (cond b f g)) (Err (cond b h k))
-        by_test true f g h k l m = l
-        by_test false f g h k l m = m
+    local_lettered c o = grind (arith, stays)
 
   pub law_trait :
       (flagged : Bool)

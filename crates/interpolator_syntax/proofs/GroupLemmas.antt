@@ -1,12 +1,11 @@
 -- Where a group closes.
 use Rattle.std.proofs.Common.{◌≡◌, ℕ, suc, ◌+◌, ◌-◌, ◌<◌, ◌≤◌, List, [], ◌∷◌, ◌++◌, length, take}
 use Rattle.std.proofs.Common.{arith, refl, ap, ◌∙◌, sym, subst, Option, Some, None, append_assoc}
-use Rattle.std.proofs.lemmas.List.{append-nil, append_cancel_right, length-append}
-use Rattle.std.proofs.lemmas.Bool.{eqb-true}
+use Rattle.std.proofs.Common.{append-nil, length-append, eqb-true, option_map, chars, IsUtf8}
+use Rattle.std.proofs.Common.{encode_utf8_all}
+use Rattle.std.proofs.lemmas.List.{append_cancel_right}
 use Rattle.std.proofs.lemmas.Str.{encodes-chars, encodes-append, IsUtf8-take, chars-append}
-use Rattle.std.specs.Prelude.{option_map}
 use Rattle.std.specs.Char.{len_utf8}
-use Rattle.std.specs.Str.{chars, IsUtf8, encode_utf8_all}
 use Rattle.interpolator_syntax.specs.At.{At, size, strip, strip_of, after}
 use Rattle.interpolator_syntax.specs.Classes.{front_of, after_of, in_class, hash, close_bracket}
 use Rattle.interpolator_syntax.specs.Groups.{after_hashes, here_or_later, close_from, with_after}
@@ -23,8 +22,7 @@ use Rattle.interpolator_syntax.proofs.CaseLemmas.{none_some, some_same}
 -- after a sign, one sign fewer has to follow
 pub signs_next : (k p : ℕ) (cs : List ℕ) (q : At) → strip_of hash p cs ≡ Some q
     → after_hashes (suc k) p cs ≡ after_hashes k q.place q.text
-signs_next k p [] q e = absurd (none_some e)
-signs_next k p (c ∷ cs) q e = grind arith
+signs_next k p cs q e = grind (arith, none_some)
 
 pub one_less : (n i : ℕ) → i < n → n - i ≡ suc (n - (i + 1))
 one_less n i h = omega arith
@@ -38,7 +36,7 @@ signs_size (c ∷ cs) = grind (arith, eqb-true, signs_size cs)
 -- so the signs have as many bytes as there are signs
 pub signs_bytes : (bs cs : List ℕ) → IsUtf8 bs → chars bs ≡ front_of (in_class Hash) cs → length bs
     ≡ length (front_of (in_class Hash) cs)
-signs_bytes bs cs u e = sym (size-chars bs u) ∙ ap size e ∙ signs_size cs
+signs_bytes bs cs u e = grind (arith, size-chars, signs_size)
 
 -- ---- the closing bracket
 
@@ -48,13 +46,11 @@ after_front front o = option_map (λ w. (front ++ w.0, w.1)) o
 
 one_more : (front : List ℕ) (c : ℕ) (o : Option (List ℕ × At))
     → after_front front (here_or_later c None o) ≡ after_front (front ++ (c ∷ [])) o
-one_more front c None = refl
-one_more front c (Some w) = ap (λ xs. Some (xs, w.1)) (sym (append_assoc front (c ∷ []) w.0))
+one_more front c o = grind (arith, append_assoc)
 
 front_then : (xs ys : List ℕ) (o : Option (List ℕ × At)) → after_front xs (after_front ys o)
     ≡ after_front (xs ++ ys) o
-front_then xs ys None = refl
-front_then xs ys (Some w) = ap (λ zs. Some (zs, w.1)) (sym (append_assoc xs ys w.0))
+front_then xs ys o = grind (arith, append_assoc)
 
 abbrev enclosed : List ℕ → List ℕ
 enclosed cs = front_of (in_class Enclosed) cs
@@ -69,8 +65,7 @@ close_past k p (c ∷ cs) = grind (arith, append_assoc, close_past k (p + len_ut
 -- if there is no bracket, nothing closes
 none_after : (k p q : ℕ) (cs rest : List ℕ) → IsLongest (in_class Enclosed) cs (enclosed cs) rest
     → strip_of close_bracket q rest ≡ None → close_from k p rest ≡ None
-none_after k p q cs [] h e = refl
-none_after k p q cs (d ∷ ds) h e = grind (arith, h.stops d ds refl)
+none_after k p q cs rest h e = grind arith
 
 pub close_none : (k : ℕ) (a : At) → next_close a ≡ None → close_from k a.place a.text ≡ None
 close_none k a e =
@@ -89,28 +84,13 @@ pub record Bracket (b r : At) : Type 0 where
   pub closes : (k : ℕ) → close_from k b.place b.text
       ≡ here_or_later close_bracket (after_hashes k r.place r.text) (close_from k r.place r.text)
 
-bracket_here : (p : ℕ) (cs : List ℕ) (r : At) → strip_of close_bracket p cs ≡ Some r
-    → Bracket (record { place = p; text = cs }) r
-bracket_here p [] r e = absurd (none_some e)
-bracket_here p (c ∷ cs) r e =
-    record { text = grind (arith, eqb-true); closes = λ k. grind (arith, eqb-true) }
-
 -- the next bracket in the text at h
 pub record Next (h b r : At) : Type 0 where
   pub is : b ≡ after (in_class Enclosed) h
   pub bracket : Bracket b r
 
 pub next_is : (h b r : At) → next_close h ≡ Some (b, r) → Next h b r
-next_is h b r e =
-    let past = after (in_class Enclosed) h in
-    elim (strip close_bracket past) as (λ o. strip close_bracket past ≡ o
-    → with_after past o ≡ Some (b, r) → Next h b r) [
-      | None ↦ λ k g. absurd (none_some g)
-      | Some q ↦ λ k g.
-          let here = bracket_here past.place past.text q k in
-          subst (λ (w : At × At). Next h w.0 w.1) (some_same g)
-          (record { is = refl; bracket = here })
-    ] refl e
+next_is h b r e = grind (arith, none_some, eqb-true, some_same)
 
 -- the text after it is shorter
 pub next_shorter : (h b r : At) → next_close h ≡ Some (b, r) → length r.text < length h.text
@@ -131,7 +111,7 @@ pub record Reached (k : ℕ) (a h : At) : Type 0 where
 -- if no bracket is left, nothing closes
 pub reached_end : (k : ℕ) (a h : At) → Reached k a h → next_close h ≡ None → None
     ≡ close_from k a.place a.text
-reached_end k a h g e = ap (after_front g.front) (sym (close_none k h e)) ∙ g.closes
+reached_end k a h g e = grind (arith, close_none)
 
 -- the next bracket is reached
 pub reached_bracket : (k : ℕ) (a h b r : At) → Reached k a h → next_close h ≡ Some (b, r)
@@ -184,7 +164,7 @@ rest_of_chars text rest front u v e = (
 )
 
 pub rest_short : (text rest : List ℕ) → IsRest text rest → length rest ≤ length text
-rest_short text rest r = omega (arith, ap length r.1, length-append r.0 rest)
+rest_short text rest r = grind (arith, length-append)
 
 pub chars_of_cut :
     (text rest front : List ℕ) → IsUtf8 text → IsUtf8 rest → IsRest text rest

@@ -1,5 +1,5 @@
 -- The reader of a group is local.
-use Rattle.std.proofs.Common.{◌≡◌, ◌≢◌, ℕ, zero, suc, ◌+◌, eqb, List, [], ◌∷◌, ◌++◌, length, arith}
+use Rattle.std.proofs.Common.{◌≡◌, ℕ, zero, suc, ◌+◌, eqb, List, [], ◌∷◌, ◌++◌, length, arith}
 use Rattle.std.proofs.Common.{refl, ap, ◌∙◌, sym, Some, None, append_assoc, Option, append-nil}
 use Rattle.interpolator_syntax.specs.At.{At, size}
 use Rattle.interpolator_syntax.specs.Classes.{hash, open_bracket, close_bracket}
@@ -15,15 +15,12 @@ use Rattle.interpolator_syntax.proofs.LocalLemmas.{local_either, local_first, re
 use Rattle.interpolator_syntax.proofs.LocalityLemmas.{Takes, stands}
 use Rattle.interpolator_syntax.proofs.SimpleReaderLemmas.{reads_span}
 
-bracket_no_sign : close_bracket ≢ hash
-bracket_no_sign e = omega (arith, e)
-
 -- signs in front of a bracket are the same whatever comes after the bracket
 signs_before :
     (k : ℕ) (cs after more rest : List ℕ) → cs ++ (close_bracket ∷ after) ≡ sign_text k ++ rest
     → (left : List ℕ) × (cs ++ (close_bracket ∷ more) ≡ sign_text k ++ left)
 signs_before zero cs after more rest e = (cs ++ (close_bracket ∷ more), refl)
-signs_before (suc k) [] after more rest e = absurd (bracket_no_sign cc)
+signs_before (suc k) [] after more rest e = absurd (grind (arith, e))
 signs_before (suc k) (c ∷ cs) after more rest e =
     let first : c ≡ hash = cc in
     let others : cs ++ (close_bracket ∷ after) ≡ sign_text k ++ rest = cc in

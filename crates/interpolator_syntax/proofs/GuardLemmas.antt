@@ -8,7 +8,6 @@ use Rattle.interpolator_render.specs.declared.view.Trait.TheVariants as traits
 use Rattle.interpolator_render.specs.declared.view.Alignment.{Alignment}
 use Rattle.interpolator_render.specs.declared.view.Alignment.TheVariants as alignments
 use Rattle.interpolator_render.specs.declared.view.HexDebug.{HexDebug}
-use Rattle.interpolator_render.specs.declared.view.HexDebug.TheVariants as hex_debugs
 use Rattle.interpolator_render.specs.declared.view.Sign.TheVariants as signs
 use Rattle.interpolator_syntax.specs.At.{At}
 use Rattle.interpolator_syntax.specs.Classes.{hash, zero_digit, colon}
@@ -24,7 +23,6 @@ use Rattle.interpolator_syntax.specs.SpecGrammar.{kind, from_sign, fill, parts, 
 use Rattle.interpolator_syntax.specs.SpecGrammar.{IsSpec}
 use Rattle.interpolator_syntax.specs.SpecTexts.{Kind, of_value, of_list, Request, Wanted}
 use Rattle.interpolator_syntax.specs.SpecTexts.{alignment_letter, sign_letter}
-use Rattle.interpolator_syntax.proofs.CaseLemmas.{none_some, some_same}
 use Rattle.interpolator_syntax.proofs.GrammarArgumentLemmas.{argument_is}
 use Rattle.interpolator_syntax.proofs.GrammarListLemmas.{law_range, law_group}
 use Rattle.interpolator_syntax.proofs.GrammarOptionLemmas.{law_width, law_precision}
@@ -136,9 +134,7 @@ module _ (start : ℕ) where
   -- the letter of a list is one character
   list_letter : (hex : HexDebug) (cs : List ℕ) → trait_text traits.Iter hex ≡ Some cs
       → length cs ≡ 1
-  list_letter hex_debugs.No cs e = ap length (sym (some_same e))
-  list_letter hex_debugs.Lower cs e = absurd (none_some e)
-  list_letter hex_debugs.Upper cs e = absurd (none_some e)
+  list_letter hex cs e = grind (arith, e)
 
   lettered_after : (slot : Trait) (hex : HexDebug) (a b : At) (cs : List ℕ) (k : Kind) (q : At)
       → trait_text slot hex ≡ Some cs → Lies a cs b → (kind start slot).is b k q → KindAfter 1 k a

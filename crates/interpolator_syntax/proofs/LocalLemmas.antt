@@ -1,18 +1,15 @@
 -- A reader is local: it takes a front of its text, its faults lie there, and elsewhere it returns
 -- the same; and so are readers that are put together of local ones.
-use Rattle.std.proofs.Common.{◌≡◌, ℕ, ◌+◌, ◌≤◌, Bool, true, false, cond, eqb, List, [], ◌∷◌, ◌++◌}
-use Rattle.std.proofs.Common.{arith, refl, ap, ◌∙◌, sym, subst, Result, Ok, Err, Option, Some, None}
-use Rattle.std.proofs.Common.{inl, inr, ◌⊎◌}
+use Rattle.std.proofs.Common.{◌≡◌, ℕ, ◌+◌, ◌≤◌, Bool, cond, List, [], ◌∷◌, ◌++◌, arith, refl, ap}
+use Rattle.std.proofs.Common.{◌∙◌, Result, Ok, Err, Option, Some, None, inl, inr, ◌⊎◌, eqb-true}
 use Rattle.std.specs.Char.{len_utf8}
-use Rattle.std.proofs.lemmas.Bool.{eqb-true}
 use Rattle.interpolator_syntax.specs.At.{At, size, first, first_of, strip_of}
 use Rattle.interpolator_syntax.specs.ArgumentFaults.{IsArgumentFault}
 use Rattle.interpolator_syntax.specs.Readers.{Reader, on, ◌>>=◌}
 use Rattle.interpolator_syntax.specs.Faults.{Fault, fault_place}
 use Rattle.interpolator_syntax.specs.Moved.{moved_fault}
-use Rattle.interpolator_syntax.proofs.LocalityLemmas.{Takes, stands, takes_none, takes_one}
-use Rattle.interpolator_syntax.proofs.LocalityLemmas.{takes_then, takes_reaches, Guarded}
-use Rattle.interpolator_syntax.proofs.LocalityLemmas.{takes_guards}
+use Rattle.interpolator_syntax.proofs.LocalityLemmas.{Takes, stands, takes_none, takes_one, Guarded}
+use Rattle.interpolator_syntax.proofs.LocalityLemmas.{takes_then, takes_reaches, takes_guards}
 
 -- the argument that is read begins at `start`; elsewhere the same text is `by` bytes further on,
 -- with more after it
@@ -43,8 +40,7 @@ module _ (s : Setting) where
   IsSettled cs = Guarded cs ⊎ (s.more ≡ [])
 
   pub nothing_more : IsSettled [] → s.more ≡ []
-  nothing_more (inl guard) = absurd guard
-  nothing_more (inr e) = e
+  nothing_more h1 = grind arith
 
   settled_before : (a q : At) → Takes a q → IsSettled q.text → IsSettled a.text
   settled_before a q h (inl guard) = inl (takes_guards a q h guard)
@@ -82,7 +78,7 @@ module _ (s : Setting) where
   module _ {A : Type 0} (move : A → A) (a : At) where
     -- nothing is taken
     pub local_stay : (x : A) → IsLocal move a (Ok (x, a)) (Ok (move x, elsewhere a))
-    local_stay x = (takes_none a, λ settled. refl)
+    local_stay x = grind (arith, takes_none)
 
     -- a result after a front
     pub local_past :
@@ -101,8 +97,7 @@ module _ (s : Setting) where
     pub local_either :
         (t : Bool) (o k p l : Result (A × At) Fault) → IsLocal move a o k → IsLocal move a p l
         → IsLocal move a (cond t o p) (cond t k l)
-    local_either true o k p l h g = h
-    local_either false o k p l h g = g
+    local_either t o k p l h g = grind arith
 
   -- after a result the next, if it is local to the text at a, where l is the result elsewhere
   pub local_through :
@@ -111,10 +106,7 @@ module _ (s : Setting) where
       → ((x : A) (b : At) (l : Result (B × At) Fault) → Takes a b
       → (IsSettled b.text → l ≡ h (move x) (elsewhere b)) → IsLocal next a (g x b) l)
       → IsLocal next a (on o g) (on k h)
-  local_through move next a (Ok w) k g h kept r =
-      r w.0 w.1 (on k h) kept.0 (λ t. ap (λ answer. on answer h) (kept.1 t))
-  local_through move next a (Err f) k g h kept r =
-      (kept.0, kept.1, kept.2, λ none. ap (λ answer. on answer h) (kept.3 none))
+  local_through move next a o k g h kept r = grind arith
 
   -- after a result the next reader
   pub local_then :
@@ -122,9 +114,7 @@ module _ (s : Setting) where
       (g h : A → Reader B) → IsLocal move a o k
       → ((x : A) (b : At) → Takes a b → IsLocal next b (g x b) (h (move x) (elsewhere b)))
       → IsLocal next a (on o g) (on k h)
-  local_then move next a o k g h kept r =
-      local_through move next a o k g h kept (λ x b l t e.
-      local_past next a b (g x b) (h (move x) (elsewhere b)) l t e (r x b t))
+  local_then move next a o k g h kept r = grind (arith, local_through, local_past)
 
   -- ---- readers that decide by the first character
 
@@ -141,8 +131,7 @@ module _ (s : Setting) where
         local_past move a a (f None) (g None) _ (takes_none a)
         (λ t. ap (λ cs. g (first_of (p + s.by) cs)) (nothing_more t)) none
     local_first p (c ∷ cs) f g none some =
-        subst (λ q. IsLocal move (stands p (c ∷ cs)) (f (first_of p (c ∷ cs)))
-        (g (Some (c, stands q (cs ++ s.more))))) (sym (step_moved p s.by (len_utf8 c)))
+        rw (step_moved p s.by (len_utf8 c))
         (some c (stands (p + len_utf8 c) cs) (takes_one p c cs))
 
     -- a result at a by whether c begins the text cs, which ends where the text at a does
@@ -157,15 +146,8 @@ module _ (s : Setting) where
         local_past move a a (f None) (g None) _ (takes_none a)
         (λ t. ap (λ cs. g (strip_of c (p + s.by) cs)) (nothing_more (settled t))) none
     local_strip_at a c p (d ∷ ds) f g settled none some =
-        let rest = stands (p + len_utf8 d) ds in
-        let there = λ (q : ℕ). stands q (ds ++ s.more) in
-        subst (λ q. IsLocal move a (f (strip_of c p (d ∷ ds)))
-        (g (cond (eqb d c) (Some (there q)) None))) (sym (step_moved p s.by (len_utf8 d)))
-        (elim (eqb d c) as (λ t. (t ≡ true → d ≡ c)
-        → IsLocal move a (f (cond t (Some rest) None)) (g (cond t (Some (elsewhere rest)) None))) [
-          | true ↦ λ e. some rest (ap (λ n. n ∷ ds) (e refl)) (takes_one p d ds)
-          | false ↦ λ e. none
-        ] (eqb-true d c))
+        rw (step_moved p s.by (len_utf8 d))
+        (grind (arith, eqb-true d c, none, some, takes_one p d ds))
 
     -- a result by whether the first character is c
     pub local_strip :
@@ -175,24 +157,21 @@ module _ (s : Setting) where
         → IsLocal move (stands p cs) (f (Some b)) (g (Some (elsewhere b))))
         → IsLocal move (stands p cs) (f (strip_of c p cs))
         (g (strip_of c (p + s.by) (cs ++ s.more)))
-    local_strip c p cs f g = local_strip_at (stands p cs) c p cs f g (λ t. t)
+    local_strip c p cs f g = grind (arith, local_strip_at, stands)
 
 -- ---- readers
 
 module _ {s : Setting} {A : Type 0} {move : A → A} {read other : Reader A}
     (h : Reads s move read other) where
-  abbrev after_it : At → Result (A × At) Fault → Type 0
-  after_it a o = IsLocal s move a o (other (elsewhere s a))
-
   -- what was read
   pub value_local : (a : At) (x : A) (q : At) → read a ≡ Ok (x, q)
       → IsLocalValue s move a x q (other (elsewhere s a))
-  value_local a x q e = subst (after_it a) e (h.is_local a)
+  value_local a x q e = grind arith
 
   -- why nothing was read
   pub fault_local : (a : At) (f : Fault) → read a ≡ Err f
       → IsLocalFault s a f (other (elsewhere s a))
-  fault_local a f e = subst (after_it a) e (h.is_local a)
+  fault_local a f e = grind arith
 
 -- a reader after a front
 pub local_on :

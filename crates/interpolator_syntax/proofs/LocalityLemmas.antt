@@ -1,8 +1,7 @@
 -- Fronts of a text, and the text after them.
 use Rattle.std.proofs.Common.{◌≡◌, ℕ, ◌+◌, ◌≤◌, Bool, List, [], ◌∷◌, ◌++◌, length, arith, refl, ap}
-use Rattle.std.proofs.Common.{◌∙◌, sym, subst, inr, ◌⊎◌, append_assoc}
+use Rattle.std.proofs.Common.{◌∙◌, sym, subst, inr, ◌⊎◌, append_assoc, length-append}
 use Rattle.std.specs.Char.{len_utf8}
-use Rattle.std.proofs.lemmas.List.{length-append}
 use Rattle.interpolator_syntax.specs.At.{At, size, after}
 use Rattle.interpolator_syntax.specs.Classes.{front_of, close_brace}
 use Rattle.interpolator_syntax.proofs.FrontLemmas.{front_after}

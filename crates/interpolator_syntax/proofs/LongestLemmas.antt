@@ -1,9 +1,8 @@
 -- The longest front of a text whose characters pass: that defined by recursion is one, and there is
 -- no other.
 use Rattle.std.proofs.Common.{◌≡◌, ℕ, Bool, false, IsTrue, IsFalse, All, List, []}
-use Rattle.std.proofs.Common.{◌∷◌, ◌++◌, refl, ap, ◌∙◌, sym}
-use Rattle.std.proofs.lemmas.Bool.{cond_both}
-use Rattle.std.proofs.lemmas.List.Elements.{All-nil, All-cons, All-head, All-tail}
+use Rattle.std.proofs.Common.{◌∷◌, ◌++◌, refl, sym, arith}
+use Rattle.std.proofs.lemmas.List.Elements.{All-nil, All-head, All-tail}
 use Rattle.interpolator_syntax.specs.Classes.{front_of, after_of}
 use Rattle.interpolator_syntax.specs.Grammar.{from_place, IsLongest}
 use Rattle.interpolator_syntax.proofs.FrontLemmas.{front_after}
@@ -14,17 +13,12 @@ at_same e h = cc
 module _ (passes : ℕ → Bool) where
   front_passes : (cs : List ℕ) → All (λ c. IsTrue (passes c)) (front_of passes cs)
   front_passes [] = All-nil (λ c. IsTrue (passes c))
-  front_passes (c ∷ cs) =
-      cond_both (passes c) _ _ (All (λ c. IsTrue (passes c)))
-      (λ e. All-cons (λ c. IsTrue (passes c)) c (front_of passes cs) e (front_passes cs))
-      (λ e. All-nil (λ c. IsTrue (passes c)))
+  front_passes (c ∷ cs) = grind (arith, front_passes cs)
 
   after_stops : (cs : List ℕ) (c : ℕ) (more : List ℕ) → after_of passes cs ≡ c ∷ more
       → passes c ≡ false
   after_stops [] c more h = cc
-  after_stops (d ∷ ds) c more h =
-      cond_both (passes d) _ _ (λ xs. xs ≡ c ∷ more → passes c ≡ false)
-      (λ e. after_stops ds c more) (λ e k. let same : d ≡ c = cc in ap passes (sym same) ∙ e) h
+  after_stops (d ∷ ds) c more h = grind (arith, h, after_stops ds c more)
 
   -- the front and what follows it are the longest front and its rest
   pub front_longest : (cs : List ℕ) → IsLongest passes cs (front_of passes cs) (after_of passes cs)
@@ -48,14 +42,11 @@ module _ (passes : ℕ → Bool) where
       → (front_of passes (front ++ rest) ≡ front) × (after_of passes (front ++ rest) ≡ rest)
   front_then [] rest h k = front_stops rest k
   front_then (c ∷ cs) rest h k =
-      let e = All-head (λ c. IsTrue (passes c)) c cs h in
       let more = front_then cs rest (All-tail (λ c. IsTrue (passes c)) c cs h) k in
-      rw e (ap (λ xs. c ∷ xs) more.0, more.1)
+      rw (All-head (λ c. IsTrue (passes c)) c cs h, more.0, more.1) (refl, refl)
 
   -- there is only one longest front
   pub longest_front :
       (text front rest : List ℕ) → IsLongest passes text front rest
       → (front_of passes text ≡ front) × (after_of passes text ≡ rest)
-  longest_front text front rest h =
-      let same = front_then front rest h.pass h.stops in
-      (ap (front_of passes) h.split ∙ same.0, ap (after_of passes) h.split ∙ same.1)
+  longest_front text front rest h = rw h.split (front_then front rest h.pass h.stops)

@@ -1,6 +1,6 @@
 -- The pieces of a text at another base.
-use Rattle.std.proofs.Common.{◌≡◌, ℕ, zero, suc, ◌+◌, Bool, true, false, cond, eqb, List, [], ◌∷◌}
-use Rattle.std.proofs.Common.{length, map, refl, ap, ◌∙◌, Result, Ok, Err, Option, Some, None}
+use Rattle.std.proofs.Common.{◌≡◌, ℕ, zero, suc, ◌+◌, Bool, cond, eqb, List, [], ◌∷◌}
+use Rattle.std.proofs.Common.{length, map, arith, refl, ap, ◌∙◌, Result, Ok, Err, Option, Some, None}
 use Rattle.std.specs.Char.{len_utf8}
 use Rattle.interpolator_syntax.specs.At.{At, size, strip_of}
 use Rattle.interpolator_syntax.specs.Classes.{open_brace, close_brace}
@@ -10,7 +10,6 @@ use Rattle.interpolator_syntax.specs.Pieces.{argument_or_broken, argument_from, 
 use Rattle.interpolator_syntax.specs.Pieces.{close_step, piece_from, past, pieces_within, pieces}
 use Rattle.interpolator_syntax.specs.Pieces.{unclosed, broken}
 use Rattle.interpolator_syntax.specs.Faults.{Fault}
-use Rattle.interpolator_syntax.specs.Grammar.{from_place}
 use Rattle.interpolator_syntax.specs.Moved.{moved_at, moved_argument, moved_piece_kind, moved_piece}
 use Rattle.interpolator_syntax.proofs.LongestLemmas.{at_same}
 use Rattle.interpolator_syntax.proofs.LocalLemmas.{step_moved}
@@ -37,10 +36,7 @@ module _ (by : ℕ) where
       → f (strip_of c (p + by) cs) ≡ moved_step (g (strip_of c p cs))
   by_strip c p [] f g none some = none
   by_strip c p (d ∷ ds) f g none some =
-      let rest = from_place (p + len_utf8 d) ds in
-      ap (λ q. f (cond (eqb d c) (Some (from_place q ds)) None)) (step_moved p by (len_utf8 d))
-      ∙ elim (eqb d c) as (λ t. f (cond t (Some (moved_at by rest)) None)
-      ≡ moved_step (g (cond t (Some rest) None))) [ true ↦ some rest | false ↦ none ]
+      rw (step_moved p by (len_utf8 d)) (grind (arith, none, some))
 
   argument_or_broken_moves : (p : ℕ) (b : At) (o : Result (Argument × At) Fault)
       → argument_or_broken (p + by) (moved_at by b) (moved_read by o)
@@ -61,8 +57,7 @@ module _ (by : ℕ) where
 
   either_step : (t : Bool) (s r u v : Step) → s ≡ moved_step u → r ≡ moved_step v
       → cond t s r ≡ moved_step (cond t u v)
-  either_step true s r u v h k = h
-  either_step false s r u v h k = k
+  either_step t s r u v h k = grind (arith, h, k)
 
   piece_from_moves : (p c : ℕ) (b : At)
       → piece_from (p + by) c (moved_at by b) ≡ moved_step (piece_from p c b)

@@ -5,18 +5,16 @@ use Rattle.interpolator_syntax.specs.At.{At, strip}
 use Rattle.interpolator_syntax.specs.Arguments.{Argument, argument_at}
 use Rattle.interpolator_syntax.specs.Classes.{close_brace}
 use Rattle.interpolator_syntax.specs.Faults.{Fault}
-use Rattle.interpolator_syntax.specs.Groups.{Group}
+use Rattle.interpolator_syntax.specs.Groups.{Group, inside}
 use Rattle.interpolator_syntax.specs.Pieces.{PieceKind, closed, unclosed, broken, argument_from}
 use Rattle.interpolator_syntax.specs.Pieces.{argument_or_broken, argument_step}
 use Rattle.interpolator_syntax.specs.SpecTexts.{Kind, of_value, of_list}
 use Rattle.interpolator_syntax.specs.Tokens.{Token, first_token, past_token, argument}
-use Rattle.interpolator_syntax.specs.Groups.{inside}
-use Rattle.interpolator_syntax.specs.Nodes.{Node, as_branch, group_branch}
-use Rattle.interpolator_syntax.specs.Nodes.{argument_node, piece_node, token_node}
-use Rattle.interpolator_syntax.specs.Nodes.{leading_nodes, nodes_within, nodes}
-use Rattle.interpolator_syntax.specs.declared.piece_kind.PieceKind as told
+use Rattle.interpolator_syntax.specs.Nodes.{Node, as_branch, group_branch, argument_node, nodes}
+use Rattle.interpolator_syntax.specs.Nodes.{piece_node, token_node, leading_nodes, nodes_within}
 use Rattle.interpolator_syntax.proofs.TokenLemmas.{token_shorter, scan_shorter}
 use Rattle.interpolator_syntax.proofs.SizeLemmas.{GroupIfIn, KindIn, argument_in}
+use Rattle.interpolator_syntax.specs.declared.piece_kind.PieceKind as told
 
 -- ---- induction by length
 
@@ -123,3 +121,18 @@ nodes_first a b t h = nodes_lead a ∙ ap (leading_nodes nodes a.place) h
 
 pub nodes_none : (a : At) → first_token a ≡ None → nodes a ≡ []
 nodes_none a h = nodes_lead a ∙ ap (leading_nodes nodes a.place) h
+
+-- ---- induction by tokens
+
+-- a property of each text without tokens that, of the text after the first token and its argument,
+-- is one of the whole text holds for all texts
+pub by_token : (P : At → Type 0) → ((a : At) → first_token a ≡ None → P a)
+    → ((a b : At) (t : Token) → first_token a ≡ Some (t, b) → P (past_token t b) → P a)
+    → (a : At) → P a
+by_token P none first = by_length P (λ a shorter. by_first a shorter (first_token a) refl)
+  where
+    by_first : (a : At) → ((b : At) → length b.text < length a.text → P b)
+        → (o : Option (Token × At)) → first_token a ≡ o → P a
+    by_first a shorter None e = none a e
+    by_first a shorter (Some w) e =
+        first a w.1 w.0 e (shorter (past_token w.0 w.1) (scan_shorter a _ w e refl))

@@ -1,6 +1,6 @@
 -- The pieces of a text, one after the other.
-use Rattle.std.proofs.Common.{◌≡◌, ℕ, zero, suc, ◌≤◌, Bool, true, false, cond, eqb, List, [], ◌∷◌}
-use Rattle.std.proofs.Common.{length, arith, refl, ap, Ok, Option, Some, None, ◌+◌, eqb-true, ◌||◌}
+use Rattle.std.proofs.Common.{◌≡◌, ℕ, zero, suc, ◌≤◌, Bool, false, List, [], ◌∷◌}
+use Rattle.std.proofs.Common.{length, arith, refl, ap, Ok, Some, ◌+◌, eqb-true}
 use Rattle.std.proofs.Common.{Result, Err, ◌++◌, ◌∙◌, sym, append_assoc}
 use Rattle.std.proofs.lemmas.List.{append_cancel_right}
 use Rattle.interpolator_syntax.specs.At.{At, at, strip, strip_of}
@@ -13,25 +13,14 @@ use Rattle.interpolator_syntax.specs.Pieces.{pieces, step, literal, argument_or_
 use Rattle.interpolator_syntax.proofs.FrontLemmas.{cut_at_rest}
 use Rattle.interpolator_syntax.proofs.LocalityLemmas.{takes_shorter}
 use Rattle.interpolator_syntax.proofs.ReaderLemmas.{argument_takes}
-use Rattle.interpolator_syntax.proofs.CaseLemmas.{in_both, none_some}
+use Rattle.interpolator_syntax.proofs.CaseLemmas.{none_some}
 use Rattle.std.specs.Char.{len_utf8}
 use Rattle.interpolator_syntax.specs.Faults.{Fault}
 
 pub after_shorter : (passes : ℕ → Bool) (cs : List ℕ) → length (after_of passes cs) ≤ length cs
 after_shorter passes [] = omega arith
 after_shorter passes (c ∷ cs) =
-    elim (passes c) as (λ b. length (cond b (after_of passes cs) (c ∷ cs)) ≤ length (c ∷ cs))
-    [ true ↦ omega (arith, after_shorter passes cs) | false ↦ omega arith ]
-
--- the text after a character, if that is there, has at most n characters
-abbrev pub OptionWithin : ℕ → Option At → Type 0
-OptionWithin n None = Unit {0}
-OptionWithin n (Some rest) = length rest.text ≤ n
-
-pub strip_within : (c p : ℕ) (cs : List ℕ) (n : ℕ) → length cs ≤ n
-    → OptionWithin n (strip_of c p cs)
-strip_within c p [] n h = tt
-strip_within c p (d ∷ ds) n h = in_both (OptionWithin n) (eqb d c) _ _ (omega arith) tt
+    grind (arith, after_shorter passes cs)
 
 -- the text after a character that is there
 pub strip_after : (c p : ℕ) (cs : List ℕ) (r : At) → strip_of c p cs ≡ Some r
@@ -43,10 +32,7 @@ strip_after c p (d ∷ ds) r e = grind (arith, eqb-true)
 pub literal_step : (p c : ℕ) (b : At) → is_brace c ≡ false
     → piece_from p c b ≡ step p (c ∷ []) (literal c) b
 literal_step p c b h =
-    let tests = neither (eqb c open_brace) (eqb c close_brace) h in rw (tests.0, tests.1) refl
-  where
-    neither : (b d : Bool) → (b || d) ≡ false → (b ≡ false) × (d ≡ false)
-    neither b d e = grind arith
+    grind (arith, h)
 
 argument_or_broken_within :
     (p : ℕ) (b : At) (r : Result (Argument × At) Fault) → argument_at b ≡ r

@@ -16,9 +16,8 @@ use Rattle.interpolator_syntax.proofs.GrammarLemmas.{same_ok}
 use Rattle.interpolator_syntax.proofs.GrammarPartLemmas.{ok_pair}
 use Rattle.interpolator_syntax.proofs.GrammarSpecLemmas.{moved_request, law_spec}
 use Rattle.interpolator_syntax.proofs.LocalLemmas.{Setting, elsewhere, IsLocalValue, IsLocalFault}
-use Rattle.interpolator_syntax.proofs.LocalLemmas.{Reads}
-use Rattle.interpolator_syntax.proofs.LocalLemmas.{local_stay, local_strip, local_on, value_local}
-use Rattle.interpolator_syntax.proofs.LocalLemmas.{fault_local, reads_then}
+use Rattle.interpolator_syntax.proofs.LocalLemmas.{Reads, local_stay, local_strip, local_on}
+use Rattle.interpolator_syntax.proofs.LocalLemmas.{value_local, fault_local, reads_then}
 use Rattle.interpolator_syntax.proofs.LocalityLemmas.{Takes, Guarded, with_more}
 use Rattle.interpolator_syntax.proofs.LongestLemmas.{at_same}
 use Rattle.interpolator_syntax.proofs.SimpleReaderLemmas.{reads_give, reads_here, reads_span}

@@ -1,16 +1,14 @@
 -- The pieces of the first token, and then those of the text after it.
-use Rattle.std.proofs.Common.{◌≡◌, ℕ, ◌+◌, Bool, true, false, eqb, List, [], ◌∷◌, ◌++◌}
-use Rattle.std.proofs.Common.{arith, refl, ap, ◌∙◌, subst, Option, Some, None, eqb-true}
+use Rattle.std.proofs.Common.{◌≡◌, ℕ, ◌+◌, Bool, true, false, List, [], ◌∷◌, ◌++◌, arith, refl, ap}
+use Rattle.std.proofs.Common.{◌∙◌, subst, Option, Some, None, eqb-true}
 use Rattle.std.specs.Char.{len_utf8}
-use Rattle.std.proofs.lemmas.Bool.{cond_both}
 use Rattle.interpolator_syntax.specs.At.{At, size}
 use Rattle.interpolator_syntax.specs.Classes.{front_of, after_of, in_class, is_brace, open_brace}
 use Rattle.interpolator_syntax.specs.Classes.{close_brace}
 use Rattle.interpolator_syntax.specs.PieceGrammar.{literal_pieces, token_pieces}
-use Rattle.interpolator_syntax.specs.Pieces.{Piece, literal, Step, argument_from}
-use Rattle.interpolator_syntax.specs.Pieces.{open_step, close_step, past, pieces}
-use Rattle.interpolator_syntax.specs.Tokens.{Token, open_scan, close_scan, no_open_scan}
-use Rattle.interpolator_syntax.specs.Tokens.{scan_by, first_token, past_token}
+use Rattle.interpolator_syntax.specs.Pieces.{Piece, literal, Step, argument_from, open_step}
+use Rattle.interpolator_syntax.specs.Pieces.{close_step, past, pieces}
+use Rattle.interpolator_syntax.specs.Tokens.{Token, open_scan, close_scan, first_token, past_token}
 use Rattle.interpolator_syntax.specs.declared.class.Class.TheVariants.{Literal}
 use Rattle.interpolator_syntax.proofs.LocalityLemmas.{stands}
 use Rattle.interpolator_syntax.proofs.LongestLemmas.{at_same}
@@ -33,16 +31,12 @@ any_rest q p b = grind arith
 scans_open : (p : ℕ) (cs : List ℕ) (o : Option At)
     → of_step (open_step p (past p open_brace cs) o)
     ≡ of_scan p (Some (open_scan (past p open_brace cs) o))
-scans_open p cs (Some rest) = refl
-scans_open p cs None =
-    let b = past p open_brace cs in
-    ap (λ r. (argument_from p b).piece ∷ pieces r) (any_rest p b.place b)
+scans_open p cs o = grind (arith, any_rest p)
 
 scans_close : (p : ℕ) (cs : List ℕ) (o : Option At)
     → of_step (close_step p (past p close_brace cs) o)
     ≡ of_scan p (Some (close_scan (past p close_brace cs) o))
-scans_close p cs (Some rest) = refl
-scans_close p cs None = refl
+scans_close p cs o = grind arith
 
 -- ---- a run of literals
 
@@ -82,14 +76,7 @@ hands_at : (p : ℕ) (cs : List ℕ) → Hands (stands p cs) (first_token (stand
 unfolding first_token
 hands_at p [] = pieces_none p
 hands_at p (c ∷ cs) =
-    let a = stands p (c ∷ cs) in
-    cond_both (eqb c open_brace) _ _ (λ o. Hands a (scan_by a o))
-    (λ e. rw (eqb-true c open_brace e)
-    (pieces_next p open_brace cs ∙ scans_open p cs _))
-    (λ n. cond_both (eqb c close_brace) _ _ (λ o. Hands a (no_open_scan a o))
-    (λ e. rw (eqb-true c close_brace e)
-    (pieces_next p close_brace cs ∙ scans_close p cs _))
-    (λ d. run_is p (c ∷ cs)))
+    grind (arith, eqb-true, pieces_next p c cs, scans_open p cs, scans_close p cs, run_is p (c ∷ cs))
 
 pub hands_on : (a : At) (x : Token) (b : At) → first_token a ≡ Some (x, b)
     → pieces a ≡ token_pieces a.place x b ++ pieces (past_token x b)

@@ -68,13 +68,11 @@ group_in n (Some g) a h =
     }
 
 kind_in : (n : ℕ) (k : Kind) (a : At) → KindAfter n k a → KindIn k a
-kind_in n (of_value t) a h = tt
-kind_in n (of_list l) a h =
-    record { item = group_in n l.item a h.0; join = group_in n l.join a h.1 }
+kind_in n k a h = grind (arith, group_in)
 
 -- the groups of an argument lie in its text
 pub argument_in : (a : At) (x : Argument) (q : At) → argument_at a ≡ Ok (x, q) → KindIn x.kind a
-argument_in a x q e = kind_in 2 x.kind a (argument_after a x q e)
+argument_in a x q e = grind (arith, kind_in, argument_after)
 
 -- ---- pieces
 

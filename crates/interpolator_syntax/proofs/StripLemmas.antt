@@ -1,36 +1,27 @@
 -- An ASCII character at the beginning of a text, by its byte.
-use Rattle.std.proofs.Common.{◌≡◌, ℕ, ◌+◌, ◌<◌, true, eqb, List, [], ◌∷◌, ◌++◌, length, get_or}
-use Rattle.std.proofs.Common.{arith, refl, ap, ◌∙◌, sym, rules, Some, None}
-use Rattle.std.specs.Str.{chars, IsUtf8, IsCharBoundary, encode_utf8_all}
-use Rattle.std.specs.Char.{encode_utf8}
-use Rattle.std.specs.List.{slice_get}
+use Rattle.std.proofs.Common.{◌≡◌, ℕ, ◌+◌, ◌<◌, List, [], ◌∷◌, length, get_or, arith}
+use Rattle.std.proofs.Common.{refl, ap, ◌∙◌, sym, Some, None, chars, IsUtf8, IsCharBoundary}
+use Rattle.std.proofs.Common.{encode_utf8_all, slice_get, eqb-true}
 use Rattle.std.proofs.lemmas.Str.{chars_past_char, chars-nil, encodes-chars, encode_ascii}
 use Rattle.std.proofs.lemmas.Str.{len_utf8_ascii, IsCharBoundary-after_ascii}
 use Rattle.interpolator_syntax.specs.At.{At, strip, strip_of, after}
 use Rattle.interpolator_syntax.specs.Classes.{front_of, in_class, open_brace, close_brace}
-use Rattle.interpolator_syntax.specs.Tokens.{literals, first_token, literal_scan}
+use Rattle.interpolator_syntax.specs.Tokens.{literals, first_token}
 use Rattle.interpolator_syntax.specs.declared.class.Class.TheVariants.{Literal}
 use Rattle.interpolator_syntax.specs.Grammar.{NotFirst}
-use Rattle.std.proofs.lemmas.Bool.{cond_both, eqb-true}
-
-same_test : (n : ℕ) → eqb n n ≡ true
-same_test n = search rules
 
 pub strip_here : (wanted p : ℕ) (bs rest : List ℕ) → wanted < 128 → IsUtf8 bs → bs ≡ wanted ∷ rest
     → strip_of wanted p (chars bs) ≡ Some (record { place = p + 1; text = chars rest })
 strip_here wanted p bs rest low u e =
     let whole : chars bs ≡ wanted ∷ chars rest =
     chars_past_char bs rest wanted u (rw (encode_ascii wanted low) e) in
-    rw (whole, same_test wanted, len_utf8_ascii wanted low) refl
+    grind (arith, whole, len_utf8_ascii wanted low)
 
 strip_other_at : (wanted p : ℕ) (bs cs : List ℕ) → wanted < 128 → NotFirst wanted bs
     → encode_utf8_all cs ≡ bs → strip_of wanted p cs ≡ None
 strip_other_at wanted p bs [] low h e = refl
 strip_other_at wanted p bs (c ∷ cs) low h e =
-    cond_both (eqb c wanted) _ _ (λ o. o ≡ None) (λ d.
-    let begins = ap encode_utf8 (eqb-true c wanted d) ∙ encode_ascii wanted low in
-    absurd (h (encode_utf8_all cs) (sym e ∙ ap (λ xs. xs ++ encode_utf8_all cs) begins)))
-    (λ d. refl)
+    grind (arith, encode_ascii wanted low, eqb-true c wanted, h (encode_utf8_all cs), e)
 
 pub strip_other : (wanted p : ℕ) (bs : List ℕ) → wanted < 128 → IsUtf8 bs → NotFirst wanted bs
     → strip_of wanted p (chars bs) ≡ None
@@ -51,17 +42,7 @@ pub literals_scanned : (p : ℕ) (bs cs : List ℕ) (r : At) → 0 < length bs �
     → Some (literals cs, r) ≡ first_token (record { place = p; text = chars bs })
 unfolding first_token
 literals_scanned p bs cs r n u h k f b =
-    rw (sym h, sym k, f, b) (by_chars (chars bs) (encodes-chars bs u))
-  where
-    by_chars : (ds : List ℕ) → encode_utf8_all ds ≡ bs
-        → Some (
-          literals (front_of (in_class Literal) (chars bs)),
-          after (in_class Literal)
-              (record { place = p; text = chars bs }),
-        )
-        ≡ literal_scan (record { place = p; text = chars bs }) ds
-    by_chars [] e = let none : length bs ≡ 0 = sym (ap length e) in absurd (omega arith)
-    by_chars (d ∷ ds) e = refl
+    grind (arith, n, h, k, f, b, encodes-chars bs u)
 
 -- a text of one byte
 pub one_char : (bs cs : List ℕ) → cs ≡ bs → length cs ≡ 1 → get_or cs 0 0 < 128 → IsUtf8 bs

@@ -1,8 +1,7 @@
 -- Tokens, and the text after them, as parts of the whole text.
-use Rattle.std.proofs.Common.{◌≡◌, ℕ, ◌+◌, List, [], ◌∷◌, ◌++◌}
-use Rattle.std.proofs.Common.{arith, refl, sym, subst, Option, Some, None, Result, Ok, Err}
+use Rattle.std.proofs.Common.{◌≡◌, ℕ, ◌+◌, List, [], ◌∷◌, ◌++◌, arith, refl, sym, subst, Option}
+use Rattle.std.proofs.Common.{Some, None, Result, Ok, Err, append-nil}
 use Rattle.std.specs.Char.{len_utf8}
-use Rattle.std.proofs.lemmas.List.{append-nil}
 use Rattle.interpolator_syntax.specs.At.{At, size, strip, all_after}
 use Rattle.interpolator_syntax.specs.Classes.{after_of, in_class, open_brace, close_brace}
 use Rattle.interpolator_syntax.specs.Arguments.{Argument, argument_at}
@@ -94,16 +93,12 @@ takes_literals a (c ∷ cs) = record {
 
 takes_no_open : (a : At) (o : Option At) → strip close_brace a ≡ o
     → MayTakeToken a (no_open_scan a o)
-takes_no_open a None e = takes_literals a a.text
-takes_no_open a (Some b) e =
-    let s = strip_after close_brace a.place a.text b e in
-    takes_close a b s.0 s.1 (strip close_brace b) refl
+takes_no_open a o e =
+    grind (arith, takes_literals a a.text, strip_after close_brace a.place a.text, takes_close a)
 
 takes_scan : (a : At) (o : Option At) → strip open_brace a ≡ o → MayTakeToken a (scan_by a o)
-takes_scan a None e = takes_no_open a (strip close_brace a) refl
-takes_scan a (Some b) e =
-    let s = strip_after open_brace a.place a.text b e in
-    takes_open a b s.0 s.1 (strip open_brace b) refl
+takes_scan a o e =
+    grind (arith, takes_no_open a _ refl, strip_after open_brace a.place a.text, takes_open a)
 
 pub takes_token : (a : At) (w : Token × At) → first_token a ≡ Some w → TakesToken a w.0 w.1
 unfolding first_token
@@ -114,16 +109,13 @@ takes_token a w e = subst (MayTakeToken a) e (takes_scan a (strip open_brace a) 
 step_taken :
     (p : ℕ) (a : At) (x : Argument) (q : At) (o : Option At) → Takes a q → strip close_brace q ≡ o
     → Takes a (argument_step p a x q o).rest
-step_taken p a x q None t e = takes_all_after a
-step_taken p a x q (Some r) t e =
-    let s = strip_after close_brace q.place q.text r e in
-    takes_then a q r t (one_taken q close_brace r s.0 s.1)
+step_taken p a x q o t e =
+    grind (arith, takes_all_after a, strip_after close_brace q.place q.text, takes_then a q, one_taken q close_brace)
 
 or_broken_taken :
     (p : ℕ) (a : At) (o : Result (Argument × At) Fault) → argument_at a ≡ o
     → Takes a (argument_or_broken p a o).rest
-or_broken_taken p a (Ok w) e =
-    step_taken p a w.0 w.1 (strip close_brace w.1) (argument_takes a w.0 w.1 e) refl
+or_broken_taken p a (Ok w) e = step_taken p a w.0 w.1 _ (argument_takes a w.0 w.1 e) refl
 or_broken_taken p a (Err f) e = takes_all_after a
 
 argument_taken : (p : ℕ) (a : At) → Takes a (argument_from p a).rest

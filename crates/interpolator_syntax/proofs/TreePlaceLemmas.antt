@@ -1,6 +1,6 @@
 -- The places that the tree of a text keeps lie in the text, and its faults are those of arguments.
-use Rattle.std.proofs.Common.{◌≡◌, ℕ, ◌+◌, ◌<◌, ◌≤◌, length}
-use Rattle.std.proofs.Common.{arith, refl, Option, Some, None, Result, Ok, Err}
+use Rattle.std.proofs.Common.{◌≡◌, ℕ, ◌+◌, ◌<◌, ◌≤◌, length, arith, refl, Option, Some, None}
+use Rattle.std.proofs.Common.{Result, Ok, Err}
 use Rattle.std.specs.Prelude.{⊤}
 use Rattle.interpolator_syntax.specs.ArgumentFaults.{IsArgumentFault}
 use Rattle.interpolator_syntax.specs.Arguments.{Argument, argument_at}
@@ -9,10 +9,9 @@ use Rattle.interpolator_syntax.specs.Classes.{close_brace}
 use Rattle.interpolator_syntax.specs.Faults.{Fault, fault_place}
 use Rattle.interpolator_syntax.specs.Groups.{Group, inside}
 use Rattle.interpolator_syntax.specs.Nodes.{Node, node, Branch, no_branch, branch, Forest, no_nodes}
-use Rattle.interpolator_syntax.specs.Nodes.{nodes_and, as_forest, nodes, Content, text_content, argument_content}
-use Rattle.interpolator_syntax.specs.Nodes.{fault_content}
-use Rattle.interpolator_syntax.specs.Nodes.{group_branch, item_branch, join_branch}
-use Rattle.interpolator_syntax.specs.Nodes.{piece_node, token_node}
+use Rattle.interpolator_syntax.specs.Nodes.{nodes_and, as_forest, nodes, Content, text_content}
+use Rattle.interpolator_syntax.specs.Nodes.{argument_content, fault_content, group_branch}
+use Rattle.interpolator_syntax.specs.Nodes.{item_branch, join_branch, piece_node, token_node}
 use Rattle.interpolator_syntax.specs.Pieces.{argument_from, argument_or_broken, argument_step}
 use Rattle.interpolator_syntax.specs.SpecTexts.{Kind, of_value, of_list}
 use Rattle.interpolator_syntax.specs.Tokens.{Token, literals, doubled, lone_close, argument}
@@ -65,19 +64,19 @@ module _ (b : At) (n : ℕ) (more : (c : At) → length c.text < length b.text �
   begins : b.place ≤ n
   begins = omega (arith, reach)
 
+  argument_lies : (x : Argument) (q : At) → argument_at b ≡ Ok (x, q)
+      → (b.place ≤ n) × (q.place ≤ n)
+      × BranchLies n (item_branch nodes x.kind) × BranchLies n (join_branch nodes x.kind)
+  argument_lies x q e =
+      let ends = takes_reaches _ b q (argument_takes b x q e) refl in
+      let groups = kind_lies x.kind (argument_in b x q e) in
+      (begins, omega (arith, reach, ends), groups.0, groups.1)
+
   step_lies : (p : ℕ) (x : Argument) (q : At) (o : Option At) → argument_at b ≡ Ok (x, q)
       → (let s = argument_step b.place b x q o in
       NodeLies n (piece_node nodes p s.rest.place s.piece.kind))
-  step_lies p x q None e =
-      let ends : q.place ≤ n =
-      omega (arith, reach, takes_reaches _ b q (argument_takes b x q e) refl) in
-      let groups = kind_lies x.kind (argument_in b x q e) in
-      ((begins, ends), groups.0, groups.1)
-  step_lies p x q (Some rest) e =
-      let ends : q.place ≤ n =
-      omega (arith, reach, takes_reaches _ b q (argument_takes b x q e) refl) in
-      let groups = kind_lies x.kind (argument_in b x q e) in
-      ((begins, ends), groups.0, groups.1)
+  step_lies p x q None e = let h = argument_lies x q e in ((h.0, h.1), h.2, h.3)
+  step_lies p x q (Some rest) e = let h = argument_lies x q e in ((h.0, h.1), h.2, h.3)
 
   answer_lies : (p : ℕ) (r : Result (Argument × At) Fault) → argument_at b ≡ r
       → (let s = argument_or_broken b.place b r in

@@ -45,7 +45,7 @@ fn find_bracket(here: Cursor<'_>) -> Option<(Cursor<'_>, Cursor<'_>)>
 }
 
 /// Returns the text in front of the rest that ends it.
-pub fn text_before<'a>(text: &'a str, rest: &str) -> &'a str
+fn text_before<'a>(text: &'a str, rest: &str) -> &'a str
     requires { (front : List ℕ) × (chars text.now ≡ front ++ chars rest.now) }
     ensures chars { chars result.now ++ chars rest.now ≡ chars text.now }
     ensures len { length result.now ≤ length text.now }

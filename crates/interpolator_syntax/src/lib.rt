@@ -40,7 +40,7 @@ pub use argument::{
     take_argument, take_name, take_request,
 };
 pub use argument_fault::ArgumentFault;
-pub use bracket::{inside, text_before};
+pub use bracket::inside;
 pub use class::{Class, split_class, split_first};
 pub use cursor::Cursor;
 pub use error::{Error, NumberError, ParseError};

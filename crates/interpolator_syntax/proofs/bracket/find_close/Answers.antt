@@ -1,5 +1,4 @@
-use Rattle.std.proofs.Common.{sym}
-use Rattle.std.specs.Str.{chars}
+use Rattle.std.proofs.Common.{sym, chars}
 use Rattle.interpolator_syntax.specs.At.{at}
 use Rattle.interpolator_syntax.proofs.GroupLemmas.{next_shorter, reached_end, reached_bracket}
 use Rattle.interpolator_syntax.proofs.GroupLemmas.{reached_past, reached_close}

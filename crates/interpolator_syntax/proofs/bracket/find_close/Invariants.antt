@@ -1,5 +1,4 @@
-use Rattle.std.proofs.Common.{length}
-use Rattle.std.specs.Str.{chars}
+use Rattle.std.proofs.Common.{length, chars}
 use Rattle.interpolator_syntax.specs.At.{at}
 use Rattle.interpolator_syntax.proofs.GroupLemmas.{Reached}
 use Rattle.interpolator_syntax.proofs.bracket.find_close.Given as goal

@@ -1,5 +1,4 @@
-use Rattle.std.proofs.Common.{ap, sym, ◌∙◌, ◌-◌, ◌+◌, arith}
-use Rattle.std.specs.Str.{chars}
+use Rattle.std.proofs.Common.{ap, sym, ◌∙◌, ◌-◌, ◌+◌, arith, chars}
 use Rattle.interpolator_syntax.specs.At.{at}
 use Rattle.interpolator_syntax.specs.Groups.{after_hashes}
 use Rattle.interpolator_syntax.proofs.GroupLemmas.{signs_next, one_less}

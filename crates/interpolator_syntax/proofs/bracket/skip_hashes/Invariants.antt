@@ -1,5 +1,4 @@
-use Rattle.std.proofs.Common.{◌≡◌, ◌-◌}
-use Rattle.std.specs.Str.{chars}
+use Rattle.std.proofs.Common.{◌≡◌, ◌-◌, chars}
 use Rattle.interpolator_syntax.specs.Groups.{after_hashes}
 use Rattle.interpolator_syntax.proofs.bracket.skip_hashes.Given as goal
 

@@ -1,5 +1,4 @@
-use Rattle.std.proofs.Common.{rules}
-use Rattle.std.specs.Str.{chars, IsUtf8}
+use Rattle.std.proofs.Common.{rules, chars, IsUtf8}
 use Rattle.interpolator_syntax.proofs.GroupLemmas.{signs_bytes}
 use Rattle.interpolator_syntax.proofs.bracket.take_hashes.Goals as goal
 

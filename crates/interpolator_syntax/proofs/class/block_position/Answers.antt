@@ -1,5 +1,4 @@
-use Rattle.std.proofs.Common.{take, arith}
-use Rattle.std.proofs.lemmas.List.{length-take-le}
+use Rattle.std.proofs.Common.{take, arith, length-take-le}
 use Rattle.interpolator_syntax.proofs.ByteLemmas.{no_hit, a_hit}
 use Rattle.interpolator_syntax.proofs.class.block_position.Goals as goal
 

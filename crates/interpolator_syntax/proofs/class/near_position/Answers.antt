@@ -1,5 +1,4 @@
-use Rattle.std.proofs.Common.{◌≤◌, length, ap, ◌∙◌, rules}
-use Rattle.std.specs.List.{position}
+use Rattle.std.proofs.Common.{◌≤◌, length, ap, ◌∙◌, rules, position}
 use Rattle.interpolator_syntax.proofs.ByteLemmas.{near_is}
 use Rattle.interpolator_syntax.proofs.class.near_position.Goals as goal
 

@@ -1,5 +1,4 @@
-use Rattle.std.proofs.Common.{◌∙◌, ap}
-use Rattle.std.specs.Str.{chars}
+use Rattle.std.proofs.Common.{◌∙◌, ap, chars}
 use Rattle.interpolator_syntax.proofs.ByteLemmas.{cut_boundary, chars_front, chars_after}
 use Rattle.interpolator_syntax.proofs.class.split_before.Goals as goal
 

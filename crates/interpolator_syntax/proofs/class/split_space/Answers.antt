@@ -1,6 +1,4 @@
-use Rattle.std.proofs.Common.{◌≡◌, ap, ◌∙◌, sym, arith, Some}
-use Rattle.std.specs.List.{slice_get}
-use Rattle.std.specs.Str.{chars}
+use Rattle.std.proofs.Common.{◌≡◌, ap, ◌∙◌, sym, arith, Some, slice_get, chars}
 use Rattle.std.proofs.lemmas.Str.{chars-nil}
 use Rattle.interpolator_syntax.proofs.FirstByteLemmas.{no_space}
 use Rattle.interpolator_syntax.proofs.class.split_space.Goals as goal

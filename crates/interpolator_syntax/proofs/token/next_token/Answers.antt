@@ -1,5 +1,4 @@
-use Rattle.std.proofs.Common.{rules, length, ◌<◌}
-use Rattle.std.specs.Str.{chars, IsUtf8}
+use Rattle.std.proofs.Common.{rules, length, ◌<◌, chars, IsUtf8}
 use Rattle.interpolator_syntax.specs.At.{at}
 use Rattle.interpolator_syntax.proofs.StripLemmas.{literals_scanned}
 use Rattle.interpolator_syntax.proofs.token.next_token.Goals as goal

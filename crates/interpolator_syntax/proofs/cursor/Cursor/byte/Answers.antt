@@ -1,6 +1,4 @@
-use Rattle.std.proofs.Common.{rules, ◌∙◌, ap}
-use Rattle.std.specs.List.{slice_get}
-use Rattle.std.specs.Str.{IsUtf8}
+use Rattle.std.proofs.Common.{rules, ◌∙◌, ap, slice_get, IsUtf8}
 use Rattle.interpolator_syntax.proofs.FirstByteLemmas.{byte_told}
 use Rattle.interpolator_syntax.proofs.cursor.Cursor.byte.Goals as goal
 

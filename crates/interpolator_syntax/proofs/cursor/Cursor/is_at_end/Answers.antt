@@ -1,5 +1,4 @@
-use Rattle.std.proofs.Common.{rules}
-use Rattle.std.specs.Str.{IsUtf8}
+use Rattle.std.proofs.Common.{rules, IsUtf8}
 use Rattle.interpolator_syntax.proofs.FirstByteLemmas.{ends_told}
 use Rattle.interpolator_syntax.proofs.cursor.Cursor.is_at_end.Goals as goal
 

@@ -1,5 +1,4 @@
-use Rattle.std.proofs.Common.{sym, rules}
-use Rattle.std.specs.Str.{IsUtf8}
+use Rattle.std.proofs.Common.{sym, rules, IsUtf8}
 use Rattle.interpolator_syntax.proofs.StripLemmas.{strip_here, strip_other}
 use Rattle.interpolator_syntax.proofs.cursor.Cursor.strip.Goals as goal
 

@@ -1,5 +1,4 @@
-use Rattle.std.proofs.Common.{rules, ◌≡◌, length, refl, sym, ◌∙◌, ap}
-use Rattle.std.specs.Str.{chars, IsUtf8}
+use Rattle.std.proofs.Common.{rules, ◌≡◌, length, refl, sym, ◌∙◌, ap, chars, IsUtf8}
 use Rattle.interpolator_syntax.specs.At.{size}
 use Rattle.interpolator_syntax.specs.Classes.{in_class, front_of}
 use Rattle.interpolator_syntax.proofs.CharacterLemmas.{size-chars}
