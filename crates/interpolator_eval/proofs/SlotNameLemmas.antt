@@ -1,5 +1,5 @@
 -- The text of the filled slots' names, while they are written one by one.
-use Rattle.std.proofs.Common.{◌≡◌, refl, sym, ◌∙◌, ap, ℕ, ◌+◌, ◌<◌, List, [], ◌∷◌, ◌++◌}
+use Rattle.std.proofs.Common.{◌≡◌, refl, arith, ℕ, ◌+◌, ◌<◌, List, [], ◌∷◌, ◌++◌}
 use Rattle.std.proofs.Common.{append_assoc, append-nil, get_or, take, map, Bool, true, false}
 use Rattle.std.specs.Prelude.{filter, codes}
 use Rattle.std.specs.List.{join_by}
@@ -7,7 +7,6 @@ use Rattle.std.specs.Fmt.{HasWrittenStyled, IsFlush}
 use Rattle.std.specs.declared.fmt.Formatter.{Formatter}
 use Rattle.std.proofs.Output.{has_written_styled_append, has_written_styled_of_eq}
 use Rattle.std.proofs.lemmas.List.{take_more, map-append}
-use Rattle.std.proofs.lemmas.Bool.{false≢true}
 use Rattle.std.proofs.lemmas.List.Concat.{flat_map-append}
 use Rattle.std.proofs.lemmas.List.Elements.{filter-append}
 use Rattle.interpolator_render.specs.declared.view.Trait.{Trait}
@@ -30,10 +29,7 @@ names_of filled slots = map slot_name (filter filled slots)
 
 pub opened-more : (names : List (List ℕ)) (name : List ℕ)
     → opened (names ++ name ∷ []) ≡ opened names ++ name_after (no_name names) name
-opened-more [] name = ap (λ text. codes "(" ++ text) (append-nil name)
-opened-more (first ∷ names) name =
-    let more = flat_map-append (λ part. codes ", " ++ part) names (name ∷ []) in
-    rw more (simp (append_assoc, append-nil))
+opened-more names name = grind (arith, append-nil, flat_map-append, append_assoc)
 
 pub no_name-more : (names : List (List ℕ)) (name : List ℕ) → no_name (names ++ name ∷ []) ≡ false
 no_name-more [] name = refl
@@ -59,13 +55,12 @@ module _ (filled : Trait → Bool) (index : ℕ) (below : index < 9) where
   -- a slot that is empty changes no name
   pub none_more : filled (get_or slot_order index Binary) ≡ false
       → names_of filled (take (index + 1) slot_order) ≡ names_of filled (take index slot_order)
-  none_more fails = (rw fails at next_names) ∙ append-nil _
+  none_more fails = grind (arith, next_names, append-nil)
 
 -- the names that are all written, and the parenthesis after them
 pub closed : (front : List ℕ) (names : List (List ℕ)) → no_name names ≡ false
     → (front ++ opened names) ++ codes ")" ≡ front ++ in_parentheses names
-closed front [] is = absurd (false≢true (sym is))
-closed front (name ∷ names) is = simp (append_assoc)
+closed front names is = grind (arith, append_assoc)
 
 module _ {W : Type 0} (took : W → List ℕ → W → Type 0) where
   -- a text that is written after another
@@ -73,8 +68,7 @@ module _ {W : Type 0} (took : W → List ℕ → W → Type 0) where
       → (IsFlush g → true ≡ true → HasWrittenStyled took g b h) → a ++ b ≡ all
       → HasWrittenStyled took f all h
   written_after f g h a b all before after is =
-      has_written_styled_of_eq took f (a ++ b) all h is
-      (has_written_styled_append took f a g b h before (after before.flush refl))
+      grind (arith, has_written_styled_of_eq, has_written_styled_append)
 
   -- a name that is written after the names so far
   pub name_written : (f g h : Formatter W) (front : List ℕ) (names : List (List ℕ))
@@ -83,8 +77,4 @@ module _ {W : Type 0} (took : W → List ℕ → W → Type 0) where
       → (IsFlush g → true ≡ true → HasWrittenStyled took g (name_after is_first shown) h)
       → HasWrittenStyled took f (front ++ opened (names ++ name ∷ [])) h
   name_written f g h front names name shown is_first e same before after =
-      let joined : (front ++ opened names) ++ name_after is_first shown
-      ≡ front ++ opened (names ++ name ∷ []) =
-      rw (e, same) (append_assoc front (opened names) (name_after (no_name names) name)
-      ∙ ap (λ text. front ++ text) (sym (opened-more names name))) in
-      written_after f g h _ _ _ before after joined
+      grind (arith, append_assoc, opened-more, written_after)

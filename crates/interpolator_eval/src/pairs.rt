@@ -4,6 +4,7 @@ ghost use Rattle.std.specs.Option.{option_copied};
 ghost use Rattle.interpolator_eval.specs.Contexts.{found_by_pairs, last_under};
 
 use crate::context::Context;
+use crate::field_names::same_name;
 use crate::slots::Formattable;
 use interpolator_render::Value;
 use std::alloc::AllocError;
@@ -44,7 +45,7 @@ impl<'a, V> Copy for Pairs<'a, V> {}
 fn last_pair<'s, 'k, T>(pairs: &'s [(&'k str, T)], name: &str) -> Option<&'s (&'k str, T)>
     ensures { option_map (λ pair. pair.1) (option_copied result) ≡ last_under pairs.now name.now }
 {
-    pairs.iter().rev().find(|pair| pair.0 == name)
+    pairs.iter().rev().find(|pair| same_name(pair.0, name))
 }
 
 impl<'a, V: Value> Context for Pairs<'a, V> {

@@ -1,5 +1,6 @@
 -- Pieces up to their first list: from the first piece, and from those after it.
-use Rattle.std.proofs.Common.{◌≡◌, refl, ap, arith, ℕ, ◌+◌, ◌≤◌, Bool, true, false, Option, None, Some}
+use Rattle.std.proofs.Common.{◌≡◌, ◌∙◌, refl, ap, arith, ℕ, ◌+◌, ◌≤◌, Bool, true, false}
+use Rattle.std.proofs.Common.{Option, None, Some}
 use Rattle.interpolator_render.specs.Written.{Written}
 use Rattle.interpolator_render.specs.declared.view.Trait.{Trait}
 use Rattle.interpolator_render.specs.declared.view.Spec.{Spec}
@@ -9,12 +10,14 @@ use Rattle.interpolator_syntax.specs.Nodes.{Node, Forest, no_nodes, nodes_and}
 use Rattle.interpolator_eval.specs.Meaning.Environments.{Environment}
 use Rattle.interpolator_eval.specs.Meaning.Meanings.{Meaning, forest_means}
 use Rattle.interpolator_eval.specs.Meaning.Outcomes.{Outcome}
-use Rattle.interpolator_eval.specs.Meaning.Sinks.{Writes, taken_by}
-use Rattle.interpolator_eval.specs.Meaning.Sources.{asks_list, before_list, from_list, unlisted_means}
+use Rattle.interpolator_eval.specs.Meaning.Sinks.{SameEnd, Writes, taken_by}
+use Rattle.interpolator_eval.specs.Meaning.Sources.{asks_list, before_list, first_holds, from_list}
+use Rattle.interpolator_eval.specs.Meaning.Sources.{unlisted_means}
 use Rattle.interpolator_eval.specs.Meaning.Work.{forest_work, node_work}
 use Rattle.interpolator_eval.specs.declared.evaluate.sink.Sink.{Sink}
-use Rattle.interpolator_eval.proofs.MeaningLemmas.SinkLemmas.{and_then, fault_first, nothing_fails}
-use Rattle.interpolator_eval.proofs.MeaningLemmas.WorkLemmas.{counts_and_rest, counts_first, no_fault}
+use Rattle.interpolator_eval.proofs.MeaningLemmas.SinkLemmas.{and_then, fault_first, goes_on}
+use Rattle.interpolator_eval.proofs.MeaningLemmas.SinkLemmas.{nothing_fails, same_then}
+use Rattle.interpolator_eval.proofs.MeaningLemmas.WorkLemmas.{counts_first, holds_counts}
 
 module _ (x : Node) (xs : Forest) where
   abbrev Whole : Forest
@@ -62,20 +65,12 @@ module _ (x : Node) (xs : Forest) where
       -- it is a list: nothing is written before it
       pub list_at : asks_list x ≡ true → Writes written (unlisted_means shows e x) s t None
           → Writes written (Before Whole) s t None
-      list_at listed o =
-          record { outcome = rw (before_none listed) (rw listed at o.outcome); same = o.same }
+      list_at listed o = grind (arith, before_none)
 
       -- it ends the run
       pub piece_fault : (q : Answer) → Writes written (unlisted_means shows e x) s t (Some q)
           → Writes written (Before Whole) s t (Some q)
-      piece_fault q o = by_asked (asks_list x) refl
-        where
-          by_asked : (b : Bool) → asks_list x ≡ b → Writes written (Before Whole) s t (Some q)
-          by_asked false other = record {
-            outcome = rw (before_after other) (fault_first _ _ _ _ q (rw other at o.outcome));
-            same = o.same;
-          }
-          by_asked true listed = absurd (nothing_fails _ _ q (rw listed at o.outcome))
+      piece_fault q o = grind (arith, before_after, fault_first, nothing_fails)
 
       module _ (one : 1 ≤ (node_work shows e x).pieces) where
         -- and is a piece itself
@@ -91,10 +86,62 @@ module _ (x : Node) (xs : Forest) where
         -- it is done, and the pieces after it come to it
         pub piece_goes : asks_list x ≡ false → Writes written (unlisted_means shows e x) s t None
             → 1 + Gone xs ≡ Gone Whole
-        piece_goes other o =
-            omega (
-              arith,
-              gone_is other,
-              counts_and_rest shows e x (before_list xs) one other
-                  (no_fault _ _ _ (rw other at o.outcome)),
-            )
+        piece_goes other o = grind (arith, gone_is other)
+
+-- ---- pieces in order, one after another
+
+module _ {X W : Type 0} (shows : X → Trait → Spec → Shown) (e : Environment X) (written : W → Written) where
+  abbrev Means : Forest → Meaning
+  Means xs = forest_means shows e (before_list xs)
+
+  abbrev Pieces : Forest → ℕ
+  Pieces xs = (forest_work shows e (before_list xs)).pieces
+
+  -- what was written before the pieces `rest` and any outcome of these, up to the first list, are an
+  -- outcome of all; the first list is the same; and those gone through so far and the rest are all
+  pub record Passed (all rest : Forest) (old s : Sink W) (n count : ℕ) : Type 0 where
+    pub so_far : (new : Written) (answer : Option Answer)
+        → Outcome (Means rest) (taken_by written s) new answer
+        → Outcome (Means all) (taken_by written old) new answer
+    pub same : SameEnd old s
+    pub left : from_list all ≡ from_list rest
+    pub gone : count + Pieces rest ≡ n + Pieces all
+
+  module _ {all rest after : Forest} {x : Node} {old s t : Sink W} {n count now : ℕ}
+      (p : Passed all rest old s n count) (first : rest ≡ nodes_and x after)
+      (one : now ≡ count + 1) where
+    -- a piece ends the run
+    pub passed_stops : {q : Answer} → first_holds rest ≡ true
+        → Writes written (unlisted_means shows e x) s t (Some q)
+        → Writes written (Means all) old t (Some q) × (now ≤ n + Pieces all)
+    passed_stops holds o = (
+      goes_on _ _ _ _ _ _ _ p.so_far p.same (rw first (piece_fault x after shows e _ _ _ _ o)),
+      omega (arith, rw first at p.gone, one, piece_stops x after shows e _ _ _ (holds_counts shows e x after (rw first at holds)) _ o),
+    )
+
+    -- it is a list
+    pub passed_list : asks_list x ≡ true → Writes written (unlisted_means shows e x) s t None
+        → Writes written (Means all) old t None × (from_list all ≡ nodes_and x after)
+        × (now ≡ n + (Pieces all + 1))
+    passed_list listed o = (
+      goes_on _ _ _ _ _ _ _ p.so_far p.same (rw first (list_at x after shows e _ _ _ listed o)),
+      p.left ∙ ap from_list first ∙ left_here x after listed,
+      omega (arith, rw first at p.gone, one, none_gone x after shows e listed),
+    )
+
+    -- it is done
+    pub passed_on : asks_list x ≡ false → first_holds rest ≡ true
+        → Writes written (unlisted_means shows e x) s t None → Passed all after old t n now
+    passed_on other holds o = record {
+      so_far = λ new answer k. p.so_far new answer
+          (rw first (piece_runs x after shows e _ _ _ _ _ other o k));
+      same = same_then _ _ _ p.same o.same;
+      left = p.left ∙ ap from_list first ∙ left_after x after other;
+      gone = omega (
+        arith,
+        rw first at p.gone,
+        one,
+        piece_goes x after shows e _ _ _ (holds_counts shows e x after (rw first at holds))
+            other o,
+      );
+    }

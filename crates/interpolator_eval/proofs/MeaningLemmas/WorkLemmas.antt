@@ -1,5 +1,5 @@
 -- How many pieces are gone through, for pieces and for items: from the first and from the rest.
-use Rattle.std.proofs.Common.{◌≡◌, refl, arith, ℕ, ◌+◌, ◌<◌, ◌≤◌, false}
+use Rattle.std.proofs.Common.{◌≡◌, refl, arith, ℕ, ◌+◌, ◌<◌, ◌≤◌, true}
 use Rattle.std.proofs.Common.{List, ◌∷◌, length, map, drop, get_or}
 use Rattle.std.proofs.Common.{Option, None, Some, option_map}
 use Rattle.std.proofs.lemmas.List.{drop_all, drop_more}
@@ -7,21 +7,14 @@ use Rattle.interpolator_render.specs.Views.{Shown}
 use Rattle.interpolator_render.specs.Written.{Written}
 use Rattle.interpolator_render.specs.declared.view.Spec.{Spec}
 use Rattle.interpolator_render.specs.declared.view.Trait.{Trait}
-use Rattle.interpolator_syntax.specs.At.{At}
 use Rattle.interpolator_syntax.specs.Faults.{Fault, fault}
-use Rattle.interpolator_syntax.specs.Nodes.{Node, node, Forest, nodes_and, nodes}
-use Rattle.interpolator_syntax.specs.Nodes.{piece_node, token_node, target_value, target_list}
-use Rattle.interpolator_syntax.specs.Nodes.{text_content, argument_content, fault_content}
-use Rattle.interpolator_syntax.specs.Pieces.{PieceKind, literal, doubled, lone_close, closed, unclosed}
-use Rattle.interpolator_syntax.specs.Pieces.{broken, argument_from}
-use Rattle.interpolator_syntax.specs.Tokens.{Token, argument}
-use Rattle.interpolator_eval.specs.Slots.{Slots}
-use Rattle.interpolator_eval.specs.Meaning.Environments.{Environment, slots_under}
+use Rattle.interpolator_syntax.specs.Nodes.{Node, node, Forest, nodes_and}
+use Rattle.interpolator_eval.specs.Meaning.Environments.{Environment}
 use Rattle.interpolator_eval.specs.Meaning.Meanings.{Meaning, node_means}
 use Rattle.interpolator_eval.specs.Meaning.Outcomes.{Outcome}
 use Rattle.interpolator_eval.specs.Meaning.Work.{Work, or_stop, work_after, items_work, node_work}
-use Rattle.interpolator_eval.specs.Meaning.Sources.{asks_list}
-use Rattle.interpolator_eval.specs.Meaning.Work.{forest_work, no_work, under_work}
+use Rattle.interpolator_eval.specs.Meaning.Sources.{first_holds}
+use Rattle.interpolator_eval.specs.Meaning.Work.{forest_work}
 use Rattle.interpolator_eval.proofs.MeaningLemmas.OutcomeLemmas.{finished_if_none}
 
 -- what was written whole has no fault
@@ -47,52 +40,16 @@ goes None w v none = refl
 -- ---- pieces in order
 
 module _ {X : Type 0} (shows : X → Trait → Spec → Shown) (e : Environment X) where
-  -- a token is at least one piece
-  pub token_counts : (p : ℕ) (t : Token) (b : At) → 1 ≤ (node_work shows e (token_node nodes p t b)).pieces
-  token_counts p argument b = by_kind (argument_from b.place b).piece.kind
-    where
-      by_kind : (k : PieceKind)
-          → 1 ≤ (node_work shows e (piece_node nodes p (argument_from b.place b).rest.place k)).pieces
-      by_kind (literal c) = omega arith
-      by_kind (doubled c) = omega arith
-      by_kind lone_close = omega arith
-      by_kind (closed start x q) = omega arith
-      by_kind (unclosed start x q) = omega arith
-      by_kind (broken f) = omega arith
-  token_counts p t b = omega arith
-
-  -- an argument that is no list counts as one
-  pub value_counts : (x : Node) → asks_list x ≡ false → (node_work shows e x).pieces ≤ 1
-  value_counts (node p end kind None item join) other = omega arith
-  value_counts (node p end kind (Some (text_content from cs)) item join) other = omega arith
-  value_counts (node p end kind (Some (argument_content start name spec (target_value t) q)) item join)
-      other =
-      by_found (slots_under e name)
-    where
-      by_found : (found : Option (Slots X)) → 1 + (under_work (λ _. no_work) found).pieces ≤ 1
-      by_found None = omega arith
-      by_found (Some slots) = omega arith
-  value_counts (node p end kind (Some (argument_content start name spec (target_list r) q)) item join)
-      other =
-      absurd (cc)
-  value_counts (node p end kind (Some (fault_content f)) item join) other = omega arith
+  -- what holds something is at least one piece
+  pub holds_counts : (x : Node) (xs : Forest) → first_holds (nodes_and x xs) ≡ true
+      → 1 ≤ (node_work shows e x).pieces
+  holds_counts (node p end kind content item join) xs h = grind arith
 
   module _ (x : Node) (xs : Forest) (one : 1 ≤ (node_work shows e x).pieces) where
     -- the first of some pieces is a piece
     pub counts_first : 1 ≤ (forest_work shows e (nodes_and x xs)).pieces
     counts_first =
         omega (arith, one, stops (node_means shows e x).fault (node_work shows e x) (forest_work shows e xs))
-
-    -- and if it is done the others come after it
-    pub counts_and_rest : asks_list x ≡ false → (node_means shows e x).fault ≡ None
-        → 1 + (forest_work shows e xs).pieces ≡ (forest_work shows e (nodes_and x xs)).pieces
-    counts_and_rest other none =
-        omega (
-          arith,
-          one,
-          value_counts x other,
-          goes (node_means shows e x).fault (node_work shows e x) (forest_work shows e xs) none,
-        )
 
 -- ---- the items of a list, one by one
 

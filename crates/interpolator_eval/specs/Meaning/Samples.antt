@@ -1,6 +1,6 @@
 -- What a name may stand for in a sample, which is an example of the contexts that a format will be
 -- written with; and what those values lack.
-use Rattle.std.specs.Prelude.{ℕ, zero, suc, Bool, true, false, is_some, not, Option, Some, None}
+use Rattle.std.specs.Prelude.{ℕ, zero, suc, Bool, true, false, ◌||◌, is_some, not, Option, Some, None}
 use Rattle.std.specs.Prelude.{List, [], ◌∷◌, map, flat_map, option_map, unwrap_or}
 use Rattle.std.specs.List.{list_any}
 use Rattle.interpolator_render.specs.declared.view.Trait.{Trait}
@@ -71,6 +71,10 @@ abbrev pub is_failed : ViewText → Bool
 is_failed has_failed = true
 is_failed _ = false
 
+-- a text is missing, or the value failed
+abbrev pub is_hidden : ViewText → Bool
+is_hidden text = is_missing text || is_failed text
+
 -- no number is written under a trait
 abbrev pub is_for_no_number : Trait → Bool
 is_for_no_number Iter = true
@@ -125,12 +129,22 @@ module _ {X : Type 0} (shows : X → Trait → Spec → Shown) where
   abbrev pub some_failed : Trait → Spec → List (Slots X) → Bool
   some_failed t spec ts = list_any (λ x. is_failed (text_under t spec x)) ts
 
+  -- a tree has no text under a trait, or fails under it
+  abbrev pub hidden : Trait → Spec → Slots X → Bool
+  hidden t spec found = is_hidden (text_under t spec found)
+
+  -- something is found, and each of these has a text under a trait and does not fail
+  abbrev pub all_shown : Trait → Spec → Option (List (Slots X)) → Bool
+  all_shown t spec None = false
+  all_shown t spec (Some ts) = not (list_any (hidden t spec) ts)
+
   -- ---- in the code
 
   -- a tree lacks what is needed
   abbrev pub lacks : Need → Slots X → Bool
   lacks (needs.Text t spec) found = is_missing (text_under t spec.now found)
   lacks (needs.Success t spec) found = is_failed (text_under t spec.now found)
+  lacks (needs.Shown t spec) found = hidden t spec.now found
   lacks needs.List found = has_no_list found
 
 module _ {X : Type 0} where

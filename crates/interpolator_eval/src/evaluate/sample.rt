@@ -5,6 +5,7 @@ ghost use Rattle.std.specs.List.{list_any};
 ghost use Rattle.std.specs.Str.{chars};
 ghost use Rattle.std.specs.Option.{option_copied};
 ghost use Rattle.interpolator_render.specs.Views.{shown_by};
+ghost use Rattle.interpolator_render.specs.declared.view.Trait.TheVariants.{Display};
 ghost use Rattle.interpolator_syntax.specs.Faults.{answer_of, fault, missing_value, no_memory};
 ghost use Rattle.interpolator_eval.specs.Slots.{slots_of, lent_slots};
 ghost use Rattle.interpolator_eval.specs.Meaning.Samples.{sample, sample_of, bind_each, level_in};
@@ -13,7 +14,8 @@ ghost use Rattle.interpolator_eval.specs.Meaning.Samples.{items_below};
 ghost use Rattle.interpolator_eval.specs.Meaning.Samples.{candidates_of, at_level, lacks};
 ghost use Rattle.interpolator_eval.specs.Meaning.Samples.{alone, level_of_candidates};
 ghost use Rattle.interpolator_eval.specs.Meaning.Samples.{level_of_items};
-ghost use Rattle.interpolator_eval.specs.Meaning.Samples.{is_missing, is_failed, slot_text};
+ghost use Rattle.interpolator_eval.specs.Meaning.Samples.{is_missing, is_failed, is_hidden};
+ghost use Rattle.interpolator_eval.specs.Meaning.Samples.{all_shown, hidden, slot_text};
 ghost use Rattle.interpolator_eval.specs.Meaning.Samples.{is_for_no_number, is_for_numbers};
 ghost use Rattle.interpolator_eval.specs.Meaning.Samples.{is_not_for_decimals};
 ghost use Rattle.interpolator_eval.specs.Meaning.Samples.{shows_nothing, is_failure};
@@ -32,6 +34,8 @@ pub enum Need<'s> {
     Text(Trait, &'s Spec),
     /// That it does not fail under a trait and a spec.
     Success(Trait, &'s Spec),
+    /// Both that it has a text and that it does not fail.
+    Shown(Trait, &'s Spec),
     /// A list.
     List,
 }
@@ -113,6 +117,20 @@ fn slot_fails<V: Value>(value: Option<&V>, wanted: Trait, spec: &Spec) -> bool
     }
 }
 
+/// Returns whether the value in the slot of a trait has no text under the trait, or fails.
+#[tactic(auto, using(crate::proofs::MeaningLemmas::SampleLemmas::view_missing, crate::proofs::MeaningLemmas::SampleLemmas::view_failed))]
+fn slot_hides<V: Value>(value: Option<&V>, wanted: Trait, spec: &Spec) -> bool
+    ensures { result ≡ is_hidden (slot_text V.shows wanted spec.now (option_copied value.entry)) }
+{
+    match value {
+        Some(value) => {
+            let view = value.view(wanted, spec);
+            no_text(view, wanted) || failed(view)
+        }
+        None => true,
+    }
+}
+
 /// Returns whether a value lacks what is needed.
 fn lacks_one<V: Value>(found: &Formattable<'_, V>, need: Need<'_>) -> bool
     ensures { result ≡ lacks V.shows need.entry (slots_of found.now) }
@@ -120,6 +138,7 @@ fn lacks_one<V: Value>(found: &Formattable<'_, V>, need: Need<'_>) -> bool
     match need {
         Need::Text(wanted, spec) => slot_misses(found.slot(wanted), wanted, spec),
         Need::Success(wanted, spec) => slot_fails(found.slot(wanted), wanted, spec),
+        Need::Shown(wanted, spec) => slot_hides(found.slot(wanted), wanted, spec),
         Need::List => found.list().is_none(),
     }
 }
@@ -149,6 +168,52 @@ fn lacks_at<V: Value>(item: &Formattable<'_, V>, level: usize, need: Need<'_>) -
     match item.list() {
         Some(items) => lacks_below(items, level - 1, need),
         None => false,
+    }
+}
+
+/// Returns whether an item cannot be displayed.
+#[inline(always)]
+fn is_undisplayed<V: Value>(item: &Formattable<'_, V>, spec: &Spec) -> bool
+    ensures { result ≡ hidden V.shows Display spec.now (slots_of item.now) }
+{
+    slot_hides(item.slot(Trait::Display), Trait::Display, spec)
+}
+
+/// Returns whether some of the items cannot be displayed. Two are looked at in each turn.
+fn any_undisplayed<V: Value>(items: &[Formattable<'_, V>], spec: &Spec) -> bool
+    ensures { result ≡ list_any (hidden V.shows Display spec.now) (map slots_of items.now) }
+{
+    let mut left = items;
+    while let [first, second, rest @ ..] = left {
+        if is_undisplayed(first, spec) || is_undisplayed(second, spec) {
+            return true;
+        }
+        left = rest;
+    }
+    match left.first() {
+        Some(last) => is_undisplayed(last, spec),
+        None => false,
+    }
+}
+
+/// Returns whether some of the items is not shown under a trait and a spec. What is displayed, as
+/// items mostly are, has a loop of its own, in which the trait is known.
+fn any_hidden<V: Value>(items: &[Formattable<'_, V>], wanted: Trait, spec: &Spec) -> bool
+    ensures { result ≡ list_any (hidden V.shows wanted spec.now) (map slots_of items.now) }
+{
+    match wanted {
+        Trait::Display => any_undisplayed(items, spec),
+        _ => lacks_below(items, 0, Need::Shown(wanted, spec)),
+    }
+}
+
+/// Returns whether some of the items lacks what is needed.
+fn any_lacks<V: Value>(items: &[Formattable<'_, V>], need: Need<'_>) -> bool
+    ensures { result ≡ list_any (lacks V.shows need.entry) (map slots_of items.now) }
+{
+    match need {
+        Need::Shown(wanted, spec) => any_hidden(items, wanted, spec),
+        _ => lacks_below(items, 0, need),
     }
 }
 
@@ -197,6 +262,9 @@ impl<'a, V: Value> Items<'a, V> {
     pub fn any_lacks(&self, need: Need<'_>) -> bool
         ensures { result ≡ list_any (lacks V.shows need.entry) (items_below self.now) }
     {
+        if self.level == 0 {
+            return any_lacks(self.items, need);
+        }
         lacks_below(self.items, self.level, need)
     }
 }
@@ -318,6 +386,21 @@ impl<'a, C: Context> SampleEnvironment<'a, C, C::Object> {
         match self.context.get(name) {
             Some(found) => Some(Candidates::One(found)),
             None => None,
+        }
+    }
+
+    /// Returns whether a name stands for something, and everything that it may stand for has a
+    /// text under a trait and a spec, and does not fail.
+    pub fn shows(&self, name: &str, wanted: Trait, spec: &Spec) -> bool
+        ensures { result ≡ all_shown C.Object.shows wanted spec.now
+            (candidates_under (sample_of C.finds self.now) (chars name.now)) }
+    {
+        if let Some(items) = self.each(name) {
+            return !items.any_lacks(Need::Shown(wanted, spec));
+        }
+        match self.context.get(name) {
+            Some(found) => !slot_hides(found.slot(wanted), wanted, spec),
+            None => false,
         }
     }
 

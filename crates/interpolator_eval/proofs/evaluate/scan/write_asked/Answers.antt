@@ -1,4 +1,4 @@
-use Rattle.std.proofs.Common.{refl, sym, ◌≡◌}
+use Rattle.std.proofs.Common.{refl, ◌≡◌}
 use Rattle.std.proofs.lemmas.Result.{err_from_is_err_and}
 use Rattle.interpolator_syntax.specs.At.{at}
 use Rattle.interpolator_syntax.specs.Arguments.{list_of, kind_of_request}
@@ -6,9 +6,8 @@ use Rattle.interpolator_syntax.specs.SpecTexts.{of_list}
 use Rattle.interpolator_eval.specs.Meaning.CodeEnvironments.{environment_of}
 use Rattle.interpolator_eval.proofs.MeaningLemmas.LookUpLemmas.{value_asked}
 use Rattle.interpolator_eval.proofs.MeaningLemmas.ScanLemmas.{asked_ok, asked_broken, broken_writes}
-use Rattle.interpolator_eval.proofs.MeaningLemmas.ScanLemmas.{asks_value, value_means_so}
-use Rattle.interpolator_eval.proofs.MeaningLemmas.ScanLemmas.{asks_for_list, list_first, closed_rest}
-use Rattle.interpolator_eval.proofs.MeaningLemmas.ScanLemmas.{list_writes}
+use Rattle.interpolator_eval.proofs.MeaningLemmas.ScanLemmas.{list_told, list_writes}
+use Rattle.interpolator_eval.proofs.MeaningLemmas.ScanLemmas.{value_told, value_means_so}
 use Rattle.interpolator_eval.proofs.evaluate.scan.write_asked.Goals as goal
 
 pub returns-in-Err-clause-writes : goal.returns-in-Err-clause-writes
@@ -18,22 +17,16 @@ returns-in-Err-clause-writes g c p =
     rw c.from.ensures
     (broken_writes (at c.args.here) p g.C.Object.Value.shows e _ _ _ read)
 
-pub returns-in-Iter-clause-writes : goal.returns-in-Iter-clause-writes
-returns-in-Iter-clause-writes g c p =
+pub returns-in-Iter : goal.returns-in-Iter
+returns-in-Iter g c =
     let e = environment_of g.C.Context.finds c.args.environment.now in
     let asked = c.take_request.new.asked in
     let read = asked_ok (at c.args.here) c.args.named c.requires.named _ _ c.in-Ok.ensures in
     let list : kind_of_request asked ≡ of_list (list_of asked.list) = rw c.in-Iter.is refl in
-    list_writes (at c.args.here) p _ _ read _ list g.C.Object.Value.shows e _ _
-
-pub returns-in-Iter-clause-rest : goal.returns-in-Iter-clause-rest
-returns-in-Iter-clause-rest g c p =
-    let asked = c.take_request.new.asked in
-    let read = asked_ok (at c.args.here) c.args.named c.requires.named _ _ c.in-Ok.ensures in
-    let list : kind_of_request asked ≡ of_list (list_of asked.list) = rw c.in-Iter.is refl in (
-      asks_for_list (at c.args.here) p _ _ read _ list,
-      list_first (at c.args.here) p _ _ read _ list,
-    )
+    record {
+      writes = λ p. list_writes (at c.args.here) p _ _ read _ list g.C.Object.Value.shows e _ _;
+      rest = λ p. list_told (at c.args.here) p _ _ read _ list;
+    }
 
 pub returns-in_err-after : goal.returns-in_err-after
 returns-in_err-after g c =
@@ -57,8 +50,5 @@ returns g c =
     record {
       writes = λ p. rw (value_means_so (at c.args.here) p _ _ read _ value g.C.Object.Value.shows e)
           c.in_ok-after.ensures.writes;
-      rest = λ p. (
-        asks_value (at c.args.here) p _ _ read _ value,
-        sym (closed_rest (at c.args.here) _ _ _ read c.in_ok-after.ensures.rest),
-      );
+      rest = λ p. value_told (at c.args.here) p _ _ read _ value _ c.in_ok-after.ensures.rest;
     }
