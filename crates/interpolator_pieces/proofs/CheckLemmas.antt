@@ -12,7 +12,7 @@ use Rattle.interpolator_syntax.specs.declared.error.Error.{Error}
 use Rattle.interpolator_pieces.proofs.VisitLemmas.{text_tells}
 use Rattle.std.specs.Prelude.{flat_map}
 use Rattle.interpolator_syntax.specs.Nodes.{Node, Content, node}
-use Rattle.interpolator_pieces.specs.Stored.{content_of, node_of, branch_of, node_whole}
+use Rattle.interpolator_pieces.specs.Stored.{detail_of, content_of, node_of, branch_of, node_whole}
 use Rattle.interpolator_pieces.specs.declared.piece.Form.{Form}
 use Rattle.interpolator_pieces.specs.declared.piece.Piece.{Piece}
 use Rattle.interpolator_pieces.specs.declared.piece.Piece.TheViews.{out-Piece}
@@ -47,16 +47,18 @@ module _ (bs : List ℕ) (x : Piece) (whole : node_whole (node_of bs x) ≡ true
   abbrev Collects : Form → Option Content → Type 0
   Collects form held =
       let y = out-Piece x in
-      (visit_faults (enter level (with_held held)) ≡ fault_list (form_fault y.spec y.spec_end form))
+      let d = detail_of x in
+      (visit_faults (enter level (with_held held)) ≡ fault_list (form_fault d.spec d.spec_end form))
       × (visit_faults (leave level (with_held held))
-      ≡ fault_list (form_end_fault y.kind y.spec_end form))
+      ≡ fault_list (form_end_fault y.kind d.spec_end form))
 
-  piece_tells : Collects (out-Piece x).form (content_of bs x)
+  piece_tells : Collects (detail_of x).form (content_of bs x)
   piece_tells =
       let y = out-Piece x in
-      by_form bs y.place y.from y.to y.spec_end y.spec Collects (λ cs. (refl, refl))
+      let d = detail_of x in
+      by_form bs y.place d.from d.to d.spec_end d.spec Collects (λ cs. (refl, refl))
       (λ name e. (refl, refl)) (λ t name e. (refl, refl)) (λ range name e. (refl, refl))
-      (λ fault. (refl, refl)) y.form (fits_text bs x whole).held
+      (λ fault. (refl, refl)) d.form (fits_text bs x whole).held
 
   pub own_told : option_map fault (stored_own_fault x)
       ≡ told (visit_faults (enter level (node_of bs x)))

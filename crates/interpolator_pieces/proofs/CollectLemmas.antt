@@ -1,28 +1,37 @@
 -- What a walk over the faults of a format has reported, from what it reported of their parts.
 use Rattle.std.proofs.Common.{◌≡◌, ◌∙◌, refl, sym, ap, ℕ, ◌+◌, ◌<◌, ◌≤◌, true, false, List, []}
 use Rattle.std.proofs.Common.{◌++◌, length, map, get_or, append_assoc, Option, Some, None}
-use Rattle.std.proofs.Common.{IsSome, arith}
+use Rattle.std.proofs.Common.{IsSome, arith, ◌∷◌}
+use Rattle.std.specs.List.{list_any}
 use Rattle.std.specs.Global.{Vec}
 use Rattle.std.proofs.lemmas.List.{append-nil, map-append}
 use Rattle.interpolator_render.specs.declared.view.Spec.{Spec}
 use Rattle.interpolator_render.specs.declared.view.Trait.{Trait}
+use Rattle.interpolator_render.specs.declared.view.Trait.TheVariants.{Display}
 use Rattle.interpolator_render.specs.Views.{Shown}
 use Rattle.interpolator_syntax.specs.Faults.{Fault, Answer, fault, no_memory}
-use Rattle.interpolator_syntax.specs.Nodes.{node, as_forest, Content}
-use Rattle.interpolator_eval.specs.Meaning.Samples.{Sample, bind_each}
+use Rattle.interpolator_syntax.specs.Nodes.{node, as_forest, Content, target_value}
+use Rattle.interpolator_syntax.specs.SpecTexts.{plain_spec}
+use Rattle.interpolator_eval.specs.Slots.{Slots}
+use Rattle.interpolator_eval.specs.Meaning.Samples.{Sample, bind_each, candidates_under, hidden}
+use Rattle.interpolator_eval.specs.Meaning.Samples.{all_shown, some_missing, some_failed}
 use Rattle.interpolator_pieces.specs.NodeChecks.{fault_list, form_fault, form_end_fault}
 use Rattle.interpolator_pieces.specs.NodeChecks.{stored_own_fault, stored_end_fault}
 use Rattle.interpolator_pieces.specs.NodeExtents.{branch_depth, forest_depth}
 use Rattle.interpolator_pieces.specs.NodeSamples.{asked_of, item_of, items_of_content}
 use Rattle.interpolator_pieces.specs.NodeSamples.{node_faults_in, join_faults_in, forest_faults_in}
-use Rattle.interpolator_pieces.specs.Stored.{content_of, node_of, nodes_of, branch_of, node_whole}
+use Rattle.interpolator_pieces.specs.NodeSamples.{value_faults, found_faults}
+use Rattle.interpolator_pieces.specs.StoredMeanings.{stored_name, unclosed_fault}
+use Rattle.interpolator_pieces.specs.Stored.{detail_of, content_of, node_of, nodes_of, branch_of, node_whole}
 use Rattle.interpolator_pieces.specs.Collecting.{Collects, AnswersFirst, kept_by}
 use Rattle.interpolator_pieces.specs.declared.piece.Form.{Form}
+use Rattle.interpolator_pieces.specs.declared.piece.Form.TheVariants as forms
 use Rattle.interpolator_pieces.specs.declared.piece.Piece.{Piece}
 use Rattle.interpolator_pieces.specs.declared.piece.Piece.TheViews.{out-Piece}
 use Rattle.interpolator_pieces.specs.declared.fault_collector.FaultCollector.{FaultCollector}
 use Rattle.interpolator_pieces.proofs.StoredLemmas.{node_of_out, by_form, left, left_next}
 use Rattle.interpolator_pieces.proofs.StoredLemmas.{left_none}
+use Rattle.interpolator_pieces.proofs.RunLemmas.{name_held, value_held}
 use Rattle.interpolator_pieces.proofs.WholePieceLemmas.{fits_text}
 
 -- ---- no fault, one, and one after the other
@@ -51,6 +60,26 @@ pub only_memory : (fs : List Fault) (old new : FaultCollector) (a : Answer) → 
     → Collects fs old new (Some a) → a ≡ no_memory
 only_memory fs old new a all h = grind arith
 
+-- ---- values that are shown
+
+module _ {X : Type 0} (shows : X → Trait → Spec → Shown) (t : Trait) (spec : Spec) where
+  none_hidden : (ts : List (Slots X)) → list_any (hidden shows t spec) ts ≡ false
+      → (some_missing shows t spec ts ≡ false) × (some_failed shows t spec ts ≡ false)
+  none_hidden [] h = (refl, refl)
+  none_hidden (x ∷ xs) h = grind (arith, none_hidden xs)
+
+  -- they have no fault
+  pub shown_right : (end : ℕ) (ts : List (Slots X)) → list_any (hidden shows t spec) ts ≡ false
+      → value_faults shows t spec end ts ≡ []
+  shown_right end ts h = grind (arith, none_hidden ts h)
+
+  -- nor has what was found, if it is all shown
+  pub found_right : (start end : ℕ) (name : List ℕ) (found : Option (List (Slots X)))
+      → all_shown shows t spec found ≡ true
+      → found_faults shows start name (target_value t) spec end found ≡ []
+  found_right start end name None h = absurd (cc)
+  found_right start end name (Some ts) h = grind (arith, shown_right end ts)
+
 -- ---- one piece
 
 module _ {X : Type 0} (shows : X → Trait → Spec → Shown) (s : Sample X) where
@@ -59,11 +88,12 @@ module _ {X : Type 0} (shows : X → Trait → Spec → Shown) (s : Sample X) wh
     abbrev Parts : Form → Option Content → Type 0
     Parts form held =
         let y = out-Piece x in
+        let d = detail_of x in
         let item = branch_of bs y.item in
         let join = branch_of bs y.join in
-        asked_of shows s held ++ (fault_list (form_fault y.spec y.spec_end form)
+        asked_of shows s held ++ (fault_list (form_fault d.spec d.spec_end form)
         ++ (item_of shows s held item ++ (join_faults_in shows s join
-        ++ fault_list (form_end_fault y.kind y.spec_end form))))
+        ++ fault_list (form_end_fault y.kind d.spec_end form))))
         ≡ node_faults_in shows s (node y.place y.end y.kind held item join)
 
     pub piece_parts : node_whole (node_of bs x) ≡ true
@@ -74,8 +104,9 @@ module _ {X : Type 0} (shows : X → Trait → Spec → Shown) (s : Sample X) wh
         ≡ node_faults_in shows s (node_of bs x)
     piece_parts whole =
         let y = out-Piece x in
-        by_form bs y.place y.from y.to y.spec_end y.spec Parts (λ cs. refl) (λ name e. refl)
-        (λ t name e. refl) (λ range name e. refl) (λ fault. refl) y.form (fits_text bs x whole).held
+        let d = detail_of x in
+        by_form bs y.place d.from d.to d.spec_end d.spec Parts (λ cs. refl) (λ name e. refl)
+        (λ t name e. refl) (λ range name e. refl) (λ fault. refl) d.form (fits_text bs x whole).held
         ∙ sym (ap (node_faults_in shows s) (node_of_out bs x))
 
   -- an item format is checked with each item that there may be
@@ -135,7 +166,7 @@ module _ {X : Type 0} (shows : X → Trait → Spec → Shown) (s : Sample X) wh
     -- its fault with the sample ends the walk
     pub asked_ends : (old new : FaultCollector) (q : Answer) → Collects Asked old new (Some q)
         → Collects All old new (Some q)
-    asked_ends old new q h = grind (arith, of_all, collects_before)
+    asked_ends old new q h = of_all old new (Some q) (collects_before Asked _ old new q h)
 
     module _ (old after : FaultCollector) (asked : Collects Asked old after None) where
       -- its own fault does
@@ -159,6 +190,37 @@ module _ {X : Type 0} (shows : X → Trait → Spec → Shown) (s : Sample X) wh
           pub last_told : (joined new : FaultCollector) (r : Option Answer)
               → Collects Join looked joined None → Collects Last joined new r → Collects All old new r
           last_told joined new r join h = grind (arith, of_all, collects_after)
+
+    -- ---- no fault at all
+
+    module _ (bare : ((out-Piece x).item ≡ None) × ((out-Piece x).join ≡ None)) where
+      pub text_right : (detail_of x).form ≡ forms.Text → All ≡ []
+      text_right form = grind (arith, piece_parts bs x whole, by_form)
+
+      module _ (t : Trait) (spec : Spec) (closed : unclosed_fault x ≡ None)
+          (shown : (name : List ℕ) → stored_name bs x ≡ Some name
+          → all_shown shows t spec (candidates_under s name) ≡ true) where
+        name_by : (o : Option (List ℕ)) → stored_name bs x ≡ o → IsSome o
+            → (detail_of x).form ≡ forms.Plain → t ≡ Display → spec ≡ plain_spec → All ≡ []
+        name_by None is h form display plain = absurd (cc)
+        name_by (Some name) is h form display plain =
+            let held = name_held bs x ((out-Piece x).place + 1) name refl (sym is) form in
+            grind (arith, piece_parts bs x whole, held, shown name is, found_right shows t spec)
+
+        value_by : (o : Option (List ℕ)) → stored_name bs x ≡ o → IsSome o
+            → (detail_of x).form ≡ forms.Value t → spec ≡ (detail_of x).spec → All ≡ []
+        value_by None is h form own = absurd (cc)
+        value_by (Some name) is h form own =
+            let held = value_held bs x ((out-Piece x).place + 1) name refl (sym is) t form in
+            grind (arith, piece_parts bs x whole, held, shown name is, found_right shows t spec)
+
+        pub name_right : IsSome (stored_name bs x) → (detail_of x).form ≡ forms.Plain → t ≡ Display
+            → spec ≡ plain_spec → All ≡ []
+        name_right h = name_by (stored_name bs x) refl h
+
+        pub value_right : IsSome (stored_name bs x) → (detail_of x).form ≡ forms.Value t
+            → spec ≡ (detail_of x).spec → All ≡ []
+        value_right h = value_by (stored_name bs x) refl h
 
 -- ---- how deep groups are
 

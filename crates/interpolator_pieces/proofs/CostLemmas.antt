@@ -13,7 +13,7 @@ use Rattle.interpolator_pieces.specs.NodeCosts.{no_cost, piece_cost, then_cost, 
 use Rattle.interpolator_pieces.specs.NodeCosts.{padded_cost, list_cost, value_cost, content_cost}
 use Rattle.interpolator_pieces.specs.NodeCosts.{node_cost, item_branch_cost, join_branch_cost}
 use Rattle.interpolator_pieces.specs.NodeCosts.{forest_cost, usize_cost}
-use Rattle.interpolator_pieces.specs.Stored.{range_of, content_of, node_of, nodes_of, branch_of}
+use Rattle.interpolator_pieces.specs.Stored.{detail_of, content_of, node_of, nodes_of, branch_of}
 use Rattle.interpolator_pieces.specs.declared.cost.Cost.{Cost}
 use Rattle.interpolator_pieces.specs.declared.cost.Limits.{Limits}
 use Rattle.interpolator_pieces.specs.declared.piece.Form.TheVariants as forms
@@ -72,11 +72,11 @@ module _ (limits : Limits) where
     Told spec (forms.Value t) held =
         option_map told held ≡ Some (usize_cost (value_cost limits t spec))
     Told spec (forms.List range) held =
-        option_map told held ≡ Some (usize_cost (list_cost limits (range_of range) spec item join))
+        option_map told held ≡ Some (usize_cost (list_cost limits (range) spec item join))
     Told spec _ held = ⊤
 
     pub form_told : (bs : List ℕ) (x : Piece) → IsSome (content_of bs x)
-        → Told (out-Piece x).spec (out-Piece x).form (content_of bs x)
+        → Told (detail_of x).spec (detail_of x).form (content_of bs x)
     form_told bs x held = grind (arith, by_form)
 
   -- a piece, by the costs of its groups

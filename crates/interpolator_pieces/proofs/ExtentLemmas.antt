@@ -13,7 +13,7 @@ use Rattle.interpolator_pieces.proofs.VisitLemmas.{gathers_greatest}
 use Rattle.interpolator_syntax.specs.At.{At}
 use Rattle.std.specs.Global.{Vec}
 use Rattle.interpolator_syntax.specs.Nodes.{Content}
-use Rattle.interpolator_pieces.specs.Stored.{node_of, branch_of, node_whole}
+use Rattle.interpolator_pieces.specs.Stored.{detail_of, node_of, branch_of, node_whole}
 use Rattle.interpolator_pieces.specs.declared.piece.Form.{Form}
 use Rattle.interpolator_pieces.specs.declared.piece.Piece.{Piece}
 use Rattle.interpolator_pieces.specs.declared.piece.Piece.TheViews.{out-Piece}
@@ -31,11 +31,12 @@ pub extent_entered : (level : Level) (bs : List ℕ) (x : Piece) → node_whole 
     → stored_extent x ≡ visit_extent (enter level (node_of bs x))
 extent_entered level bs x whole =
     let y = out-Piece x in
+    let d = detail_of x in
     let Asks : Form → Option Content → Type 0 =
-    λ form held. content_extent held ≡ form_extent y.spec form in
+    λ form held. content_extent held ≡ form_extent d.spec form in
     sym (ap (λ n. visit_extent (enter level n)) (node_of_out bs x)
-    ∙ by_form bs y.place y.from y.to y.spec_end y.spec Asks (λ cs. refl) (λ name e. refl)
-    (λ t name e. refl) (λ range name e. refl) (λ fault. refl) y.form (fits_text bs x whole).held)
+    ∙ by_form bs y.place d.from d.to d.spec_end d.spec Asks (λ cs. refl) (λ name e. refl)
+    (λ t name e. refl) (λ range name e. refl) (λ fault. refl) d.form (fits_text bs x whole).held)
 
 -- how many groups the pieces of its groups are in
 pub depth_entered : (level : Level) (bs : List ℕ) (x : Piece)

@@ -1,5 +1,5 @@
 -- What is stored of a text that is read: of one piece, of an argument, and of all that was read.
-use Rattle.std.proofs.Common.{◌≡◌, ℕ, suc, ◌+◌, ◌<◌, ◌≤◌, List, [], ◌∷◌, ◌++◌, length, arith, refl, ap}
+use Rattle.std.proofs.Common.{◌≡◌, ℕ, suc, ◌+◌, ◌-◌, ◌<◌, ◌≤◌, List, [], ◌∷◌, ◌++◌, length, arith, refl, ap}
 use Rattle.std.proofs.Common.{◌∙◌, sym, Option, Some, None, Ok, Err, append_assoc}
 use Rattle.std.proofs.lemmas.List.{append-nil}
 use Rattle.std.specs.Prelude.{option_map}
@@ -29,7 +29,7 @@ use Rattle.interpolator_syntax.proofs.CharacterLemmas.{size-chars, chars_of_end}
 use Rattle.interpolator_syntax.proofs.LocalityLemmas.{Takes, stands, takes_then}
 use Rattle.interpolator_syntax.proofs.LocalityLemmas.{takes_shorter, takes_reaches}
 use Rattle.interpolator_syntax.proofs.LongestLemmas.{at_same}
-use Rattle.interpolator_syntax.proofs.PieceLemmas.{read_alone}
+use Rattle.interpolator_syntax.proofs.PieceLemmas.{read_alone, strip_after}
 use Rattle.interpolator_syntax.proofs.ReaderLemmas.{argument_takes}
 use Rattle.interpolator_syntax.proofs.SizeLemmas.{GroupIfIn, ListIn, argument_in}
 use Rattle.interpolator_syntax.specs.Nodes.{Node, node, Branch, no_branch, Content, text_content, argument_content}
@@ -37,7 +37,8 @@ use Rattle.interpolator_syntax.specs.Nodes.{target_of, nodes, piece_node}
 use Rattle.interpolator_syntax.specs.Nodes.{token_node, group_branch, item_branch, join_branch}
 use Rattle.interpolator_pieces.specs.Reading.{taken_step, ending_kind, ending_rest}
 use Rattle.interpolator_pieces.specs.Stored.{Within, StandFor, Pushed, GroupStands, part, name_part}
-use Rattle.interpolator_pieces.specs.Stored.{node_of, nodes_of, branch_of, stored_content, range_of}
+use Rattle.interpolator_pieces.specs.Stored.{node_of, nodes_of, branch_of, stored_content}
+use Rattle.interpolator_pieces.specs.Stored.{bare_detail, detail_content}
 use Rattle.interpolator_pieces.specs.declared.piece.Form.TheVariants as forms
 use Rattle.interpolator_pieces.specs.declared.piece.Piece.{Piece}
 use Rattle.interpolator_syntax.specs.declared.piece_kind.PieceKind as told
@@ -58,16 +59,21 @@ pub all_skipped : (p : ℕ) (bs rest : List ℕ) → IsUtf8 bs → length rest �
     → stands (p + length bs) (chars rest) ≡ all_after (stands p (chars bs))
 all_skipped p bs rest u e = grind (arith, chars_of_end, size-chars)
 
+-- a name with nothing beside it in its braces needs no detail
+pub name_bare : (bs : List ℕ) (place end from to : ℕ) → from ≡ place + 1 → end ≡ to + 1
+    → detail_content bs place (bare_detail place end Closed)
+    ≡ stored_content bs place from to to plain_spec forms.Plain
+name_bare bs place end from to begins ends =
+    let first : suc place ≡ from = omega (arith, begins) in
+    let last : end - 1 ≡ to = omega (arith, ends) in
+    rw (first, last) refl
+
 -- what follows an argument, by how it ends
 pub ending_is : (p : ℕ) (a : At) (x : Argument) (q : At) (o : Option At) → argument_at a ≡ Ok (x, q)
     → ending_rest q o ≡ (argument_step p a x q o).rest
 ending_is p a x q o e = grind (arith, at_same, takes_reaches, argument_takes)
 
 -- ---- texts
-
--- there is a byte between the beginning and the end of a doubled brace
-pub doubled_ends : (a b : At) (c : ℕ) → first_token a ≡ Some (doubled c, b) → a.place + 1 < b.place
-doubled_ends a b c e = omega (arith, (takes_token a (doubled c, b) e).size.1)
 
 module _ (bs : List ℕ) (u : IsUtf8 bs) (a : At) (w : Within (outermost (chars bs)) a) where
   written_part :
@@ -78,24 +84,24 @@ module _ (bs : List ℕ) (u : IsUtf8 bs) (a : At) (w : Within (outermost (chars 
       let here = within_then _ a _ w (front_within a (written_text x) h.more h.begins) in
       part_lies bs a.place (written_text x) to u here t
 
-  abbrev TextNode : (end : ℕ) → told.PieceKind → (to : ℕ) → Node
-  TextNode end kind to =
-      node a.place end kind (option_map (λ cs. text_content a.place cs) (part bs a.place to))
+  abbrev TextNode : (end : ℕ) → told.PieceKind → Node
+  TextNode end kind =
+      node a.place end kind (detail_content bs a.place (bare_detail a.place end kind))
       no_branch no_branch
 
   pub literals_node : (cs : List ℕ) (b : At) → first_token a ≡ Some (literals cs, b)
-      → TextNode b.place Literal b.place ≡ token_node nodes a.place (literals cs) b
+      → TextNode b.place Literal ≡ token_node nodes a.place (literals cs) b
   literals_node cs b e =
       rw (written_part (literals cs) b b.place e (takes_token a (literals cs, b) e).size) refl
 
   pub doubled_node : (c : ℕ) (b : At) → first_token a ≡ Some (doubled c, b)
-      → TextNode b.place Doubled (a.place + 1) ≡ token_node nodes a.place (doubled c) b
+      → TextNode b.place Doubled ≡ token_node nodes a.place (doubled c) b
   doubled_node c b e =
-      let one = (takes_token a (doubled c, b) e).size.0 in
-      rw (written_part (doubled c) b (a.place + 1) e (omega (arith, one))) refl
+      let size = (takes_token a (doubled c, b) e).size in
+      rw (written_part (doubled c) b (b.place - 1) e (omega (arith, size.0, size.1))) refl
 
   pub lone_node : (b : At) → first_token a ≡ Some (lone_close, b)
-      → TextNode b.place LoneClose b.place ≡ token_node nodes a.place lone_close b
+      → TextNode b.place LoneClose ≡ token_node nodes a.place lone_close b
   lone_node b e =
       let one = (takes_token a (lone_close, b) e).size in
       rw (written_part lone_close b b.place e (omega (arith, one))) refl
@@ -147,11 +153,10 @@ module _ (place : ℕ) (b : At) (n : ArgumentName) (x : code_request.Request) (e
         name_lies bs place n.place taken.name n.end.place u (within_then _ b _ w name.within)
         name_end (omega (arith, name.after, start))
 
-    list_held : (range : Option (Box Range)) → range_of range ≡ x.list.range
-        → kind_of_request x ≡ of_list (list_of x.list)
-        → stored_content bs place n.place n.end.place end.place x.spec (forms.List range)
+    list_held : kind_of_request x ≡ of_list (list_of x.list)
+        → stored_content bs place n.place n.end.place end.place x.spec (forms.List x.list.range)
         ≡ Some (argument_content b.place taken.name taken.spec (target_of taken.kind) end.place)
-    list_held range r k = grind (arith, taken_name, begins_after)
+    list_held k = grind (arith, taken_name, begins_after)
 
     group_is : (o : Option Group) (xs : Option (Vec Piece)) → GroupIfIn o b → GroupStands xs o
         → branch_of bs xs ≡ group_branch nodes o
@@ -195,22 +200,21 @@ module _ (place : ℕ) (b : At) (n : ArgumentName) (x : code_request.Request) (e
     value_pushed slot k stored = grind (arith, step_is, stands, by_parts, taken_name, begins_after)
 
     pub list_pushed :
-        (range : Option (Box Range)) (item join : Option (Vec Piece))
-        → kind_of_request x ≡ of_list (list_of x.list) → range_of range ≡ x.list.range
+        (item join : Option (Vec Piece)) → kind_of_request x ≡ of_list (list_of x.list)
         → GroupStands item (option_map group_of x.list.item)
         → GroupStands join (option_map group_of x.list.join)
         → ((bs : List ℕ) → node_of bs piece
         ≡ node place rest.place kind (stored_content bs place n.place n.end.place end.place x.spec
-        (forms.List range)) (branch_of bs item) (branch_of bs join))
+        (forms.List x.list.range)) (branch_of bs item) (branch_of bs join))
         → Pushed old new (token_node nodes place argument_token b) b
-    list_pushed range item join k r i j stored =
+    list_pushed item join k i j stored =
         rw step_is (record {
           piece = piece;
           added = added;
           stands = λ bs u w.
               let groups = groups_in bs u w k in
               stored bs
-              ∙ by_parts _ _ _ (list_held bs u w range r k)
+              ∙ by_parts _ _ _ (list_held bs u w k)
               (rw k (group_is bs u w _ item groups.item i))
               (rw k (group_is bs u w _ join groups.join j));
         })
@@ -222,6 +226,12 @@ plainly = record {
   spec = plain_spec;
   list = record { range = None; item = None; join = None };
 }
+
+-- the closing brace has one byte
+pub name_closes : (n : ArgumentName) (rest : At) → Some rest ≡ strip close_brace (at n.end)
+    → rest.place ≡ n.end.place + 1
+name_closes n rest closed =
+    omega (arith, (strip_after close_brace n.end.place (at n.end).text rest (sym closed)).1)
 
 -- a name that a closing brace follows, after a brace at `place`
 module _ (place : ℕ) (b : At) (n : ArgumentName) (rest : At)

@@ -1,10 +1,9 @@
 -- What writing stored pieces needs to know of them: where their text is cut from, what they hold,
 -- and the outcome of pieces, from that of the first and that of the rest.
-use Rattle.std.proofs.Common.{◌≡◌, ◌≢◌, refl, add-one, arith, ℕ, suc, ◌+◌, ◌-◌, ◌≤◌}
-use Rattle.std.proofs.Common.{true, false, nat_lt, List, [], ◌∷◌, take}
+use Rattle.std.proofs.Common.{◌≡◌, ◌≢◌, refl, add-one, arith, ℕ, suc, ◌+◌, ◌-◌, ◌<◌, ◌≤◌}
+use Rattle.std.proofs.Common.{true, false, nat_lt, List, [], ◌∷◌, length, take}
 use Rattle.std.proofs.Common.{drop, get_or, Option, None, Some, IsSome, option_map}
 use Rattle.std.proofs.lemmas.List.{drop-map}
-use Rattle.std.specs.Global.{Box}
 use Rattle.std.specs.Str.{chars, IsUtf8, IsCharBoundary}
 use Rattle.interpolator_render.specs.declared.view.Trait.{Trait}
 use Rattle.interpolator_render.specs.declared.view.Trait.TheVariants as traits
@@ -27,7 +26,7 @@ use Rattle.interpolator_syntax.specs.Nodes.{target_value, target_list, as_forest
 use Rattle.interpolator_eval.specs.Meaning.Meanings.{forest_means}
 use Rattle.interpolator_eval.specs.Meaning.Sources.{FirstAsks, asks_list, first_holds, holds_list}
 use Rattle.interpolator_eval.specs.Meaning.Sources.{unlisted_means}
-use Rattle.interpolator_pieces.specs.Stored.{part, range_of, content_of, node_of, nodes_of}
+use Rattle.interpolator_pieces.specs.Stored.{name_part, part, detail_of, content_of, node_of, nodes_of}
 use Rattle.interpolator_pieces.specs.Stored.{StandFor, forest_whole, node_whole}
 use Rattle.interpolator_pieces.specs.StoredLists.{begins_list, is_list_form, stored_list}
 use Rattle.interpolator_pieces.specs.StoredLists.{stored_rest}
@@ -61,6 +60,17 @@ pub cut_of : (bs : List ℕ) (from to : ℕ) → IsSome (part bs from to) → Cu
 unfolding part
 cut_of bs from to h = grind (arith, nat_lt)
 
+-- they lie in the text
+pub part_within : (bs : List ℕ) (from to : ℕ) → IsSome (part bs from to)
+    → (from ≤ length bs) × (to ≤ length bs)
+unfolding part
+part_within bs from to h = grind (arith, nat_lt)
+
+-- and a name begins after the place of its piece
+pub name_within : (bs : List ℕ) (place from to : ℕ) → IsSome (name_part bs place from to)
+    → (place < from) × (from ≤ length bs)
+name_within bs place from to h = grind (arith, nat_lt, part_within)
+
 -- ---- what a stored piece holds that fits its text
 
 some_of : {A B : Type 0} (f : A → B) (o : Option A) → IsSome (option_map f o) → IsSome o
@@ -68,66 +78,66 @@ some_of f o h = grind arith
 
 module _ (bs : List ℕ) (x : Piece) where
   -- a text that is written
-  pub text_fits : (out-Piece x).form ≡ forms.Text → IsSome (content_of bs x)
+  pub text_fits : (detail_of x).form ≡ forms.Text → IsSome (content_of bs x)
       → IsSome (stored_part bs x)
   text_fits form h = grind (arith, some_of)
 
   -- a name, of each kind of argument
-  pub name_fits : (out-Piece x).form ≡ forms.Plain → IsSome (content_of bs x)
+  pub name_fits : (detail_of x).form ≡ forms.Plain → IsSome (content_of bs x)
       → IsSome (stored_name bs x)
   name_fits form h = grind (arith, some_of)
 
-  pub value_fits : (t : Trait) → (out-Piece x).form ≡ forms.Value t → IsSome (content_of bs x)
+  pub value_fits : (t : Trait) → (detail_of x).form ≡ forms.Value t → IsSome (content_of bs x)
       → IsSome (stored_name bs x)
   value_fits t form h = grind (arith, some_of)
 
-  pub list_fits : (range : Option (Box Range)) → (out-Piece x).form ≡ forms.List range
+  pub list_fits : (range : Option Range) → (detail_of x).form ≡ forms.List range
       → IsSome (content_of bs x) → IsSome (stored_name bs x)
   list_fits range form h = grind (arith, some_of)
 
-  pub text_held : (cs : List ℕ) → (out-Piece x).form ≡ forms.Text → Some cs ≡ stored_part bs x
-      → content_of bs x ≡ Some (text_content (out-Piece x).from cs)
+  pub text_held : (cs : List ℕ) → (detail_of x).form ≡ forms.Text → Some cs ≡ stored_part bs x
+      → content_of bs x ≡ Some (text_content (detail_of x).from cs)
   text_held cs form h = grind arith
 
-  pub broken_held : (f : Box ArgumentFault) → (out-Piece x).form ≡ forms.Broken f
-      → content_of bs x ≡ Some (fault_content (argument_fault_of f.value))
+  pub broken_held : (f : ArgumentFault) → (detail_of x).form ≡ forms.Broken f
+      → content_of bs x ≡ Some (fault_content (argument_fault_of f))
   broken_held f form = grind arith
 
   module _ (start : ℕ) (name : List ℕ) (first : start ≡ (out-Piece x).place + 1)
       (is : Some name ≡ stored_name bs x) where
     abbrev Valued : Spec → Target → Option Content
-    Valued spec target = Some (argument_content start name spec target (out-Piece x).spec_end)
+    Valued spec target = Some (argument_content start name spec target (detail_of x).spec_end)
 
     begins : suc (out-Piece x).place ≡ start
     begins = grind (arith, add-one)
 
-    pub name_held : (out-Piece x).form ≡ forms.Plain
+    pub name_held : (detail_of x).form ≡ forms.Plain
         → content_of bs x ≡ Valued plain_spec (target_value traits.Display)
     name_held form = grind (arith, begins)
 
-    pub value_held : (t : Trait) → (out-Piece x).form ≡ forms.Value t
-        → content_of bs x ≡ Valued (out-Piece x).spec (target_value t)
+    pub value_held : (t : Trait) → (detail_of x).form ≡ forms.Value t
+        → content_of bs x ≡ Valued (detail_of x).spec (target_value t)
     value_held t form = grind (arith, begins)
 
-    pub list_held : (range : Option (Box Range)) → (out-Piece x).form ≡ forms.List range
-        → content_of bs x ≡ Valued (out-Piece x).spec (target_list (range_of range))
+    pub list_held : (range : Option Range) → (detail_of x).form ≡ forms.List range
+        → content_of bs x ≡ Valued (detail_of x).spec (target_list (range))
     list_held range form = grind (arith, begins)
 
 -- ---- what asks for a list
 
 listed_form : (f : Form) → is_list_form f ≡ true
-    → (range : Option (Box Range)) × (f ≡ forms.List range)
+    → (range : Option Range) × (f ≡ forms.List range)
 listed_form (forms.List range) h = (range, refl)
 listed_form _ h = absurd (cc)
 
 module _ (bs : List ℕ) (x : Piece) where
   -- a piece that fits its text asks for a list exactly if its form is a list
   pub asks_form : IsSome (content_of bs x)
-      → asks_list (node_of bs x) ≡ is_list_form (out-Piece x).form
+      → asks_list (node_of bs x) ≡ is_list_form (detail_of x).form
   asks_form some = grind (arith, node_of_out, by_form)
 
   -- the list that it asks for, and what follows it
-  pub first_list : (xs : List Piece) → is_list_form (out-Piece x).form ≡ true → IsSome (content_of bs x)
+  pub first_list : (xs : List Piece) → is_list_form (detail_of x).form ≡ true → IsSome (content_of bs x)
       → FirstAsks (stored_list bs (x ∷ xs)) (stored_rest bs (x ∷ xs))
       (as_forest (nodes_of bs (x ∷ xs)))
   first_list xs listed some = grind (arith, list_fits, node_of_out)
@@ -204,26 +214,26 @@ module _ {X W : Type 0} (shows : X → Trait → Spec → Shown) (into : W → W
 
     -- an argument
     module _ (start : ℕ) (name : List ℕ) (spec : Spec) (target : Target)
-        (is : content_of bs x ≡ Some (argument_content start name spec target (out-Piece x).spec_end)) where
+        (is : content_of bs x ≡ Some (argument_content start name spec target (detail_of x).spec_end)) where
       abbrev Value : Meaning
       Value =
           under_name name start
-          (target_means shows target spec (out-Piece x).spec_end (stored_join_means shows e bs x)
-          (stored_item_means shows e bs x (out-Piece x).spec_end))
+          (target_means shows target spec (detail_of x).spec_end (stored_join_means shows e bs x)
+          (stored_item_means shows e bs x (detail_of x).spec_end))
           (slots_under e name)
 
       -- an argument whose value fails
       pub argument_fault : (q : Answer) → Writes into Value s t (Some q)
           → Writes into Means s t (Some q)
       argument_fault q o =
-          let c = closed_fault into Value s t (out-Piece x).spec_end (out-Piece x).kind q o in
+          let c = closed_fault into Value s t (detail_of x).spec_end (out-Piece x).kind q o in
           record { outcome = rw (means_held _ is) c.outcome; same = c.same }
 
       -- an argument whose value was written
       pub argument_writes : (r : Option Answer) → r ≡ option_map fault (unclosed_fault x)
           → Writes into Value s t None → Writes into Means s t r
       argument_writes r told o =
-          let c = closed_done into Value s t (out-Piece x).spec_end (out-Piece x).kind o in
+          let c = closed_done into Value s t (detail_of x).spec_end (out-Piece x).kind o in
           record { outcome = rw (means_held _ is, told) c.outcome; same = c.same }
 
 -- ---- the pieces of a whole text

@@ -1,5 +1,5 @@
 -- The node of a stored piece, one layer at a time.
-use Rattle.std.proofs.Common.{◌≡◌, refl, ap, ◌∙◌, ℕ, suc, List, [], ◌∷◌, ◌++◌, Option, Some, None}
+use Rattle.std.proofs.Common.{arith, ◌≡◌, refl, ap, ◌∙◌, ℕ, suc, List, [], ◌∷◌, ◌++◌, Option, Some, None}
 use Rattle.std.proofs.Common.{Bool, true, false, nat_lt, IsSome, option_map, sym, ◌+◌, ◌<◌, ◌≤◌}
 use Rattle.std.proofs.Common.{length, drop, get_or}
 use Rattle.std.proofs.lemmas.List.{drop_more, drop_all}
@@ -14,9 +14,13 @@ use Rattle.interpolator_syntax.specs.Nodes.{Node, node, Content, text_content, a
 use Rattle.interpolator_syntax.specs.Nodes.{target_value, target_list}
 use Rattle.interpolator_syntax.specs.SpecTexts.{plain_spec}
 use Rattle.interpolator_syntax.specs.declared.argument_fault.ArgumentFault.{ArgumentFault}
+use Rattle.interpolator_syntax.specs.declared.piece_kind.PieceKind.{PieceKind}
+use Rattle.interpolator_syntax.specs.declared.piece_kind.PieceKind.TheVariants.{Closed}
 use Rattle.interpolator_syntax.specs.declared.range.Range.{Range}
 use Rattle.interpolator_pieces.specs.Stored.{node_step, node_of, nodes_of, branch_of, content_of}
-use Rattle.interpolator_pieces.specs.Stored.{stored_content, part, range_of}
+use Rattle.interpolator_pieces.specs.Stored.{stored_content, part, bare_detail, detail_content}
+use Rattle.interpolator_pieces.specs.Stored.{bare_form, bare_from, detail_of, detail_or_bare}
+use Rattle.interpolator_pieces.specs.declared.piece.Detail.{Detail}
 use Rattle.interpolator_pieces.specs.declared.piece.Form.{Form}
 use Rattle.interpolator_pieces.specs.declared.piece.Form.TheVariants as forms
 use Rattle.interpolator_pieces.specs.declared.piece.Piece.{Piece}
@@ -28,7 +32,8 @@ use Rattle.interpolator_pieces.specs.declared.piece.Piece.TheFolds.{fold_out-Pie
 at_groups :
     (bs : List ℕ) (x : Piece-F Piece) (item join : Option (Vec Piece))
     → node_step bs (map-Piece Piece Node (node_of bs) (record x { item = item; join = join }))
-    ≡ node x.place x.end x.kind (stored_content bs x.place x.from x.to x.spec_end x.spec x.form)
+    ≡ node x.place x.end x.kind
+    (detail_content bs x.place (detail_or_bare x.place x.end x.kind x.detail))
     (branch_of bs item) (branch_of bs join)
 at_groups bs x None None = refl
 at_groups bs x None (Some w) = refl
@@ -38,7 +43,8 @@ at_groups bs x (Some v) (Some w) = refl
 -- the node of a piece that was made of its parts
 pub node_of_roll :
     (bs : List ℕ) (x : Piece-F Piece) → node_of bs (roll-Piece x)
-    ≡ node x.place x.end x.kind (stored_content bs x.place x.from x.to x.spec_end x.spec x.form)
+    ≡ node x.place x.end x.kind
+    (detail_content bs x.place (detail_or_bare x.place x.end x.kind x.detail))
     (branch_of bs x.item) (branch_of bs x.join)
 unfolding node_of
 node_of_roll bs x =
@@ -53,6 +59,46 @@ unfolding node_of
 node_of_out bs x =
     let y = out-Piece x in
     fold_out-Piece Node (node_step bs) x ∙ at_groups bs y y.item y.join
+
+-- the detail of a piece that stores one, and of one that does not
+module _ (x : Piece) where
+  pub detail_kept : (b : Box Detail) → (out-Piece x).detail ≡ Some b → detail_of x ≡ b.value
+  unfolding detail_or_bare
+  detail_kept b is = rw is refl
+
+  pub detail_bare : (out-Piece x).detail ≡ None
+      → detail_of x ≡ bare_detail (out-Piece x).place (out-Piece x).end (out-Piece x).kind
+  unfolding detail_or_bare
+  detail_bare is = rw is refl
+
+-- without one, what is no argument is text from its place on
+pub bare_text : (place : ℕ) (kind : PieceKind) → ¬ (kind ≡ Closed)
+    → (bare_form kind ≡ forms.Text) × (bare_from place kind ≡ place)
+bare_text place kind other = grind arith
+
+-- the node of a piece that was made without a detail, and of one that was made with this one
+module _ (bs : List ℕ) (place end : ℕ) (kind : PieceKind) (item join : Option (Vec Piece)) where
+  abbrev Made : Option (Box Detail) → Node
+  Made detail =
+      node_of bs (roll-Piece (record {
+        place = place;
+        end = end;
+        kind = kind;
+        item = item;
+        join = join;
+        detail = detail;
+      }))
+
+  abbrev Is : Detail → Node
+  Is d = node place end kind (detail_content bs place d) (branch_of bs item) (branch_of bs join)
+
+  pub made_bare : Made None ≡ Is (bare_detail place end kind)
+  unfolding detail_or_bare
+  made_bare = node_of_roll bs _
+
+  pub made_detailed : (d : Box Detail) → Made (Some d) ≡ Is d.value
+  unfolding detail_or_bare
+  made_detailed d = node_of_roll bs _
 
 -- one more piece is one more node
 pub nodes_of_push :
@@ -82,10 +128,10 @@ module _ (bs : List ℕ) (place from to end : ℕ) (spec : Spec) (P : Form → O
     (Some (argument_content (suc place) name plain_spec (target_value traits.Display) end)))
     (of_value : (t : Trait) (name : List ℕ) → part bs from to ≡ Some name → P (forms.Value t)
     (Some (argument_content (suc place) name spec (target_value t) end)))
-    (of_list : (range : Option (Box Range)) (name : List ℕ) → part bs from to ≡ Some name
-    → P (forms.List range) (Some (argument_content (suc place) name spec (target_list (range_of range)) end)))
-    (of_fault : (fault : Box ArgumentFault) → P (forms.Broken fault)
-    (Some (fault_content (argument_fault_of fault.value)))) where
+    (of_list : (range : Option Range) (name : List ℕ) → part bs from to ≡ Some name
+    → P (forms.List range) (Some (argument_content (suc place) name spec (target_list range) end)))
+    (of_fault : (fault : ArgumentFault) → P (forms.Broken fault)
+    (Some (fault_content (argument_fault_of fault)))) where
   by_text : (o : Option (List ℕ)) → IsSome (option_map (λ cs. text_content from cs) o)
       → P forms.Text (option_map (λ cs. text_content from cs) o)
   by_text None h = absurd (cc)

@@ -15,7 +15,7 @@ use Rattle.interpolator_pieces.specs.Visits.{Visit, enter, Walks, text_visits}
 use Rattle.interpolator_pieces.specs.declared.walk.Level.{Level}
 use Rattle.interpolator_pieces.proofs.VisitLemmas.{gathers, text_asks}
 use Rattle.interpolator_syntax.specs.Nodes.{Content}
-use Rattle.interpolator_pieces.specs.Stored.{part, content_of, node_of, node_whole}
+use Rattle.interpolator_pieces.specs.Stored.{detail_of, part, content_of, node_of, node_whole}
 use Rattle.interpolator_pieces.specs.StoredMeanings.{stored_part}
 use Rattle.interpolator_pieces.specs.declared.piece.Form.{Form}
 use Rattle.interpolator_pieces.specs.declared.piece.Form.TheVariants as forms
@@ -69,7 +69,7 @@ asked_some old new copy asks o text x is h push same = grind (arith, asked_push)
 -- it is no text and no fault
 abbrev NamesOne : Form → Type 0
 NamesOne form =
-    ¬ (form ≡ forms.Text) × ((fault : Box ArgumentFault) → ¬ (form ≡ forms.Broken fault))
+    ¬ (form ≡ forms.Text) × ((fault : ArgumentFault) → ¬ (form ≡ forms.Broken fault))
 
 -- its name is cut from the text, and is one that the piece uses
 abbrev Asks : Option (List ℕ) → Form → Option Content → Type 0
@@ -83,16 +83,17 @@ asks_name : (part : Option (List ℕ)) (name : List ℕ) → part ≡ Some name
     → context_names in_item name ≡ context_names in_item other)
 asks_name part name is = grind arith
 
-module _ (bs : List ℕ) (x : Piece) (no_text : ¬ ((out-Piece x).form ≡ forms.Text))
-    (no_fault : (fault : Box ArgumentFault) → ¬ ((out-Piece x).form ≡ forms.Broken fault))
+module _ (bs : List ℕ) (x : Piece) (no_text : ¬ ((detail_of x).form ≡ forms.Text))
+    (no_fault : (fault : ArgumentFault) → ¬ ((detail_of x).form ≡ forms.Broken fault))
     (whole : node_whole (node_of bs x) ≡ true) where
-  asks : Asks (stored_part bs x) (out-Piece x).form (content_of bs x)
+  asks : Asks (stored_part bs x) (detail_of x).form (content_of bs x)
   asks =
       let y = out-Piece x in
-      let found = part bs y.from y.to in
-      by_form bs y.place y.from y.to y.spec_end y.spec (Asks found) (λ cs n. absurd (n.0 refl))
+      let d = detail_of x in
+      let found = part bs d.from d.to in
+      by_form bs y.place d.from d.to d.spec_end d.spec (Asks found) (λ cs n. absurd (n.0 refl))
       (λ name e n. asks_name found name e) (λ t name e n. asks_name found name e)
-      (λ range name e n. asks_name found name e) (λ fault n. absurd (n.1 fault refl)) y.form
+      (λ range name e n. asks_name found name e) (λ fault n. absurd (n.1 fault refl)) d.form
       (fits_text bs x whole).held
 
   -- the name of an argument is cut from its text

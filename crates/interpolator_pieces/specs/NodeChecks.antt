@@ -8,6 +8,7 @@ use Rattle.interpolator_eval.specs.Meaning.Meanings.{forbids_list}
 use Rattle.interpolator_syntax.specs.Nodes.{Node, node, Branch, no_branch, branch, as_forest}
 use Rattle.interpolator_syntax.specs.Nodes.{Forest, no_nodes, nodes_and, nodes}
 use Rattle.interpolator_syntax.specs.Nodes.{Content, text_content, argument_content, fault_content, target_value, target_list}
+use Rattle.interpolator_pieces.specs.Stored.{detail_of}
 use Rattle.interpolator_pieces.specs.StoredMeanings.{unclosed_fault_of}
 use Rattle.interpolator_pieces.specs.Visits.{Visit, enter, leave}
 use Rattle.interpolator_syntax.specs.Faults.{argument_fault_of}
@@ -40,12 +41,12 @@ own_fault (fault_content f) = Some f
 -- the fault that a piece has by itself, by its form
 abbrev pub form_fault : Spec → (end : ℕ) → Form → Option Fault
 form_fault spec end (forms.List range) = if forbids_list spec then Some (parse (iter end)) else None
-form_fault spec end (forms.Broken fault) = Some (argument_fault_of fault.value)
+form_fault spec end (forms.Broken fault) = Some (argument_fault_of fault)
 form_fault spec end _ = None
 
 -- the fault that a stored piece has by itself
 abbrev pub stored_own_fault : Piece → Option Fault
-stored_own_fault x = form_fault (out-Piece x).spec (out-Piece x).spec_end (out-Piece x).form
+stored_own_fault x = form_fault (detail_of x).spec (detail_of x).spec_end (detail_of x).form
 
 -- the fault that it is not closed
 abbrev pub end_fault : PieceKind → Content → Option Fault
@@ -61,7 +62,7 @@ form_end_fault kind end _ = unclosed_fault_of kind end
 -- the fault that a stored piece is not closed
 abbrev pub stored_end_fault : Piece → Option Fault
 stored_end_fault x =
-    form_end_fault (out-Piece x).kind (out-Piece x).spec_end (out-Piece x).form
+    form_end_fault (out-Piece x).kind (detail_of x).spec_end (detail_of x).form
 
 abbrev mutual
   -- the faults of a piece: its own, those of its item format, those of its join, and that it is not

@@ -8,7 +8,7 @@ use Rattle.interpolator_pieces.specs.Visits.{Visit, enter, leave}
 use Rattle.interpolator_pieces.specs.declared.piece.Form.{Form}
 use Rattle.interpolator_pieces.specs.declared.piece.Form.TheVariants as forms
 use Rattle.interpolator_pieces.specs.declared.piece.Piece.{Piece}
-use Rattle.interpolator_pieces.specs.declared.piece.Piece.TheViews.{out-Piece}
+use Rattle.interpolator_pieces.specs.Stored.{detail_of}
 
 -- the width or the precision of a spec, whichever is greater, and 0 if neither is set
 abbrev pub spec_extent : Spec → ℕ
@@ -26,7 +26,7 @@ form_extent spec (forms.List range) = spec_extent spec
 form_extent spec _ = 0
 
 abbrev pub stored_extent : Piece → ℕ
-stored_extent x = form_extent (out-Piece x).spec (out-Piece x).form
+stored_extent x = form_extent (detail_of x).spec (detail_of x).form
 
 -- the extent of a piece, without its groups, which is met when it is entered
 abbrev pub visit_extent : Visit → ℕ

@@ -11,12 +11,14 @@ use Rattle.interpolator_syntax.specs.At.{At, size, outermost}
 use Rattle.interpolator_syntax.specs.Faults.{argument_fault_of}
 use Rattle.interpolator_syntax.specs.Groups.{Group}
 use Rattle.interpolator_syntax.specs.SpecTexts.{plain_spec}
-use Rattle.interpolator_syntax.specs.declared.range.Range.{Range}
 use Rattle.interpolator_syntax.specs.Nodes.{Node, node, Branch, no_branch, branch, Forest}
 use Rattle.interpolator_syntax.specs.Groups.{inside}
 use Rattle.interpolator_syntax.specs.Nodes.{no_nodes, nodes_and, as_branch, nodes, group_branch}
 use Rattle.interpolator_syntax.specs.Nodes.{Content, text_content, argument_content, fault_content}
 use Rattle.interpolator_syntax.specs.Nodes.{target_value, target_list}
+use Rattle.interpolator_syntax.specs.declared.piece_kind.PieceKind.{PieceKind}
+use Rattle.interpolator_syntax.specs.declared.piece_kind.PieceKind.TheVariants.{Closed, Doubled}
+use Rattle.interpolator_pieces.specs.declared.piece.Detail.{Detail}
 use Rattle.interpolator_pieces.specs.declared.piece.Form.{Form}
 use Rattle.interpolator_pieces.specs.declared.piece.Form.TheVariants as forms
 use Rattle.interpolator_pieces.specs.declared.piece.Piece.{Piece}
@@ -40,10 +42,6 @@ part bs from to =
 abbrev pub name_part : List ℕ → (place from to : ℕ) → Option (List ℕ)
 name_part bs place from to = if nat_lt place from then part bs from to else None
 
--- the range of a list, as the code has it
-abbrev pub range_of : Option (Box Range) → Option Range
-range_of range = option_map (λ b. b.value) range
-
 -- what a piece at `place` holds, by its form, the bytes that are stored of it, and the end of its
 -- spec
 abbrev pub stored_content : List ℕ → (place from to end : ℕ) → Spec → Form → Option Content
@@ -55,16 +53,58 @@ stored_content bs place from to end spec forms.Plain =
 stored_content bs place from to end spec (forms.Value t) =
     option_map (λ name. argument_content (suc place) name spec (target_value t) end) (name_part bs place from to)
 stored_content bs place from to end spec (forms.List range) =
-    option_map (λ name. argument_content (suc place) name spec (target_list (range_of range)) end)
+    option_map (λ name. argument_content (suc place) name spec (target_list range) end)
     (name_part bs place from to)
 stored_content bs place from to end spec (forms.Broken fault) =
-    Some (fault_content (argument_fault_of fault.value))
+    Some (fault_content (argument_fault_of fault))
+
+-- what a detail tells of a piece at `place`
+abbrev pub detail_content : List ℕ → (place : ℕ) → Detail → Option Content
+detail_content bs place d = stored_content bs place d.from d.to d.spec_end d.spec d.form
+
+-- ---- a piece without a detail: of its kind alone
+
+-- it is text, or a name with nothing beside it
+abbrev pub bare_form : PieceKind → Form
+bare_form Closed = forms.Plain
+bare_form _ = forms.Text
+
+-- its text is all of it, but one of two braces; its name lies between its braces
+abbrev pub bare_from : (place : ℕ) → PieceKind → ℕ
+bare_from place Closed = suc place
+bare_from place _ = place
+
+abbrev pub bare_to : (end : ℕ) → PieceKind → ℕ
+bare_to end Closed = end - 1
+bare_to end Doubled = end - 1
+bare_to end _ = end
+
+abbrev pub bare_detail : (place end : ℕ) → PieceKind → Detail
+bare_detail place end kind = record {
+  from = bare_from place kind;
+  to = bare_to end kind;
+  spec_end = bare_to end kind;
+  spec = plain_spec;
+  form = bare_form kind;
+}
+
+-- ---- a piece
+
+-- the detail that is stored, or the bare one
+unfoldable pub detail_or_bare : (place end : ℕ) → PieceKind → Option (Box Detail) → Detail
+detail_or_bare place end kind None = bare_detail place end kind
+detail_or_bare place end kind (Some detail) = detail.value
+
+-- what is written of a piece, and how
+abbrev pub detail_of : Piece → Detail
+detail_of x =
+    let y = out-Piece x in detail_or_bare y.place y.end y.kind y.detail
 
 -- the node of a piece whose groups have become nodes
 abbrev pub node_step : List ℕ → Piece-F Node → Node
 node_step bs x =
     node x.place x.end x.kind
-    (stored_content bs x.place x.from x.to x.spec_end x.spec x.form)
+    (detail_content bs x.place (detail_or_bare x.place x.end x.kind x.detail))
     (as_branch (option_map (λ xs. xs.items) x.item))
     (as_branch (option_map (λ xs. xs.items) x.join))
 
@@ -74,8 +114,7 @@ node_of bs x = fold-Piece Node (node_step bs) x
 
 -- what a stored piece holds
 abbrev pub content_of : List ℕ → Piece → Option Content
-content_of bs x =
-    let y = out-Piece x in stored_content bs y.place y.from y.to y.spec_end y.spec y.form
+content_of bs x = detail_content bs (out-Piece x).place (detail_of x)
 
 -- the nodes of stored pieces
 abbrev pub nodes_of : List ℕ → List Piece → List Node

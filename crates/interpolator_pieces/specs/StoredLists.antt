@@ -5,7 +5,7 @@ use Rattle.interpolator_syntax.specs.Nodes.{Forest, as_forest, no_branch}
 use Rattle.interpolator_syntax.specs.SpecTexts.{plain_spec}
 use Rattle.interpolator_syntax.specs.declared.range.Range.{Range}
 use Rattle.interpolator_eval.specs.Meaning.Sources.{ListArgument, has_brace}
-use Rattle.interpolator_pieces.specs.Stored.{branch_of, nodes_of, range_of}
+use Rattle.interpolator_pieces.specs.Stored.{branch_of, detail_of, nodes_of}
 use Rattle.interpolator_pieces.specs.StoredMeanings.{stored_name}
 use Rattle.interpolator_pieces.specs.declared.piece.Form.{Form}
 use Rattle.interpolator_pieces.specs.declared.piece.Form.TheVariants as forms
@@ -20,11 +20,11 @@ is_list_form _ = false
 -- whether the first of some pieces is
 abbrev pub begins_list : List Piece → Bool
 begins_list [] = false
-begins_list (x ∷ xs) = is_list_form (out-Piece x).form
+begins_list (x ∷ xs) = is_list_form (detail_of x).form
 
 -- which items of a list are written: all, unless the form of the piece has a range
 abbrev pub range_asked : Form → Option Range
-range_asked (forms.List range) = range_of range
+range_asked (forms.List range) = range
 range_asked _ = None
 
 -- the name if it fits its text, or the empty name
@@ -46,9 +46,9 @@ stored_list bs [] = record {
 stored_list bs (x ∷ xs) = record {
   start = suc (out-Piece x).place;
   name = name_or_none (stored_name bs x);
-  range = range_asked (out-Piece x).form;
-  spec = (out-Piece x).spec;
-  end = (out-Piece x).spec_end;
+  range = range_asked (detail_of x).form;
+  spec = (detail_of x).spec;
+  end = (detail_of x).spec_end;
   item = branch_of bs (out-Piece x).item;
   join = branch_of bs (out-Piece x).join;
 }

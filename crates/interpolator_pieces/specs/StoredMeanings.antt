@@ -11,7 +11,7 @@ use Rattle.interpolator_syntax.specs.Nodes.{as_forest}
 use Rattle.interpolator_eval.specs.Meaning.Meanings.{node_means, forest_means}
 use Rattle.interpolator_eval.specs.Meaning.Meanings.{item_branch_means, join_branch_means}
 use Rattle.interpolator_pieces.specs.Stored.{node_of, nodes_of, branch_of}
-use Rattle.interpolator_pieces.specs.Stored.{part, name_part}
+use Rattle.interpolator_pieces.specs.Stored.{part, name_part, detail_of}
 use Rattle.interpolator_syntax.specs.declared.piece_kind.PieceKind.{PieceKind}
 use Rattle.interpolator_syntax.specs.declared.piece_kind.PieceKind.TheVariants.{Unclosed}
 use Rattle.interpolator_pieces.specs.declared.piece.Piece.{Piece}
@@ -20,11 +20,11 @@ use Rattle.interpolator_pieces.specs.declared.piece.Piece.TheViews.{out-Piece}
 -- the text that is written for a stored piece, or the name of a stored argument, if it fits its
 -- text
 abbrev pub stored_part : List ℕ → Piece → Option (List ℕ)
-stored_part bs x = part bs (out-Piece x).from (out-Piece x).to
+stored_part bs x = part bs (detail_of x).from (detail_of x).to
 
 -- the name of a stored argument, if it fits its text
 abbrev pub stored_name : List ℕ → Piece → Option (List ℕ)
-stored_name bs x = name_part bs (out-Piece x).place (out-Piece x).from (out-Piece x).to
+stored_name bs x = name_part bs (out-Piece x).place (detail_of x).from (detail_of x).to
 
 -- the fault of an argument that is not closed: its brace is missing
 abbrev pub unclosed_fault_of : PieceKind → (end : ℕ) → Option Fault
@@ -33,7 +33,7 @@ unclosed_fault_of _ end = None
 
 -- that fault of a stored piece
 abbrev pub unclosed_fault : Piece → Option Fault
-unclosed_fault x = unclosed_fault_of (out-Piece x).kind (out-Piece x).spec_end
+unclosed_fault x = unclosed_fault_of (out-Piece x).kind (detail_of x).spec_end
 
 module _ {X : Type 0} (shows : X → Trait → Spec → Shown) (e : Environment X) (bs : List ℕ) where
   -- pieces in order

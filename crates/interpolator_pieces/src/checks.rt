@@ -4,7 +4,7 @@ ghost use Rattle.interpolator_syntax.specs.Faults.{result_answer, fault};
 ghost use Rattle.interpolator_pieces.specs.NodeChecks.{first_fault, visit_faults};
 ghost use Rattle.interpolator_pieces.specs.NodeChecks.{stored_own_fault, stored_end_fault};
 
-use crate::piece::{Form, Piece};
+use crate::piece::{Form, Piece, form_of, spec_end_of, spec_of};
 use crate::stored_source::require_closed;
 use crate::walk::{Level, Visitor};
 use interpolator_eval::forbids_list;
@@ -15,11 +15,11 @@ use interpolator_syntax::{Error, ParseError};
 pub fn check_own(piece: &Piece) -> Result<(), Error>
     ensures own { result_answer result ≡ option_map fault (stored_own_fault piece.now) }
 {
-    match &piece.form {
-        Form::List(_) if forbids_list(&piece.spec) => {
-            Err(Error::Parse(ParseError::Iter(piece.spec_end)))
+    match form_of(piece) {
+        Form::List(_) if forbids_list(&spec_of(piece)) => {
+            Err(Error::Parse(ParseError::Iter(spec_end_of(piece))))
         }
-        Form::Broken(fault) => Err(Error::from(**fault)),
+        Form::Broken(fault) => Err(Error::from(fault)),
         _ => Ok(()),
     }
 }
@@ -28,7 +28,7 @@ pub fn check_own(piece: &Piece) -> Result<(), Error>
 pub fn check_end(piece: &Piece) -> Result<(), Error>
     ensures end { result_answer result ≡ option_map fault (stored_end_fault piece.now) }
 {
-    match &piece.form {
+    match form_of(piece) {
         Form::Text => Ok(()),
         Form::Broken(_) => Ok(()),
         _ => require_closed(piece),

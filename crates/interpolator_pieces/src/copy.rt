@@ -1,11 +1,9 @@
 //! Copies of pieces.
 ghost use Rattle.std.specs.Prelude.{◌≡◌, ℕ, List, IfOk};
-ghost use Rattle.interpolator_render.specs.declared.view.Spec.{Spec};
-ghost use Rattle.interpolator_pieces.specs.Stored.{branch_of, node_of, nodes_of, stored_content};
+ghost use Rattle.interpolator_syntax.specs.declared.piece_kind.PieceKind.{PieceKind};
+ghost use Rattle.interpolator_pieces.specs.Stored.{branch_of, detail_or_bare, node_of, nodes_of};
 
-use crate::parse::boxed;
-use crate::piece::{Form, Piece};
-use crate::stored_source::unboxed;
+use crate::piece::{Detail, Piece};
 use std::alloc::{AllocError, Global};
 
 /// A copy of pieces.
@@ -28,18 +26,14 @@ pub fn copy_piece(alloc: Global, piece: &Piece) -> Result<Piece, AllocError>
 {
     let item = copy_group(alloc, &piece.item)?;
     let join = copy_group(alloc, &piece.join)?;
-    let form = copy_form(alloc, &piece.form)?;
+    let detail = copy_detail(alloc, &piece.detail)?;
     Ok(Piece {
         place: piece.place,
         end: piece.end,
         kind: piece.kind,
         item,
         join,
-        from: piece.from,
-        to: piece.to,
-        spec_end: piece.spec_end,
-        spec: piece.spec,
-        form,
+        detail,
     })
 }
 
@@ -54,17 +48,17 @@ fn copy_group(alloc: Global, group: &Option<Vec<Piece>>) -> Result<Option<Vec<Pi
     }
 }
 
-/// A copy of the form of a piece.
-fn copy_form(alloc: Global, form: &Form) -> Result<Form, AllocError>
-    ensures same { IfOk result (λ copy. (bs : List ℕ) (place from to end : ℕ) (spec : Spec)
-        → stored_content bs place from to end spec copy
-        ≡ stored_content bs place from to end spec form.now) }
+/// A copy of the detail of a piece, if there is one.
+#[tactic(auto, unfolding(crate::specs::Stored::detail_or_bare))]
+fn copy_detail(
+    alloc: Global,
+    detail: &Option<Box<Detail>>,
+) -> Result<Option<Box<Detail>>, AllocError>
+    ensures same { IfOk result (λ copy. (place end : ℕ) (kind : PieceKind)
+        → detail_or_bare place end kind copy ≡ detail_or_bare place end kind detail.now) }
 {
-    match form {
-        Form::Text => Ok(Form::Text),
-        Form::Plain => Ok(Form::Plain),
-        Form::Value(t) => Ok(Form::Value(*t)),
-        Form::List(range) => Ok(Form::List(boxed(alloc, unboxed(range))?)),
-        Form::Broken(fault) => Ok(Form::Broken(Box::new(alloc, **fault)?)),
+    match detail {
+        Some(detail) => Ok(Some(Box::new(alloc, **detail)?)),
+        None => Ok(None),
     }
 }

@@ -13,10 +13,10 @@ ghost use Rattle.interpolator_pieces.specs.Stored.{node_of, nodes_of, node_whole
 ghost use Rattle.interpolator_pieces.specs.Stored.{branch_of, content_of};
 ghost use Rattle.interpolator_pieces.specs.declared.piece.Piece.TheViews.{out-Piece};
 
-use crate::piece::{Form, Piece};
-use crate::stored_source::{text_of, unboxed};
+use crate::piece::{Form, Piece, form_of, spec_of};
+use crate::stored_source::text_of;
 use interpolator_eval::chosen;
-use interpolator_render::{Spec, Trait, most_written};
+use interpolator_render::{Spec, Trait, char_count, most_written};
 use interpolator_syntax::Range;
 
 /// How large the values that a format is written with may be, at any depth of their lists.
@@ -173,25 +173,17 @@ fn list_cost(limits: &Limits, range: Option<Range>, spec: &Spec, item: Cost, joi
     then_cost(piece_cost(0), padded_cost(spec.width, items))
 }
 
-/// How many characters a text has.
-#[tactic(auto, using(std::proofs::lemmas::Str::chars_from_encodes))]
-fn char_count(text: &str) -> usize
-    ensures { result ≡ length (chars text.now) }
-{
-    text.chars().count()
-}
-
 /// The cost of what a piece holds, by the costs of an item and of the join.
 fn content_cost(text: &str, piece: &Piece, limits: &Limits, item: Cost, join: Cost) -> Cost
     requires whole { node_whole (node_of text.now piece.now) ≡ true }
     ensures { option_map (λ held. usize_cost (content_cost limits.now held item join))
         (content_of text.now piece.now) ≡ Some result }
 {
-    match &piece.form {
+    match form_of(piece) {
         Form::Text => piece_cost(char_count(text_of(text, piece))),
         Form::Plain => value_cost(limits, Trait::Display, &Spec::default()),
-        Form::Value(t) => value_cost(limits, *t, &piece.spec),
-        Form::List(range) => list_cost(limits, unboxed(range), &piece.spec, item, join),
+        Form::Value(t) => value_cost(limits, t, &spec_of(piece)),
+        Form::List(range) => list_cost(limits, range, &spec_of(piece), item, join),
         Form::Broken(_) => piece_cost(0),
     }
 }

@@ -4,7 +4,7 @@ ghost use Rattle.interpolator_pieces.specs.NodeExtents.{spec_extent, stored_exte
 ghost use Rattle.interpolator_pieces.specs.NodeExtents.{inner_depth, visit_depth, visit_extent};
 ghost use Rattle.interpolator_pieces.specs.Stored.{branch_of};
 
-use crate::piece::{Form, Piece};
+use crate::piece::{Form, Piece, form_of, spec_of};
 use crate::walk::{Level, Visitor};
 use interpolator_render::Spec;
 use std::convert::Infallible;
@@ -20,9 +20,9 @@ fn extent_of(spec: &Spec) -> usize
 fn own_extent(piece: &Piece) -> usize
     ensures { result ≡ stored_extent piece.now }
 {
-    match piece.form {
-        Form::Value(_) => extent_of(&piece.spec),
-        Form::List(_) => extent_of(&piece.spec),
+    match form_of(piece) {
+        Form::Value(_) => extent_of(&spec_of(piece)),
+        Form::List(_) => extent_of(&spec_of(piece)),
         _ => 0,
     }
 }

@@ -35,8 +35,8 @@ pub use functions::{buffer_for, check, format, format_pieces, write, write_count
 pub use line::{iwriteln, write_newline};
 pub use names::Names;
 pub use parse::parse_pieces;
-pub use piece::{Form, Piece};
+pub use piece::{Form, Piece, form_of, part_of, spec_end_of, spec_of};
 pub use place::argument_among;
 pub use sample::collect_pieces;
-pub use stored_source::{Stored, cut, name_of, require_closed, text_of, unboxed};
+pub use stored_source::{Stored, cut, name_of, require_closed, text_of};
 pub use walk::{Level, Visitor, walk_text};

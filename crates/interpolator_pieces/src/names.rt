@@ -5,7 +5,7 @@ ghost use Rattle.interpolator_eval.specs.Meaning.AskedNames.{context_names, cont
 ghost use Rattle.interpolator_pieces.specs.NodeNames.{name_list, name_texts, visit_asks};
 ghost use Rattle.interpolator_pieces.specs.Stored.{content_of, node_of, node_whole};
 
-use crate::piece::{Form, Piece};
+use crate::piece::{Form, Piece, form_of};
 use crate::stored_source::text_of;
 use crate::walk::{Level, Visitor};
 use std::alloc::{AllocError, Global};
@@ -27,7 +27,7 @@ fn asked_name<'t>(text: &'t str, piece: &Piece, in_item: bool) -> Option<&'t str
     ensures { name_list (option_map (λ name. chars name.now) result)
         ≡ content_names in_item (content_of text.now piece.now) }
 {
-    match &piece.form {
+    match form_of(piece) {
         Form::Text => None,
         Form::Broken(_) => None,
         _ => context_name(text_of(text, piece), in_item),

@@ -1,5 +1,5 @@
 //! Reads a format into its pieces.
-ghost use Rattle.std.specs.Prelude.{◌≡◌, ◌≤◌, ◌+◌, ℕ, List, [], ◌∷◌, ◌++◌, IfOk, None, Ok};
+ghost use Rattle.std.specs.Prelude.{◌≡◌, ◌<◌, ◌≤◌, ◌+◌, ◌^◌, ℕ, List, [], ◌∷◌, ◌++◌, IfOk, None, Ok};
 ghost use Rattle.std.specs.Prelude.{option_map, vec_capacity};
 ghost use Rattle.std.specs.Str.{chars};
 ghost use Rattle.interpolator_syntax.specs.At.{at, size, strip, all_after};
@@ -15,11 +15,11 @@ ghost use Rattle.interpolator_syntax.specs.Tokens.{argument};
 ghost use Rattle.interpolator_syntax.specs.Nodes.{nodes, node, no_branch, text_content, piece_node};
 ghost use Rattle.interpolator_syntax.specs.Nodes.{token_node};
 ghost use Rattle.interpolator_pieces.specs.Stored.{StandFor, Pushed, GroupStands, part, node_of};
-ghost use Rattle.interpolator_pieces.specs.Stored.{stored_content, range_of};
+ghost use Rattle.interpolator_pieces.specs.Stored.{stored_content};
 ghost use Rattle.interpolator_pieces.specs.declared.piece.Form.TheVariants as forms;
 ghost use Rattle.interpolator_pieces.specs.Reading.{ending_kind, ending_rest};
 
-use crate::piece::{Form, Piece};
+use crate::piece::{Detail, Form, Groups, Piece, bare_piece, detailed_piece, no_groups};
 use interpolator_render::{Spec, Trait};
 use interpolator_syntax::{
     ArgumentFault, ArgumentName, Cursor, Group, PieceKind, Range, Request, Token, inside,
@@ -27,54 +27,27 @@ use interpolator_syntax::{
 };
 use std::alloc::{AllocError, Global};
 
-/// A piece that is written as it is, from its first byte up to `to`.
-fn text_piece(place: usize, end: usize, kind: PieceKind, to: usize) -> Piece
-    ensures node { (bs : List ℕ) → node_of bs result
-        ≡ node place end kind (option_map (λ cs. text_content place cs) (part bs place to))
-        no_branch no_branch }
-{
-    Piece {
-        place,
-        end,
-        kind,
-        item: None,
-        join: None,
-        from: place,
-        to,
-        spec_end: to,
-        spec: Spec::default(),
-        form: Form::Text,
-    }
-}
-
-/// An argument that is a name alone, from its brace at `place` up to `end`.
-fn name_piece(place: usize, end: usize, named: ArgumentName<'_>) -> Piece
-    ensures node { (bs : List ℕ) → node_of bs result
+/// An argument that is a name alone, with white space before the name.
+#[cold]
+#[inline(never)]
+fn spaced_name(
+    alloc: Global,
+    place: usize,
+    end: usize,
+    named: ArgumentName<'_>,
+) -> Result<Piece, AllocError>
+    ensures node { IfOk result (λ x. (bs : List ℕ) → node_of bs x
         ≡ node place end PieceKind.Closed (stored_content bs place named.entry.place
-        named.entry.end.place named.entry.end.place plain_spec forms.Plain) no_branch no_branch }
+        named.entry.end.place named.entry.end.place plain_spec forms.Plain) no_branch no_branch) }
 {
-    Piece {
-        place,
-        end,
-        kind: PieceKind::Closed,
-        item: None,
-        join: None,
+    let detail = Detail {
         from: named.place,
         to: named.end.place,
         spec_end: named.end.place,
         spec: Spec::default(),
         form: Form::Plain,
-    }
-}
-
-/// A range in a box of its own, since few lists have one.
-pub fn boxed(alloc: Global, range: Option<Range>) -> Result<Option<Box<Range>>, AllocError>
-    ensures { IfOk result (λ b. range_of b ≡ range) }
-{
-    match range {
-        Some(range) => Ok(Some(Box::new(alloc, range)?)),
-        None => Ok(None),
-    }
+    };
+    detailed_piece(alloc, place, end, PieceKind::Closed, detail, no_groups())
 }
 
 /// Adds a piece.
@@ -147,17 +120,17 @@ pub fn parse_pieces(alloc: Global, text: Cursor<'_>) -> Result<Vec<Piece>, Alloc
     while let Some((token, rest)) = next_token(here) {
         here = match token {
             Token::Literals(_) => {
-                let piece = text_piece(here.place, rest.place, PieceKind::Literal, rest.place);
+                let piece = bare_piece(here.place, rest.place, PieceKind::Literal);
                 push_piece(&mut pieces, piece)?;
                 rest
             }
             Token::Doubled(_) => {
-                let piece = text_piece(here.place, rest.place, PieceKind::Doubled, here.place + 1);
+                let piece = bare_piece(here.place, rest.place, PieceKind::Doubled);
                 push_piece(&mut pieces, piece)?;
                 rest
             }
             Token::LoneClose => {
-                let piece = text_piece(here.place, rest.place, PieceKind::LoneClose, rest.place);
+                let piece = bare_piece(here.place, rest.place, PieceKind::LoneClose);
                 push_piece(&mut pieces, piece)?;
                 rest
             }
@@ -184,7 +157,12 @@ fn push_argument<'t>(
     let named = take_name(here);
     match named.end.strip(b'}') {
         Some(after) => {
-            let piece = name_piece(place, after.place, named);
+            if named.place == here.place {
+                let piece = bare_piece(place, after.place, PieceKind::Closed);
+                push_piece(pieces, piece)?;
+                return Ok(after);
+            }
+            let piece = spaced_name(alloc, place, after.place, named)?;
             push_piece(pieces, piece)?;
             Ok(after)
         }
@@ -238,12 +216,13 @@ fn push_taken<'t>(
 {
     match asked.slot {
         Trait::Iter => push_list(alloc, pieces, place, here, named, asked, end),
-        t => push_value(pieces, place, here, named, t, asked, end),
+        t => push_value(alloc, pieces, place, here, named, t, asked, end),
     }
 }
 
 /// Adds an argument that asks for a value under a trait.
 fn push_value<'t>(
+    alloc: Global,
     pieces: &mut Vec<Piece>,
     place: usize,
     here: Cursor<'t>,
@@ -261,18 +240,14 @@ fn push_value<'t>(
         (token_node nodes place argument (at here.entry)) (at here.entry)) }
 {
     let (kind, rest) = ending(end);
-    let piece = Piece {
-        place,
-        end: rest.place,
-        kind,
-        item: None,
-        join: None,
+    let detail = Detail {
         from: named.place,
         to: named.end.place,
         spec_end: end.place,
         spec: asked.spec,
         form: Form::Value(t),
     };
+    let piece = detailed_piece(alloc, place, rest.place, kind, detail, no_groups())?;
     push_piece(pieces, piece)?;
     Ok(rest)
 }
@@ -299,20 +274,16 @@ fn push_list<'t>(
 {
     let item = parse_group(alloc, asked.list.item)?;
     let join = parse_group(alloc, asked.list.join)?;
-    let range = boxed(alloc, asked.list.range)?;
     let (kind, rest) = ending(end);
-    let piece = Piece {
-        place,
-        end: rest.place,
-        kind,
-        item,
-        join,
+    let detail = Detail {
         from: named.place,
         to: named.end.place,
         spec_end: end.place,
         spec: asked.spec,
-        form: Form::List(range),
+        form: Form::List(asked.list.range),
     };
+    let groups = Groups { item, join };
+    let piece = detailed_piece(alloc, place, rest.place, kind, detail, groups)?;
     push_piece(pieces, piece)?;
     Ok(rest)
 }
@@ -344,18 +315,15 @@ fn push_broken<'t>(
         (broken (argument_fault_of fault))) (at here.entry)) }
 {
     let rest = skip_all(here);
-    let piece = Piece {
-        place,
-        end: rest.place,
-        kind: PieceKind::Broken,
-        item: None,
-        join: None,
+    let detail = Detail {
         from: place,
         to: place,
         spec_end: place,
         spec: Spec::default(),
-        form: Form::Broken(Box::new(alloc, fault)?),
+        form: Form::Broken(fault),
     };
+    let kind = PieceKind::Broken;
+    let piece = detailed_piece(alloc, place, rest.place, kind, detail, no_groups())?;
     push_piece(pieces, piece)?;
     Ok(rest)
 }

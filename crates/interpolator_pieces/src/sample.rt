@@ -1,5 +1,6 @@
 //! The faults that pieces have against a sample.
-ghost use Rattle.std.specs.Prelude.{◌≡◌, ◌+◌, ◌<◌, ◌≤◌, ◌^◌, true, Option};
+ghost use Rattle.std.specs.Prelude.{◌≡◌, ◌+◌, ◌<◌, ◌≤◌, ◌^◌, ℕ, List, [], true, false, Option};
+ghost use Rattle.std.specs.Prelude.{IsSome, None, Some};
 ghost use Rattle.interpolator_render.specs.declared.view.Trait.TheVariants.{Display};
 ghost use Rattle.interpolator_syntax.specs.SpecTexts.{plain_spec};
 ghost use Rattle.std.specs.Str.{chars};
@@ -8,6 +9,7 @@ ghost use Rattle.interpolator_syntax.specs.Nodes.{as_forest, target_value, targe
 ghost use Rattle.interpolator_syntax.specs.declared.range.Range.{Range};
 ghost use Rattle.interpolator_render.specs.declared.view.Spec.{Spec};
 ghost use Rattle.interpolator_eval.specs.Meaning.Samples.{sample_of, candidates_under, items_below};
+ghost use Rattle.interpolator_eval.specs.Meaning.Samples.{all_shown};
 ghost use Rattle.interpolator_eval.specs.Meaning.Samples.{candidates_of, level_in, level_of_items};
 ghost use Rattle.interpolator_pieces.specs.NodeExtents.{node_depth, branch_depth, forest_depth};
 ghost use Rattle.interpolator_pieces.specs.NodeSamples.{value_faults, found_faults, asked_of};
@@ -16,15 +18,16 @@ ghost use Rattle.interpolator_pieces.specs.NodeSamples.{join_faults_in, forest_f
 ghost use Rattle.interpolator_pieces.specs.Stored.{node_of, nodes_of, node_whole, forest_whole};
 ghost use Rattle.interpolator_pieces.specs.Stored.{branch_of, content_of};
 ghost use Rattle.interpolator_pieces.specs.Collecting.{Collects};
+ghost use Rattle.interpolator_pieces.specs.StoredMeanings.{stored_name, unclosed_fault};
 ghost use Rattle.interpolator_pieces.specs.declared.piece.Piece.TheViews.{out-Piece};
 
 use crate::checks::{check_end, check_own};
 use crate::fault_collector::FaultCollector;
-use crate::piece::{Form, Piece};
-use crate::stored_source::name_of;
+use crate::piece::{Form, Piece, form_of, spec_end_of, spec_of};
+use crate::stored_source::{name_of, text_of};
 use interpolator_eval::{Candidates, Context, Items, Need, SampleEnvironment};
 use interpolator_render::{Spec, Trait, Value};
-use interpolator_syntax::Error;
+use interpolator_syntax::{Error, PieceKind};
 use std::fmt;
 
 /// Reports the faults of pieces, in order.
@@ -47,9 +50,28 @@ pub fn collect_pieces<'a, C: Context>(
     Ok(())
 }
 
-/// Reports the faults of a piece.
+/// Reports the faults of a piece, if it is not one of the many that plainly have none.
 #[cycle(sample)]
 fn collect_piece<'a, C: Context>(
+    collector: &mut FaultCollector,
+    sample: &SampleEnvironment<'a, C, C::Object>,
+    text: &str,
+    piece: &Piece,
+) -> Result<(), Error>
+    requires whole { node_whole (node_of text.now piece.now) ≡ true }
+    requires deep { level_in sample.now + node_depth (node_of text.now piece.now) + 1 < 2 ^ 64 }
+    ensures collects { Collects (node_faults_in C.Object.shows (sample_of C.finds sample.now)
+        (node_of text.now piece.now)) collector.old collector.new (result_answer result) }
+{
+    if is_plainly_right(sample, text, piece) {
+        return Ok(());
+    }
+    collect_parts(collector, sample, text, piece)
+}
+
+/// Reports the faults of the parts of a piece.
+#[cycle(sample)]
+fn collect_parts<'a, C: Context>(
     collector: &mut FaultCollector,
     sample: &SampleEnvironment<'a, C, C::Object>,
     text: &str,
@@ -67,6 +89,56 @@ fn collect_piece<'a, C: Context>(
     collector.collect_checked(check_end(piece))
 }
 
+/// Whether a piece without groups is text, or a closed argument whose value is shown.
+fn is_plainly_right<'a, C: Context>(
+    sample: &SampleEnvironment<'a, C, C::Object>,
+    text: &str,
+    piece: &Piece,
+) -> bool
+    requires whole { node_whole (node_of text.now piece.now) ≡ true }
+    ensures right { result ≡ true → node_faults_in C.Object.shows (sample_of C.finds sample.now)
+        (node_of text.now piece.now) ≡ [] }
+{
+    if has_groups(piece) {
+        return false;
+    }
+    match form_of(piece) {
+        Form::Text => true,
+        Form::Plain => is_shown(sample, text, piece, Trait::Display, &Spec::default()),
+        Form::Value(t) => is_shown(sample, text, piece, t, &spec_of(piece)),
+        Form::List(_) => false,
+        Form::Broken(_) => false,
+    }
+}
+
+/// Whether a piece has an item format or a join.
+fn has_groups(piece: &Piece) -> bool
+    ensures none { result ≡ false
+        → ((out-Piece piece.now).item ≡ None) × ((out-Piece piece.now).join ≡ None) }
+{
+    piece.item.is_some() || piece.join.is_some()
+}
+
+/// Whether an argument that asks for a value is closed, and all that may be under its name is shown.
+fn is_shown<'a, C: Context>(
+    sample: &SampleEnvironment<'a, C, C::Object>,
+    text: &str,
+    piece: &Piece,
+    t: Trait,
+    spec: &Spec,
+) -> bool
+    requires fits { IsSome (stored_name text.now piece.now) }
+    ensures closed { result ≡ true → unclosed_fault piece.now ≡ None }
+    ensures shown { result ≡ true → (name : List ℕ) → stored_name text.now piece.now ≡ Some name
+        → all_shown C.Object.shows t spec.now (candidates_under (sample_of C.finds sample.now) name)
+        ≡ true }
+{
+    match piece.kind {
+        PieceKind::Closed => sample.shows(text_of(text, piece), t, spec),
+        _ => false,
+    }
+}
+
 /// Reports what the sample lacks for a piece.
 fn collect_asked<'a, C: Context>(
     collector: &mut FaultCollector,
@@ -78,8 +150,8 @@ fn collect_asked<'a, C: Context>(
     ensures collects { Collects (asked_of C.Object.shows (sample_of C.finds sample.now)
         (content_of text.now piece.now)) collector.old collector.new (result_answer result) }
 {
-    let end = piece.spec_end;
-    match &piece.form {
+    let end = spec_end_of(piece);
+    match form_of(piece) {
         Form::Text => Ok(()),
         Form::Broken(_) => Ok(()),
         Form::Plain => {
@@ -89,7 +161,7 @@ fn collect_asked<'a, C: Context>(
         }
         Form::Value(t) => {
             let (start, name) = name_of(text, piece);
-            collect_value(collector, sample, start, name, *t, &piece.spec, end)
+            collect_value(collector, sample, start, name, t, &spec_of(piece), end)
         }
         Form::List(_) => {
             let (start, name) = name_of(text, piece);
@@ -130,6 +202,9 @@ fn collect_values<'a, V: Value>(
     ensures collects { Collects (value_faults V.shows t spec.now end (candidates_of found.now))
         collector.old collector.new (result_answer result) }
 {
+    if !found.any_lacks(Need::Shown(t, spec)) {
+        return Ok(());
+    }
     let missing = found.any_lacks(Need::Text(t, spec));
     collector.collect_if(missing, Error::MissingTraitImpl(t, end))?;
     let failed = found.any_lacks(Need::Success(t, spec));
@@ -168,7 +243,7 @@ fn items_of<'a, C: Context>(
         ≡ items_of_content (sample_of C.finds sample.now) (content_of text.now piece.now) }
     ensures level { level_of_items result ≤ level_in sample.now + 1 }
 {
-    let Form::List(_) = &piece.form else {
+    let Form::List(_) = form_of(piece) else {
         return Items::none();
     };
     let (_, name) = name_of(text, piece);
@@ -194,7 +269,7 @@ fn collect_item<'a, C: Context>(
     let items = items_of(sample, text, piece);
     match &piece.item {
         Some(pieces) => collect_pieces(collector, &sample.bind_each(items), text, pieces),
-        None => collect_plain(collector, items, piece.spec_end),
+        None => collect_plain(collector, items, spec_end_of(piece)),
     }
 }
 

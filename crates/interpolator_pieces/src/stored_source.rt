@@ -11,7 +11,7 @@ ghost use Rattle.interpolator_eval.specs.Meaning.Sources.{Met, asks_list, before
 ghost use Rattle.interpolator_eval.specs.Meaning.Sources.{met_pieces, unlisted_means};
 ghost use Rattle.interpolator_eval.specs.Meaning.Work.{forest_work};
 ghost use Rattle.interpolator_pieces.specs.Stored.{node_of, nodes_of, node_whole, forest_whole};
-ghost use Rattle.interpolator_pieces.specs.Stored.{part, range_of};
+ghost use Rattle.interpolator_pieces.specs.Stored.{detail_of, part};
 ghost use Rattle.interpolator_pieces.specs.StoredLists.{begins_list, is_list_form, range_asked};
 ghost use Rattle.interpolator_pieces.specs.StoredLists.{stored_list, stored_rest};
 ghost use Rattle.interpolator_pieces.specs.StoredMeanings.{stored_part, stored_name};
@@ -19,7 +19,7 @@ ghost use Rattle.interpolator_pieces.specs.StoredMeanings.{unclosed_fault};
 ghost use Rattle.interpolator_pieces.specs.declared.piece.Form.TheVariants as forms;
 ghost use Rattle.interpolator_pieces.specs.declared.piece.Piece.TheViews.{out-Piece};
 
-use crate::piece::{Form, Piece};
+use crate::piece::{Detail, Form, Piece, form_of, part_of, spec_end_of, spec_of};
 use interpolator_eval::{
     Context, Environment, FormatSource, Formattable, PieceCount, Sink, chosen_list,
     write_plain_value, write_value,
@@ -80,25 +80,25 @@ impl<'t> FormatSource for Stored<'t> {
             environment,
             start,
             name,
-            range_asked(&piece.form),
-            &piece.spec,
-            piece.spec_end,
+            range_asked(piece),
+            &spec_of(piece),
+            spec_end_of(piece),
         )
     }
 
     #[inline(always)]
     fn has_width(list: &Stored<'t>) -> bool {
-        list.pieces[0].spec.width.is_some()
+        spec_of(&list.pieces[0]).width.is_some()
     }
 
     #[inline(always)]
     fn spec(list: &Stored<'t>) -> Spec {
-        list.pieces[0].spec
+        spec_of(&list.pieces[0])
     }
 
     #[inline(always)]
     fn end(list: &Stored<'t>) -> usize {
-        list.pieces[0].spec_end
+        spec_end_of(&list.pieces[0])
     }
 
     #[inline(always)]
@@ -140,11 +140,11 @@ impl<'t> FormatSource for Stored<'t> {
 
 /// Which items of a list are written: all, unless the form of the piece has a range.
 #[inline(always)]
-fn range_asked(form: &Form) -> Option<Range>
-    ensures { result ≡ range_asked form.now }
+fn range_asked(piece: &Piece) -> Option<Range>
+    ensures { result ≡ range_asked (detail_of piece.now).form }
 {
-    match form {
-        Form::List(range) => unboxed(range),
+    match form_of(piece) {
+        Form::List(range) => range,
         _ => None,
     }
 }
@@ -189,6 +189,7 @@ fn run_pieces<'t, 'a, W: TextWrite, C: Context, L: Ledger>(
 }
 
 /// Writes what a piece means, unless it asks for a list; returns whether it does.
+#[tactic(auto, using(crate::proofs::StoredLemmas::detail_kept))]
 #[inline(always)]
 fn run_piece<'a, W: TextWrite, C: Context>(
     sink: &mut Sink<'_, W>,
@@ -201,16 +202,68 @@ fn run_piece<'a, W: TextWrite, C: Context>(
         (unlisted_means C.Object.shows (environment_of C.finds environment.now)
         (node_of text.now piece.now))
         sink.old sink.new (result_answer result) }
-    ensures list { IfOk result (λ list. is_list_form (out-Piece piece.now).form ≡ list) }
+    ensures list { IfOk result (λ list. is_list_form (detail_of piece.now).form ≡ list) }
 {
-    match &piece.form {
+    match &piece.detail {
+        Some(detail) => run_detailed(sink, environment, text, piece, detail),
+        None => run_bare(sink, environment, text, piece),
+    }
+}
+
+/// Writes what a piece without a detail means; it asks for no list.
+#[inline(always)]
+fn run_bare<'a, W: TextWrite, C: Context>(
+    sink: &mut Sink<'_, W>,
+    environment: &Environment<'a, C, C::Object>,
+    text: &str,
+    piece: &Piece,
+) -> Result<bool, Error>
+    requires whole { node_whole (node_of text.now piece.now) ≡ true }
+    requires bare { (out-Piece piece.now).detail ≡ None }
+    ensures writes { Writes W.written
+        (unlisted_means C.Object.shows (environment_of C.finds environment.now)
+        (node_of text.now piece.now))
+        sink.old sink.new (result_answer result) }
+    ensures list { IfOk result (λ list. is_list_form (detail_of piece.now).form ≡ list) }
+{
+    match piece.kind {
+        PieceKind::Closed => {
+            let (start, name) = name_of(text, piece);
+            write_plain_value(sink, environment, start, name, spec_end_of(piece))?;
+            Ok(false)
+        }
+        _ => {
+            sink.put_run(text_of(text, piece), piece.place)?;
+            Ok(false)
+        }
+    }
+}
+
+/// Writes what a piece with a detail means, unless it asks for a list; returns whether it does.
+#[inline(always)]
+fn run_detailed<'a, W: TextWrite, C: Context>(
+    sink: &mut Sink<'_, W>,
+    environment: &Environment<'a, C, C::Object>,
+    text: &str,
+    piece: &Piece,
+    detail: &Detail,
+) -> Result<bool, Error>
+    requires whole { node_whole (node_of text.now piece.now) ≡ true }
+    requires detail { detail_of piece.now ≡ detail.now }
+    ensures writes { Writes W.written
+        (unlisted_means C.Object.shows (environment_of C.finds environment.now)
+        (node_of text.now piece.now))
+        sink.old sink.new (result_answer result) }
+    ensures list { IfOk result (λ list. is_list_form (detail_of piece.now).form ≡ list) }
+{
+    match &detail.form {
         Form::Text => {
-            sink.put_run(text_of(text, piece), piece.from)?;
+            sink.put_run(text_of(text, piece), detail.from)?;
             Ok(false)
         }
         Form::Plain => {
             let (start, name) = name_of(text, piece);
-            write_plain_value(sink, environment, start, name, piece.spec_end)?;
+            write_plain_value(sink, environment, start, name, detail.spec_end)?;
             value_done(piece)
         }
         Form::Value(t) => {
@@ -221,8 +274,8 @@ fn run_piece<'a, W: TextWrite, C: Context>(
                 start,
                 name,
                 *t,
-                &piece.spec,
-                piece.spec_end,
+                &detail.spec,
+                detail.spec_end,
             )?;
             value_done(piece)
         }
@@ -265,9 +318,10 @@ pub fn cut(text: &str, from: usize, to: usize) -> &str
 pub fn text_of<'t>(text: &'t str, piece: &Piece) -> &'t str
     requires fits { IsSome (stored_part text.now piece.now) }
     ensures text { Some (chars result.now) ≡ stored_part text.now piece.now }
-    ensures fits { (out-Piece piece.now).from + length result.now < 2 ^ 64 }
+    ensures fits { (detail_of piece.now).from + length result.now < 2 ^ 64 }
 {
-    cut(text, piece.from, piece.to)
+    let (from, to) = part_of(text, piece);
+    cut(text, from, to)
 }
 
 /// Where the argument of a piece begins, and its name.
@@ -284,18 +338,7 @@ pub fn require_closed(piece: &Piece) -> Result<(), Error>
     ensures { result_answer result ≡ option_map fault (unclosed_fault piece.now) }
 {
     match piece.kind {
-        PieceKind::Unclosed => Err(Error::Parse(ParseError::Expected("}", piece.spec_end))),
+        PieceKind::Unclosed => { Err(Error::Parse(ParseError::Expected("}", spec_end_of(piece)))) }
         _ => Ok(()),
-    }
-}
-
-/// The range of a list, if it has one.
-#[inline(always)]
-pub fn unboxed(range: &Option<Box<Range>>) -> Option<Range>
-    ensures { result ≡ range_of range.now }
-{
-    match range {
-        Some(range) => Some(**range),
-        None => None,
     }
 }

@@ -7,7 +7,7 @@ copy_piece-returns t c =
     record {
       same = λ bs. node_of_roll bs _
           ∙ rw (
-            c.in_ok-form.ensures.same bs,
+            c.in_ok-detail.ensures.same _ _ _,
             c.in_ok-item.ensures.same bs,
             c.in_ok-join.ensures.same bs,
           )

@@ -1,24 +1,18 @@
-use Rattle.std.proofs.Common.{◌≡◌, ◌∙◌, refl, sym, arith, Some, rules}
+use Rattle.std.proofs.Common.{◌≡◌, ◌∙◌, ◌+◌, ap, refl, sym, arith, Some, rules}
 use Rattle.std.specs.Str.{chars}
 use Rattle.interpolator_syntax.specs.At.{at}
+use Rattle.interpolator_syntax.specs.Nodes.{node, no_branch}
+use Rattle.interpolator_syntax.specs.declared.piece_kind.PieceKind.TheVariants.{Closed}
 use Rattle.interpolator_syntax.specs.Tokens.{literals, doubled, lone_close, argument, first_token}
 use Rattle.interpolator_syntax.proofs.TokenLemmas.{scan_shorter, token_shorter}
 use Rattle.interpolator_eval.proofs.MeaningLemmas.ScanLemmas.{asked_ok, asked_broken}
 use Rattle.interpolator_pieces.proofs.WithinLemmas.{after_front}
 use Rattle.interpolator_syntax.proofs.TokenTextLemmas.{takes_token}
 use Rattle.interpolator_pieces.proofs.ParseLemmas.{rest_is, list_pushed, list_within, broken_is}
-use Rattle.interpolator_pieces.proofs.ParseLemmas.{doubled_ends, literals_node, doubled_node}
+use Rattle.interpolator_pieces.proofs.ParseLemmas.{literals_node, doubled_node}
 use Rattle.interpolator_pieces.proofs.ParseLemmas.{lone_node, left_within, text_reads, name_pushed}
-use Rattle.interpolator_pieces.proofs.ParseLemmas.{name_rest, reads_on, all_read}
-use Rattle.interpolator_pieces.proofs.StoredLemmas.{node_of_roll}
+use Rattle.interpolator_pieces.proofs.ParseLemmas.{name_bare, name_closes, name_rest, reads_on, all_read}
 use Rattle.interpolator_pieces.proofs.parse.+parse.Goals as goal
-
-pub parse_pieces-overflow_add-here : goal.parse_pieces-overflow_add-here
-parse_pieces-overflow_add-here t c =
-    let token : first_token (at c.loop-token.here) ≡ Some (doubled c.in-Doubled.field-0, at c.in-Some.rest) =
-    rw c.in-Doubled.is at (sym c.in-Some.ensures.token) in
-    let ends = doubled_ends (at c.loop-token.here) (at c.in-Some.rest) c.in-Doubled.field-0 token in
-    omega (arith, ends, c.in-Some.rest.fits)
 
 pub parse_pieces-push_argument-requires : goal.parse_pieces-push_argument-requires
 parse_pieces-push_argument-requires t c =
@@ -46,7 +40,7 @@ parse_pieces-loop-token-preserved-in_ok-push_piece-in-Literals t c =
     rw c.in-Literals.is at (sym c.in-Some.ensures.token) in
     text_reads (at c.args.text) here _ c.loop-token.invariant (literals cs) rest _ _ token refl
     c.in_ok-push_piece-in-Literals.ensures
-    (λ bs u w. c.text_piece-piece.ensures.node bs ∙ literals_node bs u here w cs rest token)
+    (λ bs u w. c.bare_piece-piece.ensures.node bs ∙ literals_node bs u here w cs rest token)
 
 pub parse_pieces-loop-token-smaller-in_ok-push_piece-in-Doubled :
     goal.parse_pieces-loop-token-smaller-in_ok-push_piece-in-Doubled
@@ -63,7 +57,7 @@ parse_pieces-loop-token-preserved-in_ok-push_piece-in-Doubled t c =
     rw c.in-Doubled.is at (sym c.in-Some.ensures.token) in
     text_reads (at c.args.text) here _ c.loop-token.invariant (doubled brace) rest _ _ token refl
     c.in_ok-push_piece-in-Doubled.ensures
-    (λ bs u w. c.text_piece-piece-in-Doubled.ensures.node bs
+    (λ bs u w. c.bare_piece-piece-in-Doubled.ensures.node bs
     ∙ doubled_node bs u here w brace rest token)
 
 pub parse_pieces-loop-token-smaller-in_ok-push_piece-in-LoneClose :
@@ -80,7 +74,7 @@ parse_pieces-loop-token-preserved-in_ok-push_piece-in-LoneClose t c =
     rw c.in-LoneClose.is at (sym c.in-Some.ensures.token) in
     text_reads (at c.args.text) here _ c.loop-token.invariant lone_close rest _ _ token refl
     c.in_ok-push_piece-in-LoneClose.ensures
-    (λ bs u w. c.text_piece-piece-in-LoneClose.ensures.node bs ∙ lone_node bs u here w rest token)
+    (λ bs u w. c.bare_piece-piece-in-LoneClose.ensures.node bs ∙ lone_node bs u here w rest token)
 
 pub parse_pieces-loop-token-smaller : goal.parse_pieces-loop-token-smaller
 parse_pieces-loop-token-smaller t c =
@@ -107,20 +101,38 @@ parse_pieces-returns t c =
           c.loop-token.invariant (sym c.in_default.ensures.token);
     }
 
-pub push_argument-returns-in_ok-push_piece-in-Some-clause-rest :
-    goal.push_argument-returns-in_ok-push_piece-in-Some-clause-rest
-push_argument-returns-in_ok-push_piece-in-Some-clause-rest t c =
+pub push_argument-returns-then-named-here-clause-rest : goal.push_argument-returns-then-named-here-clause-rest
+push_argument-returns-then-named-here-clause-rest t c =
     let named = c.take_name-named in
     name_rest c.args.place (at c.args.here) named.result (at c.in-Some.after) named.ensures.read
     c.in-Some.ensures c.requires.start named.ensures.end_place
 
-pub push_argument-returns-in_ok-push_piece-in-Some-clause-pushed :
-    goal.push_argument-returns-in_ok-push_piece-in-Some-clause-pushed
-push_argument-returns-in_ok-push_piece-in-Some-clause-pushed t c =
+pub push_argument-returns-then-named-here-clause-pushed : goal.push_argument-returns-then-named-here-clause-pushed
+push_argument-returns-then-named-here-clause-pushed t c =
+    let named = c.take_name-named in
+    let after = c.in-Some.after in
+    let begins : named.result.place ≡ c.args.place + 1 = grind (arith, c.requires.start) in
+    let closes = name_closes named.result (at after) c.in-Some.ensures in
+    name_pushed c.args.place (at c.args.here) named.result (at after) named.ensures.read
+    c.in-Some.ensures c.requires.start named.ensures.end_place _ _ c.bare_piece-piece.result
+    c.in_ok-push_piece-in-Some.ensures (λ bs. c.bare_piece-piece.ensures.node bs
+    ∙ ap (λ h. node c.args.place after.place Closed h no_branch no_branch)
+    (name_bare bs c.args.place after.place named.result.place named.result.end.place begins closes))
+
+pub push_argument-returns-in_ok-push_piece-in-Some-2-clause-rest :
+    goal.push_argument-returns-in_ok-push_piece-in-Some-2-clause-rest
+push_argument-returns-in_ok-push_piece-in-Some-2-clause-rest t c =
+    let named = c.take_name-named in
+    name_rest c.args.place (at c.args.here) named.result (at c.in-Some.after) named.ensures.read
+    c.in-Some.ensures c.requires.start named.ensures.end_place
+
+pub push_argument-returns-in_ok-push_piece-in-Some-2-clause-pushed :
+    goal.push_argument-returns-in_ok-push_piece-in-Some-2-clause-pushed
+push_argument-returns-in_ok-push_piece-in-Some-2-clause-pushed t c =
     let named = c.take_name-named in
     name_pushed c.args.place (at c.args.here) named.result (at c.in-Some.after) named.ensures.read
-    c.in-Some.ensures c.requires.start named.ensures.end_place _ _ c.name_piece-piece.result
-    c.in_ok-push_piece-in-Some.ensures c.name_piece-piece.ensures.node
+    c.in-Some.ensures c.requires.start named.ensures.end_place _ _ c.in_ok-piece-in-Some.piece
+    c.in_ok-push_piece-in-Some-2.ensures c.in_ok-piece-in-Some.ensures.node
 
 pub push_asked-push_taken-requires : goal.push_asked-push_taken-requires
 push_asked-push_taken-requires t c =
@@ -162,6 +174,6 @@ pub push_list-returns-clause-pushed : goal.push_list-returns-clause-pushed
 push_list-returns-clause-pushed t c =
     list_pushed c.args.place (at c.args.here) c.args.named c.args.asked.now c.args.end
     c.requires.start c.requires.read c.requires.name_end _ _ _ _ _ c.ending-kind.ensures.rest
-    c.ending-kind.ensures.kind c.in_ok-push_piece.ensures c.in_ok-range.range c.in_ok-item.item
-    c.in_ok-join.join c.requires.asked c.in_ok-range.ensures c.in_ok-item.ensures.stands
-    c.in_ok-join.ensures.stands (λ bs. node_of_roll bs _)
+    c.ending-kind.ensures.kind c.in_ok-push_piece.ensures c.in_ok-item.item c.in_ok-join.join
+    c.requires.asked c.in_ok-item.ensures.stands c.in_ok-join.ensures.stands
+    c.in_ok-piece.ensures.node

@@ -1,6 +1,5 @@
 use Rattle.std.proofs.Common.{◌∙◌, ap, refl}
 use Rattle.interpolator_syntax.specs.At.{At}
-use Rattle.interpolator_pieces.proofs.StoredLemmas.{node_of_roll}
 use Rattle.interpolator_pieces.proofs.parse.push_broken.Goals as goal
 
 pub returns-clause-pushed : goal.returns-clause-pushed
@@ -9,5 +8,5 @@ returns-clause-pushed c =
     record {
       piece = _;
       added = c.in_ok-push_piece.ensures;
-      stands = λ bs u w. node_of_roll bs _ ∙ rw (ends, c.in_ok-new.ensures.ok) refl;
+      stands = λ bs u w. c.in_ok-piece.ensures.node bs ∙ rw (ends, c.no_groups.ensures) refl;
     }

@@ -1,6 +1,6 @@
+use Rattle.std.proofs.Common.{◌∙◌, refl}
 use Rattle.interpolator_syntax.specs.At.{at}
 use Rattle.interpolator_pieces.proofs.ParseLemmas.{rest_is, value_pushed}
-use Rattle.interpolator_pieces.proofs.StoredLemmas.{node_of_roll}
 use Rattle.interpolator_pieces.proofs.parse.push_value.Goals as goal
 
 pub returns-clause-rest : goal.returns-clause-rest
@@ -13,4 +13,4 @@ returns-clause-pushed c =
     value_pushed c.args.place (at c.args.here) c.args.named c.args.asked.now c.args.end
     c.requires.start c.requires.read c.requires.name_end _ _ _ _ _ c.ending-kind.ensures.rest
     c.ending-kind.ensures.kind c.in_ok-push_piece.ensures c.args.t c.requires.asked
-    (λ bs. node_of_roll bs _)
+    (λ bs. c.in_ok-piece.ensures.node bs ∙ rw c.no_groups.ensures refl)

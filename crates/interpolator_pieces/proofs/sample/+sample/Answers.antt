@@ -4,6 +4,7 @@ use Rattle.interpolator_syntax.specs.Faults.{answer_of}
 use Rattle.interpolator_eval.specs.Meaning.Samples.{sample_of, level_in, bind_each}
 use Rattle.interpolator_pieces.specs.NodeChecks.{stored_own_fault, stored_end_fault}
 use Rattle.interpolator_pieces.proofs.CollectLemmas.{piece_ends, piece_goes_on, pieces_over}
+use Rattle.interpolator_pieces.proofs.CollectLemmas.{collects_nothing}
 use Rattle.interpolator_pieces.proofs.CollectLemmas.{group_deep, item_told, asked_ends, own_ends}
 use Rattle.interpolator_pieces.proofs.WalkLemmas.{piece_depth, piece_within}
 use Rattle.interpolator_pieces.proofs.CollectLemmas.{item_ends, join_ends, last_told}
@@ -52,26 +53,31 @@ collect_pieces-returns g t c = record {
 
 -- ---- one piece
 
-pub collect_piece-collect_item-requires : goal.collect_piece-collect_item-requires
-collect_piece-collect_item-requires g t c κs within =
+pub collect_piece-returns-then-is_plainly_right : goal.collect_piece-returns-then-is_plainly_right
+collect_piece-returns-then-is_plainly_right g t c = record {
+  collects = rw (c.is_plainly_right.ensures.right c.if-is_plainly_right.true) (collects_nothing c.args.collector.now);
+}
+
+pub collect_parts-collect_item-requires : goal.collect_parts-collect_item-requires
+collect_parts-collect_item-requires g t c κs within =
     let depth = piece_depth c.args.text.now c.args.piece.now in
     (search rules, (within.0, (within.1, (search rules, omega (arith, depth)))))
 
-pub collect_piece-collect_join-requires : goal.collect_piece-collect_join-requires
-collect_piece-collect_join-requires g t c κs within =
+pub collect_parts-collect_join-requires : goal.collect_parts-collect_join-requires
+collect_parts-collect_join-requires g t c κs within =
     let depth = piece_depth c.args.text.now c.args.piece.now in
     (search rules, (within.0, (within.1, (search rules, omega (arith, depth)))))
 
-pub collect_piece-returns-in_err-collect_asked : goal.collect_piece-returns-in_err-collect_asked
-collect_piece-returns-in_err-collect_asked g t c =
+pub collect_parts-returns-in_err-collect_asked : goal.collect_parts-returns-in_err-collect_asked
+collect_parts-returns-in_err-collect_asked g t c =
     let err = err_from_is_err_and c.from_residual.result c.from_residual.ensures.1 in
     rw (err.1, err.2) (record {
       collects = asked_ends _ _ c.args.text.now c.args.piece.now (search rules) c.args.collector.now
           c.collect_asked.new.collector _ c.in_err-collect_asked.ensures.collects;
     })
 
-pub collect_piece-returns-in_err-collect_checked : goal.collect_piece-returns-in_err-collect_checked
-collect_piece-returns-in_err-collect_checked g t c =
+pub collect_parts-returns-in_err-collect_checked : goal.collect_parts-returns-in_err-collect_checked
+collect_parts-returns-in_err-collect_checked g t c =
     let residual = c.from_residual-in_err-collect_checked in
     let err = err_from_is_err_and residual.result residual.ensures.1 in
     rw (err.1, err.2) (record {
@@ -81,8 +87,8 @@ collect_piece-returns-in_err-collect_checked g t c =
           c.check_own.ensures.own);
     })
 
-pub collect_piece-returns-in_err-collect_item : goal.collect_piece-returns-in_err-collect_item
-collect_piece-returns-in_err-collect_item g t c =
+pub collect_parts-returns-in_err-collect_item : goal.collect_parts-returns-in_err-collect_item
+collect_parts-returns-in_err-collect_item g t c =
     let residual = c.from_residual-in_err-collect_item in
     let err = err_from_is_err_and residual.result residual.ensures.1 in
     rw (err.1, err.2) (record {
@@ -93,8 +99,8 @@ collect_piece-returns-in_err-collect_item g t c =
           c.collect_item.new.collector _ c.in_err-collect_item.ensures.collects;
     })
 
-pub collect_piece-returns-in_err-collect_join : goal.collect_piece-returns-in_err-collect_join
-collect_piece-returns-in_err-collect_join g t c =
+pub collect_parts-returns-in_err-collect_join : goal.collect_parts-returns-in_err-collect_join
+collect_parts-returns-in_err-collect_join g t c =
     let residual = c.from_residual-in_err-collect_join in
     let err = err_from_is_err_and residual.result residual.ensures.1 in
     rw (err.1, err.2) (record {
@@ -106,8 +112,8 @@ collect_piece-returns-in_err-collect_join g t c =
           c.collect_join.new.collector _ c.in_err-collect_join.ensures.collects;
     })
 
-pub collect_piece-returns : goal.collect_piece-returns
-collect_piece-returns g t c = record {
+pub collect_parts-returns : goal.collect_parts-returns
+collect_parts-returns g t c = record {
   collects = last_told _ _ c.args.text.now c.args.piece.now (search rules) c.args.collector.now
       c.collect_asked.new.collector c.in_ok-collect_asked.ensures.collects c.collect_checked.new.self
       (c.in_ok-collect_checked.ensures (stored_own_fault c.args.piece.now)
