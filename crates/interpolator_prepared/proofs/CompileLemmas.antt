@@ -19,7 +19,7 @@ use Rattle.interpolator_syntax.specs.declared.piece_kind.PieceKind.TheVariants a
 use Rattle.interpolator_syntax.specs.declared.range.Range.{Range}
 use Rattle.interpolator_pieces.specs.Stored.{name_part, stored_content, content_of, node_of}
 use Rattle.interpolator_pieces.specs.Stored.{nodes_of}
-use Rattle.interpolator_pieces.specs.Stored.{node_whole, forest_whole, range_of, branch_of}
+use Rattle.interpolator_pieces.specs.Stored.{node_whole, forest_whole, branch_of, detail_of}
 use Rattle.interpolator_pieces.specs.StoredMeanings.{stored_name, stored_part}
 use Rattle.interpolator_pieces.specs.declared.piece.Form.{Form}
 use Rattle.interpolator_pieces.specs.declared.piece.Form.TheVariants as forms
@@ -29,7 +29,7 @@ use Rattle.interpolator_pieces.proofs.RunLemmas.{text_fits, text_held, name_held
 use Rattle.interpolator_pieces.proofs.RunLemmas.{value_fits}
 use Rattle.interpolator_pieces.proofs.StoredLemmas.{node_of_out}
 use Rattle.interpolator_pieces.proofs.WholePieceLemmas.{both, fits_text, pieces_whole}
-use Rattle.interpolator_prepared.specs.Programs.{Instruction, text_step, value_step, node_step}
+use Rattle.interpolator_prepared.specs.Programs.{Instruction, text_step, value_step, whole_step}
 use Rattle.interpolator_prepared.specs.Programs.{text_before, node_before, program}
 use Rattle.interpolator_prepared.specs.Programs.{content_position, node_position, step_at}
 use Rattle.interpolator_prepared.specs.Programs.{argument_step}
@@ -75,6 +75,11 @@ pub named_part : (b : Bool) (o : Option (List ℕ)) (name : List ℕ)
 named_part true o name h = h
 named_part false o name h = absurd (cc)
 
+-- and it is cut from the text
+pub part_fits : (b : Bool) (o : Option (List ℕ)) → IsSome (if b then o else None) → IsSome o
+part_fits true o h = h
+part_fits false o h = absurd (cc)
+
 -- ---- arguments
 
 module _ (names : List (List ℕ)) where
@@ -102,23 +107,34 @@ module _ (names : List (List ℕ)) where
       (target_value t) q
   by_form bs place end kind item join from to q spec (forms.List range) h =
       no_text place end kind item join (name_part bs place from to) (suc place) spec
-      (target_list (range_of range)) q
+      (target_list range) q
   by_form bs place end kind item join from to q spec (forms.Broken f) h = λ steps. refl
 
   pub argument_precedes :
-      (bs : List ℕ) (x : Piece) → (out-Piece x).form ≢ forms.Text → Precedes (node_of bs x)
+      (bs : List ℕ) (x : Piece) → (detail_of x).form ≢ forms.Text → Precedes (node_of bs x)
   argument_precedes bs x h steps =
       let y = out-Piece x in
+      let d = detail_of x in
       rw (node_of_out bs x)
-      (by_form bs y.place y.end y.kind _ _ y.from y.to y.spec_end y.spec y.form h steps)
+      (by_form bs y.place y.end y.kind _ _ d.from d.to d.spec_end d.spec d.form h steps)
 
   -- ---- text
 
   -- an argument stays apart from the text before it
+  whole_apart : (x : Node) (ds : Placed) (steps : List Instruction)
+      → text_before ds (whole_step x ∷ steps) ≡ text_step ds ∷ (whole_step x ∷ steps)
+  whole_apart (node place end kind None item join) ds steps = refl
+  whole_apart (node place end kind (Some (text_content from cs)) item join) ds steps = refl
+  whole_apart (node place end kind (Some (fault_content f)) item join) ds steps = refl
+  whole_apart (node place end kind (Some (argument_content start name spec (target_list r) q)) item join) ds steps =
+      refl
+  whole_apart (node place end kind (Some (argument_content start name spec (target_value t) q)) item join) ds steps =
+      refl
+
   argument_apart : (o : Option ℕ) (x : Node) (ds : Placed) (steps : List Instruction)
       → text_before ds (argument_step names o x ∷ steps)
       ≡ text_step ds ∷ (argument_step names o x ∷ steps)
-  argument_apart None x ds steps = refl
+  argument_apart None x ds steps = whole_apart x ds steps
   argument_apart (Some k) (node place end kind None item join) ds steps = refl
   argument_apart (Some k) (node place end kind (Some (text_content from cs)) item join) ds steps = refl
   argument_apart (Some k) (node place end kind (Some (fault_content f)) item join) ds steps = refl
@@ -138,7 +154,7 @@ module _ (names : List (List ℕ)) where
         → (node_whole (node_of bs x) ≡ true) × Whole xs
     first_whole x xs h = both (node_whole (node_of bs x)) (forest_whole (as_forest (nodes_of bs xs))) h
 
-    text_form : (form : Form) → is_text_form form ≡ true → form ≡ forms.Text
+    pub text_form : (form : Form) → is_text_form form ≡ true → form ≡ forms.Text
     text_form forms.Text h = refl
     text_form forms.Plain h = absurd (cc)
     text_form (forms.Value t) h = absurd (cc)
@@ -151,7 +167,7 @@ module _ (names : List (List ℕ)) where
     -- text fits its format
     pub text_part : (x : Piece) → is_text x ≡ true → node_whole (node_of bs x) ≡ true
         → IsSome (stored_part bs x)
-    text_part x is whole = text_fits bs x (text_form (out-Piece x).form is) (fits_text bs x whole).held
+    text_part x is whole = text_fits bs x (text_form (detail_of x).form is) (fits_text bs x whole).held
 
     -- the steps of text, and of what is after it
     text_first : (x : Piece) (steps : List Instruction) → is_text x ≡ true
@@ -163,8 +179,8 @@ module _ (names : List (List ℕ)) where
             → node_before names (node_of bs x) steps ≡ text_before (texts_placed bs (x ∷ [])) steps
         by_part None e h = absurd (cc)
         by_part (Some cs) e h =
-            rw (node_of_out bs x, text_held bs x cs (text_form (out-Piece x).form is) (sym e), e)
-            (ap (λ ds. text_before ds steps) (sym (append-nil (placed_from (out-Piece x).from cs))))
+            rw (node_of_out bs x, text_held bs x cs (text_form (detail_of x).form is) (sym e), e)
+            (ap (λ ds. text_before ds steps) (sym (append-nil (placed_from (detail_of x).from cs))))
 
     -- text before the program of pieces is joined to the text at their beginning
     texts_join : (xs : List Piece) (ds : Placed) → Whole xs
@@ -186,11 +202,11 @@ module _ (names : List (List ℕ)) where
         by_text true later is =
             rw (text_first x (Program xs) is (first_whole x xs whole).0, is, later)
             (ap (λ es. text_step (ds ++ es) ∷ Program (drop (text_count xs) xs))
-            (append_assoc (placed_from (out-Piece x).from (unwrap_or (stored_part bs x) [])) []
+            (append_assoc (placed_from (detail_of x).from (unwrap_or (stored_part bs x) [])) []
             (texts_placed bs (take (text_count xs) xs))))
         by_text false later is =
             let apart = argument_apart (node_position names (node_of bs x)) (node_of bs x) ds (Program xs) in
-            let first = argument_precedes bs x (other_form (out-Piece x).form is) (Program xs) in
+            let first = argument_precedes bs x (other_form (detail_of x).form is) (Program xs) in
             rw (is, first) (apart ∙ ap (λ es. text_step es
             ∷ (argument_step names (node_position names (node_of bs x)) (node_of bs x) ∷ Program xs))
             (sym (append-nil ds)))
@@ -212,10 +228,10 @@ module _ (names : List (List ℕ)) where
               texts_join xs (texts_placed bs (x ∷ [])) wholes.1,
             )
             (ap (λ es. text_step es ∷ Program (drop (text_count xs) xs))
-            (append_assoc (placed_from (out-Piece x).from (unwrap_or (stored_part bs x) [])) []
+            (append_assoc (placed_from (detail_of x).from (unwrap_or (stored_part bs x) [])) []
             (texts_placed bs (take (text_count xs) xs))))
         by_text false is =
-            rw is (argument_precedes bs x (other_form (out-Piece x).form is) (Program xs))
+            rw is (argument_precedes bs x (other_form (detail_of x).form is) (Program xs))
 
     abbrev Fits : Piece → Type 0
     Fits x = IsSome (stored_part bs x)
@@ -270,26 +286,26 @@ module _ (names : List (List ℕ)) where
           (spec : Spec) (t : Trait)
           → ((name : List ℕ) → Some name ≡ stored_name bs x
           → content_of bs x
-          ≡ Some (argument_content ((out-Piece x).place + 1) name spec (target_value t) (out-Piece x).spec_end))
+          ≡ Some (argument_content ((out-Piece x).place + 1) name spec (target_value t) (detail_of x).spec_end))
           → (o : Option (List ℕ)) → stored_name bs x ≡ o → IsSome o
           → r ≡ node_position names (node_of bs x)
       by_found spec t held None e h = absurd (cc)
       by_found spec t held (Some name) e h =
           found name e
-          ∙ position_is ((out-Piece x).place + 1) name spec t (out-Piece x).spec_end
+          ∙ position_is ((out-Piece x).place + 1) name spec t (detail_of x).spec_end
           (encode_utf8_all name) (held name (sym e)) kind refl
 
-      pub position_of_name : (out-Piece x).form ≡ forms.Plain
+      pub position_of_name : (detail_of x).form ≡ forms.Plain
           → r ≡ node_position names (node_of bs x)
       position_of_name form =
           by_found plain_spec traits.Display
           (λ name is. name_held bs x ((out-Piece x).place + 1) name refl is form)
           (stored_name bs x) refl (name_fits bs x form (fits_text bs x whole).held)
 
-      pub position_of_value : (t : Trait) → (out-Piece x).form ≡ forms.Value t
+      pub position_of_value : (t : Trait) → (detail_of x).form ≡ forms.Value t
           → r ≡ node_position names (node_of bs x)
       position_of_value t form =
-          by_found (out-Piece x).spec t
+          by_found (detail_of x).spec t
           (λ name is. value_held bs x ((out-Piece x).place + 1) name refl is t form)
           (stored_name bs x) refl (value_fits bs x t form (fits_text bs x whole).held)
 
@@ -309,7 +325,7 @@ module _ (names : List (List ℕ)) where
         by_kind kinds.Unclosed held h = refl
         by_kind kinds.Broken held h = refl
 
-    pub no_position_form : (form : Form) → (out-Piece x).form ≡ form → IsOther form
+    pub no_position_form : (form : Form) → (detail_of x).form ≡ form → IsOther form
         → (out-Piece x).kind ≡ kinds.Closed → None ≡ node_position names (node_of bs x)
     no_position_form form is other kind =
         sym (rw (node_of_out bs x) (ap (λ k. content_position names k (content_of bs x)) kind
@@ -328,8 +344,8 @@ module _ (names : List (List ℕ)) where
 
         by_other : (form : Form) → IsOther form
             → content_position names kinds.Closed
-            (stored_content bs (out-Piece x).place (out-Piece x).from (out-Piece x).to
-            (out-Piece x).spec_end (out-Piece x).spec form) ≡ None
+            (stored_content bs (out-Piece x).place (detail_of x).from (detail_of x).to
+            (detail_of x).spec_end (detail_of x).spec form) ≡ None
         by_other forms.Text h = no_text_name _ _
         by_other forms.Plain h = absurd h
         by_other (forms.Value t) h = absurd h
@@ -354,53 +370,47 @@ module _ (names : List (List ℕ)) where
         (position : Some k ≡ node_position names (node_of bs x)) where
       abbrev IsAt : Trait → Spec → Type 0
       IsAt t spec =
-          Some (value_step k t spec (out-Piece x).spec_end)
+          Some (value_step k t spec (detail_of x).spec_end)
           ≡ Some (argument_step names (node_position names (node_of bs x)) (node_of bs x))
 
       by_name :
           (spec : Spec) (t : Trait)
           → ((name : List ℕ) → Some name ≡ stored_name bs x
           → content_of bs x
-          ≡ Some (argument_content ((out-Piece x).place + 1) name spec (target_value t) (out-Piece x).spec_end))
+          ≡ Some (argument_content ((out-Piece x).place + 1) name spec (target_value t) (detail_of x).spec_end))
           → (o : Option (List ℕ)) → stored_name bs x ≡ o → IsSome o → IsAt t spec
       by_name spec t held None e h = absurd (cc)
       by_name spec t held (Some name) e h =
-          step_is k ((out-Piece x).place + 1) name spec t (out-Piece x).spec_end
+          step_is k ((out-Piece x).place + 1) name spec t (detail_of x).spec_end
           (held name (sym e)) position
 
-      pub step_of_name : (out-Piece x).form ≡ forms.Plain → IsAt traits.Display plain_spec
+      pub step_of_name : (detail_of x).form ≡ forms.Plain → IsAt traits.Display plain_spec
       step_of_name form =
           by_name plain_spec traits.Display
           (λ name is. name_held bs x ((out-Piece x).place + 1) name refl is form)
           (stored_name bs x) refl (name_fits bs x form (fits_text bs x whole).held)
 
-      pub step_of_value : (t : Trait) → (out-Piece x).form ≡ forms.Value t
-          → IsAt t (out-Piece x).spec
+      pub step_of_value : (t : Trait) → (detail_of x).form ≡ forms.Value t
+          → IsAt t (detail_of x).spec
       step_of_value t form =
-          by_name (out-Piece x).spec t
+          by_name (detail_of x).spec t
           (λ name is. value_held bs x ((out-Piece x).place + 1) name refl is t form)
           (stored_name bs x) refl (value_fits bs x t form (fits_text bs x whole).held)
 
-    -- without a position, the piece is kept as it is
-    pub step_without : None ≡ node_position names (node_of bs x)
-        → Some (node_step (node_of bs x))
-        ≡ Some (argument_step names (node_position names (node_of bs x)) (node_of bs x))
-    step_without position = ap (λ o. Some (argument_step names o (node_of bs x))) position
-
-    -- so is a piece that does not ask for a value
+    -- of a piece that does not ask for a value, its own
     abbrev Kept : ℕ → Option Content → Type 0
     Kept k held =
         let y = out-Piece x in
         let n = node y.place y.end y.kind held (branch_of bs y.item) (branch_of bs y.join) in
-        step_at names k n ≡ node_step n
+        step_at names k n ≡ whole_step n
 
     -- and a piece of any other form
-    pub step_other : (form : Form) → (out-Piece x).form ≡ form → IsOther form → (k : ℕ)
+    pub step_other : (form : Form) → (detail_of x).form ≡ form → IsOther form → (k : ℕ)
         → Some k ≡ node_position names (node_of bs x)
-        → Some (node_step (node_of bs x))
+        → Some (whole_step (node_of bs x))
         ≡ Some (argument_step names (node_position names (node_of bs x)) (node_of bs x))
     step_other form is other k position =
-        let at : step_at names k (node_of bs x) ≡ node_step (node_of bs x) =
+        let at : step_at names k (node_of bs x) ≡ whole_step (node_of bs x) =
         rw (node_of_out bs x) (rw (is) (by_other form other)) in
         ap (λ y. Some y) (sym at) ∙ ap (λ o. Some (argument_step names o (node_of bs x))) position
       where
@@ -414,8 +424,8 @@ module _ (names : List (List ℕ)) where
         no_text_name (Some cs) from = refl
 
         by_other : (form : Form) → IsOther form
-            → Kept k (stored_content bs (out-Piece x).place (out-Piece x).from (out-Piece x).to
-            (out-Piece x).spec_end (out-Piece x).spec form)
+            → Kept k (stored_content bs (out-Piece x).place (detail_of x).from (detail_of x).to
+            (detail_of x).spec_end (detail_of x).spec form)
         by_other forms.Text h = no_text_name _ _
         by_other forms.Plain h = absurd h
         by_other (forms.Value t) h = absurd h

@@ -1,68 +1,85 @@
--- Lists whose items are one value each and whose join is text.
-use Rattle.std.proofs.Common.{◌≡◌, ◌∙◌, refl, sym, ap, arith, ℕ, ◌<◌, ◌≤◌, List, [], ◌∷◌, length, get_or}
-use Rattle.std.proofs.Common.{Bool, true, false, Option, Some, None, inl, inr}
-use Rattle.std.specs.Prelude.{⊤, ◌==◌, is_some, MatchOption}
+-- Lists of a prepared format: what writing their items, and the texts around these, leaves.
+use Rattle.std.proofs.Common.{◌≡◌, ◌∙◌, refl, sym, ap, arith, ℕ, ◌+◌, ◌<◌, ◌≤◌, List, [], ◌∷◌, ◌++◌}
+use Rattle.std.proofs.Common.{length, drop, map, get_or, Bool, true, false, Option, None, Some, IsSome}
+use Rattle.std.proofs.Common.{option_map, subst}
+use Rattle.std.proofs.lemmas.List.{drop_more, drop_all}
+use Rattle.std.specs.Prelude.{◌==◌, ◌&&◌, not, is_some, if◌then◌else◌, string_bytes}
 use Rattle.std.specs.Str.{chars}
-use Rattle.interpolator_syntax.proofs.CharacterLemmas.{no_text}
-use Rattle.std.specs.Global.{Vec}
+use Rattle.std.proofs.lemmas.Str.{chars-nil}
 use Rattle.interpolator_render.specs.declared.view.Spec.{Spec}
 use Rattle.interpolator_render.specs.declared.view.Trait.{Trait}
 use Rattle.interpolator_render.specs.Views.{Shown}
 use Rattle.interpolator_render.specs.Written.{Written}
-use Rattle.interpolator_syntax.specs.At.{placed_from}
+use Rattle.interpolator_syntax.specs.At.{Placed}
 use Rattle.interpolator_syntax.specs.Faults.{Answer, answer_of}
 use Rattle.interpolator_syntax.specs.declared.error.Error.{Error}
-use Rattle.interpolator_syntax.specs.declared.range.Range.{Range}
-use Rattle.interpolator_eval.specs.Meaning.Lists.{IsChosen, IsNotChosen, list_under_name}
-use Rattle.interpolator_eval.proofs.MeaningLemmas.SinkLemmas.{same_end}
-use Rattle.interpolator_syntax.specs.Nodes.{Node, Branch, branch, no_branch, nodes_and, no_nodes}
-use Rattle.interpolator_syntax.specs.Nodes.{text_content, argument_content, target_value}
-use Rattle.interpolator_syntax.specs.declared.piece_kind.PieceKind.TheVariants as kinds
 use Rattle.interpolator_eval.specs.Slots.{Slots}
-use Rattle.interpolator_eval.specs.Meaning.Environments.{Environment}
-use Rattle.interpolator_eval.specs.Meaning.Meanings.{Meaning, chain, text_alone, items_after}
-use Rattle.interpolator_eval.specs.Meaning.Meanings.{items_mean, padded_list}
-use Rattle.interpolator_eval.specs.Meaning.Sinks.{Writes}
-use Rattle.interpolator_eval.specs.declared.evaluate.sink.Sink.{Sink}
-use Rattle.interpolator_eval.proofs.MeaningLemmas.MeaningLemmas.{nothing_last}
-use Rattle.interpolator_prepared.specs.Items.{IsItemForm, IsJoinForm, IsNodeText, IsNodeValue, value_under}
-use Rattle.interpolator_eval.specs.Meaning.Meanings.{item_branch_means, join_branch_means}
-use Rattle.interpolator_pieces.specs.Stored.{branch_of, content_of, node_of}
-use Rattle.interpolator_prepared.specs.declared.items.ItemForm.{ItemForm}
-use Rattle.interpolator_pieces.specs.declared.piece.Piece.{Piece}
-use Rattle.interpolator_pieces.specs.declared.piece.Piece.TheViews.{out-Piece}
+use Rattle.interpolator_eval.specs.Meaning.Environments.{Environment, bind}
+use Rattle.interpolator_eval.specs.Meaning.Lists.{IsChosen, IsNotChosen, list_under_name}
+use Rattle.interpolator_eval.specs.Meaning.Meanings.{Meaning, text_alone, chain}
+use Rattle.interpolator_eval.specs.Meaning.Meanings.{items_after, items_mean}
+use Rattle.interpolator_eval.specs.Meaning.Outcomes.{Outcome}
+use Rattle.interpolator_eval.proofs.MeaningLemmas.MeaningLemmas.{joined_assoc, joined_none, nothing_last}
+use Rattle.interpolator_eval.proofs.MeaningLemmas.SinkLemmas.{and_then, fault_first, nothing_done}
+use Rattle.interpolator_pieces.specs.Stored.{part}
+use Rattle.interpolator_pieces.proofs.WholePieceLemmas.{both}
+use Rattle.interpolator_prepared.specs.Items.{items_within, parts_mean, placed_eq}
+use Rattle.interpolator_prepared.specs.Items.{value_under}
+use Rattle.interpolator_prepared.specs.Programs.{list_step}
+use Rattle.interpolator_prepared.specs.StoredSteps.{compiled_list, fitting_means, joined_text}
+use Rattle.interpolator_prepared.specs.StoredSteps.{list_fits, stored_format, stored_join}
+use Rattle.interpolator_prepared.specs.declared.step.ListStep.{ListStep}
+use Rattle.interpolator_prepared.specs.declared.step.JoinedText.{JoinedText}
+use Rattle.interpolator_prepared.specs.declared.step.ValueSpec.{ValueSpec}
 use Rattle.interpolator_prepared.proofs.JoinedLemmas.{equal_numbers}
-use Rattle.interpolator_pieces.proofs.StoredLemmas.{node_of_out}
+use Rattle.interpolator_prepared.proofs.ListMeaningLemmas.{characters_alone, characters_before}
+use Rattle.interpolator_prepared.proofs.ListMeaningLemmas.{items_same}
 
--- a group of one stored piece
-pub one_node : (bs : List ℕ) (group : Option (Vec Piece)) (v : Vec Piece) (xs : List Piece) (x : Piece)
-    → group ≡ Some v → xs ≡ v.items → xs ≡ x ∷ []
-    → branch_of bs group ≡ branch (nodes_and (node_of bs x) no_nodes)
-one_node bs group v xs x is same one =
-    let items : v.items ≡ x ∷ [] = sym same ∙ one in rw (is, items) refl
+-- ---- items one by one
 
--- a stored piece that is the value under the empty name
-pub value_node : (bs : List ℕ) (x : Piece) (start : ℕ) (form : ItemForm)
-    → (out-Piece x).kind ≡ kinds.Closed
-    → content_of bs x ≡ Some (argument_content start [] form.spec (target_value form.slot) form.end)
-    → IsNodeValue (node_of bs x) form
-value_node bs x start form kind held = record {
-  first = (out-Piece x).place;
-  last = (out-Piece x).end;
-  start = start;
-  item = branch_of bs (out-Piece x).item;
-  join = branch_of bs (out-Piece x).join;
-  is = node_of_out bs x ∙ rw (kind, held) refl;
-}
+module _ {F X : Type 0} (join : Meaning) (item : X → Meaning) (slots : F → X) where
+  abbrev After : List F → Meaning
+  After ys = items_after join item (map slots ys)
 
--- or under a name that is empty
-pub nameless_node : (bs : List ℕ) (x : Piece) (start : ℕ) (name : List ℕ) (form : ItemForm)
-    → name ≡ [] → (out-Piece x).kind ≡ kinds.Closed
-    → content_of bs x ≡ Some (argument_content start name form.spec (target_value form.slot) form.end)
-    → IsNodeValue (node_of bs x) form
-nameless_node bs x start name form empty kind held =
-    value_node bs x start form kind
-    (held ∙ ap (λ n. Some (argument_content start n form.spec (target_value form.slot) form.end)) empty)
+  module _ (xs : List F) (i : ℕ) (x : F) (h : i < length xs) (is : x ≡ get_or xs i x)
+      (s t : Written) where
+    next_item : map slots (drop i xs) ≡ slots x ∷ map slots (drop (i + 1) xs)
+    next_item = rw (drop_more xs i x h, ← is) refl
+
+    -- the text in front of an item ends the run
+    pub join_fault : (q : Answer) → Outcome join s t (Some q)
+        → Outcome (After (drop i xs)) s t (Some q)
+    join_fault q o = rw next_item (fault_first _ _ _ _ q o)
+
+    -- an item ends the run
+    pub item_fault : (u : Written) (q : Answer) → Outcome join s t None
+        → Outcome (item (slots x)) t u (Some q) → Outcome (After (drop i xs)) s u (Some q)
+    item_fault u q j o = rw next_item (and_then _ _ _ _ _ _ j (fault_first _ _ _ _ q o))
+
+    -- an item is done, and the items after it follow
+    pub item_runs : (u new : Written) (r : Option Answer) → Outcome join s t None
+        → Outcome (item (slots x)) t u None → Outcome (After (drop (i + 1) xs)) u new r
+        → Outcome (After (drop i xs)) s new r
+    item_runs u new r j o k =
+        rw next_item (and_then _ _ _ _ _ _ j (and_then _ _ _ _ _ _ o k))
+
+  -- no item is left
+  pub items_end : (xs : List F) (i : ℕ) (s : Written) → length xs ≤ i
+      → Outcome (After (drop i xs)) s s None
+  items_end xs i s h = rw (drop_all i xs h) (nothing_done s)
+
+  module _ (xs : List F) (x : F) (rest : List F) (s t : Written) (split : xs ≡ x ∷ rest) where
+    -- the first item is done, and the items after it follow
+    pub first_runs : (u : Written) (r : Option Answer) → Outcome (item (slots x)) s t None
+        → Outcome (After (drop 0 rest)) t u r → Outcome (items_mean join item (map slots xs)) s u r
+    first_runs u r o k = rw split (and_then _ _ _ _ u r o k)
+
+    -- the first item ends the run
+    pub first_fault : (q : Answer) → Outcome (item (slots x)) s t (Some q)
+        → Outcome (items_mean join item (map slots xs)) s t (Some q)
+    first_fault q o = rw split (fault_first _ _ _ _ q o)
+
+-- ---- the texts around items
 
 no_bytes : (bs : List ℕ) → length bs ≡ 0 → bs ≡ []
 no_bytes [] h = refl
@@ -70,99 +87,167 @@ no_bytes (b ∷ bs) h = absurd (omega (arith, h))
 
 -- a name without bytes is empty
 pub empty_name : (bs : List ℕ) (b : Bool) → b ≡ (length bs == 0) → b ≡ true → chars bs ≡ []
-empty_name bs b is test = no_text bs (no_bytes bs (equal_numbers (length bs) 0 (sym is ∙ test)))
+empty_name bs b is test =
+    ap chars (no_bytes bs (equal_numbers (length bs) 0 (sym is ∙ test))) ∙ chars-nil
 
--- a slice of one
-pub alone : {A : Type 0} (xs : List A) (x : A) → 1 ≤ length xs → length xs < 2 → x ≡ get_or xs 0 x
-    → xs ≡ x ∷ []
-alone [] x l h is = absurd (omega (arith, l))
-alone (y ∷ []) x l h is = ap (λ z. z ∷ []) (sym is)
-alone (y ∷ (z ∷ ys)) x l h is = absurd (omega (arith, h))
+-- joined text without bytes has no characters
+pub empty_text : (x : JoinedText) (bs : List ℕ) (b : Bool) → bs ≡ string_bytes x.text
+    → b ≡ (length bs == 0) → b ≡ true → joined_text x ≡ []
+empty_text x bs b same is test = rw (← same, empty_name bs b is test) refl
 
--- a group that is not there
-pub no_group : (bs : List ℕ) (group : Option (Vec Piece)) → group ≡ None
-    → branch_of bs group ≡ no_branch
-no_group bs group is = rw (is) refl
+module _ {F X : Type 0} (shows : X → Trait → Spec → Shown) (slots : F → Slots X)
+    (asked : ValueSpec) (before between after : Placed) where
+  abbrev Within : List F → Meaning
+  Within xs = items_within shows asked before between after (map slots xs)
 
--- an item is in the form of its format's one node
-pub as_item : (o : Option ItemForm) (b : Branch) (n : Node) (end : ℕ)
-    → b ≡ branch (nodes_and n no_nodes) → MatchOption o ⊤ (IsNodeValue n)
-    → MatchOption o ⊤ (IsItemForm b end)
-as_item None b n end one h = tt
-as_item (Some form) b n end one h = inr (n, one, h)
+  -- of no items nothing is written
+  pub none_within : (xs : List F) (b : Bool) → b ≡ (length xs == 0) → b ≡ true → (s : Written)
+      → Outcome (Within xs) s s None
+  none_within [] b is test s = nothing_done s
+  none_within (x ∷ xs) b is test s =
+      absurd (omega (arith, equal_numbers (length (x ∷ xs)) 0 (sym is ∙ test)))
 
--- a stored piece that is text
-pub text_node : (bs : List ℕ) (x : Piece) (cs : List ℕ)
-    → content_of bs x ≡ Some (text_content (out-Piece x).from cs)
-    → IsNodeText (node_of bs x) (out-Piece x).from cs
-text_node bs x cs held = record {
-  first = (out-Piece x).place;
-  last = (out-Piece x).end;
-  kind = (out-Piece x).kind;
-  item = branch_of bs (out-Piece x).item;
-  join = branch_of bs (out-Piece x).join;
-  is = node_of_out bs x ∙ rw (held) refl;
-}
+  -- of some, the text before them, they, and the text after them
+  pub some_within : (xs : List F) (b : Bool) → b ≡ (length xs == 0) → b ≡ false
+      → Within xs
+      ≡ chain (text_alone before) (chain
+      (items_mean (text_alone between) (value_under shows asked) (map slots xs)) (text_alone after))
+  some_within [] b is test = absurd (let e : true ≡ false = sym is ∙ test in cc)
+  some_within (x ∷ xs) b is test = refl
 
-module _ {X : Type 0} (shows : X → Trait → Spec → Shown) (e : Environment X) where
-  -- an item means its value in this form
-  item_means : (b : Branch) (end : ℕ) (form : ItemForm) → IsItemForm b end form → (found : Slots X)
-      → item_branch_means shows e b end found ≡ value_under shows form found
-  item_means b end form (inl (none, is)) found = rw (none, is) refl
-  item_means b end form (inr (n, one, v)) found = rw (one, v.is) (nothing_last _)
+-- an item between texts, and items with a join between two of them
+module _ {X : Type 0} (value : Slots X → Meaning) (before join after : Placed) where
+  abbrev One : Slots X → Meaning
+  One found = chain (text_alone before) (chain (value found) (text_alone after))
 
-  -- and the join its text
-  join_means : (b : Branch) (place : ℕ) (cs : List ℕ) → IsJoinForm b place cs
-      → join_branch_means shows e b ≡ text_alone (placed_from place cs)
-  join_means b place cs (inl (none, is)) = rw (none, is) refl
-  join_means b place cs (inr (n, one, v)) = rw (one, v.is) (nothing_last _)
+  abbrev Between : Meaning
+  Between = text_alone ((after ++ join) ++ before)
 
-  after_same : (join : Meaning) (item other : Slots X → Meaning)
-      → ((found : Slots X) → item found ≡ other found) → (xs : List (Slots X))
-      → items_after join item xs ≡ items_after join other xs
-  after_same join item other same [] = refl
-  after_same join item other same (x ∷ xs) =
-      ap (λ m. chain join (chain m (items_after join item xs))) (same x)
-      ∙ ap (λ m. chain join (chain (other x) m)) (after_same join item other same xs)
+  one_before : (x : Slots X) (rest later : Meaning)
+      → chain (text_alone after) rest ≡ chain later (text_alone after)
+      → chain (One x) rest
+      ≡ chain (text_alone before) (chain (value x) (chain later (text_alone after)))
+  one_before x rest later same =
+      joined_assoc (text_alone before) (chain (value x) (text_alone after)) rest
+      ∙ ap (chain (text_alone before))
+      (joined_assoc (value x) (text_alone after) rest ∙ ap (chain (value x)) same)
 
-  items_same : (join : Meaning) (item other : Slots X → Meaning)
-      → ((found : Slots X) → item found ≡ other found) → (xs : List (Slots X))
-      → items_mean join item xs ≡ items_mean join other xs
-  items_same join item other same [] = refl
-  items_same join item other same (x ∷ xs) =
-      ap (λ m. chain m (items_after join item xs)) (same x)
-      ∙ ap (chain (other x)) (after_same join item other same xs)
+  -- the text after an item goes with the join and the text before the next
+  turned_after : (xs : List (Slots X))
+      → chain (text_alone after) (items_after (text_alone join) One xs)
+      ≡ chain (items_after Between value xs) (text_alone after)
+  turned_after [] = nothing_last (text_alone after) ∙ sym (joined_none (text_alone after))
+  turned_after (x ∷ xs) =
+      let a = text_alone after in
+      let j = text_alone join in
+      let b = text_alone before in
+      let rest = items_after j One xs in
+      let later = items_after Between value xs in
+      ap (λ m. chain a (chain j m)) (one_before x rest later (turned_after xs))
+      ∙ sym (joined_assoc a j (chain b (chain (value x) (chain later a))))
+      ∙ sym (joined_assoc (chain a j) b (chain (value x) (chain later a)))
+      ∙ ap (chain Between) (sym (joined_assoc (value x) later a))
+      ∙ sym (joined_assoc Between (chain (value x) later) a)
 
-  -- so items in this form, with this text between two of them, are those of the list
-  pub simple_items : (item join : Branch) (end place : ℕ) (cs : List ℕ) (form : ItemForm)
-      → IsItemForm item end form → IsJoinForm join place cs → (xs : List (Slots X))
-      → items_mean (text_alone (placed_from place cs)) (value_under shows form) xs
-      ≡ items_mean (join_branch_means shows e join) (item_branch_means shows e item end) xs
-  simple_items item join end place cs form h k xs =
-      sym (items_same (join_branch_means shows e join) (item_branch_means shows e item end)
-      (value_under shows form) (item_means item end form h) xs
-      ∙ ap (λ m. items_mean m (value_under shows form) xs) (join_means join place cs k))
+module _ {X : Type 0} (shows : X → Trait → Spec → Shown) (asked : ValueSpec)
+    (before join after : Placed) where
+  turned : (xs : List (Slots X))
+      → items_mean (text_alone join) (One (value_under shows asked) before join after) xs
+      ≡ items_within shows asked before ((after ++ join) ++ before) after xs
+  turned [] = refl
+  turned (x ∷ xs) =
+      let value = value_under shows asked in
+      let later = items_after (Between value before join after) value xs in
+      one_before value before join after x
+      (items_after (text_alone join) (One value before join after) xs) later
+      (turned_after value before join after xs)
+      ∙ ap (chain (text_alone before)) (sym (joined_assoc (value x) later (text_alone after)))
 
--- ---- a list
+-- ---- lists
 
-module _ {X W : Type 0} (into : W → Written) (e : Environment X) (name : List ℕ) (start : ℕ)
-    (range : Option Range) (spec : Spec) (end : ℕ) (join : Meaning) (item : Slots X → Meaning) where
-  -- nothing of it is written
-  pub list_refused : (s : Sink W) (error : Error) → IsNotChosen e name start range spec end error
-      → Writes into (list_under_name e name start range spec end join item) s s
-      (Some (answer_of error))
-  list_refused s error h = record { outcome = h join item _; same = same_end s }
+pub same_placed : (xs ys : Placed) → placed_eq xs ys ≡ true → xs ≡ ys
+same_placed [] [] h = refl
+same_placed [] (y ∷ ys) h = absurd (cc)
+same_placed (x ∷ xs) [] h = absurd (cc)
+same_placed (x ∷ xs) (y ∷ ys) h =
+    let first = both (x.0 == y.0) ((x.1 == y.1) && placed_eq xs ys) h in
+    let second = both (x.1 == y.1) (placed_eq xs ys) first.1 in
+    ap (λ c. (c, x.1) ∷ xs) (equal_numbers x.0 y.0 first.0)
+    ∙ ap (λ p. (y.0, p) ∷ xs) (equal_numbers x.1 y.1 second.0)
+    ∙ ap (λ zs. y ∷ zs) (same_placed xs ys second.1)
 
-  unpadded : (m : Meaning) → is_some spec.width ≡ false → padded_list spec end m ≡ m
-  unpadded m none = rw (none) refl
+not_true : (b : Bool) → not b ≡ true → b ≡ false
+not_true true h = absurd (cc)
+not_true false h = refl
 
-  -- its chosen items are, under no width
-  pub list_written : (chosen : List (Slots X)) (other : Meaning) (s t : Sink W)
-      (answer : Option Answer) → IsChosen e name start range spec end chosen
-      → is_some spec.width ≡ false
-      → other ≡ items_mean join item chosen → Writes into other s t answer
-      → Writes into (list_under_name e name start range spec end join item) s t answer
-  list_written chosen other s t answer h none same w =
-      let is : list_under_name e name start range spec end join item ≡ other =
-      h join item ∙ unpadded (items_mean join item chosen) none ∙ sym same in
-      record { outcome = rw is w.outcome; same = w.same }
+-- a stored list that fits the format is a step under its name
+pub record Compiled (bs : List ℕ) (x : ListStep) : Type 0 where
+  pub fits : list_fits x ≡ true
+  pub name : IsSome (part bs x.name.from x.name.to)
+
+pub compiled_fits : (bs : List ℕ) (x : ListStep) → IsSome (compiled_list bs x) → Compiled bs x
+compiled_fits bs x h = by_fits (list_fits x) (part bs x.name.from x.name.to) refl refl h
+  where
+    by_fits : (b : Bool) (o : Option (List ℕ)) → list_fits x ≡ b
+        → part bs x.name.from x.name.to ≡ o
+        → IsSome (if b then option_map (λ name. list_step (stored_format name x)) o else None)
+        → Compiled bs x
+    by_fits true (Some name) fits is h = record { fits = fits; name = rw is refl }
+    by_fits true None fits is h = absurd (cc)
+    by_fits false o fits is h = absurd (cc)
+
+module _ {X : Type 0} (shows : X → Trait → Spec → Shown) (e : Environment X)
+    (value_at : ℕ → Option (Slots X)) (bs : List ℕ) (x : ListStep) (name : List ℕ)
+    (fits : list_fits x ≡ true) (is : Some name ≡ part bs x.name.from x.name.to) where
+  abbrev Listed : Meaning
+  Listed =
+      list_under_name e name x.start x.range x.spec x.end
+      (parts_mean shows e (stored_format name x).join)
+      (λ found. parts_mean shows (bind e found) (stored_format name x).item)
+
+  step_means_list : Listed ≡ fitting_means shows e value_at (compiled_list bs x)
+  step_means_list = rw (fits, ← is) refl
+
+  item_means : (found : Slots X)
+      → parts_mean shows (bind e found) (stored_format name x).item
+      ≡ One (value_under shows x.value) (joined_text x.before) (stored_join x) (joined_text x.after) found
+  item_means found =
+      characters_before shows (bind e found) (joined_text x.before) _
+      ∙ ap (λ m. chain (text_alone (joined_text x.before)) (chain (value_under shows x.value found) m))
+      (characters_alone shows (bind e found) (joined_text x.after))
+
+  stored_items : (xs : List (Slots X))
+      → items_mean (parts_mean shows e (stored_format name x).join)
+      (λ found. parts_mean shows (bind e found) (stored_format name x).item) xs
+      ≡ items_within shows x.value (joined_text x.before) (joined_text x.between) (joined_text x.after) xs
+  stored_items xs =
+      let between = same_placed _ _ (both _ _ fits).1 in
+      items_same _ _ _ _ (characters_alone shows e (stored_join x)) item_means xs
+      ∙ turned shows x.value (joined_text x.before) (stored_join x) (joined_text x.after) xs
+      ∙ ap (λ t. items_within shows x.value (joined_text x.before) t (joined_text x.after) xs) (sym between)
+
+  -- nothing of the list is written
+  pub list_refused : (s : Written) (error : Error) (f : Environment X) → f ≡ e
+      → IsNotChosen f name x.start x.range x.spec x.end error
+      → Outcome (fitting_means shows e value_at (compiled_list bs x)) s s (Some (answer_of error))
+  list_refused s error f same k =
+      let h = subst (λ g. IsNotChosen g name x.start x.range x.spec x.end error) same k in
+      rw (← step_means_list)
+      (h (parts_mean shows e (stored_format name x).join)
+      (λ found. parts_mean shows (bind e found) (stored_format name x).item) s)
+
+  -- its chosen items are, with the texts around them
+  pub list_written : (chosen : List (Slots X)) (s t : Written) (answer : Option Answer)
+      (f : Environment X) → f ≡ e → IsChosen f name x.start x.range x.spec x.end chosen
+      → Outcome (items_within shows x.value (joined_text x.before) (joined_text x.between)
+      (joined_text x.after) chosen) s t answer
+      → Outcome (fitting_means shows e value_at (compiled_list bs x)) s t answer
+  list_written chosen s t answer f env k o =
+      let h = subst (λ g. IsChosen g name x.start x.range x.spec x.end chosen) env k in
+      let none : is_some x.spec.width ≡ false = not_true _ (both _ _ fits).0 in
+      let same : Listed
+      ≡ items_within shows x.value (joined_text x.before) (joined_text x.between) (joined_text x.after) chosen =
+      h (parts_mean shows e (stored_format name x).join)
+      (λ found. parts_mean shows (bind e found) (stored_format name x).item)
+      ∙ rw none (stored_items chosen) in
+      rw (← step_means_list, same) o

@@ -22,13 +22,13 @@ use Rattle.interpolator_eval.specs.declared.evaluate.sink.WriteFault.TheVariants
 use Rattle.interpolator_eval.proofs.MeaningLemmas.PlacedLemmas.{placed_from-append}
 use Rattle.interpolator_prepared.specs.Programs.{text_step}
 use Rattle.interpolator_prepared.specs.StoredSteps.{parts_size, joined_place, placed_by}
-use Rattle.interpolator_prepared.specs.StoredSteps.{joined_placed, joined_step, moved_fault}
+use Rattle.interpolator_prepared.specs.StoredSteps.{joined_placed, joined_step, joined_text, moved_fault}
 use Rattle.interpolator_prepared.specs.StoredSteps.{texts_placed}
 use Rattle.interpolator_prepared.specs.declared.step.JoinedText.{JoinedText}
 use Rattle.interpolator_prepared.specs.declared.step.Part.{Part}
+use Rattle.interpolator_pieces.specs.Stored.{detail_of}
 use Rattle.interpolator_pieces.specs.StoredMeanings.{stored_part}
 use Rattle.interpolator_pieces.specs.declared.piece.Piece.{Piece}
-use Rattle.interpolator_pieces.specs.declared.piece.Piece.TheViews.{out-Piece}
 
 -- ---- the place of a byte
 
@@ -102,7 +102,7 @@ joined_is false xs ds h = absurd (cc)
 pub equal_numbers : (a b : ℕ) → (a == b) ≡ true → a ≡ b
 equal_numbers a b h = grind arith
 
-number_equals : (a b : ℕ) → a ≡ b → (a == b) ≡ true
+pub number_equals : (a b : ℕ) → a ≡ b → (a == b) ≡ true
 number_equals a b h = grind arith
 
 module _ (ps : List Part) (bs more : List ℕ) (from to : ℕ) (cs : List ℕ) (utf8 : IsUtf8 bs)
@@ -212,11 +212,11 @@ empty_joined ps bs none empty =
     chars-nil)
 
 -- the text so far stands for characters before those of the pieces that are left
-pub record Joins (bs : List ℕ) (all : List Piece) (joined : JoinedText) (left : List Piece)
+pub record Joins (bs : List ℕ) (whole : Placed) (joined : JoinedText) (left : List Piece)
     : Type 0 where
   pub placed : Placed
   pub is : joined_step joined.parts.items (string_bytes joined.text) ≡ Some (text_step placed)
-  pub rest : placed ++ texts_placed bs left ≡ texts_placed bs all
+  pub rest : placed ++ texts_placed bs left ≡ whole
 
 module _ (bs : List ℕ) (x : Piece) (xs : List Piece) (fits : IsSome (stored_part bs x)) where
   -- the text of a piece that fits its format
@@ -229,46 +229,69 @@ module _ (bs : List ℕ) (x : Piece) (xs : List Piece) (fits : IsSome (stored_pa
       by_part (Some cs) e h = (cs, e)
 
   -- one piece more
-  pub joins_more : (all : List Piece) (old new : JoinedText) → Joins bs all old (x ∷ xs)
+  pub joins_more : (whole : Placed) (old new : JoinedText) → Joins bs whole old (x ∷ xs)
       → ((cs : List ℕ) (placed : Placed) → stored_part bs x ≡ Some cs
       → joined_step old.parts.items (string_bytes old.text) ≡ Some (text_step placed)
       → joined_step new.parts.items (string_bytes new.text)
-      ≡ Some (text_step (placed ++ placed_from (out-Piece x).from cs)))
-      → Joins bs all new xs
-  joins_more all old new j added =
+      ≡ Some (text_step (placed ++ placed_from (detail_of x).from cs)))
+      → Joins bs whole new xs
+  joins_more whole old new j added =
       let (cs, part) = fitting_part in
       record {
-        placed = j.placed ++ placed_from (out-Piece x).from cs;
+        placed = j.placed ++ placed_from (detail_of x).from cs;
         is = added cs j.placed part j.is;
-        rest = append_assoc j.placed (placed_from (out-Piece x).from cs) (texts_placed bs xs)
-            ∙ ap (λ ds. j.placed ++ (placed_from (out-Piece x).from (unwrap_or ds []) ++ texts_placed bs xs))
+        rest = append_assoc j.placed (placed_from (detail_of x).from cs) (texts_placed bs xs)
+            ∙ ap (λ ds. j.placed ++ (placed_from (detail_of x).from (unwrap_or ds []) ++ texts_placed bs xs))
             (sym part)
             ∙ j.rest;
       }
 
 -- the next piece of some
-pub joins_next : (bs : List ℕ) (all rest : List Piece) (i : ℕ) (x : Piece) (old new : JoinedText)
+pub joins_next : (bs : List ℕ) (whole : Placed) (rest : List Piece) (i : ℕ) (x : Piece) (old new : JoinedText)
     → All (λ piece. IsSome (stored_part bs piece)) rest → i < length rest → x ≡ get_or rest i x
-    → Joins bs all old (drop i rest)
+    → Joins bs whole old (drop i rest)
     → ((cs : List ℕ) (placed : Placed) → stored_part bs x ≡ Some cs
     → joined_step old.parts.items (string_bytes old.text) ≡ Some (text_step placed)
     → joined_step new.parts.items (string_bytes new.text)
-    ≡ Some (text_step (placed ++ placed_from (out-Piece x).from cs)))
-    → Joins bs all new (drop (i + 1) rest)
-joins_next bs all rest i x old new fit l is j added =
+    ≡ Some (text_step (placed ++ placed_from (detail_of x).from cs)))
+    → Joins bs whole new (drop (i + 1) rest)
+joins_next bs whole rest i x old new fit l is j added =
     let next : drop i rest ≡ x ∷ drop (i + 1) rest = rw (drop_more rest i x l, ← is) refl in
-    joins_more bs x (drop (i + 1) rest) (subst (λ y. IsSome (stored_part bs y)) (sym is) (fit i x l)) all old new (rw next at j) added
+    joins_more bs x (drop (i + 1) rest) (subst (λ y. IsSome (stored_part bs y)) (sym is) (fit i x l)) whole old new (rw next at j) added
+
+-- a text stands for characters
+abbrev pub Stands : JoinedText → Placed → Type 0
+Stands x placed = joined_step x.parts.items (string_bytes x.text) ≡ Some (text_step placed)
 
 -- no piece so far, and all
-pub joins_none : (bs : List ℕ) (all : List Piece) (joined : JoinedText)
-    → joined_step joined.parts.items (string_bytes joined.text) ≡ Some (text_step [])
-    → Joins bs all joined all
-joins_none bs all joined is = record { placed = []; is = is; rest = refl }
+pub joins_none : (bs : List ℕ) (all : List Piece) (joined : JoinedText) (placed : Placed)
+    → Stands joined placed → Joins bs (placed ++ texts_placed bs all) joined all
+joins_none bs all joined placed is = record { placed = placed; is = is; rest = refl }
 
-pub joins_all : (bs : List ℕ) (all : List Piece) (joined : JoinedText) → Joins bs all joined []
-    → joined_step joined.parts.items (string_bytes joined.text)
-    ≡ Some (text_step (texts_placed bs all))
-joins_all bs all joined j = j.is ∙ ap (λ ds. Some (text_step ds)) (sym (append-nil j.placed) ∙ j.rest)
+pub joins_all : (bs : List ℕ) (whole : Placed) (joined : JoinedText) → Joins bs whole joined []
+    → Stands joined whole
+joins_all bs whole joined j =
+    j.is ∙ ap (λ ds. Some (text_step ds)) (sym (append-nil j.placed) ∙ j.rest)
+
+-- a text that stands for characters has these
+pub stands_for : (x : JoinedText) (placed : Placed) → Stands x placed → joined_text x ≡ placed
+stands_for x placed h =
+    (joined_is (parts_size x.parts.items == length (string_bytes x.text)) (joined_text x) placed h).1
+
+-- a first piece, and those after it
+pub first_joined :
+    (bs : List ℕ) (x : Piece) (xs : List Piece) (none one all : JoinedText)
+    → IsSome (stored_part bs x) → Stands none []
+    → ((cs : List ℕ) (placed : Placed) → stored_part bs x ≡ Some cs → Stands none placed
+    → Stands one (placed ++ placed_from (detail_of x).from cs))
+    → ((placed : Placed) → Stands one placed → Stands all (placed ++ texts_placed bs xs))
+    → Stands all (texts_placed bs (x ∷ xs))
+first_joined bs x xs none one all fits empty first rest =
+    let (cs, part) = fitting_part bs x xs fits in
+    let same : placed_from (detail_of x).from cs ++ texts_placed bs xs ≡ texts_placed bs (x ∷ xs) =
+    ap (λ o. placed_from (detail_of x).from (unwrap_or o []) ++ texts_placed bs xs) (sym part) in
+    rest (placed_from (detail_of x).from cs) (first cs [] part empty)
+    ∙ ap (λ ds. Some (text_step ds)) same
 
 module _ (ps : List Part) (i : ℕ) (x : Part) (o : ℕ) (l : i < length ps) (is : x ≡ get_or ps i x)
   where

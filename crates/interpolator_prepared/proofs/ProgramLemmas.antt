@@ -17,7 +17,9 @@ use Rattle.interpolator_eval.specs.Meaning.Meanings.{Meaning, text_alone, chain,
 use Rattle.interpolator_eval.proofs.MeaningLemmas.MeaningLemmas.{joined_assoc}
 use Rattle.interpolator_eval.specs.Meaning.Meanings.{target_means, node_means, forest_means}
 use Rattle.interpolator_eval.specs.Meaning.Meanings.{join_branch_means, item_branch_means}
-use Rattle.interpolator_prepared.specs.Programs.{Instruction, text_step, value_step, node_step}
+use Rattle.interpolator_prepared.specs.Programs.{Instruction, text_step, value_step, list_step}
+use Rattle.interpolator_prepared.specs.Programs.{node_step}
+use Rattle.interpolator_prepared.proofs.ListMeaningLemmas.{whole_means}
 use Rattle.interpolator_prepared.specs.Programs.{text_before, node_before, program}
 use Rattle.interpolator_prepared.specs.Programs.{content_position, node_position, step_at}
 use Rattle.interpolator_prepared.specs.Programs.{argument_step}
@@ -58,6 +60,7 @@ module _ {X : Type 0} (shows : X → Trait → Spec → Shown) (e : Environment 
   text_before_means xs [] = refl
   text_before_means xs (text_step ys ∷ steps) = joined_assoc (text_alone xs) (text_alone ys) (Mean steps)
   text_before_means xs (value_step k t spec end ∷ steps) = refl
+  text_before_means xs (list_step x ∷ steps) = refl
   text_before_means xs (node_step x ∷ steps) = refl
 
 -- ---- nodes
@@ -85,7 +88,9 @@ module _ {X : Type 0} (shows : X → Trait → Spec → Shown) (names : List (Li
   content_argument place end kind None item join k h = refl
   content_argument place end kind (Some (text_content from cs)) item join k h = refl
   content_argument place end kind (Some (fault_content f)) item join k h = refl
-  content_argument place end kind (Some (argument_content start name spec (target_list r) q)) item join k h = refl
+  content_argument place end kind (Some (argument_content start name spec (target_list r) q)) item join k h =
+      whole_means shows E value_at
+      (node place end kind (Some (argument_content start name spec (target_list r) q)) item join)
   content_argument place end kinds.Closed (Some (argument_content start name spec (target_value t) q)) item join k h =
       by_value start name t spec q item join (value_at k)
       (reached k (position_below names (encode_utf8_all name) k h))
@@ -105,7 +110,7 @@ module _ {X : Type 0} (shows : X → Trait → Spec → Shown) (names : List (Li
 
   argument_means : (o : Option ℕ) (x : Node) → node_position names x ≡ o
       → step_means shows E value_at (argument_step names o x) ≡ node_means shows E x
-  argument_means None x h = refl
+  argument_means None x h = whole_means shows E value_at x
   argument_means (Some k) (node place end kind held item join) h =
       content_argument place end kind held item join k h
 

@@ -2,4 +2,5 @@
 pub mod Items
 pub mod Programs
 pub mod Rows
+pub mod SimpleLists
 pub mod StoredSteps

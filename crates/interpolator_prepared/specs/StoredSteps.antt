@@ -2,6 +2,7 @@
 use Rattle.std.specs.Prelude.{ℕ, suc, ◌+◌, ◌-◌, nat_lt, ◌==◌, if◌then◌else◌, List, [], ◌∷◌, ◌++◌}
 use Rattle.std.specs.Prelude.{Bool, true, false, unwrap_or}
 use Rattle.std.specs.Prelude.{length, map, Option, Some, None, option_map, string_bytes}
+use Rattle.std.specs.Prelude.{◌&&◌, not, is_some, take, drop}
 use Rattle.std.specs.Str.{chars}
 use Rattle.interpolator_render.specs.declared.view.Trait.{Trait}
 use Rattle.interpolator_render.specs.declared.view.Trait.TheVariants as traits
@@ -17,17 +18,20 @@ use Rattle.interpolator_eval.specs.declared.evaluate.sink.WriteFault.{WriteFault
 use Rattle.interpolator_eval.specs.declared.evaluate.sink.WriteFault.TheVariants.{MissingTraitImpl}
 use Rattle.interpolator_eval.specs.declared.evaluate.sink.WriteFault.TheVariants.{Fmt}
 use Rattle.interpolator_syntax.specs.Nodes.{Node}
-use Rattle.interpolator_pieces.specs.Stored.{part, node_of, node_whole}
+use Rattle.interpolator_pieces.specs.Stored.{detail_of, part, node_of, node_whole}
 use Rattle.interpolator_pieces.specs.StoredMeanings.{stored_part}
 use Rattle.interpolator_pieces.specs.declared.piece.Form.{Form}
 use Rattle.interpolator_pieces.specs.declared.piece.Form.TheVariants as forms
 use Rattle.interpolator_pieces.specs.declared.piece.Piece.{Piece}
-use Rattle.interpolator_pieces.specs.declared.piece.Piece.TheViews.{out-Piece}
-use Rattle.interpolator_prepared.specs.Programs.{Instruction, text_step, value_step, node_step}
-use Rattle.interpolator_prepared.specs.Programs.{step_means, argument_step, node_position}
+use Rattle.interpolator_syntax.specs.declared.piece_kind.PieceKind.TheVariants as kinds
+use Rattle.interpolator_prepared.specs.Items.{ListFormat, characters, item_value, placed_eq}
+use Rattle.interpolator_prepared.specs.Programs.{Instruction, text_step, value_step, list_step}
+use Rattle.interpolator_prepared.specs.Programs.{step_means, argument_step, node_position, whole_step}
+use Rattle.interpolator_prepared.specs.declared.step.JoinedText.{JoinedText}
+use Rattle.interpolator_prepared.specs.declared.step.ListStep.{ListStep}
 use Rattle.interpolator_prepared.specs.declared.step.Part.{Part}
 use Rattle.interpolator_prepared.specs.declared.step.Step.{Step}
-use Rattle.interpolator_prepared.specs.declared.step.Step.TheVariants.{Literal, Joined, Plain, Value, Kept}
+use Rattle.interpolator_prepared.specs.declared.step.Step.TheVariants as steps
 
 -- how many bytes some parts of a format have together
 abbrev pub parts_size : List Part → ℕ
@@ -54,23 +58,70 @@ abbrev pub joined_step : List Part → List ℕ → Option Instruction
 joined_step parts bytes =
     if parts_size parts == length bytes then Some (text_step (joined_placed parts bytes)) else None
 
+-- the characters of a joined text
+abbrev pub joined_text : JoinedText → Placed
+joined_text x = joined_placed x.parts.items (string_bytes x.text)
+
+-- what of the text between two items lies after the text that ends an item, and before the text
+-- that begins one
+abbrev pub join_within : (after between before : Placed) → Placed
+join_within after between before =
+    take (length between - (length after + length before)) (drop (length after) between)
+
+-- the join of a list
+abbrev pub stored_join : ListStep → Placed
+stored_join x = join_within (joined_text x.after) (joined_text x.between) (joined_text x.before)
+
+-- the list that is stored, under a name
+abbrev pub stored_format : (name : List ℕ) → ListStep → ListFormat
+stored_format name x = record {
+  kind = kinds.Closed;
+  start = x.start;
+  name = name;
+  range = x.range;
+  spec = x.spec;
+  end = x.end;
+  item =
+      characters (joined_text x.before)
+      ++ (item_value kinds.Closed x.value.slot x.value.spec x.value.end
+      ∷ characters (joined_text x.after));
+  join = characters (stored_join x);
+}
+
+-- between two items lie the end of the first, the join and the beginning of the second, and the
+-- list has no width
+abbrev pub list_fits : ListStep → Bool
+list_fits x =
+    not (is_some x.spec.width) && placed_eq (joined_text x.between)
+    ((joined_text x.after ++ stored_join x) ++ joined_text x.before)
+
+-- the step of a list, if it fits the format
+abbrev pub compiled_list : List ℕ → ListStep → Option Instruction
+compiled_list bs x =
+    if list_fits x
+    then option_map (λ name. list_step (stored_format name x)) (part bs x.name.from x.name.to)
+    else None
+
 -- the step of a node that is kept, if its stored piece fits the format
 abbrev pub kept_step : Node → Option Instruction
-kept_step x = if node_whole x then Some (node_step x) else None
+kept_step x = if node_whole x then Some (whole_step x) else None
 
 -- what a stored step of a format stands for, if it fits the format
 abbrev pub step_of : List ℕ → Step → Option Instruction
-step_of bs (Literal from to) = option_map (λ cs. text_step (placed_from from cs)) (part bs from to)
-step_of bs (Joined x) = joined_step x.value.parts.items (string_bytes x.value.text)
-step_of bs (Plain position end) = Some (value_step position traits.Display plain_spec end)
-step_of bs (Value position asked) =
+step_of bs (steps.Literal from to) =
+    option_map (λ cs. text_step (placed_from from cs)) (part bs from to)
+step_of bs (steps.Joined x) = joined_step x.value.parts.items (string_bytes x.value.text)
+step_of bs (steps.Plain position end) = Some (value_step position traits.Display plain_spec end)
+step_of bs (steps.Value position asked) =
     Some (value_step position asked.value.slot asked.value.spec asked.value.end)
-step_of bs (Kept x) = kept_step (node_of bs x.value)
+step_of bs (steps.List x) = compiled_list bs x.value
+step_of bs (steps.Kept x) = kept_step (node_of bs x.value)
 
--- whether a step keeps a piece
-abbrev pub keeps_piece : Step → Bool
-keeps_piece (Kept x) = true
-keeps_piece _ = false
+-- whether a step looks a name up
+abbrev pub looks_up : Step → Bool
+looks_up (steps.List x) = true
+looks_up (steps.Kept x) = true
+looks_up _ = false
 
 -- a form is text
 abbrev pub is_text_form : Form → Bool
@@ -79,7 +130,7 @@ is_text_form form = false
 
 -- a stored piece is text
 abbrev pub is_text : Piece → Bool
-is_text x = is_text_form (out-Piece x).form
+is_text x = is_text_form (detail_of x).form
 
 -- how many pieces of text are at the beginning of some pieces
 abbrev pub text_count : List Piece → ℕ
@@ -94,7 +145,7 @@ texts_after x xs = if is_text x then text_count xs else 0
 abbrev pub texts_placed : List ℕ → List Piece → Placed
 texts_placed bs [] = []
 texts_placed bs (x ∷ xs) =
-    placed_from (out-Piece x).from (unwrap_or (stored_part bs x) []) ++ texts_placed bs xs
+    placed_from (detail_of x).from (unwrap_or (stored_part bs x) []) ++ texts_placed bs xs
 
 -- the step of a piece: with the text after it, if it is text
 abbrev pub first_step : List ℕ → (names : List (List ℕ)) → Piece → (texts : List Piece) → Instruction

@@ -5,20 +5,23 @@ ghost use Rattle.std.specs.List.{All};
 ghost use Rattle.std.specs.Str.{encode_utf8_all};
 ghost use Rattle.interpolator_syntax.specs.Nodes.{as_forest};
 ghost use Rattle.interpolator_prepared.specs.Programs.{argument_step, node_position, program};
-ghost use Rattle.interpolator_prepared.specs.Programs.{text_step, value_step};
+ghost use Rattle.interpolator_prepared.specs.Programs.{text_step, value_step, whole_step};
 ghost use Rattle.interpolator_prepared.specs.Rows.{last_position, name_bytes};
 ghost use Rattle.interpolator_prepared.specs.StoredSteps.{first_step, is_text, kept_step, step_of};
 ghost use Rattle.interpolator_prepared.specs.StoredSteps.{text_count, texts_after, texts_placed};
-ghost use Rattle.interpolator_pieces.specs.Stored.{forest_whole, node_of, node_whole, nodes_of};
+ghost use Rattle.interpolator_pieces.specs.Stored.{detail_of, forest_whole, node_of, node_whole, nodes_of};
 ghost use Rattle.interpolator_pieces.specs.StoredMeanings.{stored_name, stored_part};
-ghost use Rattle.interpolator_pieces.specs.declared.piece.Piece.TheViews.{out-Piece};
+ghost use Rattle.interpolator_pieces.specs.declared.piece.Form.TheVariants as forms;
 
 use crate::joined::join;
+use crate::lists::{list_pieces, made_list};
 use crate::row::last_position;
 use crate::step::{Step, ValueSpec};
-use interpolator_pieces::{Form, Piece, copy_piece, text_of};
+use interpolator_pieces::{
+    Form, Piece, copy_piece, form_of, part_of, spec_end_of, spec_of, text_of,
+};
 use interpolator_render::Trait;
-use interpolator_syntax::PieceKind;
+use interpolator_syntax::{PieceKind, Range};
 use std::alloc::{AllocError, Global};
 
 /// The most steps for which room is made at the beginning.
@@ -39,7 +42,8 @@ pub fn compile(
     let mut left = pieces;
     while let Some((piece, after)) = left.split_first() {
         let (texts, rest) = after.split_at(texts_after(piece, after));
-        push_step(alloc, &mut made, text, names, piece, texts)?;
+        let step = first_step(alloc, text, names, piece, texts)?;
+        push_step(&mut made, step)?;
         left = rest;
     }
     Ok(made)
@@ -49,7 +53,7 @@ pub fn compile(
 fn is_text(piece: &Piece) -> bool
     ensures { result ≡ is_text piece.now }
 {
-    match &piece.form {
+    match form_of(piece) {
         Form::Text => true,
         _ => false,
     }
@@ -67,7 +71,7 @@ fn texts_after(piece: &Piece, after: &[Piece]) -> usize
 }
 
 /// How many pieces of text are at the beginning of some pieces.
-fn text_count(pieces: &[Piece]) -> usize
+pub fn text_count(pieces: &[Piece]) -> usize
     ensures { result ≡ text_count pieces.now }
 {
     let mut count = 0usize;
@@ -80,22 +84,11 @@ fn text_count(pieces: &[Piece]) -> usize
     count
 }
 
-/// Adds the step of a piece, and of the text after it if it is text.
-fn push_step(
-    alloc: Global,
-    made: &mut Vec<Step>,
-    text: &str,
-    names: &[String],
-    piece: &Piece,
-    texts: &[Piece],
-) -> Result<(), AllocError>
-    requires whole { node_whole (node_of text.now piece.now) ≡ true }
-    requires texts { All (λ piece. IsSome (stored_part text.now piece)) texts.now }
-    ensures pushed { IfOk result (λ _. map (step_of text.now) made.new.items
-        ≡ map (step_of text.now) made.old.items
-        ++ (Some (first_step text.now (name_bytes names.now) piece.now texts.now) ∷ [])) }
+/// Adds a step.
+fn push_step(made: &mut Vec<Step>, step: Step) -> Result<(), AllocError>
+    ensures pushed { IfOk result (λ _. (bs : List ℕ) → map (step_of bs) made.new.items
+        ≡ map (step_of bs) made.old.items ++ (step_of bs step ∷ [])) }
 {
-    let step = first_step(alloc, text, names, piece, texts)?;
     made.reserve(1)?;
     made.push_reserved(step);
     Ok(())
@@ -128,7 +121,8 @@ fn text_step(alloc: Global, text: &str, piece: &Piece, texts: &[Piece]) -> Resul
         ≡ Some (text_step (texts_placed text.now (piece.now ∷ texts.now)))) }
 {
     if texts.is_empty() {
-        return Ok(Step::Literal(piece.from, piece.to));
+        let (from, to) = part_of(text, piece);
+        return Ok(Step::Literal(from, to));
     }
     Ok(Step::Joined(join(alloc, text, piece, texts)?))
 }
@@ -146,13 +140,47 @@ fn argument_step(
         step_of text.now step ≡ Some (argument_step known (node_position known x) x)) }
 {
     match position_of(text, names, piece) {
-        Some(position) => match &piece.form {
-            Form::Plain => Ok(Step::Plain(position, piece.spec_end)),
-            Form::Value(t) => under(alloc, position, *t, piece),
+        Some(position) => match form_of(piece) {
+            Form::Plain => Ok(Step::Plain(position, spec_end_of(piece))),
+            Form::Value(t) => under(alloc, position, t, piece),
             Form::Text => kept(alloc, piece),
             Form::List(_) => kept(alloc, piece),
             Form::Broken(_) => kept(alloc, piece),
         },
+        None => whole_step(alloc, text, piece),
+    }
+}
+
+/// The step of a piece that has no position: a list's, or a copy of the piece.
+fn whole_step(alloc: Global, text: &str, piece: &Piece) -> Result<Step, AllocError>
+    requires whole { node_whole (node_of text.now piece.now) ≡ true }
+    ensures step { IfOk result (λ step. step_of text.now step
+        ≡ Some (whole_step (node_of text.now piece.now))) }
+{
+    match form_of(piece) {
+        Form::List(range) => list_step(alloc, text, piece, range),
+        _ => kept(alloc, piece),
+    }
+}
+
+/// The step of a list: one of its own if its items are one value each, between texts, and its join
+/// is text; else a copy of its piece.
+fn list_step(
+    alloc: Global,
+    text: &str,
+    piece: &Piece,
+    range: Option<Range>,
+) -> Result<Step, AllocError>
+    requires whole { node_whole (node_of text.now piece.now) ≡ true }
+    requires list { (detail_of piece.now).form ≡ forms.List range }
+    ensures step { IfOk result (λ step. step_of text.now step
+        ≡ Some (whole_step (node_of text.now piece.now))) }
+{
+    match list_pieces(text, piece) {
+        Some(pieces) => {
+            let list = made_list(alloc, text, piece, range, pieces)?;
+            Ok(Step::List(Box::new(alloc, list)?))
+        }
         None => kept(alloc, piece),
     }
 }
@@ -160,12 +188,12 @@ fn argument_step(
 /// The value at a position, under a trait and the spec of a piece.
 fn under(alloc: Global, position: usize, t: Trait, piece: &Piece) -> Result<Step, AllocError>
     ensures step { IfOk result (λ step. (bs : List ℕ) → step_of bs step
-        ≡ Some (value_step position t (out-Piece piece.now).spec (out-Piece piece.now).spec_end)) }
+        ≡ Some (value_step position t (detail_of piece.now).spec (detail_of piece.now).spec_end)) }
 {
     let asked = ValueSpec {
         slot: t,
-        spec: piece.spec,
-        end: piece.spec_end,
+        spec: spec_of(piece),
+        end: spec_end_of(piece),
     };
     Ok(Step::Value(position, Box::new(alloc, asked)?))
 }
@@ -185,7 +213,7 @@ fn position_of(text: &str, names: &[String], piece: &Piece) -> Option<usize>
     ensures { result ≡ node_position (name_bytes names.now) (node_of text.now piece.now) }
 {
     match piece.kind {
-        PieceKind::Closed => match &piece.form {
+        PieceKind::Closed => match form_of(piece) {
             Form::Plain => position_in(text, names, piece),
             Form::Value(_) => position_in(text, names, piece),
             Form::Text => None,

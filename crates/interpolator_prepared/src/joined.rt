@@ -8,14 +8,14 @@ ghost use Rattle.interpolator_eval.specs.Meaning.Meanings.{text_alone};
 ghost use Rattle.interpolator_eval.specs.Meaning.Outcomes.{Outcome};
 ghost use Rattle.interpolator_eval.specs.Meaning.Sinks.{write_answered};
 ghost use Rattle.interpolator_prepared.specs.Programs.{text_step};
-ghost use Rattle.interpolator_prepared.specs.StoredSteps.{joined_place, joined_placed, joined_step};
+ghost use Rattle.interpolator_prepared.specs.StoredSteps.{joined_place, joined_step, joined_text};
 ghost use Rattle.interpolator_prepared.specs.StoredSteps.{texts_placed};
 ghost use Rattle.interpolator_pieces.specs.Stored.{part};
 ghost use Rattle.interpolator_pieces.specs.StoredMeanings.{stored_part};
 
 use crate::step::{JoinedText, Part};
 use interpolator_eval::{WriteFault, write_run};
-use interpolator_pieces::{Piece, cut};
+use interpolator_pieces::{Piece, cut, part_of};
 use interpolator_render::TextWrite;
 use std::alloc::{AllocError, Global};
 
@@ -43,6 +43,21 @@ fn add_part(joined: &mut JoinedText, text: &str, from: usize, to: usize) -> Resu
     Ok(())
 }
 
+/// Adds the text of pieces.
+fn add_texts(joined: &mut JoinedText, text: &str, pieces: &[Piece]) -> Result<(), AllocError>
+    requires fit { All (λ piece. IsSome (stored_part text.now piece)) pieces.now }
+    ensures added { IfOk result (λ _. (placed : Placed)
+        → joined_step joined.old.parts.items (string_bytes joined.old.text) ≡ Some (text_step placed)
+        → joined_step joined.new.parts.items (string_bytes joined.new.text)
+        ≡ Some (text_step (placed ++ texts_placed text.now pieces.now))) }
+{
+    for piece in pieces {
+        let (from, to) = part_of(text, piece);
+        add_part(joined, text, from, to)?;
+    }
+    Ok(())
+}
+
 /// The text of a piece and of those after it.
 pub fn join(
     alloc: Global,
@@ -57,11 +72,43 @@ pub fn join(
         ≡ Some (text_step (texts_placed text.now (first.now ∷ rest.now)))) }
 {
     let mut joined = no_parts(alloc);
-    add_part(&mut joined, text, first.from, first.to)?;
-    for piece in rest {
-        add_part(&mut joined, text, piece.from, piece.to)?;
-    }
+    let (from, to) = part_of(text, first);
+    add_part(&mut joined, text, from, to)?;
+    add_texts(&mut joined, text, rest)?;
     Ok(Box::new(alloc, joined)?)
+}
+
+/// The text of pieces.
+pub fn join_texts(alloc: Global, text: &str, pieces: &[Piece]) -> Result<JoinedText, AllocError>
+    requires fit { All (λ piece. IsSome (stored_part text.now piece)) pieces.now }
+    ensures joined { IfOk result (λ joined.
+        joined_text joined ≡ texts_placed text.now pieces.now) }
+{
+    let mut joined = no_parts(alloc);
+    add_texts(&mut joined, text, pieces)?;
+    Ok(joined)
+}
+
+/// The text of pieces between those before them and those after them.
+pub fn join_around(
+    alloc: Global,
+    text: &str,
+    before: &[Piece],
+    pieces: &[Piece],
+    after: &[Piece],
+) -> Result<JoinedText, AllocError>
+    requires before { All (λ piece. IsSome (stored_part text.now piece)) before.now }
+    requires fit { All (λ piece. IsSome (stored_part text.now piece)) pieces.now }
+    requires after { All (λ piece. IsSome (stored_part text.now piece)) after.now }
+    ensures joined { IfOk result (λ joined. joined_text joined
+        ≡ (texts_placed text.now before.now ++ texts_placed text.now pieces.now)
+        ++ texts_placed text.now after.now) }
+{
+    let mut joined = no_parts(alloc);
+    add_texts(&mut joined, text, before)?;
+    add_texts(&mut joined, text, pieces)?;
+    add_texts(&mut joined, text, after)?;
+    Ok(joined)
 }
 
 /// The place in the format of a byte of joined parts, which is needed only once a byte is refused.
@@ -85,7 +132,7 @@ fn place_of(parts: &[Part], offset: usize) -> usize
 #[inline(always)]
 pub fn put_joined<W: TextWrite>(out: &mut W, joined: &JoinedText) -> Result<(), WriteFault>
     ensures outcome { Outcome
-        (text_alone (joined_placed joined.now.parts.items (string_bytes joined.now.text)))
+        (text_alone (joined_text joined.now))
         (W.written out.old) (W.written out.new) (write_answered result) }
 {
     match write_run(out, joined.text.as_str(), 0) {

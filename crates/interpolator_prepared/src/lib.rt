@@ -7,6 +7,7 @@
 mod compile;
 mod items;
 mod joined;
+mod lists;
 mod prepared;
 mod put;
 mod row;

@@ -8,7 +8,7 @@ ghost use Rattle.interpolator_eval.specs.Meaning.Meanings.{text_alone};
 ghost use Rattle.interpolator_eval.specs.Meaning.Outcomes.{Outcome};
 ghost use Rattle.interpolator_eval.specs.Meaning.Sinks.{write_answered};
 ghost use Rattle.interpolator_prepared.specs.Programs.{position_means};
-ghost use Rattle.interpolator_prepared.specs.StoredSteps.{fitting_means, keeps_piece, step_of};
+ghost use Rattle.interpolator_prepared.specs.StoredSteps.{fitting_means, looks_up, step_of};
 ghost use Rattle.interpolator_pieces.specs.Stored.{part};
 
 use crate::joined::put_joined;
@@ -18,7 +18,7 @@ use interpolator_eval::{WriteFault, write_plain, write_run, write_shown};
 use interpolator_pieces::cut;
 use interpolator_render::{Spec, TextWrite, Trait};
 
-/// Writes what a step that keeps no piece means. It returns a fault in few bytes, since an
+/// Writes what a step that looks no name up means. It returns a fault in few bytes, since an
 /// [`Error`](crate::Error) would be zeroed at each step.
 #[inline(always)]
 pub fn put_step<W: TextWrite, R: PreparedRow>(
@@ -28,7 +28,7 @@ pub fn put_step<W: TextWrite, R: PreparedRow>(
     step: &Step,
 ) -> Result<(), WriteFault>
     requires fits { IsSome (step_of text.now step.now) }
-    requires alone { keeps_piece step.now ≡ false }
+    requires alone { looks_up step.now ≡ false }
     ensures outcome { (e : Environment R.Object)
         → Outcome (fitting_means R.Object.shows e (R.value_at row.now) (step_of text.now step.now))
         (W.written out.old) (W.written out.new) (write_answered result) }
@@ -40,6 +40,7 @@ pub fn put_step<W: TextWrite, R: PreparedRow>(
         Step::Value(position, asked) => {
             put_at(out, row, *position, asked.slot, &asked.spec, asked.end)
         }
+        Step::List(_) => unreachable!(),
         Step::Kept(_) => unreachable!(),
     }
 }

@@ -6,7 +6,7 @@ ghost use Rattle.interpolator_eval.specs.Slots.{Slots, slots_of};
 ghost use Rattle.interpolator_prepared.specs.Rows.{InOrder, cell_at, found_by_row, last_position};
 ghost use Rattle.interpolator_prepared.specs.Rows.{name_bytes, pair_names, row_at, slot_found};
 
-use interpolator_eval::{Context, Formattable, slot_of};
+use interpolator_eval::{Context, Formattable, same_name, slot_of};
 use interpolator_render::{Trait, Value};
 use std::alloc::{AllocError, Global};
 
@@ -65,7 +65,7 @@ impl<'a, V> Copy for Row<'a, V> {}
 fn is_name(own: &String, name: &str) -> bool
     ensures { result ≡ bytes_eq name.now (string_bytes own.now) }
 {
-    name == own.as_str()
+    same_name(own.as_str(), name)
 }
 
 /// The last position of a name.

@@ -1,5 +1,5 @@
 //! Writes the steps of a prepared format with a row.
-ghost use Rattle.std.specs.Prelude.{ℕ, IsSome, Option};
+ghost use Rattle.std.specs.Prelude.{◌≡◌, ℕ, IsSome, Option, true};
 ghost use Rattle.std.specs.List.{All};
 ghost use Rattle.interpolator_syntax.specs.Faults.{result_answer};
 ghost use Rattle.interpolator_eval.specs.Meaning.Environments.{environment};
@@ -8,17 +8,21 @@ ghost use Rattle.interpolator_eval.specs.Slots.{Slots};
 ghost use Rattle.interpolator_prepared.specs.Rows.{name_bytes};
 ghost use Rattle.interpolator_prepared.specs.StoredSteps.{fitting_means, step_of, stored_steps_mean};
 ghost use Rattle.interpolator_prepared.specs.StoredSteps.{kept_step};
-ghost use Rattle.interpolator_pieces.specs.Stored.{node_of};
+ghost use Rattle.interpolator_eval.specs.Meaning.CodeEnvironments.{environment_of};
+ghost use Rattle.interpolator_eval.specs.Meaning.Sinks.{Writes};
+ghost use Rattle.interpolator_pieces.specs.Stored.{node_of, node_whole};
+ghost use Rattle.interpolator_pieces.specs.StoredMeanings.{stored_piece_means};
 
-use crate::items::write_kept;
+use crate::items::run_list;
 use crate::put::put_step;
 use crate::row::{NamedRow, PreparedRow};
 use crate::step::Step;
-use interpolator_eval::{Environment, Sink};
-use interpolator_pieces::Piece;
+use interpolator_eval::{Context, Environment, Sink, write_uncounted};
+use interpolator_pieces::{Piece, Stored};
 use interpolator_render::TextWrite;
 use interpolator_syntax::Error;
 use std::alloc::Global;
+use std::slice;
 
 /// Writes what steps of a format mean, in order.
 pub fn run_steps<'a, W: TextWrite, R: PreparedRow>(
@@ -39,6 +43,7 @@ pub fn run_steps<'a, W: TextWrite, R: PreparedRow>(
     let row = *named.row;
     for step in steps {
         match step {
+            Step::List(list) => run_list(alloc, out, text, named, list)?,
             Step::Kept(kept) => run_kept(alloc, out, text, named, kept)?,
             _ => put_step(out, text, &row, step)?,
         }
@@ -72,4 +77,20 @@ fn run_kept<'a, W: TextWrite, R: PreparedRow>(
         Sink::Buffer(_) => unreachable!(),
     }
     answer
+}
+
+/// Writes what a piece of a text means, as the evaluator does.
+fn write_kept<'a, W: TextWrite, C: Context>(
+    sink: &mut Sink<'_, W>,
+    environment: &Environment<'a, C, C::Object>,
+    text: &str,
+    piece: &Piece,
+) -> Result<(), Error>
+    requires whole { node_whole (node_of text.now piece.now) ≡ true }
+    ensures writes { Writes W.written
+        (stored_piece_means C.Object.shows (environment_of C.finds environment.now) text.now piece.now)
+        sink.old sink.new (result_answer result) }
+{
+    let pieces = slice::from_ref(piece);
+    write_uncounted(sink, environment, Stored { text, pieces })
 }

@@ -2,6 +2,7 @@
 
 use interpolator_pieces::Piece;
 use interpolator_render::{Spec, Trait};
+use interpolator_syntax::Range;
 
 /// Bytes of the format, from `from` up to `to`.
 #[derive(Clone, Copy)]
@@ -18,11 +19,31 @@ pub struct JoinedText {
 }
 
 /// How a value is shown: a trait and a spec, which ends at `end`.
-#[derive(Drop)]
+#[derive(Clone, Copy)]
 pub struct ValueSpec {
     pub slot: Trait,
     pub spec: Spec,
     pub end: usize,
+}
+
+/// A list under no width whose items are one value each, between texts, and whose join is text.
+#[derive(Drop)]
+pub struct ListStep {
+    /// Where its argument begins.
+    pub start: usize,
+    pub name: Part,
+    pub range: Option<Range>,
+    pub spec: Spec,
+    /// Where its spec ends.
+    pub end: usize,
+    /// How an item is shown.
+    pub value: ValueSpec,
+    /// The text before the first item.
+    pub before: JoinedText,
+    /// The text between two items: what ends the first, the join, and what begins the second.
+    pub between: JoinedText,
+    /// The text after the last item.
+    pub after: JoinedText,
 }
 
 /// A step of a prepared format.
@@ -36,6 +57,8 @@ pub enum Step {
     Plain(usize, usize),
     /// The value at a position, under a trait and a spec.
     Value(usize, Box<ValueSpec>),
-    /// A piece that is kept: a list, or an argument whose name has no position.
+    /// A list.
+    List(Box<ListStep>),
+    /// A piece that is kept: any other list, or an argument whose name has no position.
     Kept(Box<Piece>),
 }

@@ -1,24 +1,24 @@
-use Rattle.std.proofs.Common.{◌∙◌}
+use Rattle.std.proofs.Common.{◌∙◌, sym}
 use Rattle.interpolator_prepared.specs.Rows.{name_bytes}
 use Rattle.interpolator_pieces.specs.declared.piece.Form.TheVariants as forms
 use Rattle.interpolator_prepared.proofs.CompileLemmas.{step_of_name, step_of_value, step_other}
-use Rattle.interpolator_prepared.proofs.CompileLemmas.{if_same, step_without}
+use Rattle.interpolator_prepared.proofs.CompileLemmas.{if_same}
 use Rattle.interpolator_prepared.proofs.KeptLemmas.{kept_is}
 use Rattle.interpolator_prepared.proofs.compile.argument_step.Goals as goal
 
 pub returns-in-Plain : goal.returns-in-Plain
 returns-in-Plain c =
-    record {
+    rw c.spec_end_of.ensures (record {
       step = step_of_name (name_bytes c.args.names.now) c.args.text.now c.args.piece.now
-          c.requires.whole c.in-Some.position c.in-Some.ensures c.in-Plain.is;
-    }
+          c.requires.whole c.in-Some.position c.in-Some.ensures (sym c.form_of.ensures ∙ c.in-Plain.is);
+    })
 
 pub returns-in-Value : goal.returns-in-Value
 returns-in-Value c =
     record {
       step = if_same _ c.args.text.now _ _
           (step_of_value (name_bytes c.args.names.now) c.args.text.now c.args.piece.now
-          c.requires.whole c.in-Some.position c.in-Some.ensures c.in-Value.t c.in-Value.is)
+          c.requires.whole c.in-Some.position c.in-Some.ensures c.in-Value.t (sym c.form_of.ensures ∙ c.in-Value.is))
           c.under.ensures.step;
     }
 
@@ -28,7 +28,7 @@ returns-in-Text c =
       step = if_same _ c.args.text.now _ _
           (kept_is _ c.requires.whole
           ∙ step_other (name_bytes c.args.names.now) c.args.text.now c.args.piece.now forms.Text
-          c.in-Text.is tt c.in-Some.position c.in-Some.ensures)
+          (sym c.form_of.ensures ∙ c.in-Text.is) tt c.in-Some.position c.in-Some.ensures)
           c.kept.ensures.step;
     }
 
@@ -38,7 +38,7 @@ returns-in-List c =
       step = if_same _ c.args.text.now _ _
           (kept_is _ c.requires.whole
           ∙ step_other (name_bytes c.args.names.now) c.args.text.now c.args.piece.now _
-          c.in-List.is tt c.in-Some.position c.in-Some.ensures)
+          (sym c.form_of.ensures ∙ c.in-List.is) tt c.in-Some.position c.in-Some.ensures)
           c.kept-in-List.ensures.step;
     }
 
@@ -48,16 +48,9 @@ returns-in-Broken c =
       step = if_same _ c.args.text.now _ _
           (kept_is _ c.requires.whole
           ∙ step_other (name_bytes c.args.names.now) c.args.text.now c.args.piece.now _
-          c.in-Broken.is tt c.in-Some.position c.in-Some.ensures)
+          (sym c.form_of.ensures ∙ c.in-Broken.is) tt c.in-Some.position c.in-Some.ensures)
           c.kept-in-Broken.ensures.step;
     }
 
 pub returns-in-None : goal.returns-in-None
-returns-in-None c =
-    record {
-      step = if_same _ c.args.text.now _ _
-          (kept_is _ c.requires.whole
-          ∙ step_without (name_bytes c.args.names.now) c.args.text.now c.args.piece.now
-          c.in-None.ensures)
-          c.kept-in-None.ensures.step;
-    }
+returns-in-None c = rw (← c.in-None.ensures) (record { step = c.whole_step.ensures.step })

@@ -2,6 +2,7 @@ use Rattle.std.proofs.Common.{◌≡◌, ◌∙◌, sym, ap, nat_lt, Some}
 use Rattle.std.specs.Str.{chars, encode_utf8_all}
 use Rattle.std.proofs.lemmas.Str.{encodes-chars}
 use Rattle.interpolator_prepared.specs.Rows.{last_position, name_bytes}
+use Rattle.interpolator_pieces.specs.Stored.{detail_of}
 use Rattle.interpolator_pieces.specs.StoredMeanings.{stored_part}
 use Rattle.interpolator_pieces.specs.declared.piece.Piece.TheViews.{out-Piece}
 use Rattle.interpolator_prepared.proofs.CompileLemmas.{named_part}
@@ -13,7 +14,7 @@ returns c = record {
       let bytes = c.text_of.result.now in
       let x = c.args.piece.now in
       let whole : stored_part c.args.text.now x ≡ Some name =
-      named_part (nat_lt (out-Piece x).place (out-Piece x).from) (stored_part c.args.text.now x) name is in
+      named_part (nat_lt (out-Piece x).place (detail_of x).from) (stored_part c.args.text.now x) name is in
       let told : Some (chars bytes) ≡ Some name = c.text_of.ensures.text ∙ whole in
       let same : chars bytes ≡ name = cc in
       c.last_position.ensures

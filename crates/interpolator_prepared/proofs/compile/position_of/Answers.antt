@@ -1,3 +1,4 @@
+use Rattle.std.proofs.Common.{◌∙◌, sym}
 use Rattle.interpolator_prepared.specs.Rows.{name_bytes}
 use Rattle.interpolator_pieces.specs.declared.piece.Form.TheVariants as forms
 use Rattle.interpolator_syntax.specs.declared.piece_kind.PieceKind.TheVariants as kinds
@@ -10,41 +11,41 @@ use Rattle.interpolator_prepared.proofs.compile.position_of.Goals as goal
 pub position_in-requires : goal.position_in-requires
 position_in-requires c =
     record {
-      fits = name_fits c.args.text.now c.args.piece.now c.in-Plain.is
+      fits = name_fits c.args.text.now c.args.piece.now (sym c.form_of.ensures ∙ c.in-Plain.is)
           (fits_text c.args.text.now c.args.piece.now c.requires.whole).held;
     }
 
 pub position_in-requires-in-Value : goal.position_in-requires-in-Value
 position_in-requires-in-Value c =
     record {
-      fits = value_fits c.args.text.now c.args.piece.now _ c.in-Value.is
+      fits = value_fits c.args.text.now c.args.piece.now _ (sym c.form_of.ensures ∙ c.in-Value.is)
           (fits_text c.args.text.now c.args.piece.now c.requires.whole).held;
     }
 
 pub returns-in-Plain : goal.returns-in-Plain
 returns-in-Plain c =
     position_of_name (name_bytes c.args.names.now) c.args.text.now c.args.piece.now
-    c.requires.whole c.in-Closed.is _ c.position_in.ensures.position c.in-Plain.is
+    c.requires.whole c.in-Closed.is _ c.position_in.ensures.position (sym c.form_of.ensures ∙ c.in-Plain.is)
 
 pub returns-in-Value : goal.returns-in-Value
 returns-in-Value c =
     position_of_value (name_bytes c.args.names.now) c.args.text.now c.args.piece.now
-    c.requires.whole c.in-Closed.is _ c.position_in-in-Value.ensures.position _ c.in-Value.is
+    c.requires.whole c.in-Closed.is _ c.position_in-in-Value.ensures.position _ (sym c.form_of.ensures ∙ c.in-Value.is)
 
 pub returns-in-Text : goal.returns-in-Text
 returns-in-Text c =
     no_position_form (name_bytes c.args.names.now) c.args.text.now c.args.piece.now forms.Text
-    c.in-Text.is tt c.in-Closed.is
+    (sym c.form_of.ensures ∙ c.in-Text.is) tt c.in-Closed.is
 
 pub returns-in-List : goal.returns-in-List
 returns-in-List c =
     no_position_form (name_bytes c.args.names.now) c.args.text.now c.args.piece.now _
-    c.in-List.is tt c.in-Closed.is
+    (sym c.form_of.ensures ∙ c.in-List.is) tt c.in-Closed.is
 
-pub returns-in-Broken-form : goal.returns-in-Broken-form
-returns-in-Broken-form c =
+pub returns-in-Broken-form_of : goal.returns-in-Broken-form_of
+returns-in-Broken-form_of c =
     no_position_form (name_bytes c.args.names.now) c.args.text.now c.args.piece.now _
-    c.in-Broken-form.is tt c.in-Closed.is
+    (sym c.form_of.ensures ∙ c.in-Broken-form_of.is) tt c.in-Closed.is
 
 pub returns-in-Literal : goal.returns-in-Literal
 returns-in-Literal c =
