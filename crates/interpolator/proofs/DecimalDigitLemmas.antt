@@ -1,6 +1,6 @@
 -- Digits, one after another: what their number is, and when it is in range.
 use Rattle.std.proofs.Common.{◌≡◌, ◌≢◌, ℕ, ◌+◌, ◌*◌, ◌^◌, ◌<◌, ◌≤◌, Bool, true, List, [], ◌∷◌, ◌++◌}
-use Rattle.std.proofs.Common.{length, get_or, drop, Option, refl, sym, ap, ◌∙◌, subst, arith, rules}
+use Rattle.std.proofs.Common.{length, get_or, drop, Option, refl, arith}
 use Rattle.std.specs.Bool.{Decides}
 use Rattle.std.specs.Char.{digit_value, is_ascii_digit}
 use Rattle.std.specs.List.{list_all}
@@ -12,15 +12,11 @@ use Rattle.std.proofs.lemmas.Str.Parse.{IsNumeralModel, numerals_by_value}
 -- ---- which bytes are digits
 
 digits_by_test : IsNumeralModel (λ ds. list_all is_ascii_digit ds ≡ true) (digits_value 10)
-digits_by_test = numerals_by_value _ (search rules)
+digits_by_test = grind (arith, numerals_by_value)
 
 pub numeral_by_test : (test : Bool) (text : List ℕ) → length text ≢ 0 →
     test ≡ list_all is_ascii_digit text → Decides test (IsNumeral 10 text)
-numeral_by_test test [] some e = absurd (some refl)
-numeral_by_test test (c ∷ cs) some e = (
-  λ passed. (omega arith, digits_by_test.to (c ∷ cs) (sym e ∙ passed)),
-  λ numeral. e ∙ digits_by_test.from (c ∷ cs) numeral.1,
-)
+numeral_by_test test text some e = grind (arith, digits_by_test)
 
 -- ---- digits after digits
 
@@ -36,11 +32,7 @@ value_over n (d ∷ before) after = value_over (n * 10 + digit_value d) before a
 value_step : (n : ℕ) (ds : List ℕ) (i : ℕ) → i < length ds →
     digits_value_after 10 n (drop i ds)
     ≡ digits_value_after 10 (n * 10 + digit_value (get_or ds i 0)) (drop (i + 1) ds)
-value_step n ds i within = ap (digits_value_after 10 n) (drop_more ds i 0 within)
-
-value_end : (n : ℕ) (ds : List ℕ) (i : ℕ) → length ds ≤ i →
-    digits_value_after 10 n (drop i ds) ≡ n
-value_end n ds i past = ap (digits_value_after 10 n) (drop_all i ds past)
+value_step n ds i within = grind (arith, drop_more)
 
 -- ---- the loop: `number` is before all the digits, and `n` before those from the i-th on
 
@@ -48,9 +40,7 @@ pub loop_more : (n number next : ℕ) (ds : List ℕ) (i : ℕ) → i < length d
     next ≡ n * 10 + digit_value (get_or ds i 0) →
     digits_value_after 10 n (drop i ds) ≡ digits_value_after 10 number ds →
     digits_value_after 10 next (drop (i + 1) ds) ≡ digits_value_after 10 number ds
-loop_more n number next ds i within e so_far =
-    ap (λ (m : ℕ). digits_value_after 10 m (drop (i + 1) ds)) e
-    ∙ sym (value_step n ds i within) ∙ so_far
+loop_more n number next ds i within e so_far = grind (arith, value_step)
 
 pub loop_over : (n number : ℕ) (ds : List ℕ) (i : ℕ) → i < length ds →
     digits_value_after 10 n (drop i ds) ≡ digits_value_after 10 number ds →
@@ -63,9 +53,7 @@ loop_over n number ds i within so_far over fits =
 pub loop_end : (n number : ℕ) (ds : List ℕ) (i : ℕ) → length ds ≤ i → n < 2 ^ 128 →
     digits_value_after 10 n (drop i ds) ≡ digits_value_after 10 number ds →
     (digits_value_after 10 number ds < 2 ^ 128) × (n ≡ digits_value_after 10 number ds)
-loop_end n number ds i past fits so_far =
-    let e = sym (value_end n ds i past) ∙ so_far in
-    (subst (λ (m : ℕ). m < 2 ^ 128) e fits, e)
+loop_end n number ds i past fits so_far = grind (arith, drop_all)
 
 -- ---- the digits before a point and after it
 
@@ -79,6 +67,4 @@ pub count_after : (before after : List ℕ) (whole : ℕ) (answer : Option ℕ) 
     SomeIff answer (digits_value_after 10 whole after < 2 ^ 128)
     (digits_value_after 10 whole after) →
     SomeIff answer (digits_value 10 (before ++ after) < 2 ^ 128) (digits_value 10 (before ++ after))
-count_after before after whole answer e h =
-    subst (λ (m : ℕ). SomeIff answer (m < 2 ^ 128) m)
-    (ap (λ (n : ℕ). digits_value_after 10 n after) e ∙ sym (value_over 0 before after)) h
+count_after before after whole answer e h = grind (arith, value_over)

@@ -26,7 +26,7 @@ no_digit c digit low = omega (arith, digit_from_value c digit)
 
 -- no digit is a point
 no_point : (ds : List ℕ) → AllDigits 10 ds → (i : ℕ) → i < length ds → get_or ds i 0 ≢ 46
-no_point ds digits i within here = omega (arith, digit_at ds i digits within)
+no_point ds digits i within here = grind (arith, digit_at)
 
 digits_end : (front back : List ℕ) → AllDigits 10 (front ++ (46 ∷ back)) → ⊥
 digits_end [] back digits = no_digit 46 digits.0 (lit< tt)
@@ -34,18 +34,12 @@ digits_end (c ∷ front) back digits = digits_end front back digits.1
 
 -- digits with nothing after them
 pub whole_parts : (text : List ℕ) → IsNumeral 10 text → AreParts text text []
-whole_parts text numeral = record {
-  parts = sym (append-nil text);
-  before_digits = numeral;
-  after_digits = tt;
-}
+whole_parts text numeral = grind (arith, append-nil)
 
 -- digits before a point and after it
 pub both_parts : (text before after : List ℕ) → text ≡ before ++ (46 ∷ after) →
     IsNumeral 10 before → IsNumeral 10 after → AreParts text before after
-both_parts text before [] e digits more = absurd (omega (arith, more.0))
-both_parts text before (c ∷ after) e digits more =
-    record { parts = e; before_digits = digits; after_digits = more.1 }
+both_parts text before after e digits more = grind arith
 
 -- a text without a point has no parts but itself
 pub pointless : (text : List ℕ) → IsSplitOnceResult 46 text None → ¬ (IsNumeral 10 text) →
@@ -74,12 +68,6 @@ point_parts text front back split before (c ∷ after) parts =
 
 -- ---- one way to split
 
-same_after : (some other : List ℕ) → after_point some ≡ after_point other → some ≡ other
-same_after [] [] e = refl
-same_after [] (d ∷ ds) e = absurd (cc)
-same_after (c ∷ cs) [] e = absurd (cc)
-same_after (c ∷ cs) (d ∷ ds) e = cc
-
 no_digit_after : (after : List ℕ) (d : ℕ) (ds : List ℕ) → after_point after ≡ d ∷ ds →
     digit_value d < 10 → ⊥
 no_digit_after [] d ds e digit = cc
@@ -88,23 +76,17 @@ no_digit_after (c ∷ cs) d ds e digit =
 
 one_split : (before after other rest : List ℕ) → AllDigits 10 before → AllDigits 10 other →
     before ++ after_point after ≡ other ++ after_point rest → (before ≡ other) × (after ≡ rest)
-one_split [] after [] rest digits others e = (refl, same_after after rest e)
+one_split [] after [] rest digits others e = grind arith
 one_split [] after (d ∷ ds) rest digits others e =
     absurd (no_digit_after after d (ds ++ after_point rest) e others.0)
 one_split (c ∷ cs) after [] rest digits others e =
     absurd (no_digit_after rest c (cs ++ after_point after) (sym e) digits.0)
 one_split (c ∷ cs) after (d ∷ ds) rest digits others e =
-    let first : c ≡ d = cc in
-    let more : cs ++ after_point after ≡ ds ++ after_point rest = cc in
-    let same = one_split cs after ds rest digits.1 others.1 more in
-    let fronts = same.0 in
-    (cc, same.1)
+    let first : c ≡ d = cc in let more : cs ++ after_point after ≡ ds ++ after_point rest = cc in let same = one_split cs after ds rest digits.1 others.1 more in let fronts = same.0 in (cc, same.1)
 
 pub same_parts : (text before after other rest : List ℕ) → AreParts text before after →
     AreParts text other rest → (before ≡ other) × (after ≡ rest)
-same_parts text before after other rest parts others =
-    one_split before after other rest parts.before_digits.1 others.before_digits.1
-    (sym parts.parts ∙ others.parts)
+same_parts text before after other rest parts others = grind (arith, one_split)
 
 -- a text without a point has parts if it is digits
 pub no_point_answer : (text empty : Bor (List ℕ)) (test : Bool)
@@ -148,11 +130,7 @@ pub after_none : (text : List ℕ) → ((rest : List ℕ) → text ≢ 45 ∷ re
     ((rest : List ℕ) → text ≢ 43 ∷ rest) → (negative : Bool) (digit : ℕ)
     (more : List ℕ) → IsBetween 48 57 digit → HasSign text (digit ∷ more) negative →
     (negative ≡ false) × (digit ∷ more ≡ text)
-after_none text no_minus no_plus true digit more between minus =
-    absurd (no_minus (digit ∷ more) minus)
-after_none text no_minus no_plus false digit more between (inl same) = (refl, sym same)
-after_none text no_minus no_plus false digit more between (inr plus) =
-    absurd (no_plus (digit ∷ more) plus)
+after_none text no_minus no_plus negative digit more between minus = grind arith
 
 -- ---- the whole text
 
@@ -190,16 +168,7 @@ module _ (text : List ℕ) (negative : Bool) (unsigned before after : List ℕ)
     (parts : AreParts unsigned before after) where
   pub spelled :
       SpellsDecimal text (signed negative (digits_value 10 (before ++ after))) (length after)
-  spelled = record {
-    negative = negative;
-    unsigned = unsigned;
-    before = before;
-    after = after;
-    sign = sign;
-    parts = parts;
-    value = refl;
-    as_many = refl;
-  }
+  spelled = grind arith
 
   pub only_spelled : (units : ℤ) (scale : ℕ) → SpellsDecimal text units scale →
       (units ≡ signed negative (digits_value 10 (before ++ after))) × (scale ≡ length after)
@@ -273,9 +242,5 @@ pub read_fault : (text : List ℕ) (negative : Bool) (units : ℤ) (scale : ℕ)
     SomeIff made (IsInRange units scale) (decimal_of units scale) →
     overflow ≡ (if negative then NegOverflow else PosOverflow) → answer ≡ ok_or made overflow →
     IfErr answer (λ error. Explains text error)
-read_fault text negative units scale unsigned before after None overflow answer sign parts here
-    over why given =
-    rw (given, why) (explained text negative unsigned before after sign parts
-    (units, scale, here, over))
-read_fault text negative units scale unsigned before after (Some value) overflow answer sign parts
-    here fits why given = rw given tt
+read_fault text negative units scale unsigned before after made overflow answer sign parts here over why given =
+    grind (arith, explained)

@@ -1,27 +1,25 @@
 -- A text with deeply nested groups is long: a group in another has fewer signs than the outer one.
 use Rattle.std.proofs.Common.{◌≡◌, ◌≢◌, ◌∙◌, refl, sym, ap, arith, subst, ℕ, zero, suc, ◌+◌, ◌*◌}
-use Rattle.std.proofs.Common.{◌<◌, ◌≤◌, List, [], ◌∷◌, ◌++◌, length, append_assoc, inl, inr}
-use Rattle.std.proofs.Common.{Option, Some, None, Result, Ok, Err, ◌-◌}
-use Rattle.std.proofs.Math.Nat.{max-eq_left, max-eq_right}
+use Rattle.std.proofs.Common.{◌<◌, ◌≤◌, List, ◌∷◌, ◌++◌, length, append_assoc, inl, inr}
+use Rattle.std.proofs.Common.{Option, Some, None, Result, ◌-◌}
 use Rattle.std.proofs.lemmas.Bool.{cases_lt}
 use Rattle.std.proofs.lemmas.List.{length-append}
 use Rattle.std.specs.Prelude.{max}
-use Rattle.interpolator_syntax.specs.At.{At, strip}
+use Rattle.interpolator_syntax.specs.At.{At}
 use Rattle.interpolator_syntax.specs.Arguments.{Argument, argument_at}
-use Rattle.interpolator_syntax.specs.Classes.{hash, open_bracket, close_brace}
+use Rattle.interpolator_syntax.specs.Classes.{hash}
 use Rattle.interpolator_syntax.specs.Faults.{Fault}
 use Rattle.interpolator_syntax.specs.Groups.{Group}
-use Rattle.interpolator_syntax.specs.GroupGrammar.{sign_text, open_text, close_text, NoneCloses}
+use Rattle.interpolator_syntax.specs.GroupGrammar.{sign_text, open_text, close_text}
 use Rattle.interpolator_syntax.specs.GroupGrammar.{IsGroup}
 use Rattle.interpolator_syntax.specs.Pieces.{argument_from, argument_or_broken, argument_step}
-use Rattle.interpolator_syntax.specs.SpecTexts.{Kind, of_value, of_list}
-use Rattle.interpolator_syntax.specs.Tokens.{Token, first_token, past_token, argument}
+use Rattle.interpolator_syntax.specs.Tokens.{Token, first_token, past_token}
 use Rattle.interpolator_syntax.proofs.GrammarGroupLemmas.{sign_length}
 use Rattle.interpolator_syntax.proofs.GuardLemmas.{GroupAfter, KindAfter, argument_after}
 use Rattle.interpolator_syntax.proofs.LocalityLemmas.{Takes, takes_then}
 use Rattle.interpolator_syntax.specs.Groups.{inside}
-use Rattle.interpolator_pieces.specs.NodeExtents.{node_depth, branch_depth, forest_depth}
-use Rattle.interpolator_syntax.specs.Nodes.{as_forest, group_branch, item_branch, join_branch}
+use Rattle.interpolator_pieces.specs.NodeExtents.{node_depth, forest_depth}
+use Rattle.interpolator_syntax.specs.Nodes.{as_forest}
 use Rattle.interpolator_syntax.specs.Nodes.{piece_node, token_node, nodes}
 use Rattle.interpolator_syntax.proofs.TokenLemmas.{token_shorter, scan_shorter}
 use Rattle.interpolator_syntax.proofs.NodeLemmas.{by_length, nodes_first, nodes_none}
@@ -46,17 +44,10 @@ after_front k a b t none front rest e =
     (t.split ∙ ap (λ xs. t.front ++ xs) e
     ∙ sym (append_assoc t.front front (close_text k ++ rest)))
 
--- nor the text of a group with k signs
-in_group : (k : ℕ) (inner after : List ℕ) → NoneCloses k inner after → NoClose k inner
-in_group k inner after none front rest e =
-    none front (sign_text k ++ rest) (rest ++ after) e (append_assoc (sign_text k) rest after)
-
 -- what closes a group with more signs closes one with fewer
 closes_fewer : (k n : ℕ) (rest : List ℕ)
     → close_text (n + k) ++ rest ≡ close_text k ++ (sign_text n ++ rest)
-closes_fewer k n rest =
-    ap (λ xs. close_text 0 ++ (xs ++ rest)) (more_signs k n)
-    ∙ ap (λ xs. close_text 0 ++ xs) (append_assoc (sign_text k) (sign_text n) rest)
+closes_fewer k n rest = grind (arith, more_signs, append_assoc)
 
 -- so a group in such a text has fewer signs
 fewer_signs : (j k : ℕ) (cs front rest : List ℕ) → NoClose j cs
@@ -81,30 +72,17 @@ module _ (a : At) (g : Group) (q : At) (h : IsGroup a g q) where
       (h.split ∙ sym (append_assoc (open_text h.k) g.text (close_text h.k ++ q.text)))
 
   group_no_close : NoClose h.k g.text
-  group_no_close = in_group h.k g.text (close_text h.k ++ q.text) h.first
+  group_no_close = grind (arith, append_assoc)
 
   -- a group takes its signs twice, and its brackets
   group_length : (h.k + 1) + (length g.text + (1 + h.k)) ≤ length a.text
-  group_length =
-      omega (
-        arith,
-        ap length h.split,
-        length-append (open_text h.k) (g.text ++ (close_text h.k ++ q.text)),
-        length-append (sign_text h.k) (open_bracket ∷ []),
-        length-append g.text (close_text h.k ++ q.text),
-        length-append (close_text h.k) q.text,
-        sign_length h.k,
-      )
+  group_length = grind (arith, length-append, sign_length)
 
 -- ---- the greater of two
 
 -- what holds of both holds of the greater
 of_greater : (P : ℕ → Type 0) (m n : ℕ) → P m → P n → P (max m n)
-of_greater P m n p q =
-    elim (cases_lt m n) [
-      | inl l ↦ let least : m ≤ n = omega (arith, l) in subst P (sym (max-eq_right least)) q
-      | inr l ↦ subst P (sym (max-eq_left l)) p
-    ]
+of_greater P m n p q = grind (arith, cases_lt m n)
 
 -- ---- the pieces of a text
 
@@ -112,30 +90,17 @@ of_greater P m n p q =
 module _ (P : ℕ → Type 0) (none : P 0) (b : At)
     (each : (g : Group) → GroupAfter 2 (Some g) b
     → P (suc (forest_depth (as_forest (nodes (inside g)))))) where
-  by_group : (o : Option Group) → GroupAfter 2 o b → P (branch_depth (group_branch nodes o))
-  by_group None h = none
-  by_group (Some g) h = each g h
-
-  by_kind : (k : Kind) → KindAfter 2 k b
-      → P (max (branch_depth (item_branch nodes k)) (branch_depth (join_branch nodes k)))
-  by_kind (of_value t) h = of_greater P 0 0 none none
-  by_kind (of_list l) h = of_greater P _ _ (by_group l.item h.0) (by_group l.join h.1)
-
   by_strip : (p end : ℕ) (x : Argument) (q : At) (o : Option At) → KindAfter 2 x.kind b
       → P (node_depth (piece_node nodes p end (argument_step b.place b x q o).piece.kind))
-  by_strip p end x q None h = by_kind x.kind h
-  by_strip p end x q (Some rest) h = by_kind x.kind h
+  by_strip p end x q o h = grind (arith, of_greater)
 
   by_answer : (p end : ℕ) (r : Result (Argument × At) Fault) → argument_at b ≡ r
       → P (node_depth (piece_node nodes p end (argument_or_broken b.place b r).piece.kind))
-  by_answer p end (Ok w) e =
-      by_strip p end w.0 w.1 (strip close_brace w.1) (argument_after b w.0 w.1 e)
-  by_answer p end (Err f) e = of_greater P 0 0 none none
+  by_answer p end r e = grind (arith, by_strip, argument_after, of_greater)
 
   by_token : (p : ℕ) (t : Token) → P (node_depth (token_node nodes p t b))
   unfolding argument_from
-  by_token p argument = by_answer p (argument_from b.place b).rest.place (argument_at b) refl
-  by_token p t = of_greater P 0 0 none none
+  by_token p t = grind (arith, by_answer, of_greater)
 
 -- what holds of 0, of the depth of what follows the first piece and of that of each of its groups,
 -- holds of the depth of the text
@@ -184,7 +149,7 @@ LongEnough a =
 -- one more group, guarded by as many signs as its text is deep, and five characters besides
 one_deeper : (d k inner whole : ℕ) → d * (d + 4) ≤ inner → d ≤ k
     → 2 + ((k + 1) + (inner + (1 + k))) < whole → suc d * (suc d + 4) ≤ whole
-one_deeper d k inner whole h l m = omega (arith, h, l, m)
+one_deeper d k inner whole h l m = grind arith
 
 pub deep_is_long : (a : At)
     → forest_depth (as_forest (nodes a)) * (forest_depth (as_forest (nodes a)) + 4) ≤ length a.text

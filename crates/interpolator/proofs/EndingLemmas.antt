@@ -1,11 +1,11 @@
 -- How a text ends, as the scan finds it.
 use Rattle.std.proofs.Common.{◌≡◌, ℕ, ◌+◌, ◌<◌, true, false, eqb, List, [], ◌∷◌, ◌++◌, length}
-use Rattle.std.proofs.Common.{arith, refl, ap, ◌∙◌, sym, subst, Ok, Err, Option, Some}
+use Rattle.std.proofs.Common.{arith, refl, ap, ◌∙◌, sym, Ok, Err, Option, Some}
 use Rattle.std.proofs.Common.{None, length-append, eqb-true}
 use Rattle.std.specs.Char.{len_utf8}
 use Rattle.std.specs.Str.{chars}
 use Rattle.std.proofs.lemmas.Str.{chars-nil}
-use Rattle.interpolator_syntax.specs.At.{At, size, after, strip}
+use Rattle.interpolator_syntax.specs.At.{At, after, strip}
 use Rattle.interpolator_syntax.specs.Classes.{front_of, after_of, in_class, is_brace, open_brace}
 use Rattle.interpolator_syntax.specs.Classes.{close_brace}
 use Rattle.interpolator_syntax.specs.Arguments.{Argument, argument_at}
@@ -20,7 +20,6 @@ use Rattle.interpolator.specs.declared.parts.Ending.{Ending}
 use Rattle.interpolator.specs.declared.parts.Ending.TheVariants.{Settled, Open}
 use Rattle.interpolator_syntax.proofs.LocalityLemmas.{stands}
 use Rattle.interpolator_syntax.proofs.PieceLemmas.{pieces_none, pieces_next}
-use Rattle.interpolator_syntax.proofs.PieceLemmas.{literal_step}
 use Rattle.std.proofs.lemmas.Bool.{cond_both}
 
 -- ---- the tokens of the scan, in pieces
@@ -75,22 +74,17 @@ literal_next :
     (p c : ℕ) (cs : List ℕ) → is_brace c ≡ false
     → pieces (stands p (c ∷ cs))
     ≡ (step p (c ∷ []) (literal c) (past p c cs)).piece ∷ pieces (past p c cs)
-literal_next p c cs h =
-    pieces_next p c cs
-    ∙ ap (λ (s : Step). s.piece ∷ pieces s.rest) (literal_step p c (past p c cs) h)
+literal_next p c cs h = grind (arith, pieces_next p c cs)
 
 -- what follows a run that begins with a literal
 after_literal :
     (p c : ℕ) (cs : List ℕ) → is_brace c ≡ false
     → after (in_class Literal) (past p c cs) ≡ after (in_class Literal) (stands p (c ∷ cs))
-after_literal p c cs h =
-    let n : p + len_utf8 c + size (front_of (in_class Literal) cs)
-    ≡ p + (len_utf8 c + size (front_of (in_class Literal) cs)) = omega arith in
-    rw (h, n) refl
+after_literal p c cs h = grind arith
 
 no_run : (p : ℕ) (cs : List ℕ) → front_of (in_class Literal) cs ≡ []
     → after_of (in_class Literal) cs ≡ cs → after (in_class Literal) (stands p cs) ≡ stands p cs
-no_run p cs e d = let n : p + 0 ≡ p = omega arith in rw (e, d, n) refl
+no_run p cs e d = grind arith
 
 abbrev literal_piece : ℕ → ℕ → Piece
 literal_piece p c = record { place = p; text = c ∷ []; kind = literal c }
@@ -138,10 +132,10 @@ scans_at p (c ∷ cs) =
 
 pub scanned : (a : At) (x : Token × At) → first_token a ≡ Some x
     → Scanned a (token_ending x.0 x.1) (past_token x.0 x.1)
-scanned a x h = subst (ScansTo a) h (scans_at a.place a.text)
+scanned a x h = grind (arith, scans_at a.place a.text)
 
 pub scanned_end : (a : At) → first_token a ≡ None → pieces a ≡ []
-scanned_end a h = subst (ScansTo a) h (scans_at a.place a.text)
+scanned_end a h = grind (arith, scans_at a.place a.text)
 
 -- how the last piece ends does not depend on the pieces before it
 pub last_after : (e : Ending) (front : List Piece) (x : Piece) (xs : List Piece)
@@ -168,7 +162,7 @@ ending_smaller a x rest h r =
 
 pub ending_done : (a : At) (e whole : Ending) → first_token a ≡ None
     → last_ending e (pieces a) ≡ whole → e ≡ whole
-ending_done a e whole h k = sym (ap (last_ending e) (scanned_end a h)) ∙ k
+ending_done a e whole h k = grind (arith, scanned_end)
 
 -- ---- how an argument ends
 
@@ -176,23 +170,22 @@ module _ (a : At) (x : Argument) (q : At) (h : argument_at a ≡ Ok (x, q)) wher
   pub closed_ends : (rest : At) → strip close_brace q ≡ Some rest
       → Settled ≡ piece_ending (argument_from a.place a).piece
   unfolding argument_from
-  closed_ends rest d = rw (h, d) refl
+  closed_ends rest d = grind arith
 
   pub closed_after : (rest : At) → strip close_brace q ≡ Some rest
       → pieces rest ≡ pieces (argument_from a.place a).rest
   unfolding argument_from
-  closed_after rest d = rw (h, d) refl
+  closed_after rest d = grind arith
 
   pub unclosed_ends : strip close_brace q ≡ None → Open
       ≡ piece_ending (argument_from a.place a).piece
   unfolding argument_from
-  unclosed_ends d = rw (h, d) refl
+  unclosed_ends d = grind arith
 
   pub unclosed_after : (p : ℕ) → strip close_brace q ≡ None
       → pieces (stands p (chars [])) ≡ pieces (argument_from a.place a).rest
   unfolding argument_from
-  unclosed_after p d =
-      rw (h, d, chars-nil) (pieces_none p ∙ sym (pieces_none (a.place + size a.text)))
+  unclosed_after p d = grind (arith, chars-nil, pieces_none)
 
 pub broken_ends : (a : At) (f : Fault) → argument_at a ≡ Err f
     → Open ≡ piece_ending (argument_from a.place a).piece
@@ -202,5 +195,4 @@ broken_ends a f h = rw h refl
 pub broken_after : (a : At) (f : Fault) (p : ℕ) → argument_at a ≡ Err f
     → pieces (stands p (chars [])) ≡ pieces (argument_from a.place a).rest
 unfolding argument_from
-broken_after a f p h =
-    rw (h, chars-nil) (pieces_none p ∙ sym (pieces_none (a.place + size a.text)))
+broken_after a f p h = grind (arith, chars-nil, pieces_none)

@@ -1,8 +1,8 @@
 -- Doubled braces: how they are appended, and what a text with doubled braces means.
-use Rattle.std.proofs.Common.{◌≡◌, ℕ, zero, suc, ◌+◌, ◌≤◌, Bool, true, false, List, [], ◌∷◌, ◌++◌}
+use Rattle.std.proofs.lemmas.Grind.{common_steps}
+use Rattle.std.proofs.Common.{◌≡◌, ℕ, zero, suc, ◌≤◌, true, List, [], ◌∷◌, ◌++◌}
 use Rattle.std.proofs.Common.{map, length, arith, refl, ap, ◌∙◌, sym, Option, Some, append_assoc}
 use Rattle.std.proofs.Common.{append-nil}
-use Rattle.std.specs.Char.{len_utf8}
 use Rattle.std.specs.Str.{chars}
 use Rattle.std.proofs.lemmas.Str.{chars-nil}
 use Rattle.std.proofs.lemmas.Bool.{eqb-true}
@@ -11,10 +11,10 @@ use Rattle.interpolator_render.specs.declared.view.Spec.{Spec}
 use Rattle.interpolator_render.specs.Views.{Shown}
 use Rattle.interpolator_syntax.specs.At.{At, outermost}
 use Rattle.interpolator_syntax.specs.Classes.{front_of, after_of, in_class, is_brace}
-use Rattle.interpolator_syntax.specs.Pieces.{PieceKind, Piece, literal, doubled, step, piece_from}
+use Rattle.interpolator_syntax.specs.Pieces.{PieceKind, Piece, piece_from}
 use Rattle.interpolator_syntax.specs.Pieces.{past, pieces}
 use Rattle.interpolator_eval.specs.Meaning.Environments.{Environment}
-use Rattle.interpolator_eval.specs.Meaning.Meanings.{Meaning, text_alone, chain, means}
+use Rattle.interpolator_eval.specs.Meaning.Meanings.{means}
 use Rattle.interpolator.specs.Escaping.{braces_doubled, plain_character, ArePlain, SaysAlone}
 use Rattle.interpolator_syntax.specs.declared.class.Class.TheVariants.{Literal}
 use Rattle.interpolator_syntax.proofs.PieceLemmas.{piece_within, pieces_none, pieces_next}
@@ -41,8 +41,7 @@ pub front_appended :
     (old new run rest text : List ℕ) → new ≡ old ++ run → run ≡ front_of (in_class Literal) text
     → rest ≡ after_of (in_class Literal) text
     → new ++ braces_doubled rest ≡ old ++ braces_doubled text
-front_appended old new run rest text a f b =
-    rw (a, f, b, append_assoc, doubled_front text) refl
+front_appended old new run rest text a f b = grind (arith, append_assoc, doubled_front)
 
 -- and after it a brace, twice
 pub brace_appended :
@@ -51,26 +50,19 @@ pub brace_appended :
     → new ≡ mid ++ (c ∷ c ∷ []) → rest ≡ c ∷ after
     → new ++ braces_doubled after ≡ old ++ braces_doubled text
 brace_appended old mid new run rest after text c a f b n e =
-    let brace : is_brace c ≡ true = front_stops text after c (sym b ∙ e) in
-    rw (n, append_assoc) (rw (e, brace) at (front_appended old mid run rest text a f b))
+    grind (arith, front_stops text after c (sym b ∙ e), append_assoc, front_appended old mid run rest text a f b)
 
 -- nothing was appended yet
 pub nothing_appended : (old text : List ℕ) (bytes : List ℕ) → old ≡ chars bytes → bytes ≡ []
     → old ++ text ≡ text
-nothing_appended old text bytes o b = rw (o, b, chars-nil) refl
+nothing_appended old text bytes o b = grind (arith, chars-nil)
 
 -- and nothing is left
 pub all_appended : (out rest text : List ℕ) → length rest ≡ 0
     → out ++ braces_doubled (chars rest) ≡ text → out ≡ text
-all_appended out [] text n e = sym (append-nil out) ∙ (rw chars-nil at e)
-all_appended out (b ∷ bs) text n e = absurd (omega arith)
+all_appended out rest text n e = grind (arith, common_steps, append-nil, chars-nil)
 
 -- ---- pieces
-
-doubled_step : (p c : ℕ) (cs : List ℕ) → is_brace c ≡ true
-    → piece_from p c (past p c (c ∷ cs))
-    ≡ step p (c ∷ c ∷ []) (doubled c) (past (p + len_utf8 c) c cs)
-doubled_step p c cs h = grind (arith, eqb-true)
 
 abbrev Characters : List Piece → List (Option ℕ)
 Characters xs = map (λ x. plain_character x.kind) xs
@@ -78,36 +70,16 @@ Characters xs = map (λ x. plain_character x.kind) xs
 abbrev IsDoubledPlain : List ℕ → Type 0
 IsDoubledPlain cs = (p : ℕ) → ArePlain (pieces (record { place = p; text = braces_doubled cs })) cs
 
-one_more_plain : (c : ℕ) (cs : List ℕ) → IsDoubledPlain cs → (b : Bool) → is_brace c ≡ b
-    → IsDoubledPlain (c ∷ cs)
-one_more_plain c cs more true h p =
-    let step = doubled_step p c (braces_doubled cs) h in
-    rw (h, pieces_next p c (c ∷ braces_doubled cs), step)
-    (ap (λ xs. Some c ∷ xs) (more (p + len_utf8 c + len_utf8 c)))
-one_more_plain c cs more false h p =
-    let step = literal_step p c (past p c (braces_doubled cs)) h in
-    rw (h, pieces_next p c (braces_doubled cs), step)
-    (ap (λ xs. Some c ∷ xs) (more (p + len_utf8 c)))
-
 -- a text whose braces are doubled has only plain pieces
 doubled_plain : (cs : List ℕ) → IsDoubledPlain cs
 doubled_plain [] p = ap Characters (pieces_none p)
-doubled_plain (c ∷ cs) p = one_more_plain c cs (doubled_plain cs) (is_brace c) refl p
+doubled_plain (c ∷ cs) p = grind (arith, eqb-true, pieces_next, literal_step, doubled_plain cs)
 
 pub escaped_plain : (text cs : List ℕ) → text ≡ braces_doubled cs
     → ArePlain (pieces (outermost text)) cs
 escaped_plain text cs e = rw e (doubled_plain cs 0)
 
 -- ---- meanings
-
-says_next :
-    {m k : Meaning} (p c : ℕ) (text : List ℕ) → m ≡ chain (text_alone ((c, p) ∷ [])) k
-    → SaysAlone text k → SaysAlone (c ∷ text) m
-says_next p c text e h = rw e (record {
-  says = ap (λ cs. c ∷ cs) h.says;
-  no_fault = h.no_fault;
-  no_memory = ap (λ ns. map (λ n. 1 + n) ns) h.no_memory;
-})
 
 module _ {X : Type 0} (shows : X → Trait → Spec → Shown) (e : Environment X) where
   abbrev Says : (p : ℕ) → (cs text : List ℕ) → Type 0
@@ -118,11 +90,7 @@ module _ {X : Type 0} (shows : X → Trait → Spec → Shown) (e : Environment 
       → plain_character k ≡ Some d
       → SaysAlone text (means shows e (piece_from p c (past p c cs)).rest)
       → Says p (c ∷ cs) (d ∷ text)
-  kind_says p c d cs text (literal b) n j r =
-      rw (← some_same j) (says_next p b text (rw n at (means_next {X = X} shows e p c cs)) r)
-  kind_says p c d cs text (doubled b) n j r =
-      rw (← some_same j) (says_next p b text (rw n at (means_next {X = X} shows e p c cs)) r)
-  kind_says p c d cs text k n j r = absurd (cc)
+  kind_says p c d cs text k n j r = grind (arith, some_same, means_next)
 
   plain_says : (most p : ℕ) (cs text : List ℕ) → length cs ≤ most
       → ArePlain (pieces (record { place = p; text = cs })) text → Says p cs text

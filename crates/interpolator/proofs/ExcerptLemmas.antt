@@ -1,146 +1,25 @@
--- The first characters of a text, read one after the other.
+-- What an excerpt of a line shows, and where its marks stand.
 use Rattle.std.proofs.Common.{◌≡◌, ℕ, suc, ◌<◌, ◌≤◌, ◌+◌, ◌-◌, Bool, true, false, List, []}
 use Rattle.std.proofs.Common.{◌∷◌, ◌++◌, length, take, drop, refl, sym, ◌∙◌}
 use Rattle.std.proofs.Common.{ap, arith, append_assoc}
 use Rattle.std.proofs.Common.{length-append, map}
-use Rattle.std.specs.Prelude.{encode_utf8, if◌then◌else◌, ◌==◌}
-use Rattle.std.specs.Char.{len_utf8}
-use Rattle.std.specs.Str.{chars, encode_utf8_all, IsUtf8, IsCharBoundary}
-use Rattle.std.proofs.Math.Seq.{take-append_seam, drop-append_seam, drop-append-add, take-add}
-use Rattle.std.proofs.lemmas.List.{take_all, drop_all, map-append, length-map, take-append-drop}
+use Rattle.std.specs.Prelude.{if◌then◌else◌, ◌==◌}
+use Rattle.std.specs.Str.{encode_utf8_all}
+use Rattle.std.proofs.Math.Seq.{drop-append_seam, drop-append-add, take-add}
+use Rattle.std.proofs.lemmas.List.{take_all, length-map, take-append-drop}
 use Rattle.std.proofs.lemmas.List.{drop-drop, drop-take, length-take, take-take}
 use Rattle.interpolator.specs.Excerpts.{Excerpt, before_mark, before_marks, dots, excerpt_of}
 use Rattle.interpolator.specs.Excerpts.{first_shown, mark, marks_under, most_shown}
 use Rattle.interpolator.specs.Excerpts.{shown_characters, shown_line, side_mark, space, under}
-use Rattle.std.proofs.lemmas.Str.{encodes-append, encodes-chars, chars_from_encodes}
-use Rattle.std.proofs.lemmas.Str.{length-encode, IsUtf8-past_char, IsUtf8-take}
-use Rattle.std.proofs.lemmas.Str.{IsCharBoundary-at_seam}
-use Rattle.interpolator.proofs.PositionLemmas.{read_more, read_all}
+use Rattle.std.proofs.lemmas.Str.{encode_ascii, encodes-append}
 
--- the characters `done` were read, at most `count` of them, as far as the byte `end`; the bytes
--- `rest` are still to come
-pub record Front (text : List ℕ) (count : ℕ) (done rest : List ℕ) (seen end : ℕ) : Type 0 where
-  pub parts : text ≡ encode_utf8_all done ++ rest
-  pub valid : IsUtf8 rest
-  pub counted : seen ≡ length done
-  pub sized : end ≡ length (encode_utf8_all done)
-  pub within : seen ≤ count
-
-pub front_none : (text : List ℕ) (count : ℕ) → IsUtf8 text → Front text count [] text 0 0
-front_none text count u = record {
-  parts = refl;
-  valid = u;
-  counted = refl;
-  sized = refl;
-  within = omega arith;
-}
-
-pub front_more : (text : List ℕ) (count : ℕ) (done rest after : List ℕ) (c seen end size : ℕ)
-    → size ≡ len_utf8 c → seen < count → rest ≡ encode_utf8 c ++ after
-    → Front text count done rest seen end
-    → Front text count (done ++ (c ∷ [])) after (seen + 1) (end + size)
-front_more text count done rest after c seen end size z l e r = record {
-  parts = read_more text done rest after c e r.parts;
-  valid = IsUtf8-past_char rest after c r.valid e;
-  counted = omega (arith, r.counted, length-append done (c ∷ []));
-  sized = let n = ap length (encodes-append done (c ∷ [])) in
-      let m = length-append (encode_utf8_all done) (encode_utf8 c ++ []) in
-      let q = length-append (encode_utf8 c) [] in
-      let k = length-encode c in let t = r.sized in omega arith;
-  within = omega arith;
-}
-
--- the byte that is reached lies in the text
-pub front_fits : (text : List ℕ) (count : ℕ) (done rest after : List ℕ) (c seen end size : ℕ)
-    → size ≡ len_utf8 c → rest ≡ encode_utf8 c ++ after → Front text count done rest seen end
-    → end + size ≤ length text
-front_fits text count done rest after c seen end size z e r =
-    let n = ap length r.parts in let m = length-append (encode_utf8_all done) rest in
-    let k = ap length e in let t = length-append (encode_utf8 c) after in
-    let s = length-encode c in let d = r.sized in omega arith
-
-pub front_boundary : (text : List ℕ) (count : ℕ) (done rest : List ℕ) (seen end : ℕ)
-    → Front text count done rest seen end → IsCharBoundary text end
-front_boundary text count done rest seen end r =
-    rw r.sized (IsCharBoundary-at_seam text (encode_utf8_all done) rest r.parts r.valid)
-
--- the characters of the text are those that were read and those that are still to come
-front_chars : (text : List ℕ) (count : ℕ) (done rest : List ℕ) (seen end : ℕ) → IsUtf8 text
-    → Front text count done rest seen end → chars text ≡ done ++ chars rest
-front_chars text count done rest seen end u r =
-    sym (chars_from_encodes (done ++ chars rest) text u
-    (encodes-append done (chars rest) ∙ ap (λ (x : List ℕ). encode_utf8_all done ++ x)
-    (encodes-chars rest r.valid) ∙ sym r.parts))
-
--- if `count` were read, they are the first `count`
-pub front_taken : (text : List ℕ) (count : ℕ) (done rest : List ℕ) (seen end : ℕ) → IsUtf8 text
-    → count ≤ seen → Front text count done rest seen end → take count (chars text) ≡ done
-front_taken text count done rest seen end u l r =
-    let same : count ≡ length done = omega (arith, r.counted, r.within) in
-    rw (front_chars text count done rest seen end u r, same) (take-append_seam done (chars rest))
-
--- and the others are the rest
-pub front_left : (text : List ℕ) (count : ℕ) (done rest : List ℕ) (seen end : ℕ) → IsUtf8 text
-    → count ≤ seen → Front text count done rest seen end → drop count (chars text) ≡ chars rest
-front_left text count done rest seen end u l r =
-    let same : count ≡ length done = omega (arith, r.counted, r.within) in
-    rw (front_chars text count done rest seen end u r, same) (drop-append_seam done (chars rest))
-
--- the bytes before `end`, and those after it
-pub front_bytes : (text : List ℕ) (count : ℕ) (done rest cut : List ℕ) (seen end : ℕ)
-    → IsUtf8 text → count ≤ seen → cut ≡ take end text → Front text count done rest seen end
-    → cut ≡ encode_utf8_all (take count (chars text))
-front_bytes text count done rest cut seen end u l e r =
-    let here : take end text ≡ encode_utf8_all done =
-    rw (r.sized, r.parts) (take-append_seam (encode_utf8_all done) rest) in
-    e ∙ (here ∙ ap encode_utf8_all (sym (front_taken text count done rest seen end u l r)))
-
-pub back_bytes : (text : List ℕ) (count : ℕ) (done rest cut : List ℕ) (seen end : ℕ)
-    → IsUtf8 text → count ≤ seen → cut ≡ drop end text → Front text count done rest seen end
-    → cut ≡ encode_utf8_all (drop count (chars text))
-back_bytes text count done rest cut seen end u l e r =
-    let here : drop end text ≡ rest =
-    rw (r.sized, r.parts) (drop-append_seam (encode_utf8_all done) rest) in
-    e ∙ (here ∙ (sym (encodes-chars rest r.valid)
-    ∙ ap encode_utf8_all (sym (front_left text count done rest seen end u l r))))
-
--- the characters of these two parts
-pub front_text : (text : List ℕ) (count : ℕ) (done rest cut : List ℕ) (seen end : ℕ)
-    → IsUtf8 text → count ≤ seen → cut ≡ take end text → Front text count done rest seen end
-    → chars cut ≡ take count (chars text)
-front_text text count done rest cut seen end u l e r =
-    let here : take end text ≡ encode_utf8_all done =
-    rw (r.sized, r.parts) (take-append_seam (encode_utf8_all done) rest) in
-    let valid = IsUtf8-take text end u (front_boundary text count done rest seen end r) in
-    ap chars e ∙ (sym (chars_from_encodes done (take end text) valid (sym here))
-    ∙ sym (front_taken text count done rest seen end u l r))
-
-pub back_text : (text : List ℕ) (count : ℕ) (done rest cut : List ℕ) (seen end : ℕ)
-    → IsUtf8 text → count ≤ seen → cut ≡ drop end text → Front text count done rest seen end
-    → chars cut ≡ drop count (chars text)
-back_text text count done rest cut seen end u l e r =
-    let here : drop end text ≡ rest =
-    rw (r.sized, r.parts) (drop-append_seam (encode_utf8_all done) rest) in
-    ap chars (e ∙ here) ∙ sym (front_left text count done rest seen end u l r)
-
--- if the text ended before that, they are all of it
-pub front_all : (text : List ℕ) (count : ℕ) (done rest : List ℕ) (seen end : ℕ) → IsUtf8 text
-    → length rest ≡ 0 → Front text count done rest seen end
-    → (take count (chars text) ≡ chars text) × (drop count (chars text) ≡ [])
-front_all text count done rest seen end u z r =
-    let all : done ≡ chars text = read_all text done rest u z r.parts in
-    let short : length (chars text) ≤ count =
-    omega (arith, r.counted, r.within, ap length all) in
-    (take_all count (chars text) short, drop_all count (chars text) short)
-
--- one more sign
-pub signs_more : (sign : ℕ) (new signs one done : List ℕ) (c s : ℕ) → new ≡ signs ++ one
-    → one ≡ s ∷ [] → s ≡ under sign c → signs ≡ map (under sign) done
-    → new ≡ map (under sign) (done ++ (c ∷ []))
-signs_more sign new signs one done c s e f g h =
-    e ∙ (ap (λ (x : List ℕ). signs ++ x) (f ∙ ap (λ (x : ℕ). x ∷ []) g)
-    ∙ (ap (λ (x : List ℕ). x ++ (under sign c ∷ [])) h
-    ∙ sym (map-append (under sign) done (c ∷ []))))
+-- signs are ASCII, and so their bytes
+pub signs_bytes : (sign : ℕ) (cs : List ℕ) → sign < 128
+    → encode_utf8_all (map (under sign) cs) ≡ map (under sign) cs
+signs_bytes sign [] h = refl
+signs_bytes sign (c ∷ cs) h =
+    let one = encode_ascii (under sign c) (grind arith) in
+    rw (one, signs_bytes sign cs h) refl
 
 -- ---- what an excerpt shows
 
@@ -324,3 +203,21 @@ mark_at line around from to l h =
       ap length front,
       length-take around line,
     )
+
+-- four parts in front of a text, in bytes
+joined_parts : (a b c d xs : List ℕ)
+    → encode_utf8_all a ++ (encode_utf8_all b ++ (encode_utf8_all c ++ (encode_utf8_all d ++ xs)))
+    ≡ encode_utf8_all (a ++ (b ++ (c ++ d))) ++ xs
+joined_parts a b c d xs =
+    rw (encodes-append a (b ++ (c ++ d)), encodes-append b (c ++ d), encodes-append c d)
+    (simp (append_assoc))
+
+-- the line as it is shown has the part that is shown in one
+pub shown_part : (line : List ℕ) (around from to : ℕ) → let e = excerpt_of line around from to in
+    shown_line e ≡ dots e.cut_before ++ (encode_utf8_all
+    (take most_shown (drop (first_shown (length line) around) line)) ++ dots e.cut_after)
+shown_part line around from to =
+    let e = excerpt_of line around from to in
+    ap (λ xs. dots e.cut_before ++ xs)
+    (joined_parts e.before e.marked_before e.marked e.after (dots e.cut_after)
+    ∙ ap (λ part. encode_utf8_all part ++ dots e.cut_after) (part_of_line line around from to))

@@ -34,18 +34,11 @@ module _ {Y : Type 0} where
   agree_more :
       (x : Pair Y) (pairs : List (Pair Y)) (o : Option ℕ) (r : Option (Pair Y)) (b : Bool) → Agree pairs o r
       → Agree (x ∷ pairs) (later_or_first o b) (option_or r (cond b (Some x) None))
-  agree_more x pairs (Some k) (Some p) b h = h
-  agree_more x pairs (Some k) None b h = absurd h
-  agree_more x pairs None (Some p) b h = absurd h
-  agree_more x pairs None None true h = refl
-  agree_more x pairs None None false h = tt
+  agree_more x pairs o r b h = grind arith
 
   agree_found : (pairs : List (Pair Y)) (o : Option ℕ) (r : Option (Pair Y)) → Agree pairs o r
       → option_and_then (At pairs) o ≡ option_map (λ pair. pair.1) r
-  agree_found pairs (Some k) (Some p) h = h
-  agree_found pairs (Some k) None h = absurd h
-  agree_found pairs None (Some p) h = absurd h
-  agree_found pairs None None h = refl
+  agree_found pairs o r h = grind arith
 
   agree : (pairs : List (Pair Y)) (bytes : List ℕ)
       → Agree pairs (last_position (pair_names pairs) bytes)
@@ -63,7 +56,7 @@ module _ {Y : Type 0} where
   -- the last pair of a name is at its last position
   last_at : (pairs : List (Pair Y)) (bytes : List ℕ)
       → option_and_then (At pairs) (last_position (pair_names pairs) bytes) ≡ last_under pairs bytes
-  last_at pairs bytes = agree_found pairs _ _ (agree pairs bytes)
+  last_at pairs bytes = grind (arith, agree pairs bytes)
 
   reached : (pairs : List (Pair Y)) (k : ℕ) → k < length (pair_names pairs) → IsSome (At pairs k)
   reached [] k h = absurd (omega (arith, h))
@@ -73,9 +66,4 @@ module _ {Y : Type 0} where
 -- a row of values with these names is in their order
 pub values_in_order : (values : Values) (names : List (List ℕ)) → names ≡ pair_names (pairs_of values)
     → InOrder names (named_at values) (found_by_values values)
-values_in_order values names is =
-    record {
-      reached = λ k h. reached (pairs_of values) k (rw is at h);
-      same = fun_ext (λ name. sym (ap (λ own. found_by_row own (named_at values) name) is
-          ∙ last_at (pairs_of values) (encode_utf8_all name)));
-    }
+values_in_order values names is = grind (arith, reached, fun_ext, last_at)

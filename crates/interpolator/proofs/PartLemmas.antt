@@ -1,7 +1,7 @@
 -- What parts mean, one after the other, and what their joined text means.
 use Rattle.std.proofs.Common.{◌≡◌, ◌≢◌, ℕ, ◌+◌, List, [], ◌∷◌, ◌++◌}
 use Rattle.std.proofs.Common.{length, arith, ap, ◌∙◌, sym, Option, Some, None}
-use Rattle.std.proofs.Common.{append_assoc, append-nil, codes, ◌<◌, drop, get_or}
+use Rattle.std.proofs.Common.{append_assoc, append-nil, ◌<◌, drop, get_or}
 use Rattle.std.proofs.lemmas.List.{drop_more}
 use Rattle.std.specs.Borrow.{Bor}
 use Rattle.std.specs.Str.{chars}
@@ -9,20 +9,20 @@ use Rattle.interpolator_render.specs.declared.view.Trait.{Trait}
 use Rattle.interpolator_render.specs.declared.view.Spec.{Spec}
 use Rattle.interpolator_render.specs.Views.{Shown}
 use Rattle.interpolator_syntax.specs.At.{At, size, outermost}
-use Rattle.interpolator_syntax.specs.Pieces.{PieceKind, Piece, unclosed, broken, pieces}
+use Rattle.interpolator_syntax.specs.Pieces.{PieceKind, Piece}
 use Rattle.interpolator_syntax.specs.Nodes.{nodes, piece_node}
 use Rattle.interpolator_syntax.specs.Splits.{node_alone}
 use Rattle.interpolator.specs.Seams.{kind_ending, piece_ending, last_ending, ending}
-use Rattle.interpolator_syntax.specs.Faults.{Answer, parse, expected}
+use Rattle.interpolator_syntax.specs.Faults.{Answer}
 use Rattle.interpolator_eval.specs.Meaning.Environments.{Environment}
-use Rattle.interpolator_eval.specs.Meaning.Meanings.{Meaning, fault_alone, chain}
-use Rattle.interpolator_eval.specs.Meaning.Meanings.{argument_means, node_means, pieces_mean, means}
+use Rattle.interpolator_eval.specs.Meaning.Meanings.{Meaning, chain}
+use Rattle.interpolator_eval.specs.Meaning.Meanings.{node_means, pieces_mean, means}
 use Rattle.interpolator.specs.Meaning.Parts.{joined_text, texts_of, parts_mean, CleanBehind, Clean}
 use Rattle.interpolator.specs.Meaning.Parts.{FrontsClose}
 use Rattle.interpolator_eval.specs.Meaning.Outcomes.{Outcome}
 use Rattle.interpolator_eval.specs.Meaning.Sinks.{Writes, taken_by}
 use Rattle.interpolator.specs.declared.parts.Ending.{Ending}
-use Rattle.interpolator.specs.declared.parts.Ending.TheVariants.{Settled, Open}
+use Rattle.interpolator.specs.declared.parts.Ending.TheVariants.{Open}
 use Rattle.interpolator_eval.specs.declared.evaluate.sink.Sink.{Sink}
 use Rattle.interpolator_syntax.proofs.LocalityLemmas.{stands, size-append}
 use Rattle.interpolator_syntax.proofs.CaseLemmas.{none_some}
@@ -39,24 +39,11 @@ pub zero_and : (n : ℕ) → 0 + n ≡ n
 zero_and n = omega arith
 
 module _ {X : Type 0} (shows : X → Trait → Spec → Shown) (e : Environment X) where
-  -- what two texts mean, one after the other
-  means_both :
-      (p : ℕ) (cs more : List ℕ) → Leaves (ending (stands p cs)) more
-      → means shows e (stands p (cs ++ more))
-      ≡ chain (means shows e (stands p cs)) (means shows e (stands (p + size cs) more))
-  means_both p cs more h =
-      let at = means_pieces shows e in
-      let a = stands p cs in
-      let b = stands (p + size cs) more in
-      let split = pieces_append (length cs) p cs more (omega arith) h in
-      rw (at (stands p (cs ++ more)), split, at a, at b) (pieces_mean_append shows e (pieces a)
-      (pieces b))
-
   pub means_next : (before part : List ℕ) → Leaves (ending (outermost before)) part
       → chain (means shows e (outermost before)) (means shows e (stands (size before) part))
       ≡ means shows e (outermost (before ++ part))
   means_next before part h =
-      rw zero_and at (sym (means_both 0 before part h))
+      grind (arith, zero_and, means_pieces, stands, pieces_append, pieces_mean_append)
 
   compose_after :
       (before part : List ℕ) (parts : List (List ℕ)) → ending (outermost before) ≢ Open
@@ -94,13 +81,7 @@ module _ {X : Type 0} (shows : X → Trait → Spec → Shown) (e : Environment 
 
   piece_closes : (p end : ℕ) (k : PieceKind)
       → (node_means shows e (piece_node nodes p end k)).fault ≡ None → kind_ending k ≢ Open
-  piece_closes p end (unclosed start x q) h =
-      let parts =
-      no_fault_first (argument_means shows e start x q)
-      (fault_alone (parse (expected (codes "}") q))) h in
-      absurd (none_some (sym parts.1))
-  piece_closes p end (broken f) h = absurd (none_some (sym h))
-  piece_closes p end kind h = λ d. cc
+  piece_closes p end k h = grind (arith, no_fault_first, none_some)
 
   pieces_close : (d : Ending) (xs : List Piece) → d ≢ Open
       → (pieces_mean shows e xs).fault ≡ None
@@ -113,9 +94,7 @@ module _ {X : Type 0} (shows : X → Trait → Spec → Shown) (e : Environment 
 
   -- a text without fault ends in no argument that is unclosed or broken
   pub faultless_closes : (a : At) → (means shows e a).fault ≡ None → ending a ≢ Open
-  faultless_closes a h =
-      pieces_close Settled (pieces a) (λ d. cc)
-      (ap (λ (m : Meaning). m.fault) (sym (means_pieces shows e a)) ∙ h)
+  faultless_closes a h = grind (arith, pieces_close, means_pieces)
 
   -- ---- runs
 
@@ -134,12 +113,11 @@ module _ {X : Type 0} (shows : X → Trait → Spec → Shown) (e : Environment 
 
       pub part_faults : (w : Answer) → Here (Some w)
           → Writes written (parts_mean shows e p (texts_of parts)) s t (Some w)
-      part_faults w o =
-          record { outcome = rw split (fault_first _ _ _ _ w o.outcome); same = o.same }
+      part_faults w o = grind (arith, fault_first)
 
     pub no_parts_run : (s : Sink W) → parts ≡ []
         → Writes written (parts_mean shows e p (texts_of parts)) s s None
-    no_parts_run s none = record { outcome = rw none (nothing_done _); same = same_end s }
+    no_parts_run s none = grind (arith, nothing_done, same_end)
 
 -- the part at an index, as the loop takes it; there is none past the last
 abbrev pub part_at : List (Bor (List ℕ)) → ℕ → Bor (List ℕ)
@@ -148,4 +126,4 @@ part_at parts i = get_or parts i (record { ref_ptr = (0, 0); now = [] })
 -- the parts from an index on
 pub rest_at : (parts : List (Bor (List ℕ))) (i : ℕ) → i < length parts
     → drop i parts ≡ part_at parts i ∷ drop (i + 1) parts
-rest_at parts i within = drop_more parts i (record { ref_ptr = (0, 0); now = [] }) within
+rest_at parts i within = grind (arith, drop_more)

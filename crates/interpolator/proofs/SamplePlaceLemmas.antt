@@ -10,7 +10,7 @@ use Rattle.interpolator_render.specs.declared.view.Spec.{Spec}
 use Rattle.interpolator_render.specs.declared.view.Trait.{Trait}
 use Rattle.interpolator_render.specs.declared.view.Trait.TheVariants as traits
 use Rattle.interpolator_syntax.specs.At.{outermost}
-use Rattle.interpolator_syntax.specs.Faults.{Fault, Answer, fault, no_memory, fault_place}
+use Rattle.interpolator_syntax.specs.Faults.{Fault, Answer, fault, fault_place}
 use Rattle.interpolator_syntax.specs.Faults.{PlaceWithin, missing_trait_impl, fmt}
 use Rattle.interpolator_syntax.specs.Nodes.{Node, node, Branch, no_branch, branch, Forest, no_nodes}
 use Rattle.interpolator_syntax.specs.Nodes.{nodes_and, as_forest, nodes, Content, text_content, argument_content, fault_content}
@@ -117,14 +117,6 @@ module _ (n : ℕ) where
           within_both (node_faults_in shows s x) (forest_faults_in shows s xs) (node_within x s h.0)
           (forest_within xs s h.1)
 
-  first_within : (fs : List Fault) (r : Option Answer) → AllWithin fs → AnswersFirst fs r
-      → PlaceWithin n r
-  first_within fs None w h = tt
-  first_within [] (Some (fault f)) w h = absurd (cc)
-  first_within (x ∷ fs) (Some (fault f)) w h =
-      let same : x ≡ f = cc in subst (λ g. fault_place g ≤ n) same w.0
-  first_within fs (Some no_memory) w h = tt
-
 -- so each of them
 each_within : (n : ℕ) (fs : List Fault) → AllWithin n fs → All (λ f. fault_place f ≤ n) fs
 each_within n [] h k f l = absurd (omega (arith, l))
@@ -144,7 +136,7 @@ module _ {X : Type 0} (shows : X → Trait → Spec → Shown) (finds : List ℕ
       (places_lie a (length bs) (omega (arith, size-chars bs utf8)))
 
   pub all_lie_over : All (λ f. fault_place f ≤ length bs) Faults
-  all_lie_over = each_within (length bs) Faults all_within
+  all_lie_over = grind (arith, each_within, all_within)
 
   -- and are told so
   pub told_lie_over : (answers : List Answer) → answers ≡ map fault Faults
@@ -157,6 +149,4 @@ module _ {X : Type 0} (shows : X → Trait → Spec → Shown) (finds : List ℕ
 pub first_lies_over : {X : Type 0} (shows : X → Trait → Spec → Shown)
     (finds : List ℕ → Option (Slots X)) (bs : List ℕ) (r : Option Answer) → IsUtf8 bs
     → AnswersFirst (faults_over shows finds (outermost (chars bs))) r → PlaceWithin (length bs) r
-first_lies_over shows finds bs r utf8 told =
-    first_within (length bs) (faults_over shows finds (outermost (chars bs))) r
-    (all_within shows finds bs utf8) told
+first_lies_over shows finds bs r utf8 told = grind (arith, all_within)

@@ -1,8 +1,7 @@
 -- The pieces of a text that another text follows.
-use Rattle.std.proofs.Common.{◌≡◌, ◌≢◌, ℕ, zero, suc, ◌+◌, ◌-◌, ◌≤◌, Bool, true, false, List, []}
-use Rattle.std.proofs.Common.{◌∷◌, ◌++◌, length, take, arith, refl, ap, ◌∙◌, sym, subst, Result, Ok}
-use Rattle.std.proofs.Common.{Err, Option, Some, None, inl, length-append}
-use Rattle.std.specs.Prelude.{not}
+use Rattle.std.proofs.Common.{◌≡◌, ◌≢◌, ℕ, zero, suc, ◌+◌, ◌-◌, ◌≤◌, true, List, []}
+use Rattle.std.proofs.Common.{◌∷◌, ◌++◌, length, take, arith, refl, ap, ◌∙◌, subst, Result, Ok}
+use Rattle.std.proofs.Common.{Err, Option, Some, None, length-append}
 use Rattle.std.specs.Char.{len_utf8}
 use Rattle.std.proofs.lemmas.List.{take-append-le}
 use Rattle.interpolator_syntax.specs.At.{At, size, strip, strip_of}
@@ -12,11 +11,11 @@ use Rattle.interpolator_syntax.specs.Faults.{Fault}
 use Rattle.interpolator_syntax.specs.Pieces.{Piece, Step, closed, step, argument_step}
 use Rattle.interpolator_syntax.specs.Pieces.{argument_or_broken, argument_from, open_step}
 use Rattle.interpolator_syntax.specs.Pieces.{close_step, piece_from, past, pieces}
-use Rattle.interpolator.specs.Seams.{piece_ending, last_ending, ending, begins_close, may_follow}
+use Rattle.interpolator.specs.Seams.{piece_ending, last_ending, ending, may_follow}
 use Rattle.interpolator.specs.declared.parts.Ending.{Ending}
 use Rattle.interpolator.specs.declared.parts.Ending.TheVariants.{Settled, Open}
 use Rattle.interpolator_syntax.proofs.CaseLemmas.{none_some}
-use Rattle.interpolator_syntax.proofs.LocalityLemmas.{stands, with_more, Guarded}
+use Rattle.interpolator_syntax.proofs.LocalityLemmas.{stands, with_more}
 use Rattle.interpolator_syntax.proofs.ReaderLemmas.{argument_takes, argument_same}
 use Rattle.interpolator_syntax.proofs.GrammarPieceLemmas.{step_reaches}
 use Rattle.interpolator_syntax.proofs.PieceLemmas.{piece_within, pieces_none, pieces_next}
@@ -31,21 +30,12 @@ Leaves e more = (e ≢ Open) × (may_follow e more ≡ true)
 strip_more :
     (c p : ℕ) (cs more : List ℕ) (r : At) → strip_of c p cs ≡ Some r
     → strip_of c p (cs ++ more) ≡ Some (with_more r more)
-strip_more c p [] more r e = absurd (none_some e)
-strip_more c p (d ∷ ds) more r e = grind arith
+strip_more c p cs more r e = grind (arith, none_some)
 
 strip_none_more :
     (c p : ℕ) (cs more : List ℕ) → strip_of c p cs ≡ None → cs ≢ []
     → strip_of c p (cs ++ more) ≡ None
-strip_none_more c p [] more e h = absurd (h refl)
-strip_none_more c p (d ∷ ds) more e h = grind arith
-
-not_true : (b : Bool) → not b ≡ true → b ≡ false
-not_true b e = grind arith
-
-no_close : (p : ℕ) (more : List ℕ) → begins_close more ≡ false → strip_of close_brace p more ≡ None
-no_close p [] h = refl
-no_close p (d ∷ ds) h = rw h refl
+strip_none_more c p cs more e h = grind arith
 
 -- ---- arguments
 
@@ -53,8 +43,7 @@ no_close p (d ∷ ds) h = rw h refl
 pub closed_same :
     (a : At) (more : List ℕ) (x : Argument) (q : At) (rest : List ℕ) → argument_at a ≡ Ok (x, q)
     → q.text ≡ close_brace ∷ rest → argument_at (with_more a more) ≡ Ok (x, with_more q more)
-closed_same a more x q rest e closes =
-    argument_same a more x q e (subst Guarded (sym closes) (inl refl))
+closed_same a more x q rest e closes = grind (arith, argument_same)
 
 -- ---- pieces
 
@@ -66,15 +55,12 @@ abbrev step_more : Step → List ℕ → Step
 step_more s more = record { piece = s.piece; rest = with_more s.rest more }
 
 never : {A : Type 0} (more : List ℕ) → Leaves Open more → A
-never more h = absurd (h.0 refl)
+never more h = grind arith
 
 cut_more :
     (cs r more : List ℕ) → length r ≤ length cs
     → take (length (cs ++ more) - length (r ++ more)) (cs ++ more) ≡ take (length cs - length r) cs
-cut_more cs r more h =
-    let n : length (cs ++ more) - length (r ++ more) ≡ length cs - length r =
-    omega (arith, h, length-append cs more, length-append r more) in
-    ap (λ k. take k (cs ++ more)) n ∙ take-append-le (length cs - length r) cs more (omega arith)
+cut_more cs r more h = grind (arith, length-append, take-append-le)
 
 module _ (p : ℕ) (b : At) (more : List ℕ) where
   closed_more :
@@ -110,7 +96,7 @@ module _ (p : ℕ) (b : At) (more : List ℕ) where
   argument_from_more : Goes (argument_from p b) more
       → argument_from p (with_more b more) ≡ step_more (argument_from p b) more
   unfolding argument_from
-  argument_from_more g = argument_more (argument_at b) refl g
+  argument_from_more g = grind (arith, argument_more)
 
 -- after a brace at the end of the text there is no closed argument
 brace_last : (p q : ℕ) (more : List ℕ) → Goes (argument_from p (stands q [])) more → ⊥
@@ -135,12 +121,7 @@ module _ (p : ℕ) (more : List ℕ) where
       → Goes (close_step p (stands q cs) o) more
       → close_step p (stands q (cs ++ more)) (strip_of close_brace q (cs ++ more))
       ≡ step_more (close_step p (stands q cs) o) more
-  close_more q cs (Some r) e g =
-      ap (close_step p (stands q (cs ++ more))) (strip_more close_brace q cs more r e)
-  close_more q [] None e g =
-      ap (close_step p (stands q more)) (no_close q more (not_true (begins_close more) (g refl).1))
-  close_more q (c ∷ cs) None e g =
-      rw (strip_none_more close_brace q (c ∷ cs) more e (λ h. cc)) refl
+  close_more q cs o e g = grind (arith, stands, strip_more, strip_none_more)
 
   piece_more :
       (c q : ℕ) (cs : List ℕ) → Goes (piece_from p c (stands q cs)) more
@@ -155,7 +136,7 @@ module _ (p : ℕ) (more : List ℕ) where
 -- ---- whole texts
 
 settled_leaves : (more : List ℕ) → Leaves Settled more
-settled_leaves more = (λ e. cc, refl)
+settled_leaves more = grind arith
 
 -- what is left of the pieces, if any, ends as all do
 rest_leaves : (e : Ending) (xs : List Piece) (more : List ℕ) → Leaves (last_ending e xs) more
@@ -165,9 +146,7 @@ rest_leaves e (x ∷ xs) more h = h
 
 last_leaves : (e : Ending) (a : At) (more : List ℕ) → Leaves (last_ending e (pieces a)) more
     → a.text ≡ [] → Leaves e more
-last_leaves e a more h none =
-    subst (λ xs. Leaves (last_ending e xs) more) (ap (λ cs. pieces (stands a.place cs)) none
-    ∙ pieces_none a.place) h
+last_leaves e a more h none = grind (arith, pieces_none a.place)
 
 -- the pieces of two texts are those of the first, and then those of the second
 pub pieces_append :
@@ -203,8 +182,4 @@ not_open e (x ∷ xs) h k = k
 pub both_close :
     (p : ℕ) (cs more : List ℕ) → Leaves (ending (stands p cs)) more
     → ending (stands (p + size cs) more) ≢ Open → ending (stands p (cs ++ more)) ≢ Open
-both_close p cs more h k =
-    rw (
-      pieces_append (length cs) p cs more (omega arith) h,
-      last_append Settled (pieces (stands p cs)) (pieces (stands (p + size cs) more)),
-    ) (not_open (ending (stands p cs)) (pieces (stands (p + size cs) more)) h.0 k)
+both_close p cs more h k = grind (arith, pieces_append, last_append, stands, not_open)

@@ -5,6 +5,7 @@ ghost use Rattle.std.specs.Str.{chars};
 ghost use Rattle.interpolator.specs.Excerpts.{excerpt_of, first_shown, dots, under};
 ghost use Rattle.interpolator.specs.Excerpts.{gap, mark, picture, side_mark, space};
 
+use interpolator_render::char_count;
 use std::alloc::{AllocError, Global};
 
 /// The most characters of a line that are shown.
@@ -17,8 +18,6 @@ const SHOWN_BEFORE: usize = 60;
 fn split_after(text: &str, count: usize) -> (&str, &str)
     ensures front { chars result.0.now ≡ take count (chars text.now) }
     ensures rest { chars result.1.now ≡ drop count (chars text.now) }
-    ensures front_bytes { result.0.now ≡ encode_utf8_all (take count (chars text.now)) }
-    ensures rest_bytes { result.1.now ≡ encode_utf8_all (drop count (chars text.now)) }
 {
     let mut seen = 0usize;
     let mut end = 0usize;
@@ -46,11 +45,7 @@ fn signs_under(alloc: Global, text: &str, sign: char) -> Result<String, AllocErr
     requires { sign < 128 }
     ensures { IfOk result (λ signs. string_bytes signs ≡ map (under sign) (chars text.now)) }
 {
-    let mut signs = String::new(alloc);
-    for c in text.chars() {
-        signs.push(sign_under(c, sign))?;
-    }
-    Ok(signs)
+    text.chars().map(|c| sign_under(c, sign)).collect(alloc)
 }
 
 /// A text of `count` copies of a character.
@@ -79,21 +74,13 @@ fn dot_spaces(cut: bool) -> &'static str
     if cut { "  " } else { "" }
 }
 
-/// A line as it is shown, of its parts: what is before the marked characters, the marked ones
-/// before the one around which the line is cut, the marked ones from that on, and what is after.
-fn shown_line(
-    alloc: Global,
-    cut: (bool, bool),
-    before: &str,
-    marked_before: &str,
-    marked: &str,
-    after: &str,
-) -> Result<String, AllocError>
-    ensures { IfOk result (λ shown. string_bytes shown ≡ dots cut.0 ++ (before.now
-        ++ (marked_before.now ++ (marked.now ++ (after.now ++ dots cut.1))))) }
+/// The part of a line that is shown, with dots where the line is cut before it and after it.
+fn shown_line(alloc: Global, cut: (bool, bool), part: &str) -> Result<String, AllocError>
+    ensures { IfOk result (λ shown. string_bytes shown
+        ≡ dots cut.0 ++ (encode_utf8_all (chars part.now) ++ dots cut.1)) }
 {
     let (left, right) = (dots(cut.0), dots(cut.1));
-    let shown = format!(in alloc; "{left}{before}{marked_before}{marked}{after}{right}")?;
+    let shown = format!(in alloc; "{left}{part}{right}")?;
     Ok(shown)
 }
 
@@ -130,13 +117,6 @@ fn first_shown(count: usize, around: usize) -> usize
     }
 }
 
-/// How many characters a text has.
-pub(crate) fn count_of(text: &str) -> usize
-    ensures { result ≡ length (chars text.now) }
-{
-    text.chars().count()
-}
-
 /// Spaces as wide as a number.
 pub(crate) fn gap(alloc: Global, number: usize) -> Result<String, AllocError>
     ensures { IfOk result (λ spaces. string_bytes spaces ≡ gap number) }
@@ -158,16 +138,16 @@ pub(crate) fn draw(
     ensures { IfOk result (λ drawn. string_bytes drawn
         ≡ picture number (excerpt_of (chars line.now) around marked.0 marked.1)) }
 {
-    let count = count_of(line);
+    let count = char_count(line);
     let left = first_shown(count, around);
     let (_, rest) = split_after(line, left);
-    let (shown, _) = split_after(rest, MOST_SHOWN);
-    let (front, back) = split_after(shown, around.saturating_sub(left));
+    let (part, _) = split_after(rest, MOST_SHOWN);
+    let (front, back) = split_after(part, around.saturating_sub(left));
     let from = marked.0.saturating_sub(left);
     let (before, marked_before) = split_after(front, from);
-    let (marked, after) = split_after(back, marked.1.saturating_sub(around));
+    let (marked, _) = split_after(back, marked.1.saturating_sub(around));
     let cut = (0 < left, MOST_SHOWN < count.saturating_sub(left));
-    let shown = shown_line(alloc, cut, before, marked_before, marked, after)?;
+    let shown = shown_line(alloc, cut, part)?;
     let marks = marks_under(alloc, cut.0, before, marked_before, marked)?;
     let gap = gap(alloc, number)?;
     let drawn = format!(in alloc; "{gap} |\n{number} | {shown}\n{gap} | {marks}")?;

@@ -6,10 +6,11 @@ ghost use Rattle.interpolator.specs.Explained.{line_of, marked_bytes, names_afte
 ghost use Rattle.interpolator.specs.Explained.{note_of, told_at, told_in};
 ghost use Rattle.interpolator_syntax.specs.Faults.{answer_of, no_memory};
 
-use crate::excerpt::{count_of, draw, gap};
+use crate::excerpt::{draw, gap};
 use crate::naming::told_names;
 use crate::position::Position;
 use crate::template::Template;
+use interpolator_render::char_count;
 use interpolator_syntax::Error;
 use std::alloc::{AllocError, Global};
 
@@ -107,7 +108,12 @@ pub fn explain_in(alloc: Global, source: &Source<'_>, error: &Error) -> Result<S
             let at = source.start.saturating_add(place);
             let note = note(alloc, source.start, place)?;
             let what = format!(in alloc; "{what}{note}")?;
-            let told = told_at(alloc, source, at, marked, what.as_str())?;
+            let report = Report {
+                at,
+                marked,
+                what: what.as_str(),
+            };
+            let told = told_at(alloc, source, &report)?;
             Ok(told)
         }
     }
@@ -210,14 +216,7 @@ fn line_of(text: &str, number: usize) -> &str
     requires { 0 < number }
     ensures { result.now ≡ line_of text.now number }
 {
-    let mut count = 1usize;
-    for line in text.lines() {
-        if count >= number {
-            return line;
-        }
-        count += 1;
-    }
-    ""
+    text.lines().nth(number - 1).unwrap_or("")
 }
 
 /// How many characters of the line of this number, which has `count` of them, are before a byte of
@@ -244,26 +243,28 @@ fn head(alloc: Global, name: &str, position: Position, what: &str) -> Result<Str
     Ok(head)
 }
 
-/// What is reported at a byte of the text, with the line that has it. If the byte is the newline
-/// after a carriage return, a space stands for that, so that the mark is in the column reported.
-fn told_at(
-    alloc: Global,
-    source: &Source<'_>,
+/// What is reported of a text: at which byte of it, with which bytes of the format marked, and what.
+#[derive(Clone, Copy)]
+struct Report<'a> {
     at: usize,
     marked: (usize, usize),
-    what: &str,
-) -> Result<String, AllocError>
-    ensures { IfOk result (λ told.
-        string_bytes told ≡ told_at source.now at marked what.now) }
+    what: &'a str,
+}
+
+/// What is reported at a byte of the text, with the line that has it. If the byte is the newline
+/// after a carriage return, a space stands for that, so that the mark is in the column reported.
+fn told_at(alloc: Global, source: &Source<'_>, report: &Report<'_>) -> Result<String, AllocError>
+    ensures { IfOk result (λ told. string_bytes told
+        ≡ told_at source.now report.now.at report.now.marked report.now.what.now) }
 {
-    let position = Position::of(source.text, at);
+    let position = Position::of(source.text, report.at);
     let line = line_of(source.text, position.line);
-    if count_of(line) < position.column - 1 {
+    if char_count(line) < position.column - 1 {
         let line = format!(in alloc; "{line} ")?;
-        let told = told_in(alloc, source, line.as_str(), at, marked, what)?;
+        let told = told_in(alloc, source, line.as_str(), report)?;
         return Ok(told);
     }
-    let told = told_in(alloc, source, line, at, marked, what)?;
+    let told = told_in(alloc, source, line, report)?;
     Ok(told)
 }
 
@@ -272,18 +273,16 @@ fn told_in(
     alloc: Global,
     source: &Source<'_>,
     line: &str,
-    at: usize,
-    marked: (usize, usize),
-    what: &str,
+    report: &Report<'_>,
 ) -> Result<String, AllocError>
-    ensures { IfOk result (λ told.
-        string_bytes told ≡ told_in source.now line.now at marked what.now) }
+    ensures { IfOk result (λ told. string_bytes told
+        ≡ told_in source.now line.now report.now.at report.now.marked report.now.what.now) }
 {
-    let position = Position::of(source.text, at);
-    let count = count_of(line);
+    let position = Position::of(source.text, report.at);
+    let count = char_count(line);
     let (from, to) = (
-        source.start.saturating_add(marked.0),
-        source.start.saturating_add(marked.1),
+        source.start.saturating_add(report.marked.0),
+        source.start.saturating_add(report.marked.1),
     );
     let from = before_in_line(source.text, position.line, count, from);
     let to = before_in_line(source.text, position.line, count, to);
@@ -292,7 +291,7 @@ fn told_in(
         line: number,
         column: position.column,
     };
-    let head = head(alloc, source.name, shown, what)?;
+    let head = head(alloc, source.name, shown, report.what)?;
     let picture = draw(alloc, number, line, position.column - 1, (from, to))?;
     let told = format!(in alloc; "{head}\n{picture}")?;
     Ok(told)

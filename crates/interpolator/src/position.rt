@@ -62,6 +62,7 @@ fn text_before(text: &str, place: usize) -> &str
 }
 
 /// One more than the number of line ends in a text.
+#[tactic(auto, using(std::proofs::lemmas::Str::chars_from_encodes))]
 fn line_at_end(text: &str) -> usize
     ensures { result ≡ lines_ended (chars text.now) + 1 }
 {

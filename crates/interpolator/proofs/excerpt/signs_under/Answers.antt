@@ -1,18 +1,13 @@
-use Rattle.std.proofs.Common.{ap, ◌∙◌, map}
+use Rattle.std.proofs.Common.{rules, tests}
+use Rattle.std.specs.Str.{chars}
+use Rattle.std.proofs.lemmas.Iterator.{YieldsList-from_chars, YieldsList-from_map, text_from_collect}
 use Rattle.interpolator.specs.Excerpts.{under}
-use Rattle.interpolator.proofs.ExcerptLemmas.{signs_more}
-use Rattle.interpolator.proofs.PositionLemmas.{read_more, read_all}
+use Rattle.interpolator.proofs.ExcerptLemmas.{signs_bytes}
 use Rattle.interpolator.proofs.excerpt.signs_under.Goals as goal
 
-pub loop-c-preserved : goal.loop-c-preserved
-loop-c-preserved c = record {
-  parts = read_more _ _ _ _ _ c.in-Some.ensures.steps.0 c.loop-c.invariant.parts;
-  signs = let p = c.in_ok-push.ensures in
-      signs_more _ _ _ _ _ _ _ p.bytes (p.ascii c.sign_under.ensures.ascii)
-      c.sign_under.ensures.sign c.loop-c.invariant.signs;
-}
-
 pub returns : goal.returns
-returns c = c.loop-c.invariant.signs
-    ∙ ap (map (under c.args.sign)) (read_all _ c.loop-c.yielded _ c.utf8.text
-    c.in-None.ensures.steps.0.0 c.loop-c.invariant.parts)
+returns c =
+    let all = text_from_collect c.collect.result c.collect.ensures.ran
+    (YieldsList-from_map _ (under c.args.sign) (YieldsList-from_chars c.args.text.now c.utf8.text cc)
+    c.map.ensures.closure (λ x r q k. search (rules, tests))) in
+    rw (← signs_bytes c.args.sign (chars c.args.text.now) c.requires) all

@@ -43,18 +43,6 @@ returns-clause-first g c =
 
 pub returns-clause-place : goal.returns-clause-place
 returns-clause-place g c =
-    let utf8 = subst IsUtf8 c.self.view_is (IsUtf8-string_bytes c.self.inside.text) in
-    let all = ap (λ bs. nodes_of bs c.deref.result.now) c.as_str.ensures.value
-    ∙ ap (nodes_of (string_bytes c.self.inside.text)) c.deref.ensures.value ∙ c.self.invariant
-    ∙ ap (λ bs. nodes (outermost (chars bs))) c.self.view_is in
-    let first = answers_first
-    (faults_over g.C.Object.Value.shows (g.C.Context.finds c.args.sample.now)
-    (outermost (chars c.args.self.now)))
-    c.first-collector.result c.collect_pieces.new.collector (result_answer c.collect_pieces.result)
-    c.first-collector.ensures
-    (walk_tells _ _ c.args.self.now utf8 all g.C.Object.Value.shows
-    (g.C.Context.finds c.args.sample.now) (sample_of g.C.Context.finds c.outermost-environment.result)
-    c.first-collector.result c.collect_pieces.new.collector (result_answer c.collect_pieces.result)
-    c.outermost-environment.ensures.sample c.collect_pieces.ensures.collects) in
     first_lies_over g.C.Object.Value.shows (g.C.Context.finds c.args.sample.now) c.args.self.now
-    (result_answer c.collect_pieces.result) utf8 first
+    (result_answer c.collect_pieces.result)
+    (subst IsUtf8 c.self.view_is (IsUtf8-string_bytes c.self.inside.text)) (returns-clause-first g c)

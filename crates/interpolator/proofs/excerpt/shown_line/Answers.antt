@@ -1,0 +1,6 @@
+use Rattle.std.proofs.Common.{rules}
+use Rattle.std.proofs.lemmas.Str.{encodes-chars}
+use Rattle.interpolator.proofs.excerpt.shown_line.Goals as goal
+
+pub returns : goal.returns
+returns c = rw (encodes-chars c.args.part.now c.utf8.part) (search rules)
