@@ -9,7 +9,6 @@ use Rattle.std.specs.List.{find}
 use Rattle.std.specs.Option.{option_map, option_or}
 use Rattle.std.specs.Str.{bytes_eq}
 use Rattle.catalogue.specs.Keys.{Remembers, number_of}
-use Rattle.catalogue.proofs.FirstLemmas.{map_or, or_none}
 
 -- false is not true
 no_bool : false ≡ true → ⊥
@@ -33,6 +32,15 @@ same_way xs ys true false p q = absurd (no_bool (sym q
     ∙ (bytes_eq-Decides ys xs).1 (sym ((bytes_eq-Decides xs ys).0 p))))
 same_way xs ys false true p q = absurd (no_bool (sym p
     ∙ (bytes_eq-Decides xs ys).1 (sym ((bytes_eq-Decides ys xs).0 q))))
+
+or_none : {A : Type 0} (o : Option A) → option_or o None ≡ o
+or_none None = refl
+or_none (Some x) = refl
+
+map_or : {A B : Type 0} (g : A → B) (before one : Option A)
+    → option_map g (option_or before one) ≡ option_or (option_map g before) (option_map g one)
+map_or g None one = refl
+map_or g (Some x) one = refl
 
 -- the number of one key
 one_number : (number : ℕ) (b : Bool) (x : ℕ × List ℕ) → x.0 ≡ number

@@ -1,18 +1,17 @@
 -- The faults that a format has by itself are among those that it has with a sample.
 use Rattle.std.proofs.Common.{◌≡◌, ◌∙◌, refl, ap, ℕ, suc, Bool, true, false, List, []}
-use Rattle.std.proofs.Common.{◌∷◌, ◌++◌, Option, None, Some, arith}
+use Rattle.std.proofs.Common.{◌∷◌, ◌++◌, Option, None, Some, arith, cond, map}
 use Rattle.std.proofs.lemmas.List.Elements.{filter-append}
 use Rattle.std.specs.List.{filter, list_any}
 use Rattle.std.specs.Prelude.{Contains}
-use Rattle.std.specs.Str.{chars}
-use Rattle.interpolator.specs.At.{outermost}
-use Rattle.interpolator.specs.Faults.{Fault, fmt, missing_trait_impl, missing_value}
+use Rattle.interpolator.specs.At.{At}
+use Rattle.interpolator.specs.Faults.{Fault, fault, fmt, missing_trait_impl, missing_value}
 use Rattle.interpolator.specs.Faults.{parse, unsupported_option}
 use Rattle.interpolator.specs.Slots.{Slots}
 use Rattle.interpolator.specs.Template.NodeChecks.{IsOfText, branch_faults, end_fault, fault_list}
 use Rattle.interpolator.specs.Template.NodeChecks.{forest_faults, node_faults, own_fault}
 use Rattle.interpolator.specs.Template.NodeChecks.{text_faults}
-use Rattle.interpolator.specs.Template.NodeSamples.{asked_faults, target_faults, fault_if}
+use Rattle.interpolator.specs.Template.NodeSamples.{asked_faults, faults_over, target_faults, fault_if}
 use Rattle.interpolator.specs.Template.NodeSamples.{forest_faults_in, found_faults, item_faults_in}
 use Rattle.interpolator.specs.Template.NodeSamples.{join_faults_in, may_be_items, node_faults_in}
 use Rattle.interpolator.specs.Template.NodeSamples.{plain_faults, value_faults}
@@ -28,7 +27,7 @@ use Rattle.interpolator_syntax.specs.Nodes.{as_forest, branch, fault_content, no
 use Rattle.interpolator_syntax.specs.Nodes.{node, nodes, nodes_and, target_list, target_value}
 use Rattle.interpolator_syntax.specs.Nodes.{text_content}
 use Rattle.interpolator_syntax.specs.SpecTexts.{plain_spec}
-use Rattle.catalogue.specs.Examples.{is_own}
+use Rattle.catalogue.specs.Examples.{is_own, is_own_reply}
 
 abbrev own : List Fault → List Fault
 own fs = filter is_own fs
@@ -137,16 +136,23 @@ all_own [] h = refl
 all_own (f ∷ fs) h = rw (of_text_own f (h f (0, omega arith, refl))) (ap (λ gs. f ∷ gs)
     (all_own fs (λ g has. h g (suc has.0, omega (arith, has.1), has.2))))
 
--- each fault that a format has by itself is one of its text
-abbrev pub AreOfText : List ℕ → Type 0
-AreOfText format =
-    (f : Fault) → Contains (text_faults (outermost (chars format))) f → IsOfText f
+-- what is kept of things is what is kept of those that they are made of
+keep_mapped : {A B : Type 0} (f : A → B) (b : Bool) (x : A) (ys : List B) (zs : List A)
+    → ys ≡ map f zs → cond b (f x ∷ ys) ys ≡ map f (cond b (x ∷ zs) zs)
+keep_mapped f true x ys zs h = ap (λ l. f x ∷ l) h
+keep_mapped f false x ys zs h = h
+
+pub filter_mapped : {A B : Type 0} (p : B → Bool) (f : A → B) (xs : List A)
+    → filter p (map f xs) ≡ map f (filter (λ x. p (f x)) xs)
+filter_mapped p f [] = refl
+filter_mapped p f (x ∷ xs) = keep_mapped f (p (f x)) x _ _ (filter_mapped p f xs)
 
 -- those that a format has by itself, of all that it has with a sample
 pub own_faults : {X : Type 0} (shows : X → Trait → Spec → Shown)
-    (finds : List ℕ → Option (Slots X)) (format : List ℕ) → AreOfText format
-    → own (forest_faults_in shows (sample finds) (as_forest (nodes (outermost (chars format)))))
-    ≡ text_faults (outermost (chars format))
-own_faults shows finds format of_text =
-    own_of_forest shows (sample finds) (as_forest (nodes (outermost (chars format))))
-    ∙ all_own (text_faults (outermost (chars format))) of_text
+    (finds : List ℕ → Option (Slots X)) (a : At)
+    → ((f : Fault) → Contains (text_faults a) f → IsOfText f)
+    → filter is_own_reply (map fault (faults_over shows finds a)) ≡ map fault (text_faults a)
+own_faults shows finds a of_text =
+    filter_mapped is_own_reply fault (faults_over shows finds a)
+    ∙ ap (map fault) (own_of_forest shows (sample finds) (as_forest (nodes a))
+    ∙ all_own (text_faults a) of_text)

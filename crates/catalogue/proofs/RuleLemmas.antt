@@ -4,21 +4,15 @@ use Rattle.std.proofs.Common.{List, [], ◌∷◌, ◌++◌, map, nat_lt, Option
 use Rattle.std.proofs.Common.{length, not, ◌==◌}
 use Rattle.std.proofs.lemmas.Bool.{and_parts, lt-ltb}
 use Rattle.std.proofs.lemmas.Bool.Decides.{nat_tests}
-use Rattle.std.proofs.lemmas.List.{map-append}
 use Rattle.std.proofs.lemmas.Str.Parse.{numerals_by_value, tells_all_ascii_digits}
 use Rattle.std.proofs.lemmas.Str.Parse.{without_leading_plus_none}
-use Rattle.std.specs.Borrow.{Bor}
 use Rattle.std.specs.Char.{is_ascii_digit}
 use Rattle.std.specs.List.{list_all}
-use Rattle.std.specs.Option.{option_or}
 use Rattle.std.specs.Result.{OkIff, result_ok}
 use Rattle.std.specs.Str.{all_ascii_digits}
 use Rattle.std.specs.Str.Parse.{IsNumeral, ParsesUnsigned, digits_value}
 use Rattle.std.specs.Str.Parse.{without_leading_plus}
-use Rattle.catalogue.specs.Declarations.{after_part}
-use Rattle.catalogue.specs.Rules.{broken_from, broken_part, is_numeral, number_in}
-use Rattle.catalogue.proofs.FirstLemmas.{or_assoc, or_none}
-use Rattle.catalogue.proofs.PartLemmas.{after_all}
+use Rattle.catalogue.specs.Rules.{is_numeral, number_in}
 
 -- each byte is a digit
 all_digits : (text : List ℕ) → list_all is_ascii_digit text ≡ all_ascii_digits text
@@ -57,26 +51,3 @@ number_parsed text r is parsed =
     rw is (by_bits text _ r refl (some, all)
     (subst (λ t. OkIff r (IsNumeral 10 t × (digits_value 10 t < 2 ^ 64)) (digits_value 10 t))
     (no_sign text both.1) parsed))
-
--- the first that is broken among one more
-broken_more : (end place : ℕ) (parts : List (List ℕ)) (part : List ℕ)
-    → broken_from end place (parts ++ (part ∷ [])) ≡ option_or (broken_from end place parts)
-    (broken_part end (after_all place parts) part)
-broken_more end place [] part = or_none (broken_part end place part)
-broken_more end place (x ∷ parts) part =
-    ap (λ (o : Option ℕ). option_or (broken_part end place x) o)
-    (broken_more end (after_part place x) parts part)
-    ∙ or_assoc (broken_part end place x) _ _
-
-pub broken_again : (end place at : ℕ) (seen : List (Bor (List ℕ))) (part : Bor (List ℕ))
-    (before : Option ℕ) → at ≡ after_all place (map (λ x. x.now) seen)
-    → before ≡ broken_from end place (map (λ x. x.now) seen)
-    → option_or before (broken_part end at part.now)
-    ≡ broken_from end place (map (λ x. x.now) (seen ++ (part ∷ [])))
-broken_again end place at seen part before here so_far =
-    rw (
-      map-append (λ (x : Bor (List ℕ)). x.now) seen (part ∷ []),
-      broken_more end place (map (λ x. x.now) seen) part.now,
-      here,
-      so_far,
-    ) refl

@@ -11,7 +11,7 @@ use Rattle.catalogue.specs.Words.{IsGood, ShowsAs, Spells, items_of}
 use Rattle.catalogue.specs.declared.declarations.Kind.TheVariants as kinds
 use Rattle.catalogue.specs.declared.declarations.Kind.{Kind}
 use Rattle.catalogue.specs.declared.entries.Object.{Object}
-use Rattle.catalogue.proofs.PickLemmas.{split_at}
+use Rattle.catalogue.proofs.ZipLemmas.{split_at}
 
 -- any text but the empty one is split
 pub some_items : (text : List ℕ) → length text ≢ 0 → slice_split is_comma text ≡ items_of text

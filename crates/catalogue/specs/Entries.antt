@@ -1,6 +1,9 @@
 -- Values under names, and as pairs of a context.
-use Rattle.std.specs.Prelude.{◌≡◌, ℕ, List, map}
+use Rattle.std.specs.Prelude.{ℕ, List, Option, map, reverse}
 use Rattle.std.specs.Borrow.{Bor}
+use Rattle.std.specs.List.{find}
+use Rattle.std.specs.Option.{option_map}
+use Rattle.std.specs.Str.{bytes_eq, encode_utf8_all}
 use Rattle.interpolator.specs.Slots.{Slots, empty_slots, slots_of, with_debug_display, with_float}
 use Rattle.interpolator.specs.Slots.{with_integer, with_iter}
 use Rattle.interpolator.specs.declared.Formattable.{Formattable}
@@ -10,9 +13,14 @@ use Rattle.catalogue.specs.declared.declarations.Kind.TheVariants as kinds
 use Rattle.catalogue.specs.declared.entries.Entry.{Entry}
 use Rattle.catalogue.specs.declared.entries.Object.{Object}
 
--- the pairs of a context
-abbrev pub Pair : Type 0
-Pair = Bor (List ℕ) × Formattable View
+-- a name, and the slots of the value under it
+abbrev pub Held : Type 0
+Held = List ℕ × Slots View
+
+-- what a list of characters finds: the slots under the last such name
+abbrev pub found_by : List Held → List ℕ → Option (Slots View)
+found_by held name =
+    option_map (λ one. one.1) (find (λ one. bytes_eq (encode_utf8_all name) one.0) (reverse held))
 
 -- items of a list, each with its slots of debug and display filled
 abbrev pub item_slots : List View → List (Slots View)
@@ -26,27 +34,18 @@ slots_by kinds.Number value items = with_integer empty_slots value
 slots_by kinds.Decimal value items = with_float empty_slots value
 slots_by kinds.List value items = with_iter empty_slots items
 
--- the slots that an object fills
-abbrev pub object_slots : Object → Slots View
-object_slots object = slots_by object.kind object.value (item_slots object.items.items)
+-- what an object holds under its name
+abbrev pub held_by : Object → Held
+held_by object =
+    (object.name.now, slots_by object.kind object.value (item_slots object.items.items))
 
--- those of an entry
+-- the slots of an entry, and what it holds under its name
 abbrev pub entry_slots : Entry → Slots View
 entry_slots entry = slots_by entry.kind entry.value.now (map slots_of entry.items.items)
 
--- an entry lends an object
-pub record Lends (object : Object) (entry : Entry) : Type 0 where
-  pub same_name : entry.name ≡ object.name
-  pub same_kind : entry.kind ≡ object.kind
-  pub same_value : entry.value.now ≡ object.value
-  pub filled : map slots_of entry.items.items ≡ item_slots object.items.items
+abbrev pub held_by_entry : Entry → Held
+held_by_entry entry = (entry.name.now, entry_slots entry)
 
--- a pair of a context has the slots of an entry under its name
-pub record Enters (entry : Entry) (pair : Pair) : Type 0 where
-  pub same_name : pair.0 ≡ entry.name
-  pub same_slots : slots_of pair.1 ≡ entry_slots entry
-
--- a pair of a context has the slots of an object under its name
-pub record Holds (object : Object) (pair : Pair) : Type 0 where
-  pub name : pair.0 ≡ object.name
-  pub slots : slots_of pair.1 ≡ object_slots object
+-- what a pair of a context does
+abbrev pub held_by_pair : Bor (List ℕ) × Formattable View → Held
+held_by_pair pair = (pair.0.now, slots_of pair.1)

@@ -1,6 +1,6 @@
 -- The form of a message, which the rule of a file chooses by numbers. Texts are bytes.
 use Rattle.std.specs.Prelude.{ℕ, ℤ, pos, List, [], ◌∷◌, ◌++◌, codes}
-use Rattle.std.specs.Prelude.{if◌then◌else◌, Option, None, Some}
+use Rattle.std.specs.Prelude.{if◌then◌else◌, Option, None, Some, string_bytes}
 use Rattle.std.specs.Option.{option_map, option_or}
 use Rattle.std.specs.Ordering.{int_eq}
 use Rattle.std.specs.Str.{trim}
@@ -10,6 +10,7 @@ use Rattle.catalogue.specs.Picks.{last_named}
 use Rattle.catalogue.specs.Rules.{Tested, parts_of, rule_in, test_in}
 use Rattle.catalogue.specs.declared.entries.Object.{Object}
 use Rattle.catalogue.specs.declared.forms.Choice.{Choice}
+use Rattle.catalogue.specs.declared.forms.Sought.{Sought}
 
 -- the first of what some things give
 abbrev pub first_given : {A B : Type 0} → (A → Option B) → List A → Option B
@@ -22,6 +23,10 @@ Chosen = List ℕ × Option (List ℕ)
 
 abbrev pub as_choice : Choice → Chosen
 as_choice choice = (choice.form.now, option_map (λ name. name.now) choice.lacks)
+
+-- the key that is looked up, and the name of a number that is missing
+abbrev pub as_sought : Sought → List ℕ × Option (List ℕ)
+as_sought sought = (string_bytes sought.key, option_map (λ name. name.now) sought.lacks)
 
 -- the whole number that a view has
 abbrev pub number_of : View → Option ℤ

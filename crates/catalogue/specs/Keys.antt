@@ -8,6 +8,7 @@ use Rattle.std.specs.List.{find}
 use Rattle.std.specs.Option.{option_map}
 use Rattle.std.specs.Str.{bytes_eq}
 use Rattle.catalogue.specs.Declarations.{begin_of}
+use Rattle.catalogue.specs.Files.{Line}
 use Rattle.catalogue.specs.Reports.{told_at}
 
 -- the key of a line with its number, if it has one, as a list
@@ -36,13 +37,13 @@ what_is_again number key =
     codes "line " ++ (decimal number ++ (codes " has the key `" ++ (key ++ codes "` too")))
 
 -- what is reported of a key by the line before that has it
-abbrev pub told_again : List ℕ → ℕ → (line head key : List ℕ) → Option ℕ → List ℕ
-told_again file number line head key None = []
-told_again file number line head key (Some before) =
-    told_at file number line (begin_of 0 head) (what_is_again before key)
+abbrev pub told_again : Line → (head key : List ℕ) → Option ℕ → List ℕ
+told_again line head key None = []
+told_again line head key (Some before) =
+    told_at line (begin_of 0 head) (what_is_again before key)
 
 -- what is reported of the key in the head of a line, by those of the lines before
-abbrev pub told_of_key : List ℕ → ℕ → (line head key : List ℕ) → List (ℕ × List ℕ) → List ℕ
-told_of_key file number line head key keys =
-    if length key == 0 then told_at file number line (begin_of 0 head) (codes "no key")
-    else told_again file number line head key (number_of keys key)
+abbrev pub told_of_key : Line → (head key : List ℕ) → List (ℕ × List ℕ) → List ℕ
+told_of_key line head key keys =
+    if length key == 0 then told_at line (begin_of 0 head) (codes "no key")
+    else told_again line head key (number_of keys key)

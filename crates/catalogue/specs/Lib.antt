@@ -1,5 +1,10 @@
 -- What a file of messages says.
 pub mod Messages
+pub mod Told
+pub mod Sound
+pub mod Sought
+pub mod Lines
+pub mod Files
 pub mod Declarations
 pub mod Examples
 pub mod Entries

@@ -1,10 +1,11 @@
 -- The values that a format gets: for each name that its line declares, that of the last word.
-use Rattle.std.specs.Prelude.{◌≡◌, ℕ, List, ◌∷◌, ◌++◌, codes, Option, Some, reverse}
+use Rattle.std.specs.Prelude.{◌≡◌, ℕ, List, ◌∷◌, ◌++◌, codes, Option, Some, map, reverse}
 use Rattle.std.specs.Fmt.{decimal}
 use Rattle.std.specs.List.{All, AllZip, find}
 use Rattle.std.specs.Str.{bytes_eq}
 use Rattle.catalogue.specs.Declarations.{Declared, nothing, these, broken, as_declaration}
-use Rattle.catalogue.specs.Entries.{Lends}
+use Rattle.catalogue.specs.Entries.{held_by, held_by_entry}
+use Rattle.catalogue.specs.Files.{Line}
 use Rattle.catalogue.specs.declared.declarations.Kind.{Kind}
 use Rattle.catalogue.specs.declared.declarations.Kind.TheVariants as kinds
 use Rattle.catalogue.specs.declared.entries.Entry.{Entry}
@@ -48,23 +49,23 @@ IsLacking nothing objects lacking = ⊥
 IsLacking (these declared) objects lacking = IsFirstLacking objects declared lacking
 IsLacking (broken place) objects lacking = ⊥
 
--- entries lend what is picked
-pub record LendsPicked (declared : Declared) (objects : List Object) (entries : List Entry)
+-- entries hold what is picked
+pub record HoldPicked (declared : Declared) (objects : List Object) (entries : List Entry)
     : Type 0 where
   pub picked : List Object
   pub are : ArePicked declared objects picked
-  pub lends : AllZip Lends picked entries
+  pub held : map held_by_entry entries ≡ map held_by picked
 
--- an entry lends what is picked for a declaration
-pub record LendsPick (objects : List Object) (declared : List ℕ × Kind) (entry : Entry)
+-- an entry holds what is picked for a declaration
+pub record HoldsPick (objects : List Object) (declared : List ℕ × Kind) (entry : Entry)
     : Type 0 where
   pub object : Object
   pub is : IsPicked objects declared object
-  pub lends : Lends object entry
+  pub held : held_by_entry entry ≡ held_by object
 
 -- entries of what is picked, or the first declaration that lacks it
 abbrev pub IsPickedOrLacks : Declared → List Object → Picked → Type 0
-IsPickedOrLacks declared objects (Values entries) = LendsPicked declared objects entries.items
+IsPickedOrLacks declared objects (Values entries) = HoldPicked declared objects entries.items
 IsPickedOrLacks declared objects (Lacks lacking) =
     IsLacking declared objects (as_declaration lacking)
 
@@ -77,7 +78,7 @@ shape_of kinds.List = codes "[]=ITEM,ITEM"
 
 -- what is reported of a line's message that lacks a value: the file, the line's number, the key,
 -- and which word is missing
-abbrev pub told_of_lacking : List ℕ → ℕ → List ℕ → List ℕ × Kind → List ℕ
-told_of_lacking file number key lacking =
-    file ++ (codes ":" ++ (decimal number ++ (codes ": `" ++ (key ++ (codes "` wants `"
+abbrev pub told_of_lacking : Line → List ℕ → List ℕ × Kind → List ℕ
+told_of_lacking line key lacking =
+    line.file ++ (codes ":" ++ (decimal line.number ++ (codes ": `" ++ (key ++ (codes "` wants `"
     ++ (lacking.0 ++ (shape_of lacking.1 ++ codes "`\n")))))))

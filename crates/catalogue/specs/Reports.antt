@@ -7,6 +7,7 @@ use Rattle.interpolator.specs.Faults.{fault, fmt}
 use Rattle.interpolator.specs.Explained.{explanation_of}
 use Rattle.interpolator.specs.Positions.{column_at}
 use Rattle.interpolator.specs.declared.Source.{Source}
+use Rattle.catalogue.specs.Files.{Line}
 
 -- the end of a line
 abbrev pub is_newline : ℕ → Bool
@@ -17,24 +18,23 @@ abbrev pub lent : List ℕ → Bor (List ℕ)
 lent text = record { ref_ptr = (0, 0); now = text }
 
 -- an empty format at a byte of a line
-abbrev pub empty_at : ℕ → (line : List ℕ) → ℕ → Source
-empty_at number line place = record {
+abbrev pub empty_at : Line → ℕ → Source
+empty_at line place = record {
   name = lent [];
-  first_line = number;
-  text = lent line;
+  first_line = line.number;
+  text = lent line.text;
   start = place;
   format = lent [];
 }
 
 -- the line with a mark under the character at a byte: what stands below the first line of what
 -- explains a fault there
-unfoldable pub picture_at : ℕ → (line : List ℕ) → ℕ → List ℕ
-picture_at number line place =
-    after_first is_newline (explanation_of (empty_at number line place) (fault (fmt 0)))
+unfoldable pub picture_at : Line → ℕ → List ℕ
+picture_at line place = after_first is_newline (explanation_of (empty_at line place) (fault (fmt 0)))
 
 -- what is reported at a byte of a line: the file, the line's number, the column, what it is, and
 -- the line with a mark
-abbrev pub told_at : List ℕ → ℕ → (line : List ℕ) → ℕ → List ℕ → List ℕ
-told_at file number line place what = file ++ (codes ":" ++ (decimal number ++ (codes ":"
-    ++ (decimal (column_at line place) ++ (codes ": " ++ (what ++ (codes "\n"
-    ++ (picture_at number line place ++ codes "\n"))))))))
+abbrev pub told_at : Line → ℕ → List ℕ → List ℕ
+told_at line place what = line.file ++ (codes ":" ++ (decimal line.number ++ (codes ":"
+    ++ (decimal (column_at line.text place) ++ (codes ": " ++ (what ++ (codes "\n"
+    ++ (picture_at line place ++ codes "\n"))))))))

@@ -2,7 +2,6 @@
 -- list.
 use Rattle.std.specs.Prelude.{◌≡◌, ◌⊎◌, ⊤, ℕ, ℤ, pos, neg_ℤ, Bool, ◌==◌, ◌<◌, List, [], ◌∷◌, ◌++◌}
 use Rattle.std.specs.Prelude.{map, codes, FitsSigned, length, string_bytes}
-use Rattle.std.specs.Borrow.{Bor}
 use Rattle.std.specs.Int.{w128}
 use Rattle.std.specs.List.{All, after_first, before_first, position_or_len, slice_split}
 use Rattle.std.specs.Str.{chars}
@@ -39,10 +38,6 @@ pub record Spells (whole : List ℕ) (value : ℤ) : Type 0 where
 abbrev pub items_of : List ℕ → List (List ℕ)
 items_of [] = []
 items_of (c ∷ cs) = slice_split is_comma (c ∷ cs)
-
--- texts, borrows aside
-abbrev pub texts_of : List (Bor (List ℕ)) → List (List ℕ)
-texts_of texts = map (λ text. text.now) texts
 
 -- what texts show
 abbrev pub texts_show : List (List ℕ) → List Shown
@@ -103,3 +98,7 @@ pub record Gives (word : List ℕ) (object : Object) : Type 0 where
   pub cuts : Cuts word (object.name.now, object.kind) text
   pub value : ShowsAs object.kind text object.value
   pub items : map shown_as_value object.items.items ≡ items_in object.kind text
+
+-- some word gives an object
+abbrev pub IsGiven : Object → Type 0
+IsGiven object = (word : List ℕ) × Gives word object

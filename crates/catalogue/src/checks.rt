@@ -1,37 +1,35 @@
 //! The lines of files, which are all checked, and the one under a key.
 
-ghost use Rattle.std.specs.Prelude.{◌≡◌, ℕ, List, [], IfOk, IfErr, length, map, None, Some};
-ghost use Rattle.std.specs.Prelude.{if◌then◌else◌, string_bytes};
+ghost use Rattle.std.specs.Prelude.{◌≡◌, ℕ, List, [], IfOk, IfErr, None, length, map};
+ghost use Rattle.std.specs.Prelude.{string_bytes};
 ghost use Rattle.std.specs.List.{All};
 ghost use Rattle.std.specs.Option.{option_map};
-ghost use Rattle.std.specs.Str.Lines.{lines};
 ghost use Rattle.interpolator.specs.Faults.{answer_of, no_memory};
+ghost use Rattle.catalogue.specs.Files.{as_file, as_line, numbered, texts_of};
+ghost use Rattle.catalogue.specs.Forms.{as_sought, first_given};
 ghost use Rattle.catalogue.specs.Keys.{Remembers};
-ghost use Rattle.catalogue.specs.Messages.{is_under, key_with, line_under, lines_of, numbered};
-ghost use Rattle.catalogue.specs.Messages.{IsSoundFile, as_file, as_known, as_line, found_among};
-ghost use Rattle.catalogue.specs.Messages.{found_in};
-ghost use Rattle.catalogue.specs.Messages.{line_with_format, with_format, with_lack, told_of_file};
-ghost use Rattle.catalogue.specs.Messages.{told_of_files, told_of_line, told_of_lines};
+ghost use Rattle.catalogue.specs.Lines.{key_with};
+ghost use Rattle.catalogue.specs.Sought.{as_found, found_among, found_in, line_for, with_format};
+ghost use Rattle.catalogue.specs.Sound.{IsSoundFile};
+ghost use Rattle.catalogue.specs.Told.{told_of_file, told_of_files, told_of_line, told_of_lines};
 
 use crate::declarations::{Heading, heading_of};
 use crate::entries::Object;
-use crate::files::File;
+use crate::files::{File, Line, lines_of};
+use crate::forms::Sought;
 use crate::keys::{add, no_keys, told_of_key};
 use crate::line_faults::{told_of_message, told_of_rule};
-use crate::lines::{is_key, is_passed_over, line_of, sought, without_mark};
+use crate::lines::{is_key, is_passed_over, line_of, sought};
 use crate::reports::told_at;
 use crate::rules::{HEAD, rule_in};
 use interpolator::{Error, Template};
 use std::alloc::Global;
 use std::collections::HashMap;
 
-/// A line that has the key, and the name of its file.
+/// A line that has the key.
 #[derive(Drop)]
 pub struct Found<'a> {
-    pub file: &'a str,
-    /// Counted from 1.
-    pub number: usize,
-    pub text: &'a str,
+    pub line: Line<'a>,
     pub template: Template,
     pub heading: Heading<'a>,
     /// The name of a number that is missing to choose the form of the key.
@@ -41,7 +39,7 @@ pub struct Found<'a> {
 /// What is wrong with a line, its own key, or `plural:` for a rule, and the line itself if it has the
 /// key that is looked up.
 #[derive(Drop)]
-struct Line<'a> {
+struct LineVerdict<'a> {
     told: String,
     key: Option<&'a str>,
     found: Option<Found<'a>>,
@@ -54,142 +52,98 @@ pub struct Verdict<'a> {
     pub found: Option<Found<'a>>,
 }
 
+/// A line that does not have the key that is looked up.
+fn passed<'a>(told: String, key: Option<&'a str>) -> LineVerdict<'a>
+    ensures told { result.told ≡ told }
+    ensures key { result.key ≡ key.entry }
+    ensures found { result.found ≡ None }
+{
+    LineVerdict {
+        told,
+        key,
+        found: None,
+    }
+}
+
 /// Checks a line, after others with these keys.
 fn checked_line<'a>(
     alloc: Global,
-    file: &'a str,
-    number: usize,
-    text: &'a str,
+    line: &Line<'a>,
     keys: &HashMap<&str, usize>,
-    key: &str,
-) -> Result<Line<'a>, Error>
-    ensures told { IfOk result (λ line. (seen : List (ℕ × List ℕ)) → Remembers seen keys.now
-        → string_bytes line.told ≡ told_of_line file.now seen number text.now) }
-    ensures key { IfOk result (λ line.
-        option_map (λ x. x.now) line.key ≡ key_with text.now) }
-    ensures found { IfOk result (λ line. option_map as_line line.found
-        ≡ (if is_under key.now text.now
-        then Some (with_format file.now (number, text.now)) else None)) }
+    wanted: &Sought<'a>,
+) -> Result<LineVerdict<'a>, Error>
+    ensures told { IfOk result (λ checked. (seen : List (ℕ × List ℕ)) → Remembers seen keys.now
+        → string_bytes checked.told ≡ told_of_line seen (as_line line.now)) }
+    ensures key { IfOk result (λ checked.
+        option_map (λ x. x.now) checked.key ≡ key_with line.now.text.now) }
+    ensures found { IfOk result (λ checked. option_map as_found checked.found
+        ≡ option_map with_format (line_for (as_sought wanted.now) (as_line line.now))) }
     ensures refused { IfErr result (λ error. answer_of error ≡ no_memory) }
 {
-    if is_passed_over(text) {
-        let told = String::new(alloc);
-        return Ok(Line {
-            told,
-            key: None,
-            found: None,
-        });
+    if is_passed_over(line.text) {
+        return Ok(passed(String::new(alloc), None));
     }
-    if let Some(rule) = rule_in(text) {
-        let told = told_of_rule(alloc, file, number, text, rule, keys)?;
-        return Ok(Line {
-            told,
-            key: Some(HEAD),
-            found: None,
-        });
+    if let Some(rule) = rule_in(line.text) {
+        let told = told_of_rule(alloc, line, rule, keys)?;
+        return Ok(passed(told, Some(HEAD)));
     }
-    let Some((head, format)) = line_of(text) else {
-        let told = told_at(alloc, file, number, text, 0, "no `=`")?;
-        return Ok(Line {
-            told,
-            key: None,
-            found: None,
-        });
+    let Some((head, format)) = line_of(line.text) else {
+        let told = told_at(alloc, line, 0, "no `=`")?;
+        return Ok(passed(told, None));
     };
     let (its_key, heading) = heading_of(alloc, head)?;
     let template = Template::parse(alloc, format)?;
-    let mut told = told_of_key(alloc, file, number, text, head, its_key, keys)?;
-    let more = told_of_message(alloc, file, number, text, &template, &heading)?;
+    let mut told = told_of_key(alloc, line, head, its_key, keys)?;
+    let more = told_of_message(alloc, line, &template, &heading)?;
     told.push_str(more.as_str())?;
-    if !is_key(its_key, key) {
-        return Ok(Line {
-            told,
-            key: Some(its_key),
-            found: None,
-        });
+    if !is_key(its_key, wanted.key.as_str()) {
+        return Ok(passed(told, Some(its_key)));
     }
     let found = Some(Found {
-        file,
-        number,
-        text,
+        line: *line,
         template,
         heading,
-        lacks: None,
+        lacks: wanted.lacks,
     });
-    Ok(Line {
+    Ok(LineVerdict {
         told,
         key: Some(its_key),
         found,
     })
 }
 
-/// Checks each line of a text, and finds the one that has the key.
+/// Checks each line of a file, and finds the one that has the key.
 fn checked_lines<'a>(
     alloc: Global,
     file: &'a str,
-    text: &'a str,
-    key: &str,
+    lines: &[&'a str],
+    wanted: &Sought<'a>,
 ) -> Result<Verdict<'a>, Error>
     ensures told { IfOk result (λ verdict. string_bytes verdict.told
-        ≡ told_of_lines file.now [] (numbered (lines text.now))) }
-    ensures found { IfOk result (λ verdict. option_map as_line verdict.found
-        ≡ option_map (with_format file.now) (line_under key.now (numbered (lines text.now)))) }
+        ≡ told_of_lines [] (numbered file.now 1 (texts_of lines.now))) }
+    ensures found { IfOk result (λ verdict. option_map as_found verdict.found
+        ≡ option_map with_format (first_given (line_for (as_sought wanted.now))
+        (numbered file.now 1 (texts_of lines.now)))) }
     ensures refused { IfErr result (λ error. answer_of error ≡ no_memory) }
 {
     let mut told = String::new(alloc);
     let mut keys = no_keys(alloc);
     let mut found = None;
     let mut number = 0usize;
-    for text in text.lines() {
+    for text in lines {
         number += 1;
-        let line = checked_line(alloc, file, number, text, &keys, key)?;
-        told.push_str(line.told.as_str())?;
-        add(&mut keys, number, line.key)?;
-        found = found.or(line.found);
+        let line = Line { file, number, text };
+        let checked = checked_line(alloc, &line, &keys, wanted)?;
+        told.push_str(checked.told.as_str())?;
+        add(&mut keys, number, checked.key)?;
+        found = found.or(checked.found);
     }
     Ok(Verdict { told, found })
 }
 
-/// Checks the lines of a file, and finds the one that has the key.
-fn checked_file<'a>(alloc: Global, file: &'a File, key: &str) -> Result<Verdict<'a>, Error>
-    ensures told { IfOk result (λ verdict.
-        string_bytes verdict.told ≡ told_of_file (as_file file.now)) }
-    ensures found { IfOk result (λ verdict. option_map as_line verdict.found
-        ≡ option_map (with_format (as_file file.now).0)
-        (line_under key.now (lines_of (as_file file.now).1))) }
-    ensures refused { IfErr result (λ error. answer_of error ≡ no_memory) }
-{
-    let text = without_mark(file.text.as_str());
-    checked_lines(alloc, file.name.as_str(), text, key)
-}
-
-/// A line that was found under a key, of whose form the number is missing, if one is.
-fn lacking<'a>(found: Option<Found<'a>>, lacks: Option<&'a str>) -> Option<Found<'a>>
-    ensures { option_map as_known result
-        ≡ option_map (with_lack (option_map (λ name. name.now) lacks.entry))
-        (option_map as_line found.entry) }
-{
-    let Found {
-        file,
-        number,
-        text,
-        template,
-        heading,
-        lacks: _,
-    } = found?;
-    Some(Found {
-        file,
-        number,
-        text,
-        template,
-        heading,
-        lacks,
-    })
-}
-
 /// Checks a file, and finds the line of a key, or of its form that the file's rule chooses by the
 /// numbers of objects.
-fn checked_for<'a>(
+fn checked_file<'a>(
     alloc: Global,
     file: &'a File,
     key: &str,
@@ -197,14 +151,13 @@ fn checked_for<'a>(
 ) -> Result<Verdict<'a>, Error>
     ensures told { IfOk result (λ verdict.
         string_bytes verdict.told ≡ told_of_file (as_file file.now)) }
-    ensures found { IfOk result (λ verdict. option_map as_known verdict.found
-        ≡ option_map line_with_format (found_in objects.now key.now (as_file file.now))) }
+    ensures found { IfOk result (λ verdict. option_map as_found verdict.found
+        ≡ option_map with_format (found_in objects.now key.now (as_file file.now))) }
     ensures refused { IfErr result (λ error. answer_of error ≡ no_memory) }
 {
-    let wanted = sought(alloc, objects, key, without_mark(file.text.as_str()))?;
-    let Verdict { told, found } = checked_file(alloc, file, wanted.key.as_str())?;
-    let found = lacking(found, wanted.lacks);
-    Ok(Verdict { told, found })
+    let lines = lines_of(alloc, file)?;
+    let wanted = sought(alloc, objects, key, lines.as_slice())?;
+    checked_lines(alloc, file.name.as_str(), lines.as_slice(), &wanted)
 }
 
 /// Checks some files, and finds the line of the key, or of its form, in the first that has it.
@@ -216,14 +169,14 @@ pub fn checked<'a>(
 ) -> Result<Verdict<'a>, Error>
     ensures told { IfOk result (λ verdict.
         string_bytes verdict.told ≡ told_of_files (map as_file files.now)) }
-    ensures found { IfOk result (λ verdict. option_map as_known verdict.found
-        ≡ option_map line_with_format (found_among objects.now key.now (map as_file files.now))) }
+    ensures found { IfOk result (λ verdict. option_map as_found verdict.found
+        ≡ option_map with_format (found_among objects.now key.now (map as_file files.now))) }
     ensures refused { IfErr result (λ error. answer_of error ≡ no_memory) }
 {
     let mut told = String::new(alloc);
     let mut found = None;
     for file in files {
-        let of_file = checked_for(alloc, file, key, objects)?;
+        let of_file = checked_file(alloc, file, key, objects)?;
         told.push_str(of_file.told.as_str())?;
         found = found.or(of_file.found);
     }

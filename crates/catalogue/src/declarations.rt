@@ -2,14 +2,15 @@
 
 ghost use Rattle.std.specs.Prelude.{◌≡◌, ◌++◌, IfOk, OnOk, map};
 ghost use Rattle.std.specs.Option.{option_map};
-ghost use Rattle.std.specs.List.{list_any};
+ghost use Rattle.std.specs.List.{list_any, slice_split};
 ghost use Rattle.std.specs.Char.{is_whitespace};
 ghost use Rattle.std.specs.Str.{bytes_eq, chars, trim};
 ghost use Rattle.catalogue.specs.Declarations.{as_declaration, as_list};
 ghost use Rattle.catalogue.specs.Declarations.{declaration_of, if_whole, without};
 ghost use Rattle.catalogue.specs.Declarations.{is_name, part_of, begin_of, after_part, broken_at};
 ghost use Rattle.catalogue.specs.Declarations.{declared_by, declared_between, declared_after};
-ghost use Rattle.catalogue.specs.Declarations.{declared_in, key_in};
+ghost use Rattle.catalogue.specs.Declarations.{declared_in, is_comma, key_in};
+ghost use Rattle.catalogue.specs.Files.{texts_of};
 
 use std::alloc::{AllocError, Global};
 
@@ -156,6 +157,13 @@ fn add<'a>(found: &mut Vec<Declaration<'a>>, one: Option<Declaration<'a>>) -> Re
     Ok(())
 }
 
+/// The parts of a text, between its commas.
+pub fn between_commas(alloc: Global, text: &str) -> Result<Vec<&str>, AllocError>
+    ensures { IfOk result (λ parts. texts_of parts.items ≡ slice_split is_comma text.now) }
+{
+    text.split(',').collect(alloc)
+}
+
 /// The declarations between brackets, of which the first is at this byte of the line.
 fn declared_between<'a>(
     alloc: Global,
@@ -168,17 +176,16 @@ fn declared_between<'a>(
     if inner.trim().is_empty() {
         return Ok(Heading::Declares(found));
     }
-    let mut broken = None;
     let mut at = place;
-    for part in inner.split(',') {
-        broken = broken.or(broken_at(at, found.as_slice(), part));
+    let parts = between_commas(alloc, inner)?;
+    for part in &parts {
+        if let Some(place) = broken_at(at, found.as_slice(), part) {
+            return Ok(Heading::Broken(place));
+        }
         add(&mut found, part_of(part))?;
         at = after_part(at, part);
     }
-    match broken {
-        Some(place) => Ok(Heading::Broken(place)),
-        None => Ok(Heading::Declares(found)),
-    }
+    Ok(Heading::Declares(found))
 }
 
 /// What is declared after a `(` at this byte of the line: it ends at the next `)`, after which there

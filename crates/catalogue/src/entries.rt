@@ -1,10 +1,10 @@
 //! Values under names, and as pairs of a context.
 
 ghost use Rattle.std.specs.Prelude.{◌≡◌, IfOk, IfErr, map};
-ghost use Rattle.std.specs.List.{AllZip};
 ghost use Rattle.interpolator.specs.Faults.{answer_of, no_memory};
 ghost use Rattle.interpolator.specs.Slots.{slots_of};
-ghost use Rattle.catalogue.specs.Entries.{entry_slots, item_slots, Enters, Lends};
+ghost use Rattle.catalogue.specs.Entries.{entry_slots, held_by, held_by_entry, held_by_pair};
+ghost use Rattle.catalogue.specs.Entries.{item_slots};
 
 use crate::declarations::Kind;
 use interpolator::{Error, Formattable, View};
@@ -47,7 +47,7 @@ fn as_items<'a>(
 
 /// An object, borrowed.
 pub fn entry_of<'e, 'a>(alloc: Global, object: &'e Object<'a>) -> Result<Entry<'e>, Error>
-    ensures entry { IfOk result (λ entry. Lends object.now entry) }
+    ensures entry { IfOk result (λ entry. held_by_entry entry ≡ held_by object.now) }
     ensures refused { IfErr result (λ error. answer_of error ≡ no_memory) }
 {
     Ok(Entry {
@@ -60,7 +60,8 @@ pub fn entry_of<'e, 'a>(alloc: Global, object: &'e Object<'a>) -> Result<Entry<'
 
 /// Each object, borrowed.
 pub fn entries_of<'e, 'a>(alloc: Global, objects: &'e [Object<'a>]) -> Result<Vec<Entry<'e>>, Error>
-    ensures entries { IfOk result (λ entries. AllZip Lends objects.now entries.items) }
+    ensures entries { IfOk result (λ entries.
+        map held_by_entry entries.items ≡ map held_by objects.now) }
     ensures refused { IfErr result (λ error. answer_of error ≡ no_memory) }
 {
     let mut entries = Vec::with_capacity(alloc, objects.len())?;
@@ -88,7 +89,8 @@ pub fn pairs_of<'p, 'e>(
     alloc: Global,
     entries: &'p [Entry<'e>],
 ) -> Result<Vec<(&'p str, Formattable<'p, View<'e>>)>, Error>
-    ensures pairs { IfOk result (λ pairs. AllZip Enters entries.now pairs.items) }
+    ensures pairs { IfOk result (λ pairs.
+        map held_by_pair pairs.items ≡ map held_by_entry entries.now) }
     ensures refused { IfErr result (λ error. answer_of error ≡ no_memory) }
 {
     let mut pairs = Vec::with_capacity(alloc, entries.len())?;

@@ -1,15 +1,19 @@
 //! The faults that a format has by itself, and with an example of what is declared.
 
 ghost use Rattle.std.specs.Prelude.{◌≡◌, IfOk, IfErr, map};
-ghost use Rattle.std.specs.List.{AllZip};
+ghost use Rattle.std.specs.List.{filter};
+ghost use Rattle.std.specs.Str.{chars};
+ghost use Rattle.interpolator.specs.At.{outermost};
 ghost use Rattle.interpolator.specs.Faults.{answer_of, fault, no_memory};
+ghost use Rattle.interpolator.specs.Template.NodeChecks.{text_faults};
 ghost use Rattle.catalogue.specs.Declarations.{as_declaration, declared_by};
-ghost use Rattle.catalogue.specs.Examples.{IsExample, example_faults, found_faults};
-ghost use Rattle.catalogue.specs.Examples.{is_own_reply, reply_counts};
+ghost use Rattle.catalogue.specs.Entries.{held_by};
+ghost use Rattle.catalogue.specs.Examples.{example_faults, example_of, faults_of, is_own_reply};
 
 use crate::declarations::{Declaration, Heading, Kind};
 use crate::entries::{Object, entries_of, pairs_of};
 use interpolator::{Bits, Error, Interpolate, Pairs, Template, View};
+use interpolator_laws::checks::a_fault_of_its_own_is_that_of_some_piece;
 use std::alloc::Global;
 
 /// An example of a text: a character, which can be formatted under the same traits as any text.
@@ -23,7 +27,8 @@ const DECIMAL: View<'static> = View::Decimal { units: 0, scale: 0 };
 
 /// An example of a declaration.
 fn example_of<'a>(alloc: Global, declared: &Declaration<'a>) -> Result<Object<'a>, Error>
-    ensures example { IfOk result (λ object. IsExample (as_declaration declared.now) object) }
+    ensures example { IfOk result (λ object.
+        held_by object ≡ example_of (as_declaration declared.now)) }
     ensures refused { IfErr result (λ error. answer_of error ≡ no_memory) }
 {
     let mut items = Vec::with_capacity(alloc, 1)?;
@@ -45,7 +50,7 @@ fn example_of<'a>(alloc: Global, declared: &Declaration<'a>) -> Result<Object<'a
 /// An example of each declaration.
 fn examples_of<'a>(alloc: Global, declared: &[Declaration<'a>]) -> Result<Vec<Object<'a>>, Error>
     ensures examples { IfOk result (λ objects.
-        AllZip (λ one object. IsExample (as_declaration one) object) declared.now objects.items) }
+        map held_by objects.items ≡ map example_of (map as_declaration declared.now)) }
     ensures refused { IfErr result (λ error. answer_of error ≡ no_memory) }
 {
     let mut objects = Vec::with_capacity(alloc, declared.len())?;
@@ -71,24 +76,6 @@ fn faults_with(
     Pairs(&pairs).template_faults(alloc, template)
 }
 
-/// All faults that a format has, by itself or with examples of what its line declares. If the line
-/// declares nothing, every name that the format uses is missing.
-pub fn faults_of(
-    alloc: Global,
-    template: &Template,
-    heading: &Heading<'_>,
-) -> Result<Vec<Error>, Error>
-    ensures all { IfOk result (λ errors. map answer_of errors.items
-        ≡ map fault (found_faults (declared_by heading.now) template.now)) }
-    ensures refused { IfErr result (λ error. answer_of error ≡ no_memory) }
-{
-    match heading {
-        Heading::Plain => faults_with(alloc, template, &[]),
-        Heading::Declares(declared) => faults_with(alloc, template, declared.as_slice()),
-        Heading::Broken(_) => Ok(Vec::new(alloc)),
-    }
-}
-
 /// Whether a format has a fault by itself, whatever it is given.
 fn is_own(error: &Error) -> bool
     ensures { result ≡ is_own_reply (answer_of error.now) }
@@ -100,14 +87,40 @@ fn is_own(error: &Error) -> bool
     }
 }
 
-/// Whether a fault that was found counts for its line: if the line declares nothing, only one that
-/// the format has by itself does.
-pub fn counts(heading: &Heading<'_>, error: &Error) -> bool
-    ensures { result ≡ reply_counts (declared_by heading.now) (answer_of error.now) }
+/// Those of some faults that a format has by itself.
+fn own_of(errors: Vec<Error>) -> Vec<Error>
+    ensures { map answer_of result.items ≡ filter is_own_reply (map answer_of errors.items) }
+{
+    let mut own = errors;
+    own.retain(|error| is_own(error));
+    own
+}
+
+/// All faults that a format has by itself.
+fn own_faults(alloc: Global, template: &Template) -> Result<Vec<Error>, Error>
+    ensures all { IfOk result (λ errors. map answer_of errors.items
+        ≡ map fault (text_faults (outermost (chars template.now)))) }
+    ensures refused { IfErr result (λ error. answer_of error ≡ no_memory) }
+{
+    a_fault_of_its_own_is_that_of_some_piece();
+    let errors = faults_with(alloc, template, &[])?;
+    Ok(own_of(errors))
+}
+
+/// All faults that a format has: by itself, if its line declares nothing, or else with an example of
+/// each declaration, too.
+pub fn faults_of(
+    alloc: Global,
+    template: &Template,
+    heading: &Heading<'_>,
+) -> Result<Vec<Error>, Error>
+    ensures all { IfOk result (λ errors. map answer_of errors.items
+        ≡ map fault (faults_of (declared_by heading.now) template.now)) }
+    ensures refused { IfErr result (λ error. answer_of error ≡ no_memory) }
 {
     match heading {
-        Heading::Plain => is_own(error),
-        Heading::Declares(_) => true,
-        Heading::Broken(_) => true,
+        Heading::Plain => own_faults(alloc, template),
+        Heading::Declares(declared) => faults_with(alloc, template, declared.as_slice()),
+        Heading::Broken(_) => Ok(Vec::new(alloc)),
     }
 }

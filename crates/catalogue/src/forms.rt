@@ -3,15 +3,15 @@
 ghost use Rattle.std.specs.Prelude.{◌≡◌, IfOk, pos, string_bytes};
 ghost use Rattle.std.specs.Option.{option_map};
 ghost use Rattle.std.specs.Ordering.{int_eq};
-ghost use Rattle.std.specs.Str.Lines.{lines};
-ghost use Rattle.catalogue.specs.Forms.{as_choice, choice_at, choice_by, choice_of, choice_with};
-ghost use Rattle.catalogue.specs.Forms.{key_by, key_of_form, number_of, number_under, or_form};
-ghost use Rattle.catalogue.specs.Forms.{rule_of};
+ghost use Rattle.catalogue.specs.Files.{texts_of};
+ghost use Rattle.catalogue.specs.Forms.{as_choice, as_sought, choice_at, choice_by, choice_of};
+ghost use Rattle.catalogue.specs.Forms.{choice_with, key_by, key_of_form, number_of, number_under};
+ghost use Rattle.catalogue.specs.Forms.{or_form, rule_of};
 ghost use Rattle.catalogue.specs.Rules.{as_test};
 
 use crate::entries::Object;
 use crate::picks::last_named;
-use crate::rules::{Test, rule_in, test_in};
+use crate::rules::{Test, parts_of, rule_in, test_in};
 use interpolator::View;
 use std::alloc::{AllocError, Global};
 
@@ -87,34 +87,46 @@ fn choice_at<'a>(objects: &[Object<'_>], part: &'a str) -> Option<Choice<'a>>
 }
 
 /// What a rule chooses: what the first of its parts does that chooses.
-fn choice_of<'a>(objects: &[Object<'_>], rule: &'a str) -> Option<Choice<'a>>
-    ensures { option_map as_choice result ≡ choice_of objects.now rule.now }
+fn choice_of<'a>(
+    alloc: Global,
+    objects: &[Object<'_>],
+    rule: &'a str,
+) -> Result<Option<Choice<'a>>, AllocError>
+    ensures { IfOk result (λ choice. option_map as_choice choice ≡ choice_of objects.now rule.now) }
 {
-    let mut choice = None;
-    for part in rule.split(':') {
-        choice = choice.or(choice_at(objects, part));
+    let parts = parts_of(alloc, rule)?;
+    for part in &parts {
+        if let Some(choice) = choice_at(objects, part) {
+            return Ok(Some(choice));
+        }
     }
-    choice
+    Ok(None)
 }
 
-/// The rule of a file, on the first line that has one.
-fn rule_of(text: &str) -> Option<&str>
-    ensures { option_map (λ x. x.now) result ≡ rule_of (lines text.now) }
+/// The rule of some lines, on the first that has one.
+fn rule_of<'a>(lines: &[&'a str]) -> Option<&'a str>
+    ensures { option_map (λ x. x.now) result ≡ rule_of (texts_of lines.now) }
 {
-    let mut rule = None;
-    for line in text.lines() {
-        rule = rule.or(rule_in(line));
+    for line in lines {
+        if let Some(rule) = rule_in(line) {
+            return Some(rule);
+        }
     }
-    rule
+    None
 }
 
-/// What the rule of a file chooses, if it has one.
-pub fn choice_in<'a>(objects: &[Object<'_>], text: &'a str) -> Option<Choice<'a>>
-    ensures { option_map as_choice result ≡ choice_with objects.now (rule_of (lines text.now)) }
+/// What the rule of some lines chooses, if they have one.
+pub fn choice_in<'a>(
+    alloc: Global,
+    objects: &[Object<'_>],
+    lines: &[&'a str],
+) -> Result<Option<Choice<'a>>, AllocError>
+    ensures { IfOk result (λ choice. option_map as_choice choice
+        ≡ choice_with objects.now (rule_of (texts_of lines.now))) }
 {
-    match rule_of(text) {
-        Some(rule) => choice_of(objects, rule),
-        None => None,
+    match rule_of(lines) {
+        Some(rule) => choice_of(alloc, objects, rule),
+        None => Ok(None),
     }
 }
 
@@ -132,10 +144,8 @@ pub fn key_by<'a>(
     key: &str,
     choice: Option<Choice<'a>>,
 ) -> Result<Sought<'a>, AllocError>
-    ensures key { IfOk result (λ sought.
-        string_bytes sought.key ≡ (key_by key.now (option_map as_choice choice.entry)).0) }
-    ensures lacks { IfOk result (λ sought. option_map (λ name. name.now) sought.lacks
-        ≡ (key_by key.now (option_map as_choice choice.entry)).1) }
+    ensures { IfOk result (λ sought.
+        as_sought sought ≡ key_by key.now (option_map as_choice choice.entry)) }
 {
     match choice {
         None => Ok(Sought {

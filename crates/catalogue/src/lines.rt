@@ -1,12 +1,12 @@
 //! The lines of a file, and the key that is looked up in them.
 
-ghost use Rattle.std.specs.Prelude.{◌≡◌, IfOk, IfSome, MatchOption, string_bytes};
+ghost use Rattle.std.specs.Prelude.{◌≡◌, IfOk, IfSome, MatchOption};
 ghost use Rattle.std.specs.Option.{option_map};
 ghost use Rattle.std.specs.Str.{bytes_eq};
-ghost use Rattle.std.specs.Str.Lines.{lines};
-ghost use Rattle.catalogue.specs.Forms.{as_choice};
-ghost use Rattle.catalogue.specs.Messages.{choice_for, format_of, has_key, head_of, is_passed_over};
-ghost use Rattle.catalogue.specs.Messages.{is_under, sought, without_mark};
+ghost use Rattle.catalogue.specs.Files.{texts_of};
+ghost use Rattle.catalogue.specs.Forms.{as_choice, as_sought};
+ghost use Rattle.catalogue.specs.Lines.{format_of, head_of, is_passed_over, is_under};
+ghost use Rattle.catalogue.specs.Sought.{choice_for, has_key, sought};
 ghost use Rattle.catalogue.specs.Words.{HasEquals};
 
 use crate::declarations::key_in;
@@ -14,9 +14,6 @@ use crate::entries::Object;
 use crate::forms::{Choice, Sought, choice_in, key_by};
 use crate::rules::rule_in;
 use std::alloc::{AllocError, Global};
-
-/// The byte order mark, which some editors write at the head of a file.
-const MARK: &str = "\u{feff}";
 
 /// The head and the format of a line, if it has an `=`.
 pub fn line_of(text: &str) -> Option<(&str, &str)>
@@ -42,13 +39,6 @@ pub fn is_passed_over(line: &str) -> bool
     line.trim().is_empty() || line.starts_with('#')
 }
 
-/// A text without a byte order mark at its head.
-pub fn without_mark(text: &str) -> &str
-    ensures { result.now ≡ without_mark text.now }
-{
-    text.strip_prefix(MARK).unwrap_or(text)
-}
-
 /// Whether a line has a message under a key.
 fn is_under(key: &str, line: &str) -> bool
     ensures { result ≡ is_under key.now line.now }
@@ -62,35 +52,45 @@ fn is_under(key: &str, line: &str) -> bool
     }
 }
 
-/// Whether a line of a text has a message under a key.
-fn has_key(key: &str, text: &str) -> bool
-    ensures { result ≡ has_key key.now (lines text.now) }
+/// Whether one of some lines has a message under a key.
+fn has_key(key: &str, lines: &[&str]) -> bool
+    ensures { result ≡ has_key key.now (texts_of lines.now) }
 {
-    text.lines().any(|line| is_under(key, line))
-}
-
-/// The form of a key that is looked up in a text, if no line has the key itself.
-fn choice_for<'a>(objects: &[Object<'_>], key: &str, text: &'a str) -> Option<Choice<'a>>
-    ensures { option_map as_choice result ≡ choice_for objects.now key.now (lines text.now) }
-{
-    if has_key(key, text) {
-        return None;
+    for line in lines {
+        if is_under(key, line) {
+            return true;
+        }
     }
-    choice_in(objects, text)
+    false
 }
 
-/// The key that is looked up in a text: the key itself, or its form that the text's rule chooses by
+/// The form of a key that is looked up in some lines, if none of them has the key itself.
+fn choice_for<'a>(
+    alloc: Global,
+    objects: &[Object<'_>],
+    key: &str,
+    lines: &[&'a str],
+) -> Result<Option<Choice<'a>>, AllocError>
+    ensures { IfOk result (λ choice.
+        option_map as_choice choice ≡ choice_for objects.now key.now (texts_of lines.now)) }
+{
+    if has_key(key, lines) {
+        return Ok(None);
+    }
+    choice_in(alloc, objects, lines)
+}
+
+/// The key that is looked up in some lines: the key itself, or its form that their rule chooses by
 /// the numbers of objects.
 pub fn sought<'a>(
     alloc: Global,
     objects: &[Object<'_>],
     key: &str,
-    text: &'a str,
+    lines: &[&'a str],
 ) -> Result<Sought<'a>, AllocError>
-    ensures key { IfOk result (λ found.
-        string_bytes found.key ≡ (sought objects.now key.now (lines text.now)).0) }
-    ensures lacks { IfOk result (λ found. option_map (λ name. name.now) found.lacks
-        ≡ (sought objects.now key.now (lines text.now)).1) }
+    ensures { IfOk result (λ found.
+        as_sought found ≡ sought objects.now key.now (texts_of lines.now)) }
 {
-    key_by(alloc, key, choice_for(objects, key, text))
+    let choice = choice_for(alloc, objects, key, lines)?;
+    key_by(alloc, key, choice)
 }

@@ -1,22 +1,23 @@
 //! The message under a key of files that are sound.
 
-ghost use Rattle.std.specs.Prelude.{◌≡◌, List, IfOk, IfErr, map, string_bytes};
-ghost use Rattle.std.specs.List.{AllZip};
+ghost use Rattle.std.specs.Prelude.{◌≡◌, IfOk, IfErr, None, map, string_bytes};
+ghost use Rattle.std.specs.List.{All};
 ghost use Rattle.std.specs.Option.{option_map};
 ghost use Rattle.interpolator.specs.Faults.{answer_of, no_memory};
 ghost use Rattle.catalogue.specs.Declarations.{declared_by};
-ghost use Rattle.catalogue.specs.Messages.{as_file, given, told_absent, told_of_absent};
-ghost use Rattle.catalogue.specs.Messages.{Answers, IsMadeOrTold, Replies, RepliesFor};
-ghost use Rattle.catalogue.specs.Entries.{Lends};
-ghost use Rattle.catalogue.specs.declared.entries.Object.{Object};
+ghost use Rattle.catalogue.specs.Entries.{held_by_entry};
+ghost use Rattle.catalogue.specs.Files.{as_file, as_line};
+ghost use Rattle.catalogue.specs.Messages.{Answers, IsMadeOrTold, Replies, given};
+ghost use Rattle.catalogue.specs.Sound.{IsSoundOver};
+ghost use Rattle.catalogue.specs.Told.{told_absent, told_of_absent};
+ghost use Rattle.catalogue.specs.Words.{IsGiven};
 
 use crate::checks::{Found, Verdict, checked};
 use crate::declarations::{Declaration, Kind};
 use crate::entries::{Entry, Object, pairs_of};
-use crate::files::File;
+use crate::files::{File, lines_of};
 use crate::forms::{choice_in, or_form};
 use crate::line_faults::told_of_fault;
-use crate::lines::without_mark;
 use crate::picks::{Picked, picks_of, told_of_lacking};
 use crate::words::objects_of;
 use interpolator::{Error, Interpolate, Pairs, View};
@@ -45,7 +46,8 @@ fn told_absent(
         string_bytes told ≡ told_absent objects.now key.now (as_file file.now)) }
     ensures refused { IfErr result (λ error. answer_of error ≡ no_memory) }
 {
-    let choice = choice_in(objects, without_mark(file.text.as_str()));
+    let lines = lines_of(alloc, file)?;
+    let choice = choice_in(alloc, objects, lines.as_slice())?;
     let form = or_form(alloc, key, choice)?;
     let name = file.name.as_str();
     let told = format!(in alloc; "{name}: no message `{key}`{form}\n")?;
@@ -73,9 +75,8 @@ fn told_of_absent(
 
 /// The message of a line, or its fault.
 fn said(alloc: Global, found: &Found<'_>, entries: &[Entry<'_>]) -> Result<Answer, Error>
-    ensures said { IfOk result (λ answer. (objects : List Object)
-        → AllZip Lends objects entries.now → IsMadeOrTold found.now.file.now found.now.number
-        found.now.text.now found.now.template objects answer) }
+    ensures said { IfOk result (λ answer. IsMadeOrTold (as_line found.now.line) found.now.template
+        (map held_by_entry entries.now) answer) }
     ensures refused { IfErr result (λ error. answer_of error ≡ no_memory) }
 {
     let pairs = pairs_of(alloc, entries)?;
@@ -85,54 +86,50 @@ fn said(alloc: Global, found: &Found<'_>, entries: &[Entry<'_>]) -> Result<Answe
             None => Err(error),
             Some(_) => {
                 let format = found.template.text();
-                let told = told_of_fault(
-                    alloc,
-                    found.file,
-                    found.number,
-                    found.text,
-                    format,
-                    &error,
-                )?;
+                let told = told_of_fault(alloc, &found.line, format, &error)?;
                 Ok(Answer::Faults(told))
             }
         },
     }
 }
 
-/// The message of a line with the values that are picked for it; or which value is missing, or its
-/// fault.
+/// The message of a sound line with the values that are picked for it; or which value is missing,
+/// or its fault.
 fn message(
     alloc: Global,
     key: &str,
     found: &Found<'_>,
     objects: &[Object<'_>],
 ) -> Result<Answer, Error>
-    ensures replies { IfOk result (λ answer. Replies found.now.file.now found.now.number
-        found.now.text.now key.now found.now.template (declared_by found.now.heading)
-        objects.now answer) }
+    ensures replies { IfOk result (λ answer. IsSoundOver (declared_by found.now.heading)
+        found.now.template → All IsGiven objects.now → Replies answer None
+        (as_line found.now.line) key.now (declared_by found.now.heading) found.now.template
+        objects.now) }
     ensures refused { IfErr result (λ error. answer_of error ≡ no_memory) }
 {
+    a_view_has_a_text_by_its_kind();
+    a_checked_format_means_no_fault::<View<'_>, View<'_>>();
     match picks_of(alloc, objects, &found.heading)? {
         Picked::Values(entries) => said(alloc, found, entries.as_slice()),
         Picked::Lacks(lacking) => {
-            let told = told_of_lacking(alloc, found.file, found.number, key, &lacking)?;
+            let told = told_of_lacking(alloc, &found.line, key, &lacking)?;
             Ok(Answer::Faults(told))
         }
     }
 }
 
-/// What the line that was found comes to: the number that is missing to choose its form, or its
-/// message.
+/// What the sound line that was found comes to: the number that is missing to choose its form, or
+/// its message.
 fn reply(
     alloc: Global,
     key: &str,
     found: &Found<'_>,
     objects: &[Object<'_>],
 ) -> Result<Answer, Error>
-    ensures replies { IfOk result (λ answer. RepliesFor
-        (option_map (λ name. name.now) found.now.lacks) found.now.file.now found.now.number
-        found.now.text.now key.now found.now.template (declared_by found.now.heading)
-        objects.now answer) }
+    ensures replies { IfOk result (λ answer. IsSoundOver (declared_by found.now.heading)
+        found.now.template → All IsGiven objects.now
+        → Replies answer (option_map (λ name. name.now) found.now.lacks) (as_line found.now.line)
+        key.now (declared_by found.now.heading) found.now.template objects.now) }
     ensures refused { IfErr result (λ error. answer_of error ≡ no_memory) }
 {
     let Some(name) = found.lacks else {
@@ -142,7 +139,7 @@ fn reply(
         name,
         kind: Kind::Number,
     };
-    let told = told_of_lacking(alloc, found.file, found.number, key, &lacking)?;
+    let told = told_of_lacking(alloc, &found.line, key, &lacking)?;
     Ok(Answer::Faults(told))
 }
 
@@ -183,8 +180,6 @@ pub fn look_up(alloc: Global, files: &[File], key: &str, words: &[String]) -> Re
         Answers (map as_file files.now) key.now words.now answer) }
     ensures refused { IfErr result (λ error. answer_of error ≡ no_memory) }
 {
-    a_view_has_a_text_by_its_kind();
-    a_checked_format_means_no_fault::<View<'_>, View<'_>>();
     let values = objects_of(alloc, words)?;
     let objects = given(&values);
     let Verdict { told, found } = checked(alloc, files, key, objects)?;

@@ -5,11 +5,13 @@ ghost use Rattle.std.specs.Prelude.{string_bytes};
 ghost use Rattle.std.specs.Option.{option_copied};
 ghost use Rattle.interpolator.specs.Faults.{answer_of, no_memory};
 ghost use Rattle.catalogue.specs.Declarations.{as_declaration, declared_by, these};
+ghost use Rattle.catalogue.specs.Files.{as_line};
 ghost use Rattle.catalogue.specs.Picks.{HasPick, IsPicked, IsPickedOrLacks, last_named};
 ghost use Rattle.catalogue.specs.Picks.{shape_of, told_of_lacking};
 
 use crate::declarations::{Declaration, Heading, Kind};
 use crate::entries::{Entry, Object, entries_of, entry_of};
+use crate::files::Line;
 use interpolator::Error;
 use std::alloc::{AllocError, Global};
 
@@ -102,14 +104,15 @@ fn shape_of(kind: Kind) -> &'static str
 /// Reports which word is missing for a declaration of a line.
 pub fn told_of_lacking(
     alloc: Global,
-    file: &str,
-    number: usize,
+    line: &Line<'_>,
     key: &str,
     lacking: &Declaration<'_>,
 ) -> Result<String, AllocError>
     ensures { IfOk result (λ told. string_bytes told
-        ≡ told_of_lacking file.now number key.now (as_declaration lacking.now)) }
+        ≡ told_of_lacking (as_line line.now) key.now (as_declaration lacking.now)) }
 {
+    let file = line.file;
+    let number = line.number;
     let name = lacking.name;
     let shape = shape_of(lacking.kind);
     let told = format!(in alloc; "{file}:{number}: `{key}` wants `{name}{shape}`\n")?;

@@ -3,8 +3,10 @@
 ghost use Rattle.std.specs.Prelude.{◌≡◌, IfErr, IfOk, string_bytes};
 ghost use Rattle.std.specs.List.{after_first};
 ghost use Rattle.interpolator.specs.Faults.{answer_of, no_memory};
+ghost use Rattle.catalogue.specs.Files.{as_line};
 ghost use Rattle.catalogue.specs.Reports.{is_newline, picture_at, told_at};
 
+use crate::files::Line;
 use interpolator::{Error, Position, Source, explain_in};
 use std::alloc::Global;
 use std::fmt;
@@ -22,15 +24,15 @@ fn after_first_line(text: &str) -> &str
 /// A line with a mark under the character at a byte, as `explain_in` shows it for a fault at the
 /// beginning of an empty format.
 #[tactic(auto, unfolding(crate::specs::Reports::picture_at))]
-fn picture_at(alloc: Global, number: usize, line: &str, place: usize) -> Result<String, Error>
+fn picture_at(alloc: Global, line: &Line<'_>, place: usize) -> Result<String, Error>
     ensures picture { IfOk result (λ picture.
-        string_bytes picture ≡ picture_at number line.now place) }
+        string_bytes picture ≡ picture_at (as_line line.now) place) }
     ensures refused { IfErr result (λ error. answer_of error ≡ no_memory) }
 {
     let here = Source {
         name: "",
-        first_line: number,
-        text: line,
+        first_line: line.number,
+        text: line.text,
         start: place,
         format: "",
     };
@@ -41,20 +43,15 @@ fn picture_at(alloc: Global, number: usize, line: &str, place: usize) -> Result<
 
 /// Reports something at a byte of a line of the file, with the line and a mark under the byte's
 /// character.
-pub fn told_at(
-    alloc: Global,
-    file: &str,
-    number: usize,
-    line: &str,
-    place: usize,
-    what: &str,
-) -> Result<String, Error>
+pub fn told_at(alloc: Global, line: &Line<'_>, place: usize, what: &str) -> Result<String, Error>
     ensures told { IfOk result (λ told.
-        string_bytes told ≡ told_at file.now number line.now place what.now) }
+        string_bytes told ≡ told_at (as_line line.now) place what.now) }
     ensures refused { IfErr result (λ error. answer_of error ≡ no_memory) }
 {
-    let picture = picture_at(alloc, number, line, place)?;
-    let column = Position::of(line, place).column;
+    let picture = picture_at(alloc, line, place)?;
+    let file = line.file;
+    let number = line.number;
+    let column = Position::of(line.text, place).column;
     let told = format!(in alloc; "{file}:{number}:{column}: {what}\n{picture}\n")?;
     Ok(told)
 }

@@ -1,13 +1,16 @@
 //! The rule of a file, which chooses the form of a message by numbers.
 
-ghost use Rattle.std.specs.Prelude.{◌≡◌, ◌&&◌, ◌==◌, ◌+◌, length, is_some};
+ghost use Rattle.std.specs.Prelude.{◌≡◌, ◌==◌, ◌+◌, IfOk, length};
 ghost use Rattle.std.specs.Option.{option_map};
 ghost use Rattle.std.specs.Char.{is_ascii_digit};
 ghost use Rattle.std.specs.List.{list_all};
+ghost use Rattle.catalogue.specs.Files.{texts_of};
 ghost use Rattle.catalogue.specs.Rules.{as_test, broken_in, broken_part, is_numeral, is_whole};
-ghost use Rattle.catalogue.specs.Rules.{number_in, rule_in, test_after, test_by, test_in, whole_test};
+ghost use Rattle.catalogue.specs.Rules.{number_in, parts_of, rule_in, test_after, test_by, test_in};
+ghost use Rattle.catalogue.specs.Rules.{whole_test};
 
 use crate::declarations::{after_part, begin_of, is_name};
+use std::alloc::{AllocError, Global};
 
 /// What a line with a rule begins with.
 pub const HEAD: &str = "plural:";
@@ -114,17 +117,26 @@ fn is_last(end: usize, place: usize, part: &str) -> bool
     end.checked_sub(place) == Some(part.len())
 }
 
+/// The parts of a rule, between its colons.
+pub fn parts_of(alloc: Global, rule: &str) -> Result<Vec<&str>, AllocError>
+    ensures { IfOk result (λ parts. texts_of parts.items ≡ parts_of rule.now) }
+{
+    rule.split(':').collect(alloc)
+}
+
 /// Where a rule is broken, if it is: at the first part that is neither a test nor, as the last one,
 /// a form.
-pub fn broken_in(rule: &str) -> Option<usize>
-    ensures { result ≡ broken_in rule.now }
+pub fn broken_in(alloc: Global, rule: &str) -> Result<Option<usize>, AllocError>
+    ensures { IfOk result (λ broken. broken ≡ broken_in rule.now) }
 {
     let end = HEAD.len() + rule.len();
     let mut at = HEAD.len();
-    let mut broken = None;
-    for part in rule.split(':') {
-        broken = broken.or(broken_part(end, at, part));
+    let parts = parts_of(alloc, rule)?;
+    for part in &parts {
+        if let Some(place) = broken_part(end, at, part) {
+            return Ok(Some(place));
+        }
         at = after_part(at, part);
     }
-    broken
+    Ok(None)
 }

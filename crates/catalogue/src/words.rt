@@ -7,9 +7,10 @@ ghost use Rattle.interpolator.specs.Faults.{answer_of, no_memory};
 ghost use Rattle.interpolator.specs.Views.{shown_as_value};
 ghost use Rattle.catalogue.specs.Declarations.{as_declaration};
 ghost use Rattle.catalogue.specs.Words.{Spells, Fits, ShowsAs, Cuts, IsCut, IsGood, Gives};
-ghost use Rattle.catalogue.specs.Words.{IsFirstBad, items_of, items_in, texts_of, texts_show};
+ghost use Rattle.catalogue.specs.Files.{texts_of};
+ghost use Rattle.catalogue.specs.Words.{IsFirstBad, items_of, items_in, texts_show};
 
-use crate::declarations::{Declaration, Kind, declaration_of};
+use crate::declarations::{Declaration, Kind, between_commas, declaration_of};
 use crate::entries::Object;
 use interpolator::{Bits, Decimal, Error, View};
 use std::alloc::Global;
@@ -53,7 +54,7 @@ fn items_of(alloc: Global, text: &str) -> Result<Vec<&str>, Error>
     if text.is_empty() {
         return Ok(Vec::new(alloc));
     }
-    let items = text.split(',').collect(alloc)?;
+    let items = between_commas(alloc, text)?;
     Ok(items)
 }
 

@@ -1,16 +1,13 @@
 -- What the words bind, one after the other.
-use Rattle.std.proofs.Common.{◌≡◌, ℕ, ◌+◌, ◌<◌, ◌≤◌, List, [], ◌∷◌, ◌++◌, take, length, get_or}
-use Rattle.std.proofs.Common.{map}
-use Rattle.std.proofs.Common.{Option, None}
-use Rattle.std.proofs.Common.{string_bytes, refl, sym, ap, ◌∙◌, subst}
+use Rattle.std.proofs.Common.{◌≡◌, refl, ap, subst, ℕ, ◌+◌, ◌<◌, List, [], ◌∷◌, ◌++◌, take, length}
+use Rattle.std.proofs.Common.{get_or, map, string_bytes, Option, None}
 use Rattle.std.proofs.Math.Path.{fun_ext}
 use Rattle.std.specs.List.{AllZip, FoldsTo}
 use Rattle.std.specs.Option.{option_map}
 use Rattle.std.specs.declared.string.String.{String}
-use Rattle.std.proofs.lemmas.List.{take_more, take_all}
+use Rattle.std.proofs.lemmas.List.{take_more}
 use Rattle.std.proofs.lemmas.List.Elements.{All-head, All-tail}
 use Rattle.std.proofs.lemmas.Slice.Zip.{all_zipped_more}
-use Rattle.std.proofs.lemmas.Fn.{FoldsTo-push}
 use Rattle.interpolator.specs.declared.View.{View}
 use Rattle.interpolator.specs.declared.Formattable.{Formattable}
 use Rattle.interpolator.specs.declared.NameMap.{NameMap}
@@ -23,7 +20,7 @@ use Rattle.ifmt.specs.declared.words.Word.TheVariants.{List as ListWord, Bad}
 use Rattle.ifmt.specs.declared.binding.Object.{Object}
 use Rattle.ifmt.specs.declared.binding.Entry.{Entry}
 use Rattle.ifmt.specs.Words.{IsGood, Classifies}
-use Rattle.ifmt.specs.Binding.{AreBound, Binds, Fills, HasObject, Lends}
+use Rattle.ifmt.specs.Binding.{Binds, Fills, HasObject, Lends}
 use Rattle.ifmt.specs.Binding.{items_show, item_slots, object_shows}
 use Rattle.ifmt.specs.Command.{AllGood}
 
@@ -36,27 +33,12 @@ IsFilled old entry new = Fills old entry.word entry.value.now (map slots_of entr
 abbrev pub AreFilled : List Entry → (finds : List ℕ → Option (Slots View)) → Type 0
 AreFilled entries finds = FoldsTo IsFilled (λ _. None) entries finds
 
-module _ {A : Type 0} (xs : List A) (i : ℕ) (x : A) (within : i < length xs)
-    (here : x ≡ get_or xs i x) where
-  -- the front of a list with the element after it
-  taken : take (i + 1) xs ≡ take i xs ++ (x ∷ [])
-  taken = take_more xs i x within ∙ ap (λ y. take i xs ++ (y ∷ [])) (sym here)
-
-  -- one more of each list
-  pub zip_more : {B : Type 0} (R : A → B → Type 0) (ys : List B) (y : B) →
-      AllZip R (take i xs) ys → R x y → AllZip R (take (i + 1) xs) (ys ++ (y ∷ []))
-  zip_more R ys y so_far more =
-      subst (λ front. AllZip R front (ys ++ (y ∷ []))) (sym taken)
-      (all_zipped_more R (take i xs) ys x y so_far more)
-
--- one more entry
-pub filled_more : (entries : List Entry) (i : ℕ) (entry : Entry)
-    (old new : List ℕ → Option (Slots View)) → i < length entries →
-    entry ≡ get_or entries i entry → AreFilled (take i entries) old → IsFilled old entry new →
-    AreFilled (take (i + 1) entries) new
-filled_more entries i entry old new within here so_far more =
-    subst (λ front. AreFilled front new) (sym (taken entries i entry within here))
-    (FoldsTo-push IsFilled (λ _. None) (take i entries) old entry new so_far more)
+-- one more of each list
+pub zip_more : {A B : Type 0} (R : A → B → Type 0) (xs : List A) (i : ℕ) (x : A) (ys : List B) (y : B)
+    → i < length xs → x ≡ get_or xs i x → AllZip R (take i xs) ys → R x y
+    → AllZip R (take (i + 1) xs) (ys ++ (y ∷ []))
+zip_more R xs i x ys y within here so_far more =
+    rw (take_more xs i x within, ← here) (all_zipped_more R (take i xs) ys x y so_far more)
 
 -- a word with its objects, from what was said of each
 pub has_object : (text spelled : List ℕ) (word : Word) (object : Object) → spelled ≡ text →
@@ -69,48 +51,27 @@ has_object text spelled word object same means is shows items = record {
   items = rw is items;
 }
 
--- in a map with no name nothing is filled in
-pub none_filled : (map : NameMap (Formattable View)) → ((name : List ℕ) → under map name ≡ None) →
-    AreFilled [] (stored_slots map)
-none_filled map none = fun_ext (λ name. ap (option_map slots_of) (sym (none name)))
+-- what is filled in a map with no name is filled in nothing
+pub none_filled : (map : NameMap (Formattable View)) (entries : List Entry)
+    (finds : List ℕ → Option (Slots View)) → ((name : List ℕ) → under map name ≡ None)
+    → FoldsTo IsFilled (stored_slots map) entries finds → AreFilled entries finds
+none_filled map entries finds none filled =
+    subst (λ start. FoldsTo IsFilled start entries finds)
+    (fun_ext (λ name. ap (option_map slots_of) (none name))) filled
 
 -- objects of a word that is filled in are what the word binds
 binds : (text : List ℕ) (word : Word) (value : View) (objects : List View)
     (old new : List ℕ → Option (Slots View)) → IsGood text → Classifies text word →
     shown_as_value value ≡ object_shows word → map shown_as_value objects ≡ items_show word →
     Fills old word value (item_slots objects) new → Binds old text new
-binds text (Text _ _) value objects old new good means shows items filled = record {
-  assignment = _;
-  means = (means _).1 refl;
-  tree = _;
-  merges = (value, shows, refl);
-  here = filled.here;
-  others = filled.others;
-}
-binds text (Number _ _) value objects old new good means shows items filled = record {
-  assignment = _;
-  means = (means _).1 refl;
-  tree = _;
-  merges = (value, shows, refl);
-  here = filled.here;
-  others = filled.others;
-}
-binds text (DecimalWord _ _) value objects old new good means shows items filled = record {
-  assignment = _;
-  means = (means _).1 refl;
-  tree = _;
-  merges = (value, shows, refl);
-  here = filled.here;
-  others = filled.others;
-}
-binds text (ListWord _ _) value objects old new good means shows items filled = record {
-  assignment = _;
-  means = (means _).1 refl;
-  tree = _;
-  merges = (objects, items, refl);
-  here = filled.here;
-  others = filled.others;
-}
+binds text (Text _ _) value objects old new good means shows items filled =
+    (_, (means _).1 refl, _, λ before. (value, shows, refl), filled)
+binds text (Number _ _) value objects old new good means shows items filled =
+    (_, (means _).1 refl, _, λ before. (value, shows, refl), filled)
+binds text (DecimalWord _ _) value objects old new good means shows items filled =
+    (_, (means _).1 refl, _, λ before. (value, shows, refl), filled)
+binds text (ListWord _ _) value objects old new good means shows items filled =
+    (_, (means _).1 refl, _, λ before. (objects, items, refl), filled)
 binds text Bad value objects old new good means shows items filled =
     let same = (means good.0).0 good.1 in cc
 
@@ -124,32 +85,20 @@ entry_binds text object entry old new good has lends filled =
     binds text object.word object.value object.items.items old new good has.classified has.value
     has.items of_object
 
-module _ {Z : Type 0} where
-  -- entries that are filled in are what their words bind
-  binds_all : (words : List (String Z)) (objects : List Object) (entries : List Entry)
-      (old new : List ℕ → Option (Slots View)) → AllGood words →
-      AllZip (λ word object. HasObject (string_bytes word) object) words objects →
-      AllZip Lends objects entries → FoldsTo IsFilled old entries new →
-      FoldsTo (λ old word new. Binds old (string_bytes word) new) old words new
-  binds_all [] [] [] old new good has lends filled = filled
-  binds_all [] [] (_ ∷ _) old new good has lends filled = absurd lends
-  binds_all [] (_ ∷ _) entries old new good has lends filled = absurd has
-  binds_all (_ ∷ _) [] entries old new good has lends filled = absurd has
-  binds_all (_ ∷ _) (_ ∷ _) [] old new good has lends filled = absurd lends
-  binds_all (word ∷ words) (object ∷ objects) (entry ∷ entries) old new good has lends filled = (
-    filled.0,
-    entry_binds (string_bytes word) object entry old filled.0
-        (All-head (λ each. IsGood (string_bytes each)) word words good) has.0 lends.0 filled.1,
-    binds_all words objects entries filled.0 new
-        (All-tail (λ each. IsGood (string_bytes each)) word words good) has.1 lends.1 filled.2,
-  )
-
-  -- and so do all entries below a place after the last
-  pub bound : (words : List (String Z)) (objects : List Object) (entries : List Entry) (i : ℕ)
-      (finds : List ℕ → Option (Slots View)) → AllGood words →
-      AllZip (λ word object. HasObject (string_bytes word) object) words objects →
-      AllZip Lends objects entries → length entries ≤ i → AreFilled (take i entries) finds →
-      AreBound words finds
-  bound words objects entries i finds good has lends after filled =
-      binds_all words objects entries (λ _. None) finds good has lends
-      (rw (take_all i entries after) at filled)
+-- entries that are filled in are what their words bind
+pub binds_all : {Z : Type 0} (words : List (String Z)) (objects : List Object)
+    (entries : List Entry) (old new : List ℕ → Option (Slots View)) → AllGood words
+    → AllZip (λ word object. HasObject (string_bytes word) object) words objects
+    → AllZip Lends objects entries → FoldsTo IsFilled old entries new
+    → FoldsTo (λ old word new. Binds old (string_bytes word) new) old words new
+binds_all [] [] [] old new good has lends filled = filled
+binds_all (word ∷ words) (object ∷ objects) (entry ∷ entries) old new good has lends filled = (
+  filled.0,
+  entry_binds (string_bytes word) object entry old filled.0
+      (All-head (λ each. IsGood (string_bytes each)) word words good) has.0 lends.0 filled.1,
+  binds_all words objects entries filled.0 new
+      (All-tail (λ each. IsGood (string_bytes each)) word words good) has.1 lends.1 filled.2,
+)
+binds_all _ (_ ∷ _) [] old new good has lends filled = absurd lends
+binds_all _ [] (_ ∷ _) old new good has lends filled = absurd lends
+binds_all _ _ _ old new good has lends filled = absurd has

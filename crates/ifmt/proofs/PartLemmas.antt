@@ -1,156 +1,48 @@
--- What the two parts of a word mean, by the ending of the part before the `=`.
-use Rattle.std.proofs.Common.{◌≡◌, ◌↔◌, ℕ, ℤ, List, [], ◌∷◌, ◌++◌, codes, None, Some, sym, ap, ◌∙◌}
-use Rattle.std.proofs.Common.{length, length-append, append_assoc, arith, Option, Result, Ok, Err}
-use Rattle.std.proofs.lemmas.List.{append_cancel_right}
+-- What the two parts of a word mean, and whether a word means anything.
+use Rattle.std.proofs.Common.{◌≡◌, ◌↔◌, refl, List, ℕ, Option, None, Some, option_map}
+use Rattle.std.proofs.Common.{Result, Ok, Err}
 use Rattle.std.specs.Result.{result_ok}
-use Rattle.interpolator.specs.declared.Decimal.{Decimal}
-use Rattle.ifmt.specs.Words.{Assignment, text, number, decimal, list, PartsMean, Spells, IsDecimal}
-use Rattle.ifmt.specs.Words.{EndsIn}
+use Rattle.ifmt.specs.declared.words.Word.{Word}
+use Rattle.ifmt.specs.declared.words.Word.TheVariants.{Text, Number, Decimal as DecimalWord}
+use Rattle.ifmt.specs.declared.words.Word.TheVariants.{List as ListWord, Bad}
+use Rattle.ifmt.specs.Words.{Assignment, Classifies, IsGood, IsSpelled}
 
--- a text has one last sign
-one_last : (front other : List ℕ) (last another : ℕ) →
-    front ++ (last ∷ []) ≡ other ++ (another ∷ []) → last ≡ another
-one_last [] [] last another same = cc
-one_last [] (c ∷ cs) last another same =
-    let count = ap length same in omega (arith, count, length-append cs (another ∷ []))
-one_last (c ∷ cs) [] last another same =
-    let count = ap length same in omega (arith, count, length-append cs (last ∷ []))
-one_last (c ∷ cs) (d ∷ ds) last another same =
-    let rest : cs ++ (last ∷ []) ≡ ds ++ (another ∷ []) = cc in one_last cs ds last another rest
-
--- no text ends in `:` and in `:.`
-colon_and_point : (front other : List ℕ) → front ++ codes ":" ≡ other ++ codes ":." → ⊥
-colon_and_point front other same =
-    let last = one_last front (other ++ codes ":") 58 46
-    (same ∙ sym (append_assoc other (codes ":") (codes "."))) in omega (arith, last)
-
--- none in `:` and in `[]`
-colon_and_bracket : (front other : List ℕ) → front ++ codes ":" ≡ other ++ codes "[]" → ⊥
-colon_and_bracket front other same =
-    let last = one_last front (other ++ codes "[") 58 93
-    (same ∙ sym (append_assoc other (codes "[") (codes "]"))) in omega (arith, last)
-
--- none in `:.` and in `[]`
-point_and_bracket : (front other : List ℕ) → front ++ codes ":." ≡ other ++ codes "[]" → ⊥
-point_and_bracket front other same =
-    let last = one_last (front ++ codes ":") (other ++ codes "[") 46 93
-    (append_assoc front (codes ":") (codes ".") ∙ same
-    ∙ sym (append_assoc other (codes "[") (codes "]"))) in omega (arith, last)
-
--- a part that ends in `:`, before no number, means nothing
-pub no_number : (left right name : List ℕ) → left ≡ name ++ codes ":" →
-    ((value : ℤ) → Spells right value ↔ (None ≡ Some value)) →
-    (assignment : Assignment) → PartsMean left right assignment ↔ (None ≡ Some assignment)
-no_number left right name ends spells (text _ _) =
-    (λ meant. absurd (meant.2 (name, ends)), λ same. cc)
-no_number left right name ends spells (number _ value) =
-    (λ meant. let same = (spells value).0 meant.1 in cc, λ same. cc)
-no_number left right name ends spells (decimal other _) =
-    (λ meant. absurd (colon_and_point name other (sym ends ∙ meant.0)), λ same. cc)
-no_number left right name ends spells (list other _) =
-    (λ meant. absurd (colon_and_bracket name other (sym ends ∙ meant.0)), λ same. cc)
-
--- a part that ends in `:`, before a number, means that number
-pub one_number : (left right name : List ℕ) (found : ℤ) → left ≡ name ++ codes ":" →
-    ((value : ℤ) → Spells right value ↔ (Some found ≡ Some value)) →
-    (assignment : Assignment) →
-    PartsMean left right assignment ↔ (Some (number name found) ≡ Some assignment)
-one_number left right name found ends spells (text _ _) =
-    (λ meant. absurd (meant.2 (name, ends)), λ same. cc)
-one_number left right name found ends spells (number other value) = (
-  λ meant.
-      let names = append_cancel_right name other (codes ":") (sym ends ∙ meant.0) in
-      let values = (spells value).0 meant.1 in cc,
-  λ same.
-      let names : name ≡ other = cc in
-      let values : Some found ≡ Some value = cc in
-      (ends ∙ ap (λ front. front ++ codes ":") names, (spells value).1 values),
+-- parts mean what the second spells, if it spells anything
+pub spelled_alone : {A : Type 0} (Spelled : A → Type 0) (made : A → Assignment) (found : Option A)
+    → ((value : A) → Spelled value ↔ (found ≡ Some value)) → (assignment : Assignment)
+    → IsSpelled Spelled made assignment ↔ (option_map made found ≡ Some assignment)
+spelled_alone Spelled made None spells assignment =
+    (λ meant. let same = (spells meant.0).0 meant.1 in cc, λ same. cc)
+spelled_alone Spelled made (Some value) spells assignment = (
+  λ meant. let same = (spells meant.0).0 meant.1 in cc,
+  λ same. let is : assignment ≡ made value = cc in (value, (spells value).1 refl, is),
 )
-one_number left right name found ends spells (decimal other _) =
-    (λ meant. absurd (colon_and_point name other (sym ends ∙ meant.0)), λ same. cc)
-one_number left right name found ends spells (list other _) =
-    (λ meant. absurd (colon_and_bracket name other (sym ends ∙ meant.0)), λ same. cc)
 
--- what was parsed is the decimal that a text spells, if it spells one
-pub parsed_decimal : {E : Type 0} (whole : List ℕ) (parsed : Result Decimal E)
-    (found : Option Decimal) → found ≡ result_ok parsed →
-    ((value : Decimal) → IsDecimal whole value ↔ (parsed ≡ Ok value)) →
-    (value : Decimal) → IsDecimal whole value ↔ (found ≡ Some value)
-parsed_decimal {E} whole (Ok this) found is spells value = (
-  λ spelled. is ∙ ap (λ (r : Result Decimal E). result_ok r) ((spells value).0 spelled),
-  λ same. let equal : this ≡ value = cc in
-      (spells value).1 (ap {B = Result Decimal E} (λ (d : Decimal). Ok d) equal),
-)
-parsed_decimal whole (Err error) found is spells value = (
+-- parts that mean one assignment
+pub alone : (only assignment : Assignment)
+    → (assignment ≡ only) ↔ (Some only ≡ Some assignment)
+alone only assignment = (λ same. cc, λ same. cc)
+
+-- what was parsed is what a text spells, if it spells anything
+pub parsed_alone : {A E : Type 0} (Spelled : A → Type 0) (parsed : Result A E)
+    → ((value : A) → Spelled value ↔ (parsed ≡ Ok value)) → (value : A)
+    → Spelled value ↔ (result_ok parsed ≡ Some value)
+parsed_alone Spelled (Ok this) spells value = (
   λ spelled. let same = (spells value).0 spelled in cc,
-  λ same. cc,
+  λ same. let is : Ok this ≡ Ok value = cc in (spells value).1 is,
 )
+parsed_alone Spelled (Err error) spells value =
+    (λ spelled. let same = (spells value).0 spelled in cc, λ same. cc)
 
--- a part that ends in `:.`, before no decimal, means nothing
-pub no_decimal : (left right name : List ℕ) → left ≡ name ++ codes ":." →
-    ((value : Decimal) → IsDecimal right value ↔ (None ≡ Some value)) →
-    (assignment : Assignment) → PartsMean left right assignment ↔ (None ≡ Some assignment)
-no_decimal left right name ends spells (text _ _) =
-    (λ meant. absurd (meant.3 (name, ends)), λ same. cc)
-no_decimal left right name ends spells (number other _) =
-    (λ meant. absurd (colon_and_point other name (sym meant.0 ∙ ends)), λ same. cc)
-no_decimal left right name ends spells (decimal _ value) =
-    (λ meant. let same = (spells value).0 meant.1 in cc, λ same. cc)
-no_decimal left right name ends spells (list other _) =
-    (λ meant. absurd (point_and_bracket name other (sym ends ∙ meant.0)), λ same. cc)
+-- a word that is not classified as bad means something
+pub good_unless_bad : (word : List ℕ) (result : Word) → Classifies word result
+    → (result ≡ Bad → ⊥) → IsGood word
+good_unless_bad word Bad means not_bad = absurd (not_bad refl)
+good_unless_bad word (Text _ _) means not_bad = (_, (means _).1 refl)
+good_unless_bad word (Number _ _) means not_bad = (_, (means _).1 refl)
+good_unless_bad word (DecimalWord _ _) means not_bad = (_, (means _).1 refl)
+good_unless_bad word (ListWord _ _) means not_bad = (_, (means _).1 refl)
 
--- a part that ends in `:.`, before a decimal, means that decimal
-pub one_decimal : (left right name : List ℕ) (found : Decimal) → left ≡ name ++ codes ":." →
-    ((value : Decimal) → IsDecimal right value ↔ (Some found ≡ Some value)) →
-    (assignment : Assignment) →
-    PartsMean left right assignment ↔ (Some (decimal name found) ≡ Some assignment)
-one_decimal left right name found ends spells (text _ _) =
-    (λ meant. absurd (meant.3 (name, ends)), λ same. cc)
-one_decimal left right name found ends spells (number other _) =
-    (λ meant. absurd (colon_and_point other name (sym meant.0 ∙ ends)), λ same. cc)
-one_decimal left right name found ends spells (decimal other value) = (
-  λ meant.
-      let names = append_cancel_right name other (codes ":.") (sym ends ∙ meant.0) in
-      let values = (spells value).0 meant.1 in cc,
-  λ same.
-      let names : name ≡ other = cc in
-      let values : Some found ≡ Some value = cc in
-      (ends ∙ ap (λ front. front ++ codes ":.") names, (spells value).1 values),
-)
-one_decimal left right name found ends spells (list other _) =
-    (λ meant. absurd (point_and_bracket name other (sym ends ∙ meant.0)), λ same. cc)
-
--- a part that ends in `[]` means the list of what follows
-pub one_list : (left right name : List ℕ) → left ≡ name ++ codes "[]" →
-    (assignment : Assignment) →
-    PartsMean left right assignment ↔ (Some (list name right) ≡ Some assignment)
-one_list left right name ends (text _ _) =
-    (λ meant. absurd (meant.4 (name, ends)), λ same. cc)
-one_list left right name ends (number other _) =
-    (λ meant. absurd (colon_and_bracket other name (sym meant.0 ∙ ends)), λ same. cc)
-one_list left right name ends (decimal other _) =
-    (λ meant. absurd (point_and_bracket other name (sym meant.0 ∙ ends)), λ same. cc)
-one_list left right name ends (list other items) = (
-  λ meant.
-      let names = append_cancel_right name other (codes "[]") (sym ends ∙ meant.0) in
-      let texts = meant.1 in cc,
-  λ same.
-      let names : name ≡ other = cc in
-      (ends ∙ ap (λ front. front ++ codes "[]") names, cc),
-)
-
--- a part that ends in none of these means a text
-pub plain_text : (left right : List ℕ) → ¬ (EndsIn (codes ":") left) →
-    ¬ (EndsIn (codes ":.") left) → ¬ (EndsIn (codes "[]") left) →
-    (assignment : Assignment) →
-    PartsMean left right assignment ↔ (Some (text left right) ≡ Some assignment)
-plain_text left right no_colon no_point no_brackets (text name value) = (
-  λ meant. let names = meant.0 in let texts = meant.1 in cc,
-  λ same. (cc, cc, no_colon, no_point, no_brackets),
-)
-plain_text left right no_colon no_point no_brackets (number name value) =
-    (λ meant. absurd (no_colon (name, meant.0)), λ same. cc)
-plain_text left right no_colon no_point no_brackets (decimal name value) =
-    (λ meant. absurd (no_point (name, meant.0)), λ same. cc)
-plain_text left right no_colon no_point no_brackets (list name items) =
-    (λ meant. absurd (no_brackets (name, meant.0)), λ same. cc)
+-- and one that is classified as bad does not
+pub bad_is_not_good : (word : List ℕ) → Classifies word Bad → ¬ (IsGood word)
+bad_is_not_good word means good = let same = (means good.0).0 good.1 in cc

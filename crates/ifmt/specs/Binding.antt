@@ -100,14 +100,12 @@ Merges (list name value) before after = (objects : List View)
     × (after ≡ with_iter before (item_slots objects))
 
 -- the word's assignment was merged into the tree under its name, and the other names stayed
-pub record Binds (old : List ℕ → Option (Slots View)) (word : List ℕ)
-    (new : List ℕ → Option (Slots View)) : Type 0 where
-  pub assignment : Assignment
-  pub means : Means word assignment
-  pub tree : Slots View
-  pub merges : Merges assignment (unwrap_or (old (assigned_name assignment)) empty_slots) tree
-  pub here : new (assigned_name assignment) ≡ Some tree
-  pub others : (other : List ℕ) → other ≢ assigned_name assignment → new other ≡ old other
+abbrev pub Binds : (old : List ℕ → Option (Slots View)) → (word : List ℕ)
+    → (new : List ℕ → Option (Slots View)) → Type 0
+Binds old word new = (assignment : Assignment) × Means word assignment
+    × (change : Slots View → Slots View)
+    × ((before : Slots View) → Merges assignment before (change before))
+    × Changes old (assigned_name assignment) change new
 
 -- the words, in their order, bind what is found under each name, and nothing was there before
 abbrev pub AreBound : {Z : Type 0} → List (String Z) → (finds : List ℕ → Option (Slots View))

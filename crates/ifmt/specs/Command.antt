@@ -1,5 +1,5 @@
 -- What the program does with a command line.
-use Rattle.std.specs.Prelude.{◌≡◌, ℕ, List, [], ◌∷◌, ◌++◌, All, Option, string_bytes}
+use Rattle.std.specs.Prelude.{◌≡◌, ◌⊎◌, ℕ, List, [], ◌∷◌, All, Option, string_bytes}
 use Rattle.std.specs.Str.{chars}
 use Rattle.std.specs.Io.KnownBytes.{Keeps}
 use Rattle.std.specs.declared.string.String.{String}
@@ -20,20 +20,16 @@ module _ {Z : Type 0} where
   AllGood words = All (λ word. IsGood (string_bytes word)) words
 
   -- the first of the words that means nothing
-  pub record IsFirstBad (words : List (String Z)) (bad : List ℕ) : Type 0 where
-    pub before : List (String Z)
-    pub word : String Z
-    pub after : List (String Z)
-    pub split : words ≡ before ++ (word ∷ after)
-    pub good : AllGood before
-    pub spelled : string_bytes word ≡ bad
-    pub none : ¬ (IsGood bad)
+  abbrev pub IsFirstBad : List (String Z) → (bad : List ℕ) → Type 0
+  IsFirstBad [] bad = ⊥
+  IsFirstBad (word ∷ words) bad = (IsGood (string_bytes word) × IsFirstBad words bad)
+      ⊎ (¬ (IsGood (string_bytes word)) × (string_bytes word ≡ bad))
 
   -- what is written of a wrong command line: without a format, how the program is called; else the
   -- first bad word
   pub data IsTold : List (String Z) → List ℕ → Type 0 where
     no_format : IsTold [] usage_line
-    bad_word : {format : String Z} {words : List (String Z)} {bad : List ℕ} →
+    bad_word : {format : String Z} {words : List (String Z)} (bad : List ℕ) →
         IsFirstBad words bad → IsTold (format ∷ words) (complaint bad)
 
 -- the bytes that `out` and `err` are known to hold before and after, and the status

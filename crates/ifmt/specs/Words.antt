@@ -1,9 +1,11 @@
 -- The words of the command line: what each means, by its bytes.
-use Rattle.std.specs.Prelude.{◌≡◌, ℕ, ℤ, pos, neg_ℤ, List, ◌∷◌, ◌++◌, codes, Contains}
-use Rattle.std.specs.Prelude.{FitsSigned, Option, None, Some, ◌⊎◌, ◌↔◌}
+use Rattle.std.specs.Prelude.{◌≡◌, ◌⊎◌, ◌↔◌, ◌==◌, ◌-◌, ◌<◌, ℕ, ℤ, pos, neg_ℤ, Bool, List, ◌++◌}
+use Rattle.std.specs.Prelude.{codes, eqb, length, take, FitsSigned, if◌then◌else◌}
+use Rattle.std.specs.Prelude.{Option, None, Some}
 use Rattle.std.specs.Int.{w128}
+use Rattle.std.specs.List.{after_first, before_first, ends_with, position_or_len}
 use Rattle.std.specs.Str.Parse.{IsNumeral, digits_value}
-use Rattle.interpolator.specs.DecimalTexts.{IsInRange, SpellsDecimal}
+use Rattle.interpolator.specs.DecimalTexts.{Spells as IsDecimal}
 use Rattle.interpolator.specs.declared.Decimal.{Decimal}
 use Rattle.ifmt.specs.declared.words.Word.{Word}
 use Rattle.ifmt.specs.declared.words.Word.TheVariants.{Text, Number, Decimal as DecimalWord}
@@ -25,18 +27,18 @@ assignment_of (DecimalWord name value) = Some (decimal name.now value)
 assignment_of (ListWord name items) = Some (list name.now items.now)
 assignment_of Bad = None
 
--- the sign `=`
-abbrev pub equals_sign : ℕ
-equals_sign = 61
+-- `=`
+abbrev pub is_equals : ℕ → Bool
+is_equals b = b == 61
 
--- a word is cut at its first `=`
-pub record IsCut (word left right : List ℕ) : Type 0 where
-  pub parts : word ≡ left ++ (equals_sign ∷ right)
-  pub first : ¬ (Contains left equals_sign)
+-- an `=` is in the word
+abbrev pub HasEquals : List ℕ → Type 0
+HasEquals word = position_or_len is_equals word < length word
 
--- a text ends in this ending
-abbrev pub EndsIn : List ℕ → List ℕ → Type 0
-EndsIn ending whole = (front : List ℕ) × (whole ≡ front ++ ending)
+-- a text without an ending, if it ends so
+abbrev pub without : (ending whole : List ℕ) → Option (List ℕ)
+without ending whole =
+    if ends_with eqb whole ending then Some (take (length whole - length ending) whole) else None
 
 -- an optional `-`, then one or more ASCII digits, which write this number of 128 bits
 pub record Spells (whole : List ℕ) (value : ℤ) : Type 0 where
@@ -46,28 +48,31 @@ pub record Spells (whole : List ℕ) (value : ℤ) : Type 0 where
       ⊎ ((whole ≡ codes "-" ++ digits) × (value ≡ neg_ℤ (pos (digits_value 10 digits))))
   pub fits : FitsSigned w128 value
 
--- a text spells a decimal in range: an optional sign, digits, and perhaps a point with digits after
--- it; the scale is how many those are
-abbrev pub IsDecimal : List ℕ → Decimal → Type 0
-IsDecimal whole value =
-    SpellsDecimal whole value.units value.scale × IsInRange value.units value.scale
+-- an assignment is of what a text spells
+abbrev pub IsSpelled : {A : Type 0} → (Spelled : A → Type 0) → (made : A → Assignment)
+    → Assignment → Type 0
+IsSpelled {A} Spelled made assignment = (value : A) × Spelled value × (assignment ≡ made value)
 
--- the rule on the parts before and after the `=`: after `:` a whole number, after `:.` a decimal,
--- after `[]` the items of a list, else a text
-abbrev pub PartsMean : List ℕ → List ℕ → Assignment → Type 0
-PartsMean left right (text name value) =
-    (left ≡ name) × (right ≡ value) × ¬ (EndsIn (codes ":") left) × ¬ (EndsIn (codes ":.") left)
-    × ¬ (EndsIn (codes "[]") left)
-PartsMean left right (number name value) = (left ≡ name ++ codes ":") × Spells right value
-PartsMean left right (decimal name value) = (left ≡ name ++ codes ":.") × IsDecimal right value
-PartsMean left right (list name items) = (left ≡ name ++ codes "[]") × (right ≡ items)
+-- what the parts before and after the `=` mean, by the first without `:`, without `:.` and without
+-- `[]` at its end: a whole number, a decimal, the items of a list, or else a text
+abbrev pub MeanBy : (left right : List ℕ) → (number_name decimal_name list_name : Option (List ℕ))
+    → Assignment → Type 0
+MeanBy left right (Some name) _ _ assignment =
+    IsSpelled (Spells right) (λ value. number name value) assignment
+MeanBy left right None (Some name) _ assignment =
+    IsSpelled (IsDecimal right) (λ value. decimal name value) assignment
+MeanBy left right None None (Some name) assignment = assignment ≡ list name right
+MeanBy left right None None None assignment = assignment ≡ text left right
 
--- what a word means, by its parts
-pub record Means (word : List ℕ) (assignment : Assignment) : Type 0 where
-  pub left : List ℕ
-  pub right : List ℕ
-  pub cut : IsCut word left right
-  pub meant : PartsMean left right assignment
+abbrev pub PartsMean : (left right : List ℕ) → Assignment → Type 0
+PartsMean left right assignment =
+    MeanBy left right (without (codes ":") left) (without (codes ":.") left)
+    (without (codes "[]") left) assignment
+
+-- what a word means, by the parts around its first `=`
+abbrev pub Means : (word : List ℕ) → Assignment → Type 0
+Means word assignment = HasEquals word
+    × PartsMean (before_first is_equals word) (after_first is_equals word) assignment
 
 -- a word that means something
 abbrev pub IsGood : List ℕ → Type 0

@@ -1,18 +1,21 @@
 //! The words of the command line.
 
-ghost use Rattle.std.specs.Prelude.{◌≡◌, ◌↔◌, ℕ, ℤ, IfErr, IfOk, List, Some};
-ghost use Rattle.interpolator.specs.declared.Error.TheVariants.{NoMemory};
-ghost use Rattle.ifmt.specs.Items.{AreItems, items_of, texts_of};
+ghost use Rattle.std.specs.Prelude.{◌≡◌, ◌↔◌, ℤ, IfErr, IfOk, Some};
+ghost use Rattle.std.specs.List.{join_with_byte};
+ghost use Rattle.std.specs.Option.{option_map};
+ghost use Rattle.interpolator.specs.DecimalTexts.{Spells as IsDecimal};
 ghost use Rattle.interpolator.specs.declared.Decimal.{Decimal};
-ghost use Rattle.ifmt.specs.Words.{Assignment, Classifies, IsDecimal, PartsMean, Spells};
-ghost use Rattle.ifmt.specs.Words.{assignment_of};
+ghost use Rattle.interpolator.specs.declared.Error.TheVariants.{NoMemory};
+ghost use Rattle.ifmt.specs.Items.{comma, items_of, texts_of};
+ghost use Rattle.ifmt.specs.Words.{Assignment, Classifies, PartsMean, Spells, assignment_of};
+ghost use Rattle.ifmt.specs.Words.{without};
 
 use interpolator::{Decimal, Error};
 use std::alloc::Global;
 
 const EQUALS: char = '=';
 
-const NUMBER_MARK: char = ':';
+const NUMBER_MARK: &str = ":";
 
 const DECIMAL_MARK: &str = ":.";
 
@@ -61,25 +64,32 @@ fn classify_parts<'a>(left: &'a str, right: &'a str) -> Word<'a>
     ensures { (assignment : Assignment) → PartsMean left.now right.now assignment
         ↔ (assignment_of result ≡ Some assignment) }
 {
-    if let Some(name) = left.strip_suffix(NUMBER_MARK) {
+    if let Some(name) = without(NUMBER_MARK, left) {
         return match number_of(right) {
             None => Word::Bad,
             Some(value) => Word::Number { name, value },
         };
     }
-    if let Some(name) = left.strip_suffix(DECIMAL_MARK) {
+    if let Some(name) = without(DECIMAL_MARK, left) {
         return match decimal_of(right) {
             None => Word::Bad,
             Some(value) => Word::Decimal { name, value },
         };
     }
-    if let Some(name) = left.strip_suffix(LIST_MARK) {
+    if let Some(name) = without(LIST_MARK, left) {
         return Word::List { name, items: right };
     }
     Word::Text {
         name: left,
         text: right,
     }
+}
+
+// A text without an ending, if it ends so.
+fn without<'a>(ending: &str, text: &'a str) -> Option<&'a str>
+    ensures { option_map (λ x. x.now) result ≡ without ending.now text.now }
+{
+    text.strip_suffix(ending)
 }
 
 // The number that a text spells, if any: one that std parses, without a leading `+`.
@@ -108,8 +118,8 @@ fn decimal_of(text: &str) -> Option<Decimal>
 /// `NoMemory`.
 pub fn items(alloc: Global, text: &str) -> Result<Vec<&str>, Error>
     ensures ok { IfOk result (λ items. texts_of items.items ≡ items_of text.now) }
-    ensures only { IfOk result (λ items. (parts : List (List ℕ)) → AreItems text.now parts
-        ↔ (parts ≡ texts_of items.items)) }
+    ensures joined { IfOk result (λ items.
+        join_with_byte comma (texts_of items.items) ≡ text.now) }
     ensures err { IfErr result (λ error. error ≡ NoMemory) }
 {
     if text.is_empty() {

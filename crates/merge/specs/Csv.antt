@@ -1,6 +1,6 @@
 -- What the fields of a line are: how a reader goes through its characters.
 use Rattle.std.specs.Prelude.{◌≡◌, ◌⊎◌, ⊤, ◌==◌, ℕ, Bool, false, true, cond, not, ◌&&◌}
-use Rattle.std.specs.Prelude.{List, [], ◌∷◌, ◌++◌, map, string_bytes}
+use Rattle.std.specs.Prelude.{List, [], ◌∷◌, ◌++◌, fold, map, string_bytes}
 use Rattle.std.specs.Char.{encode_utf8}
 use Rattle.std.specs.Str.{chars, encode_utf8_all}
 use Rattle.merge.specs.declared.csv.Part.{Part}
@@ -73,14 +73,9 @@ taken reading c = record {
   part = part_after reading.part c;
 }
 
--- more characters are read
-abbrev pub taken_all : Reading → List ℕ → Reading
-taken_all reading [] = reading
-taken_all reading (c ∷ cs) = taken_all (taken reading c) cs
-
 -- the reading of a line
 abbrev pub read : List ℕ → Reading
-read line = taken_all begun (chars line)
+read line = fold taken begun (chars line)
 
 -- all fields of a reading
 abbrev pub all_fields : Reading → List (List ℕ)

@@ -3,7 +3,6 @@
 use Rattle.std.specs.Prelude.{◌≡◌, ◌≢◌, ◌⊎◌, ℕ, List, [], ◌++◌, map}
 use Rattle.std.specs.Prelude.{None, Some, Option, Result, MatchResult}
 use Rattle.std.specs.Borrow.{Bor}
-use Rattle.std.specs.List.{AllZip, concat}
 use Rattle.std.specs.Str.{chars}
 use Rattle.interpolator.specs.At.{outermost, text_of}
 use Rattle.interpolator.specs.Contexts.{found_by_pairs}
@@ -21,14 +20,13 @@ use Rattle.interpolator.specs.declared.Spec.{Spec}
 use Rattle.interpolator.specs.declared.Trait.{Trait}
 use Rattle.interpolator.specs.declared.View.{View}
 use Rattle.merge.specs.Csv.{fields_of}
-use Rattle.merge.specs.Table.{AreFaults, AreFaultsIn, HasTrouble, kinds_of, names_of}
+use Rattle.merge.specs.Table.{AreFaults, AreFaultsIn, HasTrouble, Joins, kinds_of, names_of}
 use Rattle.merge.specs.Values.{AreShown, IsMisfit, as_value, example_slots}
 use Rattle.merge.specs.declared.columns.Kind.{Kind}
 use Rattle.merge.specs.declared.letters.Fault.{Fault}
 use Rattle.merge.specs.declared.letters.Fault.TheVariants as why
 use Rattle.merge.specs.declared.table.LineFault.{LineFault}
 use Rattle.merge.specs.declared.table.Trouble.{Trouble}
-use Rattle.merge.specs.declared.table.Trouble.TheVariants.{NotNumber}
 
 -- ---- columns and fields as values
 
@@ -80,11 +78,10 @@ IsLetter form kinds line letter =
     HasTrouble kinds line None × IsLetterOf form kinds (fields_of line) letter
 
 -- a text is the letters of some lines, one after the other
-pub record AreLetters (form : PreparedFormat) (kinds : List Kind) (some_lines : List (List ℕ))
-    (text : List ℕ) : Type 0 where
-  pub letters : List (List ℕ)
-  pub each : AllZip (IsLetter form kinds) some_lines letters
-  pub all : text ≡ concat letters
+abbrev pub AreLetters : PreparedFormat → List Kind → (some_lines : List (List ℕ)) → (text : List ℕ)
+    → Type 0
+AreLetters form kinds some_lines text =
+    Joins (λ _ line letter. IsLetter form kinds line letter) 2 some_lines text
 
 -- ---- faults of the template
 
@@ -113,13 +110,6 @@ IsWrong form kinds error = (answer_of error ≡ no_memory) ⊎ IsFault form kind
 
 -- ---- what is written
 
--- views are of the columns for which a template is prepared
-pub record CanWrite (form : PreparedFormat) (sample : Sample) (views : List View) : Type 0 where
-  pub kinds : List Kind
-  pub fields : List (List ℕ)
-  pub ready : IsReady form kinds sample
-  pub shown : AreShown kinds fields views
-
 -- a letter is appended to a text, unless memory was refused
 abbrev pub PutsLetter : PreparedFormat → (views : List View) → (old new : List ℕ)
     → Result (Unit {0}) Error → Type 0
@@ -127,29 +117,17 @@ PutsLetter form views old new result = MatchResult result
     (λ _. (letter : List ℕ) × IsLetterWith form views letter × (new ≡ old ++ letter))
     (λ error. answer_of error ≡ no_memory)
 
--- the letter of the fields of a line is appended to a text, unless one is no number where one is
--- wanted
-abbrev pub PutsFields : PreparedFormat → List Kind → (fields : List (List ℕ))
-    → (old new : List ℕ) → Option Trouble → Type 0
-PutsFields form kinds fields old new None = IsMisfit 1 kinds fields None
-    × (letter : List ℕ) × IsLetterOf form kinds fields letter × (new ≡ old ++ letter)
-PutsFields form kinds fields old new (Some trouble) = (column : ℕ)
-    × (trouble ≡ NotNumber column) × IsMisfit 1 kinds fields (Some column) × (new ≡ old)
+-- the letter of fields is appended to a text, if nothing is wrong with them
+abbrev pub PutsIf : PreparedFormat → List Kind → (fields : List (List ℕ)) → (old new : List ℕ)
+    → Option Trouble → Type 0
+PutsIf form kinds fields old new None =
+    (letter : List ℕ) × IsLetterOf form kinds fields letter × (new ≡ old ++ letter)
+PutsIf form kinds fields old new (Some trouble) = new ≡ old
 
--- the letter of a line is appended to a text, unless something is wrong with the line
-abbrev pub PutsOrTells : PreparedFormat → List Kind → (line old new : List ℕ) → Option Trouble
-    → Type 0
-PutsOrTells form kinds line old new None =
-    (letter : List ℕ) × IsLetter form kinds line letter × (new ≡ old ++ letter)
-PutsOrTells form kinds line old new (Some trouble) =
-    HasTrouble kinds line (Some trouble) × (new ≡ old)
-
--- the faults of some lines are appended to others; if there are none, a text is the lines' letters
+-- the faults of some lines were found; if there are none, a text is the lines' letters
 pub record WritesRows (form : PreparedFormat) (kinds : List Kind) (some_lines : List (List ℕ))
-    (text : List ℕ) (old new : List LineFault) : Type 0 where
-  pub found : List LineFault
-  pub are : AreFaults kinds 2 some_lines found
-  pub told : new ≡ old ++ found
+    (text : List ℕ) (found : List LineFault) : Type 0 where
+  pub faults : AreFaults kinds 2 some_lines found
   pub letters : found ≡ [] → AreLetters form kinds some_lines text
 
 -- a fault is that of these lines

@@ -1,7 +1,7 @@
 -- The names of a table, and what is wrong with its lines.
 use Rattle.std.specs.Prelude.{◌≡◌, ◌+◌, ◌==◌, ℕ, Bool, cond, List, [], ◌∷◌, ◌++◌, map, drop}
 use Rattle.std.specs.Prelude.{get_or, length, Option, None, Some}
-use Rattle.std.specs.List.{AllZip, list_any}
+use Rattle.std.specs.List.{list_any}
 use Rattle.std.specs.Option.{option_map}
 use Rattle.std.specs.Str.{bytes_eq}
 use Rattle.std.specs.Str.Lines.{lines}
@@ -78,17 +78,22 @@ abbrev pub with_line : ℕ → Option Trouble → List LineFault
 with_line number None = []
 with_line number (Some trouble) = record { line = number; trouble = trouble } ∷ []
 
--- the lines with which something is wrong, of which the first has this number
-abbrev pub told_from : ℕ → List (Option Trouble) → List LineFault
-told_from number [] = []
-told_from number (trouble ∷ more) = with_line number trouble ++ told_from (number + 1) more
+-- a whole is parts, one after the other: one for each line, by its number
+abbrev pub Joins : {A : Type 0} → (Part : ℕ → List ℕ → List A → Type 0) → (number : ℕ)
+    → (some_lines : List (List ℕ)) → (whole : List A) → Type 0
+Joins Part number [] whole = whole ≡ []
+Joins {A} Part number (line ∷ more) whole = (part : List A) × (rest : List A)
+    × Part number line part × Joins Part (number + 1) more rest × (whole ≡ part ++ rest)
+
+-- what is told of a line
+abbrev pub IsToldOf : List Kind → (number : ℕ) → (line : List ℕ) → List LineFault → Type 0
+IsToldOf kinds number line told =
+    (trouble : Option Trouble) × HasTrouble kinds line trouble × (told ≡ with_line number trouble)
 
 -- these are the faults of lines, of which the first has this number
-pub record AreFaults (kinds : List Kind) (number : ℕ) (some_lines : List (List ℕ))
-    (told : List LineFault) : Type 0 where
-  pub found : List (Option Trouble)
-  pub each : AllZip (HasTrouble kinds) some_lines found
-  pub all : told ≡ told_from number found
+abbrev pub AreFaults : List Kind → (number : ℕ) → (some_lines : List (List ℕ)) → List LineFault
+    → Type 0
+AreFaults kinds number some_lines told = Joins (IsToldOf kinds) number some_lines told
 
 -- a name is among others
 abbrev pub is_among : List (List ℕ) → List ℕ → Bool

@@ -1,7 +1,7 @@
 //! The columns of a table: their names, and what their fields are.
 
 ghost use Rattle.std.specs.Prelude.{◌≡◌, IfOk, map, string_bytes};
-ghost use Rattle.merge.specs.Columns.{as_column, column_of};
+ghost use Rattle.merge.specs.Columns.{as_column, column_of, kinds_in};
 
 use std::alloc::{AllocError, Global};
 
@@ -43,8 +43,10 @@ fn column_of(field: &str) -> Column<'_>
 
 /// The columns that the fields of the first line name.
 pub fn columns_of(alloc: Global, fields: &[String]) -> Result<Vec<Column<'_>>, AllocError>
-    ensures { IfOk result (λ columns. map as_column columns.items
-        ≡ map column_of (map (λ field. string_bytes field) fields.now)) }
+    ensures kinds { IfOk result (λ columns. kinds_in columns.items
+        ≡ map (λ column. column.1) (map column_of (map (λ field. string_bytes field) fields.now))) }
+    ensures names { IfOk result (λ columns. map (λ column. column.name.now) columns.items
+        ≡ map (λ column. column.0) (map column_of (map (λ field. string_bytes field) fields.now))) }
 {
     let mut columns = Vec::with_capacity(alloc, fields.len())?;
     for field in fields.iter() {

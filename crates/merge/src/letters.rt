@@ -7,17 +7,16 @@ ghost use Rattle.interpolator.specs.Faults.{answer_of, no_memory};
 ghost use Rattle.interpolator.specs.Prepared.Rows.{pair_names};
 ghost use Rattle.interpolator.specs.Slots.{slots_of};
 ghost use Rattle.interpolator.specs.declared.Error.TheVariants.{NoMemory};
-ghost use Rattle.merge.specs.Columns.{as_column, kinds_in};
+ghost use Rattle.merge.specs.Columns.{kinds_in};
 ghost use Rattle.merge.specs.Csv.{fields_of, read};
-ghost use Rattle.merge.specs.Letters.{AreLetters, CanWrite, HasLines, HasNames, IsReady, IsSound};
-ghost use Rattle.merge.specs.Letters.{IsWrong, Prevents, PutsFields, PutsLetter, PutsOrTells};
-ghost use Rattle.merge.specs.Letters.{WritesRows, form_of};
-ghost use Rattle.merge.specs.Table.{AreFaultsIn, columns_of, header_of, kinds_of, names_of};
-ghost use Rattle.merge.specs.Table.{quote_trouble, repeats, rows_of, with_line};
-ghost use Rattle.merge.specs.Values.{example_by};
+ghost use Rattle.merge.specs.Letters.{AreLetters, HasLines, HasNames, IsReady, IsSound, IsWrong};
+ghost use Rattle.merge.specs.Letters.{Prevents, PutsIf, PutsLetter, WritesRows, form_of};
+ghost use Rattle.merge.specs.Table.{AreFaultsIn, HasTrouble, IsTrouble, header_of, kinds_of};
+ghost use Rattle.merge.specs.Table.{names_of, quote_trouble, rows_of, with_line};
+ghost use Rattle.merge.specs.Values.{AreShown, example_by};
 ghost use Rattle.merge.specs.declared.letters.Fault.TheVariants.{Template};
 
-use crate::columns::{Column, columns_of, names_of};
+use crate::columns::{Column, columns_of};
 use crate::csv::read_line;
 use crate::table::{
     LineFault, Trouble, header_of, is_clean, push_fault, quote_trouble, repeats_of, trouble_in,
@@ -96,27 +95,24 @@ fn prepared_letter(alloc: Global, template: &Template, frame: Frame<'_>) -> Resu
     template.prepare(alloc, &Pairs(frame.sample))
 }
 
-/// Writes the letter of a line with these views, one for each value of the sample with which the
-/// letter was prepared. The buffer refuses a text only if memory runs out.
-fn write_letter<'a>(
+/// Writes the letter of a line with these views, one for each column. The buffer refuses a text only
+/// if memory runs out.
+fn write_letter(
     alloc: Global,
     out: &mut TextBuffer,
     letter: &Prepared,
-    sample: &'a [(&'a str, Formattable<'a, View<'a>>)],
+    frame: Frame<'_>,
     views: &[View<'_>],
 ) -> Result<(), Error>
-    requires { CanWrite letter.now sample.now views.now }
+    requires ready { IsReady letter.now (kinds_in frame.columns.now) frame.sample.now }
+    requires shown { (fields : List (List ℕ)) × AreShown (kinds_in frame.columns.now) fields
+        views.now }
     ensures { PutsLetter letter.now views.now out.old.text out.new.text result }
 {
     a_view_has_a_text_by_its_kind();
     let row = row_of(alloc, views)?;
-    let answer = a_prepared_format_is_written(
-        alloc,
-        out,
-        letter,
-        &Pairs(sample),
-        &Row(row.as_slice()),
-    );
+    let sample = Pairs(frame.sample);
+    let answer = a_prepared_format_is_written(alloc, out, letter, &sample, &Row(row.as_slice()));
     if out.refused() {
         return Err(Error::NoMemory);
     }
@@ -134,14 +130,16 @@ fn write_fields(
 ) -> Result<Option<Trouble>, Error>
     requires ready { IsReady letter.now (kinds_in frame.columns.now) frame.sample.now }
     requires whole { length fields.now ≡ length frame.columns.now }
-    ensures ok { IfOk result (λ trouble. PutsFields letter.now (kinds_in frame.entry.columns.now)
+    ensures trouble { IfOk result (λ trouble. IsTrouble (kinds_in frame.entry.columns.now)
+        (map (λ field. string_bytes field) fields.now) None trouble) }
+    ensures ok { IfOk result (λ trouble. PutsIf letter.now (kinds_in frame.entry.columns.now)
         (map (λ field. string_bytes field) fields.now) out.old.text out.new.text trouble) }
     ensures err { IfErr result (λ error. answer_of error ≡ no_memory) }
 {
     let read = views_of(alloc, frame.columns, fields)?;
     match read {
         Ok(views) => {
-            write_letter(alloc, out, letter, frame.sample, views.as_slice())?;
+            write_letter(alloc, out, letter, frame, views.as_slice())?;
             Ok(None)
         }
         Err(column) => Ok(Some(Trouble::NotNumber(column))),
@@ -157,8 +155,10 @@ fn write_line(
     line: &str,
 ) -> Result<Option<Trouble>, Error>
     requires ready { IsReady letter.now (kinds_in frame.columns.now) frame.sample.now }
-    ensures ok { IfOk result (λ trouble. PutsOrTells letter.now (kinds_in frame.entry.columns.now)
-        line.now out.old.text out.new.text trouble) }
+    ensures trouble { IfOk result (λ trouble.
+        HasTrouble (kinds_in frame.entry.columns.now) line.now trouble) }
+    ensures ok { IfOk result (λ trouble. PutsIf letter.now (kinds_in frame.entry.columns.now)
+        (fields_of line.now) out.old.text out.new.text trouble) }
     ensures err { IfErr result (λ error. answer_of error ≡ no_memory) }
 {
     let reading = read_line(alloc, line)?;
@@ -172,29 +172,29 @@ fn write_line(
     }
 }
 
-/// Writes the letters of all lines of a table after the first, and appends the lines that have
+/// Writes the letters of all lines of a table after the first, and returns the lines that have
 /// none, with what is wrong with them.
 fn write_lines(
     alloc: Global,
     out: &mut TextBuffer,
-    faults: &mut Vec<LineFault>,
     letter: &Prepared,
     frame: Frame<'_>,
     table: &str,
-) -> Result<(), Error>
+) -> Result<Vec<LineFault>, Error>
     requires ready { IsReady letter.now (kinds_in frame.columns.now) frame.sample.now }
     requires empty { out.old.text ≡ [] }
-    ensures ok { IfOk result (λ _. WritesRows letter.now (kinds_in frame.entry.columns.now)
-        (rows_of table.now) out.new.text faults.old.items faults.new.items) }
+    ensures ok { IfOk result (λ faults. WritesRows letter.now (kinds_in frame.entry.columns.now)
+        (rows_of table.now) out.new.text faults.items) }
     ensures err { IfErr result (λ error. answer_of error ≡ no_memory) }
 {
+    let mut faults = Vec::new(alloc);
     let mut number = 1usize;
     for line in table.lines().skip(1) {
         number += 1;
         let trouble = write_line(alloc, out, letter, frame, line)?;
-        push_fault(faults, number, trouble)?;
+        push_fault(&mut faults, number, trouble)?;
     }
-    Ok(())
+    Ok(faults)
 }
 
 /// The fault of a table whose first line has a fault by which its names cannot be read.
@@ -220,20 +220,19 @@ fn header_fields(alloc: Global, table: &str) -> Result<Vec<String>, Fault>
     Ok(header.into_fields()?)
 }
 
-/// A letter for each line of a table, which has these columns, examples of them, and faults of the
-/// first line.
+/// A letter for each line of a table, which has these columns, and examples of them.
 fn letters_of<'a>(
     alloc: Global,
     template: &Template,
     columns: &'a [Column<'a>],
     sample: &'a [(&'a str, Formattable<'a, View<'a>>)],
-    mut faults: Vec<LineFault>,
     table: &str,
 ) -> Result<String, Fault>
-    requires columns { map as_column columns.now ≡ columns_of table.now }
-    requires sample { HasNames (names_of table.now) (kinds_of table.now) sample.now }
+    requires kinds { kinds_in columns.now ≡ kinds_of table.now }
+    requires names { map (λ column. column.name.now) columns.now ≡ names_of table.now }
+    requires sample { HasNames (map (λ column. column.name.now) columns.now)
+        (kinds_in columns.now) sample.now }
     requires closed { quote_trouble (read (header_of table.now)).part ≡ None }
-    requires faults { faults.items ≡ repeats (names_of table.now) }
     ensures sound { IfOk result (λ _.
         IsSound (form_of template.now table.now) (kinds_of table.now)) }
     ensures whole { IfOk result (λ _. AreFaultsIn table.now []) }
@@ -243,8 +242,10 @@ fn letters_of<'a>(
 {
     let frame = Frame { columns, sample };
     let letter = prepared_letter(alloc, template, frame)?;
+    let mut faults = repeats_of(alloc, columns)?;
     let mut out = TextBuffer::new(alloc);
-    write_lines(alloc, &mut out, &mut faults, &letter, frame, table)?;
+    let others = write_lines(alloc, &mut out, &letter, frame, table)?;
+    faults.extend_from_slice(others.as_slice())?;
     if is_clean(&faults) {
         return Ok(out.into_string());
     }
@@ -270,10 +271,8 @@ pub fn merged(alloc: Global, template: &str, table: &str) -> Result<String, Faul
     let fields = header_fields(alloc, table)?;
     let held = columns_of(alloc, fields.as_slice())?;
     let columns = held.as_slice();
-    let names = names_of(alloc, columns)?;
-    let faults = repeats_of(alloc, names.as_slice())?;
     let text = View::Character('a');
     let number = View::Decimal { units: 0, scale: 0 };
     let sample = sample_of(alloc, columns, &text, &number)?;
-    letters_of(alloc, &template, columns, sample.as_slice(), faults, table)
+    letters_of(alloc, &template, columns, sample.as_slice(), table)
 }

@@ -31,7 +31,7 @@ use letters::{Fault, merged};
 use std::alloc::Global;
 use std::process::ExitCode;
 use std::{env, fs, io};
-use table::{LineFault, Trouble};
+use table::{LineFault, Trouble, header_of};
 
 const WRITTEN: u8 = 0;
 
@@ -77,7 +77,7 @@ fn told_line(alloc: Global, table: &str, fault: LineFault, wanted: usize) -> Res
 
 /// The faults of a table, a line for each.
 fn told_lines(alloc: Global, files: Files<'_>, faults: &[LineFault]) -> Result<String, Error> {
-    let header = csv::read_line(alloc, files.table.lines().next().unwrap_or(""))?;
+    let header = csv::read_line(alloc, header_of(files.table))?;
     let wanted = header.count();
     let mut told = String::new(alloc);
     for fault in faults {
@@ -108,7 +108,7 @@ fn picture(
 
 /// A fault of the template, with the names that the first line of the table gives, if it has any.
 fn told_fault(alloc: Global, files: Files<'_>, error: &Error) -> Result<String, Error> {
-    let header = files.table.lines().next().unwrap_or("");
+    let header = header_of(files.table);
     if header.is_empty() {
         return picture(alloc, files, error, &[]);
     }

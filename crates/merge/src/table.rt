@@ -5,6 +5,7 @@ ghost use Rattle.merge.specs.Csv.{reading_of};
 ghost use Rattle.merge.specs.Table.{count_trouble, header_of, is_among, quote_trouble};
 ghost use Rattle.merge.specs.Table.{repeat_trouble, repeats, trouble_in, with_line};
 
+use crate::columns::{Column, names_of};
 use crate::csv::{Part, Reading};
 use std::alloc::{AllocError, Global};
 
@@ -102,10 +103,13 @@ pub fn push_fault(
     }
 }
 
-/// The faults of the first line: the names that it has twice.
-pub fn repeats_of(alloc: Global, names: &[&str]) -> Result<Vec<LineFault>, AllocError>
-    ensures { IfOk result (λ faults. faults.items ≡ repeats (map (λ x. x.now) names.now)) }
+/// The faults of the first line: the names that its columns have twice.
+pub fn repeats_of(alloc: Global, columns: &[Column<'_>]) -> Result<Vec<LineFault>, AllocError>
+    ensures { IfOk result (λ faults.
+        faults.items ≡ repeats (map (λ column. column.name.now) columns.now)) }
 {
+    let names = names_of(alloc, columns)?;
+    let names = names.as_slice();
     let mut faults = Vec::new(alloc);
     for (before, name) in names.iter().enumerate() {
         push_fault(&mut faults, 1, repeat_trouble(&names[..before], name))?;

@@ -7,12 +7,9 @@ use Rattle.std.proofs.Math.Nat.{div-eq_of_lt}
 use Rattle.std.proofs.lemmas.Int.Digits.{length-digits_of-le, length-digits_of_step}
 use Rattle.std.proofs.lemmas.List.{length-map}
 use Rattle.std.specs.Int.Digits.{digits_of}
-use Rattle.std.specs.Int.{w128}
-use Rattle.std.specs.Prelude.{FitsSigned, ◌↔◌}
 use Rattle.interpolator_render.specs.Decimals.{after_point, decimal_text, placed}
 use Rattle.interpolator_render.specs.Digits.{digit_text}
-use Rattle.interpolator.specs.declared.Decimal.{Decimal}
-use Rattle.strangers.specs.Values.{DecimalWithin, count_after, decimal_characters}
+use Rattle.strangers.specs.Values.{count_after}
 use Rattle.interpolator_render.proofs.DecimalLemmas.{length-placed, placed_none, plain_decimal}
 use Rattle.interpolator_render.proofs.DecimalLemmas.{remainder_fits}
 use Rattle.interpolator_render.proofs.DigitLemmas.{digit_text_map, digit_text_zero}
@@ -74,12 +71,3 @@ length-decimal scale units =
     (length-append (digit_text 10 false (units / 10 ^ scale)) (after_point (placed scale part))
     ∙ ap (λ (n : ℕ). length (digit_text 10 false (units / 10 ^ scale)) + n)
     (length-after scale part (remainder_fits units scale)))
-
--- a count of a decimal's characters is within a limit if the decimal is
-pub decimal_within : (decimal : Decimal) (count : ℕ) → count ≡ decimal_characters decimal →
-    FitsSigned w128 decimal.units → decimal.scale < 2 ^ 32 →
-    (most : ℕ) → (count ≤ most) ↔ DecimalWithin most decimal
-decimal_within decimal count same units scale most = (
-  λ le. (units, scale, omega (arith, same, le)),
-  λ within. omega (arith, same, within.2),
-)

@@ -15,7 +15,6 @@ use Rattle.interpolator.specs.Template.NodeSamples.{faults_over}
 use Rattle.interpolator.specs.Meaning.Work.{Work, text_work}
 use Rattle.interpolator.specs.Views.{Shown}
 use Rattle.interpolator.specs.declared.Cost.{Cost}
-use Rattle.interpolator.specs.declared.Error.{Error}
 use Rattle.interpolator.specs.declared.Limits.{Limits}
 use Rattle.interpolator.specs.declared.Spec.{Spec}
 use Rattle.interpolator.specs.declared.Trait.{Trait}
@@ -122,10 +121,6 @@ first_why allowed format words = option_or (words_why allowed.values words)
 -- what is reported is why, or that memory was refused
 abbrev pub Rejects : Option Why → Refused → Type 0
 Rejects why refused = (why_of refused ≡ failed no_memory) ⊎ (why ≡ Some (why_of refused))
-
--- if a format has no fault, an error is that memory was refused
-abbrev pub FailsOfMemory : List ℕ → Names → Error → Type 0
-FailsOfMemory format finds error = faults_with format finds ≡ [] → answer_of error ≡ no_memory
 
 -- ---- when it is written
 

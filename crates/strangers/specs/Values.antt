@@ -1,10 +1,9 @@
 -- The values that a format is given: what they show, and what limits they keep.
-use Rattle.std.specs.Prelude.{ℕ, ◌+◌, ◌≤◌, ◌<◌, ◌^◌, FitsSigned, List, [], ◌∷◌, All, length, map}
-use Rattle.std.specs.Prelude.{Option, None, max, reverse, ◌==◌, if◌then◌else◌}
+use Rattle.std.specs.Prelude.{⊤, ℕ, ◌+◌, ◌<◌, ◌^◌, ◌==◌, max, FitsSigned, List, [], ◌∷◌, All}
+use Rattle.std.specs.Prelude.{length, map, Option, None, Some, if◌then◌else◌}
 use Rattle.std.specs.Borrow.{Bor}
 use Rattle.std.specs.Int.{w128}
-use Rattle.std.specs.List.{find}
-use Rattle.std.specs.Option.{option_map}
+use Rattle.std.specs.Option.{option_or}
 use Rattle.std.specs.Str.{bytes_eq, chars, encode_utf8_all}
 use Rattle.interpolator_render.specs.Decimals.{decimal_text}
 use Rattle.interpolator_render.specs.Numbers.{distance_from_zero}
@@ -13,7 +12,6 @@ use Rattle.interpolator.specs.Views.{Shown, some_text, signed_number, decimal_nu
 use Rattle.interpolator.specs.declared.Bits.TheVariants.{B128}
 use Rattle.interpolator.specs.declared.Decimal.{Decimal}
 use Rattle.interpolator.specs.declared.Formattable.{Formattable}
-use Rattle.interpolator.specs.declared.Limits.{Limits}
 use Rattle.strangers.specs.declared.values.Datum.{Datum}
 use Rattle.strangers.specs.declared.values.Datum.TheVariants.{Text, Number, Decimal as InDecimal}
 use Rattle.strangers.specs.declared.values.Given.{Given}
@@ -59,14 +57,11 @@ pair_named pair = (pair.0.now, slots_of pair.1)
 abbrev pub Row : Type 0
 Row = List (Bor (List ℕ) × Formattable Datum)
 
--- what is found under a name, by its characters: what the last of some pairs of the name has
-abbrev pub found_among : List Named → List ℕ → Option (Slots Datum)
-found_among named name =
-    option_map (λ one. one.1) (find (λ one. bytes_eq (encode_utf8_all name) one.0) (reverse named))
-
--- what is found under a name: what the last word of that name gives
+-- what is found under a name, by its characters: what the last word of that name gives
 abbrev pub found_by_words : List Word → List ℕ → Option (Slots Datum)
-found_by_words words = found_among (map word_named words)
+found_by_words [] name = None
+found_by_words (word ∷ words) name = option_or (found_by_words words name)
+    (if bytes_eq (encode_utf8_all name) word.name.now then Some (given_tree word.given) else None)
 
 -- how many characters are after the digits before the point: the point and the digits after it,
 -- or none
@@ -89,23 +84,13 @@ abbrev pub longest_of : List Datum → ℕ
 longest_of [] = 0
 longest_of (value ∷ values) = max (characters_of value) (longest_of values)
 
--- a decimal has at most so many characters, with a sign; its units and its scale are in range
-abbrev pub DecimalWithin : ℕ → Decimal → Type 0
-DecimalWithin most decimal = FitsSigned w128 decimal.units × (decimal.scale < 2 ^ 32)
-    × (length (decimal_text None decimal.scale (distance_from_zero decimal.units)) < most)
+-- a whole number is one of 128 bits; the units of a decimal have as many, and its scale has 32
+abbrev pub IsInRange : Datum → Type 0
+IsInRange (Text text) = ⊤
+IsInRange (Number number) = FitsSigned w128 number
+IsInRange (InDecimal decimal) = FitsSigned w128 decimal.units × (decimal.scale < 2 ^ 32)
 
--- a text has at most so many characters, and so has a decimal; a whole number is one of 128 bits
-abbrev pub DatumWithin : ℕ → Datum → Type 0
-DatumWithin most (Text text) = length (chars text.now) ≤ most
-DatumWithin most (Number number) = FitsSigned w128 number
-DatumWithin most (InDecimal decimal) = DecimalWithin most decimal
-
--- what a word gives is within the limits
-abbrev pub GivenWithin : Limits → Given → Type 0
-GivenWithin limits (One value) = DatumWithin limits.text value
-GivenWithin limits (Many values) =
-    (length values.items ≤ limits.items) × All (DatumWithin limits.text) values.items
-
--- so is each word
-abbrev pub WordsWithin : Limits → List Word → Type 0
-WordsWithin limits words = All (λ word. GivenWithin limits word.given) words
+-- so are the values that a word gives
+abbrev pub AreInRange : Given → Type 0
+AreInRange (One value) = IsInRange value
+AreInRange (Many values) = All IsInRange values.items

@@ -5,7 +5,7 @@ use Rattle.std.specs.Prelude.{◌∷◌, ◌++◌, codes, eqb, length, map, take
 use Rattle.std.specs.Prelude.{if◌then◌else◌, Option, None, Some}
 use Rattle.std.specs.Borrow.{Bor}
 use Rattle.std.specs.Int.{w128}
-use Rattle.std.specs.List.{All, AllZip, after_first, before_first, ends_with, position_or_len}
+use Rattle.std.specs.List.{AllZip, after_first, before_first, ends_with, position_or_len}
 use Rattle.std.specs.List.{slice_split}
 use Rattle.std.specs.Str.Parse.{IsNumeral, digits_value}
 use Rattle.interpolator.specs.DecimalTexts.{Spells as IsDecimal}
@@ -62,17 +62,11 @@ without ending text =
 
 -- a value is the number that a text spells
 abbrev pub IsNumber : List ℕ → Given → Type 0
-IsNumber text (One (Number number)) = Spells text number
-IsNumber text (One (Text value)) = ⊥
-IsNumber text (One (InDecimal decimal)) = ⊥
-IsNumber text (Many values) = ⊥
+IsNumber text given = (value : ℤ) × Spells text value × (given ≡ One (Number value))
 
 -- a value is the decimal that a text spells as the library's `Decimal::parse` reads it
 abbrev pub IsDecimalOf : List ℕ → Given → Type 0
-IsDecimalOf text (One (InDecimal decimal)) = IsDecimal text decimal
-IsDecimalOf text (One (Text value)) = ⊥
-IsDecimalOf text (One (Number number)) = ⊥
-IsDecimalOf text (Many values) = ⊥
+IsDecimalOf text given = (value : Decimal) × IsDecimal text value × (given ≡ One (InDecimal value))
 
 -- a value is the items of a text
 abbrev pub AreItems : List ℕ → Given → Type 0
@@ -126,9 +120,7 @@ abbrev pub GiveAll : List (List ℕ) → List Word → Type 0
 GiveAll words read = AllZip Gives words read
 
 -- the first of the words that gives none
-pub record IsFirstBad (words : List (List ℕ)) (bad : List ℕ) : Type 0 where
-  pub before : List (List ℕ)
-  pub after : List (List ℕ)
-  pub split : words ≡ before ++ (bad ∷ after)
-  pub good : All IsGood before
-  pub none : ¬ (IsGood bad)
+abbrev pub IsFirstBad : (words : List (List ℕ)) → (bad : List ℕ) → Type 0
+IsFirstBad [] bad = ⊥
+IsFirstBad (word ∷ words) bad =
+    (IsGood word × IsFirstBad words bad) ⊎ (¬ (IsGood word) × (word ≡ bad))

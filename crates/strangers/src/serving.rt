@@ -1,12 +1,12 @@
 //! A format that is not trusted: checked, weighed and written.
-ghost use Rattle.std.specs.Prelude.{◌≡◌, IfErr, IfOk, None, OnOk, string_bytes};
+ghost use Rattle.std.specs.Prelude.{◌≡◌, IfErr, IfOk, None, OnOk, All, [], string_bytes};
 ghost use Rattle.std.specs.Str.{chars};
 ghost use Rattle.interpolator.specs.Contexts.{found_by_pairs};
-ghost use Rattle.interpolator.specs.declared.Error.TheVariants.{NoMemory};
-ghost use Rattle.strangers.specs.Values.{GivenWithin, WordsWithin};
-ghost use Rattle.strangers.specs.Serving.{FailsOfMemory, IsServed, IsWhole, Rejects, cost_why};
-ghost use Rattle.strangers.specs.Serving.{count_why, first_why, format_why, given_why};
-ghost use Rattle.strangers.specs.Serving.{is_past, told_cost, value_why, why_in, words_why};
+ghost use Rattle.interpolator.specs.Faults.{answer_of, no_memory};
+ghost use Rattle.strangers.specs.Values.{AreInRange};
+ghost use Rattle.strangers.specs.Serving.{IsServed, IsWhole, Rejects, cost_why, count_why};
+ghost use Rattle.strangers.specs.Serving.{faults_with, first_why, format_why, given_why, is_past};
+ghost use Rattle.strangers.specs.Serving.{told_cost, value_why, why_in, words_why};
 ghost use Rattle.strangers.specs.declared.serving.Refused.TheVariants.{Format};
 
 use crate::lending::{entries_of, pairs_of};
@@ -97,7 +97,7 @@ fn check_value(count: Count, told: usize, limit: usize) -> Result<(), Refused>
 /// Rejects what a word gives, if it is past the limits.
 fn check_given(limits: &Limits, given: &Given<'_>) -> Result<(), Refused>
     ensures why { why_in result ≡ given_why limits.now given.now }
-    ensures within { OnOk result (GivenWithin limits.now given.now) }
+    ensures range { OnOk result (AreInRange given.now) }
 {
     match given {
         Given::One(value) => check_value(Count::Text, characters_of(value), limits.text),
@@ -111,7 +111,7 @@ fn check_given(limits: &Limits, given: &Given<'_>) -> Result<(), Refused>
 /// Rejects words of which one is past the limits.
 fn check_words(limits: &Limits, words: &[Word<'_>]) -> Result<(), Refused>
     ensures why { why_in result ≡ words_why limits.now words.now }
-    ensures within { OnOk result (WordsWithin limits.now words.now) }
+    ensures range { OnOk result (All (λ word. AreInRange word.given) words.now) }
 {
     for word in words {
         check_given(limits, &word.given)?;
@@ -128,17 +128,17 @@ fn check_cost(cost: &Cost, most: &Cost) -> Result<(), Refused>
     check(Count::Buffered, cost.buffered, most.buffered)
 }
 
-/// Writes a template with pairs to a writer of so many characters.
+/// Writes a template that has no fault with pairs to a writer of so many characters, with these.
 fn written<'a>(
     alloc: Global,
     characters: usize,
     template: &Template,
     pairs: &'a [(&'a str, Formattable<'a, Datum<'a>>)],
 ) -> Result<String, Error>
+    requires { faults_with template.now (found_by_pairs pairs.now) ≡ [] }
     ensures ok { IfOk result (λ text.
         IsWhole template.now (found_by_pairs pairs.now) (chars (string_bytes text))) }
-    ensures err { IfErr result (λ error.
-        FailsOfMemory template.now (found_by_pairs pairs.now) error) }
+    ensures err { IfErr result (λ error. answer_of error ≡ no_memory) }
 {
     a_context_resembles_itself::<Datum<'a>>();
     let mut out = Bounded::new(alloc, characters.saturating_mul(CHARACTER));
@@ -160,9 +160,8 @@ fn decided<'a>(
     pairs: &'a [(&'a str, Formattable<'a, Datum<'a>>)],
 ) -> Result<String, Refused>
     ensures ok { IfOk result (λ text.
-        IsWhole template.now (found_by_pairs pairs.now) (chars (string_bytes text))) }
-    ensures accepted { OnOk result
-        (format_why allowed.now template.now (found_by_pairs pairs.now) ≡ None) }
+        IsWhole template.now (found_by_pairs pairs.now) (chars (string_bytes text))
+        × (format_why allowed.now template.now (found_by_pairs pairs.now) ≡ None)) }
     ensures err { IfErr result (λ refused.
         Rejects (format_why allowed.now template.now (found_by_pairs pairs.now)) refused) }
 {

@@ -1,11 +1,11 @@
 //! The values of words.
-ghost use Rattle.std.specs.Prelude.{◌≡◌, ◌↔◌, ◌≤◌, ◌<◌, ◌+◌, ◌/◌, ◌^◌, ℕ, false, All};
+ghost use Rattle.std.specs.Prelude.{◌≡◌, ◌≤◌, ◌<◌, ◌+◌, ◌/◌, ◌^◌, false, All};
 ghost use Rattle.std.specs.Prelude.{FitsSigned, None, length};
 ghost use Rattle.std.specs.Int.{w128};
 ghost use Rattle.std.specs.Str.{chars};
 ghost use Rattle.interpolator_render.specs.Decimals.{decimal_text};
 ghost use Rattle.interpolator_render.specs.Digits.{digit_text};
-ghost use Rattle.strangers.specs.Values.{DatumWithin, characters_of, count_after};
+ghost use Rattle.strangers.specs.Values.{IsInRange, characters_of, count_after};
 ghost use Rattle.strangers.specs.Values.{decimal_characters, longest_of};
 
 use interpolator::{Bits, Decimal, Spec, Trait, Value, View};
@@ -58,7 +58,7 @@ pub struct Word<'a> {
 /// is written without a precision, and counts one more for a sign.
 pub fn characters_of(value: &Datum<'_>) -> usize
     ensures count { result ≡ characters_of value.now }
-    ensures within { (most : ℕ) → (result ≤ most) ↔ DatumWithin most value.now }
+    ensures range { IsInRange value.now }
 {
     match value {
         Datum::Text(text) => char_count(text),
@@ -136,7 +136,7 @@ fn characters_of_decimal(decimal: Decimal) -> usize
 /// How many characters the longest text has.
 pub fn longest_of(values: &[Datum<'_>]) -> usize
     ensures count { result ≡ longest_of values.now }
-    ensures within { (most : ℕ) → (result ≤ most) ↔ All (DatumWithin most) values.now }
+    ensures range { All IsInRange values.now }
 {
     let mut longest = 0usize;
     for value in values {

@@ -1,5 +1,5 @@
 use Rattle.std.proofs.Common.{map}
-use Rattle.catalogue.specs.Messages.{as_file}
+use Rattle.catalogue.specs.Files.{as_file}
 use Rattle.catalogue.proofs.SoundLemmas.{clean_files}
 use Rattle.catalogue.proofs.checks.check.Goals as goal
 

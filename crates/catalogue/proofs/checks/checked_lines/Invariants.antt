@@ -1,15 +1,21 @@
-use Rattle.std.proofs.Common.{◌≡◌, [], length, map, string_bytes}
-use Rattle.std.specs.Option.{option_map}
+use Rattle.std.proofs.Common.{◌≡◌, ◌+◌, ℕ, List, [], ◌++◌, drop, string_bytes}
+use Rattle.std.specs.Option.{option_map, option_or}
+use Rattle.catalogue.specs.Files.{numbered, texts_of}
+use Rattle.catalogue.specs.Forms.{as_sought, first_given}
 use Rattle.catalogue.specs.Keys.{Remembers}
-use Rattle.catalogue.specs.Messages.{as_line, keys_in, line_under, numbered, told_of_lines}
-use Rattle.catalogue.specs.Messages.{with_format}
+use Rattle.catalogue.specs.Sought.{as_found, line_for, with_format}
+use Rattle.catalogue.specs.Told.{told_of_lines}
 use Rattle.catalogue.proofs.checks.checked_lines.Given as goal
 
 abbrev pub invariant-loop-text : goal.invariant-loop-text
-invariant-loop-text l = record {
-  counted : l.number ≡ length l.yielded;
-  keys : Remembers (keys_in (numbered (map (λ x. x.now) l.yielded))) l.keys;
-  told : string_bytes l.told ≡ told_of_lines l.file [] (numbered (map (λ x. x.now) l.yielded));
-  found : option_map as_line l.found ≡ option_map (with_format l.file)
-      (line_under l.key (numbered (map (λ x. x.now) l.yielded)));
-}
+invariant-loop-text l =
+    let rest = numbered l.file (l.number + 1) (texts_of (drop l.text-index l.lines)) in
+    let all = numbered l.file 1 (texts_of l.lines) in
+    record {
+      counted : l.number ≡ l.text-index;
+      told : (seen : List (ℕ × List ℕ)) × Remembers seen l.keys
+          × (string_bytes l.told ++ told_of_lines seen rest ≡ told_of_lines [] all);
+      found : option_or (option_map as_found l.found)
+          (option_map with_format (first_given (line_for (as_sought l.wanted)) rest))
+          ≡ option_map with_format (first_given (line_for (as_sought l.wanted)) all);
+    }

@@ -1,7 +1,8 @@
-use Rattle.std.proofs.Common.{◌≡◌, map}
-use Rattle.std.specs.Option.{option_map}
+use Rattle.std.proofs.Common.{◌≡◌, drop}
+use Rattle.catalogue.specs.Files.{texts_of}
 use Rattle.catalogue.specs.Forms.{rule_of}
 use Rattle.catalogue.proofs.forms.rule_of.Given as goal
 
 abbrev pub invariant-loop-line : goal.invariant-loop-line
-invariant-loop-line l = option_map (λ x. x.now) l.rule ≡ rule_of (map (λ x. x.now) l.yielded)
+invariant-loop-line l =
+    rule_of (texts_of (drop l.line-index l.lines)) ≡ rule_of (texts_of l.lines)

@@ -5,7 +5,7 @@ returns-clause-told c =
     rw (
       c.as_str-name.ensures.value,
       c.in_ok-form.ensures,
-      c.choice_in-choice.ensures,
-      c.without_mark.ensures,
-      c.as_str.ensures.value,
+      c.in_ok-choice.ensures,
+      c.as_slice.ensures.value,
+      c.in_ok-lines.ensures,
     ) at c.in_ok-told.ensures.ok

@@ -1,13 +1,8 @@
-use Rattle.std.proofs.Common.{◌≢◌, ◌∙◌, Ok, length, lit<, rules}
-use Rattle.std.proofs.lemmas.Iterator.Consumers.{map_from_collect}
-use Rattle.std.proofs.lemmas.Iterator.Splits.{YieldsList-from_str_split}
+use Rattle.std.proofs.Common.{◌≢◌, ◌∙◌, length, rules}
 use Rattle.catalogue.proofs.WordLemmas.{some_items}
 use Rattle.catalogue.proofs.words.items_of.Goals as goal
 
 pub returns-clause-items : goal.returns-clause-items
 returns-clause-items c =
     let some : length c.args.text.now ≢ 0 = search rules in
-    map_from_collect {E = Unit {0}} (Ok c.in_ok-items.items) c.in_ok-items.ensures.ran
-    (YieldsList-from_str_split 44 c.args.text.now (lit< tt) c.split.ensures.text
-    c.split.ensures.has_more c.split.ensures.pattern)
-    ∙ some_items c.args.text.now some
+    c.in_ok-items.ensures ∙ some_items c.args.text.now some

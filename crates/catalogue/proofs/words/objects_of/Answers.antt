@@ -1,4 +1,4 @@
-use Rattle.catalogue.proofs.MessageLemmas.{zip_more}
+use Rattle.catalogue.proofs.ZipLemmas.{zip_more}
 use Rattle.catalogue.proofs.WordLemmas.{first_bad}
 use Rattle.catalogue.proofs.words.objects_of.Goals as goal
 

@@ -1,6 +1,7 @@
 use Rattle.std.proofs.Common.{◌≡◌, map, take}
 use Rattle.interpolator.specs.Views.{shown_as_value}
-use Rattle.catalogue.specs.Words.{texts_of, texts_show}
+use Rattle.catalogue.specs.Files.{texts_of}
+use Rattle.catalogue.specs.Words.{texts_show}
 use Rattle.catalogue.proofs.words.views_of.Given as goal
 
 abbrev pub invariant-loop-text : goal.invariant-loop-text

@@ -1,22 +1,28 @@
-use Rattle.ifmt.proofs.AnswerLemmas.{told_usage, told_bad, was_run, no_memory_to_run}
+use Rattle.std.proofs.Common.{refl, List, ℕ, Option, None, Some}
+use Rattle.std.specs.Io.KnownBytes.{Keeps}
+use Rattle.std.proofs.lemmas.List.{nil_from_length}
+use Rattle.ifmt.specs.Command.{bad_word, no_format, ran, wanted_memory, wrong}
 use Rattle.ifmt.proofs.command.answer.Goals as goal
 
+-- a writer that is not touched keeps its bytes
+keeps_same : (known : Option (List ℕ)) → Keeps known known
+keeps_same None = tt
+keeps_same (Some _) = refl
+
 pub returns-in-None : goal.returns-in-None
-returns-in-None g c = told_usage _ _ _ _ c.args.line.now c.in-None.ensures.cases c.usage.ensures
+returns-in-None g c = rw (nil_from_length c.args.line.now c.in-None.ensures.cases)
+    (wrong no_format (keeps_same _) c.usage.ensures)
 
 pub returns-in-Some-first_bad : goal.returns-in-Some-first_bad
-returns-in-Some-first_bad g c =
-    told_bad _ _ _ _ c.args.line.now _ _ _ c.in-Some.ensures.cases.0 c.in-Some-first_bad.ensures
-    c.complain.ensures
+returns-in-Some-first_bad g c = rw (c.in-Some.ensures.cases.0)
+    (wrong (bad_word _ c.in-Some-first_bad.ensures) (keeps_same _) c.complain.ensures)
 
 pub returns-in-Ok : goal.returns-in-Ok
-returns-in-Ok g c =
-    was_run _ _ _ _ _ c.args.line.now _ _ _ c.in-Some.ensures.cases.0 c.as_str.ensures.value
-    c.in-Ok.ensures.ok
+returns-in-Ok g c = rw (c.in-Some.ensures.cases.0)
+    (ran (rw c.as_str.ensures.value at c.in-Ok.ensures.ok))
 
 pub returns-in-Err : goal.returns-in-Err
 returns-in-Err g c =
     let failed = c.in-Err.ensures in
-    rw (← failed.out, ← failed.rest)
-    (no_memory_to_run _ _ _ _ _ c.args.line.now _ _ c.in-Err.error c.in-Some.ensures.cases.0
-    c.in-None-first_bad.ensures failed.err c.report.ensures)
+    rw (c.in-Some.ensures.cases.0, ← failed.out, ← failed.rest)
+    (wanted_memory c.in-None-first_bad.ensures (rw failed.err at c.report.ensures))

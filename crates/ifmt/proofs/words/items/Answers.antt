@@ -1,7 +1,7 @@
 use Rattle.std.proofs.Common.{◌≢◌, ◌∙◌, Ok, length, lit<, rules}
 use Rattle.std.proofs.lemmas.Iterator.Consumers.{map_from_collect}
 use Rattle.std.proofs.lemmas.Iterator.Splits.{YieldsList-from_str_split}
-use Rattle.ifmt.proofs.ItemLemmas.{some_items, one_list}
+use Rattle.ifmt.proofs.ItemLemmas.{items_joined, some_items}
 use Rattle.ifmt.proofs.words.items.Goals as goal
 
 pub returns-clause-ok : goal.returns-clause-ok
@@ -12,5 +12,5 @@ returns-clause-ok c =
     c.split.ensures.has_more c.split.ensures.pattern)
     ∙ some_items c.args.text.now some
 
-pub returns-clause-only : goal.returns-clause-only
-returns-clause-only c = one_list c.args.text.now _ (returns-clause-ok c)
+pub returns-clause-joined : goal.returns-clause-joined
+returns-clause-joined c = rw (returns-clause-ok c) (items_joined c.args.text.now)

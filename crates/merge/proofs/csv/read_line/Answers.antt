@@ -1,17 +1,10 @@
-use Rattle.std.proofs.Common.{List, ℕ, ◌∙◌, ap, sym}
+use Rattle.std.proofs.Common.{sym}
 use Rattle.std.proofs.lemmas.List.{map-id}
 use Rattle.std.proofs.lemmas.Iterator.{YieldsList-from_chars}
 use Rattle.std.proofs.lemmas.Iterator.Consumers.{YieldsList-at, YieldsList-end}
 use Rattle.std.specs.Str.{chars}
-use Rattle.merge.specs.Csv.{Reading, begun, taken, taken_all}
-use Rattle.merge.proofs.CsvLemmas.{reads_as, taken_more}
+use Rattle.merge.proofs.CsvLemmas.{reads_as}
 use Rattle.merge.proofs.csv.read_line.Goals as goal
-
-pub loop-c-preserved : goal.loop-c-preserved
-loop-c-preserved c =
-    c.in_ok-take.ensures
-    ∙ ap (λ (r : Reading). taken r c.in-Some.c) c.loop-c.invariant
-    ∙ sym (taken_more begun c.loop-c.yielded c.in-Some.c)
 
 pub returns-clause-ok : goal.returns-clause-ok
 returns-clause-ok c =
@@ -19,8 +12,7 @@ returns-clause-ok c =
     (YieldsList-from_chars c.args.line.now c.utf8.line c.chars-c-items.ensures.rest))
     c.loop-c.yielded c.loop-c.c-iterator c.loop-c.yielded_by c.next.result
     c.next.new.self c.in-None.is c.next.ensures.steps in
-    c.loop-c.invariant ∙ ap (λ (cs : List ℕ). taken_all begun cs)
-    (sym (map-id c.loop-c.yielded) ∙ end.0)
+    cc (end.0, map-id c.loop-c.yielded)
 
 pub returns-clause-fields : goal.returns-clause-fields
 returns-clause-fields c = λ fields last has.

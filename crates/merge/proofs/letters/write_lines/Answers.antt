@@ -2,26 +2,27 @@ use Rattle.std.proofs.Common.{arith, length-append, refl, ℕ, List}
 use Rattle.std.proofs.lemmas.Iterator.Adapters.{YieldsList-from_skip}
 use Rattle.std.proofs.lemmas.Iterator.Consumers.{YieldsList-at, YieldsList-end}
 use Rattle.std.proofs.lemmas.Iterator.Splits.{YieldsList-from_lines}
+use Rattle.std.proofs.lemmas.List.{length-map, map_push}
 use Rattle.std.specs.Borrow.{Bor}
 use Rattle.merge.specs.Columns.{kinds_in}
-use Rattle.merge.proofs.LineLemmas.{no_rows, rows_more}
+use Rattle.merge.proofs.LineLemmas.{rows_more}
 use Rattle.merge.proofs.letters.write_lines.Goals as goal
 
 pub loop-line-init : goal.loop-line-init
 loop-line-init c = record {
   counted = refl;
-  rows = no_rows c.args.letter.now (kinds_in c.args.frame.columns.now) c.args.out.now.text
-      c.args.faults.now.items c.requires.empty;
+  rows = record { faults = c.new-faults.ensures.items; letters = λ _. c.requires.empty };
 }
 
 pub loop-line-preserved : goal.loop-line-preserved
 loop-line-preserved c = record {
   counted = omega (arith, c.loop-line.invariant.counted, length-append {A = Bor (List ℕ)});
-  rows = rows_more c.args.letter.now (kinds_in c.args.frame.columns.now) (λ x. x.now)
-      c.loop-line.yielded c.in-Some.line c.loop-line.number c.loop-line.out.text _ _
-      c.loop-line.faults.items _ _
-      c.loop-line.invariant.counted c.loop-line.invariant.rows c.in_ok-trouble.ensures.ok
-      c.in_ok-push_fault.ensures;
+  rows = rw (map_push (λ x. x.now) c.loop-line.yielded c.in-Some.line)
+      (rows_more c.args.letter.now (kinds_in c.args.frame.columns.now) _ _ c.loop-line.number
+      c.loop-line.out.text _ c.loop-line.faults.items _ _
+      (omega (arith, c.loop-line.invariant.counted, length-map {B = List ℕ} c.loop-line.yielded))
+      c.loop-line.invariant.rows c.in_ok-trouble.ensures.trouble c.in_ok-trouble.ensures.ok
+      c.in_ok-push_fault.ensures);
 }
 
 pub returns-clause-ok : goal.returns-clause-ok

@@ -7,5 +7,5 @@ abbrev pub invariant-loop-line : goal.invariant-loop-line
 invariant-loop-line l = record {
   counted : l.number ≡ length l.yielded + 1;
   rows : WritesRows l.letter (kinds_in l.frame.columns.now) (map (λ x. x.now) l.yielded)
-      l.out.text l.initial.faults.items l.faults.items;
+      l.out.text l.faults.items;
 }

@@ -1,0 +1,55 @@
+-- The line that is looked up, by its key or by the form that the rule of a file chooses.
+use Rattle.std.specs.Prelude.{ℕ, Bool, List, if◌then◌else◌, Option, None, Some}
+use Rattle.std.specs.List.{list_any}
+use Rattle.std.specs.Option.{option_map}
+use Rattle.catalogue.specs.Declarations.{Declared, declared_by}
+use Rattle.catalogue.specs.Files.{Line, as_line, lines_of, plain_lines}
+use Rattle.catalogue.specs.Forms.{Chosen, choice_with, first_given, key_by, rule_of}
+use Rattle.catalogue.specs.Lines.{declared_of, format_of, is_under}
+use Rattle.catalogue.specs.declared.checks.Found.{Found}
+use Rattle.catalogue.specs.declared.entries.Object.{Object}
+
+-- the form of a key that is looked up in some lines, if none of them has the key itself
+abbrev pub has_key : List ℕ → List (List ℕ) → Bool
+has_key key some_lines = list_any (is_under key) some_lines
+
+abbrev pub choice_for : List Object → List ℕ → List (List ℕ) → Option Chosen
+choice_for objects key some_lines =
+    if has_key key some_lines then None else choice_with objects (rule_of some_lines)
+
+-- the key that is looked up in some lines: the key itself, or the form of it that their rule chooses
+-- by the numbers of objects; and the name of a number that is missing for that
+abbrev pub sought : List Object → List ℕ → List (List ℕ) → List ℕ × Option (List ℕ)
+sought objects key some_lines = key_by key (choice_for objects key some_lines)
+
+-- a line that was found, and the name of a number that is missing to choose its form
+abbrev pub FoundLine : Type 0
+FoundLine = Line × Option (List ℕ)
+
+-- a line, if it has the key that is looked up
+abbrev pub line_for : List ℕ × Option (List ℕ) → Line → Option FoundLine
+line_for wanted line = if is_under wanted.0 line.text then Some (line, wanted.1) else None
+
+-- the line of a key in a file, or that of its form
+abbrev pub found_in : List Object → List ℕ → List ℕ × List ℕ → Option FoundLine
+found_in objects key file =
+    first_given (line_for (sought objects key (plain_lines file.1))) (lines_of file)
+
+-- the line of a key, or of its form, in the first of some files that has it
+abbrev pub found_among : List Object → List ℕ → List (List ℕ × List ℕ) → Option FoundLine
+found_among objects key files = first_given (found_in objects key) files
+
+-- a line that was found, with its format and what it declares
+abbrev pub Known : Type 0
+Known = FoundLine × List ℕ × Declared
+
+abbrev pub with_format : FoundLine → Known
+with_format one = (one, format_of one.0.text, declared_of one.0.text)
+
+-- the same of a line as the program finds it
+abbrev pub as_found : Found → Known
+as_found one = (
+  (as_line one.line, option_map (λ name. name.now) one.lacks),
+  one.template,
+  declared_by one.heading,
+)
