@@ -33,9 +33,9 @@ ghost use Rattle.interpolator.specs.NamedValues.{found_by_values, pairs_of, view
 use crate::values::Values;
 use interpolator_eval::{Context, Pairs, PieceCount, SampleEnvironment};
 use interpolator_pieces::{
-    Check, Cost, Deepest, FaultCollector, Limits, Names, Piece, Visitor, Widest, argument_among,
-    collect_pieces, cost_of, format_pieces, parse_pieces, push_arguments, walk_text, write_counted,
-    write_newline, write_pieces,
+    Check, Cost, Deepest, FaultCollector, Limits, Names, Parsed, Piece, Visitor, Widest,
+    argument_among, collect_pieces, cost_of, format_pieces, parse_pieces, push_arguments,
+    walk_text, write_counted, write_newline, write_pieces,
 };
 use interpolator_prepared::{Prepared, names_of, prepare_pieces};
 use interpolator_render::{TextWrite, Value};
@@ -105,6 +105,19 @@ impl Template {
         Ok(Template { text, pieces })
     }
 
+    /// Its text and its pieces.
+    #[inline(always)]
+    fn parsed(&self) -> Parsed<'_>
+        ensures text { result.text.now ≡ self.now }
+        ensures pieces { nodes_of result.text.now result.pieces.now
+            ≡ nodes (outermost (chars self.now)) }
+    {
+        Parsed {
+            text: self.text.as_str(),
+            pieces: &self.pieces,
+        }
+    }
+
     /// Writes what the format means in the context, as [`write`](crate::write) does with its text.
     ///
     /// Memory is taken where `write` takes it, and for nothing else. How many pieces are gone through
@@ -133,7 +146,7 @@ impl Template {
             (W.written out.old) (W.written out.new) (result_answer result) }
         ensures place { PlaceWithin (length self.now) (result_answer result) }
     {
-        write_pieces(alloc, out, self.text.as_str(), &self.pieces, context)
+        write_pieces(alloc, out, self.parsed(), context)
     }
 
     /// Writes what the format means in the context, as [`write`](Template::write) does, and after it a
@@ -213,7 +226,7 @@ impl Template {
             (asked_names (outermost (chars self.now)))
             → count.new ≤ count.old + (text_cost limits (outermost (chars self.now))).pieces }
     {
-        write_counted(alloc, out, self.text.as_str(), &self.pieces, context, count)
+        write_counted(alloc, out, self.parsed(), context, count)
     }
 
     /// The text that it means in the context, in a new `String`.
@@ -237,7 +250,7 @@ impl Template {
             result }
         ensures place { PlaceWithin (length self.now) (result_answer result) }
     {
-        format_pieces(alloc, self.text.as_str(), &self.pieces, context)
+        format_pieces(alloc, self.parsed(), context)
     }
 
     /// Shows the visitor the pieces of the format, at every depth of groups.

@@ -1,9 +1,9 @@
 -- What is stored of a text that is read: of one piece, of an argument, and of all that was read.
-use Rattle.std.proofs.Common.{◌≡◌, ℕ, suc, ◌+◌, ◌-◌, ◌<◌, ◌≤◌, List, [], ◌∷◌, ◌++◌, length, arith, refl, ap}
+use Rattle.std.proofs.Common.{◌≡◌, ℕ, suc, ◌+◌, ◌-◌, ◌≤◌, List, [], ◌∷◌, ◌++◌, length, arith, refl, ap}
 use Rattle.std.proofs.Common.{◌∙◌, sym, Option, Some, None, Ok, Err, append_assoc}
 use Rattle.std.proofs.lemmas.List.{append-nil}
 use Rattle.std.specs.Prelude.{option_map}
-use Rattle.std.specs.Global.{Vec, Box}
+use Rattle.std.specs.Global.{Vec}
 use Rattle.std.specs.Str.{chars, IsUtf8}
 use Rattle.interpolator_render.specs.declared.view.Trait.{Trait}
 use Rattle.interpolator_render.specs.declared.view.Trait.TheVariants as traits
@@ -23,7 +23,6 @@ use Rattle.interpolator_syntax.specs.declared.argument.Request as code_request
 use Rattle.interpolator_syntax.specs.declared.argument.TakenArgument.{TakenArgument}
 use Rattle.interpolator_syntax.specs.declared.class.Class.TheVariants.{WhiteSpace, Name}
 use Rattle.interpolator_syntax.specs.declared.cursor.Cursor.{Cursor}
-use Rattle.interpolator_syntax.specs.declared.range.Range.{Range}
 use Rattle.interpolator_syntax.proofs.CaseLemmas.{err_ok}
 use Rattle.interpolator_syntax.proofs.CharacterLemmas.{size-chars, chars_of_end}
 use Rattle.interpolator_syntax.proofs.LocalityLemmas.{Takes, stands, takes_then}
@@ -32,7 +31,7 @@ use Rattle.interpolator_syntax.proofs.LongestLemmas.{at_same}
 use Rattle.interpolator_syntax.proofs.PieceLemmas.{read_alone, strip_after}
 use Rattle.interpolator_syntax.proofs.ReaderLemmas.{argument_takes}
 use Rattle.interpolator_syntax.proofs.SizeLemmas.{GroupIfIn, ListIn, argument_in}
-use Rattle.interpolator_syntax.specs.Nodes.{Node, node, Branch, no_branch, Content, text_content, argument_content}
+use Rattle.interpolator_syntax.specs.Nodes.{Node, node, Branch, no_branch, Content, argument_content}
 use Rattle.interpolator_syntax.specs.Nodes.{target_of, nodes, piece_node}
 use Rattle.interpolator_syntax.specs.Nodes.{token_node, group_branch, item_branch, join_branch}
 use Rattle.interpolator_pieces.specs.Reading.{taken_step, ending_kind, ending_rest}

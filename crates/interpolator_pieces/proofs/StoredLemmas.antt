@@ -20,6 +20,7 @@ use Rattle.interpolator_syntax.specs.declared.range.Range.{Range}
 use Rattle.interpolator_pieces.specs.Stored.{node_step, node_of, nodes_of, branch_of, content_of}
 use Rattle.interpolator_pieces.specs.Stored.{stored_content, part, bare_detail, detail_content}
 use Rattle.interpolator_pieces.specs.Stored.{bare_form, bare_from, detail_of, detail_or_bare}
+use Rattle.interpolator_pieces.specs.StoredLists.{is_list_form}
 use Rattle.interpolator_pieces.specs.declared.piece.Detail.{Detail}
 use Rattle.interpolator_pieces.specs.declared.piece.Form.{Form}
 use Rattle.interpolator_pieces.specs.declared.piece.Form.TheVariants as forms
@@ -70,6 +71,11 @@ module _ (x : Piece) where
       → detail_of x ≡ bare_detail (out-Piece x).place (out-Piece x).end (out-Piece x).kind
   unfolding detail_or_bare
   detail_bare is = rw is refl
+
+-- a piece without one asks for no list
+pub no_bare_list : (x : Piece) → is_list_form (detail_of x).form ≡ true
+    → (out-Piece x).detail ≡ None → ⊥
+no_bare_list x listed is = grind (arith, detail_bare)
 
 -- without one, what is no argument is text from its place on
 pub bare_text : (place : ℕ) (kind : PieceKind) → ¬ (kind ≡ Closed)

@@ -111,38 +111,49 @@ pub fn buffer_for(alloc: Global, format: &str) -> Result<TextBuffer, AllocError>
     Ok(TextBuffer::from_string(text))
 }
 
+/// A format that was read: its text, and the pieces of that.
+#[derive(Clone, Copy)]
+pub struct Parsed<'a> {
+    pub text: &'a str,
+    pub pieces: &'a [Piece],
+}
+
 /// Writes what the stored pieces of a format mean in the context, and counts the pieces that it
 /// goes through: no more than the format's work, and so, with values within limits, no more than
 /// its cost.
 pub fn write_counted<W: TextWrite, C: Context, L: Ledger>(
     alloc: Global,
     out: &mut W,
-    format: &str,
-    pieces: &[Piece],
+    format: Parsed<'_>,
     context: &C,
     count: &mut PieceCount<L>,
 ) -> Result<(), Error>
-    requires pieces { nodes_of format.now pieces.now ≡ nodes (outermost (chars format.now)) }
+    requires pieces { nodes_of format.text.now format.pieces.now
+        ≡ nodes (outermost (chars format.text.now)) }
     ensures outcome { Outcome
-        (means C.Object.shows (environment (C.finds context.now)) (outermost (chars format.now)))
+        (means C.Object.shows (environment (C.finds context.now))
+        (outermost (chars format.entry.text.now)))
         (W.written out.old) (W.written out.new) (result_answer result) }
-    ensures asked { let a = outermost (chars format.now) in Outcome
+    ensures asked { let a = outermost (chars format.entry.text.now) in Outcome
         (means C.Object.shows (cut (environment (C.finds context.now)) (asked_names a)) a)
         (W.written out.old) (W.written out.new) (result_answer result) }
-    ensures place { PlaceWithin (length format.now) (result_answer result) }
+    ensures place { PlaceWithin (length format.entry.text.now) (result_answer result) }
     ensures gone { count.new ≤ count.old + (text_work C.Object.shows
-        (environment (C.finds context.now)) (outermost (chars format.now))).pieces }
+        (environment (C.finds context.now))
+        (outermost (chars format.entry.text.now))).pieces }
     ensures exact { IfOk result (λ _. count.new ≡ count.old + (text_work C.Object.shows
-        (environment (C.finds context.now)) (outermost (chars format.now))).pieces) }
+        (environment (C.finds context.now))
+        (outermost (chars format.entry.text.now))).pieces) }
     ensures within { (limits : Limits)
         → IsWithin C.Object.shows limits.text limits.items (environment (C.finds context.now))
-        (asked_names (outermost (chars format.now)))
-        → count.new ≤ count.old + (text_cost limits (outermost (chars format.now))).pieces }
+        (asked_names (outermost (chars format.entry.text.now)))
+        → count.new
+        ≤ count.old + (text_cost limits (outermost (chars format.entry.text.now))).pieces }
 {
     let mut sink = Sink::Writer(out);
     let source = Stored {
-        text: format,
-        pieces,
+        text: format.text,
+        pieces: format.pieces,
     };
     let environment = Environment::outermost(alloc, context);
     let answer = write_source(&mut sink, &environment, source, count);
@@ -155,26 +166,20 @@ pub fn write_counted<W: TextWrite, C: Context, L: Ledger>(
     answer
 }
 
-/// The text of a format, for a function that opens a ledger, whose signature cannot have a `&str`.
-#[derive(Clone, Copy)]
-struct FormatText<'a> {
-    text: &'a str,
-}
-
 /// Writes what the stored pieces of a format mean in the context, counted from a blank ledger.
 #[inline(always)]
 fn write_on<W: TextWrite, C: Context, L: Ledger>(
     alloc: Global,
     out: &mut W,
-    format: FormatText<'_>,
-    pieces: &[Piece],
+    format: Parsed<'_>,
     context: &C,
     blank: Blank,
 ) -> Result<(), Error>
     requires name { blank.name ≡ L.name }
     requires parts { blank.parts ≡ L.parts }
     requires some { 0 < blank.parts }
-    requires pieces { nodes_of format.text.now pieces.now ≡ nodes (outermost (chars format.text.now)) }
+    requires pieces { nodes_of format.text.now format.pieces.now
+        ≡ nodes (outermost (chars format.text.now)) }
     ensures outcome { Outcome
         (means C.Object.shows (environment (C.finds context.now))
         (outermost (chars format.entry.text.now)))
@@ -185,47 +190,48 @@ fn write_on<W: TextWrite, C: Context, L: Ledger>(
     ensures place { PlaceWithin (length format.entry.text.now) (result_answer result) }
 {
     let mut count = PieceCount::<L>::open(blank);
-    write_counted(alloc, out, format.text, pieces, context, &mut count)
+    write_counted(alloc, out, format, context, &mut count)
 }
 
 /// Writes what the stored pieces of a format mean in the context.
 pub fn write_pieces<W: TextWrite, C: Context>(
     alloc: Global,
     out: &mut W,
-    format: &str,
-    pieces: &[Piece],
+    format: Parsed<'_>,
     context: &C,
 ) -> Result<(), Error>
-    requires pieces { nodes_of format.now pieces.now ≡ nodes (outermost (chars format.now)) }
+    requires pieces { nodes_of format.text.now format.pieces.now
+        ≡ nodes (outermost (chars format.text.now)) }
     ensures outcome { Outcome
-        (means C.Object.shows (environment (C.finds context.now)) (outermost (chars format.now)))
+        (means C.Object.shows (environment (C.finds context.now))
+        (outermost (chars format.entry.text.now)))
         (W.written out.old) (W.written out.new) (result_answer result) }
-    ensures asked { let a = outermost (chars format.now) in Outcome
+    ensures asked { let a = outermost (chars format.entry.text.now) in Outcome
         (means C.Object.shows (cut (environment (C.finds context.now)) (asked_names a)) a)
         (W.written out.old) (W.written out.new) (result_answer result) }
-    ensures place { PlaceWithin (length format.now) (result_answer result) }
+    ensures place { PlaceWithin (length format.entry.text.now) (result_answer result) }
 {
-    let format = FormatText { text: format };
-    write_on::<W, C, Brand>(alloc, out, format, pieces, context, Blank::new(1))
+    write_on::<W, C, Brand>(alloc, out, format, context, Blank::new(1))
 }
 
 /// The text that the stored pieces of a format mean in the context, in a new `String`.
 pub fn format_pieces<C: Context>(
     alloc: Global,
-    format: &str,
-    pieces: &[Piece],
+    format: Parsed<'_>,
     context: &C,
 ) -> Result<String, Error>
-    requires pieces { nodes_of format.now pieces.now ≡ nodes (outermost (chars format.now)) }
+    requires pieces { nodes_of format.text.now format.pieces.now
+        ≡ nodes (outermost (chars format.text.now)) }
     ensures formats { Formats
-        (means C.Object.shows (environment (C.finds context.now)) (outermost (chars format.now)))
+        (means C.Object.shows (environment (C.finds context.now))
+        (outermost (chars format.entry.text.now)))
         result }
-    ensures asked { let a = outermost (chars format.now) in Formats
+    ensures asked { let a = outermost (chars format.entry.text.now) in Formats
         (means C.Object.shows (cut (environment (C.finds context.now)) (asked_names a)) a) result }
-    ensures place { PlaceWithin (length format.now) (result_answer result) }
+    ensures place { PlaceWithin (length format.entry.text.now) (result_answer result) }
 {
-    let mut out = buffer_for(alloc, format)?;
-    let answer = write_pieces(alloc, &mut out, format, pieces, context);
+    let mut out = buffer_for(alloc, format.text)?;
+    let answer = write_pieces(alloc, &mut out, format, context);
     if out.refused() {
         return Err(Error::NoMemory);
     }
@@ -262,7 +268,11 @@ pub fn format<C: Context>(alloc: Global, format: &str, context: &C) -> Result<St
         rest: format,
     };
     let pieces = parse_pieces(alloc, start)?;
-    format_pieces(alloc, format, &pieces, context)
+    let parsed = Parsed {
+        text: format,
+        pieces: &pieces,
+    };
+    format_pieces(alloc, parsed, context)
 }
 
 /// Reports the first fault that a format has by itself, as

@@ -19,13 +19,26 @@ ghost use Rattle.interpolator_pieces.specs.Stored.{stored_content};
 ghost use Rattle.interpolator_pieces.specs.declared.piece.Form.TheVariants as forms;
 ghost use Rattle.interpolator_pieces.specs.Reading.{ending_kind, ending_rest};
 
-use crate::piece::{Detail, Form, Groups, Piece, bare_piece, detailed_piece, no_groups};
+use crate::piece::{
+    Bounds, Detail, Form, Groups, Piece, bare_piece, detailed_piece, no_groups,
+};
 use interpolator_render::{Spec, Trait};
 use interpolator_syntax::{
     ArgumentFault, ArgumentName, Cursor, Group, PieceKind, Range, Request, Token, inside,
     next_token, take_name, take_request,
 };
 use std::alloc::{AllocError, Global};
+
+/// The beginning of an argument.
+#[derive(Clone, Copy)]
+struct Opening<'t> {
+    /// The place of its brace.
+    place: usize,
+    /// The text after the brace.
+    here: Cursor<'t>,
+    /// Its name, and the text after that.
+    named: ArgumentName<'t>,
+}
 
 /// An argument that is a name alone, with white space before the name.
 #[cold]
@@ -47,7 +60,12 @@ fn spaced_name(
         spec: Spec::default(),
         form: Form::Plain,
     };
-    detailed_piece(alloc, place, end, PieceKind::Closed, detail, no_groups())
+    let bounds = Bounds {
+        place,
+        end,
+        kind: PieceKind::Closed,
+    };
+    detailed_piece(alloc, bounds, detail, no_groups())
 }
 
 /// Adds a piece.
@@ -166,57 +184,60 @@ fn push_argument<'t>(
             push_piece(pieces, piece)?;
             Ok(after)
         }
-        None => push_asked(alloc, pieces, place, here, named),
+        None => push_asked(alloc, pieces, Opening { place, here, named }),
     }
 }
 
-/// Adds the argument that begins here and has this name, with a spec after it, or its fault.
+/// Adds the argument that begins so, with a spec after its name, or its fault.
 #[cycle(parse)]
 fn push_asked<'t>(
     alloc: Global,
     pieces: &mut Vec<Piece>,
-    place: usize,
-    here: Cursor<'t>,
-    named: ArgumentName<'t>,
+    opening: Opening<'t>,
 ) -> Result<Cursor<'t>, AllocError>
-    requires start { here.place ≡ place + 1 }
-    requires named { argument_at (at here)
-        ≡ argument_after here.place (plain_argument named) (at named.end) }
-    requires open { strip close_brace (at named.end) ≡ None }
-    requires name_end { named.end.place ≡ named.place + size (chars named.name.now) }
-    ensures rest { IfOk result (λ r. at r ≡ (argument_from here.entry.place (at here.entry)).rest) }
+    requires start { opening.here.place ≡ opening.place + 1 }
+    requires named { argument_at (at opening.here)
+        ≡ argument_after opening.here.place (plain_argument opening.named) (at opening.named.end) }
+    requires open { strip close_brace (at opening.named.end) ≡ None }
+    requires name_end { opening.named.end.place
+        ≡ opening.named.place + size (chars opening.named.name.now) }
+    ensures rest { IfOk result (λ r. at r
+        ≡ (argument_from opening.entry.here.place (at opening.entry.here)).rest) }
     ensures pushed { IfOk result (λ _. Pushed pieces.old.items pieces.new.items
-        (token_node nodes place argument (at here.entry)) (at here.entry)) }
+        (token_node nodes opening.entry.place argument (at opening.entry.here))
+        (at opening.entry.here)) }
 {
-    let mut end = named.end;
+    let mut end = opening.named.end;
     let mut asked = Request::plain();
-    match take_request(&mut end, &mut asked, here.place) {
-        Ok(()) => push_taken(alloc, pieces, place, here, named, &asked, end),
-        Err(fault) => push_broken(alloc, pieces, place, here, fault),
+    match take_request(&mut end, &mut asked, opening.here.place) {
+        Ok(()) => push_taken(alloc, pieces, opening, &asked, end),
+        Err(fault) => push_broken(alloc, pieces, opening.place, opening.here, fault),
     }
 }
 
-/// Adds the argument that begins here, has this name and asks for this, up to `end`.
+/// Adds the argument that begins so and asks for this, up to `end`.
 #[cycle(parse)]
 fn push_taken<'t>(
     alloc: Global,
     pieces: &mut Vec<Piece>,
-    place: usize,
-    here: Cursor<'t>,
-    named: ArgumentName<'t>,
+    opening: Opening<'t>,
     asked: &Request<'t>,
     end: Cursor<'t>,
 ) -> Result<Cursor<'t>, AllocError>
-    requires start { here.place ≡ place + 1 }
-    requires read { argument_at (at here) ≡ Ok (named_argument named (request_of asked.now), at end) }
-    requires name_end { named.end.place ≡ named.place + size (chars named.name.now) }
-    ensures rest { IfOk result (λ r. at r ≡ (argument_from here.entry.place (at here.entry)).rest) }
+    requires start { opening.here.place ≡ opening.place + 1 }
+    requires read { argument_at (at opening.here)
+        ≡ Ok (named_argument opening.named (request_of asked.now), at end) }
+    requires name_end { opening.named.end.place
+        ≡ opening.named.place + size (chars opening.named.name.now) }
+    ensures rest { IfOk result (λ r. at r
+        ≡ (argument_from opening.entry.here.place (at opening.entry.here)).rest) }
     ensures pushed { IfOk result (λ _. Pushed pieces.old.items pieces.new.items
-        (token_node nodes place argument (at here.entry)) (at here.entry)) }
+        (token_node nodes opening.entry.place argument (at opening.entry.here))
+        (at opening.entry.here)) }
 {
     match asked.slot {
-        Trait::Iter => push_list(alloc, pieces, place, here, named, asked, end),
-        t => push_value(alloc, pieces, place, here, named, t, asked, end),
+        Trait::Iter => push_list(alloc, pieces, opening, asked, end),
+        _ => push_value(alloc, pieces, opening, asked, end),
     }
 }
 
@@ -224,30 +245,36 @@ fn push_taken<'t>(
 fn push_value<'t>(
     alloc: Global,
     pieces: &mut Vec<Piece>,
-    place: usize,
-    here: Cursor<'t>,
-    named: ArgumentName<'t>,
-    t: Trait,
+    opening: Opening<'t>,
     asked: &Request<'t>,
     end: Cursor<'t>,
 ) -> Result<Cursor<'t>, AllocError>
-    requires start { here.place ≡ place + 1 }
-    requires read { argument_at (at here) ≡ Ok (named_argument named (request_of asked.now), at end) }
-    requires name_end { named.end.place ≡ named.place + size (chars named.name.now) }
-    requires asked { kind_of_request asked.now ≡ of_value t }
-    ensures rest { IfOk result (λ r. at r ≡ (argument_from here.entry.place (at here.entry)).rest) }
+    requires start { opening.here.place ≡ opening.place + 1 }
+    requires read { argument_at (at opening.here)
+        ≡ Ok (named_argument opening.named (request_of asked.now), at end) }
+    requires name_end { opening.named.end.place
+        ≡ opening.named.place + size (chars opening.named.name.now) }
+    requires asked { kind_of_request asked.now ≡ of_value asked.now.slot }
+    ensures rest { IfOk result (λ r. at r
+        ≡ (argument_from opening.entry.here.place (at opening.entry.here)).rest) }
     ensures pushed { IfOk result (λ _. Pushed pieces.old.items pieces.new.items
-        (token_node nodes place argument (at here.entry)) (at here.entry)) }
+        (token_node nodes opening.entry.place argument (at opening.entry.here))
+        (at opening.entry.here)) }
 {
     let (kind, rest) = ending(end);
     let detail = Detail {
-        from: named.place,
-        to: named.end.place,
+        from: opening.named.place,
+        to: opening.named.end.place,
         spec_end: end.place,
         spec: asked.spec,
-        form: Form::Value(t),
+        form: Form::Value(asked.slot),
     };
-    let piece = detailed_piece(alloc, place, rest.place, kind, detail, no_groups())?;
+    let bounds = Bounds {
+        place: opening.place,
+        end: rest.place,
+        kind,
+    };
+    let piece = detailed_piece(alloc, bounds, detail, no_groups())?;
     push_piece(pieces, piece)?;
     Ok(rest)
 }
@@ -258,32 +285,38 @@ fn push_value<'t>(
 fn push_list<'t>(
     alloc: Global,
     pieces: &mut Vec<Piece>,
-    place: usize,
-    here: Cursor<'t>,
-    named: ArgumentName<'t>,
+    opening: Opening<'t>,
     asked: &Request<'t>,
     end: Cursor<'t>,
 ) -> Result<Cursor<'t>, AllocError>
-    requires start { here.place ≡ place + 1 }
-    requires read { argument_at (at here) ≡ Ok (named_argument named (request_of asked.now), at end) }
-    requires name_end { named.end.place ≡ named.place + size (chars named.name.now) }
+    requires start { opening.here.place ≡ opening.place + 1 }
+    requires read { argument_at (at opening.here)
+        ≡ Ok (named_argument opening.named (request_of asked.now), at end) }
+    requires name_end { opening.named.end.place
+        ≡ opening.named.place + size (chars opening.named.name.now) }
     requires asked { kind_of_request asked.now ≡ of_list (list_of asked.now.list) }
-    ensures rest { IfOk result (λ r. at r ≡ (argument_from here.entry.place (at here.entry)).rest) }
+    ensures rest { IfOk result (λ r. at r
+        ≡ (argument_from opening.entry.here.place (at opening.entry.here)).rest) }
     ensures pushed { IfOk result (λ _. Pushed pieces.old.items pieces.new.items
-        (token_node nodes place argument (at here.entry)) (at here.entry)) }
+        (token_node nodes opening.entry.place argument (at opening.entry.here))
+        (at opening.entry.here)) }
 {
     let item = parse_group(alloc, asked.list.item)?;
     let join = parse_group(alloc, asked.list.join)?;
     let (kind, rest) = ending(end);
     let detail = Detail {
-        from: named.place,
-        to: named.end.place,
+        from: opening.named.place,
+        to: opening.named.end.place,
         spec_end: end.place,
         spec: asked.spec,
         form: Form::List(asked.list.range),
     };
-    let groups = Groups { item, join };
-    let piece = detailed_piece(alloc, place, rest.place, kind, detail, groups)?;
+    let bounds = Bounds {
+        place: opening.place,
+        end: rest.place,
+        kind,
+    };
+    let piece = detailed_piece(alloc, bounds, detail, Groups { item, join })?;
     push_piece(pieces, piece)?;
     Ok(rest)
 }
@@ -322,8 +355,12 @@ fn push_broken<'t>(
         spec: Spec::default(),
         form: Form::Broken(fault),
     };
-    let kind = PieceKind::Broken;
-    let piece = detailed_piece(alloc, place, rest.place, kind, detail, no_groups())?;
+    let bounds = Bounds {
+        place,
+        end: rest.place,
+        kind: PieceKind::Broken,
+    };
+    let piece = detailed_piece(alloc, bounds, detail, no_groups())?;
     push_piece(pieces, piece)?;
     Ok(rest)
 }

@@ -1,8 +1,9 @@
 //! The pieces of a format that was read once.
-ghost use Rattle.std.specs.Prelude.{◌≡◌, ◌<◌, ◌^◌, ℕ, List, None, IfOk, IsSome};
+ghost use Rattle.std.specs.Prelude.{◌≡◌, ◌<◌, ◌^◌, ℕ, List, None, IfOk, IsSome, true};
 ghost use Rattle.interpolator_syntax.specs.Nodes.{node, no_branch};
 ghost use Rattle.interpolator_pieces.specs.Stored.{bare_detail, bare_form, bare_from, bare_to};
 ghost use Rattle.interpolator_pieces.specs.Stored.{branch_of, detail_content, detail_of, node_of};
+ghost use Rattle.interpolator_pieces.specs.StoredLists.{is_list_form};
 ghost use Rattle.interpolator_pieces.specs.StoredMeanings.{stored_part};
 
 use interpolator_render::{Spec, Trait};
@@ -103,25 +104,31 @@ pub fn no_groups() -> Groups
     }
 }
 
+/// Which bytes of a format a piece is, and what it is.
+#[derive(Clone, Copy)]
+pub struct Bounds {
+    pub place: usize,
+    pub end: usize,
+    pub kind: PieceKind,
+}
+
 /// A piece that has this detail and these groups.
 #[tactic(auto, using(crate::proofs::StoredLemmas::made_detailed))]
 #[inline(always)]
 pub fn detailed_piece(
     alloc: Global,
-    place: usize,
-    end: usize,
-    kind: PieceKind,
+    bounds: Bounds,
     detail: Detail,
     groups: Groups,
 ) -> Result<Piece, AllocError>
     ensures node { IfOk result (λ x. (bs : List ℕ) → node_of bs x
-        ≡ node place end kind (detail_content bs place detail)
+        ≡ node bounds.place bounds.end bounds.kind (detail_content bs bounds.place detail)
         (branch_of bs groups.item) (branch_of bs groups.join)) }
 {
     Ok(Piece {
-        place,
-        end,
-        kind,
+        place: bounds.place,
+        end: bounds.end,
+        kind: bounds.kind,
         item: groups.item,
         join: groups.join,
         detail: Some(Box::new(alloc, detail)?),
@@ -207,5 +214,17 @@ pub fn part_of(_text: &str, piece: &Piece) -> (usize, usize)
             bare_from(piece.place, piece.kind),
             bare_to(piece.end, piece.kind),
         ),
+    }
+}
+
+/// The detail of a piece that asks for a list, which has one.
+#[tactic(auto, using(crate::proofs::StoredLemmas::detail_kept, crate::proofs::StoredLemmas::no_bare_list))]
+pub fn list_detail(piece: &Piece) -> &Detail
+    requires list { is_list_form (detail_of piece.now).form ≡ true }
+    ensures { result.now ≡ detail_of piece.now }
+{
+    match &piece.detail {
+        Some(detail) => detail,
+        None => unreachable!(),
     }
 }

@@ -19,7 +19,7 @@ ghost use Rattle.interpolator_pieces.specs.StoredMeanings.{unclosed_fault};
 ghost use Rattle.interpolator_pieces.specs.declared.piece.Form.TheVariants as forms;
 ghost use Rattle.interpolator_pieces.specs.declared.piece.Piece.TheViews.{out-Piece};
 
-use crate::piece::{Detail, Form, Piece, form_of, part_of, spec_end_of, spec_of};
+use crate::piece::{Detail, Form, Piece, list_detail, part_of, spec_end_of};
 use interpolator_eval::{
     Context, Environment, FormatSource, Formattable, PieceCount, Sink, chosen_list,
     write_plain_value, write_value,
@@ -76,29 +76,30 @@ impl<'t> FormatSource for Stored<'t> {
     ) -> Result<&'a [Formattable<'a, C::Object>], Error> {
         let piece = &list.pieces[0];
         let (start, name) = name_of(list.text, piece);
+        let detail = list_detail(piece);
         chosen_list(
             environment,
             start,
             name,
-            range_asked(piece),
-            &spec_of(piece),
-            spec_end_of(piece),
+            range_asked(&detail.form),
+            &detail.spec,
+            detail.spec_end,
         )
     }
 
     #[inline(always)]
     fn has_width(list: &Stored<'t>) -> bool {
-        spec_of(&list.pieces[0]).width.is_some()
+        list_detail(&list.pieces[0]).spec.width.is_some()
     }
 
     #[inline(always)]
     fn spec(list: &Stored<'t>) -> Spec {
-        spec_of(&list.pieces[0])
+        list_detail(&list.pieces[0]).spec
     }
 
     #[inline(always)]
     fn end(list: &Stored<'t>) -> usize {
-        spec_end_of(&list.pieces[0])
+        list_detail(&list.pieces[0]).spec_end
     }
 
     #[inline(always)]
@@ -138,13 +139,13 @@ impl<'t> FormatSource for Stored<'t> {
     }
 }
 
-/// Which items of a list are written: all, unless the form of the piece has a range.
+/// Which items of a list are written: all, unless its form has a range.
 #[inline(always)]
-fn range_asked(piece: &Piece) -> Option<Range>
-    ensures { result ≡ range_asked (detail_of piece.now).form }
+fn range_asked(form: &Form) -> Option<Range>
+    ensures { result ≡ range_asked form.now }
 {
-    match form_of(piece) {
-        Form::List(range) => range,
+    match form {
+        Form::List(range) => *range,
         _ => None,
     }
 }

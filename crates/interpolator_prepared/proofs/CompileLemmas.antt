@@ -34,9 +34,10 @@ use Rattle.interpolator_prepared.specs.Programs.{text_before, node_before, progr
 use Rattle.interpolator_prepared.specs.Programs.{content_position, node_position, step_at}
 use Rattle.interpolator_prepared.specs.Programs.{argument_step}
 use Rattle.interpolator_prepared.specs.Rows.{last_position}
-use Rattle.interpolator_prepared.specs.StoredSteps.{first_step, is_text, is_text_form, step_of}
+use Rattle.interpolator_prepared.specs.StoredSteps.{first_step, is_text, is_text_form, step_of, steps_of}
 use Rattle.interpolator_prepared.specs.StoredSteps.{text_count, texts_after, texts_placed}
 use Rattle.interpolator_prepared.specs.declared.step.Step.{Step}
+use Rattle.interpolator_prepared.proofs.StepLemmas.{alone}
 
 -- the forms that are neither a name nor a value
 abbrev pub IsOther : Form → Type 0
@@ -81,6 +82,24 @@ part_fits true o h = h
 part_fits false o h = absurd (cc)
 
 -- ---- arguments
+
+-- after the texts at the beginning comes no text
+no_text_next : (xs : List Piece) (y : Piece) (ys : List Piece)
+    → drop (text_count xs) xs ≡ y ∷ ys → is_text y ≡ false
+no_text_next [] y ys h = absurd (cc)
+no_text_next (x ∷ xs) y ys h = by_text (is_text x) (no_text_next xs y ys) refl
+  where
+    by_text : (b : Bool) → (drop (text_count xs) xs ≡ y ∷ ys → is_text y ≡ false)
+        → is_text x ≡ b → is_text y ≡ false
+    by_text true later is = later (rw is at h)
+    by_text false later is =
+        let all : x ∷ xs ≡ y ∷ ys = rw is at h in let same : x ≡ y = cc in rw (← same) is
+
+-- instructions that were added to others
+added_one : {A : Type 0} (old new ys zs all : List A) → new ≡ old ++ ys → ys ++ zs ≡ all
+    → new ++ zs ≡ old ++ all
+added_one old new ys zs all added is =
+    rw added (append_assoc old ys zs ∙ ap (λ os. old ++ os) is)
 
 module _ (names : List (List ℕ)) where
   -- an argument before steps is one step more
@@ -432,34 +451,60 @@ module _ (names : List (List ℕ)) where
         by_other (forms.List range) h = no_name _ _ _ _ _
         by_other (forms.Broken f) h = refl
 
-  -- ---- all pieces, one by one
+  -- ---- the steps of the first of some pieces
 
-  module _ (bs : List ℕ) (all : List Piece) where
-    -- the steps so far, and those of the pieces that are left
-    pub record Compiled (made : List Step) (left : List Piece) : Type 0 where
-      pub whole : forest_whole (as_forest (nodes_of bs left)) ≡ true
-      pub goes_on : map (step_of bs) made ++ map Some (program names (nodes_of bs left))
-          ≡ map Some (program names (nodes_of bs all))
+  module _ (bs : List ℕ) (pieces : List Piece) (x : Piece) (xs rest : List Piece) (n : ℕ)
+      (split : pieces ≡ x ∷ xs) (count : n ≡ texts_after x xs) (back : rest ≡ drop n xs)
+      (whole : forest_whole (as_forest (nodes_of bs pieces)) ≡ true) where
+    abbrev Left : List Piece → List (Option Instruction)
+    Left ys = map Some (program names (nodes_of bs ys))
 
-    -- one step more
-    pub compiled_more : (made new : List Step) (x : Piece) (xs : List Piece)
-        → Compiled made (x ∷ xs)
-        → map (step_of bs) new
-        ≡ map (step_of bs) made
-        ++ (Some (first_step bs names x (take (texts_after x xs) xs)) ∷ [])
-        → Compiled new (drop (texts_after x xs) xs)
-    compiled_more made new x xs c pushed = record {
-      whole = pieces_whole bs xs (texts_after x xs) (first_whole bs x xs c.whole).1;
-      goes_on =
-          ap (λ os. os ++ map Some (program names (nodes_of bs (drop (texts_after x xs) xs)))) pushed
-          ∙ append_assoc (map (step_of bs) made)
-          (Some (first_step bs names x (take (texts_after x xs) xs)) ∷ [])
-          (map Some (program names (nodes_of bs (drop (texts_after x xs) xs))))
-          ∙ ap (λ ps. map (step_of bs) made ++ map Some ps) (sym (program_first bs x xs c.whole))
-          ∙ c.goes_on;
-    }
+    all_whole : forest_whole (as_forest (nodes_of bs (x ∷ xs))) ≡ true
+    all_whole = rw split at whole
 
-    -- no piece is left
-    pub compiled_all : (made : List Step) → Compiled made []
-        → map (step_of bs) made ≡ map Some (program names (nodes_of bs all))
-    compiled_all made c = sym (append-nil (map (step_of bs) made)) ∙ c.goes_on
+    pub rest_whole : forest_whole (as_forest (nodes_of bs rest)) ≡ true
+    rest_whole = rw back (pieces_whole bs xs n (first_whole bs x xs all_whole).1)
+
+    -- those after the texts
+    rest_is : rest ≡ drop (texts_after x xs) xs
+    rest_is = rw (← count) back
+
+    module _ (old new : List (Option Instruction)) (first : Step)
+        (is : step_of bs first ≡ Some (first_step bs names x (take (texts_after x xs) xs))) where
+      first_left : steps_of bs first ++ Left rest ≡ Left pieces
+      first_left =
+          rw (alone bs first _ is, rest_is, split)
+          (ap (map Some) (sym (program_first bs x xs all_whole)))
+
+      pub one_added : new ≡ old ++ steps_of bs first → new ++ Left rest ≡ old ++ Left pieces
+      one_added added =
+          added_one old new (steps_of bs first) (Left rest) (Left pieces) added first_left
+
+      -- and that of the argument after text
+      module _ (y : Piece) (ys : List Piece) (next : rest ≡ y ∷ ys) (text : is_text x ≡ true)
+          (second : Step)
+          (at : step_of bs second
+          ≡ Some (argument_step names (node_position names (node_of bs y)) (node_of bs y))) where
+        not_text : is_text y ≡ false
+        not_text =
+            let after : texts_after x xs ≡ text_count xs = rw text refl in
+            no_text_next xs y ys (ap (λ k. drop k xs) (sym after) ∙ sym rest_is ∙ next)
+
+        second_left : steps_of bs second ++ Left ys ≡ Left rest
+        second_left =
+            rw (alone bs second _ at, next)
+            (ap (map Some) (sym (argument_precedes bs y (other_form bs (detail_of y).form not_text)
+            (program names (nodes_of bs ys)))))
+
+        pub two_added : new ≡ old ++ (steps_of bs first ++ steps_of bs second)
+            → new ++ Left ys ≡ old ++ Left pieces
+        two_added added =
+            added_one old new (steps_of bs first ++ steps_of bs second) (Left ys) (Left pieces) added
+            (append_assoc (steps_of bs first) (steps_of bs second) (Left ys)
+            ∙ ap (λ os. steps_of bs first ++ os) second_left ∙ first_left)
+
+  -- no piece is left
+  pub none_left : (bs : List ℕ) (made all : List (Option Instruction)) (xs : List Piece)
+      → length xs ≡ 0 → made ++ map Some (program names (nodes_of bs xs)) ≡ all → made ≡ all
+  none_left bs made all [] none is = sym (append-nil made) ∙ is
+  none_left bs made all (x ∷ xs) none is = absurd (omega (arith, none))

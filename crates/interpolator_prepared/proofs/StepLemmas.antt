@@ -1,9 +1,11 @@
 -- What stored steps mean, one after the other.
 use Rattle.std.proofs.Common.{◌≡◌, ◌∙◌, refl, ap, ℕ, zero, suc, ◌+◌, ◌<◌, ◌≤◌, List, [], ◌∷◌}
-use Rattle.std.proofs.Common.{arith}
-use Rattle.std.proofs.Common.{length, drop, map, get_or, Option, None, Some, IsSome}
+use Rattle.std.proofs.Common.{arith, sym, ◌++◌, flat_map}
+use Rattle.std.proofs.Common.{length, drop, map, get_or, Option, None, Some, IsSome, option_map}
 use Rattle.std.proofs.lemmas.List.{drop_more, drop_all}
 use Rattle.std.specs.List.{All}
+use Rattle.std.specs.Prelude.{Bool, true, false, ◌==◌, if◌then◌else◌}
+use Rattle.interpolator_prepared.specs.declared.step.Part.{Part}
 use Rattle.interpolator_render.specs.declared.view.Trait.{Trait}
 use Rattle.interpolator_render.specs.declared.view.Spec.{Spec}
 use Rattle.interpolator_render.specs.Views.{Shown}
@@ -11,48 +13,145 @@ use Rattle.interpolator_render.specs.Written.{Written}
 use Rattle.interpolator_syntax.specs.Faults.{Answer}
 use Rattle.interpolator_eval.specs.Slots.{Slots}
 use Rattle.interpolator_eval.specs.Meaning.Environments.{Environment}
-use Rattle.interpolator_eval.specs.Meaning.Meanings.{Meaning, chain}
+use Rattle.interpolator_syntax.specs.At.{placed_from}
+use Rattle.interpolator_eval.specs.Meaning.Meanings.{Meaning, chain, text_alone}
 use Rattle.interpolator_eval.specs.Meaning.Outcomes.{Outcome}
+use Rattle.interpolator_eval.proofs.MeaningLemmas.MeaningLemmas.{joined_assoc, joined_none}
+use Rattle.interpolator_eval.proofs.MeaningLemmas.MeaningLemmas.{nothing_last}
 use Rattle.interpolator_eval.proofs.MeaningLemmas.SinkLemmas.{and_then, fault_first, nothing_done}
-use Rattle.interpolator_prepared.specs.Programs.{Instruction, step_means, steps_mean}
-use Rattle.interpolator_prepared.specs.StoredSteps.{step_of, fitting_means, stored_steps_mean}
+use Rattle.interpolator_pieces.specs.Stored.{part}
+use Rattle.interpolator_prepared.specs.Programs.{Instruction, step_means, steps_mean, text_step}
+use Rattle.interpolator_prepared.specs.StoredSteps.{Fit, all_mean, fitting_means, joined_placed}
+use Rattle.interpolator_prepared.specs.StoredSteps.{joined_step, literal_step, parts_size}
+use Rattle.interpolator_prepared.specs.StoredSteps.{step_of, steps_of}
+use Rattle.interpolator_prepared.specs.StoredSteps.{stored_step_means, stored_steps_mean}
 use Rattle.interpolator_prepared.specs.declared.step.Step.{Step}
+use Rattle.interpolator_prepared.specs.declared.step.Step.TheVariants as steps
 
-module _ {A : Type 0} where
-  first_same : (x y : A) (xs ys : List A) → x ∷ xs ≡ y ∷ ys → x ≡ y
-  first_same x y xs ys h = cc
+-- if some instructions begin a program, they fit their format
+fit_front : (xs ys : List (Option Instruction)) (program : List Instruction)
+    → xs ++ ys ≡ map Some program → Fit xs
+fit_front [] ys program h = tt
+fit_front (x ∷ xs) ys [] h = absurd (cc)
+fit_front (x ∷ xs) ys (p ∷ ps) h =
+    let first : x ≡ Some p = cc in
+    (rw first refl, fit_front xs ys ps (cc))
 
-  rest_same : (x y : A) (xs ys : List A) → x ∷ xs ≡ y ∷ ys → xs ≡ ys
-  rest_same x y xs ys h = cc
+-- and those after them are the rest of it
+rest_is : (xs ys : List (Option Instruction)) (program : List Instruction)
+    → xs ++ ys ≡ map Some program → ys ≡ map Some (drop (length xs) program)
+rest_is [] ys program h = h
+rest_is (x ∷ xs) ys [] h = absurd (cc)
+rest_is (x ∷ xs) ys (p ∷ ps) h = rest_is xs ys ps (cc)
 
 -- steps that stand for a program fit their format
 pub program_fits :
     (bs : List ℕ) (steps : List Step) (program : List Instruction)
-    → map (step_of bs) steps ≡ map Some program → All (λ step. IsSome (step_of bs step)) steps
+    → flat_map (steps_of bs) steps ≡ map Some program
+    → All (λ step. Fit (steps_of bs step)) steps
 program_fits bs [] program h k d l = absurd (omega (arith, l))
-program_fits bs (s ∷ ss) [] h k d l = absurd (cc)
-program_fits bs (s ∷ ss) (p ∷ ps) h zero d l =
-    let e : step_of bs s ≡ Some p =
-    first_same (step_of bs s) (Some p) (map (step_of bs) ss) (map Some ps) h in rw e refl
-program_fits bs (s ∷ ss) (p ∷ ps) h (suc k) d l =
-    program_fits bs ss ps
-    (rest_same (step_of bs s) (Some p) (map (step_of bs) ss) (map Some ps) h) k d (omega (arith, l))
+program_fits bs (s ∷ ss) program h zero d l =
+    fit_front (steps_of bs s) (flat_map (steps_of bs) ss) program h
+program_fits bs (s ∷ ss) program h (suc k) d l =
+    program_fits bs ss (drop (length (steps_of bs s)) program)
+    (rest_is (steps_of bs s) (flat_map (steps_of bs) ss) program h) k d (omega (arith, l))
+
+-- a step of one instruction, and steps with one more
+pub alone : (bs : List ℕ) (s : Step) (p : Instruction) → step_of bs s ≡ Some p
+    → steps_of bs s ≡ Some p ∷ []
+alone bs (steps.Literal from to) p h = rw h refl
+alone bs (steps.Joined x) p h = rw h refl
+alone bs (steps.Plain position end) p h = rw h refl
+alone bs (steps.Value position asked) p h = rw h refl
+alone bs (steps.List x) p h = rw h refl
+alone bs (steps.Kept x) p h = rw h refl
+alone bs (steps.LiteralPlain x position end) p h = absurd (cc)
+alone bs (steps.LiteralValue x position asked) p h = absurd (cc)
+alone bs (steps.JoinedPlain x position end) p h = absurd (cc)
+
+module _ {X : Type 0} (shows : X → Trait → Spec → Shown) (e : Environment X)
+    (value_at : ℕ → Option (Slots X)) where
+  abbrev Means : List (Option Instruction) → Meaning
+  Means os = all_mean shows e value_at os
+
+  -- the first instruction, and those after it
+  all_first : (o : Option Instruction) (os : List (Option Instruction))
+      → Means (o ∷ os) ≡ chain (fitting_means shows e value_at o) (Means os)
+  all_first o [] = sym (nothing_last (fitting_means shows e value_at o))
+  all_first o (p ∷ os) = refl
+
+  -- some instructions, and those after them
+  all_then : (xs ys : List (Option Instruction)) → Means (xs ++ ys) ≡ chain (Means xs) (Means ys)
+  all_then [] ys = sym (joined_none (Means ys))
+  all_then (x ∷ xs) ys =
+      all_first x (xs ++ ys)
+      ∙ ap (chain (fitting_means shows e value_at x)) (all_then xs ys)
+      ∙ sym (joined_assoc (fitting_means shows e value_at x) (Means xs) (Means ys))
+      ∙ ap (λ m. chain m (Means ys)) (sym (all_first x xs))
+
+  -- those of a program mean what it means
+  all_program : (program : List Instruction)
+      → Means (map Some program) ≡ steps_mean shows e value_at program
+  all_program [] = refl
+  all_program (p ∷ ps) =
+      all_first (Some p) (map Some ps) ∙ ap (chain (step_means shows e value_at p)) (all_program ps)
+
+  module _ (bs : List ℕ) where
+    stored_all : (steps : List Step)
+        → stored_steps_mean shows e value_at bs steps ≡ Means (flat_map (steps_of bs) steps)
+    stored_all [] = refl
+    stored_all (s ∷ ss) =
+        ap (chain (stored_step_means shows e value_at bs s)) (stored_all ss)
+        ∙ sym (all_then (steps_of bs s) (flat_map (steps_of bs) ss))
+
+    -- and steps that stand for a program mean what the program means
+    pub program_stored :
+        (steps : List Step) (program : List Instruction)
+        → flat_map (steps_of bs) steps ≡ map Some program
+        → stored_steps_mean shows e value_at bs steps ≡ steps_mean shows e value_at program
+    program_stored steps program h = stored_all steps ∙ ap Means h ∙ all_program program
 
 module _ {X : Type 0} (shows : X → Trait → Spec → Shown) (e : Environment X)
     (value_at : ℕ → Option (Slots X)) (bs : List ℕ) where
-  -- and steps that stand for a program mean what the program means
-  pub program_stored :
-      (steps : List Step) (program : List Instruction)
-      → map (step_of bs) steps ≡ map Some program
-      → stored_steps_mean shows e value_at bs steps ≡ steps_mean shows e value_at program
-  program_stored [] [] h = refl
-  program_stored [] (p ∷ ps) h = absurd (cc)
-  program_stored (s ∷ ss) [] h = absurd (cc)
-  program_stored (s ∷ ss) (p ∷ ps) h =
-      ap (λ o. chain (fitting_means shows e value_at o) (stored_steps_mean shows e value_at bs ss))
-      (first_same (step_of bs s) (Some p) (map (step_of bs) ss) (map Some ps) h)
-      ∙ ap (chain (step_means shows e value_at p))
-      (program_stored ss ps (rest_same (step_of bs s) (Some p) (map (step_of bs) ss) (map Some ps) h))
+  -- a step of one instruction does what that does
+  pub one_step : (x : Step) (o : Option Instruction) (s t : Written) (r : Option Answer)
+      → steps_of bs x ≡ o ∷ [] → Outcome (fitting_means shows e value_at o) s t r
+      → Outcome (stored_step_means shows e value_at bs x) s t r
+  one_step x o s t r is h = rw is h
+
+  -- bytes of the format, and then a value
+  module _ (from to : ℕ) (s t u : Written) (r : Option Answer) (m : Meaning) where
+    text_by :
+        (o : Option (List ℕ)) → IsSome (option_map (λ cs. text_step (placed_from from cs)) o)
+        → ((cs : List ℕ) → o ≡ Some cs → Outcome (text_alone (placed_from from cs)) s t None)
+        → Outcome m t u r
+        → Outcome (chain (fitting_means shows e value_at
+        (option_map (λ cs. text_step (placed_from from cs)) o)) m) s u r
+    text_by None some h k = absurd (cc)
+    text_by (Some cs) some h k = and_then _ _ s t u r (h cs refl) k
+
+    pub literal_then :
+        IsSome (literal_step bs from to)
+        → ((cs : List ℕ) → part bs from to ≡ Some cs
+        → Outcome (text_alone (placed_from from cs)) s t None)
+        → Outcome m t u r
+        → Outcome (chain (fitting_means shows e value_at (literal_step bs from to)) m) s u r
+    literal_then some h k = text_by (part bs from to) some h k
+
+  -- text of several parts, and then a value
+  module _ (parts : List Part) (bytes : List ℕ) (s t u : Written) (r : Option Answer) (m : Meaning)
+      (h : Outcome (text_alone (joined_placed parts bytes)) s t None) (k : Outcome m t u r) where
+    joined_by :
+        (b : Bool) → IsSome (if b then Some (text_step (joined_placed parts bytes)) else None)
+        → Outcome (chain (fitting_means shows e value_at
+        (if b then Some (text_step (joined_placed parts bytes)) else None)) m) s u r
+    joined_by true some = and_then _ _ s t u r h k
+    joined_by false some = absurd (cc)
+
+    pub joined_then :
+        IsSome (joined_step parts bytes)
+        → Outcome (chain (fitting_means shows e value_at (joined_step parts bytes)) m) s u r
+    joined_then some = joined_by (parts_size parts == length bytes) some
 
   module _ (xs : List Step) (i : ℕ) where
     abbrev After : ℕ → Meaning
@@ -68,13 +167,13 @@ module _ {X : Type 0} (shows : X → Trait → Spec → Shown) (e : Environment 
 
       -- a step ends the run
       pub step_fault : (q : Answer)
-          → Outcome (fitting_means shows e value_at (step_of bs x)) s t (Some q)
+          → Outcome (stored_step_means shows e value_at bs x) s t (Some q)
           → Outcome (After i) s t (Some q)
       step_fault q o = rw next_step (fault_first _ _ _ _ q o)
 
       -- a step is done, and the steps after it follow
       pub step_runs : (u : Written) (r : Option Answer)
-          → Outcome (fitting_means shows e value_at (step_of bs x)) s t None
+          → Outcome (stored_step_means shows e value_at bs x) s t None
           → Outcome (After (i + 1)) t u r
           → Outcome (After i) s u r
       step_runs u r o k = rw next_step (and_then _ _ _ _ u r o k)

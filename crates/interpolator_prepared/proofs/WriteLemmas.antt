@@ -3,7 +3,7 @@ use Rattle.std.proofs.Common.{◌≡◌, ◌∙◌, refl, sym, ap, arith, ℕ, z
 use Rattle.std.proofs.Common.{Option, None, Some, IsSome, get_or, option_map}
 use Rattle.std.proofs.lemmas.Option.{slice_get_past}
 use Rattle.std.proofs.lemmas.List.{length-map}
-use Rattle.std.specs.Prelude.{String, string_bytes, slice_get}
+use Rattle.std.specs.Prelude.{String, string_bytes, slice_get, flat_map}
 use Rattle.std.specs.Str.{chars, IsUtf8}
 use Rattle.interpolator_render.specs.declared.view.Trait.{Trait}
 use Rattle.interpolator_render.specs.declared.view.Spec.{Spec}
@@ -21,7 +21,7 @@ use Rattle.interpolator_prepared.specs.Rows.{InOrder, found_by_row, name_bytes, 
 use Rattle.interpolator_prepared.specs.Rows.{slot_found}
 use Rattle.std.specs.Option.{option_and_then}
 use Rattle.std.proofs.lemmas.Str.{encodes-chars}
-use Rattle.interpolator_prepared.specs.StoredSteps.{step_of, stored_steps_mean}
+use Rattle.interpolator_prepared.specs.StoredSteps.{steps_of, stored_steps_mean}
 use Rattle.interpolator_prepared.specs.declared.step.Step.{Step}
 use Rattle.interpolator_prepared.proofs.ProgramLemmas.{program_means}
 use Rattle.interpolator_prepared.proofs.StepLemmas.{program_stored}
@@ -97,7 +97,7 @@ pub row_outcome :
     {X : Type 0} (shows : X → Trait → Spec → Shown) (finds : List ℕ → Option (Slots X))
     (names : List (List ℕ)) (value_at : ℕ → Option (Slots X)) (bs : List ℕ) (steps : List Step)
     (old new : Written) (answer : Option Answer) → InOrder names value_at finds
-    → map (step_of bs) steps ≡ map Some (program names (nodes (outermost (chars bs))))
+    → flat_map (steps_of bs) steps ≡ map Some (program names (nodes (outermost (chars bs))))
     → Outcome (stored_steps_mean shows (environment finds) value_at bs steps) old new answer
     → Outcome (means shows (environment finds) (outermost (chars bs))) old new answer
 row_outcome shows finds names value_at bs steps old new answer order stands o =

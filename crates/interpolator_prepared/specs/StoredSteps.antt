@@ -2,7 +2,7 @@
 use Rattle.std.specs.Prelude.{ℕ, suc, ◌+◌, ◌-◌, nat_lt, ◌==◌, if◌then◌else◌, List, [], ◌∷◌, ◌++◌}
 use Rattle.std.specs.Prelude.{Bool, true, false, unwrap_or}
 use Rattle.std.specs.Prelude.{length, map, Option, Some, None, option_map, string_bytes}
-use Rattle.std.specs.Prelude.{◌&&◌, not, is_some, take, drop}
+use Rattle.std.specs.Prelude.{◌&&◌, not, is_some, take, drop, IsSome, ⊤}
 use Rattle.std.specs.Str.{chars}
 use Rattle.interpolator_render.specs.declared.view.Trait.{Trait}
 use Rattle.interpolator_render.specs.declared.view.Trait.TheVariants as traits
@@ -30,6 +30,7 @@ use Rattle.interpolator_prepared.specs.Programs.{step_means, argument_step, node
 use Rattle.interpolator_prepared.specs.declared.step.JoinedText.{JoinedText}
 use Rattle.interpolator_prepared.specs.declared.step.ListStep.{ListStep}
 use Rattle.interpolator_prepared.specs.declared.step.Part.{Part}
+use Rattle.interpolator_prepared.specs.declared.step.ValueSpec.{ValueSpec}
 use Rattle.interpolator_prepared.specs.declared.step.Step.{Step}
 use Rattle.interpolator_prepared.specs.declared.step.Step.TheVariants as steps
 
@@ -106,16 +107,44 @@ compiled_list bs x =
 abbrev pub kept_step : Node → Option Instruction
 kept_step x = if node_whole x then Some (whole_step x) else None
 
--- what a stored step of a format stands for, if it fits the format
-abbrev pub step_of : List ℕ → Step → Option Instruction
-step_of bs (steps.Literal from to) =
+-- the step of bytes of the format, if it may be cut there
+abbrev pub literal_step : List ℕ → (from to : ℕ) → Option Instruction
+literal_step bs from to =
     option_map (λ cs. text_step (placed_from from cs)) (part bs from to)
+
+-- the step of a value that is displayed plainly
+abbrev pub plain_step : (position end : ℕ) → Instruction
+plain_step position end = value_step position traits.Display plain_spec end
+
+-- the step of a value under a trait and a spec
+abbrev pub asked_step : (position : ℕ) → ValueSpec → Instruction
+asked_step position asked = value_step position asked.slot asked.spec asked.end
+
+-- what a stored step of a format stands for, if that is one instruction and fits the format
+abbrev pub step_of : List ℕ → Step → Option Instruction
+step_of bs (steps.Literal from to) = literal_step bs from to
 step_of bs (steps.Joined x) = joined_step x.value.parts.items (string_bytes x.value.text)
-step_of bs (steps.Plain position end) = Some (value_step position traits.Display plain_spec end)
-step_of bs (steps.Value position asked) =
-    Some (value_step position asked.value.slot asked.value.spec asked.value.end)
+step_of bs (steps.Plain position end) = Some (plain_step position end)
+step_of bs (steps.Value position asked) = Some (asked_step position asked.value)
 step_of bs (steps.List x) = compiled_list bs x.value
 step_of bs (steps.Kept x) = kept_step (node_of bs x.value)
+step_of bs _ = None
+
+-- what it stands for, in order: text and a value, or one instruction
+abbrev pub steps_of : List ℕ → Step → List (Option Instruction)
+steps_of bs (steps.LiteralPlain x position end) =
+    literal_step bs x.from x.to ∷ (Some (plain_step position end) ∷ [])
+steps_of bs (steps.LiteralValue x position asked) =
+    literal_step bs x.from x.to ∷ (Some (asked_step position asked.value) ∷ [])
+steps_of bs (steps.JoinedPlain x position end) =
+    joined_step x.value.parts.items (string_bytes x.value.text)
+    ∷ (Some (plain_step position end) ∷ [])
+steps_of bs step = step_of bs step ∷ []
+
+-- whether all instructions fit their format
+abbrev pub Fit : List (Option Instruction) → Type 0
+Fit [] = ⊤
+Fit (step ∷ steps) = IsSome step × Fit steps
 
 -- whether a step looks a name up
 abbrev pub looks_up : Step → Bool
@@ -165,8 +194,18 @@ module _ {X : Type 0} (shows : X → Trait → Spec → Shown) (e : Environment 
   fitting_means None = nothing
   fitting_means (Some step) = step_means shows e value_at step
 
+  -- what instructions mean in order, up to the first fault
+  abbrev pub all_mean : List (Option Instruction) → Meaning
+  all_mean [] = nothing
+  all_mean (step ∷ []) = fitting_means step
+  all_mean (step ∷ (next ∷ steps)) = chain (fitting_means step) (all_mean (next ∷ steps))
+
+  -- what a stored step means
+  abbrev pub stored_step_means : List ℕ → Step → Meaning
+  stored_step_means bs step = all_mean (steps_of bs step)
+
   -- stored steps in order, up to the first fault
   abbrev pub stored_steps_mean : List ℕ → List Step → Meaning
   stored_steps_mean bs [] = nothing
   stored_steps_mean bs (step ∷ steps) =
-      chain (fitting_means (step_of bs step)) (stored_steps_mean bs steps)
+      chain (stored_step_means bs step) (stored_steps_mean bs steps)

@@ -1,5 +1,5 @@
 //! Turns the pieces of a format into steps, for names in order.
-ghost use Rattle.std.specs.Prelude.{◌≡◌, ◌≤◌, ℕ, List, [], ◌∷◌, ◌++◌, IfOk};
+ghost use Rattle.std.specs.Prelude.{◌≡◌, ◌<◌, ◌≤◌, ℕ, List, [], ◌∷◌, ◌++◌, IfOk, flat_map};
 ghost use Rattle.std.specs.Prelude.{IsSome, Some, length, map, true};
 ghost use Rattle.std.specs.List.{All};
 ghost use Rattle.std.specs.Str.{encode_utf8_all};
@@ -8,6 +8,7 @@ ghost use Rattle.interpolator_prepared.specs.Programs.{argument_step, node_posit
 ghost use Rattle.interpolator_prepared.specs.Programs.{text_step, value_step, whole_step};
 ghost use Rattle.interpolator_prepared.specs.Rows.{last_position, name_bytes};
 ghost use Rattle.interpolator_prepared.specs.StoredSteps.{first_step, is_text, kept_step, step_of};
+ghost use Rattle.interpolator_prepared.specs.StoredSteps.{steps_of};
 ghost use Rattle.interpolator_prepared.specs.StoredSteps.{text_count, texts_after, texts_placed};
 ghost use Rattle.interpolator_pieces.specs.Stored.{detail_of, forest_whole, node_of, node_whole, nodes_of};
 ghost use Rattle.interpolator_pieces.specs.StoredMeanings.{stored_name, stored_part};
@@ -16,7 +17,7 @@ ghost use Rattle.interpolator_pieces.specs.declared.piece.Form.TheVariants as fo
 use crate::joined::join;
 use crate::lists::{list_pieces, made_list};
 use crate::row::last_position;
-use crate::step::{Step, ValueSpec};
+use crate::step::{Part, Step, ValueSpec};
 use interpolator_pieces::{
     Form, Piece, copy_piece, form_of, part_of, spec_end_of, spec_of, text_of,
 };
@@ -35,18 +36,51 @@ pub fn compile(
     pieces: &[Piece],
 ) -> Result<Vec<Step>, AllocError>
     requires whole { forest_whole (as_forest (nodes_of text.now pieces.now)) ≡ true }
-    ensures program { IfOk result (λ made. map (step_of text.now) made.items
+    ensures program { IfOk result (λ made. flat_map (steps_of text.now) made.items
         ≡ map Some (program (name_bytes names.now) (nodes_of text.now pieces.now))) }
 {
     let mut made = Vec::with_capacity(alloc, pieces.len().min(MOST_ROOM))?;
     let mut left = pieces;
-    while let Some((piece, after)) = left.split_first() {
-        let (texts, rest) = after.split_at(texts_after(piece, after));
-        let step = first_step(alloc, text, names, piece, texts)?;
-        push_step(&mut made, step)?;
-        left = rest;
+    while !left.is_empty() {
+        left = add_first(alloc, text, names, &mut made, left)?;
     }
     Ok(made)
+}
+
+/// Adds the step of the first piece, with the text after it if it is text, and with the argument
+/// after that. Returns the pieces that are left.
+fn add_first<'p>(
+    alloc: Global,
+    text: &str,
+    names: &[String],
+    made: &mut Vec<Step>,
+    pieces: &'p [Piece],
+) -> Result<&'p [Piece], AllocError>
+    requires whole { forest_whole (as_forest (nodes_of text.now pieces.now)) ≡ true }
+    ensures whole { IfOk result (λ left.
+        forest_whole (as_forest (nodes_of text.now left.now)) ≡ true) }
+    ensures shorter { 0 < length pieces.now
+        → IfOk result (λ left. length left.now < length pieces.now) }
+    ensures added { IfOk result (λ left. let names = name_bytes names.now in
+        flat_map (steps_of text.now) made.new.items
+        ++ map Some (program names (nodes_of text.now left.now))
+        ≡ flat_map (steps_of text.now) made.old.items
+        ++ map Some (program names (nodes_of text.now pieces.now))) }
+{
+    let Some((piece, after)) = pieces.split_first() else {
+        return Ok(pieces);
+    };
+    let (texts, rest) = after.split_at(texts_after(piece, after));
+    let step = first_step(alloc, text, names, piece, texts)?;
+    if is_text(piece) {
+        if let Some((next, left)) = rest.split_first() {
+            let argument = argument_step(alloc, text, names, next)?;
+            push_pair(made, step, argument)?;
+            return Ok(left);
+        }
+    }
+    push_step(made, step)?;
+    Ok(rest)
 }
 
 /// Whether a piece is text.
@@ -86,12 +120,34 @@ pub fn text_count(pieces: &[Piece]) -> usize
 
 /// Adds a step.
 fn push_step(made: &mut Vec<Step>, step: Step) -> Result<(), AllocError>
-    ensures pushed { IfOk result (λ _. (bs : List ℕ) → map (step_of bs) made.new.items
-        ≡ map (step_of bs) made.old.items ++ (step_of bs step ∷ [])) }
+    ensures pushed { IfOk result (λ _. (bs : List ℕ) → flat_map (steps_of bs) made.new.items
+        ≡ flat_map (steps_of bs) made.old.items ++ steps_of bs step) }
 {
     made.reserve(1)?;
     made.push_reserved(step);
     Ok(())
+}
+
+/// Adds two steps, as one if there is one for both.
+fn push_pair(made: &mut Vec<Step>, first: Step, second: Step) -> Result<(), AllocError>
+    ensures pushed { IfOk result (λ _. (bs : List ℕ) → flat_map (steps_of bs) made.new.items
+        ≡ flat_map (steps_of bs) made.old.items ++ (steps_of bs first ++ steps_of bs second)) }
+{
+    match (first, second) {
+        (Step::Literal(from, to), Step::Plain(position, end)) => {
+            push_step(made, Step::LiteralPlain(Part { from, to }, position, end))
+        }
+        (Step::Literal(from, to), Step::Value(position, asked)) => {
+            push_step(made, Step::LiteralValue(Part { from, to }, position, asked))
+        }
+        (Step::Joined(joined), Step::Plain(position, end)) => {
+            push_step(made, Step::JoinedPlain(joined, position, end))
+        }
+        (first, second) => {
+            push_step(made, first)?;
+            push_step(made, second)
+        }
+    }
 }
 
 /// The step of a piece, and of the text after it if it is text.

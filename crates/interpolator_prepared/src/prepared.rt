@@ -1,5 +1,5 @@
 //! Formats that were prepared for rows of values: names are positions, and text is joined.
-ghost use Rattle.std.specs.Prelude.{◌≡◌, ◌≤◌, length, map, IfErr, IfOk, Some};
+ghost use Rattle.std.specs.Prelude.{◌≡◌, ◌≤◌, flat_map, length, map, IfErr, IfOk, Some};
 ghost use Rattle.std.specs.Str.{chars};
 ghost use Rattle.interpolator_syntax.specs.At.{outermost};
 ghost use Rattle.interpolator_syntax.specs.Faults.{answer_of, result_answer, no_memory, PlaceWithin};
@@ -9,7 +9,7 @@ ghost use Rattle.interpolator_eval.specs.Meaning.Meanings.{means};
 ghost use Rattle.interpolator_eval.specs.Meaning.Outcomes.{Outcome, Formats};
 ghost use Rattle.interpolator_prepared.specs.Programs.{program};
 ghost use Rattle.interpolator_prepared.specs.Rows.{cell_at, found_by_row, name_bytes, row_at};
-ghost use Rattle.interpolator_prepared.specs.StoredSteps.{step_of};
+ghost use Rattle.interpolator_prepared.specs.StoredSteps.{steps_of};
 ghost use Rattle.interpolator_pieces.specs.Lines.{line_means};
 ghost use Rattle.interpolator_pieces.specs.Stored.{nodes_of};
 
@@ -46,19 +46,19 @@ pub struct Prepared {
 }
 
 impl Model for Prepared {
-    ghost use Rattle.std.specs.Prelude.{◌≡◌, Some, map, string_bytes};
+    ghost use Rattle.std.specs.Prelude.{◌≡◌, Some, flat_map, map, string_bytes};
     ghost use Rattle.std.specs.Str.{chars};
     ghost use Rattle.interpolator_syntax.specs.At.{outermost};
     ghost use Rattle.interpolator_syntax.specs.Nodes.{nodes};
     ghost use Rattle.interpolator_prepared.specs.Programs.{program};
     ghost use Rattle.interpolator_prepared.specs.Rows.{PreparedFormat, name_bytes};
-    ghost use Rattle.interpolator_prepared.specs.StoredSteps.{step_of};
+    ghost use Rattle.interpolator_prepared.specs.StoredSteps.{steps_of};
 
     ghost Value = { PreparedFormat };
 
     ghost view = { λ p. record { text = string_bytes p.text; names = name_bytes p.names.items } };
 
-    ghost invariant = { λ p. map (step_of (string_bytes p.text)) p.steps.items
+    ghost invariant = { λ p. flat_map (steps_of (string_bytes p.text)) p.steps.items
         ≡ map Some (program (name_bytes p.names.items)
         (nodes (outermost (chars (string_bytes p.text))))) };
 }
@@ -72,7 +72,7 @@ fn write_row<'a, W: TextWrite, R: PreparedRow>(
     named: &NamedRow<'a, R>,
     steps: &[Step],
 ) -> Result<(), Error>
-    requires program { map (step_of text.now) steps.now
+    requires program { flat_map (steps_of text.now) steps.now
         ≡ map Some (program (name_bytes named.now.names.now) (nodes (outermost (chars text.now)))) }
     ensures outcome { Outcome
         (means R.Object.shows
@@ -95,7 +95,7 @@ fn format_row<'a, R: PreparedRow>(
     named: &NamedRow<'a, R>,
     steps: &[Step],
 ) -> Result<String, Error>
-    requires program { map (step_of text.now) steps.now
+    requires program { flat_map (steps_of text.now) steps.now
         ≡ map Some (program (name_bytes named.now.names.now) (nodes (outermost (chars text.now)))) }
     ensures formats { Formats
         (means R.Object.shows

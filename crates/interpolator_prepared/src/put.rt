@@ -8,15 +8,16 @@ ghost use Rattle.interpolator_eval.specs.Meaning.Meanings.{text_alone};
 ghost use Rattle.interpolator_eval.specs.Meaning.Outcomes.{Outcome};
 ghost use Rattle.interpolator_eval.specs.Meaning.Sinks.{write_answered};
 ghost use Rattle.interpolator_prepared.specs.Programs.{position_means};
-ghost use Rattle.interpolator_prepared.specs.StoredSteps.{fitting_means, looks_up, step_of};
+ghost use Rattle.interpolator_prepared.specs.StoredSteps.{Fit, looks_up, steps_of};
+ghost use Rattle.interpolator_prepared.specs.StoredSteps.{stored_step_means};
 ghost use Rattle.interpolator_pieces.specs.Stored.{part};
 
 use crate::joined::put_joined;
 use crate::row::PreparedRow;
-use crate::step::Step;
+use crate::step::{Step, ValueSpec};
 use interpolator_eval::{WriteFault, write_plain, write_run, write_shown};
 use interpolator_pieces::cut;
-use interpolator_render::{Spec, TextWrite, Trait};
+use interpolator_render::{TextWrite, Trait};
 
 /// Writes what a step that looks no name up means. It returns a fault in few bytes, since an
 /// [`Error`](crate::Error) would be zeroed at each step.
@@ -27,10 +28,10 @@ pub fn put_step<W: TextWrite, R: PreparedRow>(
     row: &R,
     step: &Step,
 ) -> Result<(), WriteFault>
-    requires fits { IsSome (step_of text.now step.now) }
+    requires fits { Fit (steps_of text.now step.now) }
     requires alone { looks_up step.now ≡ false }
     ensures outcome { (e : Environment R.Object)
-        → Outcome (fitting_means R.Object.shows e (R.value_at row.now) (step_of text.now step.now))
+        → Outcome (stored_step_means R.Object.shows e (R.value_at row.now) text.now step.now)
         (W.written out.old) (W.written out.new) (write_answered result) }
 {
     match step {
@@ -38,7 +39,19 @@ pub fn put_step<W: TextWrite, R: PreparedRow>(
         Step::Joined(joined) => put_joined(out, joined),
         Step::Plain(position, end) => put_plain(out, row, *position, *end),
         Step::Value(position, asked) => {
-            put_at(out, row, *position, asked.slot, &asked.spec, asked.end)
+            put_at(out, row, *position, asked)
+        }
+        Step::LiteralPlain(part, position, end) => {
+            put_literal(out, text, part.from, part.to)?;
+            put_plain(out, row, *position, *end)
+        }
+        Step::LiteralValue(part, position, asked) => {
+            put_literal(out, text, part.from, part.to)?;
+            put_at(out, row, *position, asked)
+        }
+        Step::JoinedPlain(joined, position, end) => {
+            put_joined(out, joined)?;
+            put_plain(out, row, *position, *end)
         }
         Step::List(_) => unreachable!(),
         Step::Kept(_) => unreachable!(),
@@ -82,13 +95,13 @@ fn put_at<W: TextWrite, R: PreparedRow>(
     out: &mut W,
     row: &R,
     position: usize,
-    t: Trait,
-    spec: &Spec,
-    end: usize,
+    asked: &ValueSpec,
 ) -> Result<(), WriteFault>
     ensures outcome { Outcome
-        (position_means R.Object.shows t spec.now end (R.value_at row.now position))
+        (position_means R.Object.shows asked.now.slot asked.now.spec asked.now.end
+        (R.value_at row.now position))
         (W.written out.old) (W.written out.new) (write_answered result) }
 {
-    write_shown(out, row.value(position, t), t, spec, end)
+    let value = row.value(position, asked.slot);
+    write_shown(out, value, asked.slot, &asked.spec, asked.end)
 }

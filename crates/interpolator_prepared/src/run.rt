@@ -6,7 +6,7 @@ ghost use Rattle.interpolator_eval.specs.Meaning.Environments.{environment};
 ghost use Rattle.interpolator_eval.specs.Meaning.Outcomes.{Outcome};
 ghost use Rattle.interpolator_eval.specs.Slots.{Slots};
 ghost use Rattle.interpolator_prepared.specs.Rows.{name_bytes};
-ghost use Rattle.interpolator_prepared.specs.StoredSteps.{fitting_means, step_of, stored_steps_mean};
+ghost use Rattle.interpolator_prepared.specs.StoredSteps.{Fit, fitting_means, steps_of, stored_steps_mean};
 ghost use Rattle.interpolator_prepared.specs.StoredSteps.{kept_step};
 ghost use Rattle.interpolator_eval.specs.Meaning.CodeEnvironments.{environment_of};
 ghost use Rattle.interpolator_eval.specs.Meaning.Sinks.{Writes};
@@ -32,7 +32,7 @@ pub fn run_steps<'a, W: TextWrite, R: PreparedRow>(
     named: &NamedRow<'a, R>,
     steps: &[Step],
 ) -> Result<(), Error>
-    requires fit { All (λ step. IsSome (step_of text.now step)) steps.now }
+    requires fit { All (λ step. Fit (steps_of text.now step)) steps.now }
     ensures outcome { Outcome
         (stored_steps_mean R.Object.shows
         (environment (R.finds_in named.now.row.now (name_bytes named.now.names.now)))

@@ -57,6 +57,12 @@ pub enum Step {
     Plain(usize, usize),
     /// The value at a position, under a trait and a spec.
     Value(usize, Box<ValueSpec>),
+    /// Bytes of the format, and then a value as of `Plain`.
+    LiteralPlain(Part, usize, usize),
+    /// Bytes of the format, and then a value as of `Value`.
+    LiteralValue(Part, usize, Box<ValueSpec>),
+    /// Text of several parts, and then a value as of `Plain`.
+    JoinedPlain(Box<JoinedText>, usize, usize),
     /// A list.
     List(Box<ListStep>),
     /// A piece that is kept: any other list, or an argument whose name has no position.

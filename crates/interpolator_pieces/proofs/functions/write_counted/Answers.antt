@@ -1,5 +1,5 @@
 use Rattle.std.proofs.Common.{arith, length, rules}
-use Rattle.std.specs.Str.{chars}
+use Rattle.std.specs.Str.{chars, IsUtf8}
 use Rattle.interpolator_syntax.specs.At.{outermost}
 use Rattle.interpolator_eval.specs.Meaning.Environments.{environment}
 use Rattle.interpolator_syntax.proofs.CharacterLemmas.{size-chars}
@@ -12,7 +12,7 @@ use Rattle.interpolator_pieces.proofs.functions.write_counted.Goals as goal
 pub invariant_of-source : goal.invariant_of-source
 invariant_of-source g c = record {
   fits =
-      text_whole c.args.format.now c.args.pieces.now (outermost (chars c.args.format.now))
+      text_whole c.args.format.text.now c.args.format.pieces.now (outermost (chars c.args.format.text.now))
       c.requires.pieces;
 }
 
@@ -27,7 +27,7 @@ returns-clause-outcome g c =
 pub returns-clause-asked : goal.returns-clause-asked
 returns-clause-asked g c =
     let e = environment (g.C.Context.finds c.args.context.now) in
-    let a = outermost (chars c.args.format.now) in
+    let a = outermost (chars c.args.format.text.now) in
     let o = text_outcome _ _ _ c.requires.pieces g.C.Object.Value.shows e _ _ _ _
     c.outermost-environment.ensures
     (rw c.in-Writer.is at c.write_source-answer.ensures.writes.outcome) in
@@ -36,8 +36,9 @@ returns-clause-asked g c =
 pub returns-clause-place : goal.returns-clause-place
 returns-clause-place g c =
     let e = environment (g.C.Context.finds c.args.context.now) in
-    outcome_lies_from g.C.Object.Value.shows e 0 (chars c.args.format.now)
-    (length c.args.format.now) _ _ _ (omega (arith, size-chars c.args.format.now c.utf8.format))
+    let utf8 : IsUtf8 c.args.format.text.now = search rules in
+    outcome_lies_from g.C.Object.Value.shows e 0 (chars c.args.format.text.now)
+    (length c.args.format.text.now) _ _ _ (omega (arith, size-chars c.args.format.text.now utf8))
     (text_outcome _ _ _ c.requires.pieces g.C.Object.Value.shows e _ _ _ _
     c.outermost-environment.ensures
     (rw c.in-Writer.is at c.write_source-answer.ensures.writes.outcome))
@@ -52,7 +53,7 @@ returns-clause-gone g c =
 pub returns-clause-within : goal.returns-clause-within
 returns-clause-within g c limits within =
     let e = environment (g.C.Context.finds c.args.context.now) in
-    let a = outermost (chars c.args.format.now) in
+    let a = outermost (chars c.args.format.text.now) in
     let goes = text_goes g.C.Object.Value.shows e _ _ _ _ c.requires.pieces
     c.outermost-environment.ensures in
     let cost = text_at_most g.C.Object.Value.shows limits e a within in

@@ -136,24 +136,24 @@ push_argument-returns-in_ok-push_piece-in-Some-2-clause-pushed t c =
 
 pub push_asked-push_taken-requires : goal.push_asked-push_taken-requires
 push_asked-push_taken-requires t c =
-    let read = asked_ok (at c.args.here) c.args.named c.requires.named _ _ c.in-Ok.ensures in
+    let read = asked_ok (at c.args.opening.here) c.args.opening.named c.requires.named _ _ c.in-Ok.ensures in
     (search rules, (c.requires.start, (read, c.requires.name_end)))
 
 pub push_asked-returns-in-Err-clause-rest : goal.push_asked-returns-in-Err-clause-rest
 push_asked-returns-in-Err-clause-rest t c =
-    let read = asked_broken (at c.args.here) c.args.named c.requires.named _ c.in-Err.ensures in
-    rw (broken_is (at c.args.here) _ (sym read)) c.push_broken.ensures.rest
+    let read = asked_broken (at c.args.opening.here) c.args.opening.named c.requires.named _ c.in-Err.ensures in
+    rw (broken_is (at c.args.opening.here) _ (sym read)) c.push_broken.ensures.rest
 
 pub push_asked-returns-in-Err-clause-pushed : goal.push_asked-returns-in-Err-clause-pushed
 push_asked-returns-in-Err-clause-pushed t c =
-    let read = asked_broken (at c.args.here) c.args.named c.requires.named _ c.in-Err.ensures in
-    rw (broken_is (at c.args.here) _ (sym read)) c.push_broken.ensures.pushed
+    let read = asked_broken (at c.args.opening.here) c.args.opening.named c.requires.named _ c.in-Err.ensures in
+    rw (broken_is (at c.args.opening.here) _ (sym read)) c.push_broken.ensures.pushed
 
 pub push_list-parse_group-requires : goal.push_list-parse_group-requires
 push_list-parse_group-requires t c =
     omega (
       arith,
-      list_within (at c.args.here) c.args.named c.args.asked.now (at c.args.end) c.requires.read
+      list_within (at c.args.opening.here) c.args.opening.named c.args.asked.now (at c.args.end) c.requires.read
           c.requires.asked,
     )
 
@@ -161,18 +161,18 @@ pub push_list-parse_group-requires-2 : goal.push_list-parse_group-requires-2
 push_list-parse_group-requires-2 t c =
     omega (
       arith,
-      list_within (at c.args.here) c.args.named c.args.asked.now (at c.args.end) c.requires.read
+      list_within (at c.args.opening.here) c.args.opening.named c.args.asked.now (at c.args.end) c.requires.read
           c.requires.asked,
     )
 
 pub push_list-returns-clause-rest : goal.push_list-returns-clause-rest
 push_list-returns-clause-rest t c =
-    rest_is c.args.place (at c.args.here) c.args.named c.args.asked.now c.args.end c.requires.start
+    rest_is c.args.opening.place (at c.args.opening.here) c.args.opening.named c.args.asked.now c.args.end c.requires.start
     c.requires.read c.requires.name_end _ c.ending-kind.ensures.rest
 
 pub push_list-returns-clause-pushed : goal.push_list-returns-clause-pushed
 push_list-returns-clause-pushed t c =
-    list_pushed c.args.place (at c.args.here) c.args.named c.args.asked.now c.args.end
+    list_pushed c.args.opening.place (at c.args.opening.here) c.args.opening.named c.args.asked.now c.args.end
     c.requires.start c.requires.read c.requires.name_end _ _ _ _ _ c.ending-kind.ensures.rest
     c.ending-kind.ensures.kind c.in_ok-push_piece.ensures c.in_ok-item.item c.in_ok-join.join
     c.requires.asked c.in_ok-item.ensures.stands c.in_ok-join.ensures.stands

@@ -15,13 +15,13 @@ abbrev pub decreases-push_argument : goal.decreases-push_argument
 decreases-push_argument l = 16 * length (chars l.here.rest.now) + 8
 
 abbrev pub decreases-push_asked : goal.decreases-push_asked
-decreases-push_asked l = 16 * length (chars l.here.rest.now) + 7
+decreases-push_asked l = 16 * length (chars l.opening.here.rest.now) + 7
 
 abbrev pub decreases-push_taken : goal.decreases-push_taken
-decreases-push_taken l = 16 * length (chars l.here.rest.now) + 6
+decreases-push_taken l = 16 * length (chars l.opening.here.rest.now) + 6
 
 abbrev pub decreases-push_list : goal.decreases-push_list
-decreases-push_list l = 16 * length (chars l.here.rest.now) + 5
+decreases-push_list l = 16 * length (chars l.opening.here.rest.now) + 5
 
 abbrev pub decreases-parse_group : goal.decreases-parse_group
 decreases-parse_group l = 16 * group_size (option_map group_of l.group) + 1

@@ -1,23 +1,28 @@
-use Rattle.std.proofs.Common.{◌≡◌, ◌∷◌}
-use Rattle.interpolator_prepared.proofs.CompileLemmas.{compiled_more, texts_after_fit}
+use Rattle.std.proofs.Common.{◌≡◌, ◌∙◌, arith, length, refl}
+use Rattle.std.proofs.lemmas.Bool.Decides.{nat_tests}
 use Rattle.interpolator_prepared.specs.Rows.{name_bytes}
+use Rattle.interpolator_prepared.proofs.CompileLemmas.{none_left}
 use Rattle.interpolator_prepared.proofs.compile.compile.Goals as goal
 
-pub first_step-requires-clause-texts : goal.first_step-requires-clause-texts
-first_step-requires-clause-texts c =
-    let split : c.loop-piece.left.now ≡ c.in-Some.piece.now ∷ c.in-Some.after.now =
-    c.in-Some.ensures.cases.0 in
-    rw (c.split_at.ensures.front, c.texts_after.ensures.count)
-    (texts_after_fit (name_bytes c.args.names.now) c.args.text.now c.in-Some.piece.now
-    c.in-Some.after.now (rw split at c.loop-piece.invariant.whole))
+pub loop-left-init : goal.loop-left-init
+loop-left-init c = rw (c.in_ok-made.ensures.items) (record { whole = c.requires.whole; goes_on = refl })
 
-pub loop-piece-preserved : goal.loop-piece-preserved
-loop-piece-preserved c =
-    let split : c.loop-piece.left.now ≡ c.in-Some.piece.now ∷ c.in-Some.after.now =
-    c.in-Some.ensures.cases.0 in
-    let step = rw (c.split_at.ensures.front, c.texts_after.ensures.count) at c.in_ok-step.ensures.step in
-    let pushed = rw step at (c.in_ok-push_step.ensures.pushed c.args.text.now) in
-    rw (c.split_at.ensures.back, c.texts_after.ensures.count)
-    (compiled_more (name_bytes c.args.names.now) c.args.text.now c.args.pieces.now _ _
-    c.in-Some.piece.now c.in-Some.after.now (rw split at c.loop-piece.invariant)
-    pushed)
+pub add_first-requires : goal.add_first-requires
+add_first-requires c = record { whole = c.loop-left.invariant.whole }
+
+pub loop-left-smaller : goal.loop-left-smaller
+loop-left-smaller c = c.in_ok-left.ensures.shorter (grind (arith, nat_tests))
+
+pub loop-left-preserved : goal.loop-left-preserved
+loop-left-preserved c = record {
+  whole = c.in_ok-left.ensures.whole;
+  goes_on = c.in_ok-left.ensures.added ∙ c.loop-left.invariant.goes_on;
+}
+
+pub returns : goal.returns
+returns c =
+    let none : length c.loop-left.left.now ≡ 0 = grind (arith, nat_tests) in
+    record {
+      program = none_left (name_bytes c.args.names.now) c.args.text.now _ _ c.loop-left.left.now none
+          c.loop-left.invariant.goes_on;
+    }

@@ -1,11 +1,20 @@
-use Rattle.std.proofs.Common.{length}
+use Rattle.std.proofs.Common.{◌≡◌, ◌++◌, flat_map, length, map, Some, true}
+use Rattle.interpolator_syntax.specs.Nodes.{as_forest}
+use Rattle.interpolator_pieces.specs.Stored.{forest_whole, nodes_of}
+use Rattle.interpolator_prepared.specs.Programs.{program}
 use Rattle.interpolator_prepared.specs.Rows.{name_bytes}
-use Rattle.interpolator_prepared.proofs.CompileLemmas.{Compiled}
+use Rattle.interpolator_prepared.specs.StoredSteps.{steps_of}
 use Rattle.interpolator_prepared.proofs.compile.compile.Given as goal
 
 -- the steps so far, and those of the pieces that are left, are the program of all
-abbrev pub invariant-loop-piece : goal.invariant-loop-piece
-invariant-loop-piece l = Compiled (name_bytes l.names) l.text l.pieces l.made.items l.left
+abbrev pub invariant-loop-left : goal.invariant-loop-left
+invariant-loop-left l =
+    record {
+      whole : forest_whole (as_forest (nodes_of l.text l.left)) ≡ true;
+      goes_on : flat_map (steps_of l.text) l.made.items
+          ++ map Some (program (name_bytes l.names) (nodes_of l.text l.left))
+          ≡ map Some (program (name_bytes l.names) (nodes_of l.text l.pieces));
+    }
 
-abbrev pub decreases-loop-piece : goal.decreases-loop-piece
-decreases-loop-piece l = length l.left
+abbrev pub decreases-loop-left : goal.decreases-loop-left
+decreases-loop-left l = length l.left

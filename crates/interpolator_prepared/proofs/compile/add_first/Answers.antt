@@ -1,0 +1,55 @@
+use Rattle.interpolator_prepared.specs.Rows.{name_bytes}
+use Rattle.interpolator_prepared.proofs.CompileLemmas.{first_whole, one_added, rest_whole, two_added}
+use Rattle.interpolator_prepared.proofs.CompileLemmas.{texts_after_fit}
+use Rattle.interpolator_prepared.proofs.compile.add_first.Goals as goal
+
+pub first_step-requires-clause-texts : goal.first_step-requires-clause-texts
+first_step-requires-clause-texts c =
+    rw (c.split_at.ensures.front, c.texts_after.ensures.count)
+    (texts_after_fit (name_bytes c.args.names.now) c.args.text.now c.in-Some.piece.now
+    c.in-Some.after.now (rw c.in-Some.ensures.cases.0 at c.requires.whole))
+
+pub argument_step-requires : goal.argument_step-requires
+argument_step-requires c =
+    let names = name_bytes c.args.names.now in
+    let left = rest_whole names c.args.text.now _ c.in-Some.piece.now c.in-Some.after.now
+    c.split_at.result.1.now c.texts_after.result c.in-Some.ensures.cases.0
+    c.texts_after.ensures.count c.split_at.ensures.back c.requires.whole in
+    record {
+      whole = (first_whole names c.args.text.now c.in-Some-split_first.next.now
+          c.in-Some-split_first.left.now (rw c.in-Some-split_first.ensures.cases.0 at left)).0;
+    }
+
+pub returns-in-Some-split_first-clause-whole : goal.returns-in-Some-split_first-clause-whole
+returns-in-Some-split_first-clause-whole c =
+    let names = name_bytes c.args.names.now in
+    let left = rest_whole names c.args.text.now _ c.in-Some.piece.now c.in-Some.after.now
+    c.split_at.result.1.now c.texts_after.result c.in-Some.ensures.cases.0
+    c.texts_after.ensures.count c.split_at.ensures.back c.requires.whole in
+    (first_whole names c.args.text.now c.in-Some-split_first.next.now
+    c.in-Some-split_first.left.now (rw c.in-Some-split_first.ensures.cases.0 at left)).1
+
+pub returns-in-Some-split_first-clause-added : goal.returns-in-Some-split_first-clause-added
+returns-in-Some-split_first-clause-added c =
+    two_added (name_bytes c.args.names.now) c.args.text.now _ c.in-Some.piece.now
+    c.in-Some.after.now c.split_at.result.1.now c.texts_after.result c.in-Some.ensures.cases.0
+    c.texts_after.ensures.count c.split_at.ensures.back c.requires.whole _ _ c.in_ok-step.step
+    (rw (c.split_at.ensures.front, c.texts_after.ensures.count) at c.in_ok-step.ensures.step)
+    c.in-Some-split_first.next.now c.in-Some-split_first.left.now
+    c.in-Some-split_first.ensures.cases.0 (rw c.is_text.ensures at c.if-is_text.true)
+    c.in_ok-argument.argument c.in_ok-argument.ensures.step
+    (c.in_ok-push_pair.ensures.pushed c.args.text.now)
+
+pub returns-clause-whole : goal.returns-clause-whole
+returns-clause-whole c =
+    rest_whole (name_bytes c.args.names.now) c.args.text.now _ c.in-Some.piece.now
+    c.in-Some.after.now c.split_at.result.1.now c.texts_after.result c.in-Some.ensures.cases.0
+    c.texts_after.ensures.count c.split_at.ensures.back c.requires.whole
+
+pub returns-clause-added : goal.returns-clause-added
+returns-clause-added c =
+    one_added (name_bytes c.args.names.now) c.args.text.now _ c.in-Some.piece.now
+    c.in-Some.after.now c.split_at.result.1.now c.texts_after.result c.in-Some.ensures.cases.0
+    c.texts_after.ensures.count c.split_at.ensures.back c.requires.whole _ _ c.in_ok-step.step
+    (rw (c.split_at.ensures.front, c.texts_after.ensures.count) at c.in_ok-step.ensures.step)
+    (c.in_ok-push_step.ensures.pushed c.args.text.now)
