@@ -6,6 +6,7 @@ ghost use Rattle.interpolator_render.specs.Exponent.{exponent_tail, leading, mar
 ghost use Rattle.interpolator_render.specs.Numbers.{number_text, sign_text};
 ghost use Rattle.interpolator_render.specs.Padding.{number_fill, padded_number};
 ghost use Rattle.interpolator_render.specs.DigitBuffers.{put_before};
+ghost use Rattle.interpolator_render.specs.Texts.{Renders, has_text};
 ghost use Rattle.interpolator_render.specs.Written.{Puts};
 
 use crate::digit_buffer::{BUFFER_WIDTH, DigitBuffer};
@@ -14,8 +15,8 @@ use crate::number_form::NumberForm;
 use crate::number_parts::{NumberParts, put_padded, sign_str};
 use crate::number_row::{fill_byte, fits_buffer, put_around};
 use crate::scientific::{Shown, shown_of};
-use crate::text_write::{Refusal, TextWrite};
-use crate::view::Spec;
+use crate::text_write::{Refusal, TextWrite, refused};
+use crate::view::{RenderFault, Spec};
 
 pub(crate) fn mark(upper: bool) -> u8
     ensures value { result ≡ mark upper }
@@ -127,18 +128,18 @@ fn put_in_parts<W: TextWrite>(
 #[tactic(auto, using(crate::proofs::ExponentRowLemmas::shown_exponent))]
 pub(crate) fn put_exponent<W: TextWrite>(
     out: &mut W,
-    upper: bool,
     spec: &Spec,
-    negative: bool,
     n: u128,
-) -> Result<(), Refusal>
-    ensures { Puts (W.written out.old) (number_text (NumberForm.Exponent upper) spec.now negative n)
-        result (W.written out.new) }
+    negative: bool,
+    upper: bool,
+) -> Result<(), RenderFault>
+    ensures { Renders (has_text (number_text (NumberForm.Exponent upper) spec.now negative n))
+        (W.written out.old) result (W.written out.new) }
 {
     let shown = shown_of(n, spec.precision);
     if shown.zeros <= BUFFER_WIDTH && fits_buffer(spec) {
-        put_in_row(out, upper, spec, negative, shown)
+        refused(put_in_row(out, upper, spec, negative, shown))
     } else {
-        put_in_parts(out, upper, spec, negative, shown)
+        refused(put_in_parts(out, upper, spec, negative, shown))
     }
 }

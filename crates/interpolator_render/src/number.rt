@@ -7,6 +7,7 @@ ghost use Rattle.interpolator_render.specs.declared.view.Sign.TheVariants.{Unset
 ghost use Rattle.interpolator_render.specs.Numbers.{base_of, distance_from_zero, is_negative};
 ghost use Rattle.interpolator_render.specs.Numbers.{is_upper, number_text, sign_text};
 ghost use Rattle.interpolator_render.specs.Padding.{number_fill, padded_number};
+ghost use Rattle.interpolator_render.specs.Texts.{Renders, has_text};
 ghost use Rattle.interpolator_render.specs.Written.{Puts};
 
 use crate::digit_buffer::DigitBuffer;
@@ -17,8 +18,8 @@ use crate::layout::{put_ascii, put_char};
 use crate::number_form::{NumberForm, Radix};
 use crate::number_parts::{NumberParts, put_padded, sign_str};
 use crate::number_row::{fill_byte, fits_buffer, put_around};
-use crate::text_write::{Refusal, TextWrite};
-use crate::view::{Sign, Spec};
+use crate::text_write::{Refusal, TextWrite, refused};
+use crate::view::{RenderFault, Sign, Spec};
 
 /// Writes a number by its digits, in parts.
 #[inline(never)]
@@ -83,24 +84,90 @@ fn put_short<W: TextWrite>(
     put_ascii(out, buffer.as_str())
 }
 
-/// Writes a number by its digits.
-#[inline(never)]
+/// Writes a number by its digits. The compiler knows the base in each call.
+#[inline(always)]
 fn put_digits<W: TextWrite>(
     out: &mut W,
     radix: Radix,
     spec: &Spec,
-    negative: bool,
     n: u128,
-) -> Result<(), Refusal>
-    ensures { Puts (W.written out.old)
-        (number_text (NumberForm.Digits radix) spec.now negative n)
-        result (W.written out.new) }
+    negative: bool,
+) -> Result<(), RenderFault>
+    ensures { Renders (has_text (number_text (NumberForm.Digits radix) spec.now negative n))
+        (W.written out.old) result (W.written out.new) }
 {
     if n <= GREATEST_U64 && fits_buffer(spec) {
-        put_short(out, radix, spec, negative, n as u64)
+        refused(put_short(out, radix, spec, negative, n as u64))
     } else {
-        put_long(out, radix, spec, negative, n)
+        refused(put_long(out, radix, spec, negative, n))
     }
+}
+
+#[inline(never)]
+fn put_binary<W: TextWrite>(
+    out: &mut W,
+    spec: &Spec,
+    n: u128,
+    negative: bool,
+) -> Result<(), RenderFault>
+    ensures { Renders (has_text (number_text (NumberForm.Digits Radix.Binary) spec.now negative n))
+        (W.written out.old) result (W.written out.new) }
+{
+    put_digits(out, Radix::Binary, spec, n, negative)
+}
+
+#[inline(never)]
+fn put_octal<W: TextWrite>(
+    out: &mut W,
+    spec: &Spec,
+    n: u128,
+    negative: bool,
+) -> Result<(), RenderFault>
+    ensures { Renders (has_text (number_text (NumberForm.Digits Radix.Octal) spec.now negative n))
+        (W.written out.old) result (W.written out.new) }
+{
+    put_digits(out, Radix::Octal, spec, n, negative)
+}
+
+#[inline(never)]
+fn put_lower_hex<W: TextWrite>(
+    out: &mut W,
+    spec: &Spec,
+    n: u128,
+    negative: bool,
+) -> Result<(), RenderFault>
+    ensures { Renders
+        (has_text (number_text (NumberForm.Digits Radix.LowerHex) spec.now negative n))
+        (W.written out.old) result (W.written out.new) }
+{
+    put_digits(out, Radix::LowerHex, spec, n, negative)
+}
+
+#[inline(never)]
+fn put_upper_hex<W: TextWrite>(
+    out: &mut W,
+    spec: &Spec,
+    n: u128,
+    negative: bool,
+) -> Result<(), RenderFault>
+    ensures { Renders
+        (has_text (number_text (NumberForm.Digits Radix.UpperHex) spec.now negative n))
+        (W.written out.old) result (W.written out.new) }
+{
+    put_digits(out, Radix::UpperHex, spec, n, negative)
+}
+
+#[inline(never)]
+fn put_decimal<W: TextWrite>(
+    out: &mut W,
+    spec: &Spec,
+    n: u128,
+    negative: bool,
+) -> Result<(), RenderFault>
+    ensures { Renders (has_text (number_text (NumberForm.Digits Radix.Decimal) spec.now negative n))
+        (W.written out.old) result (W.written out.new) }
+{
+    put_digits(out, Radix::Decimal, spec, n, negative)
 }
 
 /// The digits of a number that has three.
@@ -207,15 +274,19 @@ pub(crate) fn is_bare(spec: &Spec) -> bool
 
 /// Writes a number that is not negative, in base ten.
 #[inline(always)]
-pub(crate) fn put_natural<W: TextWrite>(out: &mut W, spec: &Spec, n: u128) -> Result<(), Refusal>
-    ensures { Puts (W.written out.old)
-        (number_text (NumberForm.Digits Radix.Decimal) spec.now false n)
-        result (W.written out.new) }
+pub(crate) fn put_natural<W: TextWrite>(
+    out: &mut W,
+    spec: &Spec,
+    n: u128,
+) -> Result<(), RenderFault>
+    ensures { Renders
+        (has_text (number_text (NumberForm.Digits Radix.Decimal) spec.now false n))
+        (W.written out.old) result (W.written out.new) }
 {
     if n <= GREATEST_U64 && is_bare(spec) {
-        put_bare(out, n as u64)
+        refused(put_bare(out, n as u64))
     } else {
-        put_digits(out, Radix::Decimal, spec, false, n)
+        put_decimal(out, spec, n, false)
     }
 }
 
@@ -225,16 +296,16 @@ pub(crate) fn put_integer<W: TextWrite>(
     out: &mut W,
     spec: &Spec,
     number: i128,
-) -> Result<(), Refusal>
-    ensures { Puts (W.written out.old)
-        (number_text (NumberForm.Digits Radix.Decimal) spec.now (is_negative number)
-        (distance_from_zero number))
-        result (W.written out.new) }
+) -> Result<(), RenderFault>
+    ensures { Renders
+        (has_text (number_text (NumberForm.Digits Radix.Decimal) spec.now (is_negative number)
+        (distance_from_zero number)))
+        (W.written out.old) result (W.written out.new) }
 {
     if i64::MIN as i128 <= number && number <= i64::MAX as i128 && is_bare(spec) {
-        put_bare_signed(out, number as i64)
+        refused(put_bare_signed(out, number as i64))
     } else {
-        put_digits(out, Radix::Decimal, spec, number < 0, number.unsigned_abs())
+        put_decimal(out, spec, number.unsigned_abs(), number < 0)
     }
 }
 
@@ -244,14 +315,18 @@ pub(crate) fn put_number<W: TextWrite>(
     out: &mut W,
     form: NumberForm,
     spec: &Spec,
-    negative: bool,
     n: u128,
-) -> Result<(), Refusal>
-    ensures { Puts (W.written out.old) (number_text form spec.now negative n)
-        result (W.written out.new) }
+    negative: bool,
+) -> Result<(), RenderFault>
+    ensures { Renders (has_text (number_text form spec.now negative n)) (W.written out.old) result
+        (W.written out.new) }
 {
     match form {
-        NumberForm::Digits(radix) => put_digits(out, radix, spec, negative, n),
-        NumberForm::Exponent(upper) => put_exponent(out, upper, spec, negative, n),
+        NumberForm::Digits(Radix::Decimal) => put_decimal(out, spec, n, negative),
+        NumberForm::Digits(Radix::Binary) => put_binary(out, spec, n, negative),
+        NumberForm::Digits(Radix::Octal) => put_octal(out, spec, n, negative),
+        NumberForm::Digits(Radix::LowerHex) => put_lower_hex(out, spec, n, negative),
+        NumberForm::Digits(Radix::UpperHex) => put_upper_hex(out, spec, n, negative),
+        NumberForm::Exponent(upper) => put_exponent(out, spec, n, negative, upper),
     }
 }

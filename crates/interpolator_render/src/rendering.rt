@@ -6,11 +6,11 @@ ghost use Rattle.interpolator_render.specs.Padding.{displayed_text};
 ghost use Rattle.interpolator_render.specs.Quoting.{quotation};
 ghost use Rattle.interpolator_render.specs.Decimals.{decimal_body};
 ghost use Rattle.interpolator_render.specs.Texts.{padded_decimal, under, truth_text, view_text};
-ghost use Rattle.interpolator_render.specs.Texts.{render_answer, Renders};
+ghost use Rattle.interpolator_render.specs.Texts.{Renders};
 ghost use Rattle.interpolator_render.specs.Numbers.{distance_from_zero, is_negative, number_form};
 ghost use Rattle.interpolator_render.specs.declared.view.Trait.TheVariants.{Display};
 ghost use Rattle.interpolator_render.specs.Padding.{unset_spec};
-ghost use Rattle.interpolator_render.specs.Views.{IsInRange, shown_by};
+ghost use Rattle.interpolator_render.specs.Views.{IsInRange, shown_by, unsigned_number};
 ghost use Rattle.interpolator_render.specs.Written.{Puts};
 
 use crate::characters::cut;
@@ -22,7 +22,7 @@ use crate::layout::{fill_before, put_text};
 use crate::number::{put_bare, put_bare_signed, put_integer, put_natural, put_number};
 use crate::number_form::{NumberForm, number_form, sign_and_magnitude};
 use crate::quoting::put_quoted;
-use crate::text_write::{Refusal, TextWrite};
+use crate::text_write::{Refusal, TextWrite, refused};
 use crate::view::{RenderFault, Spec, Trait, View};
 
 /// Writes a text as display does: at most as many of its first characters as the precision says,
@@ -85,12 +85,6 @@ fn truth_str(truth: bool) -> &'static str
     ensures { chars result.now ≡ truth_text truth }
 {
     if truth { "true" } else { "false" }
-}
-
-fn refused(answer: Result<(), Refusal>) -> Result<(), RenderFault>
-    ensures { result ≡ render_answer answer }
-{
-    answer.map_err(|_| RenderFault::Refused)
 }
 
 /// Writes a text under display or debug.
@@ -203,12 +197,15 @@ pub fn render<W: TextWrite>(
     if let View::Text(text) = view {
         return render_text(out, wanted, '"', text, spec);
     }
-    if let Trait::Display = wanted {
-        if let View::Unsigned(number) = view {
-            return refused(put_natural(out, spec, number));
+    if let View::Unsigned(number) = view {
+        if let Trait::Display = wanted {
+            return put_natural(out, spec, number);
         }
+        return render_natural(out, spec, number, wanted);
+    }
+    if let Trait::Display = wanted {
         if let View::Signed(number, _) = view {
-            return refused(put_integer(out, spec, number));
+            return put_integer(out, spec, number);
         }
         if let View::Decimal { units, scale } = view {
             return refused(put_decimal(out, spec, units, scale));
@@ -262,6 +259,24 @@ fn render_unset<W: TextWrite>(out: &mut W, view: View<'_>) -> Result<(), RenderF
     render(out, view, Trait::Display, &Spec::default())
 }
 
+/// Writes a number of an unsigned type.
+#[tactic(auto, unfolding(crate::specs::Texts::view_text))]
+#[inline(never)]
+fn render_natural<W: TextWrite>(
+    out: &mut W,
+    spec: &Spec,
+    number: u128,
+    wanted: Trait,
+) -> Result<(), RenderFault>
+    ensures { Renders (view_text (unsigned_number number) wanted spec.now) (W.written out.old)
+        result (W.written out.new) }
+{
+    match number_form(wanted, spec.hex_debug) {
+        None => Err(RenderFault::NotImplemented),
+        Some(form) => put_number(out, form, spec, number, false),
+    }
+}
+
 /// As [`render`], for every view and trait; [`render`] tries the most likely ones first.
 #[tactic(auto, unfolding(crate::specs::Texts::view_text))]
 #[inline(never)]
@@ -280,13 +295,10 @@ fn render_any<W: TextWrite>(
             None => Err(RenderFault::NotImplemented),
             Some(form) => {
                 let (negative, magnitude) = sign_and_magnitude(form, number, bits);
-                refused(put_number(out, form, spec, negative, magnitude))
+                put_number(out, form, spec, magnitude, negative)
             }
         },
-        View::Unsigned(number) => match number_form(wanted, spec.hex_debug) {
-            None => Err(RenderFault::NotImplemented),
-            Some(form) => refused(put_number(out, form, spec, false, number)),
-        },
+        View::Unsigned(number) => render_natural(out, spec, number, wanted),
         View::Truth(truth) => render_truth(out, wanted, truth, spec),
         View::Decimal { units, scale } => render_decimal(out, wanted, spec, units, scale),
         View::Character(c) => render_character(out, wanted, c, spec),

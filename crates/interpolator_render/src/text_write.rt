@@ -2,13 +2,23 @@
 ghost use Rattle.std.specs.Prelude.{◌≡◌, ℕ, ◌∷◌, [], MatchOption, MatchResult, Option, None, Some};
 ghost use Rattle.std.specs.Str.{chars};
 ghost use Rattle.interpolator_render.specs.Written.{Written, AppendsWithin, StaysWithin};
+ghost use Rattle.interpolator_render.specs.Texts.{render_answer};
 ghost use Rattle.interpolator_render.specs.Written.{Refuses, RefusesWhole};
+
+use crate::view::RenderFault;
 
 /// A writer's refusal: it did not take the whole of a text.
 #[derive(Clone, Copy, Debug, PartialEq, Eq)]
 pub struct Refusal {
     /// How many bytes of the text were taken: its beginning, up to a character boundary.
     pub taken: usize,
+}
+
+/// A writer's answer as that of [`render`](crate::render).
+pub(crate) fn refused(answer: Result<(), Refusal>) -> Result<(), RenderFault>
+    ensures { result ≡ render_answer answer }
+{
+    answer.map_err(|_| RenderFault::Refused)
 }
 
 /// Where text goes, from front to back.
